@@ -1,1 +1,3 @@
 pub mod Elem
+pub mod Marked
+pub mod Whole

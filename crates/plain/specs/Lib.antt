@@ -12,5 +12,7 @@ pub mod Request
 pub mod Reply
 pub mod Plain
 pub mod Tally
+pub mod Marked
+pub mod Whole
 -- what is read past the end of a lent slice
 pub mod Blank
