@@ -1,0 +1,4 @@
+pub mod Cases
+pub mod Choice
+pub mod Buffer
+pub mod Walk

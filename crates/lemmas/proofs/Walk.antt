@@ -1,0 +1,57 @@
+-- Loops over a list from its front: what is said of the whole list is said of what is left of it at i.
+use Prim.Native.Nat.{ℕ, zero, suc, _+_, _<_, _≤_}
+use mathlib.Core.Path.{_≡_, refl, sym, ap, _∙_}
+use mathlib.Core.Bool.{Bool, true, false, _&&_, _||_}
+use mathlib.Core.List.{List, [], _∷_}
+use native.Mathlib.Omega.{arith}
+use native.Mathlib.Numerals.{add-one}
+use lib.Dec.{eqb}
+use lib.ListN.{length, getD, drop, drop-of-length-le}
+use lib.Seq.{drop-cons}
+use Rattle.plain.specs.Lists.{any, all, same}
+
+-- what is left at i is the element there and what is left at i + 1
+pub left-at : {A : Type 0} (xs : List A) (i : ℕ) (d : A) → i < length xs → drop i xs ≡ getD xs i d ∷ drop (i + 1) xs
+left-at xs i d h = rw add-one (drop-cons xs i d h)
+
+module _ {A : Type 0} (p : A → Bool) (d : A) where
+  pub any-hit : (xs : List A) (i : ℕ) → any p xs ≡ any p (drop i xs) → i < length xs → p (getD xs i d) ≡ true → any p xs ≡ true
+  unfolding any
+  any-hit xs i v h e = v ∙ rw (left-at xs i d h, e)
+
+  pub any-miss : (xs : List A) (i : ℕ) → any p xs ≡ any p (drop i xs) → i < length xs → p (getD xs i d) ≡ false
+      → any p xs ≡ any p (drop (i + 1) xs)
+  unfolding any
+  any-miss xs i v h e = v ∙ rw (left-at xs i d h, e)
+
+  pub any-end : (xs : List A) (i : ℕ) → any p xs ≡ any p (drop i xs) → length xs ≤ i → any p xs ≡ false
+  unfolding any
+  any-end xs i v h = v ∙ rw (drop-of-length-le xs {i = i} h)
+
+  pub all-miss : (xs : List A) (i : ℕ) → all p xs ≡ all p (drop i xs) → i < length xs → p (getD xs i d) ≡ false → all p xs ≡ false
+  unfolding all
+  all-miss xs i v h e = v ∙ rw (left-at xs i d h, e)
+
+  pub all-hit : (xs : List A) (i : ℕ) → all p xs ≡ all p (drop i xs) → i < length xs → p (getD xs i d) ≡ true
+      → all p xs ≡ all p (drop (i + 1) xs)
+  unfolding all
+  all-hit xs i v h e = v ∙ rw (left-at xs i d h, e)
+
+  pub all-end : (xs : List A) (i : ℕ) → all p xs ≡ all p (drop i xs) → length xs ≤ i → all p xs ≡ true
+  unfolding all
+  all-end xs i v h = v ∙ rw (drop-of-length-le xs {i = i} h)
+
+-- two lists side by side
+pub same-miss : (xs ys : List ℕ) (i : ℕ) → same xs ys ≡ same (drop i xs) (drop i ys) → i < length xs → i < length ys
+    → eqb (getD xs i 0) (getD ys i 0) ≡ false → same xs ys ≡ false
+unfolding same
+same-miss xs ys i v h k e = v ∙ rw (left-at xs i 0 h, left-at ys i 0 k, e)
+
+pub same-hit : (xs ys : List ℕ) (i : ℕ) → same xs ys ≡ same (drop i xs) (drop i ys) → i < length xs → i < length ys
+    → eqb (getD xs i 0) (getD ys i 0) ≡ true → same xs ys ≡ same (drop (i + 1) xs) (drop (i + 1) ys)
+unfolding same
+same-hit xs ys i v h k e = v ∙ rw (left-at xs i 0 h, left-at ys i 0 k, e)
+
+pub same-end : (xs ys : List ℕ) (i : ℕ) → same xs ys ≡ same (drop i xs) (drop i ys) → length xs ≤ i → length ys ≤ i → same xs ys ≡ true
+unfolding same
+same-end xs ys i v h k = v ∙ rw (drop-of-length-le xs {i = i} h, drop-of-length-le ys {i = i} k)
