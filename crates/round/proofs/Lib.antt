@@ -1,0 +1,11 @@
+pub mod Lists
+pub mod Fields
+pub mod Address
+pub mod Options
+pub mod Base
+pub mod Art
+pub mod Route
+pub mod Message
+pub mod Trip
+pub mod Octets
+pub mod Examples
