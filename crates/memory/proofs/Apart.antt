@@ -1,0 +1,271 @@
+-- The rules keep keys apart: no two live rows of a table have the same key.
+use Prim.Native.Nat.{ℕ, zero, suc, _≤_}
+use mathlib.Core.Path.{_≡_, refl, sym, ap, _∙_}
+use mathlib.Core.Bool.{Bool, true, false, cond, _&&_}
+use mathlib.Core.List.{List, [], _∷_}
+use mathlib.Core.Option.{Option, some, none}
+use native.Mathlib.Omega.{arith}
+use lib.Dec.{eqb}
+use borrow.Author.Tests.{eqb-true, eq-eqb, not-false}
+use Rattle.plain.specs.Lists.{same, given}
+use Rattle.plain.specs.Given.{Settings, Lent, Received, Start, Event, RequestRow, ReplyRow, Instance, Route, State}
+use Rattle.plain.specs.Table.{Numbered, Change, put, lasts, instanceDeadline, routeDeadline}
+use Rattle.plain.specs.Answers.{answerOf, viewOf, asRequest, asReply, replies, requestFor, replyFor, routeFor, liveRequest, liveReply, liveRoute}
+use Rattle.plain.specs.Octets.{Message, messageOf}
+use Rattle.plain.specs.Rank.{stepped}
+use Rattle.plain.specs.Request.{Asked, Accepted, rowOfRequest, leastDelta, deltaTaken, freeDelta, askedWith, asked, repliesNow, requestLines, requestRow, ownReplyRow, routeRow, routeChange, withReplyRow, deltaOr0, acceptRequest, startTargets, startLines, startRow, acceptStart}
+use Rattle.plain.specs.Reply.{origNode, destSeq, partnerNumber, partnerOf, answeredWith, answered, replyRow, acceptReply}
+use Rattle.plain.specs.Plain.{linesWith, messageLines, lines, acceptWith, acceptMessage, accept}
+use Rattle.plain.specs.declared.Target.{Target}
+use Rattle.lemmas.proofs.Choice.{true-false, and-left, and-right, and-both}
+use Rattle.memory.proofs.Each.{All, any-none, picked}
+use Rattle.memory.proofs.Tables.{Rows}
+use Rattle.memory.proofs.Lines.{unheld, heard, begun}
+use Rattle.memory.proofs.Good.{requests-picked, replies-picked}
+use Rattle.memory.proofs.Keys.{Key, instanceKey, routeKey, key-path, same-true, eq-same, Other, Keyed, Tells, none-kept, new-more, free-found, put-keyed}
+
+-- ---- The tests by which rows are looked for tell their keys
+
+-- the key of an instance row of a kind
+abbrev pub keyOf : ℕ → ℕ → List ℕ → Key
+keyOf kind number address = record { kind = kind; number = number; one = address; other = [] }
+
+test-hit : (kind a i : ℕ) (xs ys : List ℕ) (l : Bool) → eqb a i && same xs ys && l ≡ true → keyOf kind i ys ≡ keyOf kind a xs
+test-hit kind a i xs ys l e =
+    let k = and-left (eqb a i && same xs ys) l e in
+    key-path kind i a ys xs [] [] (sym (eqb-true a i (and-left (eqb a i) (same xs ys) k)))
+    (sym (same-true xs ys (and-right (eqb a i) (same xs ys) k))) refl
+
+test-miss : (kind a i : ℕ) (xs ys : List ℕ) (l : Bool) → eqb a i && same xs ys && l ≡ false → l ≡ true → keyOf kind a xs ≡ keyOf kind i ys → ⊥
+test-miss kind a i xs ys l e h z =
+    true-false (sym (and-both (eqb a i && same xs ys) l
+    (and-both (eqb a i) (same xs ys) (eq-eqb a i (ap (λ (y : Key). y .number) z)) (eq-same xs ys (ap (λ (y : Key). y .one) z))) h) ∙ e)
+
+other-kind : (k l : Key) → (k .kind ≡ l .kind → ⊥) → k ≡ l → ⊥
+other-kind k l f z = f (ap (λ (y : Key). y .kind) z)
+
+tells-request : (t : ℕ) (q : RequestRow)
+    → Tells instanceDeadline instanceKey asRequest (λ (n : Numbered RequestRow). requestFor t (q .instance) (q .dodagid) (n .row))
+    (Instance.request q) t
+tells-request t q = record { hit = hit; miss = miss }
+  where
+    test : Numbered RequestRow → Bool
+    test n = requestFor t (q .instance) (q .dodagid) (n .row)
+
+    hit : (i : ℕ) (r : Instance)
+        → All (λ (n : Numbered RequestRow). (n .number ≡ i) × (test n ≡ true → instanceKey (Instance.request q) ≡ instanceKey r)) (asRequest i r)
+    hit i (Instance.request r) = ((refl, test-hit 0 (r .instance) (q .instance) (r .dodagid) (q .dodagid) (lasts t (r .deadline))), tt)
+    hit i (Instance.reply r) = tt
+
+    miss : (i : ℕ) (r : Instance) → All (λ (n : Numbered RequestRow). test n ≡ false) (asRequest i r)
+        → Other instanceDeadline instanceKey t (instanceKey (Instance.request q)) r
+    miss i (Instance.request r) k = test-miss 0 (r .instance) (q .instance) (r .dodagid) (q .dodagid) (lasts t (r .deadline)) (k .0)
+    miss i (Instance.reply r) k = λ l. other-kind (instanceKey (Instance.reply r)) (instanceKey (Instance.request q)) (omega arith)
+
+tells-reply : (t : ℕ) (q : ReplyRow)
+    → Tells instanceDeadline instanceKey asReply (λ (n : Numbered ReplyRow). replyFor t (q .instance) (q .dodagid) (n .row)) (Instance.reply q) t
+tells-reply t q = record { hit = hit; miss = miss }
+  where
+    test : Numbered ReplyRow → Bool
+    test n = replyFor t (q .instance) (q .dodagid) (n .row)
+
+    hit : (i : ℕ) (r : Instance)
+        → All (λ (n : Numbered ReplyRow). (n .number ≡ i) × (test n ≡ true → instanceKey (Instance.reply q) ≡ instanceKey r)) (asReply i r)
+    hit i (Instance.request r) = tt
+    hit i (Instance.reply r) = ((refl, test-hit 1 (r .instance) (q .instance) (r .dodagid) (q .dodagid) (lasts t (r .deadline))), tt)
+
+    miss : (i : ℕ) (r : Instance) → All (λ (n : Numbered ReplyRow). test n ≡ false) (asReply i r)
+        → Other instanceDeadline instanceKey t (instanceKey (Instance.reply q)) r
+    miss i (Instance.request r) k = λ l. other-kind (instanceKey (Instance.request r)) (instanceKey (Instance.reply q)) (omega arith)
+    miss i (Instance.reply r) k = test-miss 1 (r .instance) (q .instance) (r .dodagid) (q .dodagid) (lasts t (r .deadline)) (k .0)
+
+-- each route is picked
+abbrev asRoute : ℕ → Route → List (Numbered Route)
+asRoute i r = record { number = i; row = r } ∷ []
+
+routes-picked : (ns : List (Numbered Route)) → ns ≡ picked asRoute ns
+unfolding picked
+routes-picked [] = refl
+routes-picked (n ∷ ns) = ap (λ (rest : List (Numbered Route)). n ∷ rest) (routes-picked ns)
+
+tells-route : (t : ℕ) (q : Route)
+    → Tells routeDeadline routeKey asRoute (λ (n : Numbered Route). routeFor t (q .source) (q .destination) (q .instance) (n .row)) q t
+tells-route t q = record { hit = λ i r. ((refl, hit r), tt); miss = λ i r k. miss r (k .0) }
+  where
+    hit : (r : Route) → routeFor t (q .source) (q .destination) (q .instance) r ≡ true → routeKey q ≡ routeKey r
+    hit r e =
+        let a : Bool = same (r .source) (q .source) in
+        let b : Bool = same (r .destination) (q .destination) in
+        let c : Bool = eqb (r .instance) (q .instance) in
+        let k = and-left (a && b && c) (lasts t (r .deadline)) e in
+        let j = and-left (a && b) c k in
+        key-path 2 (q .instance) (r .instance) (q .source) (r .source) (q .destination) (r .destination)
+        (sym (eqb-true (r .instance) (q .instance) (and-right (a && b) c k))) (sym (same-true (r .source) (q .source) (and-left a b j)))
+        (sym (same-true (r .destination) (q .destination) (and-right a b j)))
+
+    miss : (r : Route) → routeFor t (q .source) (q .destination) (q .instance) r ≡ false → Other routeDeadline routeKey t (routeKey q) r
+    miss r e l z =
+        let a : Bool = same (r .source) (q .source) in
+        let b : Bool = same (r .destination) (q .destination) in
+        let c : Bool = eqb (r .instance) (q .instance) in
+        true-false (sym (and-both (a && b && c) (lasts t (r .deadline)) (and-both (a && b) c
+        (and-both a b (eq-same (r .source) (q .source) (ap (λ (y : Key). y .one) z))
+        (eq-same (r .destination) (q .destination) (ap (λ (y : Key). y .other) z)))
+        (eq-eqb (r .instance) (q .instance) (ap (λ (y : Key). y .number) z))) l) ∙ e)
+
+-- ---- What an accepted call does to keys
+
+module _ (s : State) (t : ℕ) (h : s .clock ≤ t) where
+  abbrev Instances : Change Instance → Type 0
+  Instances change = Keyed instanceDeadline instanceKey t change (s .instances)
+
+  abbrev Routes : Change Route → Type 0
+  Routes change = Keyed routeDeadline routeKey t change (s .routes)
+
+  abbrev pub KeysApart : Accepted → Type 0
+  KeysApart a = Instances (a .instances) × Routes (a .routes)
+
+  request-put : (q : RequestRow) → Instances (put (liveRequest (viewOf s) t (q .instance) (q .dodagid)) (Instance.request q))
+  request-put q =
+      rw (requests-picked (viewOf s .instances))
+      (put-keyed instanceDeadline instanceKey asRequest (λ (n : Numbered RequestRow). requestFor t (q .instance) (q .dodagid) (n .row))
+      (Instance.request q) (s .clock) t (s .instances) (tells-request t q) h)
+
+  reply-put : (q : ReplyRow) → Instances (put (liveReply (viewOf s) t (q .instance) (q .dodagid)) (Instance.reply q))
+  reply-put q =
+      rw (replies-picked (viewOf s .instances))
+      (put-keyed instanceDeadline instanceKey asReply (λ (n : Numbered ReplyRow). replyFor t (q .instance) (q .dodagid) (n .row)) (Instance.reply q)
+      (s .clock) t (s .instances) (tells-reply t q) h)
+
+  route-put : (q : Route) → Routes (put (liveRoute (viewOf s) t (q .source) (q .destination) (q .instance)) q)
+  route-put q =
+      rw (routes-picked (viewOf s .routes))
+      (put-keyed routeDeadline routeKey asRoute (λ (n : Numbered Route). routeFor t (q .source) (q .destination) (q .instance) (n .row)) q
+      (s .clock) t (s .routes) (tells-route t q) h)
+
+  route-change : (b : Bool) (q : Route) → Routes (routeChange b (liveRoute (viewOf s) t (q .source) (q .destination) (q .instance)) q)
+  unfolding routeChange
+  route-change true q = route-put q
+  route-change false q = (none-kept routeDeadline routeKey 0 (s .routes), tt)
+
+  -- a reply
+  with-apart : (x : Settings) (c : Received) (m : Message) (p : Option (Numbered RequestRow)) → KeysApart (acceptWith x c m (viewOf s) t p)
+  unfolding acceptReply answered answeredWith replyRow routeRow
+  with-apart x c m none = ((none-kept instanceDeadline instanceKey 0 (s .instances), tt), (none-kept routeDeadline routeKey 0 (s .routes), tt))
+  with-apart x c m (some p) = (
+    reply-put (replyRow t m (answered x (viewOf s) t c m (p .row))),
+    route-change (m .discovery .h) (routeRow t (origNode m) (m .base .dodagid) (partnerNumber m) (c .neighbour) (destSeq m) (m .configuration)),
+  )
+
+  -- ---- A request
+
+  -- a Delta that is found is free
+  abbrev Least : (ℕ → Bool) → Option ℕ → Type 0
+  Least taken none = Unit {0}
+  Least taken (some d) = taken d ≡ false
+
+  least : (taken : ℕ → Bool) (d n : ℕ) → Least taken (leastDelta taken d n)
+  unfolding leastDelta
+  least taken d zero = tt
+  least taken d (suc n) = go (taken d) refl (least taken (suc d) n)
+    where
+      go : (b : Bool) → taken d ≡ b → Least taken (leastDelta taken (suc d) n) → Least taken (cond b (leastDelta taken (suc d) n) (some d))
+      go true e k = k
+      go false e k = e
+
+  -- so no live row has our reply row's key
+  own-free : (x : Settings) (own : ℕ) (m : Message) (o : Option ℕ) → given o ≡ true
+      → Least (deltaTaken (viewOf s) t (m .base .instance) (x .receiving)) o
+      → Rows (Other instanceDeadline instanceKey t (instanceKey (Instance.reply (ownReplyRow x t own m (deltaOr0 o))))) (s .instances)
+  unfolding deltaTaken ownReplyRow
+  own-free x own m none e k = true-false (sym e)
+  own-free x own m (some d) e k =
+      let q : ReplyRow = ownReplyRow x t own m d in
+      let test : Numbered ReplyRow → Bool = λ n. replyFor t (q .instance) (q .dodagid) (n .row) in
+      free-found instanceDeadline instanceKey asReply test (Instance.reply q) (s .clock) t (s .instances) (tells-reply t q) h
+      (rw (replies-picked (viewOf s .instances)) at (any-none test (replies (viewOf s .instances)) k))
+
+  -- the new rows of a request row put are request rows
+  put-kind : {B : Type 0} (o : Option (Numbered B)) (q : RequestRow) (r : ReplyRow)
+      → All (λ (n : Instance). instanceKey (Instance.reply r) ≡ instanceKey n → ⊥) (put o (Instance.request q) .new)
+  put-kind none q r = (other-kind (instanceKey (Instance.reply r)) (instanceKey (Instance.request q)) (omega arith), tt)
+  put-kind (some n) q r = tt
+
+  with-reply : {B : Type 0} (o : Option (Numbered B)) (q : RequestRow) (b : Bool) (r : ReplyRow) → Instances (put o (Instance.request q))
+      → (b ≡ true → Rows (Other instanceDeadline instanceKey t (instanceKey (Instance.reply r))) (s .instances))
+      → Instances (withReplyRow (put o (Instance.request q)) b r)
+  unfolding withReplyRow
+  with-reply o q true r w g = (
+    w .0,
+    new-more instanceDeadline instanceKey t (put o (Instance.request q) .new) (Instance.reply r) (s .instances) (w .1) (put-kind o q r)
+        (g refl),
+  )
+  with-reply o q false r w g = w
+
+  -- 15 is not answered
+  delta-given : (x : Settings) (c : Received) (m : Message) (a : Asked) → answerOf (requestLines x c m a) ≡ 0 → repliesNow a ≡ true
+      → given (a .delta) ≡ true
+  unfolding requestLines
+  delta-given x c m a e r =
+      let k1 = unheld _ _ e (omega arith) in
+      let k2 = unheld _ _ (k1 .1) (omega arith) in
+      let k3 = unheld _ _ (k2 .1) (omega arith) in
+      let k4 = unheld _ _ (k3 .1) (omega arith) in
+      let k5 = unheld _ _ (k4 .1) (omega arith) in
+      let k6 = unheld _ _ (k5 .1) (omega arith) in
+      let k7 = unheld _ _ (k6 .1) (omega arith) in
+      not-false (given (a .delta)) (rw r at (k7 .0))
+
+  request-apart : (x : Settings) (c : Received) (m : Message) → answerOf (requestLines x c m (asked x (viewOf s) t c m)) ≡ 0
+      → KeysApart (acceptRequest x (s .own) t c m (asked x (viewOf s) t c m))
+  unfolding acceptRequest asked askedWith requestRow routeRow freeDelta
+  request-apart x c m e = (
+    with-reply (rowOfRequest (viewOf s) t m) (requestRow t c m (asked x (viewOf s) t c m)) (repliesNow (asked x (viewOf s) t c m))
+        (ownReplyRow x t (stepped (s .own)) m (deltaOr0 (freeDelta (viewOf s) t (m .base .instance) (x .receiving))))
+        (request-put (requestRow t c m (asked x (viewOf s) t c m)))
+        (λ r. own-free x (stepped (s .own)) m (freeDelta (viewOf s) t (m .base .instance) (x .receiving))
+        (delta-given x c m (asked x (viewOf s) t c m) e r)
+        (least (deltaTaken (viewOf s) t (m .base .instance) (x .receiving)) 0 64)),
+    route-change (m .discovery .h)
+        (routeRow t (x .receiving) (m .base .dodagid) (m .base .instance) (c .neighbour) (m .discovery .number) (m .configuration)),
+  )
+
+  message-apart : (x : Settings) (c : Received) (m : Message) → answerOf (messageLines x (viewOf s) t c m) ≡ 0
+      → KeysApart (acceptMessage x (viewOf s) t c m)
+  unfolding messageLines acceptMessage
+  message-apart x c m e = go (m .discovery .reply) e
+    where
+      go : (b : Bool) → answerOf (cond b (linesWith x c m (viewOf s) t (partnerOf (viewOf s) t m)) (requestLines x c m (asked x (viewOf s) t c m))) ≡ 0
+          → KeysApart (cond b (acceptWith x c m (viewOf s) t (partnerOf (viewOf s) t m)) (acceptRequest x (s .own) t c m (asked x (viewOf s) t c m)))
+      go true e = with-apart x c m (partnerOf (viewOf s) t m)
+      go false e = request-apart x c m e
+
+  -- ---- A start
+
+  -- 14 is not answered
+  start-apart : (x : Settings) (c : Start) (targets : List Target) → answerOf (startLines x (viewOf s) t c) ≡ 0
+      → KeysApart (acceptStart x (s .own) t c targets)
+  unfolding startLines acceptStart startRow
+  start-apart x c targets e =
+      let k1 = unheld _ _ e (omega arith) in
+      let k2 = unheld _ _ (k1 .1) (omega arith) in
+      ((none-kept instanceDeadline instanceKey 0 (s .instances), (new (k2 .0), tt, tt)), (none-kept routeDeadline routeKey 0 (s .routes), tt))
+    where
+      q : RequestRow
+      q = startRow x t (stepped (s .own)) c targets
+
+      new : given (liveRequest (viewOf s) t (c .instance) (x .receiving)) ≡ false
+          → Rows (Other instanceDeadline instanceKey t (instanceKey (Instance.request q))) (s .instances)
+      new g = go (liveRequest (viewOf s) t (q .instance) (q .dodagid)) (request-put q) g
+        where
+          go : (o : Option (Numbered RequestRow)) → Instances (put o (Instance.request q)) → given o ≡ false
+              → Rows (Other instanceDeadline instanceKey t (instanceKey (Instance.request q))) (s .instances)
+          go none w g = w .1 .0
+          go (some n) w g = true-false g
+
+pub accept-apart : (x : Settings) (good : Bool) (s : State) (c : Lent) (e : Event) → answerOf (lines x good (viewOf s) c e) ≡ 0
+    → (h : s .clock ≤ c .time)
+    → KeysApart s (c .time) h (accept x (viewOf s) c e)
+unfolding accept
+accept-apart x good s c (Event.message r) e h = message-apart s (c .time) h x r (messageOf (r .octets)) (heard x good (viewOf s) c r e .2)
+accept-apart x good s c (Event.start b) e h = start-apart s (c .time) h x b (startTargets b) (begun x good (viewOf s) c b e .2)

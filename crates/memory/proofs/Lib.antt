@@ -1,0 +1,15 @@
+-- Each element of a list, each row of a table
+pub mod Each
+pub mod Tables
+-- demand 3: tables that are alike, one call, lists of calls
+pub mod Alike
+pub mod Lines
+pub mod Step
+pub mod Memory
+-- facts: good rows, the own number, keys, no wrong state
+pub mod Good
+pub mod Own
+pub mod Keys
+pub mod Apart
+pub mod Sound
+pub mod Facts
