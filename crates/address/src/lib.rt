@@ -1,0 +1,131 @@
+// Addresses: sixteen octets by value (01, "Octets on the air").
+ghost use mathlib.Core.Path.{_≡_};
+ghost use Prim.Native.Nat.{_+_, _-_, _≤_};
+ghost use lib.ListN.{length};
+ghost use lib.Seq.{paste};
+ghost use Rattle.plain.specs.Lists.{same};
+ghost use Rattle.plain.specs.Address.{linkLocal, allZero, unusable, keepBits, firstBits, agree, restore, sharesFirst};
+
+// Whether the first `compr` octets of `a` are those of the DODAGID.
+pub fn shares_first(compr: u8, dodagid: [u8; 16], a: [u8; 16]) -> bool
+    requires { ⌜ compr ≤ 16 ⌝ }
+    ensures { λ r. ⌜ r ≡ sharesFirst compr dodagid a ⌝ }
+{
+    let n = compr as usize;
+    let mut i: usize = 0;
+    while i < n {
+        if a[i] != dodagid[i] {
+            return false;
+        }
+        i = i + 1;
+    }
+    true
+}
+
+// Whether two addresses are the same: they share all sixteen octets.
+pub fn is_same(a: [u8; 16], b: [u8; 16]) -> bool
+    ensures { λ r. ⌜ r ≡ same a b ⌝ }
+{
+    shares_first(16, b, a)
+}
+
+fn is_link_local(a: [u8; 16]) -> bool
+    ensures { λ r. ⌜ r ≡ linkLocal a ⌝ }
+{
+    if a[0] != 0xfe {
+        return false;
+    }
+    a[1] / 64 == 2
+}
+
+fn is_all_zero(a: [u8; 16]) -> bool
+    ensures { λ r. ⌜ r ≡ allZero a ⌝ }
+{
+    let mut i: usize = 0;
+    while i < 16 {
+        if 0 != a[i] {
+            return false;
+        }
+        i = i + 1;
+    }
+    true
+}
+
+// Whether an address is link-local, multicast or all zero.
+pub fn is_unusable(a: [u8; 16]) -> bool
+    ensures { λ r. ⌜ r ≡ unusable a ⌝ }
+{
+    if is_link_local(a) {
+        return true;
+    }
+    if a[0] == 0xff {
+        return true;
+    }
+    is_all_zero(a)
+}
+
+// The first k bits of an octet, the others 0.
+pub fn keep_bits(k: u8, x: u8) -> u8
+    ensures { λ r. ⌜ r ≡ keepBits k x ⌝ }
+{
+    if 8 <= k {
+        return x;
+    }
+    if k == 0 {
+        return 0;
+    }
+    let spare = 8 - k;
+    x >> spare << spare
+}
+
+// What is left of k bits after the first eight.
+fn past_octet(k: u8) -> u8
+    ensures { λ r. ⌜ r ≡ k - 8 ⌝ }
+{
+    if k < 8 { 0 } else { k - 8 }
+}
+
+// The first k bits of an address, the others 0.
+pub fn first_bits(k: u8, a: [u8; 16]) -> [u8; 16]
+    ensures { λ r. ⌜ r ≡ firstBits k a ⌝ }
+{
+    let mut kept = [0u8; 16];
+    let mut left = k;
+    let mut i: usize = 0;
+    while i < 16 {
+        kept[i] = keep_bits(left, a[i]);
+        left = past_octet(left);
+        i = i + 1;
+    }
+    kept
+}
+
+// Whether two addresses share their first k bits.
+pub fn do_agree(k: u8, a: [u8; 16], b: [u8; 16]) -> bool
+    ensures { λ r. ⌜ r ≡ agree k a b ⌝ }
+{
+    is_same(first_bits(k, a), first_bits(k, b))
+}
+
+// Puts some octets over those of `out` from `at` on.
+pub fn put_over(out: &mut [u8], at: usize, part: &[u8])
+    requires { ⌜ at + length (now part) ≤ length (now out) ⌝ }
+    ensures { λ r. ⌜ now (out .exit) ≡ paste (now (out .entry)) at (now (part .entry)) (length (now (part .entry))) ⌝ }
+{
+    let mut i: usize = 0;
+    while i < part.len() {
+        let to = at + i;
+        out[to] = part[i];
+        i = i + 1;
+    }
+}
+
+// A vector's address with the octets put back that it shares with the DODAGID.
+pub fn restore(compr: u8, dodagid: [u8; 16], part: &[u8]) -> [u8; 16]
+    requires { ⌜ compr + length (now part) ≡ 16 ⌝ }
+    ensures { λ r. ⌜ r ≡ restore compr dodagid (now (part .entry)) ⌝ }
+{
+    let mut a = dodagid;
+    put_over(&mut a, compr as usize, part);
+    a
+}
