@@ -1,0 +1,142 @@
+-- A vector with our addresses added: how long it is, and that it stands in an array.
+use Prim.Native.Nat.{ℕ, zero, suc, _+_, _-_, _*_, _<_, _≤_}
+use mathlib.Core.Path.{_≡_, refl, ap, _∙_}
+use mathlib.Core.Bool.{Bool, true, false}
+use mathlib.Core.List.{List, [], _∷_, _++_, append-assoc, flatten}
+use native.Mathlib.Omega.{arith}
+use native.Mathlib.Numerals.{add-one, add-two}
+use native.Mathlib.Nat.{suc-mul}
+use lib.Dec.{ltb}
+use lib.ListN.{length, take, drop, set, length-append, length-drop, length-set}
+use lib.Seq.{take-suc-set}
+use borrow.Author.Tests.{lt-ltb, le-ltb, ltb-false}
+use denote.Array.{Array, each}
+use denote.Laws.{Is}
+use denote.Plain.{UInt}
+use denote.Shadow.{shadow}
+use mir.Syntax.{w8}
+use mir.Val.{Val}
+use Rattle.plain.specs.Lists.{same}
+use Rattle.plain.specs.Address.{Address}
+use Rattle.plain.specs.Given.{Settings}
+use Rattle.plain.specs.Octets.{elided}
+use Rattle.plain.specs.Request.{ownVector, grown, cannotGrow}
+use Rattle.lemmas.proofs.Choice.{cond-case, or-left}
+use Rattle.own.specs.Settings.{grownCount, Whole}
+
+-- ---- How many addresses
+
+own-two : (x : Settings) → same (x .receiving) (x .sending) ≡ false → length (ownVector x) ≡ 2
+unfolding ownVector
+own-two x e = rw e refl
+
+pub own-length : (x : Settings) → (1 ≤ length (ownVector x)) × (length (ownVector x) ≤ 2)
+unfolding ownVector
+own-length x =
+    cond-case (λ (v : List Address). (1 ≤ length v) × (length v ≤ 2)) (same (x .receiving) (x .sending)) (x .receiving ∷ [])
+    (x .receiving ∷ x .sending ∷ []) (λ e. (omega arith, omega arith)) (λ e. (omega arith, omega arith))
+
+pub grown-length : (x : Settings) (h : Bool) (v : List Address) → length (grown x h v) ≡ grownCount x h (length v)
+unfolding grownCount
+grown-length x true v = refl
+grown-length x false v = length-append v (ownVector x)
+
+pub grown-above : (x : Settings) (h : Bool) (n : ℕ) → n ≤ grownCount x h n
+unfolding grownCount
+grown-above x true n = omega arith
+grown-above x false n = omega arith
+
+pub grown-below : (x : Settings) (h : Bool) (n : ℕ) → grownCount x h n ≤ n + 2
+unfolding grownCount
+grown-below x true n = omega arith
+grown-below x false n = omega (arith, own-length x)
+
+-- ---- Ours stand in the array after the n that were there
+
+module _ (x : Settings) (h : Bool) (n : ℕ) (f : h ≡ false) where
+  -- where the grown vector has room, so have ours
+  pub room-one : grownCount x h n ≤ 16 → n < 16
+  unfolding grownCount
+  room-one k = omega (arith, rw f at k, own-length x)
+
+  pub room-two : same (x .receiving) (x .sending) ≡ false → grownCount x h n ≤ 16 → n + 1 < 16
+  unfolding grownCount
+  room-two e k = omega (arith, rw f at k, own-two x e)
+
+  pub grow-one : (v : List Address) → same (x .receiving) (x .sending) ≡ true → n < length v
+      → take (grownCount x h n) (set v n (x .receiving)) ≡ grown x h (take n v)
+  unfolding grownCount ownVector
+  grow-one v e k = rw (f, e, add-one) (take-suc-set v n (x .receiving) k)
+
+  pub grow-two : (v : List Address) → same (x .receiving) (x .sending) ≡ false → n + 1 < length v
+      → take (grownCount x h n) (set (set v n (x .receiving)) (n + 1) (x .sending)) ≡ grown x h (take n v)
+  unfolding grownCount ownVector
+  grow-two v e k =
+      rw (f, e, add-two, add-one)
+      (take-suc-set (set v n (x .receiving)) (suc n) (x .sending) (rw (length-set v n (x .receiving)) (omega arith))
+      ∙ ap (λ (w : List Address). w ++ (x .sending ∷ [])) (take-suc-set v n (x .receiving) (omega arith))
+      ∙ append-assoc (take n v) (x .receiving ∷ []) (x .sending ∷ []))
+
+-- ---- Whole addresses
+
+whole-each : (v : List Address) (us : List Val) → shadow (each Address (Array (UInt w8) 16 .own) v us) → Whole v
+unfolding Whole
+whole-each [] us s = tt
+whole-each (a ∷ v) [] s = absurd s
+whole-each (a ∷ v) (u ∷ us) s = (s .0 .1 .0 .1, whole-each v us (s .1))
+
+-- of an array by value, as a parameter's `.good` and a result's `.ok` have it
+pub whole-array : (k : ℕ) (v : List Address) (vs : List Val) → Is (Array (Array (UInt w8) 16) k) v vs → Whole v
+whole-array k v vs s = whole-each v (s .0) (s .1 .1)
+
+pub whole-take : (n : ℕ) (v : List Address) → Whole v → Whole (take n v)
+unfolding Whole
+whole-take zero v w = tt
+whole-take (suc n) [] w = tt
+whole-take (suc n) (a ∷ v) w = (w .0, whole-take n v (w .1))
+
+whole-append : (v w : List Address) → Whole v → Whole w → Whole (v ++ w)
+unfolding Whole
+whole-append [] w p q = q
+whole-append (a ∷ v) w p q = (p .0, whole-append v w (p .1) q)
+
+pub elided-length : (compr : ℕ) (v : List Address) → Whole v → length (elided compr v) ≡ length v * (16 - compr)
+unfolding Whole flatten
+elided-length compr [] w = omega arith
+elided-length compr (a ∷ v) w =
+    length-append (drop compr a) (elided compr v)
+    ∙ rw (length-drop compr a, w .0, elided-length compr v (w .1), suc-mul (length v) (16 - compr)) (omega arith)
+
+module _ (x : Settings) (p : length (x .receiving) ≡ 16) (q : length (x .sending) ≡ 16) where
+  whole-own : Whole (ownVector x)
+  unfolding ownVector Whole
+  whole-own =
+      cond-case Whole (same (x .receiving) (x .sending)) (x .receiving ∷ []) (x .receiving ∷ x .sending ∷ []) (λ e. (p, tt))
+      (λ e. (p, (q, tt)))
+
+  pub whole-grown : (h : Bool) (v : List Address) → Whole v → Whole (grown x h v)
+  whole-grown true v w = w
+  whole-grown false v w = whole-append v (ownVector x) w whole-own
+
+  -- ---- Answer 16 by numbers
+
+  module _ (compr n : ℕ) (v : List Address) (e : length v ≡ n) (w : Whole v) where
+    count-is : length (grown x false v) ≡ grownCount x false n
+    count-is = rw (← e) (grown-length x false v)
+
+    pub past-addresses : 16 < grownCount x false n → cannotGrow compr (grown x false v) ≡ true
+    unfolding cannotGrow
+    past-addresses h = rw (count-is, lt-ltb _ _ h)
+
+    pub past-octets : grownCount x false n ≤ 16
+        → cannotGrow compr (grown x false v) ≡ ltb 252 (grownCount x false n * (16 - compr))
+    unfolding cannotGrow
+    past-octets h = rw (elided-length compr (grown x false v) (whole-grown false v w), count-is, le-ltb _ _ h)
+
+-- where answer 16 is not given, the grown vector has room
+pub grown-room : (x : Settings) (h : Bool) (compr n : ℕ) (v : List Address) → length v ≡ n
+    → cannotGrow compr (grown x h v) ≡ false → grownCount x h n ≤ 16
+unfolding cannotGrow
+grown-room x h compr n v e k =
+    let g = grown x h v in
+    omega (arith, ltb-false 16 (length g) (or-left (ltb 16 (length g)) (ltb 252 (length (elided compr g))) k), grown-length x h v, ap (grownCount x h) e)

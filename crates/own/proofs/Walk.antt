@@ -1,0 +1,68 @@
+-- Loops over the first n addresses of a vector: what is said of them is said of those that are left at i.
+use Prim.Native.Nat.{ℕ, _+_, _<_, _≤_}
+use mathlib.Core.Path.{_≡_, refl, ap, _∙_}
+use mathlib.Core.Bool.{Bool, true, false}
+use mathlib.Core.List.{List, [], _∷_}
+use native.Mathlib.Omega.{arith}
+use lib.ListN.{length, getD, take, drop, drop-of-length-le}
+use lib.Seq.{getD-take, length-take-le}
+use Rattle.plain.specs.Lists.{any, count, same}
+use Rattle.plain.specs.Address.{Address}
+use Rattle.plain.specs.Reply.{before}
+use Rattle.lemmas.proofs.Choice.{cond-case}
+use Rattle.lemmas.proofs.Walk.{left-at}
+
+-- an element counts for itself
+count-cons : {A : Type 0} (p : A → Bool) (x : A) (xs : List A) → count p (x ∷ xs) ≡ count p (x ∷ []) + count p xs
+unfolding count
+count-cons p x xs = go (p x) refl
+  where
+    go : (t : Bool) → p x ≡ t → count p (x ∷ xs) ≡ count p (x ∷ []) + count p xs
+    go true e = rw e (omega arith)
+    go false e = rw e (omega arith)
+
+pub count-one : {A : Type 0} (p : A → Bool) (x : A) → count p (x ∷ []) ≤ 1
+unfolding count
+count-one p x = cond-case (λ (k : ℕ). k ≤ 1) (p x) 1 0 (λ e. omega arith) (λ e. omega arith)
+
+module _ (n : ℕ) (v : List Address) (q : n ≤ length v) (i : ℕ) where
+  left : i < n → drop i (take n v) ≡ getD v i [] ∷ drop (i + 1) (take n v)
+  left h = rw (← getD-take n v i [] h) (left-at (take n v) i [] (omega (arith, length-take-le n v q)))
+
+  none-left : n ≤ i → drop i (take n v) ≡ []
+  none-left h = drop-of-length-le (take n v) {i = i} (omega (arith, length-take-le n v q))
+
+  module _ (p : Address → Bool) (u : any p (take n v) ≡ any p (drop i (take n v))) where
+    pub any-hit : i < n → p (getD v i []) ≡ true → any p (take n v) ≡ true
+    unfolding any
+    any-hit h e = u ∙ rw (left h, e)
+
+    pub any-miss : i < n → p (getD v i []) ≡ false → any p (take n v) ≡ any p (drop (i + 1) (take n v))
+    unfolding any
+    any-miss h e = u ∙ rw (left h, e)
+
+    pub any-end : n ≤ i → any p (take n v) ≡ false
+    unfolding any
+    any-end h = u ∙ rw (none-left h)
+
+  module _ (p : Address → Bool) (found : ℕ) (u : count p (take n v) ≡ found + count p (drop i (take n v))) where
+    pub count-more : i < n → count p (take n v) ≡ found + count p (getD v i [] ∷ []) + count p (drop (i + 1) (take n v))
+    count-more h = omega (arith, u, ap (count p) (left h), count-cons p (getD v i []) (drop (i + 1) (take n v)))
+
+    pub count-end : n ≤ i → found ≡ count p (take n v)
+    unfolding count
+    count-end h = omega (arith, u, ap (count p) (none-left h))
+
+  module _ (first last a : Address) (u : before first a (take n v) ≡ before last a (drop i (take n v))) where
+    pub before-hit : i < n → same a (getD v i []) ≡ true → before first a (take n v) ≡ last
+    unfolding before
+    before-hit h e = u ∙ rw (left h, e)
+
+    pub before-miss : i < n → same a (getD v i []) ≡ false
+        → before first a (take n v) ≡ before (getD v i []) a (drop (i + 1) (take n v))
+    unfolding before
+    before-miss h e = u ∙ rw (left h, e)
+
+    pub before-end : n ≤ i → before first a (take n v) ≡ last
+    unfolding before
+    before-end h = u ∙ rw (none-left h)

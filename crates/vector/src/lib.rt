@@ -1,0 +1,41 @@
+// The addresses of a vector (01, "Vector addresses drop their first Compr octets, shared with the DODAGID").
+ghost use mathlib.Core.Path.{_≡_};
+ghost use Prim.Native.Nat.{_-_, _/_, _≤_};
+ghost use lib.ListN.{length, take};
+ghost use Rattle.plain.specs.Lists.{any, same};
+ghost use Rattle.plain.specs.Octets.{restored};
+
+// The whole addresses of a vector's octets: as many as they are, from the first on.
+pub fn addresses(part: &[u8], compr: u8, dodagid: [u8; 16]) -> [[u8; 16]; 16]
+    requires { ⌜ (compr ≤ 15) × (length (now part) / (16 - compr) ≤ 16) ⌝ }
+    ensures { λ r. ⌜ take (length (now (part .entry)) / (16 - compr)) r ≡ restored compr dodagid (now (part .entry)) ⌝ }
+{
+    let width = 16 - compr as usize;
+    let n = part.len() / width;
+    let mut vector = [[0u8; 16]; 16];
+    let mut at: usize = 0;
+    let mut i: usize = 0;
+    while i < n {
+        let end = at + width;
+        vector[i] = address::restore(compr, dodagid, &part[at..end]);
+        at = end;
+        i = i + 1;
+    }
+    vector
+}
+
+// Whether an address is among the first n of a vector.
+pub fn is_in_vector(vector: [[u8; 16]; 16], n: usize, a: [u8; 16]) -> bool
+    requires { ⌜ n ≤ 16 ⌝ }
+    ensures { λ r. ⌜ r ≡ any (same a) (take n vector) ⌝ }
+{
+    let mut i: usize = 0;
+    while i < n {
+        let b = vector[i];
+        if address::is_same(a, b) {
+            return true;
+        }
+        i = i + 1;
+    }
+    false
+}
