@@ -1,0 +1,73 @@
+-- What stands at a position of a message.
+use Prim.Native.Nat.{ℕ, _+_, _-_, _/_, _%_, _≤_, _<_}
+use mathlib.Core.Path.{_≡_}
+use mathlib.Core.Bool.{Bool, false, not}
+use mathlib.Core.List.{List, _∷_}
+use native.Mathlib.Omega.{arith}
+use lib.ListN.{length, getD, drop, length-drop, drop-of-length-le}
+use lib.Seq.{drop-drop}
+use lib.Dec.{eqb}
+use borrow.Author.Tests.{ne-eqb, le-leb, lt-leb, le-ltb}
+use Rattle.plain.specs.Octets.{fields, sum, wordAt, comprOf, hOf, numberOf, discoveryOf, badRoute}
+use Rattle.lemmas.proofs.Walk.{left-at}
+use Rattle.lemmas.proofs.Choice.{cond-case}
+use Rattle.option.specs.declared.Next.the-variants.{Pad, Body, End, Cut}
+use Rattle.option.specs.Follows.{Follows}
+
+-- ---- A position
+
+module _ (msg : List ℕ) (at : ℕ) where
+  pub at-end : length msg ≤ at → Follows msg at End
+  at-end h = record { reads = λ rest. rw (drop-of-length-le msg {i = at} h); placed = omega arith }
+
+  module _ (h : at < length msg) where
+    pub at-pad : getD msg at 0 ≡ 0 → Follows msg at Pad
+    at-pad e = record { reads = λ rest. rw (left-at msg at 0 h, e); placed = h }
+
+    module _ (k : getD msg at 0 ≡ 0 → ⊥) where
+      pub at-last : length msg ≤ at + 1 → Follows msg at Cut
+      at-last l = record {
+        reads = λ rest. rw (left-at msg at 0 h, ne-eqb (getD msg at 0) 0 k, drop-of-length-le msg {i = at + 1} l);
+        placed = omega arith;
+      }
+
+      module _ (l : at + 1 < length msg) where
+        after : drop (at + 1) msg ≡ getD msg (at + 1) 0 ∷ drop (at + 2) msg
+        after = let e : at + 1 + 1 ≡ at + 2 = omega arith in rw (← e) (left-at msg (at + 1) 0 l)
+
+        pub at-cut : length msg - (at + 2) < getD msg (at + 1) 0 → Follows msg at Cut
+        at-cut q = record {
+          reads = λ rest. rw (left-at msg at 0 h, ne-eqb (getD msg at 0) 0 k, after, length-drop (at + 2) msg, lt-leb (getD msg (at + 1) 0) (length msg - (at + 2)) q);
+          placed = omega arith;
+        }
+
+        pub at-body : getD msg (at + 1) 0 ≤ length msg - (at + 2) → getD msg (at + 1) 0 ≤ 255
+            → Follows msg at (Body (getD msg at 0) (at + 2) (at + 2 + getD msg (at + 1) 0))
+        at-body q b =
+            let e : at + 2 + getD msg (at + 1) 0 - (at + 2) ≡ getD msg (at + 1) 0 = omega arith in
+            record {
+              reads = λ rest. rw (left-at msg at 0 h, ne-eqb (getD msg at 0) 0 k, after, length-drop (at + 2) msg, le-leb (getD msg (at + 1) 0) (length msg - (at + 2)) q, drop-drop (getD msg (at + 1) 0) (at + 2) msg, e);
+              placed = omega arith;
+            }
+
+-- ---- The fields of an RREQ or RREP
+
+pub compr-below : (body : List ℕ) → comprOf body < 16
+unfolding fields sum
+compr-below body = cond-case (λ (n : ℕ). n < 16) (hOf body) 0 _ (λ _. omega arith) (λ _. omega arith)
+
+module _ (body : List ℕ) (w : ℕ) (e : w ≡ wordAt body 0) where
+  pub compr-is : hOf body ≡ false → w / 512 % 16 ≡ comprOf body
+  unfolding fields sum
+  compr-is h = rw (h, e)
+
+  pub discovery-is : (reply h : Bool) (c n : ℕ) → h ≡ hOf body → c ≡ comprOf body → n ≡ numberOf reply body
+      → record { reply = reply; flag = eqb (w / 32768 % 2) 1; h = h; compr = c; l = w / 128 % 4; limit = w % 128; number = n }
+      ≡ discoveryOf reply body
+  unfolding discoveryOf fields sum
+  discovery-is reply h c n p q r = let l : w % 128 ≡ w / 1 % 128 = omega arith in rw (p, q, r, l, e)
+
+pub vector-is : (body : List ℕ) → 3 ≤ length body → hOf body ≡ false
+    → not (eqb ((length body - 3) % (16 - comprOf body)) 0) ≡ badRoute body
+unfolding badRoute
+vector-is body l h = rw (le-ltb (length body) 3 l, h, length-drop 3 body)

@@ -1,0 +1,3 @@
+pub mod Counts
+pub mod Routes
+pub mod Message

@@ -1,0 +1,139 @@
+-- A message that is heard, and answers 5 and 6.
+use Prim.Native.Nat.{ℕ, zero, suc, _-_, _/_, _%_, _≤_, _<_}
+use mathlib.Core.Path.{_≡_, refl, sym, ap, _∙_}
+use mathlib.Core.Bool.{Bool, true, false, _||_}
+use mathlib.Core.List.{List}
+use mathlib.Core.Option.{Option}
+use native.Mathlib.Omega.{arith}
+use lib.Dec.{eqb, ltb}
+use lib.ListN.{length, take, drop, length-take, length-drop, length-map}
+use borrow.Author.Tests.{lt-ltb, le-ltb, ltb-false, ne-eqb}
+use Rattle.lemmas.proofs.Choice.{or-left, or-right}
+use Rattle.plain.specs.Address.{Address, unusable}
+use Rattle.plain.specs.Octets.{octetAt, wordAt, optionsOf, ofType, artType, targetsOf, baseOf, fields, sum, parts, restored, addressOctets, routeBody, vectorOctets, comprOf, discoveryOf, messageOf, tooMany, malformed, unfit, hear}
+use Rattle.plain.specs.declared.Base.{Base}
+use Rattle.plain.specs.declared.Discovery.{Discovery}
+use Rattle.plain.specs.declared.Target.{Target}
+use Rattle.scan.specs.declared.Scan.{Scan}
+use Rattle.scan.specs.Scanned.{Outlined}
+use Rattle.option.proofs.Laws.{compr-below}
+use Rattle.reader.specs.declared.Reading.{Reading}
+use Rattle.reader.specs.declared.Refusal.{Refusal}
+use Rattle.reader.specs.Reading.{refusalNumber, messageRead, heardFrom, Bounded}
+use Rattle.reader.specs.Parts.{Filled}
+use Rattle.plain.specs.Octets as octets
+
+-- ---- The base
+
+pub base-is : (msg d : List ℕ) (flags : ℕ) → flags ≡ octetAt msg 4 → flags < 256 → d ≡ take 16 (drop 8 msg)
+    → record {
+      instance = octetAt msg 0;
+      version = octetAt msg 1;
+      rank = wordAt msg 2;
+      g = eqb (flags / 128) 1;
+      prf = flags % 8;
+      dodagid = d;
+    } ≡ baseOf msg
+unfolding baseOf fields sum
+base-is msg d flags e h f =
+    let a : flags / 128 ≡ flags / 128 % 2 = omega arith in
+    let b : flags % 8 ≡ flags / 1 % 8 = omega arith in
+    rw (a, b, e, f)
+
+-- ---- The vector
+
+length-parts : (n k : ℕ) (xs : List ℕ) → length (parts n k xs) ≡ n
+unfolding parts
+length-parts zero k xs = refl
+length-parts (suc n) k xs = ap suc (length-parts n k (drop k xs))
+
+pub length-restored : (compr : ℕ) (d xs : List ℕ) → length (restored compr d xs) ≡ length xs / (16 - compr)
+unfolding restored
+length-restored compr d xs = length-map (parts (length xs / addressOctets compr) (addressOctets compr) xs) _ ∙ length-parts _ _ xs
+
+-- ---- The whole message
+
+message-by : {a b : Base} {c d : Option (List ℕ)} {e f : Discovery} {g h : List Address} {i j : List Target} → a ≡ b → c ≡ d → e ≡ f → g ≡ h → i ≡ j
+    → _≡_ {A = octets.Message} (record { base = a; configuration = c; discovery = e; vector = g; targets = i })
+    (record { base = b; configuration = d; discovery = f; vector = h; targets = j })
+message-by p q r s t = rw (p, q, r, s, t)
+
+module _ {msg : List ℕ} {s : Scan} {r : Reading} (v : Outlined msg s) (w : Filled msg s (baseOf msg) r) where
+  compr-is : r .discovery .compr ≡ comprOf (routeBody (optionsOf msg))
+  unfolding discoveryOf
+  compr-is = ap (λ (d : _). d .compr) (w .discovery)
+
+  pub compr-most : r .discovery .compr ≤ 15
+  compr-most = omega (arith, compr-is, compr-below (routeBody (optionsOf msg)))
+
+  size-is : length (vectorOctets (routeBody (optionsOf msg))) ≡ r .size
+  size-is = sym (ap length (w .vector)) ∙ simp (length-take, length-drop) (omega (arith, w .within))
+
+  over-is : s .targets .over ≡ ltb 8 (length (targetsOf (ofType artType (optionsOf msg))))
+  over-is = go (s .targets .over) refl
+    where
+      go : (b : Bool) → s .targets .over ≡ b → b ≡ ltb 8 (length (targetsOf (ofType artType (optionsOf msg))))
+      go true e = sym (lt-ltb 8 _ (v .many e))
+      go false e =
+          let k = ap length (v .held e) in
+          sym (le-ltb 8 (length (targetsOf (ofType artType (optionsOf msg)))) (omega (arith, k, v .few, length-take (s .targets .count) (s .targets .list))))
+
+  many-is : ltb 16 (r .size / (16 - r .discovery .compr)) || s .targets .over ≡ tooMany (messageOf msg)
+  unfolding tooMany messageOf
+  many-is =
+      rw (
+        length-restored (comprOf (routeBody (optionsOf msg))) (baseOf msg .dodagid) (vectorOctets (routeBody (optionsOf msg))),
+        size-is,
+        ← compr-is,
+        ← over-is,
+      )
+
+  vector-is : restored (r .discovery .compr) (r .base .dodagid) (take (r .size) (drop (r .at) msg))
+      ≡ restored (comprOf (routeBody (optionsOf msg))) (baseOf msg .dodagid) (vectorOctets (routeBody (optionsOf msg)))
+  vector-is = rw (compr-is, w .base-is, w .vector)
+
+  message-is : s .targets .over ≡ false → messageRead msg r ≡ messageOf msg
+  unfolding messageOf
+  message-is e = message-by (w .base-is) (w .configuration) (w .discovery) vector-is (rw (w .count, w .targets) (v .held e))
+
+  module _ (a : malformed msg ≡ false) (b : unfit msg ≡ false) (c : unusable (baseOf msg .dodagid) ≡ false) where
+    pub hear-many : ltb 16 (r .size / (16 - r .discovery .compr)) || s .targets .over ≡ true → hear msg ≡ octets.Heard.refused 6
+    unfolding hear
+    hear-many e = rw (a, b, c, ← many-is, e)
+
+    pub hear-heard : ltb 16 (r .size / (16 - r .discovery .compr)) || s .targets .over ≡ false → heardFrom msg r ≡ hear msg
+    unfolding hear heardFrom
+    hear-heard e =
+        rw (w .number, a, b, c, ← many-is, e) (ap octets.Heard.heard (message-is (or-right (ltb 16 (r .size / (16 - r .discovery .compr))) _ e)))
+
+  pub bounded : ltb 16 (r .size / (16 - r .discovery .compr)) || s .targets .over ≡ false → Bounded (length msg) r
+  bounded e = record {
+    few = omega (arith, w .count, v .few);
+    within = w .within;
+    short = w .short;
+    compr = compr-most;
+    addresses = ltb-false 16 (r .size / (16 - r .discovery .compr)) (or-left _ _ e);
+    alone = w .alone;
+  }
+
+-- ---- Refusals
+
+pub refused-as : (msg : List ℕ) (r : Reading) (f : Refusal) → r .refusal ≡ f → 0 < refusalNumber f
+    → hear msg ≡ octets.Heard.refused (refusalNumber f)
+    → (heardFrom msg r ≡ hear msg) × (refusalNumber (r .refusal) ≡ 0 → Bounded (length msg) r)
+unfolding heardFrom
+refused-as msg r f e p h =
+    (rw (h, e, ne-eqb (refusalNumber f) 0 (λ z. omega arith)), λ z. absurd (omega (arith, ap refusalNumber e)))
+
+module _ (msg : List ℕ) where
+  pub hear-malformed : malformed msg ≡ true → hear msg ≡ octets.Heard.refused 3
+  unfolding hear
+  hear-malformed a = rw a
+
+  pub hear-unfit : malformed msg ≡ false → unfit msg ≡ true → hear msg ≡ octets.Heard.refused 4
+  unfolding hear
+  hear-unfit a b = rw (a, b)
+
+  pub hear-unusable : malformed msg ≡ false → unfit msg ≡ false → unusable (baseOf msg .dodagid) ≡ true → hear msg ≡ octets.Heard.refused 5
+  unfolding hear
+  hear-unusable a b c = rw (a, b, c)

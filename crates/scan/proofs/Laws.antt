@@ -1,0 +1,60 @@
+-- One more option taken in.
+use Prim.Native.Nat.{ℕ}
+use mathlib.Core.Path.{_≡_, _∙_}
+use mathlib.Core.Bool.{false}
+use mathlib.Core.List.{List, _∷_}
+use native.Mathlib.Omega.{arith}
+use borrow.Author.Tests.{eq-eqb, ne-eqb}
+use Rattle.plain.specs.Lists.{those}
+use Rattle.plain.specs.Octets.{Opt, artType, badOption, badArt, targetOf}
+use Rattle.option.specs.Follows.{optionOf, partOf}
+use Rattle.scan.specs.declared.Found.{Found}
+use Rattle.scan.specs.Seen.{Right, Seen}
+use Rattle.scan.specs.Scanned.{artTargets}
+
+-- ---- The options of a type
+
+module _ {wanted kind start end : ℕ} {f : Found} {msg : List ℕ} {all rest : List Opt} (w : Right msg kind start end)
+    (v : Seen wanted msg all (optionOf kind (partOf msg start end) ∷ rest) f) where
+  pub seen-other : (kind ≡ wanted → ⊥) → Seen wanted msg all rest f
+  unfolding those
+  seen-other h = let e = ne-eqb kind wanted h in record {
+    few = v .few;
+    count = rw e at (v .count);
+    body = rw e at (v .body);
+    right = v .right;
+  }
+
+  module _ (h : kind ≡ wanted) where
+    pub seen-first : f .count ≡ 0 → Seen wanted msg all rest (record { count = 1; start = start; end = end })
+    unfolding those
+    seen-first z = let e = eq-eqb kind wanted h in record {
+      few = omega arith;
+      count = (rw (e, z) at (v .count)) ∙ omega arith;
+      body = rw (e, z) at (v .body);
+      right = λ _. rw (← h) w;
+    }
+
+    pub seen-again : (f .count ≡ 0 → ⊥) → Seen wanted msg all rest (record { count = 2; start = f .start; end = f .end })
+    unfolding those
+    seen-again z = let e = eq-eqb kind wanted h in record {
+      few = omega arith;
+      count = (rw e at (v .count)) ∙ omega arith;
+      body = rw (e, ne-eqb (f .count) 0 z) at (v .body);
+      right = λ _. v .right (omega arith);
+    }
+
+-- ---- A target
+
+pub art-good : (kind : ℕ) (body : List ℕ) → kind ≡ artType → badOption (optionOf kind body) ≡ false → badArt body ≡ false
+unfolding badOption
+art-good kind body e h = rw e at h
+
+module _ (kind : ℕ) (body : List ℕ) (rest : List Opt) where
+  pub arts-other : (kind ≡ artType → ⊥) → artTargets (optionOf kind body ∷ rest) ≡ artTargets rest
+  unfolding those
+  arts-other h = rw (ne-eqb kind artType h)
+
+  pub arts-next : kind ≡ artType → artTargets (optionOf kind body ∷ rest) ≡ targetOf body ∷ artTargets rest
+  unfolding those
+  arts-next h = rw (eq-eqb kind artType h)

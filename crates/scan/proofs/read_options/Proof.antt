@@ -1,0 +1,181 @@
+use mathlib.Core.Path.{sym, _∙_}
+use native.Mathlib.Omega.{arith}
+use Rattle.scan.proofs.Passing.{Passing, passing-first, scanned-bad, scanned-out, scanned-end, scanned-cut, pad-placed, passing-pad, body-placed, bad-body, passing-body}
+use Rattle.lemmas.proofs.Cases.{cases}
+use Rattle.scan.proofs.read_options.Statement.{statement}
+use Rattle.scan.proofs.read_options.Tie as tie
+
+abbrev Inv-loop : tie.InvT-loop
+Inv-loop msg s₀ at₀ left₀ s at left = Passing msg s at left
+
+abbrev μ-loop : tie.MeasureT-loop
+μ-loop msg s₀ at₀ left₀ s at left = left
+
+fresh-requires : tie.Need-fresh-requires Inv-loop μ-loop
+fresh-requires c κs = search cases
+
+loop-holds : tie.Need-loop-holds Inv-loop μ-loop
+loop-holds c = rw (c .fresh .ensures) (passing-first (c .before .before .args .msg .now))
+
+sub-left : tie.Need-sub-left Inv-loop μ-loop
+sub-left c = search cases
+
+next-option-requires : tie.Need-next-option-requires Inv-loop μ-loop
+next-option-requires c κs = search cases
+
+enum-told : tie.Need-enum-told Inv-loop μ-loop
+enum-told c = search cases
+
+add-at : tie.Need-add-at Inv-loop μ-loop
+add-at c =
+    let next = c .before .before in
+    let inside = next .before in
+    let loop = inside .before in
+    omega (arith, pad-placed (loop .loop .inv) (inside .loop-test .taken) (next .next-option .ensures) (c .enum-told .given .1))
+
+loop-less : tie.Need-loop-less Inv-loop μ-loop
+loop-less c = search cases
+
+loop-again : tie.Need-loop-again Inv-loop μ-loop
+loop-again c =
+    let next = c .before .before in
+    let inside = next .before in
+    let loop = inside .before in
+    passing-pad (loop .loop .inv) (inside .loop-test .taken) (next .next-option .ensures) (c .enum-told .given .1)
+
+enum-known-kind : tie.Need-enum-known-kind Inv-loop μ-loop
+enum-known-kind c = search cases
+
+sub-is-bad-option : tie.Need-sub-is-bad-option Inv-loop μ-loop
+sub-is-bad-option c =
+    let next = c .before .before .before in
+    let inside = next .before in
+    let loop = inside .before in
+    body-placed (loop .loop .inv) (inside .loop-test .taken) (next .next-option .ensures) (c .before .kind .given .1) .0
+
+part-is-bad-option-start : tie.Need-part-is-bad-option-start Inv-loop μ-loop
+part-is-bad-option-start c =
+    let next = c .before .before .before in
+    let inside = next .before in
+    let loop = inside .before in
+    body-placed (loop .loop .inv) (inside .loop-test .taken) (next .next-option .ensures) (c .before .kind .given .1) .0
+
+part-is-bad-option-end : tie.Need-part-is-bad-option-end Inv-loop μ-loop
+part-is-bad-option-end c =
+    let next = c .before .before .before in
+    let inside = next .before in
+    let loop = inside .before in
+    body-placed (loop .loop .inv) (inside .loop-test .taken) (next .next-option .ensures) (c .before .kind .given .1) .2
+
+is-bad-option-requires : tie.Need-is-bad-option-requires Inv-loop μ-loop
+is-bad-option-requires c κs = search cases
+
+malformed-requires : tie.Need-malformed-requires Inv-loop μ-loop
+malformed-requires c κs = search cases
+
+returns : tie.Need-returns Inv-loop μ-loop
+returns c =
+    let next = c .before .before .before .before .before .before .before in
+    let inside = next .before in
+    let loop = inside .before in
+    let bad = sym (c .before .before .is-bad-option .ensures) ∙ c .before .if1 .taken in
+    scanned-bad _ _ (c .malformed .ensures) (bad-body (loop .loop .inv) (inside .loop-test .taken) (next .next-option .ensures) (c .before .before .before .before .before .kind .given .1) bad)
+
+sub-with-option : tie.Need-sub-with-option Inv-loop μ-loop
+sub-with-option c =
+    let next = c .before .before .before .before .before .before in
+    let inside = next .before in
+    let loop = inside .before in
+    body-placed (loop .loop .inv) (inside .loop-test .taken) (next .next-option .ensures) (c .before .before .before .before .kind .given .1) .0
+
+part-with-option-start : tie.Need-part-with-option-start Inv-loop μ-loop
+part-with-option-start c =
+    let next = c .before .before .before .before .before .before in
+    let inside = next .before in
+    let loop = inside .before in
+    body-placed (loop .loop .inv) (inside .loop-test .taken) (next .next-option .ensures) (c .before .before .before .before .kind .given .1) .0
+
+part-with-option-end : tie.Need-part-with-option-end Inv-loop μ-loop
+part-with-option-end c =
+    let next = c .before .before .before .before .before .before in
+    let inside = next .before in
+    let loop = inside .before in
+    body-placed (loop .loop .inv) (inside .loop-test .taken) (next .next-option .ensures) (c .before .before .before .before .kind .given .1) .2
+
+with-option-requires : tie.Need-with-option-requires Inv-loop μ-loop
+with-option-requires c κs =
+    let tested = c .before in
+    let loop = tested .before .before .before .before .before .before .before .before in
+    (loop .loop .inv .few, sym (tested .before .is-bad-option .ensures) ∙ tested .if1 .left)
+
+loop-less-2 : tie.Need-loop-less-2 Inv-loop μ-loop
+loop-less-2 c = search cases
+
+loop-again-2 : tie.Need-loop-again-2 Inv-loop μ-loop
+loop-again-2 c =
+    let tested = c .before .before in
+    let next = tested .before .before .before .before .before .before in
+    let inside = next .before in
+    let loop = inside .before in
+    let good = sym (tested .before .is-bad-option .ensures) ∙ tested .if1 .left in
+    passing-body (loop .loop .inv) (inside .loop-test .taken) (next .next-option .ensures) (tested .before .before .before .before .kind .given .1) good (c .with-option .ensures)
+
+enum-told-2 : tie.Need-enum-told-2 Inv-loop μ-loop
+enum-told-2 c = search cases
+
+returns-2 : tie.Need-returns-2 Inv-loop μ-loop
+returns-2 c =
+    let next = c .before .before in
+    let inside = next .before in
+    let loop = inside .before in
+    scanned-end (loop .loop .inv) (inside .loop-test .taken) (next .next-option .ensures) (c .enum-told2 .given .1)
+
+enum-told-3 : tie.Need-enum-told-3 Inv-loop μ-loop
+enum-told-3 c = search cases
+
+malformed-requires-2 : tie.Need-malformed-requires-2 Inv-loop μ-loop
+malformed-requires-2 c κs = search cases
+
+returns-3 : tie.Need-returns-3 Inv-loop μ-loop
+returns-3 c =
+    let next = c .before .before .before in
+    let inside = next .before in
+    let loop = inside .before in
+    scanned-bad _ _ (c .malformed2 .ensures) (scanned-cut (loop .loop .inv) (inside .loop-test .taken) (next .next-option .ensures) (c .before .enum-told3 .given .1))
+
+returns-4 : tie.Need-returns-4 Inv-loop μ-loop
+returns-4 c = scanned-out (c .before .loop .inv) (omega arith)
+
+pub read-options-spec : {M : Type 1} → statement M
+read-options-spec =
+    tie.close
+    (tie.spec
+    Inv-loop
+    μ-loop
+    fresh-requires
+    loop-holds
+    sub-left
+    next-option-requires
+    enum-told
+    add-at
+    loop-less
+    loop-again
+    enum-known-kind
+    sub-is-bad-option
+    part-is-bad-option-start
+    part-is-bad-option-end
+    is-bad-option-requires
+    malformed-requires
+    returns
+    sub-with-option
+    part-with-option-start
+    part-with-option-end
+    with-option-requires
+    loop-less-2
+    loop-again-2
+    enum-told-2
+    returns-2
+    enum-told-3
+    malformed-requires-2
+    returns-3
+    returns-4)

@@ -1,0 +1,147 @@
+// One pass over the options of a message (01, "Octets on the air").
+ghost use mathlib.Core.Path.{_≡_};
+ghost use mathlib.Core.Bool.{false, true};
+ghost use Prim.Native.Nat.{_≤_};
+ghost use Rattle.plain.specs.Octets.{badOption};
+ghost use Rattle.option.specs.Follows.{optionOf};
+ghost use Rattle.scan.specs.Seen.{Noted};
+ghost use Rattle.scan.specs.Scanned.{freshScan, ArtTaken, OptionTaken, Scanned};
+use art::Targets;
+use option::Next;
+use plain::Target;
+
+// The options of one type: how many, as far as 2, and where the body of the first one is.
+pub struct Found {
+    pub count: u8,
+    pub start: usize,
+    pub end: usize,
+}
+
+// What a pass has found. `bad`: an option is past the end or has a wrong body.
+pub struct Scan {
+    pub bad: bool,
+    pub configuration: Found,
+    pub rreq: Found,
+    pub rrep: Found,
+    pub art: Found,
+    pub targets: Targets,
+}
+
+// What is found of a type after one more option.
+fn noted(f: Found, wanted: u8, kind: u8, start: usize, end: usize) -> Found
+    ensures { λ r. ⌜ Noted wanted kind start end f r ⌝ }
+{
+    if kind != wanted {
+        return f;
+    }
+    if f.count == 0 {
+        return Found {
+            count: 1,
+            start,
+            end,
+        };
+    }
+    Found {
+        count: 2,
+        start: f.start,
+        end: f.end,
+    }
+}
+
+// The targets after one more option.
+fn with_art(ts: Targets, kind: u8, body: &[u8]) -> Targets
+    requires { ⌜ (ts .count ≤ 8) × (badOption (optionOf kind (now body)) ≡ false) ⌝ }
+    ensures { λ r. ⌜ ArtTaken kind (now (body .entry)) ts r ⌝ }
+{
+    if kind != 0x0D {
+        return ts;
+    }
+    art::with_target(ts, art::read_target(body))
+}
+
+// What a pass has found after one more option.
+fn with_option(s: Scan, kind: u8, start: usize, end: usize, body: &[u8]) -> Scan
+    requires { ⌜ (s .targets .count ≤ 8) × (badOption (optionOf kind (now body)) ≡ false) ⌝ }
+    ensures { λ r. ⌜ OptionTaken kind start end (now (body .entry)) s r ⌝ }
+{
+    let configuration = noted(s.configuration, 0x04, kind, start, end);
+    let rreq = noted(s.rreq, 0x0B, kind, start, end);
+    let rrep = noted(s.rrep, 0x0C, kind, start, end);
+    let art = noted(s.art, 0x0D, kind, start, end);
+    let targets = with_art(s.targets, kind, body);
+    Scan {
+        bad: s.bad,
+        configuration,
+        rreq,
+        rrep,
+        art,
+        targets,
+    }
+}
+
+fn fresh() -> Scan
+    ensures { λ r. ⌜ r ≡ freshScan ⌝ }
+{
+    let none = Found {
+        count: 0,
+        start: 0,
+        end: 0,
+    };
+    let blank = Target {
+        seq: 0,
+        plen: 0,
+        addr: [0u8; 16],
+    };
+    let targets = Targets {
+        over: false,
+        count: 0,
+        list: [blank; 8],
+    };
+    Scan {
+        bad: false,
+        configuration: none,
+        rreq: none,
+        rrep: none,
+        art: none,
+        targets,
+    }
+}
+
+fn malformed(s: Scan) -> Scan
+    ensures { λ r. ⌜ r .bad ≡ true ⌝ }
+{
+    let mut r = s;
+    r.bad = true;
+    r
+}
+
+// All options of a message, each read in its turn. The pass ends at the first bad one.
+pub fn read_options(msg: &[u8]) -> Scan
+    ensures { λ r. ⌜ Scanned (now (msg .entry)) r ⌝ }
+{
+    let mut s = fresh();
+    let mut at: usize = 24;
+    let mut left = msg.len();
+    while 0 < left {
+        left = left - 1;
+        match option::next_option(msg, at) {
+            Next::Pad => {
+                at = at + 1;
+            }
+            Next::Body { kind, start, end } => {
+                if option::is_bad_option(kind, &msg[start..end]) {
+                    return malformed(s);
+                }
+                s = with_option(s, kind, start, end, &msg[start..end]);
+                at = end;
+            }
+            Next::End => {
+                return s;
+            }
+            Next::Cut => {
+                return malformed(s);
+            }
+        }
+    }
+    s
+}
