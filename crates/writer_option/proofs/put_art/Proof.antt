@@ -1,0 +1,77 @@
+-- `writer_option::put_art` meets its contract.
+use Prim.Native.Nat.{_+_, _≤_}
+use mathlib.Core.Path.{refl, ap, _∙_, _≡_}
+use native.Mathlib.Omega.{arith}
+use lib.ListN.{length, length-take, length-drop}
+use borrow.Author.Needs.{needs}
+use Rattle.lemmas.proofs.Buffer.{written-then}
+use Rattle.plain.specs.Octets.{artOctets, prefixOctets}
+use Rattle.writer_option.proofs.Lengths.{prefix-octets-le, art-parts}
+use Rattle.writer_option.proofs.put_art.Statement.{statement}
+use Rattle.writer_option.proofs.put_art.Tie as tie
+use Rattle.writer_option.proofs.put_art.Reads as reads
+use Rattle.writer_option.proofs.put_art.Lts as lts
+use Rattle.writer_option.proofs.put_art_head.Reads as put-art-head-reads
+use Rattle.writer_octets.proofs.put_octets.Reads as put-octets-reads
+use Rattle.writer_option.proofs.target_octets.Reads as target-octets-reads
+
+-- how many octets there are
+sized : (s : lts.Start (target-octets-reads.Asked, target-octets-reads.Learnt, put-art-head-reads.Asked, put-art-head-reads.Learnt, put-octets-reads.Asked, put-octets-reads.Learnt) reads.Pre reads.Post)
+    → (length (s .args .t .addr) ≡ 16) × (prefixOctets (s .args .t .plen) ≤ 16) × (length (artOctets (s .args .t)) ≡ prefixOctets (s .args .t .plen) + 4)
+sized s =
+    let t = s .args .t in
+    let k : length (t .addr) ≡ 16 = search needs in
+    (k, prefix-octets-le (t .plen) (s .pre .0), ap length (art-parts t _ refl (omega (arith, prefix-octets-le (t .plen) (s .pre .0)))) ∙ omega (arith, length-take (prefixOctets (t .plen)) (t .addr), prefix-octets-le (t .plen) (s .pre .0)))
+
+target-octets-requires : tie.Need-target-octets-requires
+target-octets-requires c κs = search needs
+
+put-art-head-requires : tie.Need-put-art-head-requires
+put-art-head-requires c κs = let z = sized (c .before .before .before .before) in (omega arith, omega arith)
+
+sub-put-octets : tie.Need-sub-put-octets
+sub-put-octets c = let z = sized (c .before .before .before .before .before .before .before) in omega arith
+
+part-put-octets-start : tie.Need-part-put-octets-start
+part-put-octets-start c = let z = sized (c .before .before .before .before .before .before .before) in omega arith
+
+part-put-octets-end : tie.Need-part-put-octets-end
+part-put-octets-end c = search needs
+
+array-share-prefix-a : tie.Need-array-share-prefix-a
+array-share-prefix-a c = let z = sized (c .before .before .before .before .before .before .before .before) in omega arith
+
+slice-aggregate-put-octets : tie.Need-slice-aggregate-put-octets
+slice-aggregate-put-octets c = let z = sized (c .before .before .before .before .before .before .before .before .before) in omega (arith, length-take (c .before .before .before .before .before .before .before .target-octets .result) (c .before .before .before .before .before .before .before .before .before .args .t .addr))
+
+put-octets-requires : tie.Need-put-octets-requires
+put-octets-requires c κs = let z = sized (c .before .before .before .before .before .before .before .before .before) in simp (length-take, length-drop) (omega arith)
+
+add-result : tie.Need-add-result
+add-result c = let z = sized (c .before .before .before .before .before .before .before .before .before .before .before .before) in omega (arith, length-take (c .before .before .before .before .before .before .before .before .before .before .target-octets .result) (c .before .before .before .before .before .before .before .before .before .before .before .before .args .t .addr))
+
+same-length : tie.Need-same-length
+same-length c = search needs
+
+returns : tie.Need-returns
+returns c =
+    let z = sized (c .before .before .before .before .before .before .before .before .before .before .before .before) in
+    let e = c .before .before .before .before .before .before .before .before .before .before .target-octets .ensures in
+    rw (art-parts (c .before .before .before .before .before .before .before .before .before .before .before .before .args .t) _ e (omega arith))
+    (written-then _ _ _ _ _ _ _ (c .before .before .before .before .before .before .before .put-art-head .ensures) (c .before .before .put-octets .ensures))
+
+pub put-art-spec : {M : Type 1} → statement M
+put-art-spec =
+    tie.close
+    (tie.spec
+    target-octets-requires
+    put-art-head-requires
+    sub-put-octets
+    part-put-octets-start
+    part-put-octets-end
+    array-share-prefix-a
+    slice-aggregate-put-octets
+    put-octets-requires
+    add-result
+    same-length
+    returns)
