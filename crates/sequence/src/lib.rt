@@ -1,0 +1,118 @@
+// Sequence numbers (01, "Rank and freshness") and the pairing of instances by Delta (01, "A request", "A reply").
+use plain::Freshness;
+use plain::Standing;
+ghost use mathlib.Core.Path.{_≡_};
+ghost use Prim.Native.Nat.{_+_, _-_};
+ghost use Rattle.plain.specs.Rank.{sameSide, lowIsNewer, freshness, stepped, standing, outdated, plusDelta, minusDelta};
+
+// By how much two numbers differ.
+fn difference(a: u8, b: u8) -> u8
+    ensures { λ r. ⌜ r ≡ a - b + (b - a) ⌝ }
+{
+    if b < a { a - b } else { b - a }
+}
+
+// How a stands to b, both on the same side of 128.
+fn on_same_side(a: u8, b: u8) -> Freshness
+    ensures { λ r. ⌜ r ≡ sameSide a b ⌝ }
+{
+    if 16 < difference(a, b) {
+        return Freshness::NotComparable;
+    }
+    if b < a {
+        return Freshness::Newer;
+    }
+    if a < b {
+        Freshness::Older
+    } else {
+        Freshness::Equal
+    }
+}
+
+// Whether `low`, under 128, is newer than `high`, from 128 on.
+fn is_low_newer(high: u8, low: u8) -> bool
+    ensures { λ r. ⌜ r ≡ lowIsNewer high low ⌝ }
+{
+    256 + (low as u16) - (high as u16) <= 16
+}
+
+// How a stands to b: Newer where a is the newer one.
+pub fn compare(a: u8, b: u8) -> Freshness
+    ensures { λ r. ⌜ r ≡ freshness a b ⌝ }
+{
+    if 128 <= a {
+        if 128 <= b {
+            return on_same_side(a, b);
+        }
+        if is_low_newer(a, b) {
+            return Freshness::Older;
+        }
+        return Freshness::Newer;
+    }
+    if b < 128 {
+        return on_same_side(a, b);
+    }
+    if is_low_newer(b, a) {
+        Freshness::Newer
+    } else {
+        Freshness::Older
+    }
+}
+
+// The number after our own. 0 is never one of ours.
+pub fn step(own: u8) -> u8
+    ensures { λ r. ⌜ r ≡ stepped own ⌝ }
+{
+    if own == 127 {
+        return 1;
+    }
+    if own == 255 { 1 } else { own + 1 }
+}
+
+// How a message stands to the live row of its key, by how its number stands to the row's: `replied` is the row's, and `lower` tells
+// that our own rank is lower than the row's.
+pub fn standing(f: Freshness, replied: bool, lower: bool) -> Standing
+    ensures { λ r. ⌜ r ≡ standing f replied lower ⌝ }
+{
+    match f {
+        Freshness::Newer => Standing::Afresh,
+        Freshness::Older => Standing::Stale,
+        Freshness::NotComparable => Standing::Stale,
+        Freshness::Equal => {
+            if replied {
+                return Standing::NothingNew;
+            }
+            if lower {
+                Standing::Update
+            } else {
+                Standing::NothingNew
+            }
+        }
+    }
+}
+
+// Whether a message is outdated, by how the number of the live route stands to the message's.
+pub fn is_outdated(f: Freshness) -> bool
+    ensures { λ r. ⌜ r ≡ outdated f ⌝ }
+{
+    match f {
+        Freshness::Newer => true,
+        Freshness::NotComparable => true,
+        Freshness::Equal => false,
+        Freshness::Older => false,
+    }
+}
+
+// The reply's RPLInstanceID, from its request's.
+pub fn plus_delta(instance: u8, delta: u8) -> u8
+    ensures { λ r. ⌜ r ≡ plusDelta instance delta ⌝ }
+{
+    std::num::wrapping_add_u8(instance, delta)
+}
+
+// The request's RPLInstanceID, from its reply's.
+pub fn minus_delta(instance: u8, delta: u8) -> u8
+    ensures { λ r. ⌜ r ≡ minusDelta instance delta ⌝ }
+{
+    std::num::wrapping_sub_u8(instance, delta)
+}
