@@ -1,0 +1,3 @@
+pub mod Sifted
+pub mod Whole
+pub mod Gathered
