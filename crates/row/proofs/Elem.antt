@@ -1,0 +1,2 @@
+pub mod InstanceRow
+pub mod RouteRow

@@ -1,0 +1,70 @@
+use Rattle.row.specs.Meaning.{routeIn}
+use Rattle.row.proofs.Laws.{route-here}
+use borrow.Author.Needs.{needs}
+use Rattle.row.proofs.is_route.Statement.{statement}
+use Rattle.row.proofs.is_route.Tie as tie
+use Rattle.lemmas.proofs.Cases.{cases}
+
+returns : tie.Need-returns
+unfolding routeIn
+returns c = search (route-here, cases)
+
+is-same-requires : tie.Need-is-same-requires
+is-same-requires c κs = search needs
+
+is-same-requires-2 : tie.Need-is-same-requires-2
+is-same-requires-2 c κs = search needs
+
+does-last-requires : tie.Need-does-last-requires
+does-last-requires c κs = search needs
+
+returns-2 : tie.Need-returns-2
+unfolding routeIn
+returns-2 c = search (
+  route-here,
+  ← c .does-last .ensures,
+  c .before .before .before .if3 .taken,
+  ← c .before .before .before .before .is-same2 .ensures,
+  c .before .before .before .before .before .before .if2 .taken,
+  ← c .before .before .before .before .before .before .before .is-same .ensures,
+  cases,
+)
+
+returns-3 : tie.Need-returns-3
+unfolding routeIn
+returns-3 c = search (
+  route-here,
+  c .before .before .if3 .taken,
+  ← c .before .before .before .is-same2 .ensures,
+  c .before .before .before .before .before .if2 .taken,
+  ← c .before .before .before .before .before .before .is-same .ensures,
+  cases,
+)
+
+returns-4 : tie.Need-returns-4
+unfolding routeIn
+returns-4 c = search (
+  route-here,
+  c .if3 .left,
+  ← c .before .is-same2 .ensures,
+  c .before .before .before .if2 .taken,
+  ← c .before .before .before .before .is-same .ensures,
+  cases,
+)
+
+returns-5 : tie.Need-returns-5
+unfolding routeIn
+returns-5 c = search (route-here, c .if2 .left, ← c .before .is-same .ensures, cases)
+
+pub is-route-spec : {M : Type 1} → statement M
+is-route-spec =
+    tie.close
+    (tie.spec
+    returns
+    is-same-requires
+    is-same-requires-2
+    does-last-requires
+    returns-2
+    returns-3
+    returns-4
+    returns-5)

@@ -1,0 +1,5 @@
+pub mod Found
+pub mod Lent
+pub mod Room
+pub mod Search
+pub mod Store

@@ -1,0 +1,59 @@
+pub mod Lts
+pub mod Tie
+use Prim.Native.Nat.{_-_, _≤_}
+use mathlib.Core.Path.{_≡_, refl, sym, _∙_}
+use mathlib.Core.List.{map}
+use denote.Ref.{now}
+use lib.ListN.{length, drop}
+use Rattle.plain.specs.Answers.{allGood, goodRoute}
+use Rattle.row.specs.Meaning.{routeOf, noRoute}
+use Rattle.table.proofs.Search.{good-hit, good-miss, good-end}
+use borrow.Author.Needs.{needs}
+use Rattle.table.proofs.all_good_routes.Statement.{statement}
+use Rattle.table.proofs.all_good_routes.Proof.Tie as tie
+
+-- Each row is good if each from i on is.
+abbrev Inv-loop : tie.InvT-loop
+Inv-loop routes i₀ i = (i ≤ length routes) × (allGood goodRoute (map routeOf routes) ≡ allGood goodRoute (map routeOf (drop i routes)))
+
+abbrev μ-loop : tie.MeasureT-loop
+μ-loop routes i₀ i = length routes - i
+
+loop-holds : tie.Need-loop-holds Inv-loop μ-loop
+loop-holds c = (search needs, refl)
+
+mul-is-good-route : tie.Need-mul-is-good-route Inv-loop μ-loop
+mul-is-good-route c = search needs
+
+shared-slice-copy-out-is-good-route : tie.Need-shared-slice-copy-out-is-good-route Inv-loop μ-loop
+shared-slice-copy-out-is-good-route c = search needs
+
+is-good-route-requires : tie.Need-is-good-route-requires Inv-loop μ-loop
+is-good-route-requires c = search needs
+
+add-i : tie.Need-add-i Inv-loop μ-loop
+add-i c = search needs
+
+loop-less : tie.Need-loop-less Inv-loop μ-loop
+loop-less c = search needs
+
+loop-again : tie.Need-loop-again Inv-loop μ-loop
+loop-again c = (
+  search needs,
+  good-hit routeOf goodRoute (now (c .before .before .before .before .before .args .routes)) noRoute
+      (c .before .before .before .before .loop .i) (c .before .before .before .before .loop .inv .1) (c .before .before .before .loop-test .taken)
+      (sym (c .before .is-good-route .ensures) ∙ c .if1 .taken),
+)
+
+returns : tie.Need-returns Inv-loop μ-loop
+returns c = sym (good-miss routeOf goodRoute (now (c .before .before .before .before .before .args .routes)) noRoute
+    (c .before .before .before .before .loop .i) (c .before .before .before .before .loop .inv .1) (c .before .before .before .loop-test .taken)
+    (sym (c .before .is-good-route .ensures) ∙ c .if1 .left))
+
+returns-2 : tie.Need-returns-2 Inv-loop μ-loop
+returns-2 c = sym (good-end routeOf goodRoute (now (c .before .before .args .routes)) noRoute (c .before .loop .i) (c .before .loop .inv .1)
+    (c .loop-test .left))
+
+pub all-good-routes-spec : {M : Type 1} → statement M
+all-good-routes-spec = tie.close (tie.spec Inv-loop μ-loop loop-holds mul-is-good-route shared-slice-copy-out-is-good-route is-good-route-requires
+    add-i loop-less loop-again returns returns-2)
