@@ -1,0 +1,141 @@
+-- Made by tools/lend.py of the twin of `has_twins_route`: do not edit.
+use Rattle.twins.proofs.every_pair_of_routes.Met
+use Rattle.twins.proofs.Lent.every_pair_of_routes.Reads
+use Rattle.twins.proofs.every_pair_of_routes.Symbol
+use Rattle.twins.proofs.has_twins_route.Code
+use Rattle.twins.proofs.has_twins_route.Key
+use Rattle.twins.proofs.Lent.has_twins_route.Kinds
+use Rattle.twins.proofs.has_twins_route.Proof.Lts
+use Rattle.twins.proofs.Lent.has_twins_route.Reads as Reads'
+use Rattle.twins.proofs.has_twins_route.Statement
+use Rattle.twins.proofs.passes_routes.Met as Met'
+use Rattle.twins.proofs.Lent.passes_routes.Reads as Reads''
+use Rattle.twins.proofs.passes_routes.Symbol as Symbol'
+use borrow.Fn.Run
+use borrow.Fn.Written
+use contract.Running
+
+abbrev pub Start : Type 0
+Start =
+    Lts.Start (Reads.Asked, Reads.Learnt, Reads''.Asked, Reads''.Learnt) Reads'.Pre Reads'.Post
+
+abbrev pub Then1 : Type 0
+Then1 =
+    Lts.Then1 (Reads.Asked, Reads.Learnt, Reads''.Asked, Reads''.Learnt) Reads'.Pre Reads'.Post
+
+abbrev pub After-every-pair-of-routes : Type 0
+After-every-pair-of-routes = Lts.After-every-pair-of-routes (
+  Reads.Asked,
+  Reads.Learnt,
+  Reads''.Asked,
+  Reads''.Learnt,
+) Reads'.Pre Reads'.Post
+
+abbrev pub Else1 : Type 0
+Else1 =
+    Lts.Else1 (Reads.Asked, Reads.Learnt, Reads''.Asked, Reads''.Learnt) Reads'.Pre Reads'.Post
+
+abbrev pub After-passes-routes : Type 0
+After-passes-routes = Lts.After-passes-routes (
+  Reads.Asked,
+  Reads.Learnt,
+  Reads''.Asked,
+  Reads''.Learnt,
+) Reads'.Pre Reads'.Post
+
+abbrev pub Need-every-pair-of-routes-requires : Type 0
+Need-every-pair-of-routes-requires = Lts.Need-every-pair-of-routes-requires (
+  Reads.Asked,
+  Reads.Learnt,
+  Reads''.Asked,
+  Reads''.Learnt,
+) Reads'.Pre Reads'.Post
+
+abbrev pub Need-returns : Type 0
+Need-returns =
+    Lts.Need-returns
+    (Reads.Asked, Reads.Learnt, Reads''.Asked, Reads''.Learnt)
+    Reads'.Pre
+    Reads'.Post
+
+abbrev pub Need-passes-routes-requires : Type 0
+Need-passes-routes-requires = Lts.Need-passes-routes-requires (
+  Reads.Asked,
+  Reads.Learnt,
+  Reads''.Asked,
+  Reads''.Learnt,
+) Reads'.Pre Reads'.Post
+
+abbrev pub Need-returns-2 : Type 0
+Need-returns-2 =
+    Lts.Need-returns-2
+    (Reads.Asked, Reads.Learnt, Reads''.Asked, Reads''.Learnt)
+    Reads'.Pre
+    Reads'.Post
+
+module _ {M : Type 1} where
+  pub spec :
+      (answer : Need-every-pair-of-routes-requires) →
+      (answer : Need-returns) →
+      (answer : Need-passes-routes-requires) →
+      (answer : Need-returns-2) →
+      Lts.Closed
+      (Reads.Asked, Reads.Learnt, Reads''.Asked, Reads''.Learnt)
+      Reads'.Pre
+      Reads'.Post
+      M
+  spec = λ answer answer' answer'' answer'3. Lts.spec (
+    Reads.Asked,
+    Reads.Learnt,
+    Reads''.Asked,
+    Reads''.Learnt,
+  ) Reads'.Pre Reads'.Post answer answer' answer'' answer'3
+
+  pub close :
+      Lts.Closed
+      (Reads.Asked, Reads.Learnt, Reads''.Asked, Reads''.Learnt)
+      Reads'.Pre
+      Reads'.Post
+      M →
+      Statement.statement M
+  unfolding Code.routine Running.tablesOf
+  close =
+      λ closed 𝓤 H 𝓜 𝓖 𝓡. Written.close
+      1
+      Kinds.ps
+      Kinds.r
+      Reads'.Ghost
+      Reads'.requires
+      Reads'.ensures
+      Reads'.pre-read
+      Reads'.Pinned
+      Reads'.Owned
+      Reads'.post-read
+      record { M = M; 𝓤 = 𝓤; H = H; 𝓜 = 𝓜; 𝓖 = 𝓖; 𝓡 = 𝓡 }
+      Code.env
+      Key.name
+      Code.function
+      (Code.unfolded 𝓤 H 𝓜 𝓡)
+      (λ κs a g. tt)
+      (λ κs. Reads'.owns κs record { M = M; 𝓤 = 𝓤; H = H; 𝓜 = 𝓜; 𝓖 = 𝓖; 𝓡 = 𝓡 })
+      (Reads'.passes record { M = M; 𝓤 = 𝓤; H = H; 𝓜 = 𝓜; 𝓖 = 𝓖; 𝓡 = 𝓡 })
+      λ g. closed
+      𝓤
+      H
+      (𝓖 .A)
+      (Running.givenOf 𝓤 H 𝓜 𝓖)
+      (Run.Over 𝓤 H 𝓜 𝓖 𝓡 Code.env)
+      (Reads.known
+      record { M = M; 𝓤 = 𝓤; H = H; 𝓜 = 𝓜; 𝓖 = 𝓖; 𝓡 = 𝓡 }
+      Code.env
+      Symbol.name
+      Symbol.routine
+      Code.calls-twins·every-pair-of-routes
+      (Met.met 𝓤 H 𝓜 𝓖 𝓡))
+      (Reads''.known
+      record { M = M; 𝓤 = 𝓤; H = H; 𝓜 = 𝓜; 𝓖 = 𝓖; 𝓡 = 𝓡 }
+      Code.env
+      Symbol'.name
+      Symbol'.routine
+      Code.calls-twins·passes-routes
+      (Met'.met 𝓤 H 𝓜 𝓖 𝓡))

@@ -1,0 +1,65 @@
+-- The filter that the search for twins goes by. No contract of a public call needs this: of a hash nothing is used but that rows of one key
+-- have one.
+use Prim.Native.Nat.{ℕ, _+_, _*_, _/_, _%_, _^_}
+use mathlib.Core.Bool.{Bool, false, cond}
+use lib.Dec.{eqb}
+use lib.Bits.{bitOr, bitXor, bitAnd}
+use lib.ListN.{getD}
+use Rattle.plain.specs.Address.{Address}
+use Rattle.row.specs.declared.InstanceRow.{InstanceRow}
+use Rattle.row.specs.declared.RouteRow.{RouteRow}
+
+unfoldable pub quadOf : ℕ → ℕ → ℕ → ℕ → ℕ
+quadOf a b c d = a + b * 256 + c * 65536 + d * 16777216
+
+unfoldable pub mixOf : ℕ → ℕ → ℕ → ℕ → ℕ → ℕ
+mixOf k a b c d =
+    bitXor (bitXor (bitXor (bitXor (a * 2654435761) (b * 2246822519)) (c * 3266489917)) (d * 3605593785)) (k * 24569562668599)
+    / 65536 % 4294967296 * 2654435769
+
+-- an address, with a number that tells kinds and places apart
+unfoldable pub hashAddress : ℕ → Address → ℕ
+hashAddress k d =
+    mixOf k (quadOf (getD d 0 0) (getD d 1 0) (getD d 2 0) (getD d 3 0)) (quadOf (getD d 4 0) (getD d 5 0) (getD d 6 0) (getD d 7 0))
+    (quadOf (getD d 8 0) (getD d 9 0) (getD d 10 0) (getD d 11 0)) (quadOf (getD d 12 0) (getD d 13 0) (getD d 14 0) (getD d 15 0))
+
+unfoldable pub hashRow : InstanceRow → ℕ
+hashRow r = hashAddress (r .kind * 256 + r .instance) (r .dodagid)
+
+unfoldable pub hashRoute : RouteRow → ℕ
+hashRoute r = bitXor (hashAddress (0 * 256 + r .instance) (r .source)) (hashAddress (1 * 256 + r .instance) (r .destination))
+
+-- ---- the words
+
+unfoldable pub slotOf : ℕ → ℕ
+slotOf h = h / 4294967296 % 1024
+
+abbrev pub bitAt : ℕ → ℕ
+bitAt k = 1 * 2 ^ k % 18446744073709551616
+
+unfoldable pub bitsOf : ℕ → ℕ
+bitsOf h =
+    bitOr (bitOr (bitOr (bitAt (h / 4398046511104 % 64)) (bitAt (h / 281474976710656 % 64))) (bitAt (h / 18014398509481984 % 64)))
+    (bitAt (h / 67108864 % 64))
+
+unfoldable pub hasBits : ℕ → ℕ → Bool
+hasBits w h = eqb (bitOr w (bitsOf h)) w
+
+unfoldable pub maybeOf : Bool → ℕ → ℕ → Bool
+maybeOf on w h = cond on (hasBits w h) false
+
+unfoldable pub markedOf : Bool → ℕ → ℕ → ℕ
+markedOf on w h = cond on (bitOr w (bitsOf h)) w
+
+-- ---- the passes
+
+unfoldable pub classOf : ℕ → ℕ → ℕ
+classOf mask h = bitAnd (h / 65536 % 65536) mask
+
+-- a row is looked at in a pass where it is live and its hash is of the pass's class
+unfoldable pub chosenOf : ℕ → ℕ → Bool → ℕ → Bool
+chosenOf mask p live h = cond live (eqb (classOf mask h) p) false
+
+-- twins of the pass's class
+unfoldable pub inClass : {R : Type 0} → (R → ℕ) → ℕ → ℕ → (R → R → Bool) → R → R → Bool
+inClass hash mask p twins a b = cond (eqb (classOf mask (hash b)) p) (twins a b) false

@@ -1,0 +1,24 @@
+-- Two records that are twins. Of these the contracts of the public calls say nothing: they say what the plain node says.
+use Prim.Native.Nat.{ℕ}
+use mathlib.Core.Bool.{Bool, false, cond, _&&_}
+use lib.Dec.{eqb}
+use Rattle.plain.specs.Lists.{same}
+use Rattle.plain.specs.Table.{live, instanceDeadline, routeDeadline}
+use Rattle.row.specs.Meaning.{instanceOf, routeOf}
+use Rattle.row.specs.declared.InstanceRow.{InstanceRow}
+use Rattle.row.specs.declared.RouteRow.{RouteRow}
+
+-- "two request rows, two reply rows .. of the same key": of one kind, "RPLInstanceID and DODAGID"
+unfoldable pub sameKey : InstanceRow → InstanceRow → Bool
+sameKey a b = eqb (a .kind) (b .kind) && (eqb (a .instance) (b .instance) && same (a .dodagid) (b .dodagid))
+
+-- ".. both live at the last accepted time"
+unfoldable pub rowTwins : ℕ → InstanceRow → InstanceRow → Bool
+rowTwins t a b = cond (sameKey a b) (cond (live instanceDeadline t (instanceOf a)) (live instanceDeadline t (instanceOf b)) false) false
+
+-- ".. or two routes of the same key": source, destination, RPLInstanceID
+unfoldable pub sameThree : RouteRow → RouteRow → Bool
+sameThree a b = same (a .source) (b .source) && same (a .destination) (b .destination) && eqb (a .instance) (b .instance)
+
+unfoldable pub routePair : ℕ → RouteRow → RouteRow → Bool
+routePair t a b = cond (sameThree a b) (cond (live routeDeadline t (routeOf a)) (live routeDeadline t (routeOf b)) false) false
