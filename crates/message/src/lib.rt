@@ -1,0 +1,48 @@
+// What a call is about, by value: the message as it was read, the link that it came by, and the rows that the tables hold for it. What
+// each means is in specs/.
+use plain::Base;
+use plain::Discovery;
+use plain::Target;
+use row::InstanceRow;
+use row::RouteRow;
+
+// A message but for its vector, which stands beside it as an array of addresses: the first `n` of these and the first `count` of the
+// targets are the message's.
+pub struct Parsed {
+    pub base: Base,
+    pub configured: bool,
+    pub configuration: [u8; 14],
+    pub discovery: Discovery,
+    pub n: usize,
+    pub count: usize,
+    pub targets: [Target; 8],
+}
+
+// The link facts of a received message.
+pub struct Link {
+    pub neighbour: [u8; 16],
+    pub upward: bool,
+    pub downward: bool,
+    pub increase: u16,
+    pub group: bool,
+}
+
+// The live instance row of a key and its number, where there is one.
+pub struct Found {
+    pub is: bool,
+    pub at: usize,
+    pub row: InstanceRow,
+}
+
+// The live route of a key and its number, where there is one.
+pub struct FoundRoute {
+    pub is: bool,
+    pub at: usize,
+    pub route: RouteRow,
+}
+
+// A Delta that is free, where there is one.
+pub struct FreeDelta {
+    pub is: bool,
+    pub delta: u8,
+}

@@ -1,0 +1,6 @@
+pub mod find_partner
+pub mod free_delta
+pub mod search_partner
+pub mod search_reply
+pub mod search_request
+pub mod search_route
