@@ -1,0 +1,37 @@
+// What the rules decide of a call, by value: its answer, and where that is 0 the records to store, our number, and what is sent. Where
+// the records go, and whether there is room for them, is decided by whoever holds the tables.
+use answer::Answer;
+use answer::Destination;
+use message::Parsed;
+use row::InstanceRow;
+use row::RouteRow;
+
+// What goes into a buffer.
+pub enum What {
+    Nothing,
+    Dio,
+    Path,
+}
+
+// What goes into a buffer, and where it is to go. Its vector is the first addresses of the received message's, with our own added where
+// `grown`; a path is turned round where `turned`.
+pub struct Post {
+    pub what: What,
+    pub message: Parsed,
+    pub grown: bool,
+    pub turned: bool,
+    pub to: Destination,
+}
+
+// A decision. `second` is stored where `replies`, `route` where `routed`.
+pub struct Decided {
+    pub answer: Answer,
+    pub row: InstanceRow,
+    pub replies: bool,
+    pub second: InstanceRow,
+    pub routed: bool,
+    pub route: RouteRow,
+    pub seq: u8,
+    pub forward: Post,
+    pub reply: Post,
+}

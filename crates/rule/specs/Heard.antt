@@ -1,0 +1,14 @@
+-- What holds of every message that was heard: no 6, its RREQ or RREP came in an option, Compr has four bits and Prefix Length seven.
+use Prim.Native.Nat.{_≤_, _*_, _-_}
+use mathlib.Core.Path.{_≡_}
+use mathlib.Core.Bool.{true, false}
+use lib.ListN.{take}
+use Rattle.writer_option.specs.Sendable.{shortPrefixes}
+use Rattle.message.specs.declared.Parsed.{Parsed}
+
+pub record Heard (p : Parsed) : Type 0 where
+  pub addresses : p .n ≤ 16
+  pub octets : p .discovery .h ≡ false → p .n * (16 - p .discovery .compr) ≤ 252
+  pub compr : p .discovery .compr ≤ 15
+  pub targets : p .count ≤ 8
+  pub prefixes : shortPrefixes (take (p .count) (p .targets)) ≡ true
