@@ -1,0 +1,104 @@
+-- What the rows that were found say.
+use Prim.Native.Nat.{ℕ, _≤_}
+use mir.Val.{Val}
+use denote.Laws.{Is}
+use denote.Struct.Declared.{row}
+use Rattle.message.proofs.Found as found
+use Rattle.row.proofs.InstanceRow as instance
+use Rattle.art.proofs.Targets as targets
+use Rattle.own.proofs.Own as own
+use Rattle.request.proofs.Facts as facts
+use mathlib.Core.Path.{_≡_, refl, sym, _∙_}
+use mathlib.Core.Bool.{Bool, true, false, cond}
+use mathlib.Core.List.{List, [], map}
+use mathlib.Core.Option.{some, none}
+use native.Mathlib.Omega.{arith}
+use lib.ListN.{length, take, length-map}
+use Rattle.plain.specs.Lists.{any, given}
+use Rattle.plain.specs.Address.{Address}
+use Rattle.plain.specs.Given.{Settings}
+use Rattle.plain.specs.Rank.{ownRank}
+use Rattle.plain.specs.Request.{rowTargets, deltaOr0, matchesUs, requestStanding, targetsKept, askedWith}
+use Rattle.row.specs.Meaning.{requestOf}
+use Rattle.row.proofs.Laws.{targets-within}
+use Rattle.writer_option.specs.Sendable.{shortPrefix, shortPrefixes}
+use Rattle.matching.specs.Kept.{Kept}
+use Rattle.message.specs.Message.{messageIn, receivedBy, requestFound, routeFound, deltaFound}
+use Rattle.row.specs.declared.InstanceRow.{InstanceRow}
+use Rattle.art.specs.declared.Targets.{Targets}
+use Rattle.own.specs.declared.Own.{Own}
+use Rattle.request.specs.declared.Facts.{Facts}
+use Rattle.message.specs.declared.Found.{Found}
+use Rattle.message.specs.declared.FoundRoute.{FoundRoute}
+use Rattle.message.specs.declared.FreeDelta.{FreeDelta}
+use Rattle.message.specs.declared.Parsed.{Parsed}
+use Rattle.message.specs.declared.Link.{Link}
+use Rattle.request.specs.Facts.{askedOf, Gathered}
+use Rattle.request.proofs.Kept.{all-kept}
+
+pub given-delta : (d : FreeDelta) → given (deltaFound d) ≡ d .is
+unfolding deltaFound
+given-delta d = go (d .is)
+  where
+    go : (b : Bool) → given (cond b (some (d .delta)) none) ≡ b
+    go true = refl
+    go false = refl
+
+pub delta-or : (d : FreeDelta) → deltaOr0 (deltaFound d) ≡ cond (d .is) (d .delta) 0
+unfolding deltaFound
+delta-or d = go (d .is)
+  where
+    go : (b : Bool) → deltaOr0 (cond b (some (d .delta)) none) ≡ cond b (d .delta) 0
+    go true = refl
+    go false = refl
+
+module _ (f : Found) where
+  pub targets-found : f .is ≡ true → f .row .count ≤ 8 → length (f .row .targets) ≡ 8
+      → take (f .row .count) (f .row .targets) ≡ rowTargets (requestFound f)
+  unfolding requestFound requestOf
+  targets-found e h n = rw e (sym (targets-within (f .row .count) (f .row .targets) (omega arith)))
+
+  pub none-found : f .is ≡ false → [] ≡ rowTargets (requestFound f)
+  unfolding requestFound
+  none-found e = rw e refl
+
+-- ---- What the types of the parameters say
+
+length-mapped : {X Y : Type 0} (h : X → Y) (l : List X) (n : ℕ) → length (map h l) ≡ n → length l ≡ n
+length-mapped h l n e = sym (length-map l h) ∙ e
+
+pub row-eight : (r : InstanceRow) (vs : List Val) → Is (row instance.the-type) r vs → length (r .targets) ≡ 8
+row-eight r vs g = length-mapped _ (r .targets) 8 (g .1 .1 .1 .1 .1 .1 .1 .1 .1 .1 .1 .1 .1 .0 .1 .0 .1)
+
+pub list-eight : (ts : Targets) (vs : List Val) → Is (row targets.the-type) ts vs → length (ts .list) ≡ 8
+list-eight ts vs g = length-mapped _ (ts .list) 8 (g .1 .1 .1 .1 .0 .1 .0 .1)
+
+pub found-eight : (f : Found) (vs : List Val) → Is (row found.the-type) f vs → length (f .row .targets) ≡ 8
+found-eight f vs g = row-eight (f .row) _ (g .1 .1 .1 .1 .0)
+
+pub facts-eight : (a : Facts) (vs : List Val) → Is (row facts.the-type) a vs → length (a .targets .list) ≡ 8
+facts-eight a vs g = list-eight (a .targets) _ (g .1 .1 .1 .1 .1 .1 .1 .0)
+
+pub own-sixteen : (o : Own) (vs : List Val) → Is (row own.the-type) o vs → (length (o .receiving) ≡ 16) × (length (o .sending) ≡ 16)
+own-sixteen o vs g =
+    (length-mapped _ (o .receiving) 16 (g .1 .1 .0 .1 .0 .1), length-mapped _ (o .sending) 16 (g .1 .1 .1 .0 .1 .0 .1))
+
+-- ---- The facts, from their parts
+
+pub gathered-is : (x : Settings) (k : Link) (p : Parsed) (f : Found) (g : FoundRoute) (d : FreeDelta) (a : Facts)
+    → shortPrefixes (take (p .count) (p .targets)) ≡ true
+    → a .row ≡ f
+    → a .route ≡ g
+    → a .delta ≡ d
+    → a .rank ≡ ownRank (p .base .rank) (k .increase)
+    → a .standing ≡ requestStanding (requestFound f) (p .discovery .number) (a .rank)
+    → a .targ ≡ any (matchesUs x) (take (p .count) (p .targets))
+    → Kept (targetsKept x (a .standing) (requestFound f) (take (p .count) (p .targets))) (a .targets)
+    → (v : List Address)
+    → Gathered (askedWith x (receivedBy k []) (messageIn p v) (requestFound f) (routeFound g) (deltaFound d)) a
+unfolding askedOf askedWith messageIn
+gathered-is x k p f g d a short ef eg ed er es et kept v = record {
+  means = rw (ef, eg, ed, kept .held, et, es, er);
+  few = kept .few;
+  prefixes = rw (kept .held) (all-kept shortPrefix x (a .standing) (requestFound f) (take (p .count) (p .targets)) short);
+}
