@@ -1,0 +1,59 @@
+-- The targets of a start of our own discovery, gathered, and whether the start is a bad call.
+use Prim.Native.Nat.{ℕ, _≤_}
+use mathlib.Core.Path.{_≡_}
+use mathlib.Core.Bool.{Bool, true, false, _||_}
+use mathlib.Core.List.{List, map}
+use lib.Dec.{ltb, leb}
+use lib.ListN.{length, take}
+use Rattle.plain.specs.Given.{Start}
+use Rattle.plain.specs.Lists.{any, all, once}
+use Rattle.plain.specs.Octets.{sameTarget, mostTargets}
+use Rattle.plain.specs.Answers.{badStart}
+use Rattle.plain.specs.Request.{wholeBits, startTargets}
+use Rattle.plain.specs.declared.Target.{Target}
+use Rattle.art.specs.Collected.{Joined}
+use Rattle.matching.specs.Kept.{Nothing}
+use Rattle.gather.specs.declared.Gathering.{Gathering}
+
+-- "a target prefix over 127"
+abbrev pub isLong : Target → Bool
+isLong t = ltb 127 (t .plen)
+
+abbrev pub isShort : Target → Bool
+isShort t = leb (t .plen) 127
+
+-- the first `count` of them
+abbrev pub heldIn : Gathering → List Target
+heldIn g = take (g .targets .count) (g .targets .list)
+
+-- What the targets `ts` that are handed in come to: "A target listed twice in a request or start .. counts once, at its first place; the 8
+-- are counted after that." They are held, with spare bits zero, unless they are over 8.
+pub record Gathers (ts : List Target) (g : Gathering) : Type 0 where
+  pub long : g .long ≡ any isLong ts
+  pub over : g .targets .over ≡ ltb mostTargets (length (map wholeBits (once sameTarget ts)))
+  pub few : g .targets .count ≤ mostTargets
+  pub room : length (g .targets .list) ≡ mostTargets
+  pub held : g .targets .over ≡ false → heldIn g ≡ map wholeBits (once sameTarget ts)
+
+-- nothing is gathered yet
+pub record Begun (g : Gathering) : Type 0 where
+  pub long : g .long ≡ false
+  pub nothing : Nothing (g .targets)
+
+-- the next target is taken in
+pub record TakenIn (g : Gathering) (t : Target) (r : Gathering) : Type 0 where
+  pub long : r .long ≡ g .long || isLong t
+  pub joined : Joined (g .targets) (wholeBits t) (r .targets)
+
+-- `bad` says whether a start with these targets and these fields is a bad call: "a start with 0 or over 8 targets, a target prefix over
+-- 127, L over 3, Compr over 15, RankLimit over 127"
+pub record Judged (g : Gathering) (l compr limit : ℕ) (bad : Bool) : Type 0 where
+  pub told : (c : Start) → Gathers (c .targets) g → c .l ≡ l → c .compr ≡ compr → c .limit ≡ limit → bad ≡ badStart c (startTargets c)
+
+-- What is held of a start that is no bad call: all its targets, of a size that can be written.
+pub record Fit (c : Start) (g : Gathering) : Type 0 where
+  pub whole : g .targets .over ≡ false
+  pub some : 1 ≤ g .targets .count
+  pub few : g .targets .count ≤ mostTargets
+  pub held : heldIn g ≡ startTargets c
+  pub short : all isShort (heldIn g) ≡ true

@@ -1,0 +1,115 @@
+-- The decision of a start, from its parts.
+use Prim.Native.Nat.{ℕ, _≤_}
+use mathlib.Core.Path.{_≡_, refl, sym, _∙_}
+use mathlib.Core.Bool.{Bool, true, false, cond}
+use mathlib.Core.List.{List, []}
+use mathlib.Core.Option.{none, some}
+use native.Mathlib.Omega.{arith}
+use lib.ListN.{length, take}
+use Rattle.plain.specs.Address.{zeroAddress}
+use Rattle.plain.specs.Given.{Settings, RequestRow, Destination}
+use Rattle.plain.specs.Octets.{octetsOf}
+use Rattle.plain.specs.Rank.{stepped, rowDeadline}
+use Rattle.plain.specs.Request.{startRow, startMessage, acceptStart, withReplyRow, routeChange}
+use Rattle.plain.specs.declared.Target.{Target}
+use Rattle.lemmas.proofs.Choice.{cond-case, true-false}
+use Rattle.answer.specs.Answer.{answerNumber, destinationOf}
+use Rattle.answer.specs.declared.Destination as code
+use Rattle.deadline.specs.Deadline.{deadlineOf}
+use Rattle.deadline.specs.declared.Deadline.{Deadline}
+use Rattle.row.specs.Record.{requestRecord}
+use Rattle.writer_option.specs.Sendable.{Sendable, shortPrefixes}
+use Rattle.art.specs.declared.Targets.{Targets}
+use Rattle.matching.specs.Kept.{listOf}
+use Rattle.message.specs.Message.{messageIn}
+use Rattle.message.specs.declared.Parsed.{Parsed}
+use Rattle.decision.specs.Decision.{Decides, postVector, octetsAs, instancesBy, routesBy}
+use Rattle.decision.specs.declared.Decided.{Decided}
+use Rattle.rule.specs.Post.{Posts, noPost}
+use Rattle.rule.proofs.Laws.{request-meant}
+use Rattle.request.proofs.Sent.{dio-posts, plainPost, plain-message}
+use Rattle.request.proofs.Accept.{request-again}
+use Rattle.start.specs.Start.{startOf, startAnswer, Sound}
+use Rattle.start.specs.declared.Asking.{Asking}
+
+-- ---- The row
+
+pub row-is : (x : Settings) (t own : ℕ) (s : Asking) (ts : Targets) (end : Deadline) → deadlineOf end ≡ rowDeadline t (s .l)
+    → requestRecord (record {
+      instance = s .instance;
+      dodagid = x .receiving;
+      seq = own;
+      s = true;
+      h = s .h;
+      rank = 256;
+      neighbour = zeroAddress;
+      targets = take (ts .count) (ts .list);
+      replied = false;
+      deadline = cond (end .endless) none (some (end .at));
+    })
+    ≡ requestRecord (startRow x t own (startOf s []) (listOf ts))
+unfolding deadlineOf startRow
+row-is x t own s ts end e = rw e
+
+-- ---- The posts
+
+module _ (x : Settings) (own t : ℕ) (s : Asking) (ts : Targets) (g : Sound t s ts) (m : Parsed)
+    (em : messageIn m [] ≡ startMessage x own (startOf s []) (listOf ts)) (en : m .n ≡ 0) (ec : m .count ≡ ts .count) where
+  start-sendable : Sendable (startMessage x own (startOf s []) (listOf ts) .discovery) 0
+  unfolding startMessage
+  start-sendable = record {
+    compr = cond-case (λ (n : ℕ). n ≤ 15) (s .h) 0 (s .compr) (λ q. omega arith) (λ q. g .compr);
+    addresses = omega arith;
+    octets = λ h. omega arith;
+  }
+
+  start-prefixes : shortPrefixes (startMessage x own (startOf s []) (listOf ts) .targets) ≡ true
+  unfolding startMessage
+  start-prefixes = g .prefixes
+
+  start-vector : length (startMessage x own (startOf s []) (listOf ts) .vector) ≡ 0
+  unfolding startMessage
+  start-vector = refl
+
+  pub start-posts : (to : code.Destination) → destinationOf to ≡ Destination.group
+      → Posts x [] (octetsOf (startMessage x own (startOf s []) (listOf ts))) Destination.group (plainPost m to)
+  start-posts to et =
+      dio-posts x [] (plainPost m to) (startMessage x own (startOf s []) (listOf ts)) Destination.group refl (plain-message x m to [] ∙ em) et
+      (omega (arith, en)) (omega (arith, ec, g .targets)) (rw start-vector start-sendable) start-prefixes
+
+  -- a message that can be sent, and is not
+  pub quiet-posts : Posts x [] [] Destination.nowhere (noPost m)
+  unfolding octetsAs postVector
+  quiet-posts =
+      let d : Posts x [] (octetsOf (startMessage x own (startOf s []) (listOf ts))) Destination.nowhere (plainPost m (noPost m .to)) =
+      dio-posts x [] (plainPost m (noPost m .to)) (startMessage x own (startOf s []) (listOf ts)) Destination.nowhere refl
+      (plain-message x m (noPost m .to) [] ∙ em) refl (omega (arith, en)) (omega (arith, ec, g .targets)) (rw start-vector start-sendable)
+      start-prefixes in
+      record { sends = refl; goes = refl; fits = record { received = d .fits .received; sendable = d .fits .sendable; targets = d .fits .targets; prefixes = d .fits .prefixes } }
+
+-- ---- The decision
+
+module _ (x : Settings) (own next t : ℕ) (s : Asking) (ts : Targets) (taken : Bool) (r : Decided) where
+  pub started-is : next ≡ stepped own
+      → answerNumber (r .answer) ≡ startAnswer x s taken
+      → r .row ≡ requestRecord (startRow x t next (startOf s []) (listOf ts))
+      → r .replies ≡ false
+      → r .routed ≡ false
+      → r .seq ≡ next
+      → Posts x [] (octetsOf (startMessage x next (startOf s []) (listOf ts))) Destination.group (r .forward)
+      → Posts x [] [] Destination.nowhere (r .reply)
+      → (targets : List Target)
+      → Decides {B = RequestRow} x [] (startAnswer x s taken) (acceptStart x own t (startOf s targets) (listOf ts)) none none r
+  unfolding acceptStart startRow startMessage instancesBy routesBy withReplyRow routeChange
+  started-is en ea er ep ed eq pf pr targets = record {
+    answer = ea;
+    sent = λ z. rw (pf .sends, pf .goes, pr .sends, pr .goes, en);
+    own = λ z. eq ∙ en;
+    instances = λ z. rw (er, ep, request-meant (startRow x t next (startOf s []) (listOf ts)), en);
+    routes = λ z. rw ed;
+    row = λ z. rw er (request-again (startRow x t next (startOf s []) (listOf ts)));
+    second = λ z w. true-false (sym w ∙ ep);
+    route = λ z w. true-false (sym w ∙ ed);
+    forward = λ z. pf .fits;
+    reply = λ z. pr .fits;
+  }

@@ -1,0 +1,2 @@
+-- what a start means
+pub mod Start

@@ -1,0 +1,163 @@
+// The start of our own discovery by value (01, "A request").
+use answer::Answer;
+use art::Targets;
+use decision::Decided;
+use decision::Post;
+use decision::What;
+use message::Parsed;
+use own::Own;
+use plain::Base;
+use plain::Discovery;
+use row::InstanceRow;
+use row::RouteRow;
+ghost use Prim.Native.Nat.{_≤_};
+ghost use mathlib.Core.Path.{_≡_};
+ghost use mathlib.Core.Bool.{cond};
+ghost use mathlib.Core.List.{List, []};
+ghost use mathlib.Core.Option.{none};
+ghost use Rattle.plain.specs.Given as rules;
+ghost use Rattle.plain.specs.Request.{startRow, startMessage, acceptStart};
+ghost use Rattle.plain.specs.declared.Target as plain;
+ghost use Rattle.answer.specs.Answer.{answerNumber};
+ghost use Rattle.row.specs.Meaning.{noRoute};
+ghost use Rattle.row.specs.Record.{requestRecord};
+ghost use Rattle.matching.specs.Kept.{listOf};
+ghost use Rattle.own.specs.Settings.{settingsOf};
+ghost use Rattle.message.specs.Message.{messageIn};
+ghost use Rattle.decision.specs.Decision.{Decides};
+ghost use Rattle.start.specs.Start.{startOf, startAnswer, Sound};
+
+// What a start brings, but for its targets.
+pub struct Asking {
+    pub instance: u8,
+    pub h: bool,
+    pub compr: u8,
+    pub l: u8,
+    pub limit: u8,
+}
+
+// The answer of a start. `taken`: a row of its key is live.
+pub fn judge(o: Own, s: Asking, taken: bool) -> Answer
+    requires { ⌜ s .compr ≤ 15 ⌝ }
+    ensures { λ r. ⌜ answerNumber r ≡ startAnswer (settingsOf o) s taken ⌝ }
+{
+    let dodagid = o.receiving;
+    if own::cannot_elide(o, s.h, s.compr, dodagid) {
+        return Answer::CannotElide;
+    }
+    if taken {
+        return Answer::NothingNew;
+    }
+    Answer::Done
+}
+
+// Its row, with our stepped number: all its targets stay, those that are ours too.
+fn start_row(o: Own, seq: u8, t: u64, s: Asking, ts: Targets) -> InstanceRow
+    requires { ⌜ Sound t s ts ⌝ }
+    ensures { λ r. ⌜ r ≡ requestRecord (startRow (settingsOf o) t seq (startOf s []) (listOf ts)) ⌝ }
+{
+    let receiving = o.receiving;
+    let list = ts.list;
+    let end = deadline::of_l(t, s.l);
+    row::request_row(
+        s.instance,
+        receiving,
+        seq,
+        true,
+        s.h,
+        256,
+        [0; 16],
+        ts.count as u8,
+        list,
+        false,
+        end.endless,
+        end.at,
+    )
+}
+
+// Compr as it is sent: 0 with H 1.
+fn compr_sent(h: bool, compr: u8) -> u8
+    ensures { λ r. ⌜ r ≡ cond h 0 compr ⌝ }
+{
+    if h { 0 } else { compr }
+}
+
+// The request that is sent.
+fn start_message(o: Own, seq: u8, s: Asking, ts: Targets) -> Parsed
+    ensures { λ r. ⌜ (messageIn r [] ≡ startMessage (settingsOf o) seq (startOf s []) (listOf ts)) × (r .n ≡ 0) × (r .count ≡ ts .count) ⌝ }
+{
+    let receiving = o.receiving;
+    let list = ts.list;
+    let base = Base {
+        instance: s.instance,
+        version: 0,
+        rank: 256,
+        g: false,
+        prf: 0,
+        dodagid: receiving,
+    };
+    let discovery = Discovery {
+        reply: false,
+        flag: true,
+        h: s.h,
+        compr: compr_sent(s.h, s.compr),
+        l: s.l,
+        limit: s.limit,
+        number: seq,
+    };
+    Parsed {
+        base,
+        configured: false,
+        configuration: [0; 14],
+        discovery,
+        n: 0,
+        count: ts.count,
+        targets: list,
+    }
+}
+
+// No route is stored.
+fn no_route() -> RouteRow
+    ensures { λ r. ⌜ r ≡ noRoute ⌝ }
+{
+    RouteRow {
+        kind: 0,
+        instance: 0,
+        seq: 0,
+        endless: 0,
+        source: [0; 16],
+        destination: [0; 16],
+        next: [0; 16],
+        deadline: 0,
+    }
+}
+
+// What a start comes to, from our own number, the time, its targets without repeats, and whether a row of its key is live.
+pub fn start(o: Own, seq: u8, t: u64, s: Asking, ts: Targets, taken: bool) -> Decided
+    requires { ⌜ Sound t s ts ⌝ }
+    ensures { λ r. ⌜ ((targets : List plain.Target) → Decides {B = rules.RequestRow} (settingsOf o) [] (startAnswer (settingsOf o) s taken) (acceptStart (settingsOf o) seq t (startOf s targets) (listOf ts)) none none r) ⌝ }
+{
+    let next = sequence::step(seq);
+    let answer = judge(o, s, taken);
+    let row = start_row(o, next, t, s, ts);
+    let message = start_message(o, next, s, ts);
+    let to = rule::to_group();
+    let route = no_route();
+    Decided {
+        answer,
+        row,
+        replies: false,
+        second: row,
+        routed: false,
+        route,
+        seq: next,
+        forward: Post {
+            what: What::Dio,
+            message,
+            grown: false,
+            turned: false,
+            to,
+        },
+        reply: rule::no_post(message),
+    }
+}
