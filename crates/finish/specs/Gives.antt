@@ -1,0 +1,81 @@
+-- What a call gives: the plain node's result, in the lent tables and buffers.
+use Prim.Native.Nat.{ℕ, _≤_}
+use mathlib.Core.Path.{_≡_}
+use mathlib.Core.Logic.{_⊎_}
+use mathlib.Core.Bool.{Bool, true, false, cond}
+use mathlib.Core.List.{List, map}
+use lib.Dec.{eqb}
+use lib.ListN.{length, getD, replicate}
+use Rattle.lemmas.specs.Written.{over}
+use Rattle.plain.specs.Address.{Address, zeroAddress}
+use Rattle.plain.specs.Given.{Settings, State}
+use Rattle.plain.specs.Request.{Accepted}
+use Rattle.plain.specs.Plain as plain
+use Rattle.answer.specs.Answer.{answerNumber, destinationOf}
+use Rattle.answer.specs.declared.Way.the-variants.{Nowhere}
+use Rattle.row.specs.Meaning.{instanceOf, routeOf, replyOf, routeIn, noRow, noRoute}
+use Rattle.row.specs.Record.{replyRecord, routeRecord}
+use Rattle.row.specs.declared.InstanceRow.{InstanceRow}
+use Rattle.row.specs.declared.RouteRow.{RouteRow}
+use Rattle.decision.specs.Decision.{Fits, sentBy, instanceMeant, recordOf}
+use Rattle.decision.specs.declared.Decided.{Decided}
+use Rattle.place.specs.Places.{HasRow, HasRoute, rowChange, hopChange}
+use Rattle.finish.specs.declared.Sent.{Sent}
+use Rattle.finish.specs.declared.Outcome.{Outcome}
+
+-- "lengths zero, destinations nowhere"
+abbrev pub nothingSent : Sent
+nothingSent = record { size = 0; to = record { way = Nowhere; neighbour = zeroAddress } }
+
+-- the state that clock, own number and the lent tables are
+abbrev pub stateOf : ℕ → ℕ → List InstanceRow → List RouteRow → State
+stateOf clock own rows routes = record { clock = clock; own = own; instances = map instanceOf rows; routes = map routeOf routes }
+
+-- what the rules decide, where k is the first line that holds
+abbrev pub decisionOf : ℕ → Accepted → plain.Decision
+decisionOf k acc = cond (eqb k 0) (plain.Decision.take acc) (plain.Decision.refuse k)
+
+-- each record is as it was, or is the one that is written for the row that it now means
+abbrev pub Records : List InstanceRow → List InstanceRow → Type 0
+Records rows after =
+    (i : ℕ) → (getD after i noRow ≡ getD rows i noRow) ⊎ (recordOf (instanceMeant (getD after i noRow)) ≡ getD after i noRow)
+
+abbrev pub RouteRecords : List RouteRow → List RouteRow → Type 0
+RouteRecords routes after =
+    (i : ℕ) → (getD after i noRoute ≡ getD routes i noRoute) ⊎ (routeRecord (routeIn (getD after i noRoute)) ≡ getD after i noRoute)
+
+-- What a call gives: answer, lengths, destinations, clock and own number, both tables and both buffers whole.
+pub record Gives (res : plain.Result) (rows rows' : List InstanceRow) (routes routes' : List RouteRow) (forward forward' reply reply' : List ℕ) (r : Outcome) : Type 0 where
+  pub answer : answerNumber (r .answer) ≡ res .answer
+  pub state : stateOf (r .clock) (r .seq) rows' routes' ≡ res .state
+  pub forwardLength : r .forward .size ≡ length (res .sent .forward)
+  pub replyLength : r .reply .size ≡ length (res .sent .reply)
+  pub forwardTo : destinationOf (r .forward .to) ≡ res .sent .forwardTo
+  pub replyTo : destinationOf (r .reply .to) ≡ res .sent .replyTo
+  -- "Octets past the reported lengths keep what they held."
+  pub forwardOctets : forward' ≡ over (res .sent .forward) forward
+  pub replyOctets : reply' ≡ over (res .sent .reply) reply
+  pub instances : Records rows rows'
+  pub hops : RouteRecords routes routes'
+  -- "After a refusal .. tables .. are as they stood", with every bit
+  pub kept : (res .answer ≡ 0 → ⊥) → (rows' ≡ rows) × (routes' ≡ routes)
+
+-- what must hold of a decision that is finished
+pub record Ready (x : Settings) (t : ℕ) (rows : List InstanceRow) (routes : List RouteRow) (forward reply : List ℕ) (vector : List Address) (d : Decided) (is : Bool) (at : ℕ) (his : Bool) (hop : ℕ) : Type 0 where
+  pub row : HasRow rows t is at
+  pub route : HasRoute routes t his hop
+  pub forwardRoom : 1236 ≤ length forward
+  pub replyRoom : 1236 ≤ length reply
+  pub forwardFits : answerNumber (d .answer) ≡ 0 → Fits x (d .forward) vector
+  pub replyFits : answerNumber (d .answer) ≡ 0 → Fits x (d .reply) vector
+
+-- a decision is the rules': k the first line that holds, or 0, and `acc` the outcome where it is 0
+pub record Settled (x : Settings) (vector : List Address) (k : ℕ) (acc : Accepted) (is : Bool) (at : ℕ) (his : Bool) (hop : ℕ) (d : Decided) : Type 0 where
+  pub answer : answerNumber (d .answer) ≡ k
+  pub sent : k ≡ 0 → sentBy x d vector ≡ acc .sent
+  pub own : k ≡ 0 → d .seq ≡ acc .own
+  pub instances : k ≡ 0 → rowChange is at (instanceMeant (d .row)) (d .replies) (replyOf (d .second)) ≡ acc .instances
+  pub routes : k ≡ 0 → hopChange (d .routed) his hop (routeIn (d .route)) ≡ acc .routes
+  pub row : k ≡ 0 → recordOf (instanceMeant (d .row)) ≡ d .row
+  pub second : k ≡ 0 → d .replies ≡ true → replyRecord (replyOf (d .second)) ≡ d .second
+  pub route : k ≡ 0 → d .routed ≡ true → routeRecord (routeIn (d .route)) ≡ d .route

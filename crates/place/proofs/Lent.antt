@@ -1,0 +1,2 @@
+pub mod place_route
+pub mod place_rows
