@@ -1,0 +1,3 @@
+pub mod is_wrong
+pub mod take_reply
+pub mod take_request

@@ -1,0 +1,218 @@
+// The node's rules over the lent tables: what a heard request or reply, and a start, come to.
+ghost use mathlib.Core.Path.{_≡_};
+ghost use mathlib.Core.List.{[]};
+ghost use Rattle.plain.specs.Given.{State};
+ghost use Rattle.plain.specs.Answers.{badLent, wrongState, goodState, viewOf};
+ghost use Rattle.plain.specs.Plain.{enact};
+ghost use Rattle.answer.specs.declared.Answer.the-variants.{NoPartner};
+ghost use Rattle.own.specs.Settings.{settingsOf};
+ghost use Rattle.finish.specs.Gives.{stateOf, Gives};
+ghost use Rattle.node.specs.Taken.{lentBy, Taken, requestDecision, replyDecision};
+ghost use Rattle.message.specs.Message.{messageIn, receivedBy};
+use answer::Answer;
+use finish::Outcome;
+use message::Found;
+use message::FoundRoute;
+use message::Link;
+use message::Parsed;
+use own::Own;
+use row::InstanceRow;
+use row::RouteRow;
+
+// ---- by value
+
+// 1, asked of every call: the time, both buffers, both own addresses.
+pub fn is_bad(o: Own, clock: u64, t: u64, forward: usize, reply: usize) -> bool
+    ensures { λ r. ⌜ r ≡ badLent (settingsOf o) clock (lentBy t forward reply) ⌝ }
+{
+    let receiving = o.receiving;
+    let sending = o.sending;
+    if t < clock {
+        return true;
+    }
+    if 1099511627776 < t {
+        return true;
+    }
+    if forward < 1236 {
+        return true;
+    }
+    if reply < 1236 {
+        return true;
+    }
+    if address::is_unusable(receiving) {
+        return true;
+    }
+    address::is_unusable(sending)
+}
+
+fn receiving_of(o: Own) -> [u8; 16]
+    ensures { λ r. ⌜ r ≡ o .receiving ⌝ }
+{
+    let a = o.receiving;
+    a
+}
+
+fn instance_of(p: Parsed) -> u8
+    ensures { λ r. ⌜ r ≡ p .base .instance ⌝ }
+{
+    p.base.instance
+}
+
+fn dodagid_of(p: Parsed) -> [u8; 16]
+    ensures { λ r. ⌜ r ≡ p .base .dodagid ⌝ }
+{
+    let b = p.base;
+    let a = b.dodagid;
+    a
+}
+
+fn h_of(p: Parsed) -> bool
+    ensures { λ r. ⌜ r ≡ p .discovery .h ⌝ }
+{
+    p.discovery.h
+}
+
+fn no_partner() -> Answer
+    ensures { λ r. ⌜ r ≡ NoPartner ⌝ }
+{
+    Answer::NoPartner
+}
+
+fn found_row(f: Found) -> InstanceRow
+    ensures { λ r. ⌜ r ≡ f .row ⌝ }
+{
+    let r = f.row;
+    r
+}
+
+fn is_found(f: Found) -> bool
+    ensures { λ r. ⌜ r ≡ f .is ⌝ }
+{
+    f.is
+}
+
+fn found_at(f: Found) -> usize
+    ensures { λ r. ⌜ r ≡ f .at ⌝ }
+{
+    f.at
+}
+
+fn is_route_found(g: FoundRoute) -> bool
+    ensures { λ r. ⌜ r ≡ g .is ⌝ }
+{
+    g.is
+}
+
+fn route_found_at(g: FoundRoute) -> usize
+    ensures { λ r. ⌜ r ≡ g .at ⌝ }
+{
+    g.at
+}
+
+// ---- over the lent tables
+
+// 2, asked of every call: own number 0, a row in use that is wrong, two live rows of one key.
+pub fn is_wrong(instances: &[InstanceRow], routes: &[RouteRow], clock: u64, seq: u8) -> bool
+    ensures { λ r. ⌜ r ≡ wrongState (goodState (stateOf clock seq (now (instances .entry)) (now (routes .entry)))) (viewOf (stateOf clock seq (now (instances .entry)) (now (routes .entry)))) ⌝ }
+{
+    if seq == 0 {
+        return true;
+    }
+    if table::all_good(instances) {
+        if table::all_good_routes(routes) {
+            if twins::has_twins(instances, clock) {
+                return true;
+            }
+            return twins::has_twins_route(routes, clock);
+        }
+        return true;
+    }
+    true
+}
+
+// What a request that was heard comes to, from 9 on.
+pub fn take_request(
+    instances: &mut [InstanceRow],
+    routes: &mut [RouteRow],
+    forward: &mut [u8],
+    reply: &mut [u8],
+    o: Own,
+    clock: u64,
+    seq: u8,
+    t: u64,
+    k: Link,
+    p: Parsed,
+    vector: [[u8; 16]; 16],
+) -> Outcome
+    requires { ⌜ Taken clock t (now instances) (now forward) (now reply) p ⌝ }
+    ensures { λ r. ⌜ Gives (enact t (stateOf clock seq (now (instances .entry)) (now (routes .entry))) (requestDecision (settingsOf o) (stateOf clock seq (now (instances .entry)) (now (routes .entry))) t (receivedBy k []) (messageIn p vector))) (now (instances .entry)) (now (instances .exit)) (now (routes .entry)) (now (routes .exit)) (now (forward .entry)) (now (forward .exit)) (now (reply .entry)) (now (reply .exit)) r ⌝ }
+{
+    let instance = instance_of(p);
+    let dodagid = dodagid_of(p);
+    let receiving = receiving_of(o);
+    let f = search::search_request(instances, t, instance, dodagid);
+    let g = search::search_route(routes, t, receiving, dodagid, instance);
+    let free = search::free_delta(instances, t, instance, receiving);
+    let d = request::decide(o, seq, t, k, p, vector, f, g, free);
+    finish::finish(
+        instances,
+        routes,
+        forward,
+        reply,
+        o,
+        clock,
+        seq,
+        t,
+        vector,
+        d,
+        is_found(f),
+        found_at(f),
+        is_route_found(g),
+        route_found_at(g),
+    )
+}
+
+// What a reply that was heard comes to, from 8 on.
+pub fn take_reply(
+    instances: &mut [InstanceRow],
+    routes: &mut [RouteRow],
+    forward: &mut [u8],
+    reply: &mut [u8],
+    o: Own,
+    clock: u64,
+    seq: u8,
+    t: u64,
+    k: Link,
+    p: Parsed,
+    vector: [[u8; 16]; 16],
+) -> Outcome
+    requires { ⌜ Taken clock t (now instances) (now forward) (now reply) p ⌝ }
+    ensures { λ r. ⌜ Gives (enact t (stateOf clock seq (now (instances .entry)) (now (routes .entry))) (replyDecision (settingsOf o) (stateOf clock seq (now (instances .entry)) (now (routes .entry))) t (receivedBy k []) (messageIn p vector))) (now (instances .entry)) (now (instances .exit)) (now (routes .entry)) (now (routes .exit)) (now (forward .entry)) (now (forward .exit)) (now (reply .entry)) (now (reply .exit)) r ⌝ }
+{
+    let number = reply::partner_number(p);
+    let orig = reply::orig_node(p);
+    let w = search::search_partner(instances, t, number, orig, h_of(p));
+    if is_found(w) {
+        let dodagid = dodagid_of(p);
+        let f = search::search_reply(instances, t, instance_of(p), dodagid);
+        let g = search::search_route(routes, t, orig, dodagid, number);
+        let d = reply::decide(o, seq, t, k, p, vector, found_row(w), f, g);
+        return finish::finish(
+            instances,
+            routes,
+            forward,
+            reply,
+            o,
+            clock,
+            seq,
+            t,
+            vector,
+            d,
+            is_found(f),
+            found_at(f),
+            is_route_found(g),
+            route_found_at(g),
+        );
+    }
+    finish::refused(no_partner(), clock, seq)
+}
