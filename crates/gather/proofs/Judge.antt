@@ -58,6 +58,8 @@ short-after earlier (t ∷ ts) e =
 pub fit : (c : Start) (g : Gathering) → Gathers (c .targets) g → badStart c (startTargets c) ≡ false → Fit c g
 unfolding badStart startTargets
 fit c g v e =
+    let T = S (c .targets) g v in
+    let before = eqb (length T) 0 || ltb mostTargets (length T) || any isLong (c .targets) || ltb 3 (c .l) in
     let three = or-left _ _ (or-left _ _ (or-left _ _ e)) in
     let two = or-left _ _ three in
     let w : g .targets .over ≡ false = v .over ∙ or-right (eqb (length (S (c .targets) g v)) 0) _ two in
@@ -69,4 +71,5 @@ fit c g v e =
       few = v .few;
       held = v .held w;
       short = rw (v .held w) (short-after [] (c .targets) s);
+      compr = ltb-false 15 (c .compr) (or-right before (ltb 15 (c .compr)) (or-left (before || ltb 15 (c .compr)) (ltb 127 (c .limit)) e));
     }

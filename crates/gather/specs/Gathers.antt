@@ -57,3 +57,4 @@ pub record Fit (c : Start) (g : Gathering) : Type 0 where
   pub few : g .targets .count ≤ mostTargets
   pub held : heldIn g ≡ startTargets c
   pub short : all isShort (heldIn g) ≡ true
+  pub compr : c .compr ≤ 15

@@ -6,7 +6,7 @@ use mathlib.Core.List.{List, []}
 use mathlib.Core.Option.{none, some}
 use native.Mathlib.Omega.{arith}
 use lib.ListN.{length, take}
-use Rattle.plain.specs.Address.{zeroAddress}
+use Rattle.plain.specs.Address.{Address, zeroAddress}
 use Rattle.plain.specs.Given.{Settings, RequestRow, Destination}
 use Rattle.plain.specs.Octets.{octetsOf}
 use Rattle.plain.specs.Rank.{stepped, rowDeadline}
@@ -53,7 +53,12 @@ row-is x t own s ts end e = rw e
 
 -- ---- The posts
 
-module _ (x : Settings) (own t : ℕ) (s : Asking) (ts : Targets) (g : Sound t s ts) (m : Parsed)
+-- a message without a vector is the same beside any addresses
+no-addresses : (m : Parsed) (vector : List Address) → m .n ≡ 0 → messageIn m vector ≡ messageIn m []
+unfolding messageIn
+no-addresses m vector e = rw e
+
+module _ (x : Settings) (vector : List Address) (own t : ℕ) (s : Asking) (ts : Targets) (g : Sound t s ts) (m : Parsed)
     (em : messageIn m [] ≡ startMessage x own (startOf s []) (listOf ts)) (en : m .n ≡ 0) (ec : m .count ≡ ts .count) where
   start-sendable : Sendable (startMessage x own (startOf s []) (listOf ts) .discovery) 0
   unfolding startMessage
@@ -72,34 +77,34 @@ module _ (x : Settings) (own t : ℕ) (s : Asking) (ts : Targets) (g : Sound t s
   start-vector = refl
 
   pub start-posts : (to : code.Destination) → destinationOf to ≡ Destination.group
-      → Posts x [] (octetsOf (startMessage x own (startOf s []) (listOf ts))) Destination.group (plainPost m to)
+      → Posts x vector (octetsOf (startMessage x own (startOf s []) (listOf ts))) Destination.group (plainPost m to)
   start-posts to et =
-      dio-posts x [] (plainPost m to) (startMessage x own (startOf s []) (listOf ts)) Destination.group refl (plain-message x m to [] ∙ em) et
+      dio-posts x vector (plainPost m to) (startMessage x own (startOf s []) (listOf ts)) Destination.group refl (plain-message x m to vector ∙ (no-addresses m vector en ∙ em)) et
       (omega (arith, en)) (omega (arith, ec, g .targets)) (rw start-vector start-sendable) start-prefixes
 
   -- a message that can be sent, and is not
-  pub quiet-posts : Posts x [] [] Destination.nowhere (noPost m)
+  pub quiet-posts : Posts x vector [] Destination.nowhere (noPost m)
   unfolding octetsAs postVector
   quiet-posts =
-      let d : Posts x [] (octetsOf (startMessage x own (startOf s []) (listOf ts))) Destination.nowhere (plainPost m (noPost m .to)) =
-      dio-posts x [] (plainPost m (noPost m .to)) (startMessage x own (startOf s []) (listOf ts)) Destination.nowhere refl
-      (plain-message x m (noPost m .to) [] ∙ em) refl (omega (arith, en)) (omega (arith, ec, g .targets)) (rw start-vector start-sendable)
+      let d : Posts x vector (octetsOf (startMessage x own (startOf s []) (listOf ts))) Destination.nowhere (plainPost m (noPost m .to)) =
+      dio-posts x vector (plainPost m (noPost m .to)) (startMessage x own (startOf s []) (listOf ts)) Destination.nowhere refl
+      (plain-message x m (noPost m .to) vector ∙ (no-addresses m vector en ∙ em)) refl (omega (arith, en)) (omega (arith, ec, g .targets)) (rw start-vector start-sendable)
       start-prefixes in
       record { sends = refl; goes = refl; fits = record { received = d .fits .received; sendable = d .fits .sendable; targets = d .fits .targets; prefixes = d .fits .prefixes } }
 
 -- ---- The decision
 
-module _ (x : Settings) (own next t : ℕ) (s : Asking) (ts : Targets) (taken : Bool) (r : Decided) where
+module _ (x : Settings) (vector : List Address) (own next t : ℕ) (s : Asking) (ts : Targets) (taken : Bool) (r : Decided) where
   pub started-is : next ≡ stepped own
       → answerNumber (r .answer) ≡ startAnswer x s taken
       → r .row ≡ requestRecord (startRow x t next (startOf s []) (listOf ts))
       → r .replies ≡ false
       → r .routed ≡ false
       → r .seq ≡ next
-      → Posts x [] (octetsOf (startMessage x next (startOf s []) (listOf ts))) Destination.group (r .forward)
-      → Posts x [] [] Destination.nowhere (r .reply)
+      → Posts x vector (octetsOf (startMessage x next (startOf s []) (listOf ts))) Destination.group (r .forward)
+      → Posts x vector [] Destination.nowhere (r .reply)
       → (targets : List Target)
-      → Decides {B = RequestRow} x [] (startAnswer x s taken) (acceptStart x own t (startOf s targets) (listOf ts)) none none r
+      → Decides {B = RequestRow} x vector (startAnswer x s taken) (acceptStart x own t (startOf s targets) (listOf ts)) none none r
   unfolding acceptStart startRow startMessage instancesBy routesBy withReplyRow routeChange
   started-is en ea er ep ed eq pf pr targets = record {
     answer = ea;

@@ -15,6 +15,7 @@ ghost use mathlib.Core.Path.{_≡_};
 ghost use mathlib.Core.Bool.{cond};
 ghost use mathlib.Core.List.{List, []};
 ghost use mathlib.Core.Option.{none};
+ghost use Rattle.plain.specs.Address.{Address};
 ghost use Rattle.plain.specs.Given as rules;
 ghost use Rattle.plain.specs.Request.{startRow, startMessage, acceptStart};
 ghost use Rattle.plain.specs.declared.Target as plain;
@@ -132,10 +133,11 @@ fn no_route() -> RouteRow
     }
 }
 
-// What a start comes to, from our own number, the time, its targets without repeats, and whether a row of its key is live.
+// What a start comes to, from our own number, the time, its targets without repeats, and whether a row of its key is live. No vector was
+// received: whatever stands for one plays no part.
 pub fn start(o: Own, seq: u8, t: u64, s: Asking, ts: Targets, taken: bool) -> Decided
     requires { ⌜ Sound t s ts ⌝ }
-    ensures { λ r. ⌜ ((targets : List plain.Target) → Decides {B = rules.RequestRow} (settingsOf o) [] (startAnswer (settingsOf o) s taken) (acceptStart (settingsOf o) seq t (startOf s targets) (listOf ts)) none none r) ⌝ }
+    ensures { λ r. ⌜ ((vector : List Address) (targets : List plain.Target) → Decides {B = rules.RequestRow} (settingsOf o) vector (startAnswer (settingsOf o) s taken) (acceptStart (settingsOf o) seq t (startOf s targets) (listOf ts)) none none r) ⌝ }
 {
     let next = sequence::step(seq);
     let answer = judge(o, s, taken);

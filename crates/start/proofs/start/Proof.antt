@@ -28,16 +28,16 @@ no-post-requires c κs = search needs
 
 returns : tie.Need-returns
 returns c =
-    λ targets.
+    λ vector targets.
     let s = c .before .before .before .before .before .before .before in
     let a = s .args in
     let m = c .before .before .before .start-message in
-    started-is (settingsOf (a .o)) (a .seq) (c .before .before .before .before .before .before .step .result) (a .t) (a .s) (a .ts) (a .taken) _ (c .before .before .before .before .before .before .step .ensures)
+    started-is (settingsOf (a .o)) vector (a .seq) (c .before .before .before .before .before .before .step .result) (a .t) (a .s) (a .ts) (a .taken) _ (c .before .before .before .before .before .before .step .ensures)
     (c .before .before .before .before .before .judge .ensures) (c .before .before .before .before .start-row .ensures) refl refl refl
-    (start-posts (settingsOf (a .o)) (c .before .before .before .before .before .before .step .result) (a .t) (a .s) (a .ts) (s .pre) (m .result) (m .ensures .0) (m .ensures .1) (m .ensures .2)
+    (start-posts (settingsOf (a .o)) vector (c .before .before .before .before .before .before .step .result) (a .t) (a .s) (a .ts) (s .pre) (m .result) (m .ensures .0) (m .ensures .1) (m .ensures .2)
     (c .before .before .to-group .result) (c .before .before .to-group .ensures))
     (rw (c .no-post .ensures)
-    (quiet-posts (settingsOf (a .o)) (c .before .before .before .before .before .before .step .result) (a .t) (a .s) (a .ts) (s .pre) (m .result) (m .ensures .0) (m .ensures .1) (m .ensures .2)))
+    (quiet-posts (settingsOf (a .o)) vector (c .before .before .before .before .before .before .step .result) (a .t) (a .s) (a .ts) (s .pre) (m .result) (m .ensures .0) (m .ensures .1) (m .ensures .2)))
     targets
 
 pub start-spec : {M : Type 1} → statement M
