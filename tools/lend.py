@@ -6,7 +6,8 @@
 NAME   a crate of this repository.
 ELEM   a struct that is lent. S=MOD.default: a struct S of NAME's own, with the constant of NAME's specs/ that `getD` is to
        answer past a slice's end (specs/MOD.antt has `abbrev pub default : S`). DEP::S: a struct of a library DEP of this
-       repository in which this script has been run for S already. A struct of a module is m::S, or DEP::m::S.
+       repository in which this script has been run for S already. A struct of a module is m::S, or DEP::m::S. &DEP::S: S stands as
+       an array behind references alone, where FN only lends it on and other structs hold arrays of it.
 FN     a function of NAME that takes or lends such a struct: f, or m::f in a module. None: only the struct's kind is written, for the
        crates above.
 
@@ -181,7 +182,7 @@ class World:
         t = t.strip()
         if t == '' or t == '()': return ''
         b = t.split('::')[-1]
-        if b in marks: return self.value(marks[b]['rt'], marks)
+        if b in marks and not marks[b]['behind']: return self.value(marks[b]['rt'], marks)
         if t == 'bool': return 'false'
         if t in ('f32', 'f64'): return '0.0'
         if t in INTS: return '0'
@@ -231,7 +232,7 @@ def functions(text):
 def twin(world, crate, path, text, marks, fns, dep, kept):
     """The twin of one file. fns: the functions whose code is kept, and `kept` that code. dep: the crate is a dependency, and each stub
     must be provable."""
-    names = list(marks)
+    names = [n for n in marks if not marks[n]['behind']]
     t = re.sub(r'ghost\s+use[^;]*;', '', text)
     # stubs call nothing, so a library imports no function
     if dep: t = re.sub(r'\buse\s+\w+::[a-z_]\w*\s*;', '', t)
@@ -245,6 +246,8 @@ def twin(world, crate, path, text, marks, fns, dep, kept):
 
     def types(s):
         for n in names: s = re.sub(r'(?:\b\w+::)*\b' + n + r'\b', marks[n]['rt'], s)
+        for n in marks:
+            if marks[n]['behind']: s = re.sub(r'(&\s*(?:mut\s+)?\[?\s*)(?:\w+::)*\b' + n + r'\b', lambda m: m.group(1) + marks[n]['rt'], s)
         return s
     for _, _, n in impls(t):
         if n in names: die(f'{n} has methods: write them as functions, since an array has none')
@@ -255,7 +258,7 @@ def twin(world, crate, path, text, marks, fns, dep, kept):
         full = (path + '::' if path else '') + name
         # a library's function that no kept code names is left out, and one that lends another struct: the twin could not be proved
         if dep and not re.search(r'\b' + name.split('::')[-1] + r'\b', kept): continue
-        if dep and any(re.search(r'&[^,)]*\b' + n + r'\b', sig) for n in list(world.structs) + list(world.enums) if n not in names): continue
+        if dep and any(re.search(r'&[^,)]*\b' + n + r'\b', sig) for n in list(world.structs) + list(world.enums) if n not in marks): continue
         # nor is one needed that the crate does not name
         if dep and not re.search(r'\b' + crate + r'::(?:\w+::)*' + re.escape(name.split('::')[-1]) + r'\b', world.caller): continue
         sig = re.sub(r'extern\s+"C"\s+', '', re.sub(r'#\[[^\]]*\]\s*', '', sig))
@@ -517,9 +520,11 @@ def main():
     marks, used = {}, set((u, world.consts.get(n, n)) for u, n in re.findall(r'\[\s*(?:\d+)?(u\d+)\s*;\s*(\w+)\s*\]', alltext))
     used |= set(('u8', str(len(b))) for b in re.findall(r'b"((?:[^"\\]|\\.)*)"', alltext))
     own = {}
-    named = [x.split('=')[0].split('::')[-1] for x in elems]
+    named = [x.lstrip('&').split('=')[0].split('::')[-1] for x in elems]
     # only what is named stands as an array: a struct that holds an array of another lent struct would hold an array of arrays
     for x in elems:
+        only_behind = x.startswith('&')
+        x = x.lstrip('&')
         if '=' in x:
             path, default = x.split('=')
             own[path] = default
@@ -536,7 +541,7 @@ def main():
         else: die('no array of integers of the size of ' + S + ' is left to stand for it')
         n = size * 8 // w
         used.add((f'u{w}', str(n)))
-        marks[S] = {'rt': f'[u{w}; {n}]', 'w': f'w{w}', 'n': n, 'mod': mod}
+        marks[S] = {'rt': f'[u{w}; {n}]', 'w': f'w{w}', 'n': n, 'mod': mod, 'behind': only_behind}
         print(f'{S}: {size} bytes, stands as [u{w}; {n}]')
     # ---- the twin repository
     tmp = os.environ.get('LEND_TMP') or tempfile.mkdtemp(prefix='lend')
