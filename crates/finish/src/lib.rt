@@ -1,6 +1,6 @@
 // What a decision comes to: a refusal, 17, or rows stored and octets written.
 ghost use mathlib.Core.Path.{_≡_};
-ghost use mathlib.Core.Bool.{_&&_};
+ghost use mathlib.Core.Bool.{cond, _&&_};
 ghost use Prim.Native.Nat.{ℕ};
 ghost use lib.ListN.{set};
 ghost use Rattle.plain.specs.Request.{Accepted};
@@ -80,17 +80,21 @@ fn accepted(d: Decided, t: u64, n: usize, m: usize) -> Outcome
     }
 }
 
+// How a decision ends. Without room it is 17, and the clock stays: "1 to 17 change nothing but the tally".
+fn ended(room: bool, d: Decided, clock: u64, seq: u8, t: u64, n: usize, m: usize) -> Outcome
+    ensures { λ r. ⌜ r ≡ cond room (record { answer = Done; forward = record { size = n; to = d .forward .to }; reply = record { size = m; to = d .reply .to }; clock = t; seq = d .seq }) (record { answer = NoRow; forward = nothingSent; reply = nothingSent; clock = clock; seq = seq }) ⌝ }
+{
+    if room {
+        return accepted(d, t, n, m);
+    }
+    refused(Answer::NoRow, clock, seq)
+}
+
 fn answer_of(d: Decided) -> Answer
     ensures { λ r. ⌜ r ≡ d .answer ⌝ }
 {
     let a = d.answer;
     a
-}
-
-fn no_row() -> Answer
-    ensures { λ r. ⌜ r ≡ NoRow ⌝ }
-{
-    Answer::NoRow
 }
 
 fn row_of(d: Decided) -> InstanceRow
@@ -207,7 +211,7 @@ pub fn finish(
         );
         let n = post::put_post(forward, o, forward_of(d), vector);
         let m = post::put_post(reply, o, reply_of(d), vector);
-        return accepted(d, t, n, m);
+        return ended(true, d, clock, seq, t, n, m);
     }
-    refused(no_row(), clock, seq)
+    ended(false, d, clock, seq, t, 0, 0)
 }

@@ -1040,7 +1040,7 @@ r·14 = Value.rVal record {
 }
 
 abbrev pub ps·15 : List.List (Kinds.PK 0)
-ps·15 = List._∷_ (Value.pVal record {
+ps·15 = List._∷_ Bool.pBool (List._∷_ (Value.pVal record {
   ty = Declared'.row Decided.the-type;
   one = Path'.refl;
   val = Laws'8.val Decided.the-type Laws'.the-laws;
@@ -1058,7 +1058,11 @@ ps·15 = List._∷_ (Value.pVal record {
 })
     (List._∷_
     (Num.pNum Syntax.w64)
-    (List._∷_ (Num.pNum Syntax.w64) (List._∷_ (Num.pNum Syntax.w64) List.[])))
+    (List._∷_
+    (Num.pNum Syntax.w8)
+    (List._∷_
+    (Num.pNum Syntax.w64)
+    (List._∷_ (Num.pNum Syntax.w64) (List._∷_ (Num.pNum Syntax.w64) List.[]))))))
 
 abbrev pub r·15 : Kinds.RK 0
 r·15 = Value.rVal record {
@@ -1076,27 +1080,6 @@ r·15 = Value.rVal record {
   makes = Laws'8.makes Outcome.the-type Laws'3.the-plain 𝓤 H A;
   in-mem = Local.mem-whole 𝓤 H A W (Declared'.row Outcome.the-type);
   of-mem = Local.whole-mem 𝓤 H A W (Declared'.row Outcome.the-type);
-}
-
-abbrev pub ps·16 : List.List (Kinds.PK 0)
-ps·16 = List.[]
-
-abbrev pub r·16 : Kinds.RK 0
-r·16 = Value.rVal record {
-  ty = Declared.row Answer.the-type;
-  one = Path'.refl;
-  val = Laws'7.val Answer.the-type Laws.the-laws;
-  tells = Laws'7.tells Answer.the-type Laws.the-laws;
-  still = Laws'7.still Answer.the-type Laws.the-copy Exit.yes;
-  row = Rows'.whole (Declared.row Answer.the-type);
-  rd = λ x. x;
-  mk = λ x. x;
-} λ M 𝓤 H A W. record {
-  copies = Laws'7.copy Answer.the-type Laws.the-copy 𝓤 H A W;
-  lawful = Laws'7.lawful Answer.the-type Laws.the-laws 𝓤 H A W tt;
-  makes = Laws'7.makes Answer.the-type Laws.the-plain 𝓤 H A;
-  in-mem = Local.mem-whole 𝓤 H A W (Declared.row Answer.the-type);
-  of-mem = Local.whole-mem 𝓤 H A W (Declared.row Answer.the-type);
 }
 
 abbrev pub hs : List.List Syntax.Home
@@ -1488,14 +1471,20 @@ b34 =
 abbrev b35 : Syntax.Body
 b35 =
     Syntax.call
-    "finish::accepted"
+    "finish::ended"
+    (List._∷_
+    Syntax.opdTrue
     (List._∷_
     (Syntax.copy (Syntax.place 10 List.[]))
+    (List._∷_
+    (Syntax.copy (Syntax.place 6 List.[]))
+    (List._∷_
+    (Syntax.copy (Syntax.place 7 List.[]))
     (List._∷_
     (Syntax.copy (Syntax.place 8 List.[]))
     (List._∷_
     (Syntax.copy (Syntax.place 17 List.[]))
-    (List._∷_ (Syntax.copy (Syntax.place 18 List.[])) List.[]))))
+    (List._∷_ (Syntax.copy (Syntax.place 18 List.[])) List.[])))))))
     (Syntax.place 0 List.[])
 
 abbrev b36 : Syntax.Body
@@ -1559,72 +1548,72 @@ abbrev b55 : Syntax.Body
 b55 = Syntax.cond (Syntax.copy (Syntax.place 27 List.[])) b53 b54
 
 abbrev b56 : Syntax.Body
-b56 = Syntax.call "finish::no_row" List.[] (Syntax.place 20 List.[])
-
-abbrev b57 : Syntax.Body
-b57 =
+b56 =
     Syntax.call
-    "finish::refused"
+    "finish::ended"
     (List._∷_
-    (Syntax.copy (Syntax.place 20 List.[]))
+    Syntax.opdFalse
+    (List._∷_
+    (Syntax.copy (Syntax.place 10 List.[]))
     (List._∷_
     (Syntax.copy (Syntax.place 6 List.[]))
-    (List._∷_ (Syntax.copy (Syntax.place 7 List.[])) List.[])))
+    (List._∷_
+    (Syntax.copy (Syntax.place 7 List.[]))
+    (List._∷_
+    (Syntax.copy (Syntax.place 8 List.[]))
+    (List._∷_ (Syntax.int Syntax.w64 0) (List._∷_ (Syntax.int Syntax.w64 0) List.[])))))))
     (Syntax.place 0 List.[])
 
+abbrev b57 : Syntax.Body
+b57 = Syntax.return
+
 abbrev b58 : Syntax.Body
-b58 = Syntax.return
+b58 = Syntax.seq b56 b57
 
 abbrev b59 : Syntax.Body
-b59 = Syntax.seq b57 b58
+b59 = Syntax.seq b55 b58
 
 abbrev b60 : Syntax.Body
-b60 = Syntax.seq b56 b59
+b60 = Syntax.seq b18 b59
 
 abbrev b61 : Syntax.Body
-b61 = Syntax.seq b55 b60
+b61 = Syntax.seq b17 b60
 
 abbrev b62 : Syntax.Body
-b62 = Syntax.seq b18 b61
+b62 = Syntax.seq b16 b61
 
 abbrev b63 : Syntax.Body
-b63 = Syntax.seq b17 b62
+b63 = Syntax.seq b15 b62
 
 abbrev b64 : Syntax.Body
-b64 = Syntax.seq b16 b63
+b64 = Syntax.seq b14 b63
 
 abbrev b65 : Syntax.Body
-b65 = Syntax.seq b15 b64
+b65 = Syntax.seq b13 b64
 
 abbrev b66 : Syntax.Body
-b66 = Syntax.seq b14 b65
+b66 = Syntax.seq b12 b65
 
 abbrev b67 : Syntax.Body
-b67 = Syntax.seq b13 b66
+b67 = Syntax.seq b11 b66
 
 abbrev b68 : Syntax.Body
-b68 = Syntax.seq b12 b67
+b68 = Syntax.seq b10 b67
 
 abbrev b69 : Syntax.Body
-b69 = Syntax.seq b11 b68
+b69 = Syntax.seq b9 b68
 
 abbrev b70 : Syntax.Body
-b70 = Syntax.seq b10 b69
+b70 = Syntax.seq b2 b69
 
 abbrev b71 : Syntax.Body
-b71 = Syntax.seq b9 b70
+b71 = Syntax.seq b1 b70
 
 abbrev b72 : Syntax.Body
-b72 = Syntax.seq b2 b71
-
-abbrev b73 : Syntax.Body
-b73 = Syntax.seq b1 b72
-
-abbrev b74 : Syntax.Body
-b74 = Syntax.seq b0 b73
+b72 = Syntax.seq b0 b71
 
 abbrev pub body : Syntax.Body
-body = b74
+body = b72
 
 abbrev pub Claims : Type 1
 Claims =
@@ -1659,9 +1648,7 @@ Claims =
     Kinds.In 0 ps·14 ×
     Kinds.Out 0 ps·14 r·14 ×
     Kinds.In 0 ps·15 ×
-    Kinds.Out 0 ps·15 r·15 ×
-    Kinds.In 0 ps·16 ×
-    Kinds.Out 0 ps·16 r·16
+    Kinds.Out 0 ps·15 r·15
 
 abbrev pub t0 : List.List Row.Entry
 t0 = List._∷_ (
@@ -21306,841 +21293,6 @@ t71 = List._∷_ (
 
 abbrev pub t72 : List.List Row.Entry
 t72 = List._∷_ (
-  0,
-  Rows'.any-gone
-      (Syntax.tyStruct
-      (List._∷_
-      102
-      (List._∷_
-      105
-      (List._∷_
-      110
-      (List._∷_
-      105
-      (List._∷_
-      115
-      (List._∷_
-      104
-      (List._∷_
-      58
-      (List._∷_
-      58
-      (List._∷_
-      79
-      (List._∷_
-      117
-      (List._∷_ 116 (List._∷_ 99 (List._∷_ 111 (List._∷_ 109 (List._∷_ 101 List.[])))))))))))))))
-      (Syntax.tcons
-      (Syntax.tyEnum
-      (List._∷_
-      97
-      (List._∷_
-      110
-      (List._∷_
-      115
-      (List._∷_
-      119
-      (List._∷_
-      101
-      (List._∷_
-      114
-      (List._∷_
-      58
-      (List._∷_
-      58
-      (List._∷_
-      65
-      (List._∷_ 110 (List._∷_ 115 (List._∷_ 119 (List._∷_ 101 (List._∷_ 114 List.[]))))))))))))))
-      (Syntax.ttcons
-      Syntax.tnil
-      (Syntax.ttcons
-      Syntax.tnil
-      (Syntax.ttcons
-      Syntax.tnil
-      (Syntax.ttcons
-      Syntax.tnil
-      (Syntax.ttcons
-      Syntax.tnil
-      (Syntax.ttcons
-      Syntax.tnil
-      (Syntax.ttcons
-      Syntax.tnil
-      (Syntax.ttcons
-      Syntax.tnil
-      (Syntax.ttcons
-      Syntax.tnil
-      (Syntax.ttcons
-      Syntax.tnil
-      (Syntax.ttcons
-      Syntax.tnil
-      (Syntax.ttcons
-      Syntax.tnil
-      (Syntax.ttcons
-      Syntax.tnil
-      (Syntax.ttcons
-      Syntax.tnil
-      (Syntax.ttcons
-      Syntax.tnil
-      (Syntax.ttcons
-      Syntax.tnil
-      (Syntax.ttcons Syntax.tnil (Syntax.ttcons Syntax.tnil Syntax.ttnil)))))))))))))))))))
-      (Syntax.tcons
-      (Syntax.tyStruct
-      (List._∷_
-      102
-      (List._∷_
-      105
-      (List._∷_
-      110
-      (List._∷_
-      105
-      (List._∷_
-      115
-      (List._∷_
-      104
-      (List._∷_
-      58
-      (List._∷_ 58 (List._∷_ 83 (List._∷_ 101 (List._∷_ 110 (List._∷_ 116 List.[]))))))))))))
-      (Syntax.tcons
-      (Syntax.tyInt Syntax.w64)
-      (Syntax.tcons
-      (Syntax.tyStruct
-      (List._∷_
-      97
-      (List._∷_
-      110
-      (List._∷_
-      115
-      (List._∷_
-      119
-      (List._∷_
-      101
-      (List._∷_
-      114
-      (List._∷_
-      58
-      (List._∷_
-      58
-      (List._∷_
-      68
-      (List._∷_
-      101
-      (List._∷_
-      115
-      (List._∷_
-      116
-      (List._∷_
-      105
-      (List._∷_
-      110
-      (List._∷_
-      97
-      (List._∷_ 116 (List._∷_ 105 (List._∷_ 111 (List._∷_ 110 List.[])))))))))))))))))))
-      (Syntax.tcons
-      (Syntax.tyEnum
-      (List._∷_
-      97
-      (List._∷_
-      110
-      (List._∷_
-      115
-      (List._∷_
-      119
-      (List._∷_
-      101
-      (List._∷_
-      114
-      (List._∷_ 58 (List._∷_ 58 (List._∷_ 87 (List._∷_ 97 (List._∷_ 121 List.[])))))))))))
-      (Syntax.ttcons
-      Syntax.tnil
-      (Syntax.ttcons
-      Syntax.tnil
-      (Syntax.ttcons Syntax.tnil (Syntax.ttcons Syntax.tnil Syntax.ttnil)))))
-      (Syntax.tcons (Syntax.tyArray (Syntax.tyInt Syntax.w8) 16) Syntax.tnil)))
-      Syntax.tnil)))
-      (Syntax.tcons
-      (Syntax.tyStruct
-      (List._∷_
-      102
-      (List._∷_
-      105
-      (List._∷_
-      110
-      (List._∷_
-      105
-      (List._∷_
-      115
-      (List._∷_
-      104
-      (List._∷_
-      58
-      (List._∷_ 58 (List._∷_ 83 (List._∷_ 101 (List._∷_ 110 (List._∷_ 116 List.[]))))))))))))
-      (Syntax.tcons
-      (Syntax.tyInt Syntax.w64)
-      (Syntax.tcons
-      (Syntax.tyStruct
-      (List._∷_
-      97
-      (List._∷_
-      110
-      (List._∷_
-      115
-      (List._∷_
-      119
-      (List._∷_
-      101
-      (List._∷_
-      114
-      (List._∷_
-      58
-      (List._∷_
-      58
-      (List._∷_
-      68
-      (List._∷_
-      101
-      (List._∷_
-      115
-      (List._∷_
-      116
-      (List._∷_
-      105
-      (List._∷_
-      110
-      (List._∷_
-      97
-      (List._∷_ 116 (List._∷_ 105 (List._∷_ 111 (List._∷_ 110 List.[])))))))))))))))))))
-      (Syntax.tcons
-      (Syntax.tyEnum
-      (List._∷_
-      97
-      (List._∷_
-      110
-      (List._∷_
-      115
-      (List._∷_
-      119
-      (List._∷_
-      101
-      (List._∷_
-      114
-      (List._∷_ 58 (List._∷_ 58 (List._∷_ 87 (List._∷_ 97 (List._∷_ 121 List.[])))))))))))
-      (Syntax.ttcons
-      Syntax.tnil
-      (Syntax.ttcons
-      Syntax.tnil
-      (Syntax.ttcons Syntax.tnil (Syntax.ttcons Syntax.tnil Syntax.ttnil)))))
-      (Syntax.tcons (Syntax.tyArray (Syntax.tyInt Syntax.w8) 16) Syntax.tnil)))
-      Syntax.tnil)))
-      (Syntax.tcons
-      (Syntax.tyInt Syntax.w64)
-      (Syntax.tcons (Syntax.tyInt Syntax.w8) Syntax.tnil)))))),
-) (List._∷_ (
-  1,
-  Mut.mslice
-      (KInstanceRow.R)
-      (Syntax.tyRef (Syntax.named 0) Syntax.mut (KInstanceRow.named))
-      0,
-) (List._∷_ (
-  2,
-  Mut.mslice
-      (KRouteRow.R)
-      (Syntax.tyRef (Syntax.named 1) Syntax.mut (KRouteRow.named))
-      1,
-) (List._∷_ (
-  3,
-  Mut.mslice
-      (Referent.rtF (Referent.fInt Syntax.w8))
-      (Syntax.tyRef (Syntax.named 2) Syntax.mut (Syntax.tyInt Syntax.w8))
-      2,
-) (List._∷_ (
-  4,
-  Mut.mslice
-      (Referent.rtF (Referent.fInt Syntax.w8))
-      (Syntax.tyRef (Syntax.named 3) Syntax.mut (Syntax.tyInt Syntax.w8))
-      3,
-) (List._∷_ (
-  5,
-  Rows'.any-gone
-      (Syntax.tyStruct
-      (List._∷_
-      111
-      (List._∷_
-      119
-      (List._∷_
-      110
-      (List._∷_ 58 (List._∷_ 58 (List._∷_ 79 (List._∷_ 119 (List._∷_ 110 List.[]))))))))
-      (Syntax.tcons
-      (Syntax.tyArray (Syntax.tyInt Syntax.w8) 16)
-      (Syntax.tcons (Syntax.tyArray (Syntax.tyInt Syntax.w8) 16) Syntax.tnil))),
-) (List._∷_ (6, Rows'.sc-here (Row.sInt Syntax.w64)) (List._∷_ (
-  7,
-  Rows'.sc-here (Row.sInt Syntax.w8),
-) (List._∷_ (8, Rows'.sc-here (Row.sInt Syntax.w64)) (List._∷_ (
-  9,
-  Rows'.any-gone (Syntax.tyArray (Syntax.tyArray (Syntax.tyInt Syntax.w8) 16) 16),
-) (List._∷_ (
-  10,
-  Rows'.any-gone
-      (Syntax.tyStruct
-      (List._∷_
-      100
-      (List._∷_
-      101
-      (List._∷_
-      99
-      (List._∷_
-      105
-      (List._∷_
-      115
-      (List._∷_
-      105
-      (List._∷_
-      111
-      (List._∷_
-      110
-      (List._∷_
-      58
-      (List._∷_
-      58
-      (List._∷_
-      68
-      (List._∷_
-      101
-      (List._∷_ 99 (List._∷_ 105 (List._∷_ 100 (List._∷_ 101 (List._∷_ 100 List.[])))))))))))))))))
-      (Syntax.tcons
-      (Syntax.tyEnum
-      (List._∷_
-      97
-      (List._∷_
-      110
-      (List._∷_
-      115
-      (List._∷_
-      119
-      (List._∷_
-      101
-      (List._∷_
-      114
-      (List._∷_
-      58
-      (List._∷_
-      58
-      (List._∷_
-      65
-      (List._∷_ 110 (List._∷_ 115 (List._∷_ 119 (List._∷_ 101 (List._∷_ 114 List.[]))))))))))))))
-      (Syntax.ttcons
-      Syntax.tnil
-      (Syntax.ttcons
-      Syntax.tnil
-      (Syntax.ttcons
-      Syntax.tnil
-      (Syntax.ttcons
-      Syntax.tnil
-      (Syntax.ttcons
-      Syntax.tnil
-      (Syntax.ttcons
-      Syntax.tnil
-      (Syntax.ttcons
-      Syntax.tnil
-      (Syntax.ttcons
-      Syntax.tnil
-      (Syntax.ttcons
-      Syntax.tnil
-      (Syntax.ttcons
-      Syntax.tnil
-      (Syntax.ttcons
-      Syntax.tnil
-      (Syntax.ttcons
-      Syntax.tnil
-      (Syntax.ttcons
-      Syntax.tnil
-      (Syntax.ttcons
-      Syntax.tnil
-      (Syntax.ttcons
-      Syntax.tnil
-      (Syntax.ttcons
-      Syntax.tnil
-      (Syntax.ttcons Syntax.tnil (Syntax.ttcons Syntax.tnil Syntax.ttnil)))))))))))))))))))
-      (Syntax.tcons
-      (KInstanceRow.spelled)
-      (Syntax.tcons
-      Syntax.tyBool
-      (Syntax.tcons
-      (KInstanceRow.spelled)
-      (Syntax.tcons
-      Syntax.tyBool
-      (Syntax.tcons
-      (KRouteRow.spelled)
-      (Syntax.tcons
-      (Syntax.tyInt Syntax.w8)
-      (Syntax.tcons
-      (Syntax.tyStruct
-      (List._∷_
-      100
-      (List._∷_
-      101
-      (List._∷_
-      99
-      (List._∷_
-      105
-      (List._∷_
-      115
-      (List._∷_
-      105
-      (List._∷_
-      111
-      (List._∷_
-      110
-      (List._∷_
-      58
-      (List._∷_ 58 (List._∷_ 80 (List._∷_ 111 (List._∷_ 115 (List._∷_ 116 List.[]))))))))))))))
-      (Syntax.tcons
-      (Syntax.tyEnum
-      (List._∷_
-      100
-      (List._∷_
-      101
-      (List._∷_
-      99
-      (List._∷_
-      105
-      (List._∷_
-      115
-      (List._∷_
-      105
-      (List._∷_
-      111
-      (List._∷_
-      110
-      (List._∷_
-      58
-      (List._∷_ 58 (List._∷_ 87 (List._∷_ 104 (List._∷_ 97 (List._∷_ 116 List.[]))))))))))))))
-      (Syntax.ttcons
-      Syntax.tnil
-      (Syntax.ttcons Syntax.tnil (Syntax.ttcons Syntax.tnil Syntax.ttnil))))
-      (Syntax.tcons
-      (Syntax.tyStruct
-      (List._∷_
-      109
-      (List._∷_
-      101
-      (List._∷_
-      115
-      (List._∷_
-      115
-      (List._∷_
-      97
-      (List._∷_
-      103
-      (List._∷_
-      101
-      (List._∷_
-      58
-      (List._∷_
-      58
-      (List._∷_
-      80
-      (List._∷_ 97 (List._∷_ 114 (List._∷_ 115 (List._∷_ 101 (List._∷_ 100 List.[])))))))))))))))
-      (Syntax.tcons
-      (Syntax.tyStruct
-      (List._∷_
-      112
-      (List._∷_
-      108
-      (List._∷_
-      97
-      (List._∷_
-      105
-      (List._∷_
-      110
-      (List._∷_
-      58
-      (List._∷_ 58 (List._∷_ 66 (List._∷_ 97 (List._∷_ 115 (List._∷_ 101 List.[])))))))))))
-      (Syntax.tcons
-      (Syntax.tyInt Syntax.w8)
-      (Syntax.tcons
-      (Syntax.tyInt Syntax.w8)
-      (Syntax.tcons
-      (Syntax.tyInt Syntax.w16)
-      (Syntax.tcons
-      Syntax.tyBool
-      (Syntax.tcons
-      (Syntax.tyInt Syntax.w8)
-      (Syntax.tcons (Syntax.tyArray (Syntax.tyInt Syntax.w8) 16) Syntax.tnil)))))))
-      (Syntax.tcons
-      Syntax.tyBool
-      (Syntax.tcons
-      (Syntax.tyArray (Syntax.tyInt Syntax.w8) 14)
-      (Syntax.tcons
-      (Syntax.tyStruct
-      (List._∷_
-      112
-      (List._∷_
-      108
-      (List._∷_
-      97
-      (List._∷_
-      105
-      (List._∷_
-      110
-      (List._∷_
-      58
-      (List._∷_
-      58
-      (List._∷_
-      68
-      (List._∷_
-      105
-      (List._∷_
-      115
-      (List._∷_
-      99
-      (List._∷_ 111 (List._∷_ 118 (List._∷_ 101 (List._∷_ 114 (List._∷_ 121 List.[]))))))))))))))))
-      (Syntax.tcons
-      Syntax.tyBool
-      (Syntax.tcons
-      Syntax.tyBool
-      (Syntax.tcons
-      Syntax.tyBool
-      (Syntax.tcons
-      (Syntax.tyInt Syntax.w8)
-      (Syntax.tcons
-      (Syntax.tyInt Syntax.w8)
-      (Syntax.tcons
-      (Syntax.tyInt Syntax.w8)
-      (Syntax.tcons (Syntax.tyInt Syntax.w8) Syntax.tnil))))))))
-      (Syntax.tcons
-      (Syntax.tyInt Syntax.w64)
-      (Syntax.tcons
-      (Syntax.tyInt Syntax.w64)
-      (Syntax.tcons
-      (Syntax.tyArray
-      (Syntax.tyStruct
-      (List._∷_
-      112
-      (List._∷_
-      108
-      (List._∷_
-      97
-      (List._∷_
-      105
-      (List._∷_
-      110
-      (List._∷_
-      58
-      (List._∷_
-      58
-      (List._∷_
-      84
-      (List._∷_ 97 (List._∷_ 114 (List._∷_ 103 (List._∷_ 101 (List._∷_ 116 List.[])))))))))))))
-      (Syntax.tcons
-      (Syntax.tyInt Syntax.w8)
-      (Syntax.tcons
-      (Syntax.tyInt Syntax.w8)
-      (Syntax.tcons (Syntax.tyArray (Syntax.tyInt Syntax.w8) 16) Syntax.tnil))))
-      8)
-      Syntax.tnil))))))))
-      (Syntax.tcons
-      Syntax.tyBool
-      (Syntax.tcons
-      Syntax.tyBool
-      (Syntax.tcons
-      (Syntax.tyStruct
-      (List._∷_
-      97
-      (List._∷_
-      110
-      (List._∷_
-      115
-      (List._∷_
-      119
-      (List._∷_
-      101
-      (List._∷_
-      114
-      (List._∷_
-      58
-      (List._∷_
-      58
-      (List._∷_
-      68
-      (List._∷_
-      101
-      (List._∷_
-      115
-      (List._∷_
-      116
-      (List._∷_
-      105
-      (List._∷_
-      110
-      (List._∷_
-      97
-      (List._∷_ 116 (List._∷_ 105 (List._∷_ 111 (List._∷_ 110 List.[])))))))))))))))))))
-      (Syntax.tcons
-      (Syntax.tyEnum
-      (List._∷_
-      97
-      (List._∷_
-      110
-      (List._∷_
-      115
-      (List._∷_
-      119
-      (List._∷_
-      101
-      (List._∷_
-      114
-      (List._∷_ 58 (List._∷_ 58 (List._∷_ 87 (List._∷_ 97 (List._∷_ 121 List.[])))))))))))
-      (Syntax.ttcons
-      Syntax.tnil
-      (Syntax.ttcons
-      Syntax.tnil
-      (Syntax.ttcons Syntax.tnil (Syntax.ttcons Syntax.tnil Syntax.ttnil)))))
-      (Syntax.tcons (Syntax.tyArray (Syntax.tyInt Syntax.w8) 16) Syntax.tnil)))
-      Syntax.tnil))))))
-      (Syntax.tcons
-      (Syntax.tyStruct
-      (List._∷_
-      100
-      (List._∷_
-      101
-      (List._∷_
-      99
-      (List._∷_
-      105
-      (List._∷_
-      115
-      (List._∷_
-      105
-      (List._∷_
-      111
-      (List._∷_
-      110
-      (List._∷_
-      58
-      (List._∷_ 58 (List._∷_ 80 (List._∷_ 111 (List._∷_ 115 (List._∷_ 116 List.[]))))))))))))))
-      (Syntax.tcons
-      (Syntax.tyEnum
-      (List._∷_
-      100
-      (List._∷_
-      101
-      (List._∷_
-      99
-      (List._∷_
-      105
-      (List._∷_
-      115
-      (List._∷_
-      105
-      (List._∷_
-      111
-      (List._∷_
-      110
-      (List._∷_
-      58
-      (List._∷_ 58 (List._∷_ 87 (List._∷_ 104 (List._∷_ 97 (List._∷_ 116 List.[]))))))))))))))
-      (Syntax.ttcons
-      Syntax.tnil
-      (Syntax.ttcons Syntax.tnil (Syntax.ttcons Syntax.tnil Syntax.ttnil))))
-      (Syntax.tcons
-      (Syntax.tyStruct
-      (List._∷_
-      109
-      (List._∷_
-      101
-      (List._∷_
-      115
-      (List._∷_
-      115
-      (List._∷_
-      97
-      (List._∷_
-      103
-      (List._∷_
-      101
-      (List._∷_
-      58
-      (List._∷_
-      58
-      (List._∷_
-      80
-      (List._∷_ 97 (List._∷_ 114 (List._∷_ 115 (List._∷_ 101 (List._∷_ 100 List.[])))))))))))))))
-      (Syntax.tcons
-      (Syntax.tyStruct
-      (List._∷_
-      112
-      (List._∷_
-      108
-      (List._∷_
-      97
-      (List._∷_
-      105
-      (List._∷_
-      110
-      (List._∷_
-      58
-      (List._∷_ 58 (List._∷_ 66 (List._∷_ 97 (List._∷_ 115 (List._∷_ 101 List.[])))))))))))
-      (Syntax.tcons
-      (Syntax.tyInt Syntax.w8)
-      (Syntax.tcons
-      (Syntax.tyInt Syntax.w8)
-      (Syntax.tcons
-      (Syntax.tyInt Syntax.w16)
-      (Syntax.tcons
-      Syntax.tyBool
-      (Syntax.tcons
-      (Syntax.tyInt Syntax.w8)
-      (Syntax.tcons (Syntax.tyArray (Syntax.tyInt Syntax.w8) 16) Syntax.tnil)))))))
-      (Syntax.tcons
-      Syntax.tyBool
-      (Syntax.tcons
-      (Syntax.tyArray (Syntax.tyInt Syntax.w8) 14)
-      (Syntax.tcons
-      (Syntax.tyStruct
-      (List._∷_
-      112
-      (List._∷_
-      108
-      (List._∷_
-      97
-      (List._∷_
-      105
-      (List._∷_
-      110
-      (List._∷_
-      58
-      (List._∷_
-      58
-      (List._∷_
-      68
-      (List._∷_
-      105
-      (List._∷_
-      115
-      (List._∷_
-      99
-      (List._∷_ 111 (List._∷_ 118 (List._∷_ 101 (List._∷_ 114 (List._∷_ 121 List.[]))))))))))))))))
-      (Syntax.tcons
-      Syntax.tyBool
-      (Syntax.tcons
-      Syntax.tyBool
-      (Syntax.tcons
-      Syntax.tyBool
-      (Syntax.tcons
-      (Syntax.tyInt Syntax.w8)
-      (Syntax.tcons
-      (Syntax.tyInt Syntax.w8)
-      (Syntax.tcons
-      (Syntax.tyInt Syntax.w8)
-      (Syntax.tcons (Syntax.tyInt Syntax.w8) Syntax.tnil))))))))
-      (Syntax.tcons
-      (Syntax.tyInt Syntax.w64)
-      (Syntax.tcons
-      (Syntax.tyInt Syntax.w64)
-      (Syntax.tcons
-      (Syntax.tyArray
-      (Syntax.tyStruct
-      (List._∷_
-      112
-      (List._∷_
-      108
-      (List._∷_
-      97
-      (List._∷_
-      105
-      (List._∷_
-      110
-      (List._∷_
-      58
-      (List._∷_
-      58
-      (List._∷_
-      84
-      (List._∷_ 97 (List._∷_ 114 (List._∷_ 103 (List._∷_ 101 (List._∷_ 116 List.[])))))))))))))
-      (Syntax.tcons
-      (Syntax.tyInt Syntax.w8)
-      (Syntax.tcons
-      (Syntax.tyInt Syntax.w8)
-      (Syntax.tcons (Syntax.tyArray (Syntax.tyInt Syntax.w8) 16) Syntax.tnil))))
-      8)
-      Syntax.tnil))))))))
-      (Syntax.tcons
-      Syntax.tyBool
-      (Syntax.tcons
-      Syntax.tyBool
-      (Syntax.tcons
-      (Syntax.tyStruct
-      (List._∷_
-      97
-      (List._∷_
-      110
-      (List._∷_
-      115
-      (List._∷_
-      119
-      (List._∷_
-      101
-      (List._∷_
-      114
-      (List._∷_
-      58
-      (List._∷_
-      58
-      (List._∷_
-      68
-      (List._∷_
-      101
-      (List._∷_
-      115
-      (List._∷_
-      116
-      (List._∷_
-      105
-      (List._∷_
-      110
-      (List._∷_
-      97
-      (List._∷_ 116 (List._∷_ 105 (List._∷_ 111 (List._∷_ 110 List.[])))))))))))))))))))
-      (Syntax.tcons
-      (Syntax.tyEnum
-      (List._∷_
-      97
-      (List._∷_
-      110
-      (List._∷_
-      115
-      (List._∷_
-      119
-      (List._∷_
-      101
-      (List._∷_
-      114
-      (List._∷_ 58 (List._∷_ 58 (List._∷_ 87 (List._∷_ 97 (List._∷_ 121 List.[])))))))))))
-      (Syntax.ttcons
-      Syntax.tnil
-      (Syntax.ttcons
-      Syntax.tnil
-      (Syntax.ttcons Syntax.tnil (Syntax.ttcons Syntax.tnil Syntax.ttnil)))))
-      (Syntax.tcons (Syntax.tyArray (Syntax.tyInt Syntax.w8) 16) Syntax.tnil)))
-      Syntax.tnil))))))
-      Syntax.tnil)))))))))),
-)
-    (List._∷_
-    (11, Rows'.sc-here Row.sBool)
-    (List._∷_
-    (12, Rows'.sc-here (Row.sInt Syntax.w64))
-    (List._∷_
-    (13, Rows'.sc-here Row.sBool)
-    (List._∷_ (14, Rows'.sc-here (Row.sInt Syntax.w64)) (List._∷_ (
-      15,
-      Rows'.whole (Declared'.row Places.the-type),
-    ) List.[])))))))))))))))
-
-abbrev pub t73 : List.List Row.Entry
-t73 = List._∷_ (
   16,
   Rows'.any-gone
       (Syntax.tyStruct
@@ -22448,7 +21600,7 @@ abbrev pub T45 : Row.Cx
 T45 = record { locals = List._++_ t25 (List._++_ t33 t2); slots = List.[] }
 
 abbrev pub T46 : Row.Cx
-T46 = record { locals = List._++_ t12 (List._++_ t1 t2); slots = List.[] }
+T46 = record { locals = List._++_ t10 (List._++_ t1 t2); slots = List.[] }
 
 abbrev pub T47 : Row.Cx
 T47 = record { locals = List._++_ t25 (List._++_ t32 t2); slots = List.[] }
@@ -22589,46 +21741,40 @@ abbrev pub T104 : Row.Cx
 T104 = record { locals = List._++_ t71 (List._++_ t33 t2); slots = List.[] }
 
 abbrev pub T105 : Row.Cx
-T105 = record { locals = List._++_ t72 (List._++_ t33 t2); slots = List.[] }
+T105 = record { locals = List._++_ t10 (List._++_ t33 t2); slots = List.[] }
 
 abbrev pub T106 : Row.Cx
-T106 = record { locals = List._++_ t12 (List._++_ t33 t2); slots = List.[] }
+T106 = record { locals = List._++_ t10 (List._++_ t72 t2); slots = List.[] }
 
 abbrev pub T107 : Row.Cx
-T107 = record { locals = List._++_ t12 (List._++_ t73 t2); slots = List.[] }
+T107 = record { locals = List._++_ t10 (List._++_ t1 t2); slots = List.[] }
 
 abbrev pub T108 : Row.Cx
-T108 = record { locals = List._++_ t12 (List._++_ t1 t2); slots = List.[] }
+T108 = record { locals = List._++_ t68 (List._++_ t1 t2); slots = List.[] }
 
 abbrev pub T109 : Row.Cx
-T109 = record { locals = List._++_ t12 (List._++_ t4 t2); slots = List.[] }
+T109 = record { locals = List._++_ t13 (List._++_ t1 t2); slots = List.[] }
 
 abbrev pub T110 : Row.Cx
-T110 = record { locals = List._++_ t13 (List._++_ t4 t2); slots = List.[] }
+T110 = record { locals = List._++_ t14 (List._++_ t1 t2); slots = List.[] }
 
 abbrev pub T111 : Row.Cx
-T111 = record { locals = List._++_ t13 (List._++_ t1 t2); slots = List.[] }
+T111 = record { locals = List._++_ t15 (List._++_ t1 t2); slots = List.[] }
 
 abbrev pub T112 : Row.Cx
-T112 = record { locals = List._++_ t14 (List._++_ t1 t2); slots = List.[] }
+T112 = record { locals = List._++_ t16 (List._++_ t1 t2); slots = List.[] }
 
 abbrev pub T113 : Row.Cx
-T113 = record { locals = List._++_ t15 (List._++_ t1 t2); slots = List.[] }
+T113 = record { locals = List._++_ t17 (List._++_ t1 t2); slots = List.[] }
 
 abbrev pub T114 : Row.Cx
-T114 = record { locals = List._++_ t16 (List._++_ t1 t2); slots = List.[] }
+T114 = record { locals = List._++_ t18 (List._++_ t1 t2); slots = List.[] }
 
 abbrev pub T115 : Row.Cx
-T115 = record { locals = List._++_ t17 (List._++_ t1 t2); slots = List.[] }
+T115 = record { locals = List._++_ t19 (List._++_ t1 t2); slots = List.[] }
 
 abbrev pub T116 : Row.Cx
-T116 = record { locals = List._++_ t18 (List._++_ t1 t2); slots = List.[] }
-
-abbrev pub T117 : Row.Cx
-T117 = record { locals = List._++_ t19 (List._++_ t1 t2); slots = List.[] }
-
-abbrev pub T118 : Row.Cx
-T118 = record { locals = List._++_ t3 (List._++_ t1 t2); slots = List.[] }
+T116 = record { locals = List._++_ t3 (List._++_ t1 t2); slots = List.[] }
 
 abbrev pub O0 : Typed.Outs
 O0 = record { next = Option.none; exits = List.[]; returns = Option.some T1 }
@@ -25300,8 +24446,14 @@ module _ (claims· : Claims) where
 
   abbrev s88 : Typed.Both T90 T92
   s88 = Call.callB ps·15 r·15 (claims· .30) (claims· .31) T90 (
-    record { pos = 10; st = List.[]; d = 0; at = λ x. x },
-    (Num.vAt 8 λ x. x, (Num.vAt 17 λ x. x, (Num.vAt 18 λ x. x, tt))),
+    Bool.bLit Bool'.true,
+    (
+      record { pos = 10; st = List.[]; d = 0; at = λ x. x },
+      (
+        Num.vAt 6 λ x. x,
+        (Num.vAt 7 λ x. x, (Num.vAt 8 λ x. x, (Num.vAt 17 λ x. x, (Num.vAt 18 λ x. x, tt)))),
+      ),
+    ),
   )
       0
       List.[]
@@ -26135,6 +25287,312 @@ module _ (claims· : Claims) where
   s101 =
       Scalar.n-room
       T104
+      15
+      (Syntax.tyStruct
+      (List._∷_
+      112
+      (List._∷_
+      108
+      (List._∷_
+      97
+      (List._∷_
+      99
+      (List._∷_
+      101
+      (List._∷_
+      58
+      (List._∷_
+      58
+      (List._∷_
+      80
+      (List._∷_ 108 (List._∷_ 97 (List._∷_ 99 (List._∷_ 101 (List._∷_ 115 List.[])))))))))))))
+      (Syntax.tcons
+      Syntax.tyBool
+      (Syntax.tcons
+      (Syntax.tyInt Syntax.w64)
+      (Syntax.tcons (Syntax.tyInt Syntax.w64) Syntax.tnil))))
+
+  abbrev s102 : Typed.Mo T105 → Typed.Mo T106
+  s102 =
+      Scalar.n-room
+      T105
+      16
+      (Syntax.tyStruct
+      (List._∷_
+      112
+      (List._∷_
+      108
+      (List._∷_
+      97
+      (List._∷_
+      99
+      (List._∷_
+      101
+      (List._∷_
+      58
+      (List._∷_
+      58
+      (List._∷_
+      82
+      (List._∷_
+      111
+      (List._∷_
+      117
+      (List._∷_
+      116
+      (List._∷_
+      101
+      (List._∷_ 80 (List._∷_ 108 (List._∷_ 97 (List._∷_ 99 (List._∷_ 101 List.[])))))))))))))))))
+      (Syntax.tcons Syntax.tyBool (Syntax.tcons (Syntax.tyInt Syntax.w64) Syntax.tnil)))
+
+  abbrev s103 : Typed.Mo T106 → Typed.Mo T107
+  s103 = Scalar.n-room T106 27 Syntax.tyBool
+
+  abbrev s104 : Typed.Both T46 T108
+  s104 = Call.callB ps·15 r·15 (claims· .30) (claims· .31) T46 (
+    Bool.bLit Bool'.false,
+    (
+      record { pos = 10; st = List.[]; d = 0; at = λ x. x },
+      (
+        Num.vAt 6 λ x. x,
+        (Num.vAt 7 λ x. x, (Num.vAt 8 λ x. x, (Num.vLit 0, (Num.vLit 0, tt)))),
+      ),
+    ),
+  )
+      0
+      List.[]
+      (Syntax.tyStruct
+      (List._∷_
+      102
+      (List._∷_
+      105
+      (List._∷_
+      110
+      (List._∷_
+      105
+      (List._∷_
+      115
+      (List._∷_
+      104
+      (List._∷_
+      58
+      (List._∷_
+      58
+      (List._∷_
+      79
+      (List._∷_
+      117
+      (List._∷_ 116 (List._∷_ 99 (List._∷_ 111 (List._∷_ 109 (List._∷_ 101 List.[])))))))))))))))
+      (Syntax.tcons
+      (Syntax.tyEnum
+      (List._∷_
+      97
+      (List._∷_
+      110
+      (List._∷_
+      115
+      (List._∷_
+      119
+      (List._∷_
+      101
+      (List._∷_
+      114
+      (List._∷_
+      58
+      (List._∷_
+      58
+      (List._∷_
+      65
+      (List._∷_ 110 (List._∷_ 115 (List._∷_ 119 (List._∷_ 101 (List._∷_ 114 List.[]))))))))))))))
+      (Syntax.ttcons
+      Syntax.tnil
+      (Syntax.ttcons
+      Syntax.tnil
+      (Syntax.ttcons
+      Syntax.tnil
+      (Syntax.ttcons
+      Syntax.tnil
+      (Syntax.ttcons
+      Syntax.tnil
+      (Syntax.ttcons
+      Syntax.tnil
+      (Syntax.ttcons
+      Syntax.tnil
+      (Syntax.ttcons
+      Syntax.tnil
+      (Syntax.ttcons
+      Syntax.tnil
+      (Syntax.ttcons
+      Syntax.tnil
+      (Syntax.ttcons
+      Syntax.tnil
+      (Syntax.ttcons
+      Syntax.tnil
+      (Syntax.ttcons
+      Syntax.tnil
+      (Syntax.ttcons
+      Syntax.tnil
+      (Syntax.ttcons
+      Syntax.tnil
+      (Syntax.ttcons
+      Syntax.tnil
+      (Syntax.ttcons Syntax.tnil (Syntax.ttcons Syntax.tnil Syntax.ttnil)))))))))))))))))))
+      (Syntax.tcons
+      (Syntax.tyStruct
+      (List._∷_
+      102
+      (List._∷_
+      105
+      (List._∷_
+      110
+      (List._∷_
+      105
+      (List._∷_
+      115
+      (List._∷_
+      104
+      (List._∷_
+      58
+      (List._∷_ 58 (List._∷_ 83 (List._∷_ 101 (List._∷_ 110 (List._∷_ 116 List.[]))))))))))))
+      (Syntax.tcons
+      (Syntax.tyInt Syntax.w64)
+      (Syntax.tcons
+      (Syntax.tyStruct
+      (List._∷_
+      97
+      (List._∷_
+      110
+      (List._∷_
+      115
+      (List._∷_
+      119
+      (List._∷_
+      101
+      (List._∷_
+      114
+      (List._∷_
+      58
+      (List._∷_
+      58
+      (List._∷_
+      68
+      (List._∷_
+      101
+      (List._∷_
+      115
+      (List._∷_
+      116
+      (List._∷_
+      105
+      (List._∷_
+      110
+      (List._∷_
+      97
+      (List._∷_ 116 (List._∷_ 105 (List._∷_ 111 (List._∷_ 110 List.[])))))))))))))))))))
+      (Syntax.tcons
+      (Syntax.tyEnum
+      (List._∷_
+      97
+      (List._∷_
+      110
+      (List._∷_
+      115
+      (List._∷_
+      119
+      (List._∷_
+      101
+      (List._∷_
+      114
+      (List._∷_ 58 (List._∷_ 58 (List._∷_ 87 (List._∷_ 97 (List._∷_ 121 List.[])))))))))))
+      (Syntax.ttcons
+      Syntax.tnil
+      (Syntax.ttcons
+      Syntax.tnil
+      (Syntax.ttcons Syntax.tnil (Syntax.ttcons Syntax.tnil Syntax.ttnil)))))
+      (Syntax.tcons (Syntax.tyArray (Syntax.tyInt Syntax.w8) 16) Syntax.tnil)))
+      Syntax.tnil)))
+      (Syntax.tcons
+      (Syntax.tyStruct
+      (List._∷_
+      102
+      (List._∷_
+      105
+      (List._∷_
+      110
+      (List._∷_
+      105
+      (List._∷_
+      115
+      (List._∷_
+      104
+      (List._∷_
+      58
+      (List._∷_ 58 (List._∷_ 83 (List._∷_ 101 (List._∷_ 110 (List._∷_ 116 List.[]))))))))))))
+      (Syntax.tcons
+      (Syntax.tyInt Syntax.w64)
+      (Syntax.tcons
+      (Syntax.tyStruct
+      (List._∷_
+      97
+      (List._∷_
+      110
+      (List._∷_
+      115
+      (List._∷_
+      119
+      (List._∷_
+      101
+      (List._∷_
+      114
+      (List._∷_
+      58
+      (List._∷_
+      58
+      (List._∷_
+      68
+      (List._∷_
+      101
+      (List._∷_
+      115
+      (List._∷_
+      116
+      (List._∷_
+      105
+      (List._∷_
+      110
+      (List._∷_
+      97
+      (List._∷_ 116 (List._∷_ 105 (List._∷_ 111 (List._∷_ 110 List.[])))))))))))))))))))
+      (Syntax.tcons
+      (Syntax.tyEnum
+      (List._∷_
+      97
+      (List._∷_
+      110
+      (List._∷_
+      115
+      (List._∷_
+      119
+      (List._∷_
+      101
+      (List._∷_
+      114
+      (List._∷_ 58 (List._∷_ 58 (List._∷_ 87 (List._∷_ 97 (List._∷_ 121 List.[])))))))))))
+      (Syntax.ttcons
+      Syntax.tnil
+      (Syntax.ttcons
+      Syntax.tnil
+      (Syntax.ttcons Syntax.tnil (Syntax.ttcons Syntax.tnil Syntax.ttnil)))))
+      (Syntax.tcons (Syntax.tyArray (Syntax.tyInt Syntax.w8) 16) Syntax.tnil)))
+      Syntax.tnil)))
+      (Syntax.tcons
+      (Syntax.tyInt Syntax.w64)
+      (Syntax.tcons (Syntax.tyInt Syntax.w8) Syntax.tnil))))))
+
+  abbrev s105 : Typed.Mo T108 → Typed.Mo T109
+  s105 =
+      Scalar.n-room
+      T108
       10
       (Syntax.tyStruct
       (List._∷_
@@ -26682,450 +26140,26 @@ module _ (claims· : Claims) where
       Syntax.tnil))))))
       Syntax.tnil))))))))))
 
-  abbrev s102 : Typed.Mo T105 → Typed.Mo T106
-  s102 =
-      Scalar.n-room
-      T105
-      15
-      (Syntax.tyStruct
-      (List._∷_
-      112
-      (List._∷_
-      108
-      (List._∷_
-      97
-      (List._∷_
-      99
-      (List._∷_
-      101
-      (List._∷_
-      58
-      (List._∷_
-      58
-      (List._∷_
-      80
-      (List._∷_ 108 (List._∷_ 97 (List._∷_ 99 (List._∷_ 101 (List._∷_ 115 List.[])))))))))))))
-      (Syntax.tcons
-      Syntax.tyBool
-      (Syntax.tcons
-      (Syntax.tyInt Syntax.w64)
-      (Syntax.tcons (Syntax.tyInt Syntax.w64) Syntax.tnil))))
-
-  abbrev s103 : Typed.Mo T106 → Typed.Mo T107
-  s103 =
-      Scalar.n-room
-      T106
-      16
-      (Syntax.tyStruct
-      (List._∷_
-      112
-      (List._∷_
-      108
-      (List._∷_
-      97
-      (List._∷_
-      99
-      (List._∷_
-      101
-      (List._∷_
-      58
-      (List._∷_
-      58
-      (List._∷_
-      82
-      (List._∷_
-      111
-      (List._∷_
-      117
-      (List._∷_
-      116
-      (List._∷_
-      101
-      (List._∷_ 80 (List._∷_ 108 (List._∷_ 97 (List._∷_ 99 (List._∷_ 101 List.[])))))))))))))))))
-      (Syntax.tcons Syntax.tyBool (Syntax.tcons (Syntax.tyInt Syntax.w64) Syntax.tnil)))
-
-  abbrev s104 : Typed.Mo T107 → Typed.Mo T108
-  s104 = Scalar.n-room T107 27 Syntax.tyBool
-
-  abbrev s105 : Typed.Both T46 T109
-  s105 =
-      Call.callB
-      ps·16
-      r·16
-      (claims· .32)
-      (claims· .33)
-      T46
-      tt
-      20
-      List.[]
-      (Syntax.tyEnum
-      (List._∷_
-      97
-      (List._∷_
-      110
-      (List._∷_
-      115
-      (List._∷_
-      119
-      (List._∷_
-      101
-      (List._∷_
-      114
-      (List._∷_
-      58
-      (List._∷_
-      58
-      (List._∷_
-      65
-      (List._∷_ 110 (List._∷_ 115 (List._∷_ 119 (List._∷_ 101 (List._∷_ 114 List.[]))))))))))))))
-      (Syntax.ttcons
-      Syntax.tnil
-      (Syntax.ttcons
-      Syntax.tnil
-      (Syntax.ttcons
-      Syntax.tnil
-      (Syntax.ttcons
-      Syntax.tnil
-      (Syntax.ttcons
-      Syntax.tnil
-      (Syntax.ttcons
-      Syntax.tnil
-      (Syntax.ttcons
-      Syntax.tnil
-      (Syntax.ttcons
-      Syntax.tnil
-      (Syntax.ttcons
-      Syntax.tnil
-      (Syntax.ttcons
-      Syntax.tnil
-      (Syntax.ttcons
-      Syntax.tnil
-      (Syntax.ttcons
-      Syntax.tnil
-      (Syntax.ttcons
-      Syntax.tnil
-      (Syntax.ttcons
-      Syntax.tnil
-      (Syntax.ttcons
-      Syntax.tnil
-      (Syntax.ttcons
-      Syntax.tnil
-      (Syntax.ttcons Syntax.tnil (Syntax.ttcons Syntax.tnil Syntax.ttnil)))))))))))))))))))
-
-  abbrev s106 : Typed.Both T109 T110
-  s106 = Call.callB ps·2 r·2 (claims· .4) (claims· .5) T109 (
-    record { pos = 20; st = List.[]; d = 0; at = λ x. x },
-    (Num.vAt 6 λ x. x, (Num.vAt 7 λ x. x, tt)),
-  )
-      0
-      List.[]
-      (Syntax.tyStruct
-      (List._∷_
-      102
-      (List._∷_
-      105
-      (List._∷_
-      110
-      (List._∷_
-      105
-      (List._∷_
-      115
-      (List._∷_
-      104
-      (List._∷_
-      58
-      (List._∷_
-      58
-      (List._∷_
-      79
-      (List._∷_
-      117
-      (List._∷_ 116 (List._∷_ 99 (List._∷_ 111 (List._∷_ 109 (List._∷_ 101 List.[])))))))))))))))
-      (Syntax.tcons
-      (Syntax.tyEnum
-      (List._∷_
-      97
-      (List._∷_
-      110
-      (List._∷_
-      115
-      (List._∷_
-      119
-      (List._∷_
-      101
-      (List._∷_
-      114
-      (List._∷_
-      58
-      (List._∷_
-      58
-      (List._∷_
-      65
-      (List._∷_ 110 (List._∷_ 115 (List._∷_ 119 (List._∷_ 101 (List._∷_ 114 List.[]))))))))))))))
-      (Syntax.ttcons
-      Syntax.tnil
-      (Syntax.ttcons
-      Syntax.tnil
-      (Syntax.ttcons
-      Syntax.tnil
-      (Syntax.ttcons
-      Syntax.tnil
-      (Syntax.ttcons
-      Syntax.tnil
-      (Syntax.ttcons
-      Syntax.tnil
-      (Syntax.ttcons
-      Syntax.tnil
-      (Syntax.ttcons
-      Syntax.tnil
-      (Syntax.ttcons
-      Syntax.tnil
-      (Syntax.ttcons
-      Syntax.tnil
-      (Syntax.ttcons
-      Syntax.tnil
-      (Syntax.ttcons
-      Syntax.tnil
-      (Syntax.ttcons
-      Syntax.tnil
-      (Syntax.ttcons
-      Syntax.tnil
-      (Syntax.ttcons
-      Syntax.tnil
-      (Syntax.ttcons
-      Syntax.tnil
-      (Syntax.ttcons Syntax.tnil (Syntax.ttcons Syntax.tnil Syntax.ttnil)))))))))))))))))))
-      (Syntax.tcons
-      (Syntax.tyStruct
-      (List._∷_
-      102
-      (List._∷_
-      105
-      (List._∷_
-      110
-      (List._∷_
-      105
-      (List._∷_
-      115
-      (List._∷_
-      104
-      (List._∷_
-      58
-      (List._∷_ 58 (List._∷_ 83 (List._∷_ 101 (List._∷_ 110 (List._∷_ 116 List.[]))))))))))))
-      (Syntax.tcons
-      (Syntax.tyInt Syntax.w64)
-      (Syntax.tcons
-      (Syntax.tyStruct
-      (List._∷_
-      97
-      (List._∷_
-      110
-      (List._∷_
-      115
-      (List._∷_
-      119
-      (List._∷_
-      101
-      (List._∷_
-      114
-      (List._∷_
-      58
-      (List._∷_
-      58
-      (List._∷_
-      68
-      (List._∷_
-      101
-      (List._∷_
-      115
-      (List._∷_
-      116
-      (List._∷_
-      105
-      (List._∷_
-      110
-      (List._∷_
-      97
-      (List._∷_ 116 (List._∷_ 105 (List._∷_ 111 (List._∷_ 110 List.[])))))))))))))))))))
-      (Syntax.tcons
-      (Syntax.tyEnum
-      (List._∷_
-      97
-      (List._∷_
-      110
-      (List._∷_
-      115
-      (List._∷_
-      119
-      (List._∷_
-      101
-      (List._∷_
-      114
-      (List._∷_ 58 (List._∷_ 58 (List._∷_ 87 (List._∷_ 97 (List._∷_ 121 List.[])))))))))))
-      (Syntax.ttcons
-      Syntax.tnil
-      (Syntax.ttcons
-      Syntax.tnil
-      (Syntax.ttcons Syntax.tnil (Syntax.ttcons Syntax.tnil Syntax.ttnil)))))
-      (Syntax.tcons (Syntax.tyArray (Syntax.tyInt Syntax.w8) 16) Syntax.tnil)))
-      Syntax.tnil)))
-      (Syntax.tcons
-      (Syntax.tyStruct
-      (List._∷_
-      102
-      (List._∷_
-      105
-      (List._∷_
-      110
-      (List._∷_
-      105
-      (List._∷_
-      115
-      (List._∷_
-      104
-      (List._∷_
-      58
-      (List._∷_ 58 (List._∷_ 83 (List._∷_ 101 (List._∷_ 110 (List._∷_ 116 List.[]))))))))))))
-      (Syntax.tcons
-      (Syntax.tyInt Syntax.w64)
-      (Syntax.tcons
-      (Syntax.tyStruct
-      (List._∷_
-      97
-      (List._∷_
-      110
-      (List._∷_
-      115
-      (List._∷_
-      119
-      (List._∷_
-      101
-      (List._∷_
-      114
-      (List._∷_
-      58
-      (List._∷_
-      58
-      (List._∷_
-      68
-      (List._∷_
-      101
-      (List._∷_
-      115
-      (List._∷_
-      116
-      (List._∷_
-      105
-      (List._∷_
-      110
-      (List._∷_
-      97
-      (List._∷_ 116 (List._∷_ 105 (List._∷_ 111 (List._∷_ 110 List.[])))))))))))))))))))
-      (Syntax.tcons
-      (Syntax.tyEnum
-      (List._∷_
-      97
-      (List._∷_
-      110
-      (List._∷_
-      115
-      (List._∷_
-      119
-      (List._∷_
-      101
-      (List._∷_
-      114
-      (List._∷_ 58 (List._∷_ 58 (List._∷_ 87 (List._∷_ 97 (List._∷_ 121 List.[])))))))))))
-      (Syntax.ttcons
-      Syntax.tnil
-      (Syntax.ttcons
-      Syntax.tnil
-      (Syntax.ttcons Syntax.tnil (Syntax.ttcons Syntax.tnil Syntax.ttnil)))))
-      (Syntax.tcons (Syntax.tyArray (Syntax.tyInt Syntax.w8) 16) Syntax.tnil)))
-      Syntax.tnil)))
-      (Syntax.tcons
-      (Syntax.tyInt Syntax.w64)
-      (Syntax.tcons (Syntax.tyInt Syntax.w8) Syntax.tnil))))))
+  abbrev s106 : Typed.Mo T109 → Typed.Mo T110
+  s106 = Scalar.n-room T109 6 (Syntax.tyInt Syntax.w64)
 
   abbrev s107 : Typed.Mo T110 → Typed.Mo T111
-  s107 =
-      Scalar.n-room
-      T110
-      20
-      (Syntax.tyEnum
-      (List._∷_
-      97
-      (List._∷_
-      110
-      (List._∷_
-      115
-      (List._∷_
-      119
-      (List._∷_
-      101
-      (List._∷_
-      114
-      (List._∷_
-      58
-      (List._∷_
-      58
-      (List._∷_
-      65
-      (List._∷_ 110 (List._∷_ 115 (List._∷_ 119 (List._∷_ 101 (List._∷_ 114 List.[]))))))))))))))
-      (Syntax.ttcons
-      Syntax.tnil
-      (Syntax.ttcons
-      Syntax.tnil
-      (Syntax.ttcons
-      Syntax.tnil
-      (Syntax.ttcons
-      Syntax.tnil
-      (Syntax.ttcons
-      Syntax.tnil
-      (Syntax.ttcons
-      Syntax.tnil
-      (Syntax.ttcons
-      Syntax.tnil
-      (Syntax.ttcons
-      Syntax.tnil
-      (Syntax.ttcons
-      Syntax.tnil
-      (Syntax.ttcons
-      Syntax.tnil
-      (Syntax.ttcons
-      Syntax.tnil
-      (Syntax.ttcons
-      Syntax.tnil
-      (Syntax.ttcons
-      Syntax.tnil
-      (Syntax.ttcons
-      Syntax.tnil
-      (Syntax.ttcons
-      Syntax.tnil
-      (Syntax.ttcons
-      Syntax.tnil
-      (Syntax.ttcons Syntax.tnil (Syntax.ttcons Syntax.tnil Syntax.ttnil)))))))))))))))))))
+  s107 = Scalar.n-room T110 7 (Syntax.tyInt Syntax.w8)
 
   abbrev s108 : Typed.Mo T111 → Typed.Mo T112
-  s108 = Scalar.n-room T111 6 (Syntax.tyInt Syntax.w64)
+  s108 = Scalar.n-room T111 8 (Syntax.tyInt Syntax.w64)
 
   abbrev s109 : Typed.Mo T112 → Typed.Mo T113
-  s109 = Scalar.n-room T112 7 (Syntax.tyInt Syntax.w8)
+  s109 = Scalar.n-room T112 11 Syntax.tyBool
 
   abbrev s110 : Typed.Mo T113 → Typed.Mo T114
-  s110 = Scalar.n-room T113 8 (Syntax.tyInt Syntax.w64)
+  s110 = Scalar.n-room T113 12 (Syntax.tyInt Syntax.w64)
 
   abbrev s111 : Typed.Mo T114 → Typed.Mo T115
-  s111 = Scalar.n-room T114 11 Syntax.tyBool
+  s111 = Scalar.n-room T114 13 Syntax.tyBool
 
   abbrev s112 : Typed.Mo T115 → Typed.Mo T116
-  s112 = Scalar.n-room T115 12 (Syntax.tyInt Syntax.w64)
-
-  abbrev s113 : Typed.Mo T116 → Typed.Mo T117
-  s113 = Scalar.n-room T116 13 Syntax.tyBool
-
-  abbrev s114 : Typed.Mo T117 → Typed.Mo T118
-  s114 = Scalar.n-room T117 14 (Syntax.tyInt Syntax.w64)
+  s112 = Scalar.n-room T115 14 (Syntax.tyInt Syntax.w64)
 
   module _ (Pre· : (κs : Lifetimes.Lfts 4) → Kinds.Dens κs ps → Type 0)
       (Post· : (κs : Lifetimes.Lfts 4) → (a : Kinds.Dens κs ps) → Kinds.Plain 4 ps r κs) where
@@ -27150,9 +26184,8 @@ module _ (claims· : Claims) where
           "finish::forward_of") (known13 : Plain.Known 𝓤 H A W 𝓣 1 ps·13 r·13 (claims· .26)
           (claims· .27) "post::put_post") (known14 : Plain.Known 𝓤 H A W 𝓣 0 ps·14 r·14
           (claims· .28) (claims· .29) "finish::reply_of") (known15 : Plain.Known 𝓤 H A W 𝓣 0 ps·15
-          r·15 (claims· .30) (claims· .31) "finish::accepted") (known16 : Plain.Known 𝓤 H A W 𝓣 0
-          ps·16 r·16 (claims· .32) (claims· .33) "finish::no_row") → Statement.Triple 𝓤 (Wp.WpFn 𝓤
-          H (𝓣 .C) (𝓣 .Λ) (Function.fnOf 4 ps r xs m hs body)) (Function.plainOf 𝓤 H A 4 ps r Pre·
+          r·15 (claims· .30) (claims· .31) "finish::ended") → Statement.Triple 𝓤 (Wp.WpFn 𝓤 H
+          (𝓣 .C) (𝓣 .Λ) (Function.fnOf 4 ps r xs m hs body)) (Function.plainOf 𝓤 H A 4 ps r Pre·
           Post·)
 
     module _ where
@@ -27384,152 +26417,146 @@ module _ (claims· : Claims) where
       abbrev at75 : Typed.TF T45 O2
       at75 = λ Ψ. Typed.pass T45 T47 s43 (at74 Ψ)
 
-      abbrev at76 : Typed.TF T108 O2
+      abbrev at76 : Typed.TF T107 O2
       at76 = Typed.atNext O2
 
-      abbrev at77 : Typed.TF T107 O2
-      at77 = λ Ψ. Typed.pass T107 T108 s104 (at76 Ψ)
+      abbrev at77 : Typed.TF T106 O2
+      at77 = λ Ψ. Typed.pass T106 T107 s103 (at76 Ψ)
 
-      abbrev at78 : Typed.TF T106 O2
-      at78 = λ Ψ. Typed.pass T106 T107 s103 (at77 Ψ)
+      abbrev at78 : Typed.TF T105 O2
+      at78 = λ Ψ. Typed.pass T105 T106 s102 (at77 Ψ)
 
-      abbrev at79 : Typed.TF T105 O2
-      at79 = λ Ψ. Typed.pass T105 T106 s102 (at78 Ψ)
+      abbrev at79 : Typed.TF T104 O2
+      at79 = λ Ψ. Typed.pass T104 T105 s101 (at78 Ψ)
 
-      abbrev at80 : Typed.TF T104 O2
-      at80 = λ Ψ. Typed.pass T104 T105 s101 (at79 Ψ)
+      abbrev at80 : Typed.TF T103 O2
+      at80 = λ Ψ. Typed.pass T103 T104 s100 (at79 Ψ)
 
-      abbrev at81 : Typed.TF T103 O2
-      at81 = λ Ψ. Typed.pass T103 T104 s100 (at80 Ψ)
+      abbrev at81 : Typed.TF T45 O2
+      at81 = λ Ψ. Typed.pass T45 T103 s99 (at80 Ψ)
 
       abbrev at82 : Typed.TF T45 O2
-      at82 = λ Ψ. Typed.pass T45 T103 s99 (at81 Ψ)
+      at82 = Scalar.Φcond T45 O2 27 (λ x. x) at75 at81
 
-      abbrev at83 : Typed.TF T45 O2
-      at83 = Scalar.Φcond T45 O2 27 (λ x. x) at75 at82
+      abbrev at83 : Typed.TF T116 O0
+      at83 = Typed.atRet O0
 
-      abbrev at84 : Typed.TF T118 O0
-      at84 = Typed.atRet O0
+      abbrev at84 : Typed.TF T115 O0
+      at84 = λ Ψ. Typed.pass T115 T116 s112 (at83 Ψ)
 
-      abbrev at85 : Typed.TF T117 O0
-      at85 = λ Ψ. Typed.pass T117 T118 s114 (at84 Ψ)
+      abbrev at85 : Typed.TF T114 O0
+      at85 = λ Ψ. Typed.pass T114 T115 s111 (at84 Ψ)
 
-      abbrev at86 : Typed.TF T116 O0
-      at86 = λ Ψ. Typed.pass T116 T117 s113 (at85 Ψ)
+      abbrev at86 : Typed.TF T113 O0
+      at86 = λ Ψ. Typed.pass T113 T114 s110 (at85 Ψ)
 
-      abbrev at87 : Typed.TF T115 O0
-      at87 = λ Ψ. Typed.pass T115 T116 s112 (at86 Ψ)
+      abbrev at87 : Typed.TF T112 O0
+      at87 = λ Ψ. Typed.pass T112 T113 s109 (at86 Ψ)
 
-      abbrev at88 : Typed.TF T114 O0
-      at88 = λ Ψ. Typed.pass T114 T115 s111 (at87 Ψ)
+      abbrev at88 : Typed.TF T111 O0
+      at88 = λ Ψ. Typed.pass T111 T112 s108 (at87 Ψ)
 
-      abbrev at89 : Typed.TF T113 O0
-      at89 = λ Ψ. Typed.pass T113 T114 s110 (at88 Ψ)
+      abbrev at89 : Typed.TF T110 O0
+      at89 = λ Ψ. Typed.pass T110 T111 s107 (at88 Ψ)
 
-      abbrev at90 : Typed.TF T112 O0
-      at90 = λ Ψ. Typed.pass T112 T113 s109 (at89 Ψ)
+      abbrev at90 : Typed.TF T109 O0
+      at90 = λ Ψ. Typed.pass T109 T110 s106 (at89 Ψ)
 
-      abbrev at91 : Typed.TF T111 O0
-      at91 = λ Ψ. Typed.pass T111 T112 s108 (at90 Ψ)
+      abbrev at91 : Typed.TF T108 O0
+      at91 = λ Ψ. Typed.pass T108 T109 s105 (at90 Ψ)
 
-      abbrev at92 : Typed.TF T110 O0
-      at92 = λ Ψ. Typed.pass T110 T111 s107 (at91 Ψ)
+      abbrev at92 : Typed.TF T46 O0
+      at92 = λ Ψ. Typed.both s104 (at91 Ψ)
 
-      abbrev at93 : Typed.TF T109 O0
-      at93 = λ Ψ. Typed.both s106 (at92 Ψ)
+      abbrev at93 : Typed.TF T45 O0
+      at93 = λ Ψ. at82 (Typed.wantNext T46 O0 (at92 Ψ) Ψ)
 
-      abbrev at94 : Typed.TF T46 O0
-      at94 = λ Ψ. Typed.both s105 (at93 Ψ)
+      abbrev at94 : Typed.TF T43 O0
+      at94 = λ Ψ. Typed.both s42 (at93 Ψ)
 
-      abbrev at95 : Typed.TF T45 O0
-      at95 = λ Ψ. at83 (Typed.wantNext T46 O0 (at94 Ψ) Ψ)
+      abbrev at95 : Typed.TF T43 O0
+      at95 = λ Ψ. at94 Ψ
 
-      abbrev at96 : Typed.TF T43 O0
-      at96 = λ Ψ. Typed.both s42 (at95 Ψ)
+      abbrev at96 : Typed.TF T41 O0
+      at96 = λ Ψ. Typed.pass T41 T43 s40 (at95 Ψ)
 
-      abbrev at97 : Typed.TF T43 O0
+      abbrev at97 : Typed.TF T41 O0
       at97 = λ Ψ. at96 Ψ
 
-      abbrev at98 : Typed.TF T41 O0
-      at98 = λ Ψ. Typed.pass T41 T43 s40 (at97 Ψ)
+      abbrev at98 : Typed.TF T40 O0
+      at98 = λ Ψ. Typed.pass T40 T41 s38 (at97 Ψ)
 
-      abbrev at99 : Typed.TF T41 O0
-      at99 = λ Ψ. at98 Ψ
+      abbrev at99 : Typed.TF T39 O0
+      at99 = λ Ψ. Typed.pass T39 T40 s37 (at98 Ψ)
 
-      abbrev at100 : Typed.TF T40 O0
-      at100 = λ Ψ. Typed.pass T40 T41 s38 (at99 Ψ)
+      abbrev at100 : Typed.TF T38 O0
+      at100 = λ Ψ. Typed.both s36 (at99 Ψ)
 
-      abbrev at101 : Typed.TF T39 O0
-      at101 = λ Ψ. Typed.pass T39 T40 s37 (at100 Ψ)
+      abbrev at101 : Typed.TF T37 O0
+      at101 = λ Ψ. Typed.both s35 (at100 Ψ)
 
-      abbrev at102 : Typed.TF T38 O0
-      at102 = λ Ψ. Typed.both s36 (at101 Ψ)
+      abbrev at102 : Typed.TF T36 O0
+      at102 = λ Ψ. Typed.ask s34 (at101 Ψ)
 
-      abbrev at103 : Typed.TF T37 O0
-      at103 = λ Ψ. Typed.both s35 (at102 Ψ)
+      abbrev at103 : Typed.TF T33 O0
+      at103 = λ Ψ. Typed.give s33 (at102 Ψ)
 
-      abbrev at104 : Typed.TF T36 O0
-      at104 = λ Ψ. Typed.ask s34 (at103 Ψ)
+      abbrev at104 : Typed.TF T33 O0
+      at104 = λ Ψ. at103 Ψ
 
       abbrev at105 : Typed.TF T33 O0
-      at105 = λ Ψ. Typed.give s33 (at104 Ψ)
+      at105 = λ Ψ. at104 Ψ
 
-      abbrev at106 : Typed.TF T33 O0
-      at106 = λ Ψ. at105 Ψ
+      abbrev at106 : Typed.TF T31 O0
+      at106 = λ Ψ. Typed.pass T31 T33 s30 (at105 Ψ)
 
-      abbrev at107 : Typed.TF T33 O0
+      abbrev at107 : Typed.TF T31 O0
       at107 = λ Ψ. at106 Ψ
 
-      abbrev at108 : Typed.TF T31 O0
-      at108 = λ Ψ. Typed.pass T31 T33 s30 (at107 Ψ)
+      abbrev at108 : Typed.TF T30 O0
+      at108 = λ Ψ. Typed.pass T30 T31 s28 (at107 Ψ)
 
-      abbrev at109 : Typed.TF T31 O0
-      at109 = λ Ψ. at108 Ψ
+      abbrev at109 : Typed.TF T29 O0
+      at109 = λ Ψ. Typed.pass T29 T30 s27 (at108 Ψ)
 
-      abbrev at110 : Typed.TF T30 O0
-      at110 = λ Ψ. Typed.pass T30 T31 s28 (at109 Ψ)
+      abbrev at110 : Typed.TF T28 O0
+      at110 = λ Ψ. Typed.both s26 (at109 Ψ)
 
-      abbrev at111 : Typed.TF T29 O0
-      at111 = λ Ψ. Typed.pass T29 T30 s27 (at110 Ψ)
+      abbrev at111 : Typed.TF T27 O0
+      at111 = λ Ψ. Typed.both s25 (at110 Ψ)
 
-      abbrev at112 : Typed.TF T28 O0
-      at112 = λ Ψ. Typed.both s26 (at111 Ψ)
+      abbrev at112 : Typed.TF T26 O0
+      at112 = λ Ψ. Typed.ask s24 (at111 Ψ)
 
-      abbrev at113 : Typed.TF T27 O0
-      at113 = λ Ψ. Typed.both s25 (at112 Ψ)
+      abbrev at113 : Typed.TF T8 O0
+      at113 = λ Ψ. Typed.give s23 (at112 Ψ)
 
-      abbrev at114 : Typed.TF T26 O0
-      at114 = λ Ψ. Typed.ask s24 (at113 Ψ)
+      abbrev at114 : Typed.TF T8 O0
+      at114 = λ Ψ. at113 Ψ
 
-      abbrev at115 : Typed.TF T8 O0
-      at115 = λ Ψ. Typed.give s23 (at114 Ψ)
+      abbrev at115 : Typed.TF T7 O0
+      at115 = λ Ψ. at18 (Typed.wantNext T8 O0 (at114 Ψ) Ψ)
 
-      abbrev at116 : Typed.TF T8 O0
-      at116 = λ Ψ. at115 Ψ
+      abbrev at116 : Typed.TF T6 O0
+      at116 = λ Ψ. Typed.ask s5 (at115 Ψ)
 
-      abbrev at117 : Typed.TF T7 O0
-      at117 = λ Ψ. at18 (Typed.wantNext T8 O0 (at116 Ψ) Ψ)
+      abbrev at117 : Typed.TF T5 O0
+      at117 = λ Ψ. Typed.pass T5 T6 s4 (at116 Ψ)
 
-      abbrev at118 : Typed.TF T6 O0
-      at118 = λ Ψ. Typed.ask s5 (at117 Ψ)
+      abbrev at118 : Typed.TF T4 O0
+      at118 = λ Ψ. Typed.both s3 (at117 Ψ)
 
-      abbrev at119 : Typed.TF T5 O0
-      at119 = λ Ψ. Typed.pass T5 T6 s4 (at118 Ψ)
+      abbrev at119 : Typed.TF T3 O0
+      at119 = λ Ψ. Typed.both s2 (at118 Ψ)
 
-      abbrev at120 : Typed.TF T4 O0
-      at120 = λ Ψ. Typed.both s3 (at119 Ψ)
+      abbrev at120 : Typed.TF T2 O0
+      at120 = λ Ψ. Typed.give s1 (at119 Ψ)
 
-      abbrev at121 : Typed.TF T3 O0
-      at121 = λ Ψ. Typed.both s2 (at120 Ψ)
-
-      abbrev at122 : Typed.TF T2 O0
-      at122 = λ Ψ. Typed.give s1 (at121 Ψ)
-
-      abbrev at123 : Typed.TF T0 O0
-      at123 = λ Ψ. Typed.give s0 (at122 Ψ)
+      abbrev at121 : Typed.TF T0 O0
+      at121 = λ Ψ. Typed.give s0 (at120 Ψ)
 
       abbrev pub Φ : Typed.TF T0 O0
-      Φ = at123
+      Φ = at121
 
       module _ {M : Type 1} (𝓤 : URA.URA M) (H : Wp.Heap 𝓤) (A : Atoms.Atoms 𝓤)
           (W : Kit.Given 𝓤 H A) (𝓣 : Wp.Tables 𝓤 H) where
@@ -27550,8 +26577,7 @@ module _ (claims· : Claims) where
             Plain.Known 𝓤 H A W 𝓣 0 ps·12 r·12 (claims· .24) (claims· .25) "finish::forward_of" ×
             Plain.Known 𝓤 H A W 𝓣 1 ps·13 r·13 (claims· .26) (claims· .27) "post::put_post" ×
             Plain.Known 𝓤 H A W 𝓣 0 ps·14 r·14 (claims· .28) (claims· .29) "finish::reply_of" ×
-            Plain.Known 𝓤 H A W 𝓣 0 ps·15 r·15 (claims· .30) (claims· .31) "finish::accepted" ×
-            Plain.Known 𝓤 H A W 𝓣 0 ps·16 r·16 (claims· .32) (claims· .33) "finish::no_row"
+            Plain.Known 𝓤 H A W 𝓣 0 ps·15 r·15 (claims· .30) (claims· .31) "finish::ended"
 
       module _ (κs : Lifetimes.Lfts 4) (qs : Lifetimes.Shares 4) where
         abbrev g20 : List.List Row.Entry
@@ -31887,7 +30913,7 @@ module _ (claims· : Claims) where
 
         abbrev G46 : Row.Cx
         G46 = record {
-          locals = List._++_ t12 (List._++_ t1 t2);
+          locals = List._++_ t10 (List._++_ t1 t2);
           slots = List._∷_
               (Row.lease (κs .0) (qs .0))
               (List._∷_
@@ -33067,7 +32093,7 @@ module _ (claims· : Claims) where
 
         abbrev G105 : Row.Cx
         G105 = record {
-          locals = List._++_ t72 (List._++_ t33 t2);
+          locals = List._++_ t10 (List._++_ t33 t2);
           slots = List._∷_
               (Row.lease (κs .0) (qs .0))
               (List._∷_
@@ -33087,7 +32113,7 @@ module _ (claims· : Claims) where
 
         abbrev G106 : Row.Cx
         G106 = record {
-          locals = List._++_ t12 (List._++_ t33 t2);
+          locals = List._++_ t10 (List._++_ t72 t2);
           slots = List._∷_
               (Row.lease (κs .0) (qs .0))
               (List._∷_
@@ -33107,7 +32133,7 @@ module _ (claims· : Claims) where
 
         abbrev G107 : Row.Cx
         G107 = record {
-          locals = List._++_ t12 (List._++_ t73 t2);
+          locals = List._++_ t10 (List._++_ t1 t2);
           slots = List._∷_
               (Row.lease (κs .0) (qs .0))
               (List._∷_
@@ -33127,7 +32153,7 @@ module _ (claims· : Claims) where
 
         abbrev G108 : Row.Cx
         G108 = record {
-          locals = List._++_ t12 (List._++_ t1 t2);
+          locals = List._++_ t68 (List._++_ t1 t2);
           slots = List._∷_
               (Row.lease (κs .0) (qs .0))
               (List._∷_
@@ -33147,7 +32173,7 @@ module _ (claims· : Claims) where
 
         abbrev G109 : Row.Cx
         G109 = record {
-          locals = List._++_ t12 (List._++_ t4 t2);
+          locals = List._++_ t13 (List._++_ t1 t2);
           slots = List._∷_
               (Row.lease (κs .0) (qs .0))
               (List._∷_
@@ -33167,7 +32193,7 @@ module _ (claims· : Claims) where
 
         abbrev G110 : Row.Cx
         G110 = record {
-          locals = List._++_ t13 (List._++_ t4 t2);
+          locals = List._++_ t14 (List._++_ t1 t2);
           slots = List._∷_
               (Row.lease (κs .0) (qs .0))
               (List._∷_
@@ -33187,7 +32213,7 @@ module _ (claims· : Claims) where
 
         abbrev G111 : Row.Cx
         G111 = record {
-          locals = List._++_ t13 (List._++_ t1 t2);
+          locals = List._++_ t15 (List._++_ t1 t2);
           slots = List._∷_
               (Row.lease (κs .0) (qs .0))
               (List._∷_
@@ -33207,7 +32233,7 @@ module _ (claims· : Claims) where
 
         abbrev G112 : Row.Cx
         G112 = record {
-          locals = List._++_ t14 (List._++_ t1 t2);
+          locals = List._++_ t16 (List._++_ t1 t2);
           slots = List._∷_
               (Row.lease (κs .0) (qs .0))
               (List._∷_
@@ -33227,7 +32253,7 @@ module _ (claims· : Claims) where
 
         abbrev G113 : Row.Cx
         G113 = record {
-          locals = List._++_ t15 (List._++_ t1 t2);
+          locals = List._++_ t17 (List._++_ t1 t2);
           slots = List._∷_
               (Row.lease (κs .0) (qs .0))
               (List._∷_
@@ -33247,7 +32273,7 @@ module _ (claims· : Claims) where
 
         abbrev G114 : Row.Cx
         G114 = record {
-          locals = List._++_ t16 (List._++_ t1 t2);
+          locals = List._++_ t18 (List._++_ t1 t2);
           slots = List._∷_
               (Row.lease (κs .0) (qs .0))
               (List._∷_
@@ -33267,7 +32293,7 @@ module _ (claims· : Claims) where
 
         abbrev G115 : Row.Cx
         G115 = record {
-          locals = List._++_ t17 (List._++_ t1 t2);
+          locals = List._++_ t19 (List._++_ t1 t2);
           slots = List._∷_
               (Row.lease (κs .0) (qs .0))
               (List._∷_
@@ -33287,46 +32313,6 @@ module _ (claims· : Claims) where
 
         abbrev G116 : Row.Cx
         G116 = record {
-          locals = List._++_ t18 (List._++_ t1 t2);
-          slots = List._∷_
-              (Row.lease (κs .0) (qs .0))
-              (List._∷_
-              (Row.lease (κs .1 .0) (qs .1 .0))
-              (List._∷_
-              (Row.lease (κs .1 .1 .0) (qs .1 .1 .0))
-              (List._∷_
-              (Row.lease (κs .1 .1 .1 .0) (qs .1 .1 .1 .0))
-              (List._∷_
-              Row.off
-              (List._∷_
-              Row.off
-              (List._∷_
-              Row.off
-              (List._∷_ Row.off (List._∷_ Row.off (List._∷_ Row.off List.[])))))))));
-        }
-
-        abbrev G117 : Row.Cx
-        G117 = record {
-          locals = List._++_ t19 (List._++_ t1 t2);
-          slots = List._∷_
-              (Row.lease (κs .0) (qs .0))
-              (List._∷_
-              (Row.lease (κs .1 .0) (qs .1 .0))
-              (List._∷_
-              (Row.lease (κs .1 .1 .0) (qs .1 .1 .0))
-              (List._∷_
-              (Row.lease (κs .1 .1 .1 .0) (qs .1 .1 .1 .0))
-              (List._∷_
-              Row.off
-              (List._∷_
-              Row.off
-              (List._∷_
-              Row.off
-              (List._∷_ Row.off (List._∷_ Row.off (List._∷_ Row.off List.[])))))))));
-        }
-
-        abbrev G118 : Row.Cx
-        G118 = record {
           locals = List._++_ t3 (List._++_ t1 t2);
           slots = List._∷_
               (Row.lease (κs .0) (qs .0))
@@ -36884,45 +35870,70 @@ module _ (claims· : Claims) where
               r·15
               (claims· .30)
               (claims· .31)
-              "finish::accepted"
+              "finish::ended"
               (known .15)
               E
               (λ pos β. β)
               G91 (
-                record { pos = 10; st = List.[]; d = 0; at = λ x. x },
-                (Num.vAt 8 λ x. x, (Num.vAt 17 λ x. x, (Num.vAt 18 λ x. x, tt))),
+                Bool.bLit Bool'.true,
+                (
+                  record { pos = 10; st = List.[]; d = 0; at = λ x. x },
+                  (
+                    Num.vAt 6 λ x. x,
+                    (
+                      Num.vAt 7 λ x. x,
+                      (Num.vAt 8 λ x. x, (Num.vAt 17 λ x. x, (Num.vAt 18 λ x. x, tt))),
+                    ),
+                  ),
+                ),
               )
               0
               List.[]
               (Call.sub-id 𝓤 H A W (G91 .slots)) (
+                tt,
                 (
-                  Yields.yields-copy
-                      𝓤
-                      H
-                      A
-                      W
-                      (λ ρ. Unit)
-                      (Declared'.row Decided.the-type)
-                      Path'.refl
-                      (Copies.cStruct Decided.the-type Laws'.the-laws Laws'.the-copy .copy 𝓤 H A W)
-                      (Rows'.whole (Declared'.row Decided.the-type))
-                      (λ x. x)
-                      (λ x. x)
-                      (λ ρ told. Local.mem-whole 𝓤 H A W (Declared'.row Decided.the-type) ρ)
-                      λ ρ told. Local.whole-mem
-                      𝓤
-                      H
-                      A
-                      W
-                      (Declared'.row Decided.the-type)
-                      ρ,
-                  Path'.refl,
-                ),
-                (
-                  (Scalar.reads-sc 𝓤 H A W (Row.sInt Syntax.w64), Path'.refl),
+                  (
+                    Yields.yields-copy
+                        𝓤
+                        H
+                        A
+                        W
+                        (λ ρ. Unit)
+                        (Declared'.row Decided.the-type)
+                        Path'.refl
+                        (Copies.cStruct
+                        Decided.the-type
+                        Laws'.the-laws
+                        Laws'.the-copy .copy
+                        𝓤
+                        H
+                        A
+                        W)
+                        (Rows'.whole (Declared'.row Decided.the-type))
+                        (λ x. x)
+                        (λ x. x)
+                        (λ ρ told. Local.mem-whole 𝓤 H A W (Declared'.row Decided.the-type) ρ)
+                        λ ρ told. Local.whole-mem
+                        𝓤
+                        H
+                        A
+                        W
+                        (Declared'.row Decided.the-type)
+                        ρ,
+                    Path'.refl,
+                  ),
                   (
                     (Scalar.reads-sc 𝓤 H A W (Row.sInt Syntax.w64), Path'.refl),
-                    ((Scalar.reads-sc 𝓤 H A W (Row.sInt Syntax.w64), Path'.refl), tt),
+                    (
+                      (Scalar.reads-sc 𝓤 H A W (Row.sInt Syntax.w8), Path'.refl),
+                      (
+                        (Scalar.reads-sc 𝓤 H A W (Row.sInt Syntax.w64), Path'.refl),
+                        (
+                          (Scalar.reads-sc 𝓤 H A W (Row.sInt Syntax.w64), Path'.refl),
+                          ((Scalar.reads-sc 𝓤 H A W (Row.sInt Syntax.w64), Path'.refl), tt),
+                        ),
+                      ),
+                    ),
                   ),
                 ),
               )
@@ -41398,29 +40409,11 @@ module _ (claims· : Claims) where
               (Scalar.g-room 𝓤 H A W E G45 27 Syntax.tyBool (Scalar.room-sc 𝓤 H A W Row.sBool))
               d74
 
-          d76 : Typed.Typed 𝓤 H A 𝓣 E G108 b54 Δ2 at76
+          d76 : Typed.Typed 𝓤 H A 𝓣 E G107 b54 Δ2 at76
           d76 = Typed.t-skip 𝓤 H A W 𝓣 E Δ2 tt
 
-          d77 : Typed.Typed 𝓤 H A 𝓣 E G107 b54 Δ2 at77
+          d77 : Typed.Typed 𝓤 H A 𝓣 E G106 b54 Δ2 at77
           d77 =
-              Typed.g-pre
-              𝓤
-              H
-              A
-              W
-              𝓣
-              E
-              G107
-              G108
-              b54
-              Δ2
-              (Typed.pass T107 T108 s104)
-              at76
-              (Scalar.g-room 𝓤 H A W E G107 27 Syntax.tyBool (Scalar.room-sc 𝓤 H A W Row.sBool))
-              d76
-
-          d78 : Typed.Typed 𝓤 H A 𝓣 E G106 b54 Δ2 at78
-          d78 =
               Typed.g-pre
               𝓤
               H
@@ -41433,6 +40426,24 @@ module _ (claims· : Claims) where
               b54
               Δ2
               (Typed.pass T106 T107 s103)
+              at76
+              (Scalar.g-room 𝓤 H A W E G106 27 Syntax.tyBool (Scalar.room-sc 𝓤 H A W Row.sBool))
+              d76
+
+          d78 : Typed.Typed 𝓤 H A 𝓣 E G105 b54 Δ2 at78
+          d78 =
+              Typed.g-pre
+              𝓤
+              H
+              A
+              W
+              𝓣
+              E
+              G105
+              G106
+              b54
+              Δ2
+              (Typed.pass T105 T106 s102)
               at77
               (Scalar.g-room
               𝓤
@@ -41440,7 +40451,7 @@ module _ (claims· : Claims) where
               A
               W
               E
-              G106
+              G105
               16
               (Syntax.tyStruct
               (List._∷_
@@ -41509,7 +40520,7 @@ module _ (claims· : Claims) where
               Path'.refl))
               d77
 
-          d79 : Typed.Typed 𝓤 H A 𝓣 E G105 b54 Δ2 at79
+          d79 : Typed.Typed 𝓤 H A 𝓣 E G104 b54 Δ2 at79
           d79 =
               Typed.g-pre
               𝓤
@@ -41518,11 +40529,11 @@ module _ (claims· : Claims) where
               W
               𝓣
               E
+              G104
               G105
-              G106
               b54
               Δ2
-              (Typed.pass T105 T106 s102)
+              (Typed.pass T104 T105 s101)
               at78
               (Scalar.g-room
               𝓤
@@ -41530,7 +40541,7 @@ module _ (claims· : Claims) where
               A
               W
               E
-              G105
+              G104
               15
               (Syntax.tyStruct
               (List._∷_
@@ -41591,7 +40602,7 @@ module _ (claims· : Claims) where
               Path'.refl))
               d78
 
-          d80 : Typed.Typed 𝓤 H A 𝓣 E G104 b54 Δ2 at80
+          d80 : Typed.Typed 𝓤 H A 𝓣 E G103 b54 Δ2 at80
           d80 =
               Typed.g-pre
               𝓤
@@ -41600,11 +40611,11 @@ module _ (claims· : Claims) where
               W
               𝓣
               E
+              G103
               G104
-              G105
               b54
               Δ2
-              (Typed.pass T104 T105 s101)
+              (Typed.pass T103 T104 s100)
               at79
               (Scalar.g-room
               𝓤
@@ -41612,7 +40623,293 @@ module _ (claims· : Claims) where
               A
               W
               E
-              G104
+              G103
+              9
+              (Syntax.tyArray (Syntax.tyArray (Syntax.tyInt Syntax.w8) 16) 16)
+              (Init.room-arr
+              𝓤
+              H
+              A
+              W
+              (Array'.Array (Referent.rtF (Referent.fInt Syntax.w8)) 16)
+              16
+              0
+              16
+              Path'.refl))
+              d79
+
+          d81 : Typed.Typed 𝓤 H A 𝓣 E G45 b54 Δ2 at81
+          d81 =
+              Typed.g-pre
+              𝓤
+              H
+              A
+              W
+              𝓣
+              E
+              G45
+              G103
+              b54
+              Δ2
+              (Typed.pass T45 T103 s99)
+              at80
+              (Scalar.g-room
+              𝓤
+              H
+              A
+              W
+              E
+              G45
+              5
+              (Syntax.tyStruct
+              (List._∷_
+              111
+              (List._∷_
+              119
+              (List._∷_
+              110
+              (List._∷_ 58 (List._∷_ 58 (List._∷_ 79 (List._∷_ 119 (List._∷_ 110 List.[]))))))))
+              (Syntax.tcons
+              (Syntax.tyArray (Syntax.tyInt Syntax.w8) 16)
+              (Syntax.tcons (Syntax.tyArray (Syntax.tyInt Syntax.w8) 16) Syntax.tnil)))
+              (Local.room-whole
+              𝓤
+              H
+              A
+              W
+              (Declared'.row Own.the-type)
+              (Syntax.tyStruct
+              (List._∷_
+              111
+              (List._∷_
+              119
+              (List._∷_
+              110
+              (List._∷_ 58 (List._∷_ 58 (List._∷_ 79 (List._∷_ 119 (List._∷_ 110 List.[]))))))))
+              (Syntax.tcons
+              (Syntax.tyArray (Syntax.tyInt Syntax.w8) 16)
+              (Syntax.tcons (Syntax.tyArray (Syntax.tyInt Syntax.w8) 16) Syntax.tnil)))
+              Path'.refl))
+              d80
+
+          d82 : Typed.Typed 𝓤 H A 𝓣 E G45 b55 Δ2 at82
+          d82 =
+              Scalar.t-cond
+              𝓤
+              H
+              A
+              W
+              E
+              𝓣
+              G45
+              27
+              (λ x. x)
+              b53
+              b54
+              Δ2
+              at75
+              at81
+              (Scalar.reads-sc 𝓤 H A W Row.sBool)
+              Path'.refl
+              d75
+              d81
+
+          d83 : Typed.Typed 𝓤 H A 𝓣 E G116 b57 Δ0 at83
+          d83 = Typed.t-return 𝓤 H A W 𝓣 E Δ0 tt
+
+          d84 : Typed.Typed 𝓤 H A 𝓣 E G115 b57 Δ0 at84
+          d84 =
+              Typed.g-pre
+              𝓤
+              H
+              A
+              W
+              𝓣
+              E
+              G115
+              G116
+              b57
+              Δ0
+              (Typed.pass T115 T116 s112)
+              at83
+              (Scalar.g-room
+              𝓤
+              H
+              A
+              W
+              E
+              G115
+              14
+              (Syntax.tyInt Syntax.w64)
+              (Scalar.room-sc 𝓤 H A W (Row.sInt Syntax.w64)))
+              d83
+
+          d85 : Typed.Typed 𝓤 H A 𝓣 E G114 b57 Δ0 at85
+          d85 =
+              Typed.g-pre
+              𝓤
+              H
+              A
+              W
+              𝓣
+              E
+              G114
+              G115
+              b57
+              Δ0
+              (Typed.pass T114 T115 s111)
+              at84
+              (Scalar.g-room 𝓤 H A W E G114 13 Syntax.tyBool (Scalar.room-sc 𝓤 H A W Row.sBool))
+              d84
+
+          d86 : Typed.Typed 𝓤 H A 𝓣 E G113 b57 Δ0 at86
+          d86 =
+              Typed.g-pre
+              𝓤
+              H
+              A
+              W
+              𝓣
+              E
+              G113
+              G114
+              b57
+              Δ0
+              (Typed.pass T113 T114 s110)
+              at85
+              (Scalar.g-room
+              𝓤
+              H
+              A
+              W
+              E
+              G113
+              12
+              (Syntax.tyInt Syntax.w64)
+              (Scalar.room-sc 𝓤 H A W (Row.sInt Syntax.w64)))
+              d85
+
+          d87 : Typed.Typed 𝓤 H A 𝓣 E G112 b57 Δ0 at87
+          d87 =
+              Typed.g-pre
+              𝓤
+              H
+              A
+              W
+              𝓣
+              E
+              G112
+              G113
+              b57
+              Δ0
+              (Typed.pass T112 T113 s109)
+              at86
+              (Scalar.g-room 𝓤 H A W E G112 11 Syntax.tyBool (Scalar.room-sc 𝓤 H A W Row.sBool))
+              d86
+
+          d88 : Typed.Typed 𝓤 H A 𝓣 E G111 b57 Δ0 at88
+          d88 =
+              Typed.g-pre
+              𝓤
+              H
+              A
+              W
+              𝓣
+              E
+              G111
+              G112
+              b57
+              Δ0
+              (Typed.pass T111 T112 s108)
+              at87
+              (Scalar.g-room
+              𝓤
+              H
+              A
+              W
+              E
+              G111
+              8
+              (Syntax.tyInt Syntax.w64)
+              (Scalar.room-sc 𝓤 H A W (Row.sInt Syntax.w64)))
+              d87
+
+          d89 : Typed.Typed 𝓤 H A 𝓣 E G110 b57 Δ0 at89
+          d89 =
+              Typed.g-pre
+              𝓤
+              H
+              A
+              W
+              𝓣
+              E
+              G110
+              G111
+              b57
+              Δ0
+              (Typed.pass T110 T111 s107)
+              at88
+              (Scalar.g-room
+              𝓤
+              H
+              A
+              W
+              E
+              G110
+              7
+              (Syntax.tyInt Syntax.w8)
+              (Scalar.room-sc 𝓤 H A W (Row.sInt Syntax.w8)))
+              d88
+
+          d90 : Typed.Typed 𝓤 H A 𝓣 E G109 b57 Δ0 at90
+          d90 =
+              Typed.g-pre
+              𝓤
+              H
+              A
+              W
+              𝓣
+              E
+              G109
+              G110
+              b57
+              Δ0
+              (Typed.pass T109 T110 s106)
+              at89
+              (Scalar.g-room
+              𝓤
+              H
+              A
+              W
+              E
+              G109
+              6
+              (Syntax.tyInt Syntax.w64)
+              (Scalar.room-sc 𝓤 H A W (Row.sInt Syntax.w64)))
+              d89
+
+          d91 : Typed.Typed 𝓤 H A 𝓣 E G108 b57 Δ0 at91
+          d91 =
+              Typed.g-pre
+              𝓤
+              H
+              A
+              W
+              𝓣
+              E
+              G108
+              G109
+              b57
+              Δ0
+              (Typed.pass T108 T109 s105)
+              at90
+              (Scalar.g-room
+              𝓤
+              H
+              A
+              W
+              E
+              G108
               10
               (Syntax.tyStruct
               (List._∷_
@@ -42759,438 +42056,10 @@ module _ (claims· : Claims) where
               Syntax.tnil))))))
               Syntax.tnil))))))))))
               Path'.refl))
-              d79
-
-          d81 : Typed.Typed 𝓤 H A 𝓣 E G103 b54 Δ2 at81
-          d81 =
-              Typed.g-pre
-              𝓤
-              H
-              A
-              W
-              𝓣
-              E
-              G103
-              G104
-              b54
-              Δ2
-              (Typed.pass T103 T104 s100)
-              at80
-              (Scalar.g-room
-              𝓤
-              H
-              A
-              W
-              E
-              G103
-              9
-              (Syntax.tyArray (Syntax.tyArray (Syntax.tyInt Syntax.w8) 16) 16)
-              (Init.room-arr
-              𝓤
-              H
-              A
-              W
-              (Array'.Array (Referent.rtF (Referent.fInt Syntax.w8)) 16)
-              16
-              0
-              16
-              Path'.refl))
-              d80
-
-          d82 : Typed.Typed 𝓤 H A 𝓣 E G45 b54 Δ2 at82
-          d82 =
-              Typed.g-pre
-              𝓤
-              H
-              A
-              W
-              𝓣
-              E
-              G45
-              G103
-              b54
-              Δ2
-              (Typed.pass T45 T103 s99)
-              at81
-              (Scalar.g-room
-              𝓤
-              H
-              A
-              W
-              E
-              G45
-              5
-              (Syntax.tyStruct
-              (List._∷_
-              111
-              (List._∷_
-              119
-              (List._∷_
-              110
-              (List._∷_ 58 (List._∷_ 58 (List._∷_ 79 (List._∷_ 119 (List._∷_ 110 List.[]))))))))
-              (Syntax.tcons
-              (Syntax.tyArray (Syntax.tyInt Syntax.w8) 16)
-              (Syntax.tcons (Syntax.tyArray (Syntax.tyInt Syntax.w8) 16) Syntax.tnil)))
-              (Local.room-whole
-              𝓤
-              H
-              A
-              W
-              (Declared'.row Own.the-type)
-              (Syntax.tyStruct
-              (List._∷_
-              111
-              (List._∷_
-              119
-              (List._∷_
-              110
-              (List._∷_ 58 (List._∷_ 58 (List._∷_ 79 (List._∷_ 119 (List._∷_ 110 List.[]))))))))
-              (Syntax.tcons
-              (Syntax.tyArray (Syntax.tyInt Syntax.w8) 16)
-              (Syntax.tcons (Syntax.tyArray (Syntax.tyInt Syntax.w8) 16) Syntax.tnil)))
-              Path'.refl))
-              d81
-
-          d83 : Typed.Typed 𝓤 H A 𝓣 E G45 b55 Δ2 at83
-          d83 =
-              Scalar.t-cond
-              𝓤
-              H
-              A
-              W
-              E
-              𝓣
-              G45
-              27
-              (λ x. x)
-              b53
-              b54
-              Δ2
-              at75
-              at82
-              (Scalar.reads-sc 𝓤 H A W Row.sBool)
-              Path'.refl
-              d75
-              d82
-
-          d84 : Typed.Typed 𝓤 H A 𝓣 E G118 b58 Δ0 at84
-          d84 = Typed.t-return 𝓤 H A W 𝓣 E Δ0 tt
-
-          d85 : Typed.Typed 𝓤 H A 𝓣 E G117 b58 Δ0 at85
-          d85 =
-              Typed.g-pre
-              𝓤
-              H
-              A
-              W
-              𝓣
-              E
-              G117
-              G118
-              b58
-              Δ0
-              (Typed.pass T117 T118 s114)
-              at84
-              (Scalar.g-room
-              𝓤
-              H
-              A
-              W
-              E
-              G117
-              14
-              (Syntax.tyInt Syntax.w64)
-              (Scalar.room-sc 𝓤 H A W (Row.sInt Syntax.w64)))
-              d84
-
-          d86 : Typed.Typed 𝓤 H A 𝓣 E G116 b58 Δ0 at86
-          d86 =
-              Typed.g-pre
-              𝓤
-              H
-              A
-              W
-              𝓣
-              E
-              G116
-              G117
-              b58
-              Δ0
-              (Typed.pass T116 T117 s113)
-              at85
-              (Scalar.g-room 𝓤 H A W E G116 13 Syntax.tyBool (Scalar.room-sc 𝓤 H A W Row.sBool))
-              d85
-
-          d87 : Typed.Typed 𝓤 H A 𝓣 E G115 b58 Δ0 at87
-          d87 =
-              Typed.g-pre
-              𝓤
-              H
-              A
-              W
-              𝓣
-              E
-              G115
-              G116
-              b58
-              Δ0
-              (Typed.pass T115 T116 s112)
-              at86
-              (Scalar.g-room
-              𝓤
-              H
-              A
-              W
-              E
-              G115
-              12
-              (Syntax.tyInt Syntax.w64)
-              (Scalar.room-sc 𝓤 H A W (Row.sInt Syntax.w64)))
-              d86
-
-          d88 : Typed.Typed 𝓤 H A 𝓣 E G114 b58 Δ0 at88
-          d88 =
-              Typed.g-pre
-              𝓤
-              H
-              A
-              W
-              𝓣
-              E
-              G114
-              G115
-              b58
-              Δ0
-              (Typed.pass T114 T115 s111)
-              at87
-              (Scalar.g-room 𝓤 H A W E G114 11 Syntax.tyBool (Scalar.room-sc 𝓤 H A W Row.sBool))
-              d87
-
-          d89 : Typed.Typed 𝓤 H A 𝓣 E G113 b58 Δ0 at89
-          d89 =
-              Typed.g-pre
-              𝓤
-              H
-              A
-              W
-              𝓣
-              E
-              G113
-              G114
-              b58
-              Δ0
-              (Typed.pass T113 T114 s110)
-              at88
-              (Scalar.g-room
-              𝓤
-              H
-              A
-              W
-              E
-              G113
-              8
-              (Syntax.tyInt Syntax.w64)
-              (Scalar.room-sc 𝓤 H A W (Row.sInt Syntax.w64)))
-              d88
-
-          d90 : Typed.Typed 𝓤 H A 𝓣 E G112 b58 Δ0 at90
-          d90 =
-              Typed.g-pre
-              𝓤
-              H
-              A
-              W
-              𝓣
-              E
-              G112
-              G113
-              b58
-              Δ0
-              (Typed.pass T112 T113 s109)
-              at89
-              (Scalar.g-room
-              𝓤
-              H
-              A
-              W
-              E
-              G112
-              7
-              (Syntax.tyInt Syntax.w8)
-              (Scalar.room-sc 𝓤 H A W (Row.sInt Syntax.w8)))
-              d89
-
-          d91 : Typed.Typed 𝓤 H A 𝓣 E G111 b58 Δ0 at91
-          d91 =
-              Typed.g-pre
-              𝓤
-              H
-              A
-              W
-              𝓣
-              E
-              G111
-              G112
-              b58
-              Δ0
-              (Typed.pass T111 T112 s108)
-              at90
-              (Scalar.g-room
-              𝓤
-              H
-              A
-              W
-              E
-              G111
-              6
-              (Syntax.tyInt Syntax.w64)
-              (Scalar.room-sc 𝓤 H A W (Row.sInt Syntax.w64)))
               d90
 
-          d92 : Typed.Typed 𝓤 H A 𝓣 E G110 b58 Δ0 at92
+          d92 : Typed.Typed 𝓤 H A 𝓣 E G46 b58 Δ0 at92
           d92 =
-              Typed.g-pre
-              𝓤
-              H
-              A
-              W
-              𝓣
-              E
-              G110
-              G111
-              b58
-              Δ0
-              (Typed.pass T110 T111 s107)
-              at91
-              (Scalar.g-room
-              𝓤
-              H
-              A
-              W
-              E
-              G110
-              20
-              (Syntax.tyEnum
-              (List._∷_
-              97
-              (List._∷_
-              110
-              (List._∷_
-              115
-              (List._∷_
-              119
-              (List._∷_
-              101
-              (List._∷_
-              114
-              (List._∷_
-              58
-              (List._∷_
-              58
-              (List._∷_
-              65
-              (List._∷_
-              110
-              (List._∷_ 115 (List._∷_ 119 (List._∷_ 101 (List._∷_ 114 List.[]))))))))))))))
-              (Syntax.ttcons
-              Syntax.tnil
-              (Syntax.ttcons
-              Syntax.tnil
-              (Syntax.ttcons
-              Syntax.tnil
-              (Syntax.ttcons
-              Syntax.tnil
-              (Syntax.ttcons
-              Syntax.tnil
-              (Syntax.ttcons
-              Syntax.tnil
-              (Syntax.ttcons
-              Syntax.tnil
-              (Syntax.ttcons
-              Syntax.tnil
-              (Syntax.ttcons
-              Syntax.tnil
-              (Syntax.ttcons
-              Syntax.tnil
-              (Syntax.ttcons
-              Syntax.tnil
-              (Syntax.ttcons
-              Syntax.tnil
-              (Syntax.ttcons
-              Syntax.tnil
-              (Syntax.ttcons
-              Syntax.tnil
-              (Syntax.ttcons
-              Syntax.tnil
-              (Syntax.ttcons
-              Syntax.tnil
-              (Syntax.ttcons Syntax.tnil (Syntax.ttcons Syntax.tnil Syntax.ttnil)))))))))))))))))))
-              (Local.room-whole
-              𝓤
-              H
-              A
-              W
-              (Declared.row Answer.the-type)
-              (Syntax.tyEnum
-              (List._∷_
-              97
-              (List._∷_
-              110
-              (List._∷_
-              115
-              (List._∷_
-              119
-              (List._∷_
-              101
-              (List._∷_
-              114
-              (List._∷_
-              58
-              (List._∷_
-              58
-              (List._∷_
-              65
-              (List._∷_
-              110
-              (List._∷_ 115 (List._∷_ 119 (List._∷_ 101 (List._∷_ 114 List.[]))))))))))))))
-              (Syntax.ttcons
-              Syntax.tnil
-              (Syntax.ttcons
-              Syntax.tnil
-              (Syntax.ttcons
-              Syntax.tnil
-              (Syntax.ttcons
-              Syntax.tnil
-              (Syntax.ttcons
-              Syntax.tnil
-              (Syntax.ttcons
-              Syntax.tnil
-              (Syntax.ttcons
-              Syntax.tnil
-              (Syntax.ttcons
-              Syntax.tnil
-              (Syntax.ttcons
-              Syntax.tnil
-              (Syntax.ttcons
-              Syntax.tnil
-              (Syntax.ttcons
-              Syntax.tnil
-              (Syntax.ttcons
-              Syntax.tnil
-              (Syntax.ttcons
-              Syntax.tnil
-              (Syntax.ttcons
-              Syntax.tnil
-              (Syntax.ttcons
-              Syntax.tnil
-              (Syntax.ttcons
-              Syntax.tnil
-              (Syntax.ttcons Syntax.tnil (Syntax.ttcons Syntax.tnil Syntax.ttnil)))))))))))))))))))
-              Path'.refl))
-              d91
-
-          d93 : Typed.Typed 𝓤 H A 𝓣 E G109 b59 Δ0 at93
-          d93 =
               Typed.s-seq
               𝓤
               H
@@ -43198,13 +42067,13 @@ module _ (claims· : Claims) where
               W
               𝓣
               E
-              G109
-              G110
+              G46
+              G108
+              b56
               b57
-              b58
               Δ0
-              (Typed.both s106)
-              at92
+              (Typed.both s104)
+              at91
               (Plain.t-call-plain
               𝓤
               H
@@ -43212,47 +42081,69 @@ module _ (claims· : Claims) where
               W
               𝓣
               0
-              ps·2
-              r·2
-              (claims· .4)
-              (claims· .5)
-              "finish::refused"
-              (known .2)
+              ps·15
+              r·15
+              (claims· .30)
+              (claims· .31)
+              "finish::ended"
+              (known .15)
               E
               (λ pos β. β)
-              G109 (
-                record { pos = 20; st = List.[]; d = 0; at = λ x. x },
-                (Num.vAt 6 λ x. x, (Num.vAt 7 λ x. x, tt)),
+              G46 (
+                Bool.bLit Bool'.false,
+                (
+                  record { pos = 10; st = List.[]; d = 0; at = λ x. x },
+                  (
+                    Num.vAt 6 λ x. x,
+                    (Num.vAt 7 λ x. x, (Num.vAt 8 λ x. x, (Num.vLit 0, (Num.vLit 0, tt)))),
+                  ),
+                ),
               )
               0
               List.[]
-              (Call.sub-id 𝓤 H A W (G109 .slots)) (
+              (Call.sub-id 𝓤 H A W (G46 .slots)) (
+                tt,
                 (
-                  Yields.yields-copy
-                      𝓤
-                      H
-                      A
-                      W
-                      (λ ρ. Unit)
-                      (Declared.row Answer.the-type)
-                      Path'.refl
-                      (Copies.cEnum Answer.the-type Laws.the-laws Laws.the-copy .copy 𝓤 H A W)
-                      (Rows'.whole (Declared.row Answer.the-type))
-                      (λ x. x)
-                      (λ x. x)
-                      (λ ρ told. Local.mem-whole 𝓤 H A W (Declared.row Answer.the-type) ρ)
-                      λ ρ told. Local.whole-mem
-                      𝓤
-                      H
-                      A
-                      W
-                      (Declared.row Answer.the-type)
-                      ρ,
-                  Path'.refl,
-                ),
-                (
-                  (Scalar.reads-sc 𝓤 H A W (Row.sInt Syntax.w64), Path'.refl),
-                  ((Scalar.reads-sc 𝓤 H A W (Row.sInt Syntax.w8), Path'.refl), tt),
+                  (
+                    Yields.yields-copy
+                        𝓤
+                        H
+                        A
+                        W
+                        (λ ρ. Unit)
+                        (Declared'.row Decided.the-type)
+                        Path'.refl
+                        (Copies.cStruct
+                        Decided.the-type
+                        Laws'.the-laws
+                        Laws'.the-copy .copy
+                        𝓤
+                        H
+                        A
+                        W)
+                        (Rows'.whole (Declared'.row Decided.the-type))
+                        (λ x. x)
+                        (λ x. x)
+                        (λ ρ told. Local.mem-whole 𝓤 H A W (Declared'.row Decided.the-type) ρ)
+                        λ ρ told. Local.whole-mem
+                        𝓤
+                        H
+                        A
+                        W
+                        (Declared'.row Decided.the-type)
+                        ρ,
+                    Path'.refl,
+                  ),
+                  (
+                    (Scalar.reads-sc 𝓤 H A W (Row.sInt Syntax.w64), Path'.refl),
+                    (
+                      (Scalar.reads-sc 𝓤 H A W (Row.sInt Syntax.w8), Path'.refl),
+                      (
+                        (Scalar.reads-sc 𝓤 H A W (Row.sInt Syntax.w64), Path'.refl),
+                        (tt, (tt, tt)),
+                      ),
+                    ),
+                  ),
                 ),
               )
               (Reads'.room-gone
@@ -43496,115 +42387,13 @@ module _ (claims· : Claims) where
               (Syntax.tcons (Syntax.tyInt Syntax.w8) Syntax.tnil)))))))
               tt
               Path'.refl)
-              d92
+              d91
 
-          d94 : Typed.Typed 𝓤 H A 𝓣 E G46 b60 Δ0 at94
+          d93 : Typed.Typed 𝓤 H A 𝓣 E G45 b59 Δ0 at93
+          d93 = Typed.t-seq 𝓤 H A W 𝓣 E G45 G46 b55 b58 Δ0 at82 at92 d82 d92
+
+          d94 : Typed.Typed 𝓤 H A 𝓣 E G44 b60 Δ0 at94
           d94 =
-              Typed.s-seq
-              𝓤
-              H
-              A
-              W
-              𝓣
-              E
-              G46
-              G109
-              b56
-              b59
-              Δ0
-              (Typed.both s105)
-              at93
-              (Plain.t-call-plain
-              𝓤
-              H
-              A
-              W
-              𝓣
-              0
-              ps·16
-              r·16
-              (claims· .32)
-              (claims· .33)
-              "finish::no_row"
-              (known .16)
-              E
-              (λ pos β. β)
-              G46
-              tt
-              20
-              List.[]
-              (Call.sub-id 𝓤 H A W (G46 .slots))
-              tt
-              (Reads'.room-gone
-              𝓤
-              H
-              A
-              (Syntax.tyEnum
-              (List._∷_
-              97
-              (List._∷_
-              110
-              (List._∷_
-              115
-              (List._∷_
-              119
-              (List._∷_
-              101
-              (List._∷_
-              114
-              (List._∷_
-              58
-              (List._∷_
-              58
-              (List._∷_
-              65
-              (List._∷_
-              110
-              (List._∷_ 115 (List._∷_ 119 (List._∷_ 101 (List._∷_ 114 List.[]))))))))))))))
-              (Syntax.ttcons
-              Syntax.tnil
-              (Syntax.ttcons
-              Syntax.tnil
-              (Syntax.ttcons
-              Syntax.tnil
-              (Syntax.ttcons
-              Syntax.tnil
-              (Syntax.ttcons
-              Syntax.tnil
-              (Syntax.ttcons
-              Syntax.tnil
-              (Syntax.ttcons
-              Syntax.tnil
-              (Syntax.ttcons
-              Syntax.tnil
-              (Syntax.ttcons
-              Syntax.tnil
-              (Syntax.ttcons
-              Syntax.tnil
-              (Syntax.ttcons
-              Syntax.tnil
-              (Syntax.ttcons
-              Syntax.tnil
-              (Syntax.ttcons
-              Syntax.tnil
-              (Syntax.ttcons
-              Syntax.tnil
-              (Syntax.ttcons
-              Syntax.tnil
-              (Syntax.ttcons
-              Syntax.tnil
-              (Syntax.ttcons
-              Syntax.tnil
-              (Syntax.ttcons Syntax.tnil Syntax.ttnil))))))))))))))))))))
-              tt
-              Path'.refl)
-              d93
-
-          d95 : Typed.Typed 𝓤 H A 𝓣 E G45 b61 Δ0 at95
-          d95 = Typed.t-seq 𝓤 H A W 𝓣 E G45 G46 b55 b60 Δ0 at83 at94 d83 d94
-
-          d96 : Typed.Typed 𝓤 H A 𝓣 E G44 b62 Δ0 at96
-          d96 =
               Typed.s-seq
               𝓤
               H
@@ -43615,10 +42404,10 @@ module _ (claims· : Claims) where
               G44
               G45
               b18
-              b61
+              b59
               Δ0
               (Typed.both s42)
-              at95
+              at93
               (Plain.t-call-plain
               𝓤
               H
@@ -43708,10 +42497,10 @@ module _ (claims· : Claims) where
               (Reads'.room-gone 𝓤 H A Syntax.tyBool)
               tt
               Path'.refl)
-              d95
+              d93
 
-          d97 : Typed.Typed 𝓤 H A 𝓣 E G43 b62 Δ0 at97
-          d97 =
+          d95 : Typed.Typed 𝓤 H A 𝓣 E G43 b60 Δ0 at95
+          d95 =
               Typed.g-pre
               𝓤
               H
@@ -43721,15 +42510,15 @@ module _ (claims· : Claims) where
               E
               G43
               G44
-              b62
+              b60
               Δ0
               (λ Ψ. Ψ)
-              at96
+              at94
               (Lifetime.g-forget 𝓤 H A W E G43 5 Row.dead Path'.refl)
-              d96
+              d94
 
-          d98 : Typed.Typed 𝓤 H A 𝓣 E G42 b62 Δ0 at98
-          d98 =
+          d96 : Typed.Typed 𝓤 H A 𝓣 E G42 b60 Δ0 at96
+          d96 =
               Typed.g-pre
               𝓤
               H
@@ -43739,10 +42528,10 @@ module _ (claims· : Claims) where
               E
               G42
               G43
-              b62
+              b60
               Δ0
               (Typed.pass T41 T43 s40)
-              at97
+              at95
               (Reshare.g-back-sl-shr
               𝓤
               H
@@ -43775,10 +42564,10 @@ module _ (claims· : Claims) where
               (Row.lease (κs .1 .0) (qs .1 .0))))
               Path'.refl
               Path'.refl)
-              d97
+              d95
 
-          d99 : Typed.Typed 𝓤 H A 𝓣 E G41 b62 Δ0 at99
-          d99 =
+          d97 : Typed.Typed 𝓤 H A 𝓣 E G41 b60 Δ0 at97
+          d97 =
               Typed.g-pre
               𝓤
               H
@@ -43788,15 +42577,15 @@ module _ (claims· : Claims) where
               E
               G41
               G42
-              b62
+              b60
               Δ0
               (λ Ψ. Ψ)
-              at98
+              at96
               (Lifetime.g-end 𝓤 H A W E G41 5 Path'.refl)
-              d98
+              d96
 
-          d100 : Typed.Typed 𝓤 H A 𝓣 E G40 b62 Δ0 at100
-          d100 =
+          d98 : Typed.Typed 𝓤 H A 𝓣 E G40 b60 Δ0 at98
+          d98 =
               Typed.g-pre
               𝓤
               H
@@ -43806,15 +42595,15 @@ module _ (claims· : Claims) where
               E
               G40
               G41
-              b62
+              b60
               Δ0
               (Typed.pass T40 T41 s38)
-              at99
+              at97
               (Scalar.g-room 𝓤 H A W E G40 21 Syntax.tyBool (Scalar.room-sc 𝓤 H A W Row.sBool))
-              d99
+              d97
 
-          d101 : Typed.Typed 𝓤 H A 𝓣 E G39 b62 Δ0 at101
-          d101 =
+          d99 : Typed.Typed 𝓤 H A 𝓣 E G39 b60 Δ0 at99
+          d99 =
               Typed.g-pre
               𝓤
               H
@@ -43824,10 +42613,10 @@ module _ (claims· : Claims) where
               E
               G39
               G40
-              b62
+              b60
               Δ0
               (Typed.pass T39 T40 s37)
-              at100
+              at98
               (Scalar.g-room
               𝓤
               H
@@ -43849,10 +42638,10 @@ module _ (claims· : Claims) where
               (KRouteRow.R)
               (Syntax.tyRef Syntax.erased Syntax.imm (KRouteRow.named))
               5))
-              d100
+              d98
 
-          d102 : Typed.Typed 𝓤 H A 𝓣 E G38 b63 Δ0 at102
-          d102 =
+          d100 : Typed.Typed 𝓤 H A 𝓣 E G38 b61 Δ0 at100
+          d100 =
               Typed.s-seq
               𝓤
               H
@@ -43863,10 +42652,10 @@ module _ (claims· : Claims) where
               G38
               G39
               b17
-              b62
+              b60
               Δ0
               (Typed.both s36)
-              at101
+              at99
               (Plain.t-call-plain
               𝓤
               H
@@ -43968,10 +42757,10 @@ module _ (claims· : Claims) where
               (Syntax.tcons Syntax.tyBool (Syntax.tcons (Syntax.tyInt Syntax.w64) Syntax.tnil))))
               (tt, tt)
               Path'.refl)
-              d101
+              d99
 
-          d103 : Typed.Typed 𝓤 H A 𝓣 E G37 b64 Δ0 at103
-          d103 =
+          d101 : Typed.Typed 𝓤 H A 𝓣 E G37 b62 Δ0 at101
+          d101 =
               Typed.s-seq
               𝓤
               H
@@ -43982,10 +42771,10 @@ module _ (claims· : Claims) where
               G37
               G38
               b16
-              b63
+              b61
               Δ0
               (Typed.both s35)
-              at102
+              at100
               (Plain.t-call-plain
               𝓤
               H
@@ -44034,10 +42823,10 @@ module _ (claims· : Claims) where
               (Reads'.room-gone 𝓤 H A Syntax.tyBool)
               tt
               Path'.refl)
-              d102
+              d100
 
-          d104 : Typed.Typed 𝓤 H A 𝓣 E G36 b65 Δ0 at104
-          d104 =
+          d102 : Typed.Typed 𝓤 H A 𝓣 E G36 b63 Δ0 at102
+          d102 =
               Typed.s-seq
               𝓤
               H
@@ -44048,10 +42837,10 @@ module _ (claims· : Claims) where
               G36
               G37
               b15
-              b64
+              b62
               Δ0
               (Typed.ask s34)
-              at103
+              at101
               (Relend.t-sl-aggregate
               𝓤
               H
@@ -44112,10 +42901,10 @@ module _ (claims· : Claims) where
               Path'.refl
               Path'.refl
               λ b o k. tt)
-              d103
+              d101
 
-          d105 : Typed.Typed 𝓤 H A 𝓣 E G35 b66 Δ0 at105
-          d105 =
+          d103 : Typed.Typed 𝓤 H A 𝓣 E G35 b64 Δ0 at103
+          d103 =
               Typed.s-seq
               𝓤
               H
@@ -44126,10 +42915,10 @@ module _ (claims· : Claims) where
               G35
               G36
               b14
-              b65
+              b63
               Δ0
               (Typed.give s33)
-              at104
+              at102
               (Reshare.t-sl-reshare
               𝓤
               H
@@ -44173,10 +42962,10 @@ module _ (claims· : Claims) where
               Path'.refl
               Path'.refl
               λ b o. tt)
-              d104
+              d102
 
-          d106 : Typed.Typed 𝓤 H A 𝓣 E G34 b66 Δ0 at106
-          d106 =
+          d104 : Typed.Typed 𝓤 H A 𝓣 E G34 b64 Δ0 at104
+          d104 =
               Typed.g-pre
               𝓤
               H
@@ -44186,10 +42975,10 @@ module _ (claims· : Claims) where
               E
               G34
               G35
-              b66
+              b64
               Δ0
               (λ Ψ. Ψ)
-              at105
+              at103
               (Lifetime.g-begin 𝓤 H A W E G34 5 (
                 tt,
                 (
@@ -44314,10 +43103,10 @@ module _ (claims· : Claims) where
                   ),
                 ),
               ))
-              d105
+              d103
 
-          d107 : Typed.Typed 𝓤 H A 𝓣 E G33 b66 Δ0 at107
-          d107 =
+          d105 : Typed.Typed 𝓤 H A 𝓣 E G33 b64 Δ0 at105
+          d105 =
               Typed.g-pre
               𝓤
               H
@@ -44327,15 +43116,15 @@ module _ (claims· : Claims) where
               E
               G33
               G34
-              b66
+              b64
               Δ0
               (λ Ψ. Ψ)
-              at106
+              at104
               (Lifetime.g-forget 𝓤 H A W E G33 4 Row.dead Path'.refl)
-              d106
+              d104
 
-          d108 : Typed.Typed 𝓤 H A 𝓣 E G32 b66 Δ0 at108
-          d108 =
+          d106 : Typed.Typed 𝓤 H A 𝓣 E G32 b64 Δ0 at106
+          d106 =
               Typed.g-pre
               𝓤
               H
@@ -44345,10 +43134,10 @@ module _ (claims· : Claims) where
               E
               G32
               G33
-              b66
+              b64
               Δ0
               (Typed.pass T31 T33 s30)
-              at107
+              at105
               (Reshare.g-back-sl-shr
               𝓤
               H
@@ -44381,10 +43170,10 @@ module _ (claims· : Claims) where
               (Row.lease (κs .0) (qs .0))))
               Path'.refl
               Path'.refl)
-              d107
+              d105
 
-          d109 : Typed.Typed 𝓤 H A 𝓣 E G31 b66 Δ0 at109
-          d109 =
+          d107 : Typed.Typed 𝓤 H A 𝓣 E G31 b64 Δ0 at107
+          d107 =
               Typed.g-pre
               𝓤
               H
@@ -44394,15 +43183,15 @@ module _ (claims· : Claims) where
               E
               G31
               G32
-              b66
+              b64
               Δ0
               (λ Ψ. Ψ)
-              at108
+              at106
               (Lifetime.g-end 𝓤 H A W E G31 4 Path'.refl)
-              d108
+              d106
 
-          d110 : Typed.Typed 𝓤 H A 𝓣 E G30 b66 Δ0 at110
-          d110 =
+          d108 : Typed.Typed 𝓤 H A 𝓣 E G30 b64 Δ0 at108
+          d108 =
               Typed.g-pre
               𝓤
               H
@@ -44412,15 +43201,15 @@ module _ (claims· : Claims) where
               E
               G30
               G31
-              b66
+              b64
               Δ0
               (Typed.pass T30 T31 s28)
-              at109
+              at107
               (Scalar.g-room 𝓤 H A W E G30 21 Syntax.tyBool (Scalar.room-sc 𝓤 H A W Row.sBool))
-              d109
+              d107
 
-          d111 : Typed.Typed 𝓤 H A 𝓣 E G29 b66 Δ0 at111
-          d111 =
+          d109 : Typed.Typed 𝓤 H A 𝓣 E G29 b64 Δ0 at109
+          d109 =
               Typed.g-pre
               𝓤
               H
@@ -44430,10 +43219,10 @@ module _ (claims· : Claims) where
               E
               G29
               G30
-              b66
+              b64
               Δ0
               (Typed.pass T29 T30 s27)
-              at110
+              at108
               (Scalar.g-room
               𝓤
               H
@@ -44455,10 +43244,10 @@ module _ (claims· : Claims) where
               (KInstanceRow.R)
               (Syntax.tyRef Syntax.erased Syntax.imm (KInstanceRow.named))
               4))
-              d110
+              d108
 
-          d112 : Typed.Typed 𝓤 H A 𝓣 E G28 b67 Δ0 at112
-          d112 =
+          d110 : Typed.Typed 𝓤 H A 𝓣 E G28 b65 Δ0 at110
+          d110 =
               Typed.s-seq
               𝓤
               H
@@ -44469,10 +43258,10 @@ module _ (claims· : Claims) where
               G28
               G29
               b13
-              b66
+              b64
               Δ0
               (Typed.both s26)
-              at111
+              at109
               (Plain.t-call-plain
               𝓤
               H
@@ -44570,10 +43359,10 @@ module _ (claims· : Claims) where
               (Syntax.tcons (Syntax.tyInt Syntax.w64) Syntax.tnil)))))
               (tt, tt)
               Path'.refl)
-              d111
+              d109
 
-          d113 : Typed.Typed 𝓤 H A 𝓣 E G27 b68 Δ0 at113
-          d113 =
+          d111 : Typed.Typed 𝓤 H A 𝓣 E G27 b66 Δ0 at111
+          d111 =
               Typed.s-seq
               𝓤
               H
@@ -44584,10 +43373,10 @@ module _ (claims· : Claims) where
               G27
               G28
               b12
-              b67
+              b65
               Δ0
               (Typed.both s25)
-              at112
+              at110
               (Plain.t-call-plain
               𝓤
               H
@@ -44636,10 +43425,10 @@ module _ (claims· : Claims) where
               (Reads'.room-gone 𝓤 H A Syntax.tyBool)
               tt
               Path'.refl)
-              d112
+              d110
 
-          d114 : Typed.Typed 𝓤 H A 𝓣 E G26 b69 Δ0 at114
-          d114 =
+          d112 : Typed.Typed 𝓤 H A 𝓣 E G26 b67 Δ0 at112
+          d112 =
               Typed.s-seq
               𝓤
               H
@@ -44650,10 +43439,10 @@ module _ (claims· : Claims) where
               G26
               G27
               b11
-              b68
+              b66
               Δ0
               (Typed.ask s24)
-              at113
+              at111
               (Relend.t-sl-aggregate
               𝓤
               H
@@ -44714,10 +43503,10 @@ module _ (claims· : Claims) where
               Path'.refl
               Path'.refl
               λ b o k. tt)
-              d113
+              d111
 
-          d115 : Typed.Typed 𝓤 H A 𝓣 E G25 b70 Δ0 at115
-          d115 =
+          d113 : Typed.Typed 𝓤 H A 𝓣 E G25 b68 Δ0 at113
+          d113 =
               Typed.s-seq
               𝓤
               H
@@ -44728,10 +43517,10 @@ module _ (claims· : Claims) where
               G25
               G26
               b10
-              b69
+              b67
               Δ0
               (Typed.give s23)
-              at114
+              at112
               (Reshare.t-sl-reshare
               𝓤
               H
@@ -44778,10 +43567,10 @@ module _ (claims· : Claims) where
               Path'.refl
               Path'.refl
               λ b o. tt)
-              d114
+              d112
 
-          d116 : Typed.Typed 𝓤 H A 𝓣 E G8 b70 Δ0 at116
-          d116 =
+          d114 : Typed.Typed 𝓤 H A 𝓣 E G8 b68 Δ0 at114
+          d114 =
               Typed.g-pre
               𝓤
               H
@@ -44791,10 +43580,10 @@ module _ (claims· : Claims) where
               E
               G8
               G25
-              b70
+              b68
               Δ0
               (λ Ψ. Ψ)
-              at115
+              at113
               (Lifetime.g-begin 𝓤 H A W E G8 4 (
                 tt,
                 (
@@ -44919,13 +43708,13 @@ module _ (claims· : Claims) where
                   ),
                 ),
               ))
-              d115
+              d113
 
-          d117 : Typed.Typed 𝓤 H A 𝓣 E G7 b71 Δ0 at117
-          d117 = Typed.t-seq 𝓤 H A W 𝓣 E G7 G8 b9 b70 Δ0 at18 at116 d18 d116
+          d115 : Typed.Typed 𝓤 H A 𝓣 E G7 b69 Δ0 at115
+          d115 = Typed.t-seq 𝓤 H A W 𝓣 E G7 G8 b9 b68 Δ0 at18 at114 d18 d114
 
-          d118 : Typed.Typed 𝓤 H A 𝓣 E G6 b72 Δ0 at118
-          d118 =
+          d116 : Typed.Typed 𝓤 H A 𝓣 E G6 b70 Δ0 at116
+          d116 =
               Typed.s-seq
               𝓤
               H
@@ -44936,10 +43725,10 @@ module _ (claims· : Claims) where
               G6
               G7
               b2
-              b71
+              b69
               Δ0
               (Typed.ask s5)
-              at117
+              at115
               (Scalar.t-op2
               𝓤
               H
@@ -44963,10 +43752,10 @@ module _ (claims· : Claims) where
               Path'.refl
               (λ u. Path'.refl)
               λ u. tt)
-              d117
+              d115
 
-          d119 : Typed.Typed 𝓤 H A 𝓣 E G5 b72 Δ0 at119
-          d119 =
+          d117 : Typed.Typed 𝓤 H A 𝓣 E G5 b70 Δ0 at117
+          d117 =
               Typed.g-pre
               𝓤
               H
@@ -44976,10 +43765,10 @@ module _ (claims· : Claims) where
               E
               G5
               G6
-              b72
+              b70
               Δ0
               (Typed.pass T5 T6 s4)
-              at118
+              at116
               (Scalar.g-room
               𝓤
               H
@@ -45105,10 +43894,10 @@ module _ (claims· : Claims) where
               Syntax.tnil
               (Syntax.ttcons Syntax.tnil (Syntax.ttcons Syntax.tnil Syntax.ttnil)))))))))))))))))))
               Path'.refl))
-              d118
+              d116
 
-          d120 : Typed.Typed 𝓤 H A 𝓣 E G4 b73 Δ0 at120
-          d120 =
+          d118 : Typed.Typed 𝓤 H A 𝓣 E G4 b71 Δ0 at118
+          d118 =
               Typed.s-seq
               𝓤
               H
@@ -45119,10 +43908,10 @@ module _ (claims· : Claims) where
               G4
               G5
               b1
-              b72
+              b70
               Δ0
               (Typed.both s3)
-              at119
+              at117
               (Plain.t-call-plain
               𝓤
               H
@@ -45171,10 +43960,10 @@ module _ (claims· : Claims) where
               (Reads'.room-gone 𝓤 H A (Syntax.tyInt Syntax.w8))
               tt
               Path'.refl)
-              d119
+              d117
 
-          d121 : Typed.Typed 𝓤 H A 𝓣 E G3 b74 Δ0 at121
-          d121 =
+          d119 : Typed.Typed 𝓤 H A 𝓣 E G3 b72 Δ0 at119
+          d119 =
               Typed.s-seq
               𝓤
               H
@@ -45185,10 +43974,10 @@ module _ (claims· : Claims) where
               G3
               G4
               b0
-              b73
+              b71
               Δ0
               (Typed.both s2)
-              at120
+              at118
               (Plain.t-call-plain
               𝓤
               H
@@ -45297,10 +44086,10 @@ module _ (claims· : Claims) where
               (Syntax.ttcons Syntax.tnil Syntax.ttnil))))))))))))))))))))
               tt
               Path'.refl)
-              d120
+              d118
 
-          d122 : Typed.Typed 𝓤 H A 𝓣 E G2 b74 Δ0 at122
-          d122 =
+          d120 : Typed.Typed 𝓤 H A 𝓣 E G2 b72 Δ0 at120
+          d120 =
               Typed.g-pre
               𝓤
               H
@@ -45310,10 +44099,10 @@ module _ (claims· : Claims) where
               E
               G2
               G3
-              b74
+              b72
               Δ0
               (Typed.give s1)
-              at121
+              at119
               (Know.g-sl-known
               𝓤
               H
@@ -45339,10 +44128,10 @@ module _ (claims· : Claims) where
               3))
               Path'.refl
               tt)
-              d121
+              d119
 
-          d123 : Typed.Typed 𝓤 H A 𝓣 E G0 b74 Δ0 at123
-          d123 =
+          d121 : Typed.Typed 𝓤 H A 𝓣 E G0 b72 Δ0 at121
+          d121 =
               Typed.g-pre
               𝓤
               H
@@ -45352,10 +44141,10 @@ module _ (claims· : Claims) where
               E
               G0
               G2
-              b74
+              b72
               Δ0
               (Typed.give s0)
-              at122
+              at120
               (Know.g-sl-known
               𝓤
               H
@@ -45381,7 +44170,7 @@ module _ (claims· : Claims) where
               2))
               Path'.refl
               tt)
-              d122
+              d120
 
           pub typed :
               Typed.Typed
@@ -45391,10 +44180,10 @@ module _ (claims· : Claims) where
               𝓣
               E
               (Function.Γin 4 ps r xs m κs qs)
-              b74
+              b72
               (Function.Δret 4 ps r xs m κs qs)
               Φ
-          typed = d123
+          typed = d121
 
       module _ (κs : Lifetimes.Lfts 4) where
         pub record Args : Type 0 where
@@ -45618,7 +44407,7 @@ module _ (claims· : Claims) where
           λ before given. Typed.wantNext
           T8
           O0
-          (at116 (W0 (before .before .before .before .κs) (before .before .before .before .args)))
+          (at114 (W0 (before .before .before .before .κs) (before .before .before .before .args)))
           (W0 (before .before .before .before .κs) (before .before .before .before .args))
 
       abbrev pub m7 :
@@ -46044,7 +44833,7 @@ module _ (claims· : Claims) where
           (given : s42 .gives (m36 (before .before) (After-place-route·gave before))) →
           Typed.Want O2
       W2 =
-          λ before given. Typed.wantNext T46 O0 (at94 (W0
+          λ before given. Typed.wantNext T46 O0 (at92 (W0
           (before .before .before .before .before .before .before .before .before .before .before
           .before .κs)
           (before .before .before .before .before .before .before .before .before .before .before
@@ -46623,8 +45412,8 @@ module _ (claims· : Claims) where
         pub before : After-reply
         pub slice-known4 : After-slice-known4·own before
 
-      abbrev pub Need-accepted-requires : Type 0
-      Need-accepted-requires =
+      abbrev pub Need-ended-requires : Type 0
+      Need-ended-requires =
           (c : After-slice-known4) → s88 .asks (m70 (c .before) (c .slice-known4 .given))
 
       abbrev pub m71 :
@@ -46634,23 +45423,40 @@ module _ (claims· : Claims) where
       m71 = λ before given. s88 .next (m70 (before .before) (before .slice-known4 .given)) given
 
       module _ (before· : After-slice-known4) where
-        abbrev pub After-accepted·own : Type 0
-        After-accepted·own = Called.Called ps·15 r·15 (claims· .31) T90 (
-          record { pos = 10; st = List.[]; d = 0; at = λ x. x },
-          (Num.vAt 8 λ x. x, (Num.vAt 17 λ x. x, (Num.vAt 18 λ x. x, tt))),
+        abbrev pub After-ended·own : Type 0
+        After-ended·own = Called.Called ps·15 r·15 (claims· .31) T90 (
+          Bool.bLit Bool'.true,
+          (
+            record { pos = 10; st = List.[]; d = 0; at = λ x. x },
+            (
+              Num.vAt 6 λ x. x,
+              (
+                Num.vAt 7 λ x. x,
+                (Num.vAt 8 λ x. x, (Num.vAt 17 λ x. x, (Num.vAt 18 λ x. x, tt))),
+              ),
+            ),
+          ),
         ) (m70 (before· .before) (before· .slice-known4 .given))
 
-      pub record After-accepted : Type 0 where
+      pub record After-ended : Type 0 where
         pub before : After-slice-known4
-        pub accepted : After-accepted·own before
+        pub ended : After-ended·own before
 
-      abbrev pub After-accepted·gave :
-          (c : After-accepted) →
-          s88 .gives (m70 (c .before .before) (c .before .slice-known4 .given))
-      After-accepted·gave = λ c. Called.given ps·15 r·15 (claims· .31) T90 (
-        record { pos = 10; st = List.[]; d = 0; at = λ x. x },
-        (Num.vAt 8 λ x. x, (Num.vAt 17 λ x. x, (Num.vAt 18 λ x. x, tt))),
-      ) (m70 (c .before .before) (c .before .slice-known4 .given)) (c .accepted)
+      abbrev pub After-ended·gave :
+          (c : After-ended) → s88 .gives (m70 (c .before .before) (c .before .slice-known4 .given))
+      After-ended·gave = λ c. Called.given ps·15 r·15 (claims· .31) T90 (
+        Bool.bLit Bool'.true,
+        (
+          record { pos = 10; st = List.[]; d = 0; at = λ x. x },
+          (
+            Num.vAt 6 λ x. x,
+            (
+              Num.vAt 7 λ x. x,
+              (Num.vAt 8 λ x. x, (Num.vAt 17 λ x. x, (Num.vAt 18 λ x. x, tt))),
+            ),
+          ),
+        ),
+      ) (m70 (c .before .before) (c .before .slice-known4 .given)) (c .ended)
 
       abbrev pub m72 :
           (before : After-slice-known4) →
@@ -46714,8 +45520,8 @@ module _ (claims· : Claims) where
 
       abbrev pub Need-same-length : Type 0
       Need-same-length =
-          (c : After-accepted) → MutSlice.SameLen (Row.get 1 (T102 .locals) (m81 (c .before)
-          (After-accepted·gave c))) (dens
+          (c : After-ended) → MutSlice.SameLen (Row.get 1 (T102 .locals) (m81 (c .before)
+          (After-ended·gave c))) (dens
           (c .before .before .before .before .before .before .before .before .before .before
           .before .before .before .before .before .before .before .before .before .before .before
           .before .before .before .before .before .before .before .before .before .before .before
@@ -46727,8 +45533,8 @@ module _ (claims· : Claims) where
 
       abbrev pub Need-same-length-2 : Type 0
       Need-same-length-2 =
-          (c : After-accepted) → MutSlice.SameLen (Row.get 2 (T102 .locals) (m81 (c .before)
-          (After-accepted·gave c))) (dens
+          (c : After-ended) → MutSlice.SameLen (Row.get 2 (T102 .locals) (m81 (c .before)
+          (After-ended·gave c))) (dens
           (c .before .before .before .before .before .before .before .before .before .before
           .before .before .before .before .before .before .before .before .before .before .before
           .before .before .before .before .before .before .before .before .before .before .before
@@ -46740,8 +45546,8 @@ module _ (claims· : Claims) where
 
       abbrev pub Need-same-length-3 : Type 0
       Need-same-length-3 =
-          (c : After-accepted) → MutSlice.SameLen (Row.get 3 (T102 .locals) (m81 (c .before)
-          (After-accepted·gave c))) (dens
+          (c : After-ended) → MutSlice.SameLen (Row.get 3 (T102 .locals) (m81 (c .before)
+          (After-ended·gave c))) (dens
           (c .before .before .before .before .before .before .before .before .before .before
           .before .before .before .before .before .before .before .before .before .before .before
           .before .before .before .before .before .before .before .before .before .before .before
@@ -46753,8 +45559,8 @@ module _ (claims· : Claims) where
 
       abbrev pub Need-same-length-4 : Type 0
       Need-same-length-4 =
-          (c : After-accepted) → MutSlice.SameLen (Row.get 4 (T102 .locals) (m81 (c .before)
-          (After-accepted·gave c))) (dens
+          (c : After-ended) → MutSlice.SameLen (Row.get 4 (T102 .locals) (m81 (c .before)
+          (After-ended·gave c))) (dens
           (c .before .before .before .before .before .before .before .before .before .before
           .before .before .before .before .before .before .before .before .before .before .before
           .before .before .before .before .before .before .before .before .before .before .before
@@ -46766,7 +45572,7 @@ module _ (claims· : Claims) where
 
       abbrev pub Need-returns-2 : Type 0
       Need-returns-2 =
-          (c : After-accepted) → Post·
+          (c : After-ended) → Post·
           (c .before .before .before .before .before .before .before .before .before .before
           .before .before .before .before .before .before .before .before .before .before .before
           .before .before .before .before .before .before .before .before .before .before .before
@@ -46782,7 +45588,7 @@ module _ (claims· : Claims) where
           (c .before .before .before .before .before .before .before .before .before .before
           .before .before .before .before .before .before .before .before .before .before .before
           .before .before .before .before .before .before .before .before .before .before .before
-          .κs) (m81 (c .before) (After-accepted·gave c) .0)) (Clauses.atExit (Kinds.endedOf 4 ps r)
+          .κs) (m81 (c .before) (After-ended·gave c) .0)) (Clauses.atExit (Kinds.endedOf 4 ps r)
           (c .before .before .before .before .before .before .before .before .before .before
           .before .before .before .before .before .before .before .before .before .before .before
           .before .before .before .before .before .before .before .before .before .before .before
@@ -46806,7 +45612,7 @@ module _ (claims· : Claims) where
           (c .before .before .before .before .before .before .before .before .before .before
           .before .before .before .before .before .before .before .before .before .before .before
           .before .before .before .before .before .before .before .before .before .before .before
-          .args)) (m81 (c .before) (After-accepted·gave c) .1)))
+          .args)) (m81 (c .before) (After-ended·gave c) .1)))
 
       abbrev pub m82 : (before : After-has-room) → Typed.Mo T103
       m82 = λ before. s99 (m37 (before .before) (After-has-room·gave before))
@@ -46823,9 +45629,6 @@ module _ (claims· : Claims) where
       abbrev pub m86 : (before : After-has-room) → Typed.Mo T107
       m86 = λ before. s103 (m85 before)
 
-      abbrev pub m87 : (before : After-has-room) → Typed.Mo T108
-      m87 = λ before. s104 (m86 before)
-
       module _ (before· : After-has-room) where
         pub record Else2·own : Type 0 where
           pub left : Path'._≡_
@@ -46836,145 +45639,116 @@ module _ (claims· : Claims) where
         pub before : After-has-room
         pub if2 : Else2·own before
 
-      abbrev pub Need-no-row-requires : Type 0
-      Need-no-row-requires = (c : Else2) → s105 .asks (m87 (c .before))
+      abbrev pub Need-ended-requires-2 : Type 0
+      Need-ended-requires-2 = (c : Else2) → s104 .asks (m86 (c .before))
 
-      abbrev pub m88 :
-          (before : Else2) → (given : s105 .gives (m87 (before .before))) → Typed.Mo T109
-      m88 = λ before given. s105 .next (m87 (before .before)) given
+      abbrev pub m87 :
+          (before : Else2) → (given : s104 .gives (m86 (before .before))) → Typed.Mo T108
+      m87 = λ before given. s104 .next (m86 (before .before)) given
 
       module _ (before· : Else2) where
-        abbrev pub After-no-row·own : Type 0
-        After-no-row·own = Called.Called ps·16 r·16 (claims· .33) T46 tt (m87 (before· .before))
+        abbrev pub After-ended2·own : Type 0
+        After-ended2·own = Called.Called ps·15 r·15 (claims· .31) T46 (
+          Bool.bLit Bool'.false,
+          (
+            record { pos = 10; st = List.[]; d = 0; at = λ x. x },
+            (
+              Num.vAt 6 λ x. x,
+              (Num.vAt 7 λ x. x, (Num.vAt 8 λ x. x, (Num.vLit 0, (Num.vLit 0, tt)))),
+            ),
+          ),
+        ) (m86 (before· .before))
 
-      pub record After-no-row : Type 0 where
+      pub record After-ended2 : Type 0 where
         pub before : Else2
-        pub no-row : After-no-row·own before
+        pub ended2 : After-ended2·own before
 
-      abbrev pub After-no-row·gave : (c : After-no-row) → s105 .gives (m87 (c .before .before))
-      After-no-row·gave =
-          λ c. Called.given ps·16 r·16 (claims· .33) T46 tt (m87 (c .before .before)) (c .no-row)
+      abbrev pub After-ended2·gave : (c : After-ended2) → s104 .gives (m86 (c .before .before))
+      After-ended2·gave = λ c. Called.given ps·15 r·15 (claims· .31) T46 (
+        Bool.bLit Bool'.false,
+        (
+          record { pos = 10; st = List.[]; d = 0; at = λ x. x },
+          (
+            Num.vAt 6 λ x. x,
+            (Num.vAt 7 λ x. x, (Num.vAt 8 λ x. x, (Num.vLit 0, (Num.vLit 0, tt)))),
+          ),
+        ),
+      ) (m86 (c .before .before)) (c .ended2)
 
-      abbrev pub Need-refused-requires-2 : Type 0
-      Need-refused-requires-2 =
-          (c : After-no-row) → s106 .asks (m88 (c .before) (After-no-row·gave c))
+      abbrev pub m88 :
+          (before : Else2) → (given : s104 .gives (m86 (before .before))) → Typed.Mo T109
+      m88 = λ before given. s105 (m87 before given)
 
       abbrev pub m89 :
-          (before : After-no-row) →
-          (given : s106 .gives (m88 (before .before) (After-no-row·gave before))) →
-          Typed.Mo T110
-      m89 = λ before given. s106 .next (m88 (before .before) (After-no-row·gave before)) given
-
-      module _ (before· : After-no-row) where
-        abbrev pub After-refused2·own : Type 0
-        After-refused2·own = Called.Called ps·2 r·2 (claims· .5) T109 (
-          record { pos = 20; st = List.[]; d = 0; at = λ x. x },
-          (Num.vAt 6 λ x. x, (Num.vAt 7 λ x. x, tt)),
-        ) (m88 (before· .before) (After-no-row·gave before·))
-
-      pub record After-refused2 : Type 0 where
-        pub before : After-no-row
-        pub refused2 : After-refused2·own before
-
-      abbrev pub After-refused2·gave :
-          (c : After-refused2) →
-          s106 .gives (m88 (c .before .before) (After-no-row·gave (c .before)))
-      After-refused2·gave = λ c. Called.given ps·2 r·2 (claims· .5) T109 (
-        record { pos = 20; st = List.[]; d = 0; at = λ x. x },
-        (Num.vAt 6 λ x. x, (Num.vAt 7 λ x. x, tt)),
-      ) (m88 (c .before .before) (After-no-row·gave (c .before))) (c .refused2)
+          (before : Else2) → (given : s104 .gives (m86 (before .before))) → Typed.Mo T110
+      m89 = λ before given. s106 (m88 before given)
 
       abbrev pub m90 :
-          (before : After-no-row) →
-          (given : s106 .gives (m88 (before .before) (After-no-row·gave before))) →
-          Typed.Mo T111
+          (before : Else2) → (given : s104 .gives (m86 (before .before))) → Typed.Mo T111
       m90 = λ before given. s107 (m89 before given)
 
       abbrev pub m91 :
-          (before : After-no-row) →
-          (given : s106 .gives (m88 (before .before) (After-no-row·gave before))) →
-          Typed.Mo T112
+          (before : Else2) → (given : s104 .gives (m86 (before .before))) → Typed.Mo T112
       m91 = λ before given. s108 (m90 before given)
 
       abbrev pub m92 :
-          (before : After-no-row) →
-          (given : s106 .gives (m88 (before .before) (After-no-row·gave before))) →
-          Typed.Mo T113
+          (before : Else2) → (given : s104 .gives (m86 (before .before))) → Typed.Mo T113
       m92 = λ before given. s109 (m91 before given)
 
       abbrev pub m93 :
-          (before : After-no-row) →
-          (given : s106 .gives (m88 (before .before) (After-no-row·gave before))) →
-          Typed.Mo T114
+          (before : Else2) → (given : s104 .gives (m86 (before .before))) → Typed.Mo T114
       m93 = λ before given. s110 (m92 before given)
 
       abbrev pub m94 :
-          (before : After-no-row) →
-          (given : s106 .gives (m88 (before .before) (After-no-row·gave before))) →
-          Typed.Mo T115
+          (before : Else2) → (given : s104 .gives (m86 (before .before))) → Typed.Mo T115
       m94 = λ before given. s111 (m93 before given)
 
       abbrev pub m95 :
-          (before : After-no-row) →
-          (given : s106 .gives (m88 (before .before) (After-no-row·gave before))) →
-          Typed.Mo T116
+          (before : Else2) → (given : s104 .gives (m86 (before .before))) → Typed.Mo T116
       m95 = λ before given. s112 (m94 before given)
-
-      abbrev pub m96 :
-          (before : After-no-row) →
-          (given : s106 .gives (m88 (before .before) (After-no-row·gave before))) →
-          Typed.Mo T117
-      m96 = λ before given. s113 (m95 before given)
-
-      abbrev pub m97 :
-          (before : After-no-row) →
-          (given : s106 .gives (m88 (before .before) (After-no-row·gave before))) →
-          Typed.Mo T118
-      m97 = λ before given. s114 (m96 before given)
 
       abbrev pub Need-same-length-5 : Type 0
       Need-same-length-5 =
-          (c : After-refused2) → MutSlice.SameLen (Row.get 1 (T118 .locals) (m97 (c .before)
-          (After-refused2·gave c))) (dens
+          (c : After-ended2) → MutSlice.SameLen (Row.get 1 (T116 .locals) (m95 (c .before)
+          (After-ended2·gave c))) (dens
           (c .before .before .before .before .before .before .before .before .before .before
-          .before .before .before .before .before .κs)
+          .before .before .before .before .κs)
           (c .before .before .before .before .before .before .before .before .before .before
-          .before .before .before .before .before .args) .0)
+          .before .before .before .before .args) .0)
 
       abbrev pub Need-same-length-6 : Type 0
       Need-same-length-6 =
-          (c : After-refused2) → MutSlice.SameLen (Row.get 2 (T118 .locals) (m97 (c .before)
-          (After-refused2·gave c))) (dens
+          (c : After-ended2) → MutSlice.SameLen (Row.get 2 (T116 .locals) (m95 (c .before)
+          (After-ended2·gave c))) (dens
           (c .before .before .before .before .before .before .before .before .before .before
-          .before .before .before .before .before .κs)
+          .before .before .before .before .κs)
           (c .before .before .before .before .before .before .before .before .before .before
-          .before .before .before .before .before .args) .1 .0)
+          .before .before .before .before .args) .1 .0)
 
       abbrev pub Need-returns-3 : Type 0
       Need-returns-3 =
-          (c : After-refused2) → Post·
+          (c : After-ended2) → Post·
           (c .before .before .before .before .before .before .before .before .before .before
-          .before .before .before .before .before .κs) (dens
+          .before .before .before .before .κs) (dens
           (c .before .before .before .before .before .before .before .before .before .before
-          .before .before .before .before .before .κs)
+          .before .before .before .before .κs)
           (c .before .before .before .before .before .before .before .before .before .before
-          .before .before .before .before .before .args)) (Function.resV r
+          .before .before .before .before .args)) (Function.resV r
           (c .before .before .before .before .before .before .before .before .before .before
-          .before .before .before .before .before .κs) (m97 (c .before) (After-refused2·gave
-          c) .0)) (Clauses.atExit (Kinds.endedOf 4 ps r)
+          .before .before .before .before .κs) (m95 (c .before) (After-ended2·gave c) .0))
+          (Clauses.atExit (Kinds.endedOf 4 ps r)
           (c .before .before .before .before .before .before .before .before .before .before
-          .before .before .before .before .before .κs) (dens
+          .before .before .before .before .κs) (dens
           (c .before .before .before .before .before .before .before .before .before .before
-          .before .before .before .before .before .κs)
+          .before .before .before .before .κs)
           (c .before .before .before .before .before .before .before .before .before .before
-          .before .before .before .before .before .args)) (Enter.lastsP
+          .before .before .before .before .args)) (Enter.lastsP
           (c .before .before .before .before .before .before .before .before .before .before
-          .before .before .before .before .before .κs) 1 ps xs (dens
+          .before .before .before .before .κs) 1 ps xs (dens
           (c .before .before .before .before .before .before .before .before .before .before
-          .before .before .before .before .before .κs)
+          .before .before .before .before .κs)
           (c .before .before .before .before .before .before .before .before .before .before
-          .before .before .before .before .before .args)) (m97 (c .before) (After-refused2·gave
-          c) .1)))
+          .before .before .before .before .args)) (m95 (c .before) (After-ended2·gave c) .1)))
 
       module _ (answer-of-requires : Need-answer-of-requires)
           (number-requires : Need-number-requires)
@@ -46989,41 +45763,38 @@ module _ (claims· : Claims) where
           (route-of-requires : Need-route-of-requires) (store-requires : Need-store-requires)
           (forward-of-requires : Need-forward-of-requires)
           (put-post-requires : Need-put-post-requires) (reply-of-requires : Need-reply-of-requires)
-          (put-post-requires-2 : Need-put-post-requires-2)
-          (accepted-requires : Need-accepted-requires) (same-length : Need-same-length)
-          (same-length-2 : Need-same-length-2) (same-length-3 : Need-same-length-3)
-          (same-length-4 : Need-same-length-4) (returns-2 : Need-returns-2)
-          (no-row-requires : Need-no-row-requires) (refused-requires-2 : Need-refused-requires-2)
+          (put-post-requires-2 : Need-put-post-requires-2) (ended-requires : Need-ended-requires)
+          (same-length : Need-same-length) (same-length-2 : Need-same-length-2)
+          (same-length-3 : Need-same-length-3) (same-length-4 : Need-same-length-4)
+          (returns-2 : Need-returns-2) (ended-requires-2 : Need-ended-requires-2)
           (same-length-5 : Need-same-length-5) (same-length-6 : Need-same-length-6)
           (returns-3 : Need-returns-3) where
-        lay24 :
-            (c : After-refused2) → at92 (W0
+        lay23 :
+            (c : After-ended2) → at91 (W0
             (c .before .before .before .before .before .before .before .before .before .before
-            .before .before .before .before .before .κs)
+            .before .before .before .before .κs)
             (c .before .before .before .before .before .before .before .before .before .before
-            .before .before .before .before .before .args)) (m89 (c .before) (After-refused2·gave
-            c))
-        lay24 = λ c. (
+            .before .before .before .before .args)) (m87 (c .before) (After-ended2·gave c))
+        lay23 = λ c. (
           (
-            MutSlice.fix-len (Row.get 1 (T118 .locals) (m97 (c .before) (After-refused2·gave
-                c)) .ptr) (Row.get 1 (T118 .locals) (m97 (c .before) (After-refused2·gave
-                c)) .name) (Row.get 1 (T118 .locals) (m97 (c .before) (After-refused2·gave
-                c)) .now) (dens
+            MutSlice.fix-len (Row.get 1 (T116 .locals) (m95 (c .before) (After-ended2·gave
+                c)) .ptr) (Row.get 1 (T116 .locals) (m95 (c .before) (After-ended2·gave c)) .name)
+                (Row.get 1 (T116 .locals) (m95 (c .before) (After-ended2·gave c)) .now) (dens
                 (c .before .before .before .before .before .before .before .before .before .before
-                .before .before .before .before .before .κs)
+                .before .before .before .before .κs)
                 (c .before .before .before .before .before .before .before .before .before .before
-                .before .before .before .before .before .args) .0 .now) (same-length-5
-                record { before = c .before; refused2 = c .refused2 }),
+                .before .before .before .before .args) .0 .now) (same-length-5
+                record { before = c .before; ended2 = c .ended2 }),
             (
-              MutSlice.fix-len (Row.get 2 (T118 .locals) (m97 (c .before) (After-refused2·gave
-                  c)) .ptr) (Row.get 2 (T118 .locals) (m97 (c .before) (After-refused2·gave
-                  c)) .name) (Row.get 2 (T118 .locals) (m97 (c .before) (After-refused2·gave
+              MutSlice.fix-len (Row.get 2 (T116 .locals) (m95 (c .before) (After-ended2·gave
+                  c)) .ptr) (Row.get 2 (T116 .locals) (m95 (c .before) (After-ended2·gave
+                  c)) .name) (Row.get 2 (T116 .locals) (m95 (c .before) (After-ended2·gave
                   c)) .now) (dens
                   (c .before .before .before .before .before .before .before .before .before
-                  .before .before .before .before .before .before .κs)
+                  .before .before .before .before .before .κs)
                   (c .before .before .before .before .before .before .before .before .before
-                  .before .before .before .before .before .before .args) .1 .0 .now) (same-length-6
-                  record { before = c .before; refused2 = c .refused2 }),
+                  .before .before .before .before .before .args) .1 .0 .now) (same-length-6
+                  record { before = c .before; ended2 = c .ended2 }),
               (
                 Path'.refl,
                 (
@@ -47033,54 +45804,45 @@ module _ (claims· : Claims) where
               ),
             ),
           ),
-          returns-3 record { before = c .before; refused2 = c .refused2 },
-        )
-
-        lay23 :
-            (c : After-no-row) → at93 (W0
-            (c .before .before .before .before .before .before .before .before .before .before
-            .before .before .before .before .κs)
-            (c .before .before .before .before .before .before .before .before .before .before
-            .before .before .before .before .args)) (m88 (c .before) (After-no-row·gave c))
-        lay23 = λ c. (
-          refused-requires-2 record { before = c .before; no-row = c .no-row },
-          λ g. lay24 record {
-            before = record { before = c .before; no-row = c .no-row };
-            refused2 = Called.called ps·2 r·2 (claims· .5) T109 (
-              record { pos = 20; st = List.[]; d = 0; at = λ x. x },
-              (Num.vAt 6 λ x. x, (Num.vAt 7 λ x. x, tt)),
-            ) (m88 (c .before) (After-no-row·gave c)) g;
-          },
+          returns-3 record { before = c .before; ended2 = c .ended2 },
         )
 
         lay22 :
-            (c : Else2) → at94 (W0
+            (c : Else2) → at92 (W0
             (c .before .before .before .before .before .before .before .before .before .before
             .before .before .before .κs)
             (c .before .before .before .before .before .before .before .before .before .before
-            .before .before .before .args)) (m87 (c .before))
+            .before .before .before .args)) (m86 (c .before))
         lay22 = λ c. (
-          no-row-requires record { before = c .before; if2 = c .if2 },
+          ended-requires-2 record { before = c .before; if2 = c .if2 },
           λ g. lay23 record {
             before = record { before = c .before; if2 = c .if2 };
-            no-row = Called.called ps·16 r·16 (claims· .33) T46 tt (m87 (c .before)) g;
+            ended2 = Called.called ps·15 r·15 (claims· .31) T46 (
+              Bool.bLit Bool'.false,
+              (
+                record { pos = 10; st = List.[]; d = 0; at = λ x. x },
+                (
+                  Num.vAt 6 λ x. x,
+                  (Num.vAt 7 λ x. x, (Num.vAt 8 λ x. x, (Num.vLit 0, (Num.vLit 0, tt)))),
+                ),
+              ),
+            ) (m86 (c .before)) g;
           },
         )
 
         lay21 :
-            (c : After-accepted) → at29 (W2
+            (c : After-ended) → at29 (W2
             (c .before .before .before .before .before .before .before .before .before .before
             .before .before .before .before .before .before .before .before .before .before
             .before) (After-has-room·gave
             (c .before .before .before .before .before .before .before .before .before .before
             .before .before .before .before .before .before .before .before .before .before))) (m71
-            (c .before) (After-accepted·gave c))
+            (c .before) (After-ended·gave c))
         lay21 = λ c. (
           (
-            MutSlice.fix-len (Row.get 1 (T102 .locals) (m81 (c .before) (After-accepted·gave
-                c)) .ptr) (Row.get 1 (T102 .locals) (m81 (c .before) (After-accepted·gave
-                c)) .name) (Row.get 1 (T102 .locals) (m81 (c .before) (After-accepted·gave
-                c)) .now) (dens
+            MutSlice.fix-len (Row.get 1 (T102 .locals) (m81 (c .before) (After-ended·gave c)) .ptr)
+                (Row.get 1 (T102 .locals) (m81 (c .before) (After-ended·gave c)) .name) (Row.get 1
+                (T102 .locals) (m81 (c .before) (After-ended·gave c)) .now) (dens
                 (c .before .before .before .before .before .before .before .before .before .before
                 .before .before .before .before .before .before .before .before .before .before
                 .before .before .before .before .before .before .before .before .before .before
@@ -47089,12 +45851,11 @@ module _ (claims· : Claims) where
                 .before .before .before .before .before .before .before .before .before .before
                 .before .before .before .before .before .before .before .before .before .before
                 .before .before .args) .0 .now) (same-length
-                record { before = c .before; accepted = c .accepted }),
+                record { before = c .before; ended = c .ended }),
             (
-              MutSlice.fix-len (Row.get 2 (T102 .locals) (m81 (c .before) (After-accepted·gave
-                  c)) .ptr) (Row.get 2 (T102 .locals) (m81 (c .before) (After-accepted·gave
-                  c)) .name) (Row.get 2 (T102 .locals) (m81 (c .before) (After-accepted·gave
-                  c)) .now) (dens
+              MutSlice.fix-len (Row.get 2 (T102 .locals) (m81 (c .before) (After-ended·gave
+                  c)) .ptr) (Row.get 2 (T102 .locals) (m81 (c .before) (After-ended·gave c)) .name)
+                  (Row.get 2 (T102 .locals) (m81 (c .before) (After-ended·gave c)) .now) (dens
                   (c .before .before .before .before .before .before .before .before .before
                   .before .before .before .before .before .before .before .before .before .before
                   .before .before .before .before .before .before .before .before .before .before
@@ -47103,11 +45864,11 @@ module _ (claims· : Claims) where
                   .before .before .before .before .before .before .before .before .before .before
                   .before .before .before .before .before .before .before .before .before .before
                   .before .before .before .args) .1 .0 .now) (same-length-2
-                  record { before = c .before; accepted = c .accepted }),
+                  record { before = c .before; ended = c .ended }),
               (
-                MutSlice.fix-len (Row.get 3 (T102 .locals) (m81 (c .before) (After-accepted·gave
-                    c)) .ptr) (Row.get 3 (T102 .locals) (m81 (c .before) (After-accepted·gave
-                    c)) .name) (Row.get 3 (T102 .locals) (m81 (c .before) (After-accepted·gave
+                MutSlice.fix-len (Row.get 3 (T102 .locals) (m81 (c .before) (After-ended·gave
+                    c)) .ptr) (Row.get 3 (T102 .locals) (m81 (c .before) (After-ended·gave
+                    c)) .name) (Row.get 3 (T102 .locals) (m81 (c .before) (After-ended·gave
                     c)) .now) (dens
                     (c .before .before .before .before .before .before .before .before .before
                     .before .before .before .before .before .before .before .before .before .before
@@ -47117,11 +45878,11 @@ module _ (claims· : Claims) where
                     .before .before .before .before .before .before .before .before .before .before
                     .before .before .before .before .before .before .before .before .before .before
                     .before .before .before .args) .1 .1 .0 .now) (same-length-3
-                    record { before = c .before; accepted = c .accepted }),
+                    record { before = c .before; ended = c .ended }),
                 (
-                  MutSlice.fix-len (Row.get 4 (T102 .locals) (m81 (c .before) (After-accepted·gave
-                      c)) .ptr) (Row.get 4 (T102 .locals) (m81 (c .before) (After-accepted·gave
-                      c)) .name) (Row.get 4 (T102 .locals) (m81 (c .before) (After-accepted·gave
+                  MutSlice.fix-len (Row.get 4 (T102 .locals) (m81 (c .before) (After-ended·gave
+                      c)) .ptr) (Row.get 4 (T102 .locals) (m81 (c .before) (After-ended·gave
+                      c)) .name) (Row.get 4 (T102 .locals) (m81 (c .before) (After-ended·gave
                       c)) .now) (dens
                       (c .before .before .before .before .before .before .before .before .before
                       .before .before .before .before .before .before .before .before .before
@@ -47131,13 +45892,13 @@ module _ (claims· : Claims) where
                       .before .before .before .before .before .before .before .before .before
                       .before .before .before .before .before .before .before .before .before
                       .before .before .before .before .before .args) .1 .1 .1 .0 .now)
-                      (same-length-4 record { before = c .before; accepted = c .accepted }),
+                      (same-length-4 record { before = c .before; ended = c .ended }),
                   (tt, (tt, (tt, (tt, (tt, (tt, (tt, (tt, (tt, (tt, tt)))))))))),
                 ),
               ),
             ),
           ),
-          returns-2 record { before = c .before; accepted = c .accepted },
+          returns-2 record { before = c .before; ended = c .ended },
         )
 
         lay20 :
@@ -47150,7 +45911,7 @@ module _ (claims· : Claims) where
         lay20 = λ c. (
           Path'.refl,
           λ g. λ g'. (
-            accepted-requires record {
+            ended-requires record {
               before = record {
                 before = record { before = c .before; put-post2 = c .put-post2 };
                 reply = record { given = g };
@@ -47165,9 +45926,18 @@ module _ (claims· : Claims) where
                 };
                 slice-known4 = record { given = g' };
               };
-              accepted = Called.called ps·15 r·15 (claims· .31) T90 (
-                record { pos = 10; st = List.[]; d = 0; at = λ x. x },
-                (Num.vAt 8 λ x. x, (Num.vAt 17 λ x. x, (Num.vAt 18 λ x. x, tt))),
+              ended = Called.called ps·15 r·15 (claims· .31) T90 (
+                Bool.bLit Bool'.true,
+                (
+                  record { pos = 10; st = List.[]; d = 0; at = λ x. x },
+                  (
+                    Num.vAt 6 λ x. x,
+                    (
+                      Num.vAt 7 λ x. x,
+                      (Num.vAt 8 λ x. x, (Num.vAt 17 λ x. x, (Num.vAt 18 λ x. x, tt))),
+                    ),
+                  ),
+                ),
               ) (m70 record {
                 before = record { before = c .before; put-post2 = c .put-post2 };
                 reply = record { given = g };
@@ -47418,7 +46188,7 @@ module _ (claims· : Claims) where
         )
 
         lay12 :
-            (c : After-has-room) → at95 (W0
+            (c : After-has-room) → at93 (W0
             (c .before .before .before .before .before .before .before .before .before .before
             .before .before .κs)
             (c .before .before .before .before .before .before .before .before .before .before
@@ -47471,7 +46241,7 @@ module _ (claims· : Claims) where
         )
 
         lay11 :
-            (c : After-place-route) → at101 (W0
+            (c : After-place-route) → at99 (W0
             (c .before .before .before .before .before .before .before .before .before .before
             .before .κs)
             (c .before .before .before .before .before .before .before .before .before .before
@@ -47488,7 +46258,7 @@ module _ (claims· : Claims) where
         )
 
         lay10 :
-            (c : After-is-routed) → at102 (W0
+            (c : After-is-routed) → at100 (W0
             (c .before .before .before .before .before .before .before .before .before .before .κs)
             (c .before .before .before .before .before .before .before .before .before .before
             .args)) (m32 (c .before) (After-is-routed·gave c))
@@ -47515,7 +46285,7 @@ module _ (claims· : Claims) where
 
         lay9 :
             (c : After-place-rows) →
-            at111
+            at109
             (W0
             (c .before .before .before .before .before .before .before .before .κs)
             (c .before .before .before .before .before .before .before .before .args))
@@ -47542,7 +46312,7 @@ module _ (claims· : Claims) where
 
         lay8 :
             (c : After-is-replying) →
-            at112
+            at110
             (W0
             (c .before .before .before .before .before .before .before .κs)
             (c .before .before .before .before .before .before .before .args))
@@ -47570,7 +46340,7 @@ module _ (claims· : Claims) where
 
         lay7 :
             (c : Else1) →
-            at116
+            at114
             (W0
             (c .before .before .before .before .before .κs)
             (c .before .before .before .before .before .args))
@@ -47660,7 +46430,7 @@ module _ (claims· : Claims) where
 
         lay2 :
             (c : After-number) →
-            at119
+            at117
             (W0 (c .before .before .before .before .κs) (c .before .before .before .before .args))
             (m4 (c .before) (After-number·gave c))
         lay2 = λ c. (
@@ -47693,7 +46463,7 @@ module _ (claims· : Claims) where
 
         lay1 :
             (c : After-answer-of) →
-            at120
+            at118
             (W0 (c .before .before .before .κs) (c .before .before .before .args))
             (m3 (c .before) (After-answer-of·gave c))
         lay1 = λ c. (
@@ -47707,7 +46477,7 @@ module _ (claims· : Claims) where
           },
         )
 
-        pub laid : (c : Start) → at123 (W0 (c .κs) (c .args)) (m0 (c .κs) (c .args))
+        pub laid : (c : Start) → at121 (W0 (c .κs) (c .args)) (m0 (c .κs) (c .args))
         laid = λ c. λ g. λ g'. (
           answer-of-requires record {
             before = record { before = c; slice-known = record { given = g } };
@@ -47932,19 +46702,7 @@ module _ (claims· : Claims) where
             r·15
             (claims· .30)
             (claims· .31)
-            "finish::accepted")
-            (known16 : Plain.Known
-            𝓤
-            H
-            A
-            W
-            𝓣
-            0
-            ps·16
-            r·16
-            (claims· .32)
-            (claims· .33)
-            "finish::no_row") where
+            "finish::ended") where
           pub spec :
               Statement.Triple
               𝓤
@@ -47982,7 +46740,6 @@ module _ (claims· : Claims) where
                 known13,
                 known14,
                 known15,
-                known16,
               ) bs bd)
               Pre·
               Post·
