@@ -11,11 +11,11 @@ use borrow.Author.Tests.{lt-ltb, le-ltb, ltb-false}
 use Rattle.lemmas.proofs.Choice.{true-false, and-left, or-left, or-right}
 use Rattle.plain.specs.Lists.{anyTwo}
 use Rattle.plain.specs.Address.{Address, unusable}
-use Rattle.plain.specs.Given.{Settings, Lent, Received, RequestRow, Event, Call, State}
+use Rattle.plain.specs.Given.{Settings, Lent, Received, Start, RequestRow, Event, Call, State}
 use Rattle.plain.specs.Table.{Numbered}
 use Rattle.plain.specs.Octets.{Message, hear, messageOf, baseOf, restored}
-use Rattle.plain.specs.Answers.{View, viewOf, badLent, longMessage, goodInstance, goodRoute, allGood, goodState, wrongState, requests, replies, requestTwins, replyTwins, routeTwins, answerOf}
-use Rattle.plain.specs.Request.{Accepted, ours, askedWith, asked, requestLines, acceptRequest, forwardedRequest, replyMessage, requestRow}
+use Rattle.plain.specs.Answers.{View, viewOf, badLent, longMessage, badStart, goodInstance, goodRoute, allGood, goodState, wrongState, requests, replies, requestTwins, replyTwins, routeTwins, answerOf}
+use Rattle.plain.specs.Request.{Accepted, ours, askedWith, asked, requestLines, acceptRequest, forwardedRequest, replyMessage, requestRow, startTargets, startLines}
 use Rattle.plain.specs.Reply.{partnerOf, answeredWith, answered, replyLines, acceptReply}
 use Rattle.plain.specs.Plain.{Decision, lines, messageLines, linesWith, accept, acceptMessage, acceptWith, decide, enact, step}
 use Rattle.answer.specs.Answer.{answerNumber}
@@ -34,8 +34,16 @@ use Rattle.heard.proofs.Laws.{message-is, reply-is, base-is, heard-sound, lines
 use Rattle.finish.specs.Gives.{nothingSent, stateOf, decisionOf, Gives}
 use Rattle.finish.specs.declared.Outcome.{Outcome}
 use Rattle.finish.proofs.Laws.{refused-gives}
-use Rattle.node.specs.Taken.{lentBy, Taken, requestDecision, replyDecision}
-use Rattle.calls.specs.Calls.{messageCall}
+use Rattle.node.specs.Taken.{lentBy, Taken, TakenStart, requestDecision, replyDecision, startDecision}
+use Rattle.plain.specs.declared.Target.{Target}
+use Rattle.art.specs.declared.Targets.{Targets}
+use Rattle.matching.specs.Kept.{listOf}
+use Rattle.gather.specs.Gathers.{Gathers, Judged}
+use Rattle.gather.specs.declared.Gathering.{Gathering}
+use Rattle.gather.proofs.Judge.{fit}
+use Rattle.start.specs.Start.{startOf}
+use Rattle.start.specs.declared.Asking.{Asking}
+use Rattle.calls.specs.Calls.{messageCall, startCall}
 
 -- ---- what a call that is not 1, and a state that is not 2, tell
 
@@ -201,3 +209,86 @@ module _ (x : Settings) (clock seq t : ℕ) (rows : List InstanceRow) (routes : 
                   (reply-accept x (viewOf s) t e (messageOf octets) y)
                   ∙ reply-apart x s t k octets (messageOf octets)
                   ∙ ap (λ (i : Message). enact t s (replyDecision x s t (receivedBy k []) i)) (sym m-is)
+
+-- ---- a start
+
+module _ (x : Settings) (good : Bool) (v : View) (c : Lent) (e : Start) where
+  start-lines-bad : badLent x (v .clock) c ≡ true → answerOf (lines x good v c (Event.start e)) ≡ 1
+  unfolding lines answerOf
+  start-lines-bad a = rw a
+
+  module _ (a : badLent x (v .clock) c ≡ false) where
+    start-lines-fields : badStart e (startTargets e) ≡ true → answerOf (lines x good v c (Event.start e)) ≡ 1
+    unfolding lines answerOf
+    start-lines-fields l = rw (a, l)
+
+    module _ (l : badStart e (startTargets e) ≡ false) where
+      start-lines-wrong : wrongState good v ≡ true → answerOf (lines x good v c (Event.start e)) ≡ 2
+      unfolding lines answerOf
+      start-lines-wrong w = rw (a, l, w)
+
+      start-lines-on : wrongState good v ≡ false → answerOf (lines x good v c (Event.start e)) ≡ answerOf (startLines x v (c .time) e)
+      unfolding lines answerOf
+      start-lines-on w = rw (a, l, w)
+
+module _ (x : Settings) (clock seq t : ℕ) (rows : List InstanceRow) (routes : List RouteRow) (forward reply : List ℕ) (s : Asking) (targets : List Target) where
+  abbrev from : State
+  from = stateOf clock seq rows routes
+
+  abbrev lent : Lent
+  lent = lentBy t (length forward) (length reply)
+
+  abbrev asking : Start
+  asking = startOf s targets
+
+  abbrev started : Call
+  started = startCall t (length forward) (length reply) s targets
+
+  abbrev start-answered : ℕ
+  start-answered = answerOf (lines x (goodState from) (viewOf from) lent (Event.start asking))
+
+  pub start-refusal : (n : ℕ) (a : Answer) (r : Outcome) → start-answered ≡ n → (n ≡ 0 → ⊥) → answerNumber a ≡ n
+      → r ≡ record { answer = a; forward = nothingSent; reply = nothingSent; clock = clock; seq = seq }
+      → Gives (step x from started) rows rows routes routes forward forward reply reply r
+  start-refusal n a r z u v w =
+      rw (step-is x from started, z) (refused-gives clock seq t rows routes forward reply n (accept x (viewOf from) lent (Event.start asking)) a r v u w)
+
+  module _ (b : Bool) (bad : b ≡ badLent x clock lent) where
+    pub start-bad : b ≡ true → start-answered ≡ 1
+    start-bad z = start-lines-bad x (goodState from) (viewOf from) lent asking (sym bad ∙ z)
+
+    module _ (fine : b ≡ false) (g : Gathering) (gathers : Gathers targets g) (f : Bool) (judged : Judged g (s .l) (s .compr) (s .limit) f) where
+      fields-are : f ≡ badStart asking (startTargets asking)
+      fields-are = judged .told asking gathers refl refl refl
+
+      pub fields-bad : f ≡ true → start-answered ≡ 1
+      fields-bad z = start-lines-fields x (goodState from) (viewOf from) lent asking (sym bad ∙ fine) (sym fields-are ∙ z)
+
+      module _ (fields-fine : f ≡ false) (w : Bool) (wrong : w ≡ wrongState (goodState from) (viewOf from)) where
+        pub start-wrong : w ≡ true → start-answered ≡ 2
+        start-wrong z =
+            start-lines-wrong x (goodState from) (viewOf from) lent asking (sym bad ∙ fine) (sym fields-are ∙ fields-fine) (sym wrong ∙ z)
+
+        module _ (right : w ≡ false) (ts : Targets) (ts-are : ts ≡ g .targets) where
+          pub taken-start : TakenStart clock t forward reply s ts
+          taken-start =
+              let l = bounds x clock lent (sym bad ∙ fine) in
+              let h = fit asking g gathers (sym fields-are ∙ fields-fine) in
+              record {
+                later = l .0;
+                forwardRoom = l .2;
+                replyRoom = l .3;
+                sound = rw ts-are (record { time = l .1; compr = h .compr; targets = h .few; prefixes = h .short });
+              }
+
+          targets-are : listOf ts ≡ startTargets asking
+          targets-are = rw ts-are (fit asking g gathers (sym fields-are ∙ fields-fine) .held)
+
+          pub start-step : step x from started ≡ enact t from (startDecision x from t asking (listOf ts))
+          unfolding startDecision accept
+          start-step =
+              rw (
+                step-is x from started,
+                start-lines-on x (goodState from) (viewOf from) lent asking (sym bad ∙ fine) (sym fields-are ∙ fields-fine) (sym wrong ∙ right),
+                targets-are,
+              )

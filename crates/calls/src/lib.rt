@@ -1,20 +1,22 @@
 // The node's public calls: one for a received message, one for the start of our own discovery. Each takes any arguments whatever and ends
 // with one outcome.
 ghost use mathlib.Core.Path.{_≡_};
-ghost use lib.ListN.{length};
 ghost use Rattle.plain.specs.Request.{ours};
-ghost use Rattle.plain.specs.Plain.{step};
 ghost use Rattle.own.specs.Settings.{settingsOf};
-ghost use Rattle.finish.specs.Gives.{stateOf, Gives};
-ghost use Rattle.calls.specs.Calls.{messageCall};
+ghost use Rattle.gather.specs.Gathers.{Judged};
+ghost use Rattle.calls.specs.Calls.{Asked, Promised};
 ghost use Rattle.answer.specs.declared.Answer.the-variants.{BadCall, WrongState, OwnDodagid};
 use answer::Answer;
+use art::Targets;
 use finish::Outcome;
+use gather::Gathering;
 use message::Link;
 use own::Own;
+use plain::Target;
 use reader::Reading;
 use row::InstanceRow;
 use row::RouteRow;
+use start::Asking;
 
 // ---- by value
 
@@ -50,6 +52,20 @@ fn is_reply(r: Reading) -> bool
     r.discovery.reply
 }
 
+// 1, asked of a start: its targets and its fields.
+fn is_bad_start(g: Gathering, s: Asking) -> bool
+    ensures { λ b. ⌜ Judged g (s .l) (s .compr) (s .limit) b ⌝ }
+{
+    gather::is_bad(g, s.l, s.compr, s.limit)
+}
+
+fn targets_of(g: Gathering) -> Targets
+    ensures { λ r. ⌜ r ≡ g .targets ⌝ }
+{
+    let ts = g.targets;
+    ts
+}
+
 // ---- over the lent tables
 
 // A received message.
@@ -65,7 +81,18 @@ pub fn message(
     t: u64,
     k: Link,
 ) -> Outcome
-    ensures { λ r. ⌜ Gives (step (settingsOf o) (stateOf clock seq (now (instances .entry)) (now (routes .entry))) (messageCall t (length (now (forward .entry))) (length (now (reply .entry))) k (now (octets .entry)))) (now (instances .entry)) (now (instances .exit)) (now (routes .entry)) (now (routes .exit)) (now (forward .entry)) (now (forward .exit)) (now (reply .entry)) (now (reply .exit)) r ⌝ }
+    ensures { λ r. ⌜ Promised o (record {
+      time = t;
+      asked = Asked.message k (now (octets .entry));
+      before = record { clock = clock; seq = seq; instances = now (instances .entry); routes = now (routes .entry) };
+      instancesAfter = now (instances .exit);
+      routesAfter = now (routes .exit);
+      forwardBefore = now (forward .entry);
+      forwardAfter = now (forward .exit);
+      replyBefore = now (reply .entry);
+      replyAfter = now (reply .exit);
+      outcome = r;
+    }) ⌝ }
 {
     if node::is_bad(o, clock, t, forward.len(), reply.len()) {
         return finish::refused(bad_call(), clock, seq);
@@ -90,4 +117,54 @@ pub fn message(
         return node::take_reply(instances, routes, forward, reply, o, clock, seq, t, k, p, v);
     }
     node::take_request(instances, routes, forward, reply, o, clock, seq, t, k, p, v)
+}
+
+// The start of our own discovery, with any number of targets.
+pub fn start(
+    instances: &mut [InstanceRow],
+    routes: &mut [RouteRow],
+    forward: &mut [u8],
+    reply: &mut [u8],
+    targets: &[Target],
+    o: Own,
+    clock: u64,
+    seq: u8,
+    t: u64,
+    s: Asking,
+) -> Outcome
+    ensures { λ r. ⌜ Promised o (record {
+      time = t;
+      asked = Asked.start s (now (targets .entry));
+      before = record { clock = clock; seq = seq; instances = now (instances .entry); routes = now (routes .entry) };
+      instancesAfter = now (instances .exit);
+      routesAfter = now (routes .exit);
+      forwardBefore = now (forward .entry);
+      forwardAfter = now (forward .exit);
+      replyBefore = now (reply .entry);
+      replyAfter = now (reply .exit);
+      outcome = r;
+    }) ⌝ }
+{
+    if node::is_bad(o, clock, t, forward.len(), reply.len()) {
+        return finish::refused(bad_call(), clock, seq);
+    }
+    let g = gather::gather(targets);
+    if is_bad_start(g, s) {
+        return finish::refused(bad_call(), clock, seq);
+    }
+    if node::is_wrong(instances, routes, clock, seq) {
+        return finish::refused(wrong_state(), clock, seq);
+    }
+    node::take_start(
+        instances,
+        routes,
+        forward,
+        reply,
+        o,
+        clock,
+        seq,
+        t,
+        s,
+        targets_of(g),
+    )
 }

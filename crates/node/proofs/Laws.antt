@@ -10,18 +10,18 @@ use lib.ListN.{length, getD, take, replicate, length-append, length-replicate}
 use lib.Seq.{length-take-le}
 use borrow.Author.Tests.{leb-true, le-ltb, eq-eqb, ne-eqb}
 use Rattle.lemmas.proofs.Choice.{true-false, and-left, and-right}
-use Rattle.plain.specs.Lists.{all, anyTwo}
+use Rattle.plain.specs.Lists.{all, anyTwo, given}
 use Rattle.plain.specs.Address.{Address, unusable}
 use Rattle.plain.specs.Given.{Settings, Lent, Received, RequestRow, ReplyRow, Instance, Route, State}
 use Rattle.plain.specs.Table.{Numbered, Change, put, noChange}
 use Rattle.plain.specs.Octets.{Message, mostTargets}
-use Rattle.plain.specs.Answers.{View, viewOf, badLent, goodInstance, allGood, goodDeadline, goodState, wrongState, requests, replies, requestTwins, replyTwins, routeTwins, answerOf}
-use Rattle.plain.specs.Request.{Accepted, Asked, askedWith, asked, requestLines, acceptRequest, freeDelta, deltaTaken, routeChange, withReplyRow}
+use Rattle.plain.specs.Answers.{View, viewOf, badLent, goodInstance, allGood, goodDeadline, goodState, wrongState, requests, replies, requestTwins, replyTwins, routeTwins, answerOf, liveRequest}
+use Rattle.plain.specs.Request.{Accepted, Asked, askedWith, asked, requestLines, acceptRequest, freeDelta, deltaTaken, routeChange, withReplyRow, startLines, acceptStart}
 use Rattle.plain.specs.Reply.{Answered, partnerOf, answeredWith, answered, replyLines, acceptReply, origNode, partnerNumber}
 use Rattle.plain.specs.Plain.{Decision, enact, linesWith, acceptWith, idle}
 use Rattle.plain.specs.declared.Target.{Target}
 use Rattle.answer.specs.Answer.{answerNumber}
-use Rattle.row.specs.Meaning.{instanceOf, routeOf, requestOf, replyOf, routeIn, targetsOf, blankTarget, noRow}
+use Rattle.row.specs.Meaning.{instanceOf, routeOf, requestOf, replyOf, routeIn, targetsOf, blankTarget, noRow, noRoute}
 use Rattle.row.specs.Look.{goodIf}
 use Rattle.row.specs.declared.InstanceRow.{InstanceRow}
 use Rattle.row.specs.declared.RouteRow.{RouteRow}
@@ -38,6 +38,11 @@ use Rattle.decision.specs.declared.Decided.{Decided}
 use Rattle.search.specs.Seen.{requestSeen, replySeen, routeSeen, partnerSeen, deltaSeen, LiveRow, LiveRoute}
 use Rattle.place.specs.Places.{rowChange, hopChange}
 use Rattle.finish.specs.Gives.{stateOf, decisionOf, Ready, Settled, Gives}
+use Rattle.art.specs.declared.Targets.{Targets}
+use Rattle.matching.specs.Kept.{listOf}
+use Rattle.start.specs.Start.{startOf, startAnswer}
+use Rattle.start.specs.declared.Asking.{Asking}
+use Rattle.start.proofs.Lines.{lines-of}
 use Rattle.node.specs.Taken.{requestDecision, replyDecision}
 
 -- ---- 2
@@ -278,3 +283,51 @@ module _ (clock seq t : ℕ) (rows : List InstanceRow) (routes : List RouteRow) 
   reply-is b e f =
       let g : partnerOf (viewOf s) t m ≡ some (record { number = w .at; row = requestOf (w .row) }) = sym partner-is ∙ rw (sym e ∙ f) in
       rw g
+
+-- ---- a start: whether a row of its key is live, and no row of either table stands for it
+
+module _ (clock seq t : ℕ) (rows : List InstanceRow) (routes : List RouteRow) (o : Own) (s : Asking) (ts : Targets) (instance : ℕ) (receiving : Address)
+    (e1 : instance ≡ s .instance) (e2 : receiving ≡ o .receiving) (f : Found) (is : Bool) (e3 : is ≡ f .is)
+    (sf : requestFound f ≡ requestSeen clock rows t instance receiving) where
+  found-given : given (requestFound f) ≡ f .is
+  unfolding requestFound
+  found-given = go (f .is)
+    where
+      go : (b : Bool) → given (numbered b (f .at) (requestOf (f .row))) ≡ b
+      go true = refl
+      go false = refl
+
+  taken-is : is ≡ given (liveRequest (viewOf (stateOf clock seq rows routes)) t (s .instance) (settingsOf o .receiving))
+  unfolding requestSeen
+  taken-is = e3 ∙ (sym found-given ∙ rw (sf, e1, e2))
+
+  abbrev startKey : List Target → ℕ
+  startKey targets = answerOf (startLines (settingsOf o) (viewOf (stateOf clock seq rows routes)) t (startOf s targets))
+
+  pub start-given : (d : Decided) (vector : List Address) (targets : List Target)
+      → Decides {B = RequestRow} (settingsOf o) vector (startAnswer (settingsOf o) s is) (acceptStart (settingsOf o) seq t (startOf s targets) (listOf ts)) none none d
+      → Decides {B = RequestRow} (settingsOf o) vector (startKey targets) (acceptStart (settingsOf o) seq t (startOf s targets) (listOf ts)) none none d
+  start-given d vector targets w =
+      subst (λ (k : ℕ). Decides {B = RequestRow} (settingsOf o) vector k (acceptStart (settingsOf o) seq t (startOf s targets) (listOf ts)) none none d)
+      (ap (startAnswer (settingsOf o) s) taken-is ∙ sym (lines-of (settingsOf o) (viewOf (stateOf clock seq rows routes)) t s targets)) w
+
+module _ (x : Settings) (vector : List Address) (k : ℕ) (acc : Accepted) (d : Decided) (w : Decides {B = RequestRow} x vector k acc none none d) where
+  abbrev noneFound : Found
+  noneFound = record { is = false; at = 0; row = noRow }
+
+  abbrev noRouteFound : FoundRoute
+  noRouteFound = record { is = false; at = 0; route = noRoute }
+
+  nothing-found : Decides {B = RequestRow} x vector k acc (numbered false 0 (requestOf noRow)) (routeFound noRouteFound) d
+  unfolding routeFound
+  nothing-found = w
+
+  pub new-settled : Settled x vector k acc false 0 false 0 d
+  new-settled = settled x vector k acc noneFound (requestOf noRow) noRouteFound d nothing-found false 0 false 0 refl refl refl refl
+
+  pub new-ready : (t : ℕ) (rows : List InstanceRow) (routes : List RouteRow) (forward reply : List ℕ) → 1236 ≤ length forward → 1236 ≤ length reply
+      → Ready x t rows routes forward reply vector d false 0 false 0
+  new-ready t rows routes forward reply p q =
+      ready x vector k acc noneFound (requestOf noRow) noRouteFound d nothing-found false 0 false 0 refl refl refl refl t rows routes forward reply
+      (record { within = λ z. true-false (sym z); stands = λ z. true-false (sym z); lives = λ z. true-false (sym z) })
+      (record { within = λ z. true-false (sym z); lives = λ z. true-false (sym z) }) p q

@@ -4,16 +4,20 @@ use mathlib.Core.Path.{_≡_}
 use mathlib.Core.Bool.{true}
 use mathlib.Core.List.{List, map}
 use lib.ListN.{length}
-use Rattle.plain.specs.Given.{Settings, Lent, Received, State}
+use Rattle.plain.specs.Given.{Settings, Lent, Received, Start, State}
 use Rattle.plain.specs.Answers.{answerOf, viewOf, goodInstance, allGood}
 use Rattle.plain.specs.Octets.{Message}
-use Rattle.plain.specs.Request.{asked, requestLines, acceptRequest}
+use Rattle.plain.specs.Request.{asked, requestLines, acceptRequest, startLines, acceptStart}
 use Rattle.plain.specs.Reply.{partnerOf}
 use Rattle.plain.specs.Plain.{Decision, linesWith, acceptWith}
 use Rattle.row.specs.Meaning.{instanceOf}
 use Rattle.row.specs.declared.InstanceRow.{InstanceRow}
 use Rattle.message.specs.declared.Parsed.{Parsed}
 use Rattle.rule.specs.Heard.{Heard}
+use Rattle.plain.specs.declared.Target.{Target}
+use Rattle.art.specs.declared.Targets.{Targets}
+use Rattle.start.specs.Start.{Sound}
+use Rattle.start.specs.declared.Asking.{Asking}
 use Rattle.finish.specs.Gives.{decisionOf}
 
 -- the time, and of the two lent buffers their lengths
@@ -29,6 +33,13 @@ pub record Taken (clock t : ℕ) (rows : List InstanceRow) (forward reply : List
   pub replyRoom : 1236 ≤ length reply
   pub heard : Heard p
 
+-- What holds of a start where neither 1 nor 2 is answered.
+pub record TakenStart (clock t : ℕ) (forward reply : List ℕ) (s : Asking) (ts : Targets) : Type 0 where
+  pub later : clock ≤ t
+  pub forwardRoom : 1236 ≤ length forward
+  pub replyRoom : 1236 ≤ length reply
+  pub sound : Sound t s ts
+
 -- "A request", from 9 on
 unfoldable pub requestDecision : Settings → State → ℕ → Received → Message → Decision
 requestDecision x s t c m =
@@ -38,3 +49,7 @@ requestDecision x s t c m =
 unfoldable pub replyDecision : Settings → State → ℕ → Received → Message → Decision
 replyDecision x s t c m =
     decisionOf (answerOf (linesWith x c m (viewOf s) t (partnerOf (viewOf s) t m))) (acceptWith x c m (viewOf s) t (partnerOf (viewOf s) t m))
+
+-- "A start", from 10 on: `targets` are its targets without repeats
+unfoldable pub startDecision : Settings → State → ℕ → Start → List Target → Decision
+startDecision x s t c targets = decisionOf (answerOf (startLines x (viewOf s) t c)) (acceptStart x (s .own) t c targets)

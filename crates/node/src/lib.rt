@@ -1,15 +1,19 @@
 // The node's rules over the lent tables: what a heard request or reply, and a start, come to.
 ghost use mathlib.Core.Path.{_≡_};
-ghost use mathlib.Core.List.{[]};
+ghost use mathlib.Core.List.{List, []};
 ghost use Rattle.plain.specs.Given.{State};
 ghost use Rattle.plain.specs.Answers.{badLent, wrongState, goodState, viewOf};
 ghost use Rattle.plain.specs.Plain.{enact};
 ghost use Rattle.answer.specs.declared.Answer.the-variants.{NoPartner};
+ghost use Rattle.plain.specs.declared.Target as plain;
 ghost use Rattle.own.specs.Settings.{settingsOf};
+ghost use Rattle.matching.specs.Kept.{listOf};
+ghost use Rattle.start.specs.Start.{startOf};
 ghost use Rattle.finish.specs.Gives.{stateOf, Gives};
-ghost use Rattle.node.specs.Taken.{lentBy, Taken, requestDecision, replyDecision};
+ghost use Rattle.node.specs.Taken.{lentBy, Taken, TakenStart, requestDecision, replyDecision, startDecision};
 ghost use Rattle.message.specs.Message.{messageIn, receivedBy};
 use answer::Answer;
+use art::Targets;
 use finish::Outcome;
 use message::Found;
 use message::FoundRoute;
@@ -18,6 +22,7 @@ use message::Parsed;
 use own::Own;
 use row::InstanceRow;
 use row::RouteRow;
+use start::Asking;
 
 // ---- by value
 
@@ -107,6 +112,18 @@ fn route_found_at(g: FoundRoute) -> usize
     ensures { λ r. ⌜ r ≡ g .at ⌝ }
 {
     g.at
+}
+
+fn asked_instance(s: Asking) -> u8
+    ensures { λ r. ⌜ r ≡ s .instance ⌝ }
+{
+    s.instance
+}
+
+// A start has no received addresses.
+fn no_vector() -> [[u8; 16]; 16] {
+    let a = [0u8; 16];
+    [a; 16]
 }
 
 // ---- over the lent tables
@@ -215,4 +232,41 @@ pub fn take_reply(
         );
     }
     finish::refused(no_partner(), clock, seq)
+}
+
+// What a start of our own discovery comes to, from 10 on. It is stored in a new row, or refused: no row of its key is written over.
+pub fn take_start(
+    instances: &mut [InstanceRow],
+    routes: &mut [RouteRow],
+    forward: &mut [u8],
+    reply: &mut [u8],
+    o: Own,
+    clock: u64,
+    seq: u8,
+    t: u64,
+    s: Asking,
+    ts: Targets,
+) -> Outcome
+    requires { ⌜ TakenStart clock t (now forward) (now reply) s ts ⌝ }
+    ensures { λ r. ⌜ ((targets : List plain.Target) → Gives (enact t (stateOf clock seq (now (instances .entry)) (now (routes .entry))) (startDecision (settingsOf o) (stateOf clock seq (now (instances .entry)) (now (routes .entry))) t (startOf s targets) (listOf ts))) (now (instances .entry)) (now (instances .exit)) (now (routes .entry)) (now (routes .exit)) (now (forward .entry)) (now (forward .exit)) (now (reply .entry)) (now (reply .exit)) r) ⌝ }
+{
+    let receiving = receiving_of(o);
+    let f = search::search_request(instances, t, asked_instance(s), receiving);
+    let d = start::start(o, seq, t, s, ts, is_found(f));
+    finish::finish(
+        instances,
+        routes,
+        forward,
+        reply,
+        o,
+        clock,
+        seq,
+        t,
+        no_vector(),
+        d,
+        false,
+        0,
+        false,
+        0,
+    )
 }
