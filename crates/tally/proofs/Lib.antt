@@ -1,0 +1,4 @@
+pub mod Elem
+pub mod Lent
+pub mod Number
+pub mod Counts
