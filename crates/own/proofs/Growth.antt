@@ -132,11 +132,3 @@ module _ (x : Settings) (p : length (x .receiving) ≡ 16) (q : length (x .sendi
         → cannotGrow compr (grown x false v) ≡ ltb 252 (grownCount x false n * (16 - compr))
     unfolding cannotGrow
     past-octets h = rw (elided-length compr (grown x false v) (whole-grown false v w), count-is, le-ltb _ _ h)
-
--- where answer 16 is not given, the grown vector has room
-pub grown-room : (x : Settings) (h : Bool) (compr n : ℕ) (v : List Address) → length v ≡ n
-    → cannotGrow compr (grown x h v) ≡ false → grownCount x h n ≤ 16
-unfolding cannotGrow
-grown-room x h compr n v e k =
-    let g = grown x h v in
-    omega (arith, ltb-false 16 (length g) (or-left (ltb 16 (length g)) (ltb 252 (length (elided compr g))) k), grown-length x h v, ap (grownCount x h) e)

@@ -12,6 +12,7 @@ ghost use Rattle.plain.specs.Reply.{before};
 ghost use Rattle.own.specs.Settings.{settingsOf, grownCount, Whole};
 
 // 01, "Settings: a receiving and a sending address."
+#[repr(C)]
 pub struct Own {
     pub receiving: [u8; 16],
     pub sending: [u8; 16],

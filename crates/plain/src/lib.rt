@@ -9,6 +9,7 @@ pub enum Freshness {
 }
 
 // A target with its Dest SeqNo (01, "ART"): Prefix Length 0 is a whole address.
+#[repr(C)]
 pub struct Target {
     pub seq: u8,
     pub plen: u8,

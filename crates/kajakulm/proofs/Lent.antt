@@ -1,0 +1,2 @@
+pub mod kajakulm_message
+pub mod kajakulm_start

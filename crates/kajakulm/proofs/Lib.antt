@@ -1,0 +1,3 @@
+pub mod Lent
+pub mod Laws
+pub mod Runs
