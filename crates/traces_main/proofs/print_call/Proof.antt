@@ -1,0 +1,40 @@
+pub mod Lts
+pub mod Tie
+use borrow.Author.Needs.{needs}
+use Rattle.traces_main.proofs.print_call.Statement.{statement}
+use Rattle.traces_main.proofs.print_call.Proof.Tie as tie
+use Rattle.traces_main.proofs.print_call.Proof.Lts as lts
+use Rattle.traces_main.proofs.Lent.print_call.Reads as reads
+
+outcome-requires : tie.Need-outcome-requires
+outcome-requires c = search needs
+
+slice-aggregate-buffer : tie.Need-slice-aggregate-buffer
+slice-aggregate-buffer c = search needs
+
+forward-size-requires : tie.Need-forward-size-requires
+forward-size-requires c = search needs
+
+buffer-requires : tie.Need-buffer-requires
+buffer-requires c = search needs
+
+slice-aggregate-buffer-2 : tie.Need-slice-aggregate-buffer-2
+slice-aggregate-buffer-2 c = search needs
+
+reply-size-requires : tie.Need-reply-size-requires
+reply-size-requires c = search needs
+
+buffer-requires-2 : tie.Need-buffer-requires-2
+buffer-requires-2 c = search needs
+
+print-rows-requires : tie.Need-print-rows-requires
+print-rows-requires c = search needs
+
+print-routes-requires : tie.Need-print-routes-requires
+print-routes-requires c = search needs
+
+returns : tie.Need-returns
+returns c = search needs
+
+pub print-call-spec : {M : Type 1} → statement M
+print-call-spec = tie.close (tie.spec outcome-requires slice-aggregate-buffer forward-size-requires buffer-requires slice-aggregate-buffer-2 reply-size-requires buffer-requires-2 print-rows-requires print-routes-requires returns)
