@@ -1,8 +1,8 @@
 -- Addresses, over octets of any number.
-use Prim.Native.Nat.{ℕ, _+_, _-_, _^_, _≤_, _<_}
-use mathlib.Core.Path.{_≡_, sym, _∙_}
+use Prim.Native.Nat.{ℕ, _+_, _-_, _*_, _^_, _≤_, _<_}
+use mathlib.Core.Path.{_≡_, refl, ap, sym, _∙_}
 use mathlib.Core.Bool.{true, false}
-use mathlib.Core.List.{List, _++_, append-assoc, append-nil}
+use mathlib.Core.List.{List, [], _∷_, _++_, append-assoc, append-nil}
 use native.Mathlib.Omega.{arith}
 use native.Mathlib.Numerals.{add-one}
 use native.Mathlib.Nat.{div-add-mod'}
@@ -68,6 +68,13 @@ keep-all k x h = let e : 8 - k ≡ 0 = omega arith in rw e (omega arith)
 pub keep-none : (x : ℕ) → x < 256 → keepBits 0 x ≡ 0
 unfolding keepBits
 keep-none x h = omega arith
+
+-- all the bits of an address
+pub first-all : (k : ℕ) (a : List ℕ) → 8 * length a ≤ k → firstBits k a ≡ a
+unfolding firstBits
+first-all k [] h = refl
+first-all k (x ∷ xs) h =
+    rw (keep-all k x (omega arith)) (ap (λ ys. x ∷ ys) (first-all (k - 8) xs (omega arith)))
 
 -- ---- Octets put over others
 

@@ -22,10 +22,13 @@ pub fn shares_first(compr: u8, dodagid: [u8; 16], a: [u8; 16]) -> bool
     true
 }
 
-// Whether two addresses are the same: they share all sixteen octets.
+// Whether two addresses are the same: they share all sixteen octets. Most differ in their last octet, so that one is compared first.
 pub fn is_same(a: [u8; 16], b: [u8; 16]) -> bool
     ensures { λ r. ⌜ r ≡ same a b ⌝ }
 {
+    if a[15] != b[15] {
+        return false;
+    }
     shares_first(16, b, a)
 }
 
@@ -85,8 +88,8 @@ fn past_octet(k: u8) -> u8
     if k < 8 { 0 } else { k - 8 }
 }
 
-// The first k bits of an address, the others 0.
-pub fn first_bits(k: u8, a: [u8; 16]) -> [u8; 16]
+// The first k bits of an address, octet by octet.
+fn cut_bits(k: u8, a: [u8; 16]) -> [u8; 16]
     ensures { λ r. ⌜ r ≡ firstBits k a ⌝ }
 {
     let mut kept = [0u8; 16];
@@ -100,11 +103,24 @@ pub fn first_bits(k: u8, a: [u8; 16]) -> [u8; 16]
     kept
 }
 
+// The first k bits of an address, the others 0. Most are asked for whole.
+pub fn first_bits(k: u8, a: [u8; 16]) -> [u8; 16]
+    ensures { λ r. ⌜ r ≡ firstBits k a ⌝ }
+{
+    if 128 <= k {
+        return a;
+    }
+    cut_bits(k, a)
+}
+
 // Whether two addresses share their first k bits.
 pub fn do_agree(k: u8, a: [u8; 16], b: [u8; 16]) -> bool
     ensures { λ r. ⌜ r ≡ agree k a b ⌝ }
 {
-    is_same(first_bits(k, a), first_bits(k, b))
+    if 128 <= k {
+        return is_same(a, b);
+    }
+    is_same(cut_bits(k, a), cut_bits(k, b))
 }
 
 // Puts some octets over those of `out` from `at` on.

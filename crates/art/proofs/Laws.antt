@@ -1,7 +1,7 @@
 -- What an ART's octets make, and one more target collected.
 use Prim.Native.Nat.{ℕ, _+_, _-_, _/_, _≤_, _<_}
 use mathlib.Core.Path.{_≡_, sym, ap, _∙_}
-use mathlib.Core.Bool.{true, false}
+use mathlib.Core.Bool.{Bool, true, false}
 use mathlib.Core.List.{List, [], _∷_, _++_}
 use native.Mathlib.Omega.{arith}
 use native.Mathlib.Numerals.{add-one}
@@ -9,10 +9,11 @@ use native.Mathlib.Nat.{zero-add}
 use lib.Dec.{eqb, ltb}
 use lib.ListN.{length, take, drop, set, replicate, length-append, length-set, length-replicate, replicate-append-replicate}
 use lib.Seq.{take-at, drop-at, take-append-add, take-length, length-take-le, take-suc-set, append-snoc, paste}
-use borrow.Author.Tests.{ltb-false, eqb-true, not-false}
+use borrow.Author.Tests.{ltb-false, eqb-true, eq-eqb, not-false}
 use Rattle.lemmas.proofs.Choice.{true-false, cond-case, or-left, or-right}
 use Rattle.plain.specs.Lists.{any, onceAfter}
-use Rattle.plain.specs.Octets.{fields, sum, plenOf, prefixOctets, badArt, sameTarget}
+use Rattle.plain.specs.Address.{agree}
+use Rattle.plain.specs.Octets.{fields, sum, plenOf, prefixBits, prefixOctets, badArt, sameTarget}
 use Rattle.plain.specs.declared.Target.{Target}
 use Rattle.art.specs.declared.Targets.{Targets}
 use Rattle.art.specs.Collected.{Collected}
@@ -105,3 +106,10 @@ module _ {all rest : List Target} {ts : Targets} {t : Target} (v : Collected all
           omega (arith, ap length new, length-append (take (ts .count) (ts .list)) (t ∷ after), n, v .few);
       held = λ f. true-false f;
     }
+
+-- ---- Two targets compared
+
+-- of one prefix length: they are the same if they agree in so many bits
+pub same-near : (a b : Target) (k : ℕ) (r : Bool) → a .plen ≡ b .plen → k ≡ prefixBits (a .plen) → r ≡ agree k (a .addr) (b .addr) → r ≡ sameTarget a b
+unfolding sameTarget
+same-near a b k r e f g = rw f at g ∙ rw (eq-eqb (a .plen) (b .plen) e, ← e)

@@ -71,9 +71,7 @@ pub fn same_target(a: Target, b: Target) -> bool
     if a.plen != b.plen {
         return false;
     }
-    let kept = address::first_bits(prefix_bits(a.plen), x);
-    let other = address::first_bits(prefix_bits(b.plen), y);
-    address::is_same(kept, other)
+    address::do_agree(prefix_bits(a.plen), x, y)
 }
 
 // Targets, each once: the first `count` of the list. `over`: there were more than eight.

@@ -2,3 +2,4 @@ pub mod Cases
 pub mod Choice
 pub mod Buffer
 pub mod Walk
+pub mod Same

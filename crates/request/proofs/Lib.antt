@@ -4,4 +4,3 @@ pub mod Lines
 pub mod Made
 pub mod Sent
 pub mod Accept
-pub mod Apart

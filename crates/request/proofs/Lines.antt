@@ -25,11 +25,6 @@ use Rattle.request.specs.Facts.{askedOf}
 use Rattle.request.specs.Posts.{Roomy}
 use Rattle.request.specs.declared.Facts.{Facts}
 
--- a message's vector plays no part in whether it goes on
-pub forwards-any : (p : Parsed) (v : List Address) (a : Facts) → forwards (messageIn p v) (askedOf a) ≡ forwards (messageIn p []) (askedOf a)
-unfolding forwards messageIn
-forwards-any p v a = refl
-
 -- "if targets remain", as the code asks it
 module _ (p : Parsed) (a : Facts) (eight : length (a .targets .list) ≡ 8) where
   pub forwards-some : 0 < a .targets .count

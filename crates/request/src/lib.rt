@@ -25,11 +25,11 @@ ghost use mathlib.Core.List.{List, []};
 ghost use lib.Dec.{eqb, ltb};
 ghost use lib.ListN.{length, take};
 ghost use Rattle.plain.specs.Address.{Address};
-ghost use Rattle.plain.specs.Lists.{given};
+ghost use Rattle.plain.specs.Lists.{any, given};
 ghost use Rattle.plain.specs.Given as rules;
 ghost use Rattle.plain.specs.Answers.{answerOf};
 ghost use Rattle.plain.specs.Rank.{minHop, integerPart, ownRank, rankRefused};
-ghost use Rattle.plain.specs.Request.{grown, cannotGrow, requestStanding, isStale, routeStale, rowTargets, targetsKept, askedWith, forwards, repliesNow, requestLines, sOut, keptDeadline, requestRow, ownReplyRow, routeRow, withRank, withFlag, replyMessage, forwardedRequest, octetsIf, toIf, replyDestination, deltaOr0, acceptRequest};
+ghost use Rattle.plain.specs.Request.{matchesUs, grown, cannotGrow, requestStanding, isStale, routeStale, rowTargets, targetsKept, askedWith, forwards, repliesNow, requestLines, sOut, keptDeadline, requestRow, ownReplyRow, routeRow, withRank, withFlag, replyMessage, forwardedRequest, octetsIf, toIf, replyDestination, deltaOr0, acceptRequest};
 ghost use Rattle.answer.specs.Answer.{answerNumber, destinationOf};
 ghost use Rattle.row.specs.Record.{requestRecord, replyRecord, routeRecord};
 ghost use Rattle.deadline.specs.Deadline.{deadlineOf};
@@ -96,10 +96,12 @@ fn row_targets(f: Found) -> Targets
     }
 }
 
-// The targets that stay in the row and go on: an update's are those also in the row, and none of them is ours.
-fn targets_kept(o: Own, s: Standing, f: Found, ts: Targets) -> Targets
+// The targets that stay in the row and go on: an update's are those also in the row, and none of them is ours. Where no target of a new
+// message is ours, which `targ` tells, they stay as they are.
+fn targets_kept(o: Own, s: Standing, f: Found, ts: Targets, targ: bool) -> Targets
     requires { ⌜ (f .is ≡ true → f .row .count ≤ 8) ⌝ }
-    requires { ⌜ ts .count ≤ 8 ⌝ }
+    requires { ⌜ Kept (listOf ts) ts ⌝ }
+    requires { ⌜ targ ≡ any (matchesUs (settingsOf o)) (listOf ts) ⌝ }
     ensures { λ r. ⌜ Kept (targetsKept (settingsOf o) s (requestFound f) (listOf ts)) r ⌝ }
 {
     let receiving = o.receiving;
@@ -108,7 +110,10 @@ fn targets_kept(o: Own, s: Standing, f: Found, ts: Targets) -> Targets
         let both = matching::common(ts, row_targets(f));
         return matching::not_ours(both, receiving, sending);
     }
-    matching::not_ours(ts, receiving, sending)
+    if targ {
+        return matching::not_ours(ts, receiving, sending);
+    }
+    ts
 }
 
 // The facts of a request.
@@ -127,13 +132,14 @@ pub fn gather(o: Own, k: Link, p: Parsed, f: Found, g: FoundRoute, d: FreeDelta)
     let sending = o.sending;
     let rank = own_rank(p.base.rank, k.increase);
     let standing = how_it_stands(f, p.discovery.number, rank);
-    let targets = targets_kept(o, standing, f, named);
+    let targ = matching::is_named(named, receiving, sending);
+    let targets = targets_kept(o, standing, f, named, targ);
     Facts {
         row: f,
         route: g,
         rank,
         standing,
-        targ: matching::is_named(named, receiving, sending),
+        targ,
         targets,
         delta: d,
     }

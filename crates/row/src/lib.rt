@@ -1,9 +1,9 @@
 // One row of each table, by value: whether it is live, of a key, good; and how a row is made. What a record means is in specs/.
 ghost use mathlib.Core.Path.{_≡_};
-ghost use mathlib.Core.Bool.{cond, _&&_};
+ghost use mathlib.Core.Bool.{cond, true, _&&_, _||_};
 ghost use mathlib.Core.Option.{some, none};
 ghost use Prim.Native.Nat.{_≤_};
-ghost use lib.Dec.{leb};
+ghost use lib.Dec.{eqb, leb};
 ghost use lib.ListN.{length, take, replicate};
 ghost use Rattle.plain.specs.Lists.{same, all};
 ghost use Rattle.plain.specs.Octets.{mostTargets};
@@ -70,13 +70,11 @@ pub fn is_same(a: [u8; 16], b: [u8; 16]) -> bool
     true
 }
 
+// Without a branch: in a mixed table no processor foretells which rows have a deadline.
 fn does_last(endless: u8, deadline: u64, t: u64) -> bool
     ensures { λ b. ⌜ b ≡ lasts t (deadlineOf endless deadline) ⌝ }
 {
-    if endless == 0 {
-        return t < deadline;
-    }
-    true
+    endless | bit(t < deadline) != 0
 }
 
 // 2^41 is the latest good deadline.
@@ -109,30 +107,37 @@ fn are_good_targets(count: u8, targets: [Target; 8]) -> bool
 
 // ---- an instance row
 
+// In use. Which of the two kinds a row has is asked only where it matters: in a mixed table no processor foretells that branch.
+fn is_used(kind: u8) -> bool
+    ensures { λ b. ⌜ b ≡ eqb kind 1 || eqb kind 2 ⌝ }
+{
+    if kind == 0 {
+        return false;
+    }
+    kind <= 2
+}
+
 pub fn is_live(r: InstanceRow, t: u64) -> bool
     ensures { λ b. ⌜ b ≡ live instanceDeadline t (instanceOf r) ⌝ }
 {
-    if r.kind == 1 {
-        return does_last(r.endless, r.deadline, t);
-    }
-    if r.kind == 2 {
+    if is_used(r.kind) {
         return does_last(r.endless, r.deadline, t);
     }
     false
 }
 
-// A request row of that key, live at t.
+// A request row of that key, live at t. The address is compared first: few rows have it, while kinds and numbers are often the same.
 pub fn is_request(r: InstanceRow, t: u64, instance: u8, dodagid: [u8; 16]) -> bool
     ensures { λ b. ⌜ b ≡ requestHere t instance dodagid (instanceOf r) ⌝ }
 {
-    if r.kind != 1 {
-        return false;
-    }
-    if r.instance != instance {
-        return false;
-    }
     let d = r.dodagid;
     if is_same(d, dodagid) {
+        if r.kind != 1 {
+            return false;
+        }
+        if r.instance != instance {
+            return false;
+        }
         return does_last(r.endless, r.deadline, t);
     }
     false
@@ -142,20 +147,43 @@ pub fn is_request(r: InstanceRow, t: u64, instance: u8, dodagid: [u8; 16]) -> bo
 pub fn is_reply(r: InstanceRow, t: u64, instance: u8, dodagid: [u8; 16]) -> bool
     ensures { λ b. ⌜ b ≡ replyHere t instance dodagid (instanceOf r) ⌝ }
 {
-    if r.kind != 2 {
-        return false;
-    }
-    if r.instance != instance {
-        return false;
-    }
     let d = r.dodagid;
     if is_same(d, dodagid) {
+        if r.kind != 2 {
+            return false;
+        }
+        if r.instance != instance {
+            return false;
+        }
         return does_last(r.endless, r.deadline, t);
     }
     false
 }
 
-pub fn is_good(r: InstanceRow) -> bool
+// At most four targets, as most rows have, none of them wrong: asked without a branch that goes by the count. Where this is not so,
+// nothing is said.
+fn are_few_good(count: u8, targets: [Target; 8]) -> bool
+    ensures { λ b. ⌜ (b ≡ true → leb (length (targetsOf count targets)) mostTargets && all goodTarget (targetsOf count targets) ≡ true) ⌝ }
+{
+    if 4 < count {
+        return false;
+    }
+    are_good_targets(4, targets)
+}
+
+// Good whatever its kind. Where this is not so, nothing is said.
+fn is_plainly_good(r: InstanceRow) -> bool
+    ensures { λ b. ⌜ (b ≡ true → goodIf goodInstance (instanceOf r) ≡ true) ⌝ }
+{
+    let ts = r.targets;
+    if are_few_good(r.count, ts) {
+        return is_good_deadline(r.endless, r.deadline);
+    }
+    false
+}
+
+// Asked of each kind by itself, which no processor foretells in a mixed table.
+fn is_good_of_kind(r: InstanceRow) -> bool
     ensures { λ b. ⌜ b ≡ goodIf goodInstance (instanceOf r) ⌝ }
 {
     if r.kind == 1 {
@@ -171,6 +199,15 @@ pub fn is_good(r: InstanceRow) -> bool
     true
 }
 
+pub fn is_good(r: InstanceRow) -> bool
+    ensures { λ b. ⌜ b ≡ goodIf goodInstance (instanceOf r) ⌝ }
+{
+    if is_plainly_good(r) {
+        return true;
+    }
+    is_good_of_kind(r)
+}
+
 // ---- a route
 
 pub fn is_live_route(r: RouteRow, t: u64) -> bool
@@ -182,17 +219,17 @@ pub fn is_live_route(r: RouteRow, t: u64) -> bool
     false
 }
 
-// A route of those three, live at t.
+// A route of those three, live at t. Many routes have one source, our own, so the destination is compared first.
 pub fn is_route(r: RouteRow, t: u64, source: [u8; 16], destination: [u8; 16], instance: u8) -> bool
     ensures { λ b. ⌜ b ≡ routeHere t source destination instance (routeOf r) ⌝ }
 {
-    if r.kind != 1 {
-        return false;
-    }
-    let s = r.source;
-    if is_same(s, source) {
-        let d = r.destination;
-        if is_same(d, destination) {
+    let d = r.destination;
+    if is_same(d, destination) {
+        if r.kind != 1 {
+            return false;
+        }
+        let s = r.source;
+        if is_same(s, source) {
             if r.instance == instance {
                 return does_last(r.endless, r.deadline, t);
             }

@@ -7,14 +7,14 @@ use mathlib.Core.Logic.{⊎-elim}
 use native.Mathlib.Omega.{arith}
 use native.Mathlib.Nat.{eq-or-lt-of-le}
 use lib.Dec.{eqb}
-use lib.Bits.{bitOr, and-le-r}
+use lib.Bits.{bitOr, bitAnd, and-le-r}
 use lib.ListN.{length, getD, set, take, length-take}
 use lib.Seq.{getD-set-same, getD-set-other, getD-take}
 use borrow.Author.Tests.{eqb-true, eqb-false, eq-eqb}
 use Rattle.plain.specs.Lists.{any, anyTwo}
 use Rattle.lemmas.proofs.Choice.{true-false, or-left, or-right, or-neither}
 use Rattle.table.proofs.Found.{cond-true}
-use Rattle.twins.specs.Filter.{slotOf, bitsOf, hasBits, maybeOf, markedOf, classOf, chosenOf, inClass}
+use Rattle.twins.specs.Filter.{bitsOf, hasBits, maybeOf, markedOf, classOf, chosenOf, inClass}
 use Rattle.twins.proofs.Any.{not-so, so, any-false, any-not, two-less}
 use Rattle.twins.proofs.Words.{or-has, or-keeps}
 
@@ -29,9 +29,9 @@ unfolding hasBits markedOf
 stays true w h g e = eq-eqb _ _ (or-keeps w (bitsOf g) (bitsOf h) (eqb-true (bitOr w (bitsOf g)) w e))
 stays false w h g e = e
 
--- the words have the mark of a hash
-abbrev pub has : List ℕ → ℕ → Bool
-has ws h = hasBits (getD ws (slotOf h) 0) h
+-- the words have the mark of a hash, of which `slot` tells the word
+abbrev pub has : (ℕ → ℕ) → List ℕ → ℕ → Bool
+has slot ws h = hasBits (getD ws (slot h) 0) h
 
 -- ---- one pass over rows of any kind
 
@@ -45,7 +45,7 @@ pub record Kind : Type 1 where
   pub twins : Row → Row → Bool
   pub joins : (a b : Row) → twins a b ≡ true → (live a ≡ true) × (live b ≡ true) × (hash a ≡ hash b)
 
-module _ (K : Kind) (mask p : ℕ) (rows : List (K .Row)) where
+module _ (slot : ℕ → ℕ) (K : Kind) (mask p : ℕ) (rows : List (K .Row)) where
   abbrev pub row : ℕ → K .Row
   row k = getD rows k (K .none)
 
@@ -61,7 +61,7 @@ module _ (K : Kind) (mask p : ℕ) (rows : List (K .Row)) where
 
   -- every chosen row before j has its mark
   pub Holds : ℕ → List ℕ → Type 0
-  Holds j ws = (k : ℕ) → k < j → chosen (row k) ≡ true → has ws (K .hash (row k)) ≡ true
+  Holds j ws = (k : ℕ) → k < j → chosen (row k) ≡ true → has slot ws (K .hash (row k)) ≡ true
 
   pub none-held : (ws : List ℕ) → Holds 0 ws
   unfolding Holds
@@ -69,7 +69,7 @@ module _ (K : Kind) (mask p : ℕ) (rows : List (K .Row)) where
 
   -- no mark, or a mark and no earlier twin: no earlier twin of the class
   miss : (j : ℕ) (ws : List ℕ) → j < length rows → Holds j ws
-      → cond (maybeOf (chosen (row j)) (getD ws (slotOf (K .hash (row j))) 0) (K .hash (row j)))
+      → cond (maybeOf (chosen (row j)) (getD ws (slot (K .hash (row j))) 0) (K .hash (row j)))
       (earlierTwin j) false ≡ false
       → earlierIn j ≡ false
   unfolding maybeOf Holds inClass chosenOf
@@ -84,7 +84,7 @@ module _ (K : Kind) (mask p : ℕ) (rows : List (K .Row)) where
           let tw : K .twins (row k) (row j) ≡ true = rw row-k at (q .1) in
           let s = K .joins (row k) (row j) tw in
           let c : chosen (row k) ≡ true = rw (s .0, s .2, q .0) in
-          let m : has ws (K .hash (row j)) ≡ true = rw (s .2) at (holds k b c) in
+          let m : has slot ws (K .hash (row j)) ≡ true = rw (s .2) at (holds k b c) in
           let f : earlierTwin j ≡ false = rw (s .1, q .0, m) at e in
           let g = any-not (λ (a : K .Row). K .twins a (row j)) (take j rows) (K .none) f k l in
           true-false (sym (q .1) ∙ g)
@@ -100,39 +100,39 @@ module _ (K : Kind) (mask p : ℕ) (rows : List (K .Row)) where
       rw (s .1) (q .1)
 
   -- its own mark is set, and the others stay
-  keep : (j : ℕ) (ws : List ℕ) → slotOf (K .hash (row j)) < length ws → Holds j ws
-      → Holds (j + 1) (set ws (slotOf (K .hash (row j))) (markedOf (chosen (row j)) (getD ws (slotOf (K .hash (row j))) 0) (K .hash (row j))))
+  keep : (j : ℕ) (ws : List ℕ) → slot (K .hash (row j)) < length ws → Holds j ws
+      → Holds (j + 1) (set ws (slot (K .hash (row j))) (markedOf (chosen (row j)) (getD ws (slot (K .hash (row j))) 0) (K .hash (row j))))
   unfolding Holds
   keep j ws room holds k l c =
       ⊎-elim
       (λ (e : k ≡ j).
       let on : chosen (row j) ≡ true = rw e at c in
       rw (e, getD-set-same ws _ _ 0 room, on) (marks _ _))
-      (λ (m : k < j). go m (eqb (slotOf (K .hash (row k))) (slotOf (K .hash (row j)))) refl)
+      (λ (m : k < j). go m (eqb (slot (K .hash (row k))) (slot (K .hash (row j)))) refl)
       (eq-or-lt-of-le (omega arith))
     where
-      go : k < j → (b : Bool) → eqb (slotOf (K .hash (row k))) (slotOf (K .hash (row j))) ≡ b
-          → has
-          (set ws (slotOf (K .hash (row j))) (markedOf (chosen (row j)) (getD ws (slotOf (K .hash (row j))) 0) (K .hash (row j))))
+      go : k < j → (b : Bool) → eqb (slot (K .hash (row k))) (slot (K .hash (row j))) ≡ b
+          → has slot
+          (set ws (slot (K .hash (row j))) (markedOf (chosen (row j)) (getD ws (slot (K .hash (row j))) 0) (K .hash (row j))))
           (K .hash (row k)) ≡ true
       go m true q =
-          let e : slotOf (K .hash (row k)) ≡ slotOf (K .hash (row j)) = eqb-true (slotOf (K .hash (row k))) (slotOf (K .hash (row j))) q in
+          let e : slot (K .hash (row k)) ≡ slot (K .hash (row j)) = eqb-true (slot (K .hash (row k))) (slot (K .hash (row j))) q in
           rw (e, getD-set-same ws _ _ 0 room) (stays _ _ _ _ (rw e at (holds k m c)))
       go m false q =
-          rw (getD-set-other ws _ _ _ 0 (eqb-false (slotOf (K .hash (row k))) (slotOf (K .hash (row j))) q)) (holds k m c)
+          rw (getD-set-other ws _ _ _ 0 (eqb-false (slot (K .hash (row k))) (slot (K .hash (row j))) q)) (holds k m c)
 
   -- the same with a name for each thing that the code computes on the way
   module _ (j h s x : ℕ) (v on m b : Bool) (ws : List ℕ)
-      (hashed : h ≡ K .hash (row j)) (lives : v ≡ K .live (row j)) (chose : on ≡ chosenOf mask p v h) (slot : s ≡ slotOf h) where
+      (hashed : h ≡ K .hash (row j)) (lives : v ≡ K .live (row j)) (chose : on ≡ chosenOf mask p v h) (placed : s ≡ slot h) where
     chose-is : on ≡ chosen (row j)
     chose-is = chose ∙ rw (hashed, lives)
 
     pub pass-miss : j < length rows → Holds j ws → m ≡ maybeOf on (getD ws s 0) h → b ≡ cond m (earlierTwin j) false
         → b ≡ false → earlierIn j ≡ false
-    pass-miss low holds e f g = miss j ws low holds (rw (← chose-is, ← hashed, ← slot, ← e) (sym f ∙ g))
+    pass-miss low holds e f g = miss j ws low holds (rw (← chose-is, ← hashed, ← placed, ← e) (sym f ∙ g))
 
     pub pass-keep : Holds j ws → s < length ws → x ≡ markedOf on (getD ws s 0) h → Holds (j + 1) (set ws s x)
-    pass-keep holds room e = rw (e, chose-is, slot, hashed) (keep j ws (rw (← hashed, ← slot) room) holds)
+    pass-keep holds room e = rw (e, chose-is, placed, hashed) (keep j ws (rw (← hashed, ← placed) room) holds)
 
     pub pass-hit : m ≡ maybeOf on (getD ws s 0) h → b ≡ cond m (earlierTwin j) false → b ≡ true
         → earlierIn j ≡ true
@@ -166,3 +166,15 @@ module _ {R : Type 0} (hash : R → ℕ) (twins : R → R → Bool) (mask : ℕ)
   one-class q rows e =
       so (anyTwo twins rows) (λ n. true-false (sym e
       ∙ two-less (inClass hash mask q twins) twins (λ a b w. cond-true (eqb (classOf mask (hash b)) q) (twins a b) w .1) rows n))
+
+-- ---- one class for all
+
+-- every row is of the one class
+pub one-chosen : (v : Bool) (h : ℕ) → v ≡ chosenOf 0 0 v h
+unfolding chosenOf classOf
+one-chosen true h = sym (eq-eqb (bitAnd (h / 65536 % 65536) 0) 0 (omega (arith, and-le-r (h / 65536 % 65536) 0)))
+one-chosen false h = refl
+
+pub all-class : {R : Type 0} (hash : R → ℕ) (twins : R → R → Bool) (rows : List R) → anyTwo (inClass hash 0 0 twins) rows ≡ false
+    → anyTwo twins rows ≡ false
+all-class hash twins rows e = each-class hash twins 0 rows (λ q l. let z : q ≡ 0 = omega arith in rw z e)

@@ -2,6 +2,8 @@ pub mod earlier
 pub mod earlier_route
 pub mod every_pair
 pub mod every_pair_of_routes
+pub mod few
+pub mod few_routes
 pub mod has_twins
 pub mod has_twins_route
 pub mod pass

@@ -14,7 +14,8 @@ use Rattle.plain.specs.Answers.{requests, replies, requestTwins, replyTwins, ro
 use Rattle.lemmas.proofs.Choice.{true-false, and-left, and-right}
 use Rattle.row.specs.Meaning.{instanceOf, routeOf, requestOf, replyOf, routeIn, noRow, noRoute}
 use Rattle.row.specs.Look.{partOf, held, asRequest, asReply}
-use Rattle.row.proofs.Laws.{same-equal, request-part, reply-part, route-part}
+use Rattle.lemmas.proofs.Same.{same-equal}
+use Rattle.row.proofs.Laws.{request-part, reply-part, route-part}
 use Rattle.row.specs.declared.InstanceRow.{InstanceRow}
 use Rattle.row.specs.declared.RouteRow.{RouteRow}
 use Rattle.table.proofs.Found.{cond-true, asPart, parts, seen, parts-cons, requests-are, replies-are, routes-are}
@@ -22,6 +23,34 @@ use Rattle.twins.specs.Pair.{sameKey, rowTwins, sameThree, routePair}
 use Rattle.twins.specs.Filter.{hashRow, hashRoute}
 use Rattle.twins.proofs.Filter.{Kind}
 use Rattle.twins.proofs.Any.{or-none, two-same, two-either}
+
+-- ---- keys compared by their addresses first
+
+pub key-far : (a b : InstanceRow) → same (a .dodagid) (b .dodagid) ≡ false → sameKey a b ≡ false
+unfolding sameKey
+key-far a b e = rw e (go (eqb (a .kind) (b .kind)) (eqb (a .instance) (b .instance)))
+  where
+    go : (k i : Bool) → k && (i && false) ≡ false
+    go true true = refl
+    go true false = refl
+    go false i = refl
+
+pub key-near : (a b : InstanceRow) → eqb (a .kind) (b .kind) ≡ true → same (a .dodagid) (b .dodagid) ≡ true
+    → sameKey a b ≡ eqb (a .instance) (b .instance)
+unfolding sameKey
+key-near a b k e = rw (k, e) (go (eqb (a .instance) (b .instance)))
+  where
+    go : (i : Bool) → true && (i && true) ≡ i
+    go true = refl
+    go false = refl
+
+pub three-far : (a b : RouteRow) → same (a .destination) (b .destination) ≡ false → sameThree a b ≡ false
+unfolding sameThree
+three-far a b e = rw e (go (same (a .source) (b .source)))
+  where
+    go : (s : Bool) → s && false && eqb (a .instance) (b .instance) ≡ false
+    go true = refl
+    go false = refl
 
 -- ---- twins have one hash
 

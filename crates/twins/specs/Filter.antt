@@ -12,10 +12,14 @@ use Rattle.row.specs.declared.RouteRow.{RouteRow}
 unfoldable pub quadOf : ℕ → ℕ → ℕ → ℕ → ℕ
 quadOf a b c d = a + b * 256 + c * 65536 + d * 16777216
 
+unfoldable pub spreadOf : ℕ → ℕ → ℕ
+spreadOf a b = bitXor (a * 2654435761) (b * 2246822519)
+
 unfoldable pub mixOf : ℕ → ℕ → ℕ → ℕ → ℕ → ℕ
-mixOf k a b c d =
-    bitXor (bitXor (bitXor (bitXor (a * 2654435761) (b * 2246822519)) (c * 3266489917)) (d * 3605593785)) (k * 24569562668599)
-    / 65536 % 4294967296 * 2654435769
+mixOf k a b c d = spreadOf (bitXor (bitXor a d) k) (bitXor b c)
+
+unfoldable pub finishOf : ℕ → ℕ
+finishOf x = x / 65536 % 4294967296 * 2654435769
 
 -- an address, with a number that tells kinds and places apart
 unfoldable pub hashAddress : ℕ → Address → ℕ
@@ -24,23 +28,26 @@ hashAddress k d =
     (quadOf (getD d 8 0) (getD d 9 0) (getD d 10 0) (getD d 11 0)) (quadOf (getD d 12 0) (getD d 13 0) (getD d 14 0) (getD d 15 0))
 
 unfoldable pub hashRow : InstanceRow → ℕ
-hashRow r = hashAddress (r .kind * 256 + r .instance) (r .dodagid)
+hashRow r = finishOf (hashAddress (r .kind * 256 + r .instance) (r .dodagid))
 
 unfoldable pub hashRoute : RouteRow → ℕ
-hashRoute r = bitXor (hashAddress (0 * 256 + r .instance) (r .source)) (hashAddress (1 * 256 + r .instance) (r .destination))
+hashRoute r = finishOf (bitXor (hashAddress (r .instance) (r .source)) (hashAddress 0 (r .destination) / 2048))
 
 -- ---- the words
 
+unfoldable pub fewSlotOf : ℕ → ℕ
+fewSlotOf h = h / 35184372088832 % 64
+
 unfoldable pub slotOf : ℕ → ℕ
-slotOf h = h / 4294967296 % 1024
+slotOf h = h / 16777216 % 4294967296 * 3 / 8388608
 
 abbrev pub bitAt : ℕ → ℕ
 bitAt k = 1 * 2 ^ k % 18446744073709551616
 
 unfoldable pub bitsOf : ℕ → ℕ
 bitsOf h =
-    bitOr (bitOr (bitOr (bitAt (h / 4398046511104 % 64)) (bitAt (h / 281474976710656 % 64))) (bitAt (h / 18014398509481984 % 64)))
-    (bitAt (h / 67108864 % 64))
+    bitOr (bitOr (bitOr (bitOr (bitAt (h / 549755813888 % 64)) (bitAt (h / 8589934592 % 64))) (bitAt (h / 134217728 % 64)))
+    (bitAt (h / 72057594037927936 % 64))) (bitAt (h / 2097152 % 64))
 
 unfoldable pub hasBits : ℕ → ℕ → Bool
 hasBits w h = eqb (bitOr w (bitsOf h)) w

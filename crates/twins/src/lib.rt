@@ -1,6 +1,6 @@
-// Whether two live rows of a table have one key (answer 2). Up to 16 rows every pair is compared. Above, a filter of 8 KiB on the stack
-// tells most rows that no earlier row has their key; only where it does not are the earlier rows gone through. One pass takes the rows of
-// one class of hashes, so that the filter does not fill up in a long table.
+// Whether two live rows of a table have one key (answer 2). Up to 16 rows every pair is compared. Above, a filter on the stack tells most
+// rows that no earlier row has their key; only where it does not are the earlier rows gone through. Up to 128 rows the filter has 512
+// octets, above 12 KiB, and one pass takes the rows of one class of hashes, so that the filter does not fill up in a long table.
 ghost use mathlib.Core.Path.{_≡_};
 ghost use mathlib.Core.Bool.{cond, false, _||_};
 ghost use mathlib.Core.List.{map};
@@ -11,24 +11,25 @@ ghost use Rattle.plain.specs.Table.{liveRows, instanceDeadline, routeDeadline};
 ghost use Rattle.plain.specs.Answers.{requests, replies, requestTwins, replyTwins, routeTwins};
 ghost use Rattle.row.specs.Meaning.{instanceOf, routeOf, noRow, noRoute};
 ghost use Rattle.twins.specs.Pair.{sameKey, sameThree, rowTwins, routePair};
-ghost use Rattle.twins.specs.Filter.{quadOf, mixOf, hashAddress, hashRow, hashRoute, slotOf, bitsOf, maybeOf, markedOf, classOf, chosenOf, inClass};
+ghost use Rattle.twins.specs.Filter.{quadOf, mixOf, spreadOf, finishOf, hashAddress, hashRow, hashRoute, fewSlotOf, slotOf, bitsOf, maybeOf, markedOf, classOf, chosenOf, inClass};
 use row::InstanceRow;
 use row::RouteRow;
 
 // ---- two rows
 
+// The addresses are compared first: few are the same, while kinds and numbers often are.
 fn is_same_key(a: InstanceRow, b: InstanceRow) -> bool
     ensures { λ r. ⌜ r ≡ sameKey a b ⌝ }
 {
-    if a.kind != b.kind {
-        return false;
-    }
-    if a.instance != b.instance {
-        return false;
-    }
     let x = a.dodagid;
     let y = b.dodagid;
-    row::is_same(x, y)
+    if row::is_same(x, y) {
+        if a.kind != b.kind {
+            return false;
+        }
+        return a.instance == b.instance;
+    }
+    false
 }
 
 // The key is compared first: few rows have the same.
@@ -47,12 +48,12 @@ fn are_twins(a: InstanceRow, b: InstanceRow, t: u64) -> bool
 fn is_same_three(a: RouteRow, b: RouteRow) -> bool
     ensures { λ r. ⌜ r ≡ sameThree a b ⌝ }
 {
-    let s = a.source;
-    let x = b.source;
-    if row::is_same(s, x) {
-        let d = a.destination;
-        let y = b.destination;
-        if row::is_same(d, y) {
+    let d = a.destination;
+    let y = b.destination;
+    if row::is_same(d, y) {
+        let s = a.source;
+        let x = b.source;
+        if row::is_same(s, x) {
             return a.instance == b.instance;
         }
         return false;
@@ -80,15 +81,25 @@ fn quad(a: u8, b: u8, c: u8, d: u8) -> u32
     a as u32 + b as u32 * 256 + c as u32 * 65536 + d as u32 * 16777216
 }
 
-// Products of 32 bits by 32 bits, of which the middle bits are taken: std has no product that wraps.
+// Products of 32 bits by 32 bits: std has no product that wraps.
+fn spread(a: u32, b: u32) -> u64
+    ensures { λ r. ⌜ r ≡ spreadOf a b ⌝ }
+{
+    a as u64 * 2654435761 ^ b as u64 * 2246822519
+}
+
+// The words are first put together in pairs, since products cost most. In most addresses one word of a pair is part of a prefix that all
+// share.
 fn mix(k: u16, a: u32, b: u32, c: u32, d: u32) -> u64
     ensures { λ r. ⌜ r ≡ mixOf k a b c d ⌝ }
 {
-    let x = a as u64 * 2654435761
-        ^ b as u64 * 2246822519
-        ^ c as u64 * 3266489917
-        ^ d as u64 * 3605593785
-        ^ k as u64 * 24569562668599;
+    spread(a ^ d ^ k as u32, b ^ c)
+}
+
+// The middle bits of the products, spread once more.
+fn finish(x: u64) -> u64
+    ensures { λ r. ⌜ r ≡ finishOf x ⌝ }
+{
     x / 65536 % 4294967296 * 2654435769
 }
 
@@ -113,41 +124,48 @@ fn hash_row(r: InstanceRow) -> u64
 {
     let d = r.dodagid;
     let k = pair(r.kind, r.instance);
-    hash_address(k, d)
+    finish(hash_address(k, d))
 }
 
-// The two addresses are told apart, so that a route and its way back have two hashes.
+// The two addresses count in different ways, so that a route and its way back have two hashes.
 fn hash_route(r: RouteRow) -> u64
     ensures { λ h. ⌜ h ≡ hashRoute r ⌝ }
 {
     let s = r.source;
     let d = r.destination;
-    let j = pair(0, r.instance);
-    let x = hash_address(j, s);
-    let k = pair(1, r.instance);
-    let y = hash_address(k, d);
-    x ^ y
+    let x = hash_address(r.instance as u16, s);
+    let y = hash_address(0, d);
+    finish(x ^ y / 2048)
 }
 
-// ---- the filter: 1,024 words, in each of which a hash has four bits
+// ---- the filter: 64 or 1,536 words, in each of which a hash has five bits
 
+fn few_slot_of(h: u64) -> usize
+    ensures { λ r. ⌜ r ≡ fewSlotOf h ⌝ }
+    ensures { λ r. ⌜ r < 64 ⌝ }
+{
+    (h / 35184372088832 % 64) as usize
+}
+
+// 1,536 times the part of 2^32 that 32 bits of the hash are: a remainder by 1,536 would cost more.
 fn slot_of(h: u64) -> usize
     ensures { λ r. ⌜ r ≡ slotOf h ⌝ }
-    ensures { λ r. ⌜ r < 1024 ⌝ }
+    ensures { λ r. ⌜ r < 1536 ⌝ }
 {
-    (h / 4294967296 % 1024) as usize
+    (h / 16777216 % 4294967296 * 3 / 8388608) as usize
 }
 
 fn bits_of(h: u64) -> u64
     ensures { λ r. ⌜ r ≡ bitsOf h ⌝ }
 {
-    1 << (h / 4398046511104 % 64)
-        | 1 << (h / 281474976710656 % 64)
-        | 1 << (h / 18014398509481984 % 64)
-        | 1 << (h / 67108864 % 64)
+    1 << (h / 549755813888 % 64)
+        | 1 << (h / 8589934592 % 64)
+        | 1 << (h / 134217728 % 64)
+        | 1 << (h / 72057594037927936 % 64)
+        | 1 << (h / 2097152 % 64)
 }
 
-// Whether an earlier row may have the key: all four bits are set.
+// Whether an earlier row may have the key: all five bits are set.
 fn maybe(on: bool, w: u64, h: u64) -> bool
     ensures { λ r. ⌜ r ≡ maybeOf on w h ⌝ }
 {
@@ -250,11 +268,31 @@ fn every_pair(rows: &[InstanceRow], t: u64) -> bool
     false
 }
 
+// All in one pass, with the small filter.
+fn few(rows: &[InstanceRow], t: u64) -> bool
+    ensures { λ b. ⌜ b ≡ anyTwo (rowTwins t) (now (rows .entry)) ⌝ }
+{
+    let mut words: [u64; 64] = [0; 64];
+    let mut j: usize = 0;
+    while j < rows.len() {
+        let h = hash_row(rows[j]);
+        let on = row::is_live(rows[j], t);
+        let s = few_slot_of(h);
+        let w = words[s];
+        if earlier(rows, j, t, maybe(on, w, h)) {
+            return true;
+        }
+        words[s] = marked(on, w, h);
+        j += 1;
+    }
+    false
+}
+
 // Twins of one class.
 fn pass(rows: &[InstanceRow], t: u64, mask: u64, p: u64) -> bool
     ensures { λ b. ⌜ b ≡ anyTwo (inClass hashRow mask p (rowTwins t)) (now (rows .entry)) ⌝ }
 {
-    let mut words: [u64; 1024] = [0; 1024];
+    let mut words: [u64; 1536] = [0; 1536];
     let mut j: usize = 0;
     while j < rows.len() {
         let h = hash_row(rows[j]);
@@ -270,11 +308,16 @@ fn pass(rows: &[InstanceRow], t: u64, mask: u64, p: u64) -> bool
     false
 }
 
+// The first pass is called for by itself: a function of one caller would be compiled into it, and its filter would then stand in the frame
+// of every call, that of a node with few rows too.
 fn passes(rows: &[InstanceRow], t: u64) -> bool
     ensures { λ b. ⌜ b ≡ anyTwo (rowTwins t) (now (rows .entry)) ⌝ }
 {
     let mask = mask_for(rows.len());
-    let mut p: u64 = 0;
+    if pass(rows, t, mask, 0) {
+        return true;
+    }
+    let mut p: u64 = 1;
     while p <= mask {
         if pass(rows, t, mask, p) {
             return true;
@@ -290,6 +333,9 @@ pub fn has_twins(rows: &[InstanceRow], clock: u64) -> bool
 {
     if rows.len() <= 16 {
         return every_pair(rows, clock);
+    }
+    if rows.len() <= 128 {
+        return few(rows, clock);
     }
     passes(rows, clock)
 }
@@ -333,10 +379,29 @@ fn every_pair_of_routes(routes: &[RouteRow], t: u64) -> bool
     false
 }
 
+fn few_routes(routes: &[RouteRow], t: u64) -> bool
+    ensures { λ b. ⌜ b ≡ anyTwo (routePair t) (now (routes .entry)) ⌝ }
+{
+    let mut words: [u64; 64] = [0; 64];
+    let mut j: usize = 0;
+    while j < routes.len() {
+        let h = hash_route(routes[j]);
+        let on = row::is_live_route(routes[j], t);
+        let s = few_slot_of(h);
+        let w = words[s];
+        if earlier_route(routes, j, t, maybe(on, w, h)) {
+            return true;
+        }
+        words[s] = marked(on, w, h);
+        j += 1;
+    }
+    false
+}
+
 fn pass_routes(routes: &[RouteRow], t: u64, mask: u64, p: u64) -> bool
     ensures { λ b. ⌜ b ≡ anyTwo (inClass hashRoute mask p (routePair t)) (now (routes .entry)) ⌝ }
 {
-    let mut words: [u64; 1024] = [0; 1024];
+    let mut words: [u64; 1536] = [0; 1536];
     let mut j: usize = 0;
     while j < routes.len() {
         let h = hash_route(routes[j]);
@@ -356,7 +421,10 @@ fn passes_routes(routes: &[RouteRow], t: u64) -> bool
     ensures { λ b. ⌜ b ≡ anyTwo (routePair t) (now (routes .entry)) ⌝ }
 {
     let mask = mask_for(routes.len());
-    let mut p: u64 = 0;
+    if pass_routes(routes, t, mask, 0) {
+        return true;
+    }
+    let mut p: u64 = 1;
     while p <= mask {
         if pass_routes(routes, t, mask, p) {
             return true;
@@ -372,6 +440,9 @@ pub fn has_twins_route(routes: &[RouteRow], clock: u64) -> bool
 {
     if routes.len() <= 16 {
         return every_pair_of_routes(routes, clock);
+    }
+    if routes.len() <= 128 {
+        return few_routes(routes, clock);
     }
     passes_routes(routes, clock)
 }

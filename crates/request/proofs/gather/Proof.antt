@@ -11,18 +11,19 @@ own-rank-requires c κs = search needs
 how-it-stands-requires : tie.Need-how-it-stands-requires
 how-it-stands-requires c κs = search needs
 
-targets-kept-requires : tie.Need-targets-kept-requires
-targets-kept-requires c κs = search needs
-
 is-named-requires : tie.Need-is-named-requires
 is-named-requires c κs = search needs
+
+targets-kept-requires : tie.Need-targets-kept-requires
+targets-kept-requires c κs =
+    (c .before .before .before .before .before .before .pre .1, (record { whole = refl; few = search needs; held = refl }, c .is-named .ensures))
 
 returns : tie.Need-returns
 returns c =
     λ v.
     let s = c .before .before .before .before .before .before .before .args in
     gathered-is (settingsOf (s .o)) (s .k) (s .p) (s .f) (s .g) (s .d) _ (c .before .before .before .before .before .before .before .pre .0 .prefixes) refl refl refl
-    (c .before .before .before .own-rank .ensures) (c .before .before .how-it-stands .ensures) (c .is-named .ensures) (c .before .targets-kept .ensures) v
+    (c .before .before .before .own-rank .ensures) (c .before .before .how-it-stands .ensures) (c .before .is-named .ensures) (c .targets-kept .ensures) v
 
 pub gather-spec : {M : Type 1} → statement M
 gather-spec =
@@ -30,6 +31,6 @@ gather-spec =
     (tie.spec
     own-rank-requires
     how-it-stands-requires
-    targets-kept-requires
     is-named-requires
+    targets-kept-requires
     returns)

@@ -1,7 +1,7 @@
 use mathlib.Core.Path.{sym, _∙_}
 use Rattle.own.specs.Settings.{settingsOf}
 use Rattle.message.specs.Message.{requestFound}
-use Rattle.request.proofs.Kept.{kept-update, kept-new}
+use Rattle.request.proofs.Kept.{kept-update, kept-new, kept-all}
 use borrow.Author.Needs.{needs}
 use Rattle.request.proofs.targets_kept.Statement.{statement}
 use Rattle.request.proofs.targets_kept.Tie as tie
@@ -30,9 +30,16 @@ not-ours-requires-2 c κs = search needs
 
 returns-2 : tie.Need-returns-2
 returns-2 c =
-    let s = c .before .before .before .before .before .args in
+    let s = c .before .before .before .before .before .before .args in
     kept-new (settingsOf (s .o)) (s .s) (requestFound (s .f)) (s .ts) (c .not-ours2 .result)
-    (sym (c .before .before .is-update .ensures) ∙ c .before .if1 .left) (c .not-ours2 .ensures)
+    (sym (c .before .before .before .is-update .ensures) ∙ c .before .before .if1 .left) (c .not-ours2 .ensures)
+
+returns-3 : tie.Need-returns-3
+returns-3 c =
+    let b = c .before .before .before .before .before in
+    let s = b .args in
+    kept-all (settingsOf (s .o)) (s .s) (requestFound (s .f)) (s .ts) (sym (c .before .before .is-update .ensures) ∙ c .before .if1 .left)
+    (sym (b .pre .1 .1) ∙ c .if2 .left) (b .pre .1 .0)
 
 pub targets-kept-spec : {M : Type 1} → statement M
 targets-kept-spec =
@@ -44,4 +51,5 @@ targets-kept-spec =
     not-ours-requires
     returns
     not-ours-requires-2
-    returns-2)
+    returns-2
+    returns-3)

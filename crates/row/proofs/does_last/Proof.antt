@@ -1,15 +1,15 @@
-use Rattle.row.specs.Meaning.{deadlineOf}
+use borrow.Author.Needs.{needs}
+use Rattle.row.proofs.Laws.{lasts-bit}
 use Rattle.row.proofs.does_last.Statement.{statement}
 use Rattle.row.proofs.does_last.Tie as tie
-use Rattle.lemmas.proofs.Cases.{cases}
+
+bit-requires : tie.Need-bit-requires
+bit-requires c κs = search needs
 
 returns : tie.Need-returns
-unfolding deadlineOf
-returns c = search cases
-
-returns-2 : tie.Need-returns-2
-unfolding deadlineOf
-returns-2 c = search cases
+returns c =
+    let a = c .before .args in
+    lasts-bit (a .t) (a .endless) (a .deadline) (c .bit .result) (c .bit .ensures)
 
 pub does-last-spec : {M : Type 1} → statement M
-does-last-spec = tie.close (tie.spec returns returns-2)
+does-last-spec = tie.close (tie.spec bit-requires returns)

@@ -1,43 +1,20 @@
-use Rattle.row.specs.Meaning.{instanceOf, requestOf, replyOf}
-use Rattle.plain.specs.Answers.{goodInstance}
+use mathlib.Core.Path.{sym}
 use borrow.Author.Needs.{needs}
 use Rattle.row.proofs.is_good.Statement.{statement}
 use Rattle.row.proofs.is_good.Tie as tie
-use Rattle.lemmas.proofs.Cases.{cases}
 
-are-good-targets-requires : tie.Need-are-good-targets-requires
-are-good-targets-requires c κs = search needs
-
-is-good-deadline-requires : tie.Need-is-good-deadline-requires
-is-good-deadline-requires c κs = search needs
+is-plainly-good-requires : tie.Need-is-plainly-good-requires
+is-plainly-good-requires c κs = search needs
 
 returns : tie.Need-returns
-unfolding instanceOf requestOf replyOf goodInstance
-returns c = search (← c .is-good-deadline .ensures, c .before .if2 .taken, ← c .before .before .are-good-targets .ensures, cases)
+returns c = sym (c .before .is-plainly-good .ensures (c .if1 .taken))
+
+is-good-of-kind-requires : tie.Need-is-good-of-kind-requires
+is-good-of-kind-requires c κs = search needs
 
 returns-2 : tie.Need-returns-2
-unfolding instanceOf requestOf replyOf goodInstance
-returns-2 c = search (c .if2 .left, ← c .before .are-good-targets .ensures, cases)
-
-is-good-deadline-requires-2 : tie.Need-is-good-deadline-requires-2
-is-good-deadline-requires-2 c κs = search needs
-
-returns-3 : tie.Need-returns-3
-unfolding instanceOf requestOf replyOf goodInstance
-returns-3 c = search (← c .is-good-deadline2 .ensures, cases)
-
-returns-4 : tie.Need-returns-4
-unfolding instanceOf requestOf replyOf goodInstance
-returns-4 c = search cases
+returns-2 c = c .is-good-of-kind .ensures
 
 pub is-good-spec : {M : Type 1} → statement M
 is-good-spec =
-    tie.close
-    (tie.spec
-    are-good-targets-requires
-    is-good-deadline-requires
-    returns
-    returns-2
-    is-good-deadline-requires-2
-    returns-3
-    returns-4)
+    tie.close (tie.spec is-plainly-good-requires returns is-good-of-kind-requires returns-2)

@@ -1,27 +1,24 @@
-use Rattle.row.specs.Meaning.{instanceOf, requestOf, replyOf}
+use mathlib.Core.Path.{sym, _∙_}
+use Rattle.row.proofs.Laws.{live-used, live-unused}
 use borrow.Author.Needs.{needs}
 use Rattle.row.proofs.is_live.Statement.{statement}
 use Rattle.row.proofs.is_live.Tie as tie
-use Rattle.lemmas.proofs.Cases.{cases}
+
+is-used-requires : tie.Need-is-used-requires
+is-used-requires c κs = search needs
 
 does-last-requires : tie.Need-does-last-requires
 does-last-requires c κs = search needs
 
 returns : tie.Need-returns
-unfolding instanceOf requestOf replyOf
-returns c = search (← c .does-last .ensures, cases)
-
-does-last-requires-2 : tie.Need-does-last-requires-2
-does-last-requires-2 c κs = search needs
+returns c =
+    let a = c .before .before .before .args in
+    c .does-last .ensures ∙ sym (live-used (a .t) (a .r) (sym (c .before .before .is-used .ensures) ∙ c .before .if1 .taken))
 
 returns-2 : tie.Need-returns-2
-unfolding instanceOf requestOf replyOf
-returns-2 c = search (← c .does-last2 .ensures, cases)
-
-returns-3 : tie.Need-returns-3
-unfolding instanceOf requestOf replyOf
-returns-3 c = search cases
+returns-2 c =
+    let a = c .before .before .args in
+    sym (live-unused (a .t) (a .r) (sym (c .before .is-used .ensures) ∙ c .if1 .left))
 
 pub is-live-spec : {M : Type 1} → statement M
-is-live-spec =
-    tie.close (tie.spec does-last-requires returns does-last-requires-2 returns-2 returns-3)
+is-live-spec = tie.close (tie.spec is-used-requires does-last-requires returns returns-2)

@@ -6,7 +6,7 @@ use borrow.Author.Tests.{eq-eqb, ne-eqb}
 use lib.ListN.{length, drop}
 use Rattle.plain.specs.Lists.{same}
 use Rattle.lemmas.proofs.Walk.{same-miss, same-hit, same-end}
-use Rattle.row.proofs.Laws.{differ}
+use Rattle.lemmas.proofs.Same.{differ}
 use Rattle.row.proofs.is_same.Statement.{statement}
 use Rattle.row.proofs.is_same.Tie as tie
 use Rattle.lemmas.proofs.Cases.{cases}

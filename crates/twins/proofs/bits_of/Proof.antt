@@ -16,9 +16,12 @@ shl-result-3 c = search needs
 shl-result-4 : tie.Need-shl-result-4
 shl-result-4 c = search needs
 
+shl-result-5 : tie.Need-shl-result-5
+shl-result-5 c = search needs
+
 returns : tie.Need-returns
 unfolding bitsOf
 returns c = search cases
 
 pub bits-of-spec : {M : Type 1} → statement M
-bits-of-spec = tie.close (tie.spec shl-result shl-result-2 shl-result-3 shl-result-4 returns)
+bits-of-spec = tie.close (tie.spec shl-result shl-result-2 shl-result-3 shl-result-4 shl-result-5 returns)

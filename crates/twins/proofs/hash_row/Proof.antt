@@ -10,9 +10,12 @@ pair-requires c κs = search needs
 hash-address-requires : tie.Need-hash-address-requires
 hash-address-requires c κs = search needs
 
+finish-requires : tie.Need-finish-requires
+finish-requires c κs = search needs
+
 returns : tie.Need-returns
 unfolding hashRow
-returns c = search (← c .hash-address .ensures, ← c .before .pair .ensures, cases)
+returns c = search (← c .finish .ensures, ← c .before .hash-address .ensures, ← c .before .before .pair .ensures, cases)
 
 pub hash-row-spec : {M : Type 1} → statement M
-hash-row-spec = tie.close (tie.spec pair-requires hash-address-requires returns)
+hash-row-spec = tie.close (tie.spec pair-requires hash-address-requires finish-requires returns)

@@ -1,4 +1,6 @@
+use mathlib.Core.Path.{sym, _∙_}
 use Rattle.twins.specs.Pair.{sameThree}
+use Rattle.twins.proofs.Plain.{three-far}
 use borrow.Author.Needs.{needs}
 use Rattle.twins.proofs.is_same_three.Statement.{statement}
 use Rattle.twins.proofs.is_same_three.Tie as tie
@@ -22,17 +24,12 @@ returns c = search (
 
 returns-2 : tie.Need-returns-2
 unfolding sameThree
-returns-2 c = search (
-  c .if2 .left,
-  ← c .before .is-same2 .ensures,
-  c .before .before .before .before .if1 .taken,
-  ← c .before .before .before .before .before .is-same .ensures,
-  cases,
-)
+returns-2 c = search (c .if2 .left, ← c .before .is-same2 .ensures, cases)
 
 returns-3 : tie.Need-returns-3
-unfolding sameThree
-returns-3 c = search (c .if1 .left, ← c .before .is-same .ensures, cases)
+returns-3 c =
+    let s = c .before .before .before .before .args in
+    sym (three-far (s .a) (s .b) (sym (c .before .is-same .ensures) ∙ c .if1 .left))
 
 pub is-same-three-spec : {M : Type 1} → statement M
 is-same-three-spec =

@@ -9,7 +9,7 @@ use lib.ListN.{length, take, length-set}
 use Rattle.plain.specs.Lists.{anyTwo}
 use Rattle.row.specs.Meaning.{noRow}
 use Rattle.twins.specs.Pair.{rowTwins}
-use Rattle.twins.specs.Filter.{hashRow, inClass}
+use Rattle.twins.specs.Filter.{slotOf, hashRow, inClass}
 use Rattle.twins.proofs.Any.{two-start, two-hit, two-more, two-end}
 use Rattle.twins.proofs.Filter.{Holds, none-held, pass-hit, pass-miss, pass-keep}
 use borrow.Author.Needs.{needs}
@@ -19,8 +19,7 @@ use Rattle.twins.proofs.pass.Proof.Tie as tie
 -- No two of the first j rows are twins of the pass's class, and each of them that is of the class has its mark.
 abbrev Inv-loop : tie.InvT-loop
 Inv-loop rows t mask p words₀ j₀ words j =
-    (j ≤ length rows) × (length words ≡ 1024) × (anyTwo (inClass hashRow mask p (rowTwins t)) (take j rows) ≡ false) × Holds
-    (rowKind t) mask p rows j words
+    (j ≤ length rows) × (length words ≡ 1536) × (anyTwo (inClass hashRow mask p (rowTwins t)) (take j rows) ≡ false) × Holds slotOf (rowKind t) mask p rows j words
 
 abbrev μ-loop : tie.MeasureT-loop
 μ-loop rows t mask p words₀ j₀ words j = length rows - j
@@ -30,7 +29,7 @@ loop-holds c = (
   search needs,
   search needs,
   two-start (inClass hashRow (c .args .mask) (c .args .p) (rowTwins (c .args .t))) (now (c .args .rows)),
-  none-held (rowKind (c .args .t)) (c .args .mask) (c .args .p) (now (c .args .rows)) _,
+  none-held slotOf (rowKind (c .args .t)) (c .args .mask) (c .args .p) (now (c .args .rows)) _,
 )
 
 mul-hash-row : tie.Need-mul-hash-row Inv-loop μ-loop
@@ -79,7 +78,7 @@ returns c = let a = c .before .before .before .before .before .before .before .b
     let m = c .before .before .maybe in
     let e = c .before .earlier in
     sym (two-hit (inClass hashRow (a .mask) (a .p) (rowTwins (a .t))) (now (a .rows)) (l .j) noRow (search needs)
-    (pass-hit (rowKind (a .t)) (a .mask) (a .p) (now (a .rows)) (l .j) (h .result) (s .result) 0 (v .result) (o .result) (m .result) (e .result)
+    (pass-hit slotOf (rowKind (a .t)) (a .mask) (a .p) (now (a .rows)) (l .j) (h .result) (s .result) 0 (v .result) (o .result) (m .result) (e .result)
     (l .words) (h .ensures) (v .ensures) (o .ensures) (s .ensures .0) (m .ensures) (e .ensures) (c .if1 .taken)))
 
 marked-requires : tie.Need-marked-requires Inv-loop μ-loop
@@ -109,10 +108,10 @@ loop-again c = let a = c .before .before .before .before .before .before .before
       search needs,
       simp length-set (search needs),
       two-more (inClass hashRow (a .mask) (a .p) (rowTwins (a .t))) (now (a .rows)) (l .j) noRow (search needs) (l .inv .2)
-          (pass-miss (rowKind (a .t)) (a .mask) (a .p) (now (a .rows)) (l .j) (h .result) (s .result) 0 (v .result) (o .result) (m .result)
+          (pass-miss slotOf (rowKind (a .t)) (a .mask) (a .p) (now (a .rows)) (l .j) (h .result) (s .result) 0 (v .result) (o .result) (m .result)
           (e .result) (l .words) (h .ensures) (v .ensures) (o .ensures) (s .ensures .0) (search needs) (l .inv .3) (m .ensures) (e .ensures)
           (c .before .if1 .left)),
-      pass-keep (rowKind (a .t)) (a .mask) (a .p) (now (a .rows)) (l .j) (h .result) (s .result) (c .marked .result) (v .result) (o .result)
+      pass-keep slotOf (rowKind (a .t)) (a .mask) (a .p) (now (a .rows)) (l .j) (h .result) (s .result) (c .marked .result) (v .result) (o .result)
           (m .result) (e .result) (l .words) (h .ensures) (v .ensures) (o .ensures) (s .ensures .0) (l .inv .3) (search needs) (c .marked .ensures),
     )
 

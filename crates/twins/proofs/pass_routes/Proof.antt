@@ -9,7 +9,7 @@ use lib.ListN.{length, take, length-set}
 use Rattle.plain.specs.Lists.{anyTwo}
 use Rattle.row.specs.Meaning.{noRoute}
 use Rattle.twins.specs.Pair.{routePair}
-use Rattle.twins.specs.Filter.{hashRoute, inClass}
+use Rattle.twins.specs.Filter.{slotOf, hashRoute, inClass}
 use Rattle.twins.proofs.Any.{two-start, two-hit, two-more, two-end}
 use Rattle.twins.proofs.Filter.{Holds, none-held, pass-hit, pass-miss, pass-keep}
 use borrow.Author.Needs.{needs}
@@ -19,8 +19,7 @@ use Rattle.twins.proofs.pass_routes.Proof.Tie as tie
 -- No two of the first j rows are twins of the pass's class, and each of them that is of the class has its mark.
 abbrev Inv-loop : tie.InvT-loop
 Inv-loop routes t mask p words₀ j₀ words j =
-    (j ≤ length routes) × (length words ≡ 1024) × (anyTwo (inClass hashRoute mask p (routePair t)) (take j routes) ≡ false) × Holds
-    (routeKind t) mask p routes j words
+    (j ≤ length routes) × (length words ≡ 1536) × (anyTwo (inClass hashRoute mask p (routePair t)) (take j routes) ≡ false) × Holds slotOf (routeKind t) mask p routes j words
 
 abbrev μ-loop : tie.MeasureT-loop
 μ-loop routes t mask p words₀ j₀ words j = length routes - j
@@ -31,7 +30,7 @@ loop-holds c = (
   search needs,
   two-start (inClass hashRoute (c .args .mask) (c .args .p) (routePair (c .args .t)))
       (now (c .args .routes)),
-  none-held (routeKind (c .args .t)) (c .args .mask) (c .args .p) (now (c .args .routes)) _,
+  none-held slotOf (routeKind (c .args .t)) (c .args .mask) (c .args .p) (now (c .args .routes)) _,
 )
 
 mul-hash-route : tie.Need-mul-hash-route Inv-loop μ-loop
@@ -80,7 +79,7 @@ returns c = let a = c .before .before .before .before .before .before .before .b
     let m = c .before .before .maybe in
     let e = c .before .earlier-route in
     sym (two-hit (inClass hashRoute (a .mask) (a .p) (routePair (a .t))) (now (a .routes)) (l .j) noRoute (search needs)
-    (pass-hit (routeKind (a .t)) (a .mask) (a .p) (now (a .routes)) (l .j) (h .result) (s .result) 0 (v .result) (o .result) (m .result) (e .result)
+    (pass-hit slotOf (routeKind (a .t)) (a .mask) (a .p) (now (a .routes)) (l .j) (h .result) (s .result) 0 (v .result) (o .result) (m .result) (e .result)
     (l .words) (h .ensures) (v .ensures) (o .ensures) (s .ensures .0) (m .ensures) (e .ensures) (c .if1 .taken)))
 
 marked-requires : tie.Need-marked-requires Inv-loop μ-loop
@@ -110,10 +109,10 @@ loop-again c = let a = c .before .before .before .before .before .before .before
       search needs,
       simp length-set (search needs),
       two-more (inClass hashRoute (a .mask) (a .p) (routePair (a .t))) (now (a .routes)) (l .j) noRoute (search needs) (l .inv .2)
-          (pass-miss (routeKind (a .t)) (a .mask) (a .p) (now (a .routes)) (l .j) (h .result) (s .result) 0 (v .result) (o .result) (m .result)
+          (pass-miss slotOf (routeKind (a .t)) (a .mask) (a .p) (now (a .routes)) (l .j) (h .result) (s .result) 0 (v .result) (o .result) (m .result)
           (e .result) (l .words) (h .ensures) (v .ensures) (o .ensures) (s .ensures .0) (search needs) (l .inv .3) (m .ensures) (e .ensures)
           (c .before .if1 .left)),
-      pass-keep (routeKind (a .t)) (a .mask) (a .p) (now (a .routes)) (l .j) (h .result) (s .result) (c .marked .result) (v .result) (o .result)
+      pass-keep slotOf (routeKind (a .t)) (a .mask) (a .p) (now (a .routes)) (l .j) (h .result) (s .result) (c .marked .result) (v .result) (o .result)
           (m .result) (e .result) (l .words) (h .ensures) (v .ensures) (o .ensures) (s .ensures .0) (l .inv .3) (search needs) (c .marked .ensures),
     )
 

@@ -24,15 +24,28 @@ abbrev μ-loop : tie.MeasureT-loop
 mask-for-requires : tie.Need-mask-for-requires Inv-loop μ-loop
 mask-for-requires c = search needs
 
-loop-holds : tie.Need-loop-holds Inv-loop μ-loop
-loop-holds c = (search needs, search needs, λ q l. absurd (omega arith))
-
 pass-requires : tie.Need-pass-requires Inv-loop μ-loop
 pass-requires c = search needs
 
 returns : tie.Need-returns Inv-loop μ-loop
-returns c = let a = c .before .before .before .before .before .args in
+returns c = let a = c .before .before .before .args in
     sym (one-class hashRow (rowTwins (a .t)) _ _ (now (a .rows)) (sym (c .before .pass .ensures) ∙ c .if1 .taken))
+
+loop-holds : tie.Need-loop-holds Inv-loop μ-loop
+loop-holds c = (
+  search needs,
+  search needs,
+  λ q l.
+      let e : q ≡ 0 = omega arith in
+      rw e (sym (c .before .pass .ensures) ∙ c .if1 .left),
+)
+
+pass-requires-2 : tie.Need-pass-requires-2 Inv-loop μ-loop
+pass-requires-2 c = search needs
+
+returns-2 : tie.Need-returns-2 Inv-loop μ-loop
+returns-2 c = let a = c .before .before .before .before .before .before .before .args in
+    sym (one-class hashRow (rowTwins (a .t)) _ _ (now (a .rows)) (sym (c .before .pass2 .ensures) ∙ c .if2 .taken))
 
 add-p : tie.Need-add-p Inv-loop μ-loop
 add-p c = search needs
@@ -42,12 +55,14 @@ loop-less c = search needs
 
 loop-again : tie.Need-loop-again Inv-loop μ-loop
 loop-again c = let l = c .before .before .before .loop in
-    (search needs, search needs, below-more _ _ (l .inv .2) (sym (c .before .pass .ensures) ∙ c .if1 .left))
+    (search needs, search needs, below-more _ _ (l .inv .2) (sym (c .before .pass2 .ensures) ∙ c .if2 .left))
 
-returns-2 : tie.Need-returns-2 Inv-loop μ-loop
-returns-2 c = let a = c .before .before .before .args in
+returns-3 : tie.Need-returns-3 Inv-loop μ-loop
+returns-3 c = let a = c .before .before .before .before .before .args in
     let l = c .before .loop in
     sym (each-class hashRow (rowTwins (a .t)) _ (now (a .rows)) (λ q h. l .inv .2 q (omega arith)))
 
 pub passes-spec : {M : Type 1} → statement M
-passes-spec = tie.close (tie.spec Inv-loop μ-loop mask-for-requires loop-holds pass-requires returns add-p loop-less loop-again returns-2)
+passes-spec =
+    tie.close
+    (tie.spec Inv-loop μ-loop mask-for-requires pass-requires returns loop-holds pass-requires-2 returns-2 add-p loop-less loop-again returns-3)

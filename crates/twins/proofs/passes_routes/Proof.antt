@@ -24,15 +24,28 @@ abbrev μ-loop : tie.MeasureT-loop
 mask-for-requires : tie.Need-mask-for-requires Inv-loop μ-loop
 mask-for-requires c = search needs
 
-loop-holds : tie.Need-loop-holds Inv-loop μ-loop
-loop-holds c = (search needs, search needs, λ q l. absurd (omega arith))
-
 pass-routes-requires : tie.Need-pass-routes-requires Inv-loop μ-loop
 pass-routes-requires c = search needs
 
 returns : tie.Need-returns Inv-loop μ-loop
-returns c = let a = c .before .before .before .before .before .args in
+returns c = let a = c .before .before .before .args in
     sym (one-class hashRoute (routePair (a .t)) _ _ (now (a .routes)) (sym (c .before .pass-routes .ensures) ∙ c .if1 .taken))
+
+loop-holds : tie.Need-loop-holds Inv-loop μ-loop
+loop-holds c = (
+  search needs,
+  search needs,
+  λ q l.
+      let e : q ≡ 0 = omega arith in
+      rw e (sym (c .before .pass-routes .ensures) ∙ c .if1 .left),
+)
+
+pass-routes-requires-2 : tie.Need-pass-routes-requires-2 Inv-loop μ-loop
+pass-routes-requires-2 c = search needs
+
+returns-2 : tie.Need-returns-2 Inv-loop μ-loop
+returns-2 c = let a = c .before .before .before .before .before .before .before .args in
+    sym (one-class hashRoute (routePair (a .t)) _ _ (now (a .routes)) (sym (c .before .pass-routes2 .ensures) ∙ c .if2 .taken))
 
 add-p : tie.Need-add-p Inv-loop μ-loop
 add-p c = search needs
@@ -42,13 +55,14 @@ loop-less c = search needs
 
 loop-again : tie.Need-loop-again Inv-loop μ-loop
 loop-again c = let l = c .before .before .before .loop in
-    (search needs, search needs, below-more _ _ (l .inv .2) (sym (c .before .pass-routes .ensures) ∙ c .if1 .left))
+    (search needs, search needs, below-more _ _ (l .inv .2) (sym (c .before .pass-routes2 .ensures) ∙ c .if2 .left))
 
-returns-2 : tie.Need-returns-2 Inv-loop μ-loop
-returns-2 c = let a = c .before .before .before .args in
+returns-3 : tie.Need-returns-3 Inv-loop μ-loop
+returns-3 c = let a = c .before .before .before .before .before .args in
     let l = c .before .loop in
     sym (each-class hashRoute (routePair (a .t)) _ (now (a .routes)) (λ q h. l .inv .2 q (omega arith)))
 
 pub passes-routes-spec : {M : Type 1} → statement M
-passes-routes-spec = tie.close (tie.spec Inv-loop μ-loop mask-for-requires loop-holds pass-routes-requires returns add-p loop-less loop-again
-    returns-2)
+passes-routes-spec =
+    tie.close
+    (tie.spec Inv-loop μ-loop mask-for-requires pass-routes-requires returns loop-holds pass-routes-requires-2 returns-2 add-p loop-less loop-again returns-3)

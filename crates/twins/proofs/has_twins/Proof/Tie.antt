@@ -2,121 +2,216 @@
 use Rattle.twins.proofs.every_pair.Met
 use Rattle.twins.proofs.Lent.every_pair.Reads
 use Rattle.twins.proofs.every_pair.Symbol
+use Rattle.twins.proofs.few.Met as Met'
+use Rattle.twins.proofs.Lent.few.Reads as Reads'
+use Rattle.twins.proofs.few.Symbol as Symbol'
 use Rattle.twins.proofs.has_twins.Code
 use Rattle.twins.proofs.has_twins.Key
 use Rattle.twins.proofs.Lent.has_twins.Kinds
 use Rattle.twins.proofs.has_twins.Proof.Lts
-use Rattle.twins.proofs.Lent.has_twins.Reads as Reads'
+use Rattle.twins.proofs.Lent.has_twins.Reads as Reads''
 use Rattle.twins.proofs.has_twins.Statement
-use Rattle.twins.proofs.passes.Met as Met'
-use Rattle.twins.proofs.Lent.passes.Reads as Reads''
-use Rattle.twins.proofs.passes.Symbol as Symbol'
+use Rattle.twins.proofs.passes.Met as Met''
+use Rattle.twins.proofs.Lent.passes.Reads as Reads'3
+use Rattle.twins.proofs.passes.Symbol as Symbol''
 use borrow.Fn.Run
 use borrow.Fn.Written
 use contract.Running
 
 abbrev pub Start : Type 0
-Start =
-    Lts.Start (Reads.Asked, Reads.Learnt, Reads''.Asked, Reads''.Learnt) Reads'.Pre Reads'.Post
+Start = Lts.Start (
+  Reads.Asked,
+  Reads.Learnt,
+  Reads'.Asked,
+  Reads'.Learnt,
+  Reads'3.Asked,
+  Reads'3.Learnt,
+) Reads''.Pre Reads''.Post
 
 abbrev pub Then1 : Type 0
-Then1 =
-    Lts.Then1 (Reads.Asked, Reads.Learnt, Reads''.Asked, Reads''.Learnt) Reads'.Pre Reads'.Post
+Then1 = Lts.Then1 (
+  Reads.Asked,
+  Reads.Learnt,
+  Reads'.Asked,
+  Reads'.Learnt,
+  Reads'3.Asked,
+  Reads'3.Learnt,
+) Reads''.Pre Reads''.Post
 
 abbrev pub After-every-pair : Type 0
-After-every-pair =
-    Lts.After-every-pair
-    (Reads.Asked, Reads.Learnt, Reads''.Asked, Reads''.Learnt)
-    Reads'.Pre
-    Reads'.Post
+After-every-pair = Lts.After-every-pair (
+  Reads.Asked,
+  Reads.Learnt,
+  Reads'.Asked,
+  Reads'.Learnt,
+  Reads'3.Asked,
+  Reads'3.Learnt,
+) Reads''.Pre Reads''.Post
 
 abbrev pub Else1 : Type 0
-Else1 =
-    Lts.Else1 (Reads.Asked, Reads.Learnt, Reads''.Asked, Reads''.Learnt) Reads'.Pre Reads'.Post
+Else1 = Lts.Else1 (
+  Reads.Asked,
+  Reads.Learnt,
+  Reads'.Asked,
+  Reads'.Learnt,
+  Reads'3.Asked,
+  Reads'3.Learnt,
+) Reads''.Pre Reads''.Post
+
+abbrev pub Then2 : Type 0
+Then2 = Lts.Then2 (
+  Reads.Asked,
+  Reads.Learnt,
+  Reads'.Asked,
+  Reads'.Learnt,
+  Reads'3.Asked,
+  Reads'3.Learnt,
+) Reads''.Pre Reads''.Post
+
+abbrev pub After-few : Type 0
+After-few = Lts.After-few (
+  Reads.Asked,
+  Reads.Learnt,
+  Reads'.Asked,
+  Reads'.Learnt,
+  Reads'3.Asked,
+  Reads'3.Learnt,
+) Reads''.Pre Reads''.Post
+
+abbrev pub Else2 : Type 0
+Else2 = Lts.Else2 (
+  Reads.Asked,
+  Reads.Learnt,
+  Reads'.Asked,
+  Reads'.Learnt,
+  Reads'3.Asked,
+  Reads'3.Learnt,
+) Reads''.Pre Reads''.Post
 
 abbrev pub After-passes : Type 0
-After-passes =
-    Lts.After-passes
-    (Reads.Asked, Reads.Learnt, Reads''.Asked, Reads''.Learnt)
-    Reads'.Pre
-    Reads'.Post
+After-passes = Lts.After-passes (
+  Reads.Asked,
+  Reads.Learnt,
+  Reads'.Asked,
+  Reads'.Learnt,
+  Reads'3.Asked,
+  Reads'3.Learnt,
+) Reads''.Pre Reads''.Post
 
 abbrev pub Need-every-pair-requires : Type 0
 Need-every-pair-requires = Lts.Need-every-pair-requires (
   Reads.Asked,
   Reads.Learnt,
-  Reads''.Asked,
-  Reads''.Learnt,
-) Reads'.Pre Reads'.Post
+  Reads'.Asked,
+  Reads'.Learnt,
+  Reads'3.Asked,
+  Reads'3.Learnt,
+) Reads''.Pre Reads''.Post
 
 abbrev pub Need-returns : Type 0
-Need-returns =
-    Lts.Need-returns
-    (Reads.Asked, Reads.Learnt, Reads''.Asked, Reads''.Learnt)
-    Reads'.Pre
-    Reads'.Post
+Need-returns = Lts.Need-returns (
+  Reads.Asked,
+  Reads.Learnt,
+  Reads'.Asked,
+  Reads'.Learnt,
+  Reads'3.Asked,
+  Reads'3.Learnt,
+) Reads''.Pre Reads''.Post
+
+abbrev pub Need-few-requires : Type 0
+Need-few-requires = Lts.Need-few-requires (
+  Reads.Asked,
+  Reads.Learnt,
+  Reads'.Asked,
+  Reads'.Learnt,
+  Reads'3.Asked,
+  Reads'3.Learnt,
+) Reads''.Pre Reads''.Post
+
+abbrev pub Need-returns-2 : Type 0
+Need-returns-2 = Lts.Need-returns-2 (
+  Reads.Asked,
+  Reads.Learnt,
+  Reads'.Asked,
+  Reads'.Learnt,
+  Reads'3.Asked,
+  Reads'3.Learnt,
+) Reads''.Pre Reads''.Post
 
 abbrev pub Need-passes-requires : Type 0
 Need-passes-requires = Lts.Need-passes-requires (
   Reads.Asked,
   Reads.Learnt,
-  Reads''.Asked,
-  Reads''.Learnt,
-) Reads'.Pre Reads'.Post
+  Reads'.Asked,
+  Reads'.Learnt,
+  Reads'3.Asked,
+  Reads'3.Learnt,
+) Reads''.Pre Reads''.Post
 
-abbrev pub Need-returns-2 : Type 0
-Need-returns-2 =
-    Lts.Need-returns-2
-    (Reads.Asked, Reads.Learnt, Reads''.Asked, Reads''.Learnt)
-    Reads'.Pre
-    Reads'.Post
+abbrev pub Need-returns-3 : Type 0
+Need-returns-3 = Lts.Need-returns-3 (
+  Reads.Asked,
+  Reads.Learnt,
+  Reads'.Asked,
+  Reads'.Learnt,
+  Reads'3.Asked,
+  Reads'3.Learnt,
+) Reads''.Pre Reads''.Post
 
 module _ {M : Type 1} where
   pub spec :
       (answer : Need-every-pair-requires) →
       (answer : Need-returns) →
-      (answer : Need-passes-requires) →
+      (answer : Need-few-requires) →
       (answer : Need-returns-2) →
-      Lts.Closed
-      (Reads.Asked, Reads.Learnt, Reads''.Asked, Reads''.Learnt)
-      Reads'.Pre
-      Reads'.Post
-      M
-  spec = λ answer answer' answer'' answer'3. Lts.spec (
+      (answer : Need-passes-requires) →
+      (answer : Need-returns-3) →
+      Lts.Closed (
+        Reads.Asked,
+        Reads.Learnt,
+        Reads'.Asked,
+        Reads'.Learnt,
+        Reads'3.Asked,
+        Reads'3.Learnt,
+      ) Reads''.Pre Reads''.Post M
+  spec = λ answer answer' answer'' answer'3 answer'4 answer'5. Lts.spec (
     Reads.Asked,
     Reads.Learnt,
-    Reads''.Asked,
-    Reads''.Learnt,
-  ) Reads'.Pre Reads'.Post answer answer' answer'' answer'3
+    Reads'.Asked,
+    Reads'.Learnt,
+    Reads'3.Asked,
+    Reads'3.Learnt,
+  ) Reads''.Pre Reads''.Post answer answer' answer'' answer'3 answer'4 answer'5
 
-  pub close :
-      Lts.Closed
-      (Reads.Asked, Reads.Learnt, Reads''.Asked, Reads''.Learnt)
-      Reads'.Pre
-      Reads'.Post
-      M →
-      Statement.statement M
+  pub close : Lts.Closed (
+    Reads.Asked,
+    Reads.Learnt,
+    Reads'.Asked,
+    Reads'.Learnt,
+    Reads'3.Asked,
+    Reads'3.Learnt,
+  ) Reads''.Pre Reads''.Post M → Statement.statement M
   unfolding Code.routine Running.tablesOf
   close =
       λ closed 𝓤 H 𝓜 𝓖 𝓡. Written.close
       1
       Kinds.ps
       Kinds.r
-      Reads'.Ghost
-      Reads'.requires
-      Reads'.ensures
-      Reads'.pre-read
-      Reads'.Pinned
-      Reads'.Owned
-      Reads'.post-read
+      Reads''.Ghost
+      Reads''.requires
+      Reads''.ensures
+      Reads''.pre-read
+      Reads''.Pinned
+      Reads''.Owned
+      Reads''.post-read
       record { M = M; 𝓤 = 𝓤; H = H; 𝓜 = 𝓜; 𝓖 = 𝓖; 𝓡 = 𝓡 }
       Code.env
       Key.name
       Code.function
       (Code.unfolded 𝓤 H 𝓜 𝓡)
       (λ κs a g. tt)
-      (λ κs. Reads'.owns κs record { M = M; 𝓤 = 𝓤; H = H; 𝓜 = 𝓜; 𝓖 = 𝓖; 𝓡 = 𝓡 })
-      (Reads'.passes record { M = M; 𝓤 = 𝓤; H = H; 𝓜 = 𝓜; 𝓖 = 𝓖; 𝓡 = 𝓡 })
+      (λ κs. Reads''.owns κs record { M = M; 𝓤 = 𝓤; H = H; 𝓜 = 𝓜; 𝓖 = 𝓖; 𝓡 = 𝓡 })
+      (Reads''.passes record { M = M; 𝓤 = 𝓤; H = H; 𝓜 = 𝓜; 𝓖 = 𝓖; 𝓡 = 𝓡 })
       λ g. closed
       𝓤
       H
@@ -130,10 +225,17 @@ module _ {M : Type 1} where
       Symbol.routine
       Code.calls-twins·every-pair
       (Met.met 𝓤 H 𝓜 𝓖 𝓡))
-      (Reads''.known
+      (Reads'.known
       record { M = M; 𝓤 = 𝓤; H = H; 𝓜 = 𝓜; 𝓖 = 𝓖; 𝓡 = 𝓡 }
       Code.env
       Symbol'.name
       Symbol'.routine
-      Code.calls-twins·passes
+      Code.calls-twins·few
       (Met'.met 𝓤 H 𝓜 𝓖 𝓡))
+      (Reads'3.known
+      record { M = M; 𝓤 = 𝓤; H = H; 𝓜 = 𝓜; 𝓖 = 𝓖; 𝓡 = 𝓡 }
+      Code.env
+      Symbol''.name
+      Symbol''.routine
+      Code.calls-twins·passes
+      (Met''.met 𝓤 H 𝓜 𝓖 𝓡))

@@ -66,7 +66,7 @@ r = Bool.rBool
 abbrev pub xs : List.List Syntax.Ty
 xs =
     List._∷_
-    (Syntax.tyArray (Syntax.tyInt Syntax.w64) 1024)
+    (Syntax.tyArray (Syntax.tyInt Syntax.w64) 1536)
     (List._∷_
     (Syntax.tyInt Syntax.w64)
     (List._∷_
@@ -196,7 +196,7 @@ hs =
     (List._∷_ Syntax.valueLocal (List._∷_ Syntax.valueLocal List.[])))))))))))))))))))))
 
 abbrev b0 : Syntax.Body
-b0 = Syntax.assign (Syntax.place 5 List.[]) (Syntax.repeat (Syntax.int Syntax.w64 0) 1024)
+b0 = Syntax.assign (Syntax.place 5 List.[]) (Syntax.repeat (Syntax.int Syntax.w64 0) 1536)
 
 abbrev b1 : Syntax.Body
 b1 = Syntax.assign (Syntax.place 6 List.[]) (Syntax.rvOpd (Syntax.int Syntax.w64 0))
@@ -569,7 +569,7 @@ t0 = List._∷_ (0, Rows'.any-gone Syntax.tyBool) (List._∷_ (
   Rows'.sc-here (Row.sInt Syntax.w64),
 ) (List._∷_ (4, Rows'.sc-here (Row.sInt Syntax.w64)) (List._∷_ (
   5,
-  Rows'.any-gone (Syntax.tyArray (Syntax.tyInt Syntax.w64) 1024),
+  Rows'.any-gone (Syntax.tyArray (Syntax.tyInt Syntax.w64) 1536),
 ) (List._∷_ (6, Rows'.any-gone (Syntax.tyInt Syntax.w64)) (List._∷_ (
   7,
   Rows'.any-gone (Syntax.tyInt Syntax.w64),
@@ -613,7 +613,7 @@ t2 = List._∷_ (0, Rows'.sc-here Row.sBool) (List._∷_ (
   Rows'.any-gone (Syntax.tyInt Syntax.w64),
 ) (List._∷_ (4, Rows'.any-gone (Syntax.tyInt Syntax.w64)) (List._∷_ (
   5,
-  Rows'.any-gone (Syntax.tyArray (Syntax.tyInt Syntax.w64) 1024),
+  Rows'.any-gone (Syntax.tyArray (Syntax.tyInt Syntax.w64) 1536),
 ) (List._∷_ (6, Rows'.any-gone (Syntax.tyInt Syntax.w64)) (List._∷_ (
   7,
   Rows'.any-gone (Syntax.tyInt Syntax.w64),
@@ -643,7 +643,7 @@ t3 = List._∷_ (0, Rows'.any-gone Syntax.tyBool) (List._∷_ (
   Rows'.sc-here (Row.sInt Syntax.w64),
 ) (List._∷_ (4, Rows'.sc-here (Row.sInt Syntax.w64)) (List._∷_ (
   5,
-  Rows'.whole (Array'.Array (Referent.rtF (Referent.fInt Syntax.w64)) 1024),
+  Rows'.whole (Array'.Array (Referent.rtF (Referent.fInt Syntax.w64)) 1536),
 ) (List._∷_ (6, Rows'.any-gone (Syntax.tyInt Syntax.w64)) (List._∷_ (
   7,
   Rows'.any-gone (Syntax.tyInt Syntax.w64),
@@ -673,7 +673,7 @@ t4 = List._∷_ (0, Rows'.any-gone Syntax.tyBool) (List._∷_ (
   Rows'.sc-here (Row.sInt Syntax.w64),
 ) (List._∷_ (4, Rows'.sc-here (Row.sInt Syntax.w64)) (List._∷_ (
   5,
-  Rows.arrF (Referent.rtF (Referent.fInt Syntax.w64)) 1024 0,
+  Rows.arrF (Referent.rtF (Referent.fInt Syntax.w64)) 1536 0,
 ) (List._∷_ (6, Rows'.any-gone (Syntax.tyInt Syntax.w64)) (List._∷_ (
   7,
   Rows'.any-gone (Syntax.tyInt Syntax.w64),
@@ -703,7 +703,7 @@ t5 = List._∷_ (0, Rows'.any-gone Syntax.tyBool) (List._∷_ (
   Rows'.sc-here (Row.sInt Syntax.w64),
 ) (List._∷_ (4, Rows'.sc-here (Row.sInt Syntax.w64)) (List._∷_ (
   5,
-  Rows.arrF (Referent.rtF (Referent.fInt Syntax.w64)) 1024 0,
+  Rows.arrF (Referent.rtF (Referent.fInt Syntax.w64)) 1536 0,
 ) (List._∷_ (6, Rows'.sc-here (Row.sInt Syntax.w64)) (List._∷_ (
   7,
   Rows'.any-gone (Syntax.tyInt Syntax.w64),
@@ -733,7 +733,7 @@ t6 = List._∷_ (0, Rows'.any-gone Syntax.tyBool) (List._∷_ (
   Rows'.sc-here (Row.sInt Syntax.w64),
 ) (List._∷_ (4, Rows'.sc-here (Row.sInt Syntax.w64)) (List._∷_ (
   5,
-  Rows'.any-gone (Syntax.tyArray (Syntax.tyInt Syntax.w64) 1024),
+  Rows'.any-gone (Syntax.tyArray (Syntax.tyInt Syntax.w64) 1536),
 ) (List._∷_ (6, Rows'.sc-here (Row.sInt Syntax.w64)) (List._∷_ (
   7,
   Rows'.any-gone (Syntax.tyInt Syntax.w64),
@@ -763,7 +763,7 @@ t7 = List._∷_ (0, Rows'.any-gone Syntax.tyBool) (List._∷_ (
   Rows'.sc-here (Row.sInt Syntax.w64),
 ) (List._∷_ (4, Rows'.sc-here (Row.sInt Syntax.w64)) (List._∷_ (
   5,
-  Rows.arrF (Referent.rtF (Referent.fInt Syntax.w64)) 1024 0,
+  Rows.arrF (Referent.rtF (Referent.fInt Syntax.w64)) 1536 0,
 ) (List._∷_ (6, Rows'.sc-here (Row.sInt Syntax.w64)) (List._∷_ (
   7,
   Rows'.any-gone (Syntax.tyInt Syntax.w64),
@@ -793,7 +793,7 @@ t8 = List._∷_ (0, Rows'.any-gone Syntax.tyBool) (List._∷_ (
   Rows'.sc-here (Row.sInt Syntax.w64),
 ) (List._∷_ (4, Rows'.sc-here (Row.sInt Syntax.w64)) (List._∷_ (
   5,
-  Rows.arrF (Referent.rtF (Referent.fInt Syntax.w64)) 1024 0,
+  Rows.arrF (Referent.rtF (Referent.fInt Syntax.w64)) 1536 0,
 ) (List._∷_ (6, Rows'.sc-here (Row.sInt Syntax.w64)) (List._∷_ (
   7,
   Rows'.any-gone (Syntax.tyInt Syntax.w64),
@@ -820,7 +820,7 @@ t9 = List._∷_ (0, Rows'.any-gone Syntax.tyBool) (List._∷_ (
   Rows'.sc-here (Row.sInt Syntax.w64),
 ) (List._∷_ (4, Rows'.sc-here (Row.sInt Syntax.w64)) (List._∷_ (
   5,
-  Rows.arrF (Referent.rtF (Referent.fInt Syntax.w64)) 1024 0,
+  Rows.arrF (Referent.rtF (Referent.fInt Syntax.w64)) 1536 0,
 ) (List._∷_ (6, Rows'.sc-here (Row.sInt Syntax.w64)) (List._∷_ (
   7,
   Rows'.any-gone (Syntax.tyInt Syntax.w64),
@@ -847,7 +847,7 @@ t10 = List._∷_ (0, Rows'.any-gone Syntax.tyBool) (List._∷_ (
   Rows'.sc-here (Row.sInt Syntax.w64),
 ) (List._∷_ (4, Rows'.sc-here (Row.sInt Syntax.w64)) (List._∷_ (
   5,
-  Rows'.any-gone (Syntax.tyArray (Syntax.tyInt Syntax.w64) 1024),
+  Rows'.any-gone (Syntax.tyArray (Syntax.tyInt Syntax.w64) 1536),
 ) (List._∷_ (6, Rows'.sc-here (Row.sInt Syntax.w64)) (List._∷_ (
   7,
   Rows'.any-gone (Syntax.tyInt Syntax.w64),
@@ -874,7 +874,7 @@ t11 = List._∷_ (0, Rows'.any-gone Syntax.tyBool) (List._∷_ (
   Rows'.sc-here (Row.sInt Syntax.w64),
 ) (List._∷_ (4, Rows'.sc-here (Row.sInt Syntax.w64)) (List._∷_ (
   5,
-  Rows.arrF (Referent.rtF (Referent.fInt Syntax.w64)) 1024 0,
+  Rows.arrF (Referent.rtF (Referent.fInt Syntax.w64)) 1536 0,
 ) (List._∷_ (6, Rows'.sc-here (Row.sInt Syntax.w64)) (List._∷_ (
   7,
   Rows'.any-gone (Syntax.tyInt Syntax.w64),
@@ -901,7 +901,7 @@ t12 = List._∷_ (0, Rows'.any-gone Syntax.tyBool) (List._∷_ (
   Rows'.sc-here (Row.sInt Syntax.w64),
 ) (List._∷_ (4, Rows'.sc-here (Row.sInt Syntax.w64)) (List._∷_ (
   5,
-  Rows.arrF (Referent.rtF (Referent.fInt Syntax.w64)) 1024 0,
+  Rows.arrF (Referent.rtF (Referent.fInt Syntax.w64)) 1536 0,
 ) (List._∷_ (6, Rows'.sc-here (Row.sInt Syntax.w64)) (List._∷_ (
   7,
   Rows'.any-gone (Syntax.tyInt Syntax.w64),
@@ -928,7 +928,7 @@ t13 = List._∷_ (0, Rows'.any-gone Syntax.tyBool) (List._∷_ (
   Rows'.sc-here (Row.sInt Syntax.w64),
 ) (List._∷_ (4, Rows'.sc-here (Row.sInt Syntax.w64)) (List._∷_ (
   5,
-  Rows.arrF (Referent.rtF (Referent.fInt Syntax.w64)) 1024 0,
+  Rows.arrF (Referent.rtF (Referent.fInt Syntax.w64)) 1536 0,
 ) (List._∷_ (6, Rows'.sc-here (Row.sInt Syntax.w64)) (List._∷_ (
   7,
   Rows'.any-gone (Syntax.tyInt Syntax.w64),
@@ -955,7 +955,7 @@ t14 = List._∷_ (0, Rows'.any-gone Syntax.tyBool) (List._∷_ (
   Rows'.sc-here (Row.sInt Syntax.w64),
 ) (List._∷_ (4, Rows'.sc-here (Row.sInt Syntax.w64)) (List._∷_ (
   5,
-  Rows.arrF (Referent.rtF (Referent.fInt Syntax.w64)) 1024 0,
+  Rows.arrF (Referent.rtF (Referent.fInt Syntax.w64)) 1536 0,
 ) (List._∷_ (6, Rows'.sc-here (Row.sInt Syntax.w64)) (List._∷_ (
   7,
   Rows'.any-gone (Syntax.tyInt Syntax.w64),
@@ -985,7 +985,7 @@ t15 = List._∷_ (0, Rows'.any-gone Syntax.tyBool) (List._∷_ (
   Rows'.sc-here (Row.sInt Syntax.w64),
 ) (List._∷_ (4, Rows'.sc-here (Row.sInt Syntax.w64)) (List._∷_ (
   5,
-  Rows.arrF (Referent.rtF (Referent.fInt Syntax.w64)) 1024 0,
+  Rows.arrF (Referent.rtF (Referent.fInt Syntax.w64)) 1536 0,
 ) (List._∷_ (6, Rows'.sc-here (Row.sInt Syntax.w64)) (List._∷_ (
   7,
   Rows'.sc-here (Row.sInt Syntax.w64),
@@ -1015,7 +1015,7 @@ t16 = List._∷_ (0, Rows'.any-gone Syntax.tyBool) (List._∷_ (
   Rows'.sc-here (Row.sInt Syntax.w64),
 ) (List._∷_ (4, Rows'.sc-here (Row.sInt Syntax.w64)) (List._∷_ (
   5,
-  Rows.arrF (Referent.rtF (Referent.fInt Syntax.w64)) 1024 0,
+  Rows.arrF (Referent.rtF (Referent.fInt Syntax.w64)) 1536 0,
 ) (List._∷_ (6, Rows'.sc-here (Row.sInt Syntax.w64)) (List._∷_ (
   7,
   Rows'.sc-here (Row.sInt Syntax.w64),
@@ -1045,7 +1045,7 @@ t17 = List._∷_ (0, Rows'.any-gone Syntax.tyBool) (List._∷_ (
   Rows'.sc-here (Row.sInt Syntax.w64),
 ) (List._∷_ (4, Rows'.sc-here (Row.sInt Syntax.w64)) (List._∷_ (
   5,
-  Rows.arrF (Referent.rtF (Referent.fInt Syntax.w64)) 1024 0,
+  Rows.arrF (Referent.rtF (Referent.fInt Syntax.w64)) 1536 0,
 ) (List._∷_ (6, Rows'.sc-here (Row.sInt Syntax.w64)) (List._∷_ (
   7,
   Rows'.sc-here (Row.sInt Syntax.w64),
@@ -1075,7 +1075,7 @@ t18 = List._∷_ (0, Rows'.any-gone Syntax.tyBool) (List._∷_ (
   Rows'.sc-here (Row.sInt Syntax.w64),
 ) (List._∷_ (4, Rows'.sc-here (Row.sInt Syntax.w64)) (List._∷_ (
   5,
-  Rows.arrF (Referent.rtF (Referent.fInt Syntax.w64)) 1024 0,
+  Rows.arrF (Referent.rtF (Referent.fInt Syntax.w64)) 1536 0,
 ) (List._∷_ (6, Rows'.sc-here (Row.sInt Syntax.w64)) (List._∷_ (
   7,
   Rows'.sc-here (Row.sInt Syntax.w64),
@@ -1105,7 +1105,7 @@ t19 = List._∷_ (0, Rows'.any-gone Syntax.tyBool) (List._∷_ (
   Rows'.sc-here (Row.sInt Syntax.w64),
 ) (List._∷_ (4, Rows'.sc-here (Row.sInt Syntax.w64)) (List._∷_ (
   5,
-  Rows.arrF (Referent.rtF (Referent.fInt Syntax.w64)) 1024 0,
+  Rows.arrF (Referent.rtF (Referent.fInt Syntax.w64)) 1536 0,
 ) (List._∷_ (6, Rows'.sc-here (Row.sInt Syntax.w64)) (List._∷_ (
   7,
   Rows'.sc-here (Row.sInt Syntax.w64),
@@ -1135,7 +1135,7 @@ t20 = List._∷_ (0, Rows'.any-gone Syntax.tyBool) (List._∷_ (
   Rows'.sc-here (Row.sInt Syntax.w64),
 ) (List._∷_ (4, Rows'.sc-here (Row.sInt Syntax.w64)) (List._∷_ (
   5,
-  Rows.arrF (Referent.rtF (Referent.fInt Syntax.w64)) 1024 0,
+  Rows.arrF (Referent.rtF (Referent.fInt Syntax.w64)) 1536 0,
 ) (List._∷_ (6, Rows'.sc-here (Row.sInt Syntax.w64)) (List._∷_ (
   7,
   Rows'.sc-here (Row.sInt Syntax.w64),
@@ -1165,7 +1165,7 @@ t21 = List._∷_ (0, Rows'.any-gone Syntax.tyBool) (List._∷_ (
   Rows'.sc-here (Row.sInt Syntax.w64),
 ) (List._∷_ (4, Rows'.sc-here (Row.sInt Syntax.w64)) (List._∷_ (
   5,
-  Rows.arrF (Referent.rtF (Referent.fInt Syntax.w64)) 1024 0,
+  Rows.arrF (Referent.rtF (Referent.fInt Syntax.w64)) 1536 0,
 ) (List._∷_ (6, Rows'.sc-here (Row.sInt Syntax.w64)) (List._∷_ (
   7,
   Rows'.sc-here (Row.sInt Syntax.w64),
@@ -1192,7 +1192,7 @@ t22 = List._∷_ (0, Rows'.any-gone Syntax.tyBool) (List._∷_ (
   Rows'.sc-here (Row.sInt Syntax.w64),
 ) (List._∷_ (4, Rows'.sc-here (Row.sInt Syntax.w64)) (List._∷_ (
   5,
-  Rows.arrF (Referent.rtF (Referent.fInt Syntax.w64)) 1024 0,
+  Rows.arrF (Referent.rtF (Referent.fInt Syntax.w64)) 1536 0,
 ) (List._∷_ (6, Rows'.sc-here (Row.sInt Syntax.w64)) (List._∷_ (
   7,
   Rows'.sc-here (Row.sInt Syntax.w64),
@@ -1219,7 +1219,7 @@ t23 = List._∷_ (0, Rows'.any-gone Syntax.tyBool) (List._∷_ (
   Rows'.sc-here (Row.sInt Syntax.w64),
 ) (List._∷_ (4, Rows'.sc-here (Row.sInt Syntax.w64)) (List._∷_ (
   5,
-  Rows.arrF (Referent.rtF (Referent.fInt Syntax.w64)) 1024 0,
+  Rows.arrF (Referent.rtF (Referent.fInt Syntax.w64)) 1536 0,
 ) (List._∷_ (6, Rows'.sc-here (Row.sInt Syntax.w64)) (List._∷_ (
   7,
   Rows'.sc-here (Row.sInt Syntax.w64),
@@ -1250,7 +1250,7 @@ t24 = List._∷_ (0, Rows'.any-gone Syntax.tyBool) (List._∷_ (
   Rows'.sc-here (Row.sInt Syntax.w64),
 ) (List._∷_ (4, Rows'.sc-here (Row.sInt Syntax.w64)) (List._∷_ (
   5,
-  Rows.arrF (Referent.rtF (Referent.fInt Syntax.w64)) 1024 0,
+  Rows.arrF (Referent.rtF (Referent.fInt Syntax.w64)) 1536 0,
 ) (List._∷_ (6, Rows'.sc-here (Row.sInt Syntax.w64)) (List._∷_ (
   7,
   Rows'.sc-here (Row.sInt Syntax.w64),
@@ -1281,7 +1281,7 @@ t25 = List._∷_ (0, Rows'.any-gone Syntax.tyBool) (List._∷_ (
   Rows'.sc-here (Row.sInt Syntax.w64),
 ) (List._∷_ (4, Rows'.sc-here (Row.sInt Syntax.w64)) (List._∷_ (
   5,
-  Rows.arrF (Referent.rtF (Referent.fInt Syntax.w64)) 1024 0,
+  Rows.arrF (Referent.rtF (Referent.fInt Syntax.w64)) 1536 0,
 ) (List._∷_ (6, Rows'.sc-here (Row.sInt Syntax.w64)) (List._∷_ (
   7,
   Rows'.sc-here (Row.sInt Syntax.w64),
@@ -1311,7 +1311,7 @@ t26 = List._∷_ (0, Rows'.any-gone Syntax.tyBool) (List._∷_ (
   Rows'.sc-here (Row.sInt Syntax.w64),
 ) (List._∷_ (4, Rows'.sc-here (Row.sInt Syntax.w64)) (List._∷_ (
   5,
-  Rows.arrF (Referent.rtF (Referent.fInt Syntax.w64)) 1024 0,
+  Rows.arrF (Referent.rtF (Referent.fInt Syntax.w64)) 1536 0,
 ) (List._∷_ (6, Rows'.sc-here (Row.sInt Syntax.w64)) (List._∷_ (
   7,
   Rows'.sc-here (Row.sInt Syntax.w64),
@@ -1402,7 +1402,7 @@ t32 = List._∷_ (0, Rows'.any-gone Syntax.tyBool) (List._∷_ (
   Rows'.sc-here (Row.sInt Syntax.w64),
 ) (List._∷_ (4, Rows'.sc-here (Row.sInt Syntax.w64)) (List._∷_ (
   5,
-  Rows.arrF (Referent.rtF (Referent.fInt Syntax.w64)) 1024 0,
+  Rows.arrF (Referent.rtF (Referent.fInt Syntax.w64)) 1536 0,
 ) (List._∷_ (6, Rows'.sc-here (Row.sInt Syntax.w64)) (List._∷_ (
   7,
   Rows'.sc-here (Row.sInt Syntax.w64),
@@ -1432,7 +1432,7 @@ t33 = List._∷_ (0, Rows'.any-gone Syntax.tyBool) (List._∷_ (
   Rows'.sc-here (Row.sInt Syntax.w64),
 ) (List._∷_ (4, Rows'.sc-here (Row.sInt Syntax.w64)) (List._∷_ (
   5,
-  Rows.arrF (Referent.rtF (Referent.fInt Syntax.w64)) 1024 0,
+  Rows.arrF (Referent.rtF (Referent.fInt Syntax.w64)) 1536 0,
 ) (List._∷_ (6, Rows'.sc-here (Row.sInt Syntax.w64)) (List._∷_ (
   7,
   Rows'.sc-here (Row.sInt Syntax.w64),
@@ -1476,7 +1476,7 @@ t35 = List._∷_ (0, Rows'.any-gone Syntax.tyBool) (List._∷_ (
   Rows'.sc-here (Row.sInt Syntax.w64),
 ) (List._∷_ (4, Rows'.sc-here (Row.sInt Syntax.w64)) (List._∷_ (
   5,
-  Rows'.any-gone (Syntax.tyArray (Syntax.tyInt Syntax.w64) 1024),
+  Rows'.any-gone (Syntax.tyArray (Syntax.tyInt Syntax.w64) 1536),
 ) (List._∷_ (6, Rows'.sc-here (Row.sInt Syntax.w64)) (List._∷_ (
   7,
   Rows'.sc-here (Row.sInt Syntax.w64),
@@ -1506,7 +1506,7 @@ t36 = List._∷_ (0, Rows'.sc-here Row.sBool) (List._∷_ (
   Rows'.sc-here (Row.sInt Syntax.w64),
 ) (List._∷_ (4, Rows'.sc-here (Row.sInt Syntax.w64)) (List._∷_ (
   5,
-  Rows'.any-gone (Syntax.tyArray (Syntax.tyInt Syntax.w64) 1024),
+  Rows'.any-gone (Syntax.tyArray (Syntax.tyInt Syntax.w64) 1536),
 ) (List._∷_ (6, Rows'.sc-here (Row.sInt Syntax.w64)) (List._∷_ (
   7,
   Rows'.sc-here (Row.sInt Syntax.w64),
@@ -1536,7 +1536,7 @@ t37 = List._∷_ (0, Rows'.sc-here Row.sBool) (List._∷_ (
   Rows'.sc-here (Row.sInt Syntax.w64),
 ) (List._∷_ (4, Rows'.sc-here (Row.sInt Syntax.w64)) (List._∷_ (
   5,
-  Rows'.any-gone (Syntax.tyArray (Syntax.tyInt Syntax.w64) 1024),
+  Rows'.any-gone (Syntax.tyArray (Syntax.tyInt Syntax.w64) 1536),
 ) (List._∷_ (6, Rows'.sc-here (Row.sInt Syntax.w64)) (List._∷_ (
   7,
   Rows'.sc-here (Row.sInt Syntax.w64),
@@ -1566,7 +1566,7 @@ t38 = List._∷_ (0, Rows'.sc-here Row.sBool) (List._∷_ (
   Rows'.any-gone (Syntax.tyInt Syntax.w64),
 ) (List._∷_ (4, Rows'.sc-here (Row.sInt Syntax.w64)) (List._∷_ (
   5,
-  Rows'.any-gone (Syntax.tyArray (Syntax.tyInt Syntax.w64) 1024),
+  Rows'.any-gone (Syntax.tyArray (Syntax.tyInt Syntax.w64) 1536),
 ) (List._∷_ (6, Rows'.sc-here (Row.sInt Syntax.w64)) (List._∷_ (
   7,
   Rows'.sc-here (Row.sInt Syntax.w64),
@@ -1596,7 +1596,7 @@ t39 = List._∷_ (0, Rows'.sc-here Row.sBool) (List._∷_ (
   Rows'.any-gone (Syntax.tyInt Syntax.w64),
 ) (List._∷_ (4, Rows'.any-gone (Syntax.tyInt Syntax.w64)) (List._∷_ (
   5,
-  Rows'.any-gone (Syntax.tyArray (Syntax.tyInt Syntax.w64) 1024),
+  Rows'.any-gone (Syntax.tyArray (Syntax.tyInt Syntax.w64) 1536),
 ) (List._∷_ (6, Rows'.sc-here (Row.sInt Syntax.w64)) (List._∷_ (
   7,
   Rows'.sc-here (Row.sInt Syntax.w64),
@@ -1626,7 +1626,7 @@ t40 = List._∷_ (0, Rows'.sc-here Row.sBool) (List._∷_ (
   Rows'.any-gone (Syntax.tyInt Syntax.w64),
 ) (List._∷_ (4, Rows'.any-gone (Syntax.tyInt Syntax.w64)) (List._∷_ (
   5,
-  Rows'.any-gone (Syntax.tyArray (Syntax.tyInt Syntax.w64) 1024),
+  Rows'.any-gone (Syntax.tyArray (Syntax.tyInt Syntax.w64) 1536),
 ) (List._∷_ (6, Rows'.any-gone (Syntax.tyInt Syntax.w64)) (List._∷_ (
   7,
   Rows'.sc-here (Row.sInt Syntax.w64),
@@ -1656,7 +1656,7 @@ t41 = List._∷_ (0, Rows'.sc-here Row.sBool) (List._∷_ (
   Rows'.any-gone (Syntax.tyInt Syntax.w64),
 ) (List._∷_ (4, Rows'.any-gone (Syntax.tyInt Syntax.w64)) (List._∷_ (
   5,
-  Rows'.any-gone (Syntax.tyArray (Syntax.tyInt Syntax.w64) 1024),
+  Rows'.any-gone (Syntax.tyArray (Syntax.tyInt Syntax.w64) 1536),
 ) (List._∷_ (6, Rows'.any-gone (Syntax.tyInt Syntax.w64)) (List._∷_ (
   7,
   Rows'.any-gone (Syntax.tyInt Syntax.w64),
@@ -1686,7 +1686,7 @@ t42 = List._∷_ (0, Rows'.sc-here Row.sBool) (List._∷_ (
   Rows'.any-gone (Syntax.tyInt Syntax.w64),
 ) (List._∷_ (4, Rows'.any-gone (Syntax.tyInt Syntax.w64)) (List._∷_ (
   5,
-  Rows'.any-gone (Syntax.tyArray (Syntax.tyInt Syntax.w64) 1024),
+  Rows'.any-gone (Syntax.tyArray (Syntax.tyInt Syntax.w64) 1536),
 ) (List._∷_ (6, Rows'.any-gone (Syntax.tyInt Syntax.w64)) (List._∷_ (
   7,
   Rows'.any-gone (Syntax.tyInt Syntax.w64),
@@ -1717,7 +1717,7 @@ t43 = List._∷_ (0, Rows'.sc-here Row.sBool) (List._∷_ (
   Rows'.any-gone (Syntax.tyInt Syntax.w64),
 ) (List._∷_ (4, Rows'.any-gone (Syntax.tyInt Syntax.w64)) (List._∷_ (
   5,
-  Rows'.any-gone (Syntax.tyArray (Syntax.tyInt Syntax.w64) 1024),
+  Rows'.any-gone (Syntax.tyArray (Syntax.tyInt Syntax.w64) 1536),
 ) (List._∷_ (6, Rows'.any-gone (Syntax.tyInt Syntax.w64)) (List._∷_ (
   7,
   Rows'.any-gone (Syntax.tyInt Syntax.w64),
@@ -1747,7 +1747,7 @@ t44 = List._∷_ (0, Rows'.any-gone Syntax.tyBool) (List._∷_ (
   Rows'.sc-here (Row.sInt Syntax.w64),
 ) (List._∷_ (4, Rows'.sc-here (Row.sInt Syntax.w64)) (List._∷_ (
   5,
-  Rows.arrF (Referent.rtF (Referent.fInt Syntax.w64)) 1024 0,
+  Rows.arrF (Referent.rtF (Referent.fInt Syntax.w64)) 1536 0,
 ) (List._∷_ (6, Rows'.sc-here (Row.sInt Syntax.w64)) (List._∷_ (
   7,
   Rows'.sc-here (Row.sInt Syntax.w64),
@@ -1831,7 +1831,7 @@ t49 = List._∷_ (0, Rows'.any-gone Syntax.tyBool) (List._∷_ (
   Rows'.sc-here (Row.sInt Syntax.w64),
 ) (List._∷_ (4, Rows'.sc-here (Row.sInt Syntax.w64)) (List._∷_ (
   5,
-  Rows.arrF (Referent.rtF (Referent.fInt Syntax.w64)) 1024 0,
+  Rows.arrF (Referent.rtF (Referent.fInt Syntax.w64)) 1536 0,
 ) (List._∷_ (6, Rows'.sc-here (Row.sInt Syntax.w64)) (List._∷_ (
   7,
   Rows'.any-gone (Syntax.tyInt Syntax.w64),
@@ -1861,7 +1861,7 @@ t50 = List._∷_ (0, Rows'.any-gone Syntax.tyBool) (List._∷_ (
   Rows'.sc-here (Row.sInt Syntax.w64),
 ) (List._∷_ (4, Rows'.sc-here (Row.sInt Syntax.w64)) (List._∷_ (
   5,
-  Rows.arrF (Referent.rtF (Referent.fInt Syntax.w64)) 1024 0,
+  Rows.arrF (Referent.rtF (Referent.fInt Syntax.w64)) 1536 0,
 ) (List._∷_ (6, Rows'.sc-here (Row.sInt Syntax.w64)) (List._∷_ (
   7,
   Rows'.any-gone (Syntax.tyInt Syntax.w64),
@@ -1892,7 +1892,7 @@ t51 = List._∷_ (0, Rows'.any-gone Syntax.tyBool) (List._∷_ (
   Rows'.sc-here (Row.sInt Syntax.w64),
 ) (List._∷_ (4, Rows'.sc-here (Row.sInt Syntax.w64)) (List._∷_ (
   5,
-  Rows.arrF (Referent.rtF (Referent.fInt Syntax.w64)) 1024 0,
+  Rows.arrF (Referent.rtF (Referent.fInt Syntax.w64)) 1536 0,
 ) (List._∷_ (6, Rows'.sc-here (Row.sInt Syntax.w64)) (List._∷_ (
   7,
   Rows'.any-gone (Syntax.tyInt Syntax.w64),
@@ -1922,7 +1922,7 @@ t52 = List._∷_ (0, Rows'.sc-here Row.sBool) (List._∷_ (
   Rows'.sc-here (Row.sInt Syntax.w64),
 ) (List._∷_ (4, Rows'.sc-here (Row.sInt Syntax.w64)) (List._∷_ (
   5,
-  Rows'.any-gone (Syntax.tyArray (Syntax.tyInt Syntax.w64) 1024),
+  Rows'.any-gone (Syntax.tyArray (Syntax.tyInt Syntax.w64) 1536),
 ) (List._∷_ (6, Rows'.sc-here (Row.sInt Syntax.w64)) (List._∷_ (
   7,
   Rows'.any-gone (Syntax.tyInt Syntax.w64),
@@ -1952,7 +1952,7 @@ t53 = List._∷_ (0, Rows'.sc-here Row.sBool) (List._∷_ (
   Rows'.sc-here (Row.sInt Syntax.w64),
 ) (List._∷_ (4, Rows'.sc-here (Row.sInt Syntax.w64)) (List._∷_ (
   5,
-  Rows'.any-gone (Syntax.tyArray (Syntax.tyInt Syntax.w64) 1024),
+  Rows'.any-gone (Syntax.tyArray (Syntax.tyInt Syntax.w64) 1536),
 ) (List._∷_ (6, Rows'.any-gone (Syntax.tyInt Syntax.w64)) (List._∷_ (
   7,
   Rows'.any-gone (Syntax.tyInt Syntax.w64),
@@ -1982,7 +1982,7 @@ t54 = List._∷_ (0, Rows'.sc-here Row.sBool) (List._∷_ (
   Rows'.sc-here (Row.sInt Syntax.w64),
 ) (List._∷_ (4, Rows'.sc-here (Row.sInt Syntax.w64)) (List._∷_ (
   5,
-  Rows'.any-gone (Syntax.tyArray (Syntax.tyInt Syntax.w64) 1024),
+  Rows'.any-gone (Syntax.tyArray (Syntax.tyInt Syntax.w64) 1536),
 ) (List._∷_ (6, Rows'.any-gone (Syntax.tyInt Syntax.w64)) (List._∷_ (
   7,
   Rows'.any-gone (Syntax.tyInt Syntax.w64),
@@ -2012,7 +2012,7 @@ t55 = List._∷_ (0, Rows'.sc-here Row.sBool) (List._∷_ (
   Rows'.any-gone (Syntax.tyInt Syntax.w64),
 ) (List._∷_ (4, Rows'.sc-here (Row.sInt Syntax.w64)) (List._∷_ (
   5,
-  Rows'.any-gone (Syntax.tyArray (Syntax.tyInt Syntax.w64) 1024),
+  Rows'.any-gone (Syntax.tyArray (Syntax.tyInt Syntax.w64) 1536),
 ) (List._∷_ (6, Rows'.any-gone (Syntax.tyInt Syntax.w64)) (List._∷_ (
   7,
   Rows'.any-gone (Syntax.tyInt Syntax.w64),
@@ -2276,9 +2276,9 @@ InvT-loop =
     Rows'.sc-here (Row.sInt Syntax.w64) .Mod →
     Rows'.sc-here (Row.sInt Syntax.w64) .Mod →
     Rows'.sc-here (Row.sInt Syntax.w64) .Mod →
-    Rows.arrF (Referent.rtF (Referent.fInt Syntax.w64)) 1024 0 .Mod →
+    Rows.arrF (Referent.rtF (Referent.fInt Syntax.w64)) 1536 0 .Mod →
     Rows'.sc-here (Row.sInt Syntax.w64) .Mod →
-    Rows.arrF (Referent.rtF (Referent.fInt Syntax.w64)) 1024 0 .Mod →
+    Rows.arrF (Referent.rtF (Referent.fInt Syntax.w64)) 1536 0 .Mod →
     Rows'.sc-here (Row.sInt Syntax.w64) .Mod →
     Type 0
 
@@ -2288,22 +2288,22 @@ MeasureT-loop =
     Rows'.sc-here (Row.sInt Syntax.w64) .Mod →
     Rows'.sc-here (Row.sInt Syntax.w64) .Mod →
     Rows'.sc-here (Row.sInt Syntax.w64) .Mod →
-    Rows.arrF (Referent.rtF (Referent.fInt Syntax.w64)) 1024 0 .Mod →
+    Rows.arrF (Referent.rtF (Referent.fInt Syntax.w64)) 1536 0 .Mod →
     Rows'.sc-here (Row.sInt Syntax.w64) .Mod →
-    Rows.arrF (Referent.rtF (Referent.fInt Syntax.w64)) 1024 0 .Mod →
+    Rows.arrF (Referent.rtF (Referent.fInt Syntax.w64)) 1536 0 .Mod →
     Rows'.sc-here (Row.sInt Syntax.w64) .Mod →
     Nat.ℕ
 
 module _ (claims· : Claims) where
   abbrev s0 : (bs : List.List Nat.ℕ) → Typed.Mo T0 → Typed.Mo T2
-  s0 = λ bs. Repeat.n-repeat (Referent.rtF (Referent.fInt Syntax.w64)) 1024 T0 5 λ m. 0
+  s0 = λ bs. Repeat.n-repeat (Referent.rtF (Referent.fInt Syntax.w64)) 1536 T0 5 λ m. 0
 
   abbrev s1 : (bs : List.List Nat.ℕ) → Typed.Mo T2 → Typed.Mo T3
   s1 =
       λ bs. AtSlots.n-as-by
       T2
       5
-      (Rows.arrF (Referent.rtF (Referent.fInt Syntax.w64)) 1024 0)
+      (Rows.arrF (Referent.rtF (Referent.fInt Syntax.w64)) 1536 0)
       λ x. x
 
   abbrev s2 : (bs : List.List Nat.ℕ) → Typed.Mo T3 → Typed.Mo T4
@@ -2342,7 +2342,7 @@ module _ (claims· : Claims) where
   s6 = λ bs. Scalar.n-room T9 12 Syntax.tyBool
 
   abbrev s7 : (bs : List.List Nat.ℕ) → Typed.Mo T9 → Typed.Mo T11
-  s7 = λ bs. Scalar.n-room T9 5 (Syntax.tyArray (Syntax.tyInt Syntax.w64) 1024)
+  s7 = λ bs. Scalar.n-room T9 5 (Syntax.tyArray (Syntax.tyInt Syntax.w64) 1536)
 
   abbrev s8 : (bs : List.List Nat.ℕ) → Typed.Mo T11 → Typed.Mo T12
   s8 = λ bs. Scalar.n-room T11 12 Syntax.tyBool
@@ -2531,7 +2531,7 @@ module _ (claims· : Claims) where
       5
       17
       18
-      1024
+      1536
       0
       (Rows'.sc-here (Row.sInt Syntax.w64))
       (Row.sInt Syntax.w64 .of)
@@ -2578,7 +2578,7 @@ module _ (claims· : Claims) where
   s37 = λ bs. Scalar.n-room T40 12 Syntax.tyBool
 
   abbrev s38 : (bs : List.List Nat.ℕ) → Typed.Mo T42 → Typed.Mo T43
-  s38 = λ bs. Scalar.n-room T42 5 (Syntax.tyArray (Syntax.tyInt Syntax.w64) 1024)
+  s38 = λ bs. Scalar.n-room T42 5 (Syntax.tyArray (Syntax.tyInt Syntax.w64) 1536)
 
   abbrev s39 : (bs : List.List Nat.ℕ) → Typed.Mo T43 → Typed.Mo T44
   s39 = λ bs. Scalar.n-room T43 19 Syntax.tyBool
@@ -2657,7 +2657,7 @@ module _ (claims· : Claims) where
       (Row.hd 0 (Row.tl (Row.tl (Row.tl (Row.tl (Row.tl bs))))))
       5
       21
-      1024
+      1536
       0
       (λ x. x)
       (λ x. x)
@@ -2713,14 +2713,14 @@ module _ (claims· : Claims) where
   s68 = λ bs. Scalar.n-room T72 4 (Syntax.tyInt Syntax.w64)
 
   abbrev put0 :
-      Rows.arrF (Referent.rtF (Referent.fInt Syntax.w64)) 1024 0 .Mod ×
+      Rows.arrF (Referent.rtF (Referent.fInt Syntax.w64)) 1536 0 .Mod ×
       Rows'.sc-here (Row.sInt Syntax.w64) .Mod →
       Typed.Mo T4 →
       Typed.Mo T4
   put0 =
       λ vs u. Row.set 6 (6, Rows'.sc-here (Row.sInt Syntax.w64)) (vs .1) (T4 .locals) (Row.set 5 (
         5,
-        Rows.arrF (Referent.rtF (Referent.fInt Syntax.w64)) 1024 0,
+        Rows.arrF (Referent.rtF (Referent.fInt Syntax.w64)) 1536 0,
       ) (vs .0) (T4 .locals) u)
 
   module _ (Pre· : (κs : Lifetimes.Lfts 1) → Kinds.Dens κs ps → Type 0)
@@ -3554,16 +3554,16 @@ module _ (claims· : Claims) where
               E
               G9
               5
-              (Syntax.tyArray (Syntax.tyInt Syntax.w64) 1024)
+              (Syntax.tyArray (Syntax.tyInt Syntax.w64) 1536)
               (Init.room-arr
               𝓤
               H
               A
               W
               (Referent.rtF (Referent.fInt Syntax.w64))
-              1024
+              1536
               0
-              1024
+              1536
               Path'.refl))
               d3
 
@@ -3905,16 +3905,16 @@ module _ (claims· : Claims) where
               E
               G42
               5
-              (Syntax.tyArray (Syntax.tyInt Syntax.w64) 1024)
+              (Syntax.tyArray (Syntax.tyInt Syntax.w64) 1536)
               (Init.room-arr
               𝓤
               H
               A
               W
               (Referent.rtF (Referent.fInt Syntax.w64))
-              1024
+              1536
               0
-              1024
+              1536
               Path'.refl))
               d17
 
@@ -4218,13 +4218,13 @@ module _ (claims· : Claims) where
               G59
               5
               21
-              1024
+              1536
               0
               (λ x. x)
               (λ x. x)
               (Scalar.oAt 18 (Syntax.tyInt Syntax.w64) (Row.valS (Row.sInt Syntax.w64)))
               (λ u. u .1 .1 .1 .1 .1 .1 .1 .1 .1 .0)
-              (Reads.as-is 𝓤 H A (Rows.arrF (Referent.rtF (Referent.fInt Syntax.w64)) 1024 0))
+              (Reads.as-is 𝓤 H A (Rows.arrF (Referent.rtF (Referent.fInt Syntax.w64)) 1536 0))
               (Reads.as-is 𝓤 H A (Rows'.sc-here Row.sPtr))
               (Scalar.reads-sc 𝓤 H A W (Row.sInt Syntax.w64), Path'.refl)
               Path'.refl
@@ -4667,7 +4667,7 @@ module _ (claims· : Claims) where
               5
               17
               18
-              1024
+              1536
               0
               (Rows'.sc-here (Row.sInt Syntax.w64))
               (Row.valS (Row.sInt Syntax.w64))
@@ -4676,7 +4676,7 @@ module _ (claims· : Claims) where
               (λ x. x)
               (λ x. x)
               (λ u. u .1 .1 .1 .1 .1 .1 .1 .1 .1 .0)
-              (Reads.as-is 𝓤 H A (Rows.arrF (Referent.rtF (Referent.fInt Syntax.w64)) 1024 0))
+              (Reads.as-is 𝓤 H A (Rows.arrF (Referent.rtF (Referent.fInt Syntax.w64)) 1536 0))
               (Reads.as-is 𝓤 H A (Rows'.sc-here Row.sPtr))
               (Reads.room-gone 𝓤 H A (Syntax.tyInt Syntax.w64))
               (Scalar.holds-sc 𝓤 H A W (Row.sInt Syntax.w64))
@@ -5908,7 +5908,7 @@ module _ (claims· : Claims) where
               (λ ρ. Unit)
               G2
               5
-              (Rows.arrF (Referent.rtF (Referent.fInt Syntax.w64)) 1024 0)
+              (Rows.arrF (Referent.rtF (Referent.fInt Syntax.w64)) 1536 0)
               (λ x. x)
               (Own.told-none 𝓤 H A (G2 .slots))
               λ ρ told. Repeat.whole-arr
@@ -5917,7 +5917,7 @@ module _ (claims· : Claims) where
               A
               W
               (Referent.rtF (Referent.fInt Syntax.w64))
-              1024
+              1536
               tt
               ρ)
               d74
@@ -5949,12 +5949,12 @@ module _ (claims· : Claims) where
               (Plain'.uint-lawful 𝓤 H A W Syntax.w64)
               (Copies.cRf (Referent.fInt Syntax.w64) .copy 𝓤 H A W)
               (Plain'.uint-makes 𝓤 H A W Syntax.w64)
-              1024
+              1536
               G0
               5
               (Scalar.oInt Syntax.w64 0)
               (λ m. 0)
-              (Reads.room-gone 𝓤 H A (Syntax.tyArray (Syntax.tyInt Syntax.w64) 1024))
+              (Reads.room-gone 𝓤 H A (Syntax.tyArray (Syntax.tyInt Syntax.w64) 1536))
               tt
               Path'.refl
               λ m wa. (Path'.refl, Dec'.lit< tt))
@@ -6060,23 +6060,23 @@ module _ (claims· : Claims) where
 
       abbrev pub m4 :
           (before : Start) →
-          (words : Rows.arrF (Referent.rtF (Referent.fInt Syntax.w64)) 1024 0 .Mod) →
+          (words : Rows.arrF (Referent.rtF (Referent.fInt Syntax.w64)) 1536 0 .Mod) →
           (j : Rows'.sc-here (Row.sInt Syntax.w64) .Mod) →
           Typed.Mo T4
       m4 = λ before words j. Row.set 6 (6, Rows'.sc-here (Row.sInt Syntax.w64)) j (Row.setRow 5 (
         5,
-        Rows.arrF (Referent.rtF (Referent.fInt Syntax.w64)) 1024 0,
+        Rows.arrF (Referent.rtF (Referent.fInt Syntax.w64)) 1536 0,
       ) (T4 .locals))
           (Row.set
           5
-          (5, Rows.arrF (Referent.rtF (Referent.fInt Syntax.w64)) 1024 0)
+          (5, Rows.arrF (Referent.rtF (Referent.fInt Syntax.w64)) 1536 0)
           words
           (T4 .locals)
           (m3 (before .κs) (before .args) (before .blocks)))
 
       abbrev W3 :
           (before : Start) →
-          (words : Rows.arrF (Referent.rtF (Referent.fInt Syntax.w64)) 1024 0 .Mod) →
+          (words : Rows.arrF (Referent.rtF (Referent.fInt Syntax.w64)) 1536 0 .Mod) →
           (j : Rows'.sc-here (Row.sInt Syntax.w64) .Mod) →
           Typed.Want O3
       W3 =
@@ -6112,21 +6112,21 @@ module _ (claims· : Claims) where
 
       abbrev pub m5 :
           (before : Start) →
-          (words : Rows.arrF (Referent.rtF (Referent.fInt Syntax.w64)) 1024 0 .Mod) →
+          (words : Rows.arrF (Referent.rtF (Referent.fInt Syntax.w64)) 1536 0 .Mod) →
           (j : Rows'.sc-here (Row.sInt Syntax.w64) .Mod) →
           Typed.Mo T6
       m5 = λ before words j. s3 (before .blocks) (m4 before words j)
 
       abbrev pub m6 :
           (before : Start) →
-          (words : Rows.arrF (Referent.rtF (Referent.fInt Syntax.w64)) 1024 0 .Mod) →
+          (words : Rows.arrF (Referent.rtF (Referent.fInt Syntax.w64)) 1536 0 .Mod) →
           (j : Rows'.sc-here (Row.sInt Syntax.w64) .Mod) →
           Typed.Mo T7
       m6 = λ before words j. s4 (before .blocks) .next (m5 before words j)
 
       abbrev W4 :
           (before : Start) →
-          (words : Rows.arrF (Referent.rtF (Referent.fInt Syntax.w64)) 1024 0 .Mod) →
+          (words : Rows.arrF (Referent.rtF (Referent.fInt Syntax.w64)) 1536 0 .Mod) →
           (j : Rows'.sc-here (Row.sInt Syntax.w64) .Mod) →
           Typed.Want O4
       W4 =
@@ -6138,14 +6138,14 @@ module _ (claims· : Claims) where
 
       abbrev pub m7 :
           (before : Start) →
-          (words : Rows.arrF (Referent.rtF (Referent.fInt Syntax.w64)) 1024 0 .Mod) →
+          (words : Rows.arrF (Referent.rtF (Referent.fInt Syntax.w64)) 1536 0 .Mod) →
           (j : Rows'.sc-here (Row.sInt Syntax.w64) .Mod) →
           Typed.Mo T9
       m7 = λ before words j. s5 (before .blocks) (m6 before words j)
 
       module _ (before· : Start) where
         pub record At-loop·own : Type 0 where
-          pub words : Rows.arrF (Referent.rtF (Referent.fInt Syntax.w64)) 1024 0 .Mod
+          pub words : Rows.arrF (Referent.rtF (Referent.fInt Syntax.w64)) 1536 0 .Mod
           pub j : Rows'.sc-here (Row.sInt Syntax.w64) .Mod
           pub inv : Inv·0
               (Row.get 1 (T4 .locals) (m3 (before· .κs) (before· .args) (before· .blocks)) .now)
@@ -6574,7 +6574,7 @@ module _ (claims· : Claims) where
           Asked.InArray
           T33
           (λ u. u .1 .1 .1 .1 .1 .1 .1 .1 .1 .0)
-          1024
+          1536
           (m31 (c .before) (After-slot-of·gave c))
 
       abbrev pub m32 :
@@ -6948,7 +6948,7 @@ module _ (claims· : Claims) where
           Asked.InArray
           T59
           (λ u. u .1 .1 .1 .1 .1 .1 .1 .1 .1 .0)
-          1024
+          1536
           (m56 (c .before) (After-marked·gave c))
 
       abbrev pub m57 :

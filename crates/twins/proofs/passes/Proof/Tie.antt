@@ -38,33 +38,6 @@ After-mask-for = λ Inv μ. Lts.After-mask-for (
   Reads'.Learnt,
 ) Reads''.Pre Reads''.Post Inv μ
 
-abbrev pub At-loop : (Inv : InvT-loop) → (μ : MeasureT-loop) → Type 0
-At-loop =
-    λ Inv μ. Lts.At-loop
-    (Reads.Asked, Reads.Learnt, Reads'.Asked, Reads'.Learnt)
-    Reads''.Pre
-    Reads''.Post
-    Inv
-    μ
-
-abbrev pub In-loop : (Inv : InvT-loop) → (μ : MeasureT-loop) → Type 0
-In-loop =
-    λ Inv μ. Lts.In-loop
-    (Reads.Asked, Reads.Learnt, Reads'.Asked, Reads'.Learnt)
-    Reads''.Pre
-    Reads''.Post
-    Inv
-    μ
-
-abbrev pub After-loop : (Inv : InvT-loop) → (μ : MeasureT-loop) → Type 0
-After-loop =
-    λ Inv μ. Lts.After-loop
-    (Reads.Asked, Reads.Learnt, Reads'.Asked, Reads'.Learnt)
-    Reads''.Pre
-    Reads''.Post
-    Inv
-    μ
-
 abbrev pub After-pass : (Inv : InvT-loop) → (μ : MeasureT-loop) → Type 0
 After-pass =
     λ Inv μ. Lts.After-pass
@@ -92,16 +65,62 @@ Else1 =
     Inv
     μ
 
+abbrev pub At-loop : (Inv : InvT-loop) → (μ : MeasureT-loop) → Type 0
+At-loop =
+    λ Inv μ. Lts.At-loop
+    (Reads.Asked, Reads.Learnt, Reads'.Asked, Reads'.Learnt)
+    Reads''.Pre
+    Reads''.Post
+    Inv
+    μ
+
+abbrev pub In-loop : (Inv : InvT-loop) → (μ : MeasureT-loop) → Type 0
+In-loop =
+    λ Inv μ. Lts.In-loop
+    (Reads.Asked, Reads.Learnt, Reads'.Asked, Reads'.Learnt)
+    Reads''.Pre
+    Reads''.Post
+    Inv
+    μ
+
+abbrev pub After-loop : (Inv : InvT-loop) → (μ : MeasureT-loop) → Type 0
+After-loop =
+    λ Inv μ. Lts.After-loop
+    (Reads.Asked, Reads.Learnt, Reads'.Asked, Reads'.Learnt)
+    Reads''.Pre
+    Reads''.Post
+    Inv
+    μ
+
+abbrev pub After-pass2 : (Inv : InvT-loop) → (μ : MeasureT-loop) → Type 0
+After-pass2 =
+    λ Inv μ. Lts.After-pass2
+    (Reads.Asked, Reads.Learnt, Reads'.Asked, Reads'.Learnt)
+    Reads''.Pre
+    Reads''.Post
+    Inv
+    μ
+
+abbrev pub Then2 : (Inv : InvT-loop) → (μ : MeasureT-loop) → Type 0
+Then2 =
+    λ Inv μ. Lts.Then2
+    (Reads.Asked, Reads.Learnt, Reads'.Asked, Reads'.Learnt)
+    Reads''.Pre
+    Reads''.Post
+    Inv
+    μ
+
+abbrev pub Else2 : (Inv : InvT-loop) → (μ : MeasureT-loop) → Type 0
+Else2 =
+    λ Inv μ. Lts.Else2
+    (Reads.Asked, Reads.Learnt, Reads'.Asked, Reads'.Learnt)
+    Reads''.Pre
+    Reads''.Post
+    Inv
+    μ
+
 abbrev pub Need-mask-for-requires : (Inv : InvT-loop) → (μ : MeasureT-loop) → Type 0
 Need-mask-for-requires = λ Inv μ. Lts.Need-mask-for-requires (
-  Reads.Asked,
-  Reads.Learnt,
-  Reads'.Asked,
-  Reads'.Learnt,
-) Reads''.Pre Reads''.Post Inv μ
-
-abbrev pub Need-loop-holds : (Inv : InvT-loop) → (μ : MeasureT-loop) → Type 0
-Need-loop-holds = λ Inv μ. Lts.Need-loop-holds (
   Reads.Asked,
   Reads.Learnt,
   Reads'.Asked,
@@ -124,6 +143,30 @@ Need-returns =
     Reads''.Post
     Inv
     μ
+
+abbrev pub Need-loop-holds : (Inv : InvT-loop) → (μ : MeasureT-loop) → Type 0
+Need-loop-holds = λ Inv μ. Lts.Need-loop-holds (
+  Reads.Asked,
+  Reads.Learnt,
+  Reads'.Asked,
+  Reads'.Learnt,
+) Reads''.Pre Reads''.Post Inv μ
+
+abbrev pub Need-pass-requires-2 : (Inv : InvT-loop) → (μ : MeasureT-loop) → Type 0
+Need-pass-requires-2 = λ Inv μ. Lts.Need-pass-requires-2 (
+  Reads.Asked,
+  Reads.Learnt,
+  Reads'.Asked,
+  Reads'.Learnt,
+) Reads''.Pre Reads''.Post Inv μ
+
+abbrev pub Need-returns-2 : (Inv : InvT-loop) → (μ : MeasureT-loop) → Type 0
+Need-returns-2 = λ Inv μ. Lts.Need-returns-2 (
+  Reads.Asked,
+  Reads.Learnt,
+  Reads'.Asked,
+  Reads'.Learnt,
+) Reads''.Pre Reads''.Post Inv μ
 
 abbrev pub Need-add-p : (Inv : InvT-loop) → (μ : MeasureT-loop) → Type 0
 Need-add-p =
@@ -150,8 +193,8 @@ Need-loop-again = λ Inv μ. Lts.Need-loop-again (
   Reads'.Learnt,
 ) Reads''.Pre Reads''.Post Inv μ
 
-abbrev pub Need-returns-2 : (Inv : InvT-loop) → (μ : MeasureT-loop) → Type 0
-Need-returns-2 = λ Inv μ. Lts.Need-returns-2 (
+abbrev pub Need-returns-3 : (Inv : InvT-loop) → (μ : MeasureT-loop) → Type 0
+Need-returns-3 = λ Inv μ. Lts.Need-returns-3 (
   Reads.Asked,
   Reads.Learnt,
   Reads'.Asked,
@@ -163,36 +206,25 @@ module _ {M : Type 1} where
       (Inv : InvT-loop) →
       (μ : MeasureT-loop) →
       (answer : Need-mask-for-requires Inv μ) →
-      (answer : Need-loop-holds Inv μ) →
       (answer : Need-pass-requires Inv μ) →
       (answer : Need-returns Inv μ) →
+      (answer : Need-loop-holds Inv μ) →
+      (answer : Need-pass-requires-2 Inv μ) →
+      (answer : Need-returns-2 Inv μ) →
       (answer : Need-add-p Inv μ) →
       (answer : Need-loop-less Inv μ) →
       (answer : Need-loop-again Inv μ) →
-      (answer : Need-returns-2 Inv μ) →
+      (answer : Need-returns-3 Inv μ) →
       Lts.Closed
       (Reads.Asked, Reads.Learnt, Reads'.Asked, Reads'.Learnt)
       Reads''.Pre
       Reads''.Post
       M
-  spec = λ Inv μ answer answer' answer'' answer'3 answer'4 answer'5 answer'6 answer'7. Lts.spec (
-    Reads.Asked,
-    Reads.Learnt,
-    Reads'.Asked,
-    Reads'.Learnt,
-  )
-      Reads''.Pre
-      Reads''.Post
-      Inv
-      μ
-      answer
-      answer'
-      answer''
-      answer'3
-      answer'4
-      answer'5
-      answer'6
-      answer'7
+  spec =
+      λ Inv μ answer answer' answer'' answer'3 answer'4 answer'5 answer'6 answer'7 answer'8
+      answer'9. Lts.spec (Reads.Asked, Reads.Learnt, Reads'.Asked, Reads'.Learnt) Reads''.Pre
+      Reads''.Post Inv μ answer answer' answer'' answer'3 answer'4 answer'5 answer'6 answer'7
+      answer'8 answer'9
 
   pub close :
       Lts.Closed

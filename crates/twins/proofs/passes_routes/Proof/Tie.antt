@@ -38,6 +38,32 @@ After-mask-for = λ Inv μ. Lts.After-mask-for (
   Reads'.Learnt,
 ) Reads''.Pre Reads''.Post Inv μ
 
+abbrev pub After-pass-routes : (Inv : InvT-loop) → (μ : MeasureT-loop) → Type 0
+After-pass-routes = λ Inv μ. Lts.After-pass-routes (
+  Reads.Asked,
+  Reads.Learnt,
+  Reads'.Asked,
+  Reads'.Learnt,
+) Reads''.Pre Reads''.Post Inv μ
+
+abbrev pub Then1 : (Inv : InvT-loop) → (μ : MeasureT-loop) → Type 0
+Then1 =
+    λ Inv μ. Lts.Then1
+    (Reads.Asked, Reads.Learnt, Reads'.Asked, Reads'.Learnt)
+    Reads''.Pre
+    Reads''.Post
+    Inv
+    μ
+
+abbrev pub Else1 : (Inv : InvT-loop) → (μ : MeasureT-loop) → Type 0
+Else1 =
+    λ Inv μ. Lts.Else1
+    (Reads.Asked, Reads.Learnt, Reads'.Asked, Reads'.Learnt)
+    Reads''.Pre
+    Reads''.Post
+    Inv
+    μ
+
 abbrev pub At-loop : (Inv : InvT-loop) → (μ : MeasureT-loop) → Type 0
 At-loop =
     λ Inv μ. Lts.At-loop
@@ -65,26 +91,26 @@ After-loop =
     Inv
     μ
 
-abbrev pub After-pass-routes : (Inv : InvT-loop) → (μ : MeasureT-loop) → Type 0
-After-pass-routes = λ Inv μ. Lts.After-pass-routes (
+abbrev pub After-pass-routes2 : (Inv : InvT-loop) → (μ : MeasureT-loop) → Type 0
+After-pass-routes2 = λ Inv μ. Lts.After-pass-routes2 (
   Reads.Asked,
   Reads.Learnt,
   Reads'.Asked,
   Reads'.Learnt,
 ) Reads''.Pre Reads''.Post Inv μ
 
-abbrev pub Then1 : (Inv : InvT-loop) → (μ : MeasureT-loop) → Type 0
-Then1 =
-    λ Inv μ. Lts.Then1
+abbrev pub Then2 : (Inv : InvT-loop) → (μ : MeasureT-loop) → Type 0
+Then2 =
+    λ Inv μ. Lts.Then2
     (Reads.Asked, Reads.Learnt, Reads'.Asked, Reads'.Learnt)
     Reads''.Pre
     Reads''.Post
     Inv
     μ
 
-abbrev pub Else1 : (Inv : InvT-loop) → (μ : MeasureT-loop) → Type 0
-Else1 =
-    λ Inv μ. Lts.Else1
+abbrev pub Else2 : (Inv : InvT-loop) → (μ : MeasureT-loop) → Type 0
+Else2 =
+    λ Inv μ. Lts.Else2
     (Reads.Asked, Reads.Learnt, Reads'.Asked, Reads'.Learnt)
     Reads''.Pre
     Reads''.Post
@@ -93,14 +119,6 @@ Else1 =
 
 abbrev pub Need-mask-for-requires : (Inv : InvT-loop) → (μ : MeasureT-loop) → Type 0
 Need-mask-for-requires = λ Inv μ. Lts.Need-mask-for-requires (
-  Reads.Asked,
-  Reads.Learnt,
-  Reads'.Asked,
-  Reads'.Learnt,
-) Reads''.Pre Reads''.Post Inv μ
-
-abbrev pub Need-loop-holds : (Inv : InvT-loop) → (μ : MeasureT-loop) → Type 0
-Need-loop-holds = λ Inv μ. Lts.Need-loop-holds (
   Reads.Asked,
   Reads.Learnt,
   Reads'.Asked,
@@ -123,6 +141,30 @@ Need-returns =
     Reads''.Post
     Inv
     μ
+
+abbrev pub Need-loop-holds : (Inv : InvT-loop) → (μ : MeasureT-loop) → Type 0
+Need-loop-holds = λ Inv μ. Lts.Need-loop-holds (
+  Reads.Asked,
+  Reads.Learnt,
+  Reads'.Asked,
+  Reads'.Learnt,
+) Reads''.Pre Reads''.Post Inv μ
+
+abbrev pub Need-pass-routes-requires-2 : (Inv : InvT-loop) → (μ : MeasureT-loop) → Type 0
+Need-pass-routes-requires-2 = λ Inv μ. Lts.Need-pass-routes-requires-2 (
+  Reads.Asked,
+  Reads.Learnt,
+  Reads'.Asked,
+  Reads'.Learnt,
+) Reads''.Pre Reads''.Post Inv μ
+
+abbrev pub Need-returns-2 : (Inv : InvT-loop) → (μ : MeasureT-loop) → Type 0
+Need-returns-2 = λ Inv μ. Lts.Need-returns-2 (
+  Reads.Asked,
+  Reads.Learnt,
+  Reads'.Asked,
+  Reads'.Learnt,
+) Reads''.Pre Reads''.Post Inv μ
 
 abbrev pub Need-add-p : (Inv : InvT-loop) → (μ : MeasureT-loop) → Type 0
 Need-add-p =
@@ -149,8 +191,8 @@ Need-loop-again = λ Inv μ. Lts.Need-loop-again (
   Reads'.Learnt,
 ) Reads''.Pre Reads''.Post Inv μ
 
-abbrev pub Need-returns-2 : (Inv : InvT-loop) → (μ : MeasureT-loop) → Type 0
-Need-returns-2 = λ Inv μ. Lts.Need-returns-2 (
+abbrev pub Need-returns-3 : (Inv : InvT-loop) → (μ : MeasureT-loop) → Type 0
+Need-returns-3 = λ Inv μ. Lts.Need-returns-3 (
   Reads.Asked,
   Reads.Learnt,
   Reads'.Asked,
@@ -162,36 +204,25 @@ module _ {M : Type 1} where
       (Inv : InvT-loop) →
       (μ : MeasureT-loop) →
       (answer : Need-mask-for-requires Inv μ) →
-      (answer : Need-loop-holds Inv μ) →
       (answer : Need-pass-routes-requires Inv μ) →
       (answer : Need-returns Inv μ) →
+      (answer : Need-loop-holds Inv μ) →
+      (answer : Need-pass-routes-requires-2 Inv μ) →
+      (answer : Need-returns-2 Inv μ) →
       (answer : Need-add-p Inv μ) →
       (answer : Need-loop-less Inv μ) →
       (answer : Need-loop-again Inv μ) →
-      (answer : Need-returns-2 Inv μ) →
+      (answer : Need-returns-3 Inv μ) →
       Lts.Closed
       (Reads.Asked, Reads.Learnt, Reads'.Asked, Reads'.Learnt)
       Reads''.Pre
       Reads''.Post
       M
-  spec = λ Inv μ answer answer' answer'' answer'3 answer'4 answer'5 answer'6 answer'7. Lts.spec (
-    Reads.Asked,
-    Reads.Learnt,
-    Reads'.Asked,
-    Reads'.Learnt,
-  )
-      Reads''.Pre
-      Reads''.Post
-      Inv
-      μ
-      answer
-      answer'
-      answer''
-      answer'3
-      answer'4
-      answer'5
-      answer'6
-      answer'7
+  spec =
+      λ Inv μ answer answer' answer'' answer'3 answer'4 answer'5 answer'6 answer'7 answer'8
+      answer'9. Lts.spec (Reads.Asked, Reads.Learnt, Reads'.Asked, Reads'.Learnt) Reads''.Pre
+      Reads''.Post Inv μ answer answer' answer'' answer'3 answer'4 answer'5 answer'6 answer'7
+      answer'8 answer'9
 
   pub close :
       Lts.Closed

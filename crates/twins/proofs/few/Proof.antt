@@ -1,0 +1,127 @@
+pub mod Lts
+pub mod Tie
+use Rattle.twins.proofs.Plain.{rowKind}
+use Prim.Native.Nat.{_-_, _≤_}
+use mathlib.Core.Path.{_≡_, sym}
+use mathlib.Core.Bool.{false}
+use denote.Ref.{now}
+use lib.ListN.{length, take, length-set}
+use Rattle.plain.specs.Lists.{anyTwo}
+use Rattle.row.specs.Meaning.{noRow}
+use Rattle.twins.specs.Pair.{rowTwins}
+use Rattle.twins.specs.Filter.{fewSlotOf, hashRow, inClass}
+use Rattle.twins.proofs.Any.{two-start, two-hit, two-more, two-end}
+use Rattle.twins.proofs.Filter.{Holds, none-held, pass-hit, pass-miss, pass-keep, one-chosen, one-class, all-class}
+use borrow.Author.Needs.{needs}
+use Rattle.twins.proofs.few.Statement.{statement}
+use Rattle.twins.proofs.few.Proof.Tie as tie
+
+-- No two of the first j rows are twins, and each live one of them has its mark: the one class is all rows.
+abbrev Inv-loop : tie.InvT-loop
+Inv-loop rows t words₀ j₀ words j =
+    (j ≤ length rows) × (length words ≡ 64) × (anyTwo (inClass hashRow 0 0 (rowTwins t)) (take j rows) ≡ false)
+    × Holds fewSlotOf (rowKind t) 0 0 rows j words
+
+abbrev μ-loop : tie.MeasureT-loop
+μ-loop rows t words₀ j₀ words j = length rows - j
+
+loop-holds : tie.Need-loop-holds Inv-loop μ-loop
+loop-holds c = (
+  search needs,
+  search needs,
+  two-start (inClass hashRow 0 0 (rowTwins (c .args .t))) (now (c .args .rows)),
+  none-held fewSlotOf (rowKind (c .args .t)) 0 0 (now (c .args .rows)) _,
+)
+
+mul-hash-row : tie.Need-mul-hash-row Inv-loop μ-loop
+mul-hash-row c = search needs
+
+shared-slice-copy-out-hash-row : tie.Need-shared-slice-copy-out-hash-row Inv-loop μ-loop
+shared-slice-copy-out-hash-row c = search needs
+
+hash-row-requires : tie.Need-hash-row-requires Inv-loop μ-loop
+hash-row-requires c = search needs
+
+mul-is-live : tie.Need-mul-is-live Inv-loop μ-loop
+mul-is-live c = search needs
+
+shared-slice-copy-out-is-live : tie.Need-shared-slice-copy-out-is-live Inv-loop μ-loop
+shared-slice-copy-out-is-live c = search needs
+
+is-live-requires : tie.Need-is-live-requires Inv-loop μ-loop
+is-live-requires c = search needs
+
+few-slot-of-requires : tie.Need-few-slot-of-requires Inv-loop μ-loop
+few-slot-of-requires c = search needs
+
+mul-w : tie.Need-mul-w Inv-loop μ-loop
+mul-w c = search needs
+
+array-read-w : tie.Need-array-read-w Inv-loop μ-loop
+array-read-w c = search needs
+
+maybe-requires : tie.Need-maybe-requires Inv-loop μ-loop
+maybe-requires c = search needs
+
+earlier-requires : tie.Need-earlier-requires Inv-loop μ-loop
+earlier-requires c = search needs
+
+returns : tie.Need-returns Inv-loop μ-loop
+returns c = let a = c .before .before .before .before .before .before .before .before .before .before .args in
+    let l = c .before .before .before .before .before .before .before .before .before .loop in
+    let h = c .before .before .before .before .before .before .hash-row in
+    let v = c .before .before .before .before .is-live in
+    let s = c .before .before .before .few-slot-of in
+    let m = c .before .before .maybe in
+    let e = c .before .earlier in
+    sym (one-class hashRow (rowTwins (a .t)) 0 0 (now (a .rows))
+    (two-hit (inClass hashRow 0 0 (rowTwins (a .t))) (now (a .rows)) (l .j) noRow (search needs)
+    (pass-hit fewSlotOf (rowKind (a .t)) 0 0 (now (a .rows)) (l .j) (h .result) (s .result) 0 (v .result) (v .result) (m .result) (e .result)
+    (l .words) (h .ensures) (v .ensures) (one-chosen (v .result) (h .result)) (s .ensures .0) (m .ensures) (e .ensures) (c .if1 .taken))))
+
+marked-requires : tie.Need-marked-requires Inv-loop μ-loop
+marked-requires c = search needs
+
+mul-words : tie.Need-mul-words Inv-loop μ-loop
+mul-words c = search needs
+
+array-write-words : tie.Need-array-write-words Inv-loop μ-loop
+array-write-words c = search needs
+
+add-j : tie.Need-add-j Inv-loop μ-loop
+add-j c = search needs
+
+loop-less : tie.Need-loop-less Inv-loop μ-loop
+loop-less c = search needs
+
+loop-again : tie.Need-loop-again Inv-loop μ-loop
+loop-again c = let a = c .before .before .before .before .before .before .before .before .before .before .before .args in
+    let l = c .before .before .before .before .before .before .before .before .before .before .loop in
+    let h = c .before .before .before .before .before .before .before .hash-row in
+    let v = c .before .before .before .before .before .is-live in
+    let s = c .before .before .before .before .few-slot-of in
+    let m = c .before .before .before .maybe in
+    let e = c .before .before .earlier in (
+      search needs,
+      simp length-set (search needs),
+      two-more (inClass hashRow 0 0 (rowTwins (a .t))) (now (a .rows)) (l .j) noRow (search needs) (l .inv .2)
+          (pass-miss fewSlotOf (rowKind (a .t)) 0 0 (now (a .rows)) (l .j) (h .result) (s .result) 0 (v .result) (v .result) (m .result)
+          (e .result) (l .words) (h .ensures) (v .ensures) (one-chosen (v .result) (h .result)) (s .ensures .0) (search needs) (l .inv .3)
+          (m .ensures) (e .ensures) (c .before .if1 .left)),
+      pass-keep fewSlotOf (rowKind (a .t)) 0 0 (now (a .rows)) (l .j) (h .result) (s .result) (c .marked .result) (v .result) (v .result)
+          (m .result) (e .result) (l .words) (h .ensures) (v .ensures) (one-chosen (v .result) (h .result)) (s .ensures .0) (l .inv .3)
+          (search needs) (c .marked .ensures),
+    )
+
+returns-2 : tie.Need-returns-2 Inv-loop μ-loop
+returns-2 c = let a = c .before .before .args in
+    let l = c .before .loop in
+    sym (all-class hashRow (rowTwins (a .t)) (now (a .rows))
+    (two-end (inClass hashRow 0 0 (rowTwins (a .t))) (now (a .rows)) (l .j) (c .loop-test .left) (l .inv .2)))
+
+pub few-spec : {M : Type 1} → statement M
+few-spec =
+    tie.close
+    (tie.spec Inv-loop μ-loop loop-holds mul-hash-row shared-slice-copy-out-hash-row hash-row-requires mul-is-live shared-slice-copy-out-is-live is-live-requires
+    few-slot-of-requires mul-w array-read-w maybe-requires earlier-requires returns marked-requires mul-words array-write-words add-j loop-less
+    loop-again returns-2)
