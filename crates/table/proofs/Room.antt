@@ -14,10 +14,6 @@ use Rattle.plain.specs.Table.{Change, live, spare, hasRoom}
 use Rattle.table.specs.First.{first, firstFrom}
 use Rattle.table.specs.Spare.{dead}
 
--- a search from the first row on
-pub from-first : {A : Type 0} (p : A → Bool) (xs : List A) → firstFrom p 0 xs ≡ first p xs
-from-first p xs = omega arith
-
 ltb-suc : (a b c : ℕ) → c ≡ suc a → ltb a b ≡ ltb c (suc b)
 ltb-suc a b c e = rw e (sym (leb·suc-suc (suc a) b))
 

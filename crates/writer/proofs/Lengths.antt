@@ -35,9 +35,6 @@ pub record Sizes (m : Message) : Type 0 where
   pub route : length (routeOctets (m .discovery) (m .vector)) ≤ 257
   pub arts : length (flatten (map artOctets (m .targets))) ≤ 160
 
-pub message-le : (m : Message) → Sizes m → length (octetsOf m) ≤ 457
-message-le m z = omega (arith, message-length m)
-
 module _ (b : Base) (configured : Bool) (configuration : List ℕ) (d : Discovery) (n : ℕ) (vector : List Address) (count : ℕ) (targets : List Target) where
   pub message-sizes : length (b .dodagid) ≡ 16 → length configuration ≡ 14 → Sendable d n → n ≤ length vector → all (long 16) vector ≡ true → count ≤ 8
       → shortPrefixes (take count targets) ≡ true → Sizes (messageFrom b configured configuration d n vector count targets)
