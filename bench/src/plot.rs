@@ -13,7 +13,7 @@ const RIGHT: f64 = 14.0;
 const TOP: f64 = 30.0;
 const BOTTOM: f64 = 36.0;
 /// Powers of ten at the ends of the time axis.
-const LOW: i32 = 2;
+const LOW: i32 = 1;
 const HIGH: i32 = 6;
 const OURS: &str = "#0b6e4f";
 const SECOND: &str = "#c0392b";
@@ -42,7 +42,7 @@ fn corner(place: usize) -> (f64, f64) {
 
 /// Where a number of rows stands, in its panel.
 fn x(rows: f64) -> f64 {
-    let (low, high) = (2.0f64.ln(), 8000.0f64.ln());
+    let (low, high) = (0.8f64.ln(), 8000.0f64.ln());
     LEFT + (WIDTH - LEFT - RIGHT) * (rows.ln() - low) / (high - low)
 }
 
@@ -73,8 +73,11 @@ fn panel(svg: &mut String, (left, top): (f64, f64), kind: Kind, points: &[&Point
     curve(svg, &second, SECOND, "5 3");
     curve(svg, &ours, OURS, "none");
     for point in points {
-        let at = (x(point.rows as f64), y(point.ours.max(point.second)) - 8.0);
-        text(svg, at, "middle", "#444", &format!("{:.2}", point.ratio()));
+        let at = (
+            x(point.rows as f64) - 6.0,
+            y(point.ours.max(point.second)) - 6.0,
+        );
+        text(svg, at, "end", "#444", &format!("{:.2}", point.ratio()));
     }
     *svg += "</g>\n";
 }
@@ -108,6 +111,7 @@ fn axes(svg: &mut String) {
 
 fn time_label(power: i32) -> &'static str {
     match power {
+        1 => "10 ns",
         2 => "100 ns",
         3 => "1 µs",
         4 => "10 µs",

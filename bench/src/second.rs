@@ -2,7 +2,7 @@
 
 use std::hint::black_box;
 
-use kajakulm::{InstanceRow, RouteRow};
+use kajakulm::{InstanceRow, Link, RouteRow, StartFields};
 use reference::{Buffers, Outcome, Received, Settings, Start, State, Tally, Target};
 
 use crate::cases::{Case, Event, CLOCK, SEQ, TIME};
@@ -46,6 +46,7 @@ impl<'a> Second<'a> {
 
     /// The call, and its outcome.
     pub fn outcome(&mut self) -> Outcome {
+        let (settings, tally) = (&self.settings, &mut self.tally);
         let state = &mut State {
             clock: &mut self.clock,
             own_seq: &mut self.seq,
@@ -58,42 +59,36 @@ impl<'a> Second<'a> {
         };
         match &self.case.event {
             Event::Message { octets, link } => {
-                let received = Received {
-                    octets,
-                    neighbour: link.neighbour,
-                    upward_good: link.upward != 0,
-                    downward_good: link.downward != 0,
-                    rank_increase: link.increase,
-                    to_group: link.group != 0,
-                };
-                reference::receive(
-                    &self.settings,
-                    TIME,
-                    &received,
-                    state,
-                    buffers,
-                    &mut self.tally,
-                )
+                let received = received(octets, link);
+                reference::receive(settings, TIME, &received, state, buffers, tally)
             }
             Event::Start { fields, .. } => {
-                let start = Start {
-                    instance: fields.instance,
-                    h: fields.h,
-                    compr: fields.compr,
-                    l: fields.l,
-                    rank_limit: fields.limit,
-                    targets: &self.targets,
-                };
-                reference::start(
-                    &self.settings,
-                    TIME,
-                    &start,
-                    state,
-                    buffers,
-                    &mut self.tally,
-                )
+                let start = start(fields, &self.targets);
+                reference::start(settings, TIME, &start, state, buffers, tally)
             }
         }
+    }
+}
+
+fn received<'a>(octets: &'a [u8], link: &Link) -> Received<'a> {
+    Received {
+        octets,
+        neighbour: link.neighbour,
+        upward_good: link.upward != 0,
+        downward_good: link.downward != 0,
+        rank_increase: link.increase,
+        to_group: link.group != 0,
+    }
+}
+
+fn start<'a>(fields: &StartFields, targets: &'a [Target]) -> Start<'a> {
+    Start {
+        instance: fields.instance,
+        h: fields.h,
+        compr: fields.compr,
+        l: fields.l,
+        rank_limit: fields.limit,
+        targets,
     }
 }
 
