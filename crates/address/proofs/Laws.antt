@@ -35,10 +35,6 @@ module _ (k : ℕ) (xs ys : List ℕ) (p : k ≤ length xs) (q : k ≤ length ys
   first-end h =
       same-end (take k xs) (take k ys) i v (omega (arith, length-take-le k xs p)) (omega (arith, length-take-le k ys q))
 
--- the first octets, where there are no more, are all
-pub same-first : (k : ℕ) (xs ys : List ℕ) → length xs ≤ k → length ys ≤ k → same (take k xs) (take k ys) ≡ same xs ys
-same-first k xs ys p q = rw (take-all k xs p, take-all k ys q)
-
 -- ---- A loop that keeps the first k bits
 
 -- what is kept below i, and what is to come, is the whole

@@ -22,14 +22,22 @@ pub fn shares_first(compr: u8, dodagid: [u8; 16], a: [u8; 16]) -> bool
     true
 }
 
-// Whether two addresses are the same: they share all sixteen octets. Most differ in their last octet, so that one is compared first.
+// Whether two addresses are the same: they share all sixteen octets. Most differ in their last octet, so that one is compared first. A loop of
+// its own, and not `shares_first`, since it is compiled to one comparison of all octets.
 pub fn is_same(a: [u8; 16], b: [u8; 16]) -> bool
     ensures { λ r. ⌜ r ≡ same a b ⌝ }
 {
     if a[15] != b[15] {
         return false;
     }
-    shares_first(16, b, a)
+    let mut k: usize = 0;
+    while k < 16 {
+        if a[k] != b[k] {
+            return false;
+        }
+        k += 1;
+    }
+    true
 }
 
 fn is_link_local(a: [u8; 16]) -> bool

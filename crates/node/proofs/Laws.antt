@@ -22,7 +22,7 @@ use Rattle.plain.specs.Plain.{Decision, enact, linesWith, acceptWith, idle}
 use Rattle.plain.specs.declared.Target.{Target}
 use Rattle.answer.specs.Answer.{answerNumber}
 use Rattle.row.specs.Meaning.{instanceOf, routeOf, requestOf, replyOf, routeIn, targetsOf, blankTarget, noRow, noRoute}
-use Rattle.row.specs.Look.{goodIf}
+use Rattle.good.specs.Good.{goodIf}
 use Rattle.row.specs.declared.InstanceRow.{InstanceRow}
 use Rattle.row.specs.declared.RouteRow.{RouteRow}
 use Rattle.own.specs.Settings.{settingsOf}

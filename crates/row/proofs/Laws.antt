@@ -1,160 +1,19 @@
--- What the kinds of a record say of its meaning, and what a record that is written means.
-use Prim.Native.Nat.{ℕ, zero, suc, _+_, _*_, _/_, _%_, _≤_, _<_, max}
-use mathlib.Core.Path.{_≡_, refl, sym, ap, _∙_}
-use mathlib.Core.Bool.{Bool, true, false, cond, not, _&&_, _||_}
-use mathlib.Core.List.{List, [], _∷_, _++_, append-assoc}
+-- What a record that is written means, and the targets of a row.
+use Prim.Native.Nat.{ℕ, _≤_, _<_}
+use mathlib.Core.Path.{_≡_, refl, sym, _∙_}
+use mathlib.Core.Bool.{Bool, true, false, cond}
+use mathlib.Core.List.{List, [], _++_, append-assoc}
 use mathlib.Core.Option.{Option, some, none}
 use native.Mathlib.Omega.{arith}
-use lib.Arith.{bin-ind}
-use lib.Bits.{bitOr, or-step}
-use lib.Dec.{eqb, ltb, leb}
-use lib.ListN.{length, getD, take, drop, replicate, length-append, length-take, length-replicate}
-use lib.Seq.{take-append-seam, take-append-le, take-all, take-take, getD-take}
-use borrow.Author.Tests.{eqb-true, eqb-false, leb-true, leb-false, le-leb, lt-leb}
-use Rattle.plain.specs.Lists.{same, all}
+use lib.Dec.{leb}
+use lib.ListN.{length, take, drop, replicate, length-append, length-take, length-replicate}
+use lib.Seq.{take-append-seam, take-append-le, take-all}
+use borrow.Author.Tests.{leb-true, leb-false}
 use Rattle.plain.specs.Given.{RequestRow, ReplyRow, Instance, Route}
-use Rattle.plain.specs.Table.{lasts, live, instanceDeadline}
-use Rattle.plain.specs.Answers.{requestFor, replyFor, routeFor, goodDeadline, goodInstance}
 use Rattle.plain.specs.declared.Target.{Target}
 use Rattle.lemmas.specs.Written.{over}
-use Rattle.lemmas.proofs.Choice.{and-left, and-right, and-both, true-false}
 use Rattle.row.specs.Meaning.{flag, deadlineOf, blankTarget, targetsOf, requestOf, replyOf, instanceOf, routeIn, routeOf}
-use Rattle.row.specs.Look.{partOf, held, here, asRequest, asReply, requestHere, replyHere, routeHere, goodTarget, goodIf}
 use Rattle.row.specs.Record.{bitOf, endlessOf, untilOf, requestRecord, replyRecord, routeRecord}
-use Rattle.row.specs.declared.InstanceRow.{InstanceRow}
-use Rattle.row.specs.declared.RouteRow.{RouteRow}
-
--- ---- kinds
-
-pub request-part : (r : InstanceRow) → partOf asRequest (instanceOf r) ≡ cond (eqb (r .kind) 1) (some (requestOf r)) none
-unfolding instanceOf
-request-part r = go (eqb (r .kind) 1) (eqb (r .kind) 2)
-  where
-    go : (a b : Bool)
-        → partOf asRequest (cond a (some (Instance.request (requestOf r))) (cond b (some (Instance.reply (replyOf r))) none))
-        ≡ cond a (some (requestOf r)) none
-    go true b = refl
-    go false true = refl
-    go false false = refl
-
-pub reply-part : (r : InstanceRow) → partOf asReply (instanceOf r) ≡ cond (eqb (r .kind) 2) (some (replyOf r)) none
-unfolding instanceOf
-reply-part r = go (eqb (r .kind) 1) refl (eqb (r .kind) 2) refl
-  where
-    go : (a : Bool) → eqb (r .kind) 1 ≡ a → (b : Bool) → eqb (r .kind) 2 ≡ b
-        → partOf asReply (cond a (some (Instance.request (requestOf r))) (cond b (some (Instance.reply (replyOf r))) none))
-        ≡ cond b (some (replyOf r)) none
-    go true e true f =
-        let one : r .kind ≡ 1 = eqb-true (r .kind) 1 e in
-        let two : r .kind ≡ 2 = eqb-true (r .kind) 2 f in
-        absurd (omega arith)
-    go true e false f = refl
-    go false e true f = refl
-    go false e false f = refl
-
-pub route-part : (r : RouteRow) → partOf some (routeOf r) ≡ cond (eqb (r .kind) 1) (some (routeIn r)) none
-unfolding routeOf
-route-part r = go (eqb (r .kind) 1)
-  where
-    go : (a : Bool) → partOf some (cond a (some (routeIn r)) none) ≡ cond a (some (routeIn r)) none
-    go true = refl
-    go false = refl
-
--- a record passes a test that is asked of its kind
-held-kind : {B : Type 0} (p : B → Bool) (k : Bool) (b : B) → held p (cond k (some b) none) ≡ cond k (p b) false
-held-kind p true b = refl
-held-kind p false b = refl
-
-pub request-here : (p : RequestRow → Bool) (r : InstanceRow) → here asRequest p (instanceOf r) ≡ cond (eqb (r .kind) 1) (p (requestOf r)) false
-unfolding here
-request-here p r = rw (request-part r) (held-kind p (eqb (r .kind) 1) (requestOf r))
-
-pub reply-here : (p : ReplyRow → Bool) (r : InstanceRow) → here asReply p (instanceOf r) ≡ cond (eqb (r .kind) 2) (p (replyOf r)) false
-unfolding here
-reply-here p r = rw (reply-part r) (held-kind p (eqb (r .kind) 2) (replyOf r))
-
-pub route-here : (p : Route → Bool) (r : RouteRow) → here some p (routeOf r) ≡ cond (eqb (r .kind) 1) (p (routeIn r)) false
-unfolding here
-route-here p r = rw (route-part r) (held-kind p (eqb (r .kind) 1) (routeIn r))
-
--- a row of another address is not the one that is asked for
-
-far : (k i l : Bool) → cond k (i && false && l) false ≡ false
-far true true l = refl
-far true false l = refl
-far false i l = refl
-
-route-gone : (k s i l : Bool) → cond k (s && false && i && l) false ≡ false
-route-gone true true i l = refl
-route-gone true false i l = refl
-route-gone false s i l = refl
-
-module _ (t instance : ℕ) (a : List ℕ) (r : InstanceRow) (e : same (r .dodagid) a ≡ false) where
-  pub request-far : requestHere t instance a (instanceOf r) ≡ false
-  unfolding requestOf
-  request-far =
-      request-here (requestFor t instance a) r
-      ∙ rw e (far (eqb (r .kind) 1) (eqb (r .instance) instance) (lasts t (deadlineOf (r .endless) (r .deadline))))
-
-  pub reply-far : replyHere t instance a (instanceOf r) ≡ false
-  unfolding replyOf
-  reply-far =
-      reply-here (replyFor t instance a) r
-      ∙ rw e (far (eqb (r .kind) 2) (eqb (r .instance) instance) (lasts t (deadlineOf (r .endless) (r .deadline))))
-
-pub route-far : (t : ℕ) (source destination : List ℕ) (instance : ℕ) (r : RouteRow) → same (r .destination) destination ≡ false
-    → routeHere t source destination instance (routeOf r) ≡ false
-unfolding routeIn
-route-far t source destination instance r e =
-    route-here (routeFor t source destination instance) r
-    ∙ rw e
-    (route-gone (eqb (r .kind) 1) (same (r .source) source) (eqb (r .instance) instance) (lasts t (deadlineOf (r .endless) (r .deadline))))
-
--- kinds that are in use
-
-pub used-most : (k : ℕ) → (k ≡ 0 → ⊥) → leb k 2 ≡ eqb k 1 || eqb k 2
-used-most k h = go (leb k 2) refl (eqb k 1) refl (eqb k 2) refl
-  where
-    go : (a : Bool) → leb k 2 ≡ a → (b : Bool) → eqb k 1 ≡ b → (c : Bool) → eqb k 2 ≡ c → a ≡ b || c
-    go true e true f c g = refl
-    go true e false f true g = refl
-    go true e false f false g =
-        let x : k ≤ 2 = leb-true k 2 e in
-        let y : k ≡ 1 → ⊥ = eqb-false k 1 f in
-        let z : k ≡ 2 → ⊥ = eqb-false k 2 g in
-        absurd (omega (arith, h))
-    go false e true f c g =
-        let x : 2 < k = leb-false k 2 e in
-        let y : k ≡ 1 = eqb-true k 1 f in
-        absurd (omega arith)
-    go false e false f true g =
-        let x : 2 < k = leb-false k 2 e in
-        let y : k ≡ 2 = eqb-true k 2 g in
-        absurd (omega arith)
-    go false e false f false g = refl
-
-module _ (t : ℕ) (r : InstanceRow) where
-  pub live-used : eqb (r .kind) 1 || eqb (r .kind) 2 ≡ true
-      → live instanceDeadline t (instanceOf r) ≡ lasts t (deadlineOf (r .endless) (r .deadline))
-  unfolding instanceOf requestOf replyOf
-  live-used = go (eqb (r .kind) 1) (eqb (r .kind) 2)
-    where
-      go : (a b : Bool) → a || b ≡ true
-          → live instanceDeadline t (cond a (some (Instance.request (requestOf r))) (cond b (some (Instance.reply (replyOf r))) none))
-          ≡ lasts t (deadlineOf (r .endless) (r .deadline))
-      go true b e = refl
-      go false true e = refl
-      go false false e = true-false (sym e)
-
-  pub live-unused : eqb (r .kind) 1 || eqb (r .kind) 2 ≡ false → live instanceDeadline t (instanceOf r) ≡ false
-  unfolding instanceOf
-  live-unused = go (eqb (r .kind) 1) (eqb (r .kind) 2)
-    where
-      go : (a b : Bool) → a || b ≡ false
-          → live instanceDeadline t (cond a (some (Instance.request (requestOf r))) (cond b (some (Instance.reply (replyOf r))) none)) ≡ false
-      go true b e = true-false e
-      go false true e = true-false e
-      go false false e = refl
 
 -- ---- targets
 
@@ -172,43 +31,9 @@ pub targets-within : (count : ℕ) (ts : List Target) → count ≤ length ts �
 unfolding targetsOf
 targets-within count ts h = take-append-le count ts (replicate count blankTarget) h
 
-all-fewer : (p : Target → Bool) (m : ℕ) (ts : List Target) → all p ts ≡ true → all p (take m ts) ≡ true
-unfolding all
-all-fewer p zero ts e = refl
-all-fewer p (suc m) [] e = refl
-all-fewer p (suc m) (x ∷ xs) e =
-    and-both (p x) (all p (take m xs)) (and-left (p x) (all p xs) e) (all-fewer p m xs (and-right (p x) (all p xs) e))
-
--- of at most four targets, of which the first four are good, each is good
-pub few-good : (count : ℕ) (ts : List Target) → length ts ≡ 8 → count ≤ 4
-    → leb (length (targetsOf 4 ts)) 8 && all goodTarget (targetsOf 4 ts) ≡ true
-    → leb (length (targetsOf count ts)) 8 && all goodTarget (targetsOf count ts) ≡ true
-few-good count ts eight few g =
-    let four : all goodTarget (take 4 ts) ≡ true =
-    rw (targets-within 4 ts (omega arith)) at (and-right (leb (length (targetsOf 4 ts)) 8) (all goodTarget (targetsOf 4 ts)) g) in
-    let own : all goodTarget (targetsOf count ts) ≡ true =
-    rw (targets-within count ts (omega arith), ← take-take count 4 ts few) (all-fewer goodTarget count (take 4 ts) four) in
-    and-both (leb (length (targetsOf count ts)) 8) (all goodTarget (targetsOf count ts))
-    (rw (length-targets count ts) (le-leb count 8 (omega arith))) own
-
--- such a row with a good deadline is good, whatever its kind
-pub plainly-good : (r : InstanceRow)
-    → leb (length (targetsOf (r .count) (r .targets))) 8 && all goodTarget (targetsOf (r .count) (r .targets)) ≡ true
-    → goodDeadline (deadlineOf (r .endless) (r .deadline)) ≡ true → goodIf goodInstance (instanceOf r) ≡ true
-unfolding instanceOf requestOf replyOf goodInstance
-plainly-good r g d = go (eqb (r .kind) 1) (eqb (r .kind) 2)
-  where
-    go : (a b : Bool)
-        → goodIf goodInstance (cond a (some (Instance.request (requestOf r))) (cond b (some (Instance.reply (replyOf r))) none)) ≡ true
-    go true b =
-        and-both (leb (length (targetsOf (r .count) (r .targets))) 8 && all goodTarget (targetsOf (r .count) (r .targets)))
-        (goodDeadline (deadlineOf (r .endless) (r .deadline))) g d
-    go false true = d
-    go false false = refl
-
 -- ---- records that are written
 
-flag-bit : (b : Bool) → flag (bitOf b) ≡ b
+pub flag-bit : (b : Bool) → flag (bitOf b) ≡ b
 flag-bit true = refl
 flag-bit false = refl
 
@@ -220,29 +45,6 @@ deadline-back (some d) = refl
 targets-back : (ts : List Target) → targetsOf (length ts) (over ts (replicate 8 blankTarget)) ≡ ts
 unfolding targetsOf
 targets-back ts = rw append-assoc (take-append-seam ts (drop (length ts) (replicate 8 blankTarget) ++ replicate (length ts) blankTarget))
-
--- a row without a deadline, or with a later one, told by one number
-
-or-none : (a b : ℕ) → bitOr a b ≡ 0 → a ≡ 0
-or-none a =
-    bin-ind (λ (n : ℕ). (b : ℕ) → bitOr n b ≡ 0 → n ≡ 0) (λ b e. refl)
-    (λ n ih b e.
-    let s : bitOr (n / 2) (b / 2) * 2 + max (n % 2) (b % 2) ≡ 0 = sym (or-step n b) ∙ e in
-    let h : n / 2 ≡ 0 = ih (b / 2) (omega arith) in
-    omega arith) a
-
-pub lasts-bit : (t endless deadline x : ℕ) → x ≡ bitOf (ltb t deadline) → not (eqb (bitOr endless x) 0) ≡ lasts t (deadlineOf endless deadline)
-unfolding deadlineOf
-lasts-bit t endless deadline x h = rw h (go (eqb endless 0) refl)
-  where
-    some-bit : (eqb endless 0 ≡ false) → (b : Bool) → eqb (bitOr endless (bitOf (ltb t deadline))) 0 ≡ b → not b ≡ true
-    some-bit e true f =
-        absurd (eqb-false endless 0 e (or-none endless (bitOf (ltb t deadline)) (eqb-true (bitOr endless (bitOf (ltb t deadline))) 0 f)))
-    some-bit e false f = refl
-
-    go : (b : Bool) → eqb endless 0 ≡ b → not (eqb (bitOr endless (bitOf (ltb t deadline))) 0) ≡ lasts t (cond b (some deadline) none)
-    go true e = rw (eqb-true endless 0 e) (flag-bit (ltb t deadline))
-    go false e = some-bit e (eqb (bitOr endless (bitOf (ltb t deadline))) 0) refl
 
 pub request-back : (r : RequestRow) → instanceOf (requestRecord r) ≡ some (Instance.request r)
 unfolding instanceOf requestOf requestRecord
@@ -256,7 +58,7 @@ pub route-back : (r : Route) → routeOf (routeRecord r) ≡ some r
 unfolding routeOf routeIn routeRecord
 route-back r = rw (deadline-back (r .deadline))
 
--- ---- what the loops over targets ask
+-- ---- what the loop over targets asks
 
 -- what an array of targets is said to hold past its end
 abbrev pub noTarget : Target
@@ -286,22 +88,3 @@ module _ (count : ℕ) (ts : List Target) (eight : length ts ≡ 8) where
   -- the loop that copies targets over blank ones ends with those of the row over blank ones
   pub filled : (i : ℕ) (bs : List Target) → i ≡ cond (leb count 8) count 8 → take i ts ++ drop i bs ≡ over (take count ts) bs
   filled i bs e = rw (e, first-most, length-first)
-
-  pub count-over : 8 < count → leb (length (targetsOf count ts)) 8 && all goodTarget (targetsOf count ts) ≡ false
-  count-over h = rw (length-targets count ts, lt-leb count 8 h)
-
-  pub count-within : count ≤ 8 → leb (length (targetsOf count ts)) 8 && all goodTarget (targetsOf count ts) ≡ all goodTarget (take count ts)
-  count-within h = rw (length-targets count ts, le-leb count 8 h, targets-within count ts (omega arith))
-
-  -- the target at i is good, where i is below the count
-  pub good-at : (i : ℕ) → i < count → getD ts i noTarget .plen ≤ 127 → goodTarget (getD (take count ts) i noTarget) ≡ true
-  good-at i h g = rw (getD-take count ts i noTarget h) (le-leb (getD ts i noTarget .plen) 127 g)
-
-  pub bad-at : (i : ℕ) → i < count → 127 < getD ts i noTarget .plen → goodTarget (getD (take count ts) i noTarget) ≡ false
-  bad-at i h g = rw (getD-take count ts i noTarget h) (lt-leb (getD ts i noTarget .plen) 127 g)
-
-  pub count-below : (i : ℕ) → i < count → count ≤ 8 → i < length (take count ts)
-  count-below i h k = omega (arith, length-take count ts)
-
-  pub count-past : (i : ℕ) → count ≤ i → length (take count ts) ≤ i
-  count-past i h = omega (arith, length-take count ts)

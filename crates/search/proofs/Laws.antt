@@ -18,8 +18,8 @@ use Rattle.plain.specs.Rank.{plusDelta}
 use Rattle.plain.specs.Request.{leastDelta, deltaTaken, freeDelta}
 use Rattle.lemmas.proofs.Choice.{and-left, and-right, true-false}
 use Rattle.row.specs.Meaning.{flag, instanceOf, routeOf, requestOf, noRow, noRoute}
-use Rattle.row.specs.Look.{partOf, here, asRequest, requestHere, replyHere, routeHere}
-use Rattle.row.proofs.Laws.{request-here}
+use Rattle.live.specs.Look.{partOf, here, asRequest, requestHere, replyHere, routeHere}
+use Rattle.live.proofs.Laws.{request-here}
 use Rattle.row.specs.declared.InstanceRow.{InstanceRow}
 use Rattle.row.specs.declared.RouteRow.{RouteRow}
 use Rattle.table.specs.First.{first}

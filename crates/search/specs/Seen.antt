@@ -12,7 +12,7 @@ use Rattle.plain.specs.Table.{Numbered, live, liveRows, instanceDeadline, route
 use Rattle.plain.specs.Answers.{View, requests, requestFor, liveRequest, liveReply, liveRoute}
 use Rattle.plain.specs.Request.{freeDelta}
 use Rattle.row.specs.Meaning.{instanceOf, routeOf, noRow, noRoute}
-use Rattle.row.specs.Look.{here, asRequest}
+use Rattle.live.specs.Look.{here, asRequest}
 use Rattle.row.specs.declared.InstanceRow.{InstanceRow}
 use Rattle.row.specs.declared.RouteRow.{RouteRow}
 use Rattle.message.specs.declared.Found.{Found}

@@ -21,7 +21,7 @@ use row::RouteRow;
 pub fn is_partner(r: InstanceRow, t: u64, instance: u8, dodagid: [u8; 16], h: bool) -> bool
     ensures { λ b. ⌜ b ≡ partnerHere t instance dodagid h (instanceOf r) ⌝ }
 {
-    if row::is_request(r, t, instance, dodagid) {
+    if live::is_request(r, t, instance, dodagid) {
         if r.h == 0 {
             if h {
                 return false;

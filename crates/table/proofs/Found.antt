@@ -21,8 +21,8 @@ use Rattle.plain.specs.Rank.{plusDelta}
 use Rattle.plain.specs.Request.{deltaTaken}
 use Rattle.lemmas.proofs.Choice.{true-false, and-right}
 use Rattle.row.specs.Meaning.{instanceOf, routeOf, requestOf, replyOf, routeIn, noRow, noRoute}
-use Rattle.row.specs.Look.{partOf, held, here, asRequest, asReply, requestHere, replyHere, routeHere}
-use Rattle.row.proofs.Laws.{request-here, reply-here, route-here}
+use Rattle.live.specs.Look.{partOf, held, here, asRequest, asReply, requestHere, replyHere, routeHere}
+use Rattle.live.proofs.Laws.{request-here, reply-here, route-here}
 use Rattle.row.specs.declared.InstanceRow.{InstanceRow}
 use Rattle.row.specs.declared.RouteRow.{RouteRow}
 use Rattle.table.specs.First.{first}

@@ -8,7 +8,7 @@ use native.Mathlib.Omega.{arith}
 use lib.ListN.{length, getD, set, drop, drop-of-length-le}
 use Rattle.plain.specs.Answers.{allGood}
 use Rattle.lemmas.proofs.Walk.{left-at}
-use Rattle.row.specs.Look.{goodIf}
+use Rattle.good.specs.Good.{goodIf}
 use Rattle.table.specs.First.{first, firstFrom}
 
 pub map-drop : {R A : Type 0} (read : R → A) (i : ℕ) (rows : List R) → drop i (map read rows) ≡ map read (drop i rows)

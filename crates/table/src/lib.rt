@@ -6,7 +6,7 @@ ghost use lib.ListN.{length, getD, set};
 ghost use Rattle.plain.specs.Table.{instanceDeadline, routeDeadline};
 ghost use Rattle.plain.specs.Answers.{goodInstance, goodRoute, allGood};
 ghost use Rattle.row.specs.Meaning.{instanceOf, routeOf, noRow, noRoute};
-ghost use Rattle.row.specs.Look.{requestHere, replyHere, routeHere};
+ghost use Rattle.live.specs.Look.{requestHere, replyHere, routeHere};
 ghost use Rattle.table.specs.First.{first, firstFrom};
 ghost use Rattle.table.specs.Spare.{dead};
 use row::InstanceRow;
@@ -20,7 +20,7 @@ pub fn find_request(rows: &[InstanceRow], t: u64, instance: u8, dodagid: [u8; 16
 {
     let mut i: usize = 0;
     while i < rows.len() {
-        if row::is_request(rows[i], t, instance, dodagid) {
+        if live::is_request(rows[i], t, instance, dodagid) {
             return i;
         }
         i += 1;
@@ -34,7 +34,7 @@ pub fn find_reply(rows: &[InstanceRow], t: u64, instance: u8, dodagid: [u8; 16])
 {
     let mut i: usize = 0;
     while i < rows.len() {
-        if row::is_reply(rows[i], t, instance, dodagid) {
+        if live::is_reply(rows[i], t, instance, dodagid) {
             return i;
         }
         i += 1;
@@ -48,7 +48,7 @@ pub fn find_spare(rows: &[InstanceRow], t: u64, from: usize) -> usize
 {
     let mut i: usize = from;
     while i < rows.len() {
-        if row::is_live(rows[i], t) {
+        if live::is_live(rows[i], t) {
             i += 1;
         } else {
             return i;
@@ -63,7 +63,7 @@ pub fn all_good(rows: &[InstanceRow]) -> bool
 {
     let mut i: usize = 0;
     while i < rows.len() {
-        if row::is_good(rows[i]) {
+        if good::is_good(rows[i]) {
             i += 1;
         } else {
             return false;
@@ -103,7 +103,7 @@ pub fn find_route(
 {
     let mut i: usize = 0;
     while i < routes.len() {
-        if row::is_route(routes[i], t, source, destination, instance) {
+        if live::is_route(routes[i], t, source, destination, instance) {
             return i;
         }
         i += 1;
@@ -117,7 +117,7 @@ pub fn find_spare_route(routes: &[RouteRow], t: u64) -> usize
 {
     let mut i: usize = 0;
     while i < routes.len() {
-        if row::is_live_route(routes[i], t) {
+        if live::is_live_route(routes[i], t) {
             i += 1;
         } else {
             return i;
@@ -132,7 +132,7 @@ pub fn all_good_routes(routes: &[RouteRow]) -> bool
 {
     let mut i: usize = 0;
     while i < routes.len() {
-        if row::is_good_route(routes[i]) {
+        if good::is_good_route(routes[i]) {
             i += 1;
         } else {
             return false;

@@ -181,7 +181,7 @@ fn reply_row(r: InstanceRow) {
 
 // An instance row that is live at the clock.
 pub fn row(number: usize, r: InstanceRow, clock: u64) {
-    if row::is_live(r, clock) {
+    if live::is_live(r, clock) {
         words(b"row");
         decimal(number as u64);
         if r.kind == 1 {
@@ -195,7 +195,7 @@ pub fn row(number: usize, r: InstanceRow, clock: u64) {
 
 // A route that is live at the clock.
 pub fn route(number: usize, r: RouteRow, clock: u64) {
-    if row::is_live_route(r, clock) {
+    if live::is_live_route(r, clock) {
         let source = r.source;
         let destination = r.destination;
         let next = r.next;

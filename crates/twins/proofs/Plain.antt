@@ -13,9 +13,9 @@ use Rattle.plain.specs.Table.{Numbered, live, liveFrom, liveRows, instanceDeadl
 use Rattle.plain.specs.Answers.{requests, replies, requestTwins, replyTwins, routeTwins}
 use Rattle.lemmas.proofs.Choice.{true-false, and-left, and-right}
 use Rattle.row.specs.Meaning.{instanceOf, routeOf, requestOf, replyOf, routeIn, noRow, noRoute}
-use Rattle.row.specs.Look.{partOf, held, asRequest, asReply}
+use Rattle.live.specs.Look.{partOf, held, asRequest, asReply}
 use Rattle.lemmas.proofs.Same.{same-equal}
-use Rattle.row.proofs.Laws.{request-part, reply-part, route-part}
+use Rattle.live.proofs.Laws.{request-part, reply-part, route-part}
 use Rattle.row.specs.declared.InstanceRow.{InstanceRow}
 use Rattle.row.specs.declared.RouteRow.{RouteRow}
 use Rattle.table.proofs.Found.{cond-true, asPart, parts, seen, parts-cons, requests-are, replies-are, routes-are}

@@ -23,7 +23,7 @@ fn is_same_key(a: InstanceRow, b: InstanceRow) -> bool
 {
     let x = a.dodagid;
     let y = b.dodagid;
-    if row::is_same(x, y) {
+    if address::is_same(x, y) {
         if a.kind != b.kind {
             return false;
         }
@@ -37,8 +37,8 @@ fn are_twins(a: InstanceRow, b: InstanceRow, t: u64) -> bool
     ensures { λ r. ⌜ r ≡ rowTwins t a b ⌝ }
 {
     if is_same_key(a, b) {
-        if row::is_live(a, t) {
-            return row::is_live(b, t);
+        if live::is_live(a, t) {
+            return live::is_live(b, t);
         }
         return false;
     }
@@ -50,10 +50,10 @@ fn is_same_three(a: RouteRow, b: RouteRow) -> bool
 {
     let d = a.destination;
     let y = b.destination;
-    if row::is_same(d, y) {
+    if address::is_same(d, y) {
         let s = a.source;
         let x = b.source;
-        if row::is_same(s, x) {
+        if address::is_same(s, x) {
             return a.instance == b.instance;
         }
         return false;
@@ -65,8 +65,8 @@ fn are_twin_routes(a: RouteRow, b: RouteRow, t: u64) -> bool
     ensures { λ r. ⌜ r ≡ routePair t a b ⌝ }
 {
     if is_same_three(a, b) {
-        if row::is_live_route(a, t) {
-            return row::is_live_route(b, t);
+        if live::is_live_route(a, t) {
+            return live::is_live_route(b, t);
         }
         return false;
     }
@@ -276,7 +276,7 @@ fn few(rows: &[InstanceRow], t: u64) -> bool
     let mut j: usize = 0;
     while j < rows.len() {
         let h = hash_row(rows[j]);
-        let on = row::is_live(rows[j], t);
+        let on = live::is_live(rows[j], t);
         let s = few_slot_of(h);
         let w = words[s];
         if earlier(rows, j, t, maybe(on, w, h)) {
@@ -296,7 +296,7 @@ fn pass(rows: &[InstanceRow], t: u64, mask: u64, p: u64) -> bool
     let mut j: usize = 0;
     while j < rows.len() {
         let h = hash_row(rows[j]);
-        let on = is_chosen(mask, p, row::is_live(rows[j], t), h);
+        let on = is_chosen(mask, p, live::is_live(rows[j], t), h);
         let s = slot_of(h);
         let w = words[s];
         if earlier(rows, j, t, maybe(on, w, h)) {
@@ -386,7 +386,7 @@ fn few_routes(routes: &[RouteRow], t: u64) -> bool
     let mut j: usize = 0;
     while j < routes.len() {
         let h = hash_route(routes[j]);
-        let on = row::is_live_route(routes[j], t);
+        let on = live::is_live_route(routes[j], t);
         let s = few_slot_of(h);
         let w = words[s];
         if earlier_route(routes, j, t, maybe(on, w, h)) {
@@ -405,7 +405,7 @@ fn pass_routes(routes: &[RouteRow], t: u64, mask: u64, p: u64) -> bool
     let mut j: usize = 0;
     while j < routes.len() {
         let h = hash_route(routes[j]);
-        let on = is_chosen(mask, p, row::is_live_route(routes[j], t), h);
+        let on = is_chosen(mask, p, live::is_live_route(routes[j], t), h);
         let s = slot_of(h);
         let w = words[s];
         if earlier_route(routes, j, t, maybe(on, w, h)) {

@@ -7,7 +7,7 @@ use denote.Ref.{now}
 use lib.ListN.{length, drop}
 use Rattle.row.specs.Meaning.{routeOf, noRoute}
 use Rattle.table.specs.First.{first}
-use Rattle.row.specs.Look.{routeHere}
+use Rattle.live.specs.Look.{routeHere}
 use Rattle.table.proofs.Search.{at-start, at-hit, at-miss, at-end}
 use borrow.Author.Needs.{needs}
 use Rattle.table.proofs.find_route.Statement.{statement}

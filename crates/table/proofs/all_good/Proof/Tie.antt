@@ -1,7 +1,7 @@
 -- Made by tools/lend.py of the twin of `all_good`: do not edit.
-use Rattle.row.proofs.is_good.Met
-use Rattle.row.proofs.is_good.Reads
-use Rattle.row.proofs.is_good.Symbol
+use Rattle.good.proofs.is_good.Met
+use Rattle.good.proofs.is_good.Reads
+use Rattle.good.proofs.is_good.Symbol
 use Rattle.table.proofs.all_good.Code
 use Rattle.table.proofs.all_good.Key
 use Rattle.table.proofs.Lent.all_good.Kinds
@@ -133,5 +133,5 @@ module _ {M : Type 1} where
       Code.env
       Symbol.name
       Symbol.routine
-      Code.calls-row·is-good
+      Code.calls-good·is-good
       (Met.met 𝓤 H 𝓜 𝓖 𝓡))

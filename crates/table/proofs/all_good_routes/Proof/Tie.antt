@@ -1,7 +1,7 @@
 -- Made by tools/lend.py of the twin of `all_good_routes`: do not edit.
-use Rattle.row.proofs.is_good_route.Met
-use Rattle.row.proofs.is_good_route.Reads
-use Rattle.row.proofs.is_good_route.Symbol
+use Rattle.good.proofs.is_good_route.Met
+use Rattle.good.proofs.is_good_route.Reads
+use Rattle.good.proofs.is_good_route.Symbol
 use Rattle.table.proofs.all_good_routes.Code
 use Rattle.table.proofs.all_good_routes.Key
 use Rattle.table.proofs.Lent.all_good_routes.Kinds
@@ -139,5 +139,5 @@ module _ {M : Type 1} where
       Code.env
       Symbol.name
       Symbol.routine
-      Code.calls-row·is-good-route
+      Code.calls-good·is-good-route
       (Met.met 𝓤 H 𝓜 𝓖 𝓡))

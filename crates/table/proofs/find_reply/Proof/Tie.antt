@@ -1,7 +1,7 @@
 -- Made by tools/lend.py of the twin of `find_reply`: do not edit.
-use Rattle.row.proofs.is_reply.Met
-use Rattle.row.proofs.is_reply.Reads
-use Rattle.row.proofs.is_reply.Symbol
+use Rattle.live.proofs.is_reply.Met
+use Rattle.live.proofs.is_reply.Reads
+use Rattle.live.proofs.is_reply.Symbol
 use Rattle.table.proofs.find_reply.Code
 use Rattle.table.proofs.find_reply.Key
 use Rattle.table.proofs.Lent.find_reply.Kinds
@@ -133,5 +133,5 @@ module _ {M : Type 1} where
       Code.env
       Symbol.name
       Symbol.routine
-      Code.calls-row·is-reply
+      Code.calls-live·is-reply
       (Met.met 𝓤 H 𝓜 𝓖 𝓡))

@@ -1,7 +1,7 @@
 -- Made by tools/lend.py of the twin of `find_request`: do not edit.
-use Rattle.row.proofs.is_request.Met
-use Rattle.row.proofs.is_request.Reads
-use Rattle.row.proofs.is_request.Symbol
+use Rattle.live.proofs.is_request.Met
+use Rattle.live.proofs.is_request.Reads
+use Rattle.live.proofs.is_request.Symbol
 use Rattle.table.proofs.find_request.Code
 use Rattle.table.proofs.find_request.Key
 use Rattle.table.proofs.Lent.find_request.Kinds
@@ -133,5 +133,5 @@ module _ {M : Type 1} where
       Code.env
       Symbol.name
       Symbol.routine
-      Code.calls-row·is-request
+      Code.calls-live·is-request
       (Met.met 𝓤 H 𝓜 𝓖 𝓡))

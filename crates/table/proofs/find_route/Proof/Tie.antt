@@ -1,7 +1,7 @@
 -- Made by tools/lend.py of the twin of `find_route`: do not edit.
-use Rattle.row.proofs.is_route.Met
-use Rattle.row.proofs.is_route.Reads
-use Rattle.row.proofs.is_route.Symbol
+use Rattle.live.proofs.is_route.Met
+use Rattle.live.proofs.is_route.Reads
+use Rattle.live.proofs.is_route.Symbol
 use Rattle.table.proofs.find_route.Code
 use Rattle.table.proofs.find_route.Key
 use Rattle.table.proofs.Lent.find_route.Kinds
@@ -133,5 +133,5 @@ module _ {M : Type 1} where
       Code.env
       Symbol.name
       Symbol.routine
-      Code.calls-row·is-route
+      Code.calls-live·is-route
       (Met.met 𝓤 H 𝓜 𝓖 𝓡))

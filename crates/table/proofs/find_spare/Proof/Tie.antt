@@ -1,7 +1,7 @@
 -- Made by tools/lend.py of the twin of `find_spare`: do not edit.
-use Rattle.row.proofs.is_live.Met
-use Rattle.row.proofs.is_live.Reads
-use Rattle.row.proofs.is_live.Symbol
+use Rattle.live.proofs.is_live.Met
+use Rattle.live.proofs.is_live.Reads
+use Rattle.live.proofs.is_live.Symbol
 use Rattle.table.proofs.find_spare.Code
 use Rattle.table.proofs.find_spare.Key
 use Rattle.table.proofs.Lent.find_spare.Kinds
@@ -133,5 +133,5 @@ module _ {M : Type 1} where
       Code.env
       Symbol.name
       Symbol.routine
-      Code.calls-row·is-live
+      Code.calls-live·is-live
       (Met.met 𝓤 H 𝓜 𝓖 𝓡))

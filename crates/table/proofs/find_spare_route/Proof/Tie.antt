@@ -1,7 +1,7 @@
 -- Made by tools/lend.py of the twin of `find_spare_route`: do not edit.
-use Rattle.row.proofs.is_live_route.Met
-use Rattle.row.proofs.is_live_route.Reads
-use Rattle.row.proofs.is_live_route.Symbol
+use Rattle.live.proofs.is_live_route.Met
+use Rattle.live.proofs.is_live_route.Reads
+use Rattle.live.proofs.is_live_route.Symbol
 use Rattle.table.proofs.find_spare_route.Code
 use Rattle.table.proofs.find_spare_route.Key
 use Rattle.table.proofs.Lent.find_spare_route.Kinds
@@ -139,5 +139,5 @@ module _ {M : Type 1} where
       Code.env
       Symbol.name
       Symbol.routine
-      Code.calls-row·is-live-route
+      Code.calls-live·is-live-route
       (Met.met 𝓤 H 𝓜 𝓖 𝓡))

@@ -1,7 +1,7 @@
 -- Made by tools/lend.py of the twin of `few_routes`: do not edit.
-use Rattle.row.proofs.is_live_route.Met
-use Rattle.row.proofs.is_live_route.Reads
-use Rattle.row.proofs.is_live_route.Symbol
+use Rattle.live.proofs.is_live_route.Met
+use Rattle.live.proofs.is_live_route.Reads
+use Rattle.live.proofs.is_live_route.Symbol
 use Rattle.twins.proofs.earlier_route.Met as Met'
 use Rattle.twins.proofs.Lent.earlier_route.Reads as Reads'
 use Rattle.twins.proofs.earlier_route.Symbol as Symbol'
@@ -711,7 +711,7 @@ module _ {M : Type 1} where
       Code.env
       Symbol.name
       Symbol.routine
-      Code.calls-row·is-live-route
+      Code.calls-live·is-live-route
       (Met.met 𝓤 H 𝓜 𝓖 𝓡))
       (Reads'3.known
       record { M = M; 𝓤 = 𝓤; H = H; 𝓜 = 𝓜; 𝓖 = 𝓖; 𝓡 = 𝓡 }

@@ -1,0 +1,2 @@
+-- what answer 2 asks of one row
+pub mod Good

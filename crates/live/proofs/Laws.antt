@@ -1,0 +1,179 @@
+-- What the kind of a record says of its meaning.
+use Prim.Native.Nat.{ℕ, _+_, _*_, _/_, _%_, _≤_, _<_, max}
+use mathlib.Core.Path.{_≡_, refl, sym, _∙_}
+use mathlib.Core.Bool.{Bool, true, false, cond, not, _&&_, _||_}
+use mathlib.Core.List.{List}
+use mathlib.Core.Option.{Option, some, none}
+use native.Mathlib.Omega.{arith}
+use lib.Arith.{bin-ind}
+use lib.Bits.{bitOr, or-step}
+use lib.Dec.{eqb, ltb, leb}
+use borrow.Author.Tests.{eqb-true, eqb-false, leb-true, leb-false}
+use Rattle.plain.specs.Lists.{same}
+use Rattle.plain.specs.Given.{RequestRow, ReplyRow, Instance, Route}
+use Rattle.plain.specs.Table.{lasts, live, instanceDeadline}
+use Rattle.plain.specs.Answers.{requestFor, replyFor, routeFor}
+use Rattle.lemmas.proofs.Choice.{true-false}
+use Rattle.row.specs.Meaning.{deadlineOf, requestOf, replyOf, instanceOf, routeIn, routeOf}
+use Rattle.row.specs.Record.{bitOf}
+use Rattle.row.specs.declared.InstanceRow.{InstanceRow}
+use Rattle.row.specs.declared.RouteRow.{RouteRow}
+use Rattle.row.proofs.Laws.{flag-bit}
+use Rattle.live.specs.Look.{partOf, held, here, asRequest, asReply, requestHere, replyHere, routeHere}
+
+-- ---- kinds
+
+pub request-part : (r : InstanceRow) → partOf asRequest (instanceOf r) ≡ cond (eqb (r .kind) 1) (some (requestOf r)) none
+unfolding instanceOf
+request-part r = go (eqb (r .kind) 1) (eqb (r .kind) 2)
+  where
+    go : (a b : Bool)
+        → partOf asRequest (cond a (some (Instance.request (requestOf r))) (cond b (some (Instance.reply (replyOf r))) none))
+        ≡ cond a (some (requestOf r)) none
+    go true b = refl
+    go false true = refl
+    go false false = refl
+
+pub reply-part : (r : InstanceRow) → partOf asReply (instanceOf r) ≡ cond (eqb (r .kind) 2) (some (replyOf r)) none
+unfolding instanceOf
+reply-part r = go (eqb (r .kind) 1) refl (eqb (r .kind) 2) refl
+  where
+    go : (a : Bool) → eqb (r .kind) 1 ≡ a → (b : Bool) → eqb (r .kind) 2 ≡ b
+        → partOf asReply (cond a (some (Instance.request (requestOf r))) (cond b (some (Instance.reply (replyOf r))) none))
+        ≡ cond b (some (replyOf r)) none
+    go true e true f =
+        let one : r .kind ≡ 1 = eqb-true (r .kind) 1 e in
+        let two : r .kind ≡ 2 = eqb-true (r .kind) 2 f in
+        absurd (omega arith)
+    go true e false f = refl
+    go false e true f = refl
+    go false e false f = refl
+
+pub route-part : (r : RouteRow) → partOf some (routeOf r) ≡ cond (eqb (r .kind) 1) (some (routeIn r)) none
+unfolding routeOf
+route-part r = go (eqb (r .kind) 1)
+  where
+    go : (a : Bool) → partOf some (cond a (some (routeIn r)) none) ≡ cond a (some (routeIn r)) none
+    go true = refl
+    go false = refl
+
+-- a record passes a test that is asked of its kind
+held-kind : {B : Type 0} (p : B → Bool) (k : Bool) (b : B) → held p (cond k (some b) none) ≡ cond k (p b) false
+held-kind p true b = refl
+held-kind p false b = refl
+
+pub request-here : (p : RequestRow → Bool) (r : InstanceRow) → here asRequest p (instanceOf r) ≡ cond (eqb (r .kind) 1) (p (requestOf r)) false
+unfolding here
+request-here p r = rw (request-part r) (held-kind p (eqb (r .kind) 1) (requestOf r))
+
+pub reply-here : (p : ReplyRow → Bool) (r : InstanceRow) → here asReply p (instanceOf r) ≡ cond (eqb (r .kind) 2) (p (replyOf r)) false
+unfolding here
+reply-here p r = rw (reply-part r) (held-kind p (eqb (r .kind) 2) (replyOf r))
+
+pub route-here : (p : Route → Bool) (r : RouteRow) → here some p (routeOf r) ≡ cond (eqb (r .kind) 1) (p (routeIn r)) false
+unfolding here
+route-here p r = rw (route-part r) (held-kind p (eqb (r .kind) 1) (routeIn r))
+
+-- a row of another address is not the one that is asked for
+
+far : (k i l : Bool) → cond k (i && false && l) false ≡ false
+far true true l = refl
+far true false l = refl
+far false i l = refl
+
+route-gone : (k s i l : Bool) → cond k (s && false && i && l) false ≡ false
+route-gone true true i l = refl
+route-gone true false i l = refl
+route-gone false s i l = refl
+
+module _ (t instance : ℕ) (a : List ℕ) (r : InstanceRow) (e : same (r .dodagid) a ≡ false) where
+  pub request-far : requestHere t instance a (instanceOf r) ≡ false
+  unfolding requestOf
+  request-far =
+      request-here (requestFor t instance a) r
+      ∙ rw e (far (eqb (r .kind) 1) (eqb (r .instance) instance) (lasts t (deadlineOf (r .endless) (r .deadline))))
+
+  pub reply-far : replyHere t instance a (instanceOf r) ≡ false
+  unfolding replyOf
+  reply-far =
+      reply-here (replyFor t instance a) r
+      ∙ rw e (far (eqb (r .kind) 2) (eqb (r .instance) instance) (lasts t (deadlineOf (r .endless) (r .deadline))))
+
+pub route-far : (t : ℕ) (source destination : List ℕ) (instance : ℕ) (r : RouteRow) → same (r .destination) destination ≡ false
+    → routeHere t source destination instance (routeOf r) ≡ false
+unfolding routeIn
+route-far t source destination instance r e =
+    route-here (routeFor t source destination instance) r
+    ∙ rw e
+    (route-gone (eqb (r .kind) 1) (same (r .source) source) (eqb (r .instance) instance) (lasts t (deadlineOf (r .endless) (r .deadline))))
+
+-- kinds that are in use
+
+pub used-most : (k : ℕ) → (k ≡ 0 → ⊥) → leb k 2 ≡ eqb k 1 || eqb k 2
+used-most k h = go (leb k 2) refl (eqb k 1) refl (eqb k 2) refl
+  where
+    go : (a : Bool) → leb k 2 ≡ a → (b : Bool) → eqb k 1 ≡ b → (c : Bool) → eqb k 2 ≡ c → a ≡ b || c
+    go true e true f c g = refl
+    go true e false f true g = refl
+    go true e false f false g =
+        let x : k ≤ 2 = leb-true k 2 e in
+        let y : k ≡ 1 → ⊥ = eqb-false k 1 f in
+        let z : k ≡ 2 → ⊥ = eqb-false k 2 g in
+        absurd (omega (arith, h))
+    go false e true f c g =
+        let x : 2 < k = leb-false k 2 e in
+        let y : k ≡ 1 = eqb-true k 1 f in
+        absurd (omega arith)
+    go false e false f true g =
+        let x : 2 < k = leb-false k 2 e in
+        let y : k ≡ 2 = eqb-true k 2 g in
+        absurd (omega arith)
+    go false e false f false g = refl
+
+module _ (t : ℕ) (r : InstanceRow) where
+  pub live-used : eqb (r .kind) 1 || eqb (r .kind) 2 ≡ true
+      → live instanceDeadline t (instanceOf r) ≡ lasts t (deadlineOf (r .endless) (r .deadline))
+  unfolding instanceOf requestOf replyOf
+  live-used = go (eqb (r .kind) 1) (eqb (r .kind) 2)
+    where
+      go : (a b : Bool) → a || b ≡ true
+          → live instanceDeadline t (cond a (some (Instance.request (requestOf r))) (cond b (some (Instance.reply (replyOf r))) none))
+          ≡ lasts t (deadlineOf (r .endless) (r .deadline))
+      go true b e = refl
+      go false true e = refl
+      go false false e = true-false (sym e)
+
+  pub live-unused : eqb (r .kind) 1 || eqb (r .kind) 2 ≡ false → live instanceDeadline t (instanceOf r) ≡ false
+  unfolding instanceOf
+  live-unused = go (eqb (r .kind) 1) (eqb (r .kind) 2)
+    where
+      go : (a b : Bool) → a || b ≡ false
+          → live instanceDeadline t (cond a (some (Instance.request (requestOf r))) (cond b (some (Instance.reply (replyOf r))) none)) ≡ false
+      go true b e = true-false e
+      go false true e = true-false e
+      go false false e = refl
+
+-- ---- deadlines
+
+-- a row without a deadline, or with a later one, told by one number
+
+or-none : (a b : ℕ) → bitOr a b ≡ 0 → a ≡ 0
+or-none a =
+    bin-ind (λ (n : ℕ). (b : ℕ) → bitOr n b ≡ 0 → n ≡ 0) (λ b e. refl)
+    (λ n ih b e.
+    let s : bitOr (n / 2) (b / 2) * 2 + max (n % 2) (b % 2) ≡ 0 = sym (or-step n b) ∙ e in
+    let h : n / 2 ≡ 0 = ih (b / 2) (omega arith) in
+    omega arith) a
+
+pub lasts-bit : (t endless deadline x : ℕ) → x ≡ bitOf (ltb t deadline) → not (eqb (bitOr endless x) 0) ≡ lasts t (deadlineOf endless deadline)
+unfolding deadlineOf
+lasts-bit t endless deadline x h = rw h (go (eqb endless 0) refl)
+  where
+    some-bit : (eqb endless 0 ≡ false) → (b : Bool) → eqb (bitOr endless (bitOf (ltb t deadline))) 0 ≡ b → not b ≡ true
+    some-bit e true f =
+        absurd (eqb-false endless 0 e (or-none endless (bitOf (ltb t deadline)) (eqb-true (bitOr endless (bitOf (ltb t deadline))) 0 f)))
+    some-bit e false f = refl
+
+    go : (b : Bool) → eqb endless 0 ≡ b → not (eqb (bitOr endless (bitOf (ltb t deadline))) 0) ≡ lasts t (cond b (some deadline) none)
+    go true e = rw (eqb-true endless 0 e) (flag-bit (ltb t deadline))
+    go false e = some-bit e (eqb (bitOr endless (bitOf (ltb t deadline))) 0) refl

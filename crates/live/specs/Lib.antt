@@ -1,0 +1,2 @@
+-- what is asked of a row
+pub mod Look
