@@ -8,10 +8,10 @@ use Rattle.answer.proofs.Answer
 use Rattle.answer.proofs.Answer.Laws
 use Rattle.finish.proofs.Outcome
 use Rattle.finish.proofs.Outcome.Laws as Laws'
-use Rattle.kajakulm.proofs.HostLink
-use Rattle.kajakulm.proofs.HostLink.Laws as Laws''
-use Rattle.kajakulm.proofs.HostOutcome
-use Rattle.kajakulm.proofs.HostOutcome.Laws as Laws'3
+use Rattle.host.proofs.HostLink
+use Rattle.host.proofs.HostLink.Laws as Laws''
+use Rattle.host.proofs.HostOutcome
+use Rattle.host.proofs.HostOutcome.Laws as Laws'3
 use Rattle.message.proofs.Link
 use Rattle.message.proofs.Link.Laws as Laws'4
 use Rattle.own.proofs.Own
@@ -805,7 +805,7 @@ b7 =
 abbrev b8 : Syntax.Body
 b8 =
     Syntax.call
-    "kajakulm::link_of"
+    "host::link_of"
     (List._∷_ (Syntax.copy (Syntax.place 10 List.[])) List.[])
     (Syntax.place 21 List.[])
 
@@ -846,7 +846,7 @@ b10 =
 abbrev b11 : Syntax.Body
 b11 =
     Syntax.call
-    "kajakulm::answer_of"
+    "host::answer_of"
     (List._∷_ (Syntax.copy (Syntax.place 12 List.[])) List.[])
     (Syntax.place 24 List.[])
 
@@ -862,7 +862,7 @@ b12 =
 abbrev b13 : Syntax.Body
 b13 =
     Syntax.call
-    "kajakulm::host_outcome"
+    "host::host_outcome"
     (List._∷_ (Syntax.copy (Syntax.place 12 List.[])) List.[])
     (Syntax.place 0 List.[])
 
@@ -933,21 +933,13 @@ t0 = List._∷_ (
   Rows.any-gone
       (Syntax.tyStruct
       (List._∷_
-      107
+      104
       (List._∷_
-      97
+      111
       (List._∷_
-      106
+      115
       (List._∷_
-      97
-      (List._∷_
-      107
-      (List._∷_
-      117
-      (List._∷_
-      108
-      (List._∷_
-      109
+      116
       (List._∷_
       58
       (List._∷_
@@ -964,9 +956,7 @@ t0 = List._∷_ (
       79
       (List._∷_
       117
-      (List._∷_
-      116
-      (List._∷_ 99 (List._∷_ 111 (List._∷_ 109 (List._∷_ 101 List.[])))))))))))))))))))))
+      (List._∷_ 116 (List._∷_ 99 (List._∷_ 111 (List._∷_ 109 (List._∷_ 101 List.[])))))))))))))))))
       (Syntax.tcons
       (Syntax.tyInt Syntax.w8)
       (Syntax.tcons
@@ -1450,21 +1440,13 @@ t2 = List._∷_ (0, Rows.whole (Declared'.row HostOutcome.the-type)) (List._∷_
   Rows.any-gone
       (Syntax.tyStruct
       (List._∷_
-      107
+      104
       (List._∷_
-      97
+      111
       (List._∷_
-      106
+      115
       (List._∷_
-      97
-      (List._∷_
-      107
-      (List._∷_
-      117
-      (List._∷_
-      108
-      (List._∷_
-      109
+      116
       (List._∷_
       58
       (List._∷_
@@ -1475,9 +1457,7 @@ t2 = List._∷_ (0, Rows.whole (Declared'.row HostOutcome.the-type)) (List._∷_
       111
       (List._∷_
       115
-      (List._∷_
-      116
-      (List._∷_ 76 (List._∷_ 105 (List._∷_ 110 (List._∷_ 107 List.[]))))))))))))))))))
+      (List._∷_ 116 (List._∷_ 76 (List._∷_ 105 (List._∷_ 110 (List._∷_ 107 List.[]))))))))))))))
       (Syntax.tcons
       (Syntax.tyArray (Syntax.tyInt Syntax.w8) 16)
       (Syntax.tcons
@@ -1747,21 +1727,13 @@ t3 = List._∷_ (
   Rows.any-gone
       (Syntax.tyStruct
       (List._∷_
-      107
+      104
       (List._∷_
-      97
+      111
       (List._∷_
-      106
+      115
       (List._∷_
-      97
-      (List._∷_
-      107
-      (List._∷_
-      117
-      (List._∷_
-      108
-      (List._∷_
-      109
+      116
       (List._∷_
       58
       (List._∷_
@@ -1778,9 +1750,7 @@ t3 = List._∷_ (
       79
       (List._∷_
       117
-      (List._∷_
-      116
-      (List._∷_ 99 (List._∷_ 111 (List._∷_ 109 (List._∷_ 101 List.[])))))))))))))))))))))
+      (List._∷_ 116 (List._∷_ 99 (List._∷_ 111 (List._∷_ 109 (List._∷_ 101 List.[])))))))))))))))))
       (Syntax.tcons
       (Syntax.tyInt Syntax.w8)
       (Syntax.tcons
@@ -2098,21 +2068,13 @@ t4 = List._∷_ (
   Rows.any-gone
       (Syntax.tyStruct
       (List._∷_
-      107
+      104
       (List._∷_
-      97
+      111
       (List._∷_
-      106
+      115
       (List._∷_
-      97
-      (List._∷_
-      107
-      (List._∷_
-      117
-      (List._∷_
-      108
-      (List._∷_
-      109
+      116
       (List._∷_
       58
       (List._∷_
@@ -2129,9 +2091,7 @@ t4 = List._∷_ (
       79
       (List._∷_
       117
-      (List._∷_
-      116
-      (List._∷_ 99 (List._∷_ 111 (List._∷_ 109 (List._∷_ 101 List.[])))))))))))))))))))))
+      (List._∷_ 116 (List._∷_ 99 (List._∷_ 111 (List._∷_ 109 (List._∷_ 101 List.[])))))))))))))))))
       (Syntax.tcons
       (Syntax.tyInt Syntax.w8)
       (Syntax.tcons
@@ -2445,21 +2405,13 @@ t5 = List._∷_ (
   Rows.any-gone
       (Syntax.tyStruct
       (List._∷_
-      107
+      104
       (List._∷_
-      97
+      111
       (List._∷_
-      106
+      115
       (List._∷_
-      97
-      (List._∷_
-      107
-      (List._∷_
-      117
-      (List._∷_
-      108
-      (List._∷_
-      109
+      116
       (List._∷_
       58
       (List._∷_
@@ -2476,9 +2428,7 @@ t5 = List._∷_ (
       79
       (List._∷_
       117
-      (List._∷_
-      116
-      (List._∷_ 99 (List._∷_ 111 (List._∷_ 109 (List._∷_ 101 List.[])))))))))))))))))))))
+      (List._∷_ 116 (List._∷_ 99 (List._∷_ 111 (List._∷_ 109 (List._∷_ 101 List.[])))))))))))))))))
       (Syntax.tcons
       (Syntax.tyInt Syntax.w8)
       (Syntax.tcons
@@ -2796,21 +2746,13 @@ t6 = List._∷_ (
   Rows.any-gone
       (Syntax.tyStruct
       (List._∷_
-      107
+      104
       (List._∷_
-      97
+      111
       (List._∷_
-      106
+      115
       (List._∷_
-      97
-      (List._∷_
-      107
-      (List._∷_
-      117
-      (List._∷_
-      108
-      (List._∷_
-      109
+      116
       (List._∷_
       58
       (List._∷_
@@ -2827,9 +2769,7 @@ t6 = List._∷_ (
       79
       (List._∷_
       117
-      (List._∷_
-      116
-      (List._∷_ 99 (List._∷_ 111 (List._∷_ 109 (List._∷_ 101 List.[])))))))))))))))))))))
+      (List._∷_ 116 (List._∷_ 99 (List._∷_ 111 (List._∷_ 109 (List._∷_ 101 List.[])))))))))))))))))
       (Syntax.tcons
       (Syntax.tyInt Syntax.w8)
       (Syntax.tcons
@@ -3266,21 +3206,13 @@ t8 = List._∷_ (
   Rows.any-gone
       (Syntax.tyStruct
       (List._∷_
-      107
+      104
       (List._∷_
-      97
+      111
       (List._∷_
-      106
+      115
       (List._∷_
-      97
-      (List._∷_
-      107
-      (List._∷_
-      117
-      (List._∷_
-      108
-      (List._∷_
-      109
+      116
       (List._∷_
       58
       (List._∷_
@@ -3297,9 +3229,7 @@ t8 = List._∷_ (
       79
       (List._∷_
       117
-      (List._∷_
-      116
-      (List._∷_ 99 (List._∷_ 111 (List._∷_ 109 (List._∷_ 101 List.[])))))))))))))))))))))
+      (List._∷_ 116 (List._∷_ 99 (List._∷_ 111 (List._∷_ 109 (List._∷_ 101 List.[])))))))))))))))))
       (Syntax.tcons
       (Syntax.tyInt Syntax.w8)
       (Syntax.tcons
@@ -3860,21 +3790,13 @@ t11 = List._∷_ (
   Rows.any-gone
       (Syntax.tyStruct
       (List._∷_
-      107
+      104
       (List._∷_
-      97
+      111
       (List._∷_
-      106
+      115
       (List._∷_
-      97
-      (List._∷_
-      107
-      (List._∷_
-      117
-      (List._∷_
-      108
-      (List._∷_
-      109
+      116
       (List._∷_
       58
       (List._∷_
@@ -3891,9 +3813,7 @@ t11 = List._∷_ (
       79
       (List._∷_
       117
-      (List._∷_
-      116
-      (List._∷_ 99 (List._∷_ 111 (List._∷_ 109 (List._∷_ 101 List.[])))))))))))))))))))))
+      (List._∷_ 116 (List._∷_ 99 (List._∷_ 111 (List._∷_ 109 (List._∷_ 101 List.[])))))))))))))))))
       (Syntax.tcons
       (Syntax.tyInt Syntax.w8)
       (Syntax.tcons
@@ -4544,21 +4464,13 @@ t15 = List._∷_ (
   Rows.any-gone
       (Syntax.tyStruct
       (List._∷_
-      107
+      104
       (List._∷_
-      97
+      111
       (List._∷_
-      106
+      115
       (List._∷_
-      97
-      (List._∷_
-      107
-      (List._∷_
-      117
-      (List._∷_
-      108
-      (List._∷_
-      109
+      116
       (List._∷_
       58
       (List._∷_
@@ -4575,9 +4487,7 @@ t15 = List._∷_ (
       79
       (List._∷_
       117
-      (List._∷_
-      116
-      (List._∷_ 99 (List._∷_ 111 (List._∷_ 109 (List._∷_ 101 List.[])))))))))))))))))))))
+      (List._∷_ 116 (List._∷_ 99 (List._∷_ 111 (List._∷_ 109 (List._∷_ 101 List.[])))))))))))))))))
       (Syntax.tcons
       (Syntax.tyInt Syntax.w8)
       (Syntax.tcons
@@ -4644,21 +4554,13 @@ t15 = List._∷_ (
   Rows.any-gone
       (Syntax.tyStruct
       (List._∷_
-      107
+      104
       (List._∷_
-      97
+      111
       (List._∷_
-      106
+      115
       (List._∷_
-      97
-      (List._∷_
-      107
-      (List._∷_
-      117
-      (List._∷_
-      108
-      (List._∷_
-      109
+      116
       (List._∷_
       58
       (List._∷_
@@ -4669,9 +4571,7 @@ t15 = List._∷_ (
       111
       (List._∷_
       115
-      (List._∷_
-      116
-      (List._∷_ 76 (List._∷_ 105 (List._∷_ 110 (List._∷_ 107 List.[]))))))))))))))))))
+      (List._∷_ 116 (List._∷_ 76 (List._∷_ 105 (List._∷_ 110 (List._∷_ 107 List.[]))))))))))))))
       (Syntax.tcons
       (Syntax.tyArray (Syntax.tyInt Syntax.w8) 16)
       (Syntax.tcons
@@ -4939,21 +4839,13 @@ t16 = List._∷_ (
   Rows.any-gone
       (Syntax.tyStruct
       (List._∷_
-      107
+      104
       (List._∷_
-      97
+      111
       (List._∷_
-      106
+      115
       (List._∷_
-      97
-      (List._∷_
-      107
-      (List._∷_
-      117
-      (List._∷_
-      108
-      (List._∷_
-      109
+      116
       (List._∷_
       58
       (List._∷_
@@ -4970,9 +4862,7 @@ t16 = List._∷_ (
       79
       (List._∷_
       117
-      (List._∷_
-      116
-      (List._∷_ 99 (List._∷_ 111 (List._∷_ 109 (List._∷_ 101 List.[])))))))))))))))))))))
+      (List._∷_ 116 (List._∷_ 99 (List._∷_ 111 (List._∷_ 109 (List._∷_ 101 List.[])))))))))))))))))
       (Syntax.tcons
       (Syntax.tyInt Syntax.w8)
       (Syntax.tcons
@@ -5039,21 +4929,13 @@ t16 = List._∷_ (
   Rows.any-gone
       (Syntax.tyStruct
       (List._∷_
-      107
+      104
       (List._∷_
-      97
+      111
       (List._∷_
-      106
+      115
       (List._∷_
-      97
-      (List._∷_
-      107
-      (List._∷_
-      117
-      (List._∷_
-      108
-      (List._∷_
-      109
+      116
       (List._∷_
       58
       (List._∷_
@@ -5064,9 +4946,7 @@ t16 = List._∷_ (
       111
       (List._∷_
       115
-      (List._∷_
-      116
-      (List._∷_ 76 (List._∷_ 105 (List._∷_ 110 (List._∷_ 107 List.[]))))))))))))))))))
+      (List._∷_ 116 (List._∷_ 76 (List._∷_ 105 (List._∷_ 110 (List._∷_ 107 List.[]))))))))))))))
       (Syntax.tcons
       (Syntax.tyArray (Syntax.tyInt Syntax.w8) 16)
       (Syntax.tcons
@@ -5192,21 +5072,13 @@ t18 = List._∷_ (
   Rows.any-gone
       (Syntax.tyStruct
       (List._∷_
-      107
+      104
       (List._∷_
-      97
+      111
       (List._∷_
-      106
+      115
       (List._∷_
-      97
-      (List._∷_
-      107
-      (List._∷_
-      117
-      (List._∷_
-      108
-      (List._∷_
-      109
+      116
       (List._∷_
       58
       (List._∷_
@@ -5223,9 +5095,7 @@ t18 = List._∷_ (
       79
       (List._∷_
       117
-      (List._∷_
-      116
-      (List._∷_ 99 (List._∷_ 111 (List._∷_ 109 (List._∷_ 101 List.[])))))))))))))))))))))
+      (List._∷_ 116 (List._∷_ 99 (List._∷_ 111 (List._∷_ 109 (List._∷_ 101 List.[])))))))))))))))))
       (Syntax.tcons
       (Syntax.tyInt Syntax.w8)
       (Syntax.tcons
@@ -5303,21 +5173,13 @@ t18 = List._∷_ (
   Rows.any-gone
       (Syntax.tyStruct
       (List._∷_
-      107
+      104
       (List._∷_
-      97
+      111
       (List._∷_
-      106
+      115
       (List._∷_
-      97
-      (List._∷_
-      107
-      (List._∷_
-      117
-      (List._∷_
-      108
-      (List._∷_
-      109
+      116
       (List._∷_
       58
       (List._∷_
@@ -5328,9 +5190,7 @@ t18 = List._∷_ (
       111
       (List._∷_
       115
-      (List._∷_
-      116
-      (List._∷_ 76 (List._∷_ 105 (List._∷_ 110 (List._∷_ 107 List.[]))))))))))))))))))
+      (List._∷_ 116 (List._∷_ 76 (List._∷_ 105 (List._∷_ 110 (List._∷_ 107 List.[]))))))))))))))
       (Syntax.tcons
       (Syntax.tyArray (Syntax.tyInt Syntax.w8) 16)
       (Syntax.tcons
@@ -5481,21 +5341,13 @@ t20 = List._∷_ (
   Rows.any-gone
       (Syntax.tyStruct
       (List._∷_
-      107
+      104
       (List._∷_
-      97
+      111
       (List._∷_
-      106
+      115
       (List._∷_
-      97
-      (List._∷_
-      107
-      (List._∷_
-      117
-      (List._∷_
-      108
-      (List._∷_
-      109
+      116
       (List._∷_
       58
       (List._∷_
@@ -5512,9 +5364,7 @@ t20 = List._∷_ (
       79
       (List._∷_
       117
-      (List._∷_
-      116
-      (List._∷_ 99 (List._∷_ 111 (List._∷_ 109 (List._∷_ 101 List.[])))))))))))))))))))))
+      (List._∷_ 116 (List._∷_ 99 (List._∷_ 111 (List._∷_ 109 (List._∷_ 101 List.[])))))))))))))))))
       (Syntax.tcons
       (Syntax.tyInt Syntax.w8)
       (Syntax.tcons
@@ -5590,21 +5440,13 @@ t20 = List._∷_ (
   Rows.any-gone
       (Syntax.tyStruct
       (List._∷_
-      107
+      104
       (List._∷_
-      97
+      111
       (List._∷_
-      106
+      115
       (List._∷_
-      97
-      (List._∷_
-      107
-      (List._∷_
-      117
-      (List._∷_
-      108
-      (List._∷_
-      109
+      116
       (List._∷_
       58
       (List._∷_
@@ -5615,9 +5457,7 @@ t20 = List._∷_ (
       111
       (List._∷_
       115
-      (List._∷_
-      116
-      (List._∷_ 76 (List._∷_ 105 (List._∷_ 110 (List._∷_ 107 List.[]))))))))))))))))))
+      (List._∷_ 116 (List._∷_ 76 (List._∷_ 105 (List._∷_ 110 (List._∷_ 107 List.[]))))))))))))))
       (Syntax.tcons
       (Syntax.tyArray (Syntax.tyInt Syntax.w8) 16)
       (Syntax.tcons
@@ -5657,21 +5497,13 @@ t21 = List._∷_ (
   Rows.any-gone
       (Syntax.tyStruct
       (List._∷_
-      107
+      104
       (List._∷_
-      97
+      111
       (List._∷_
-      106
+      115
       (List._∷_
-      97
-      (List._∷_
-      107
-      (List._∷_
-      117
-      (List._∷_
-      108
-      (List._∷_
-      109
+      116
       (List._∷_
       58
       (List._∷_
@@ -5688,9 +5520,7 @@ t21 = List._∷_ (
       79
       (List._∷_
       117
-      (List._∷_
-      116
-      (List._∷_ 99 (List._∷_ 111 (List._∷_ 109 (List._∷_ 101 List.[])))))))))))))))))))))
+      (List._∷_ 116 (List._∷_ 99 (List._∷_ 111 (List._∷_ 109 (List._∷_ 101 List.[])))))))))))))))))
       (Syntax.tcons
       (Syntax.tyInt Syntax.w8)
       (Syntax.tcons
@@ -5764,21 +5594,13 @@ t21 = List._∷_ (
   Rows.any-gone
       (Syntax.tyStruct
       (List._∷_
-      107
+      104
       (List._∷_
-      97
+      111
       (List._∷_
-      106
+      115
       (List._∷_
-      97
-      (List._∷_
-      107
-      (List._∷_
-      117
-      (List._∷_
-      108
-      (List._∷_
-      109
+      116
       (List._∷_
       58
       (List._∷_
@@ -5789,9 +5611,7 @@ t21 = List._∷_ (
       111
       (List._∷_
       115
-      (List._∷_
-      116
-      (List._∷_ 76 (List._∷_ 105 (List._∷_ 110 (List._∷_ 107 List.[]))))))))))))))))))
+      (List._∷_ 116 (List._∷_ 76 (List._∷_ 105 (List._∷_ 110 (List._∷_ 107 List.[]))))))))))))))
       (Syntax.tcons
       (Syntax.tyArray (Syntax.tyInt Syntax.w8) 16)
       (Syntax.tcons
@@ -5948,21 +5768,13 @@ t23 = List._∷_ (
   Rows.any-gone
       (Syntax.tyStruct
       (List._∷_
-      107
+      104
       (List._∷_
-      97
+      111
       (List._∷_
-      106
+      115
       (List._∷_
-      97
-      (List._∷_
-      107
-      (List._∷_
-      117
-      (List._∷_
-      108
-      (List._∷_
-      109
+      116
       (List._∷_
       58
       (List._∷_
@@ -5979,9 +5791,7 @@ t23 = List._∷_ (
       79
       (List._∷_
       117
-      (List._∷_
-      116
-      (List._∷_ 99 (List._∷_ 111 (List._∷_ 109 (List._∷_ 101 List.[])))))))))))))))))))))
+      (List._∷_ 116 (List._∷_ 99 (List._∷_ 111 (List._∷_ 109 (List._∷_ 101 List.[])))))))))))))))))
       (Syntax.tcons
       (Syntax.tyInt Syntax.w8)
       (Syntax.tcons
@@ -6053,21 +5863,13 @@ t23 = List._∷_ (
   Rows.any-gone
       (Syntax.tyStruct
       (List._∷_
-      107
+      104
       (List._∷_
-      97
+      111
       (List._∷_
-      106
+      115
       (List._∷_
-      97
-      (List._∷_
-      107
-      (List._∷_
-      117
-      (List._∷_
-      108
-      (List._∷_
-      109
+      116
       (List._∷_
       58
       (List._∷_
@@ -6078,9 +5880,7 @@ t23 = List._∷_ (
       111
       (List._∷_
       115
-      (List._∷_
-      116
-      (List._∷_ 76 (List._∷_ 105 (List._∷_ 110 (List._∷_ 107 List.[]))))))))))))))))))
+      (List._∷_ 116 (List._∷_ 76 (List._∷_ 105 (List._∷_ 110 (List._∷_ 107 List.[]))))))))))))))
       (Syntax.tcons
       (Syntax.tyArray (Syntax.tyInt Syntax.w8) 16)
       (Syntax.tcons
@@ -6240,21 +6040,13 @@ t25 = List._∷_ (
   Rows.any-gone
       (Syntax.tyStruct
       (List._∷_
-      107
+      104
       (List._∷_
-      97
+      111
       (List._∷_
-      106
+      115
       (List._∷_
-      97
-      (List._∷_
-      107
-      (List._∷_
-      117
-      (List._∷_
-      108
-      (List._∷_
-      109
+      116
       (List._∷_
       58
       (List._∷_
@@ -6271,9 +6063,7 @@ t25 = List._∷_ (
       79
       (List._∷_
       117
-      (List._∷_
-      116
-      (List._∷_ 99 (List._∷_ 111 (List._∷_ 109 (List._∷_ 101 List.[])))))))))))))))))))))
+      (List._∷_ 116 (List._∷_ 99 (List._∷_ 111 (List._∷_ 109 (List._∷_ 101 List.[])))))))))))))))))
       (Syntax.tcons
       (Syntax.tyInt Syntax.w8)
       (Syntax.tcons
@@ -6343,21 +6133,13 @@ t25 = List._∷_ (
   Rows.any-gone
       (Syntax.tyStruct
       (List._∷_
-      107
+      104
       (List._∷_
-      97
+      111
       (List._∷_
-      106
+      115
       (List._∷_
-      97
-      (List._∷_
-      107
-      (List._∷_
-      117
-      (List._∷_
-      108
-      (List._∷_
-      109
+      116
       (List._∷_
       58
       (List._∷_
@@ -6368,9 +6150,7 @@ t25 = List._∷_ (
       111
       (List._∷_
       115
-      (List._∷_
-      116
-      (List._∷_ 76 (List._∷_ 105 (List._∷_ 110 (List._∷_ 107 List.[]))))))))))))))))))
+      (List._∷_ 116 (List._∷_ 76 (List._∷_ 105 (List._∷_ 110 (List._∷_ 107 List.[]))))))))))))))
       (Syntax.tcons
       (Syntax.tyArray (Syntax.tyInt Syntax.w8) 16)
       (Syntax.tcons
@@ -6410,21 +6190,13 @@ t26 = List._∷_ (
   Rows.any-gone
       (Syntax.tyStruct
       (List._∷_
-      107
+      104
       (List._∷_
-      97
+      111
       (List._∷_
-      106
+      115
       (List._∷_
-      97
-      (List._∷_
-      107
-      (List._∷_
-      117
-      (List._∷_
-      108
-      (List._∷_
-      109
+      116
       (List._∷_
       58
       (List._∷_
@@ -6441,9 +6213,7 @@ t26 = List._∷_ (
       79
       (List._∷_
       117
-      (List._∷_
-      116
-      (List._∷_ 99 (List._∷_ 111 (List._∷_ 109 (List._∷_ 101 List.[])))))))))))))))))))))
+      (List._∷_ 116 (List._∷_ 99 (List._∷_ 111 (List._∷_ 109 (List._∷_ 101 List.[])))))))))))))))))
       (Syntax.tcons
       (Syntax.tyInt Syntax.w8)
       (Syntax.tcons
@@ -6513,21 +6283,13 @@ t26 = List._∷_ (
   Rows.any-gone
       (Syntax.tyStruct
       (List._∷_
-      107
+      104
       (List._∷_
-      97
+      111
       (List._∷_
-      106
+      115
       (List._∷_
-      97
-      (List._∷_
-      107
-      (List._∷_
-      117
-      (List._∷_
-      108
-      (List._∷_
-      109
+      116
       (List._∷_
       58
       (List._∷_
@@ -6538,9 +6300,7 @@ t26 = List._∷_ (
       111
       (List._∷_
       115
-      (List._∷_
-      116
-      (List._∷_ 76 (List._∷_ 105 (List._∷_ 110 (List._∷_ 107 List.[]))))))))))))))))))
+      (List._∷_ 116 (List._∷_ 76 (List._∷_ 105 (List._∷_ 110 (List._∷_ 107 List.[]))))))))))))))
       (Syntax.tcons
       (Syntax.tyArray (Syntax.tyInt Syntax.w8) 16)
       (Syntax.tcons
@@ -7077,21 +6837,13 @@ t32 = List._∷_ (0, Rows.whole (Declared'.row HostOutcome.the-type)) (List._∷
   Rows.any-gone
       (Syntax.tyStruct
       (List._∷_
-      107
+      104
       (List._∷_
-      97
+      111
       (List._∷_
-      106
+      115
       (List._∷_
-      97
-      (List._∷_
-      107
-      (List._∷_
-      117
-      (List._∷_
-      108
-      (List._∷_
-      109
+      116
       (List._∷_
       58
       (List._∷_
@@ -7102,9 +6854,7 @@ t32 = List._∷_ (0, Rows.whole (Declared'.row HostOutcome.the-type)) (List._∷
       111
       (List._∷_
       115
-      (List._∷_
-      116
-      (List._∷_ 76 (List._∷_ 105 (List._∷_ 110 (List._∷_ 107 List.[]))))))))))))))))))
+      (List._∷_ 116 (List._∷_ 76 (List._∷_ 105 (List._∷_ 110 (List._∷_ 107 List.[]))))))))))))))
       (Syntax.tcons
       (Syntax.tyArray (Syntax.tyInt Syntax.w8) 16)
       (Syntax.tcons
@@ -7191,21 +6941,13 @@ t33 = List._∷_ (0, Rows.whole (Declared'.row HostOutcome.the-type)) (List._∷
   Rows.any-gone
       (Syntax.tyStruct
       (List._∷_
-      107
+      104
       (List._∷_
-      97
+      111
       (List._∷_
-      106
+      115
       (List._∷_
-      97
-      (List._∷_
-      107
-      (List._∷_
-      117
-      (List._∷_
-      108
-      (List._∷_
-      109
+      116
       (List._∷_
       58
       (List._∷_
@@ -7216,9 +6958,7 @@ t33 = List._∷_ (0, Rows.whole (Declared'.row HostOutcome.the-type)) (List._∷
       111
       (List._∷_
       115
-      (List._∷_
-      116
-      (List._∷_ 76 (List._∷_ 105 (List._∷_ 110 (List._∷_ 107 List.[]))))))))))))))))))
+      (List._∷_ 116 (List._∷_ 76 (List._∷_ 105 (List._∷_ 110 (List._∷_ 107 List.[]))))))))))))))
       (Syntax.tcons
       (Syntax.tyArray (Syntax.tyInt Syntax.w8) 16)
       (Syntax.tcons
@@ -7535,21 +7275,13 @@ t34 = List._∷_ (0, Rows.whole (Declared'.row HostOutcome.the-type)) (List._∷
   Rows.any-gone
       (Syntax.tyStruct
       (List._∷_
-      107
+      104
       (List._∷_
-      97
+      111
       (List._∷_
-      106
+      115
       (List._∷_
-      97
-      (List._∷_
-      107
-      (List._∷_
-      117
-      (List._∷_
-      108
-      (List._∷_
-      109
+      116
       (List._∷_
       58
       (List._∷_
@@ -7560,9 +7292,7 @@ t34 = List._∷_ (0, Rows.whole (Declared'.row HostOutcome.the-type)) (List._∷
       111
       (List._∷_
       115
-      (List._∷_
-      116
-      (List._∷_ 76 (List._∷_ 105 (List._∷_ 110 (List._∷_ 107 List.[]))))))))))))))))))
+      (List._∷_ 116 (List._∷_ 76 (List._∷_ 105 (List._∷_ 110 (List._∷_ 107 List.[]))))))))))))))
       (Syntax.tcons
       (Syntax.tyArray (Syntax.tyInt Syntax.w8) 16)
       (Syntax.tcons
@@ -7879,21 +7609,13 @@ t35 = List._∷_ (0, Rows.whole (Declared'.row HostOutcome.the-type)) (List._∷
   Rows.any-gone
       (Syntax.tyStruct
       (List._∷_
-      107
+      104
       (List._∷_
-      97
+      111
       (List._∷_
-      106
+      115
       (List._∷_
-      97
-      (List._∷_
-      107
-      (List._∷_
-      117
-      (List._∷_
-      108
-      (List._∷_
-      109
+      116
       (List._∷_
       58
       (List._∷_
@@ -7904,9 +7626,7 @@ t35 = List._∷_ (0, Rows.whole (Declared'.row HostOutcome.the-type)) (List._∷
       111
       (List._∷_
       115
-      (List._∷_
-      116
-      (List._∷_ 76 (List._∷_ 105 (List._∷_ 110 (List._∷_ 107 List.[]))))))))))))))))))
+      (List._∷_ 116 (List._∷_ 76 (List._∷_ 105 (List._∷_ 110 (List._∷_ 107 List.[]))))))))))))))
       (Syntax.tcons
       (Syntax.tyArray (Syntax.tyInt Syntax.w8) 16)
       (Syntax.tcons
@@ -8491,21 +8211,13 @@ module _ (claims· : Claims) where
       10
       (Syntax.tyStruct
       (List._∷_
-      107
+      104
       (List._∷_
-      97
+      111
       (List._∷_
-      106
+      115
       (List._∷_
-      97
-      (List._∷_
-      107
-      (List._∷_
-      117
-      (List._∷_
-      108
-      (List._∷_
-      109
+      116
       (List._∷_
       58
       (List._∷_
@@ -8516,9 +8228,7 @@ module _ (claims· : Claims) where
       111
       (List._∷_
       115
-      (List._∷_
-      116
-      (List._∷_ 76 (List._∷_ 105 (List._∷_ 110 (List._∷_ 107 List.[]))))))))))))))))))
+      (List._∷_ 116 (List._∷_ 76 (List._∷_ 105 (List._∷_ 110 (List._∷_ 107 List.[]))))))))))))))
       (Syntax.tcons
       (Syntax.tyArray (Syntax.tyInt Syntax.w8) 16)
       (Syntax.tcons
@@ -9111,21 +8821,13 @@ module _ (claims· : Claims) where
       List.[]
       (Syntax.tyStruct
       (List._∷_
-      107
+      104
       (List._∷_
-      97
+      111
       (List._∷_
-      106
+      115
       (List._∷_
-      97
-      (List._∷_
-      107
-      (List._∷_
-      117
-      (List._∷_
-      108
-      (List._∷_
-      109
+      116
       (List._∷_
       58
       (List._∷_
@@ -9142,9 +8844,7 @@ module _ (claims· : Claims) where
       79
       (List._∷_
       117
-      (List._∷_
-      116
-      (List._∷_ 99 (List._∷_ 111 (List._∷_ 109 (List._∷_ 101 List.[])))))))))))))))))))))
+      (List._∷_ 116 (List._∷_ 99 (List._∷_ 111 (List._∷_ 109 (List._∷_ 101 List.[])))))))))))))))))
       (Syntax.tcons
       (Syntax.tyInt Syntax.w8)
       (Syntax.tcons
@@ -9412,12 +9112,12 @@ module _ (claims· : Claims) where
       Closed =
           (𝓤 : URA.URA M) (H : Wp.Heap 𝓤) (A : Atoms.Atoms 𝓤) (W : Kit.Given 𝓤 H A) (𝓣 : Wp.Tables
           𝓤 H) (known0 : Plain.Known 𝓤 H A W 𝓣 0 ps·0 r·0 (claims· .0) (claims· .1)
-          "kajakulm::link_of") (known1 : Plain.Known 𝓤 H A W 𝓣 5 ps·1 r·1 (claims· .2) (claims· .3)
+          "host::link_of") (known1 : Plain.Known 𝓤 H A W 𝓣 5 ps·1 r·1 (claims· .2) (claims· .3)
           "calls::message") (known2 : Plain.Known 𝓤 H A W 𝓣 0 ps·2 r·2 (claims· .4) (claims· .5)
-          "kajakulm::answer_of") (known3 : Plain.Known 𝓤 H A W 𝓣 1 ps·3 r·3 (claims· .6)
-          (claims· .7) "tally::raise") (known4 : Plain.Known 𝓤 H A W 𝓣 0 ps·4 r·4 (claims· .8)
-          (claims· .9) "kajakulm::host_outcome") → Statement.Triple 𝓤 (Wp.WpFn 𝓤 H (𝓣 .C) (𝓣 .Λ)
-          (Function.fnOf 6 ps r xs m hs body)) (Function.plainOf 𝓤 H A 6 ps r Pre· Post·)
+          "host::answer_of") (known3 : Plain.Known 𝓤 H A W 𝓣 1 ps·3 r·3 (claims· .6) (claims· .7)
+          "tally::raise") (known4 : Plain.Known 𝓤 H A W 𝓣 0 ps·4 r·4 (claims· .8) (claims· .9)
+          "host::host_outcome") → Statement.Triple 𝓤 (Wp.WpFn 𝓤 H (𝓣 .C) (𝓣 .Λ) (Function.fnOf 6 ps
+          r xs m hs body)) (Function.plainOf 𝓤 H A 6 ps r Pre· Post·)
 
     module _ where
       abbrev at0 : Typed.TF T49 O0
@@ -9574,11 +9274,11 @@ module _ (claims· : Claims) where
           (W : Kit.Given 𝓤 H A) (𝓣 : Wp.Tables 𝓤 H) where
         abbrev Knowns : Type 1
         Knowns =
-            Plain.Known 𝓤 H A W 𝓣 0 ps·0 r·0 (claims· .0) (claims· .1) "kajakulm::link_of" ×
+            Plain.Known 𝓤 H A W 𝓣 0 ps·0 r·0 (claims· .0) (claims· .1) "host::link_of" ×
             Plain.Known 𝓤 H A W 𝓣 5 ps·1 r·1 (claims· .2) (claims· .3) "calls::message" ×
-            Plain.Known 𝓤 H A W 𝓣 0 ps·2 r·2 (claims· .4) (claims· .5) "kajakulm::answer_of" ×
+            Plain.Known 𝓤 H A W 𝓣 0 ps·2 r·2 (claims· .4) (claims· .5) "host::answer_of" ×
             Plain.Known 𝓤 H A W 𝓣 1 ps·3 r·3 (claims· .6) (claims· .7) "tally::raise" ×
-            Plain.Known 𝓤 H A W 𝓣 0 ps·4 r·4 (claims· .8) (claims· .9) "kajakulm::host_outcome"
+            Plain.Known 𝓤 H A W 𝓣 0 ps·4 r·4 (claims· .8) (claims· .9) "host::host_outcome"
 
       module _ (κs : Lifetimes.Lfts 6) (qs : Lifetimes.Shares 6) where
         abbrev g3 : List.List Row.Entry
@@ -9587,21 +9287,13 @@ module _ (claims· : Claims) where
           Rows.any-gone
               (Syntax.tyStruct
               (List._∷_
-              107
+              104
               (List._∷_
-              97
+              111
               (List._∷_
-              106
+              115
               (List._∷_
-              97
-              (List._∷_
-              107
-              (List._∷_
-              117
-              (List._∷_
-              108
-              (List._∷_
-              109
+              116
               (List._∷_
               58
               (List._∷_
@@ -9620,7 +9312,7 @@ module _ (claims· : Claims) where
               117
               (List._∷_
               116
-              (List._∷_ 99 (List._∷_ 111 (List._∷_ 109 (List._∷_ 101 List.[])))))))))))))))))))))
+              (List._∷_ 99 (List._∷_ 111 (List._∷_ 109 (List._∷_ 101 List.[])))))))))))))))))
               (Syntax.tcons
               (Syntax.tyInt Syntax.w8)
               (Syntax.tcons
@@ -9955,21 +9647,13 @@ module _ (claims· : Claims) where
           Rows.any-gone
               (Syntax.tyStruct
               (List._∷_
-              107
+              104
               (List._∷_
-              97
+              111
               (List._∷_
-              106
+              115
               (List._∷_
-              97
-              (List._∷_
-              107
-              (List._∷_
-              117
-              (List._∷_
-              108
-              (List._∷_
-              109
+              116
               (List._∷_
               58
               (List._∷_
@@ -9988,7 +9672,7 @@ module _ (claims· : Claims) where
               117
               (List._∷_
               116
-              (List._∷_ 99 (List._∷_ 111 (List._∷_ 109 (List._∷_ 101 List.[])))))))))))))))))))))
+              (List._∷_ 99 (List._∷_ 111 (List._∷_ 109 (List._∷_ 101 List.[])))))))))))))))))
               (Syntax.tcons
               (Syntax.tyInt Syntax.w8)
               (Syntax.tcons
@@ -10319,21 +10003,13 @@ module _ (claims· : Claims) where
           Rows.any-gone
               (Syntax.tyStruct
               (List._∷_
-              107
+              104
               (List._∷_
-              97
+              111
               (List._∷_
-              106
+              115
               (List._∷_
-              97
-              (List._∷_
-              107
-              (List._∷_
-              117
-              (List._∷_
-              108
-              (List._∷_
-              109
+              116
               (List._∷_
               58
               (List._∷_
@@ -10352,7 +10028,7 @@ module _ (claims· : Claims) where
               117
               (List._∷_
               116
-              (List._∷_ 99 (List._∷_ 111 (List._∷_ 109 (List._∷_ 101 List.[])))))))))))))))))))))
+              (List._∷_ 99 (List._∷_ 111 (List._∷_ 109 (List._∷_ 101 List.[])))))))))))))))))
               (Syntax.tcons
               (Syntax.tyInt Syntax.w8)
               (Syntax.tcons
@@ -10687,21 +10363,13 @@ module _ (claims· : Claims) where
           Rows.any-gone
               (Syntax.tyStruct
               (List._∷_
-              107
+              104
               (List._∷_
-              97
+              111
               (List._∷_
-              106
+              115
               (List._∷_
-              97
-              (List._∷_
-              107
-              (List._∷_
-              117
-              (List._∷_
-              108
-              (List._∷_
-              109
+              116
               (List._∷_
               58
               (List._∷_
@@ -10720,7 +10388,7 @@ module _ (claims· : Claims) where
               117
               (List._∷_
               116
-              (List._∷_ 99 (List._∷_ 111 (List._∷_ 109 (List._∷_ 101 List.[])))))))))))))))))))))
+              (List._∷_ 99 (List._∷_ 111 (List._∷_ 109 (List._∷_ 101 List.[])))))))))))))))))
               (Syntax.tcons
               (Syntax.tyInt Syntax.w8)
               (Syntax.tcons
@@ -11053,21 +10721,13 @@ module _ (claims· : Claims) where
           Rows.any-gone
               (Syntax.tyStruct
               (List._∷_
-              107
+              104
               (List._∷_
-              97
+              111
               (List._∷_
-              106
+              115
               (List._∷_
-              97
-              (List._∷_
-              107
-              (List._∷_
-              117
-              (List._∷_
-              108
-              (List._∷_
-              109
+              116
               (List._∷_
               58
               (List._∷_
@@ -11086,7 +10746,7 @@ module _ (claims· : Claims) where
               117
               (List._∷_
               116
-              (List._∷_ 99 (List._∷_ 111 (List._∷_ 109 (List._∷_ 101 List.[])))))))))))))))))))))
+              (List._∷_ 99 (List._∷_ 111 (List._∷_ 109 (List._∷_ 101 List.[])))))))))))))))))
               (Syntax.tcons
               (Syntax.tyInt Syntax.w8)
               (Syntax.tcons
@@ -11421,21 +11081,13 @@ module _ (claims· : Claims) where
           Rows.any-gone
               (Syntax.tyStruct
               (List._∷_
-              107
+              104
               (List._∷_
-              97
+              111
               (List._∷_
-              106
+              115
               (List._∷_
-              97
-              (List._∷_
-              107
-              (List._∷_
-              117
-              (List._∷_
-              108
-              (List._∷_
-              109
+              116
               (List._∷_
               58
               (List._∷_
@@ -11454,7 +11106,7 @@ module _ (claims· : Claims) where
               117
               (List._∷_
               116
-              (List._∷_ 99 (List._∷_ 111 (List._∷_ 109 (List._∷_ 101 List.[])))))))))))))))))))))
+              (List._∷_ 99 (List._∷_ 111 (List._∷_ 109 (List._∷_ 101 List.[])))))))))))))))))
               (Syntax.tcons
               (Syntax.tyInt Syntax.w8)
               (Syntax.tcons
@@ -11791,21 +11443,13 @@ module _ (claims· : Claims) where
           Rows.any-gone
               (Syntax.tyStruct
               (List._∷_
-              107
+              104
               (List._∷_
-              97
+              111
               (List._∷_
-              106
+              115
               (List._∷_
-              97
-              (List._∷_
-              107
-              (List._∷_
-              117
-              (List._∷_
-              108
-              (List._∷_
-              109
+              116
               (List._∷_
               58
               (List._∷_
@@ -11824,7 +11468,7 @@ module _ (claims· : Claims) where
               117
               (List._∷_
               116
-              (List._∷_ 99 (List._∷_ 111 (List._∷_ 109 (List._∷_ 101 List.[])))))))))))))))))))))
+              (List._∷_ 99 (List._∷_ 111 (List._∷_ 109 (List._∷_ 101 List.[])))))))))))))))))
               (Syntax.tcons
               (Syntax.tyInt Syntax.w8)
               (Syntax.tcons
@@ -11897,21 +11541,13 @@ module _ (claims· : Claims) where
           Rows.any-gone
               (Syntax.tyStruct
               (List._∷_
-              107
+              104
               (List._∷_
-              97
+              111
               (List._∷_
-              106
+              115
               (List._∷_
-              97
-              (List._∷_
-              107
-              (List._∷_
-              117
-              (List._∷_
-              108
-              (List._∷_
-              109
+              116
               (List._∷_
               58
               (List._∷_
@@ -11924,7 +11560,7 @@ module _ (claims· : Claims) where
               115
               (List._∷_
               116
-              (List._∷_ 76 (List._∷_ 105 (List._∷_ 110 (List._∷_ 107 List.[]))))))))))))))))))
+              (List._∷_ 76 (List._∷_ 105 (List._∷_ 110 (List._∷_ 107 List.[]))))))))))))))
               (Syntax.tcons
               (Syntax.tyArray (Syntax.tyInt Syntax.w8) 16)
               (Syntax.tcons
@@ -12203,21 +11839,13 @@ module _ (claims· : Claims) where
           Rows.any-gone
               (Syntax.tyStruct
               (List._∷_
-              107
+              104
               (List._∷_
-              97
+              111
               (List._∷_
-              106
+              115
               (List._∷_
-              97
-              (List._∷_
-              107
-              (List._∷_
-              117
-              (List._∷_
-              108
-              (List._∷_
-              109
+              116
               (List._∷_
               58
               (List._∷_
@@ -12236,7 +11864,7 @@ module _ (claims· : Claims) where
               117
               (List._∷_
               116
-              (List._∷_ 99 (List._∷_ 111 (List._∷_ 109 (List._∷_ 101 List.[])))))))))))))))))))))
+              (List._∷_ 99 (List._∷_ 111 (List._∷_ 109 (List._∷_ 101 List.[])))))))))))))))))
               (Syntax.tcons
               (Syntax.tyInt Syntax.w8)
               (Syntax.tcons
@@ -12309,21 +11937,13 @@ module _ (claims· : Claims) where
           Rows.any-gone
               (Syntax.tyStruct
               (List._∷_
-              107
+              104
               (List._∷_
-              97
+              111
               (List._∷_
-              106
+              115
               (List._∷_
-              97
-              (List._∷_
-              107
-              (List._∷_
-              117
-              (List._∷_
-              108
-              (List._∷_
-              109
+              116
               (List._∷_
               58
               (List._∷_
@@ -12336,7 +11956,7 @@ module _ (claims· : Claims) where
               115
               (List._∷_
               116
-              (List._∷_ 76 (List._∷_ 105 (List._∷_ 110 (List._∷_ 107 List.[]))))))))))))))))))
+              (List._∷_ 76 (List._∷_ 105 (List._∷_ 110 (List._∷_ 107 List.[]))))))))))))))
               (Syntax.tcons
               (Syntax.tyArray (Syntax.tyInt Syntax.w8) 16)
               (Syntax.tcons
@@ -12376,21 +11996,13 @@ module _ (claims· : Claims) where
           Rows.any-gone
               (Syntax.tyStruct
               (List._∷_
-              107
+              104
               (List._∷_
-              97
+              111
               (List._∷_
-              106
+              115
               (List._∷_
-              97
-              (List._∷_
-              107
-              (List._∷_
-              117
-              (List._∷_
-              108
-              (List._∷_
-              109
+              116
               (List._∷_
               58
               (List._∷_
@@ -12409,7 +12021,7 @@ module _ (claims· : Claims) where
               117
               (List._∷_
               116
-              (List._∷_ 99 (List._∷_ 111 (List._∷_ 109 (List._∷_ 101 List.[])))))))))))))))))))))
+              (List._∷_ 99 (List._∷_ 111 (List._∷_ 109 (List._∷_ 101 List.[])))))))))))))))))
               (Syntax.tcons
               (Syntax.tyInt Syntax.w8)
               (Syntax.tcons
@@ -12493,21 +12105,13 @@ module _ (claims· : Claims) where
           Rows.any-gone
               (Syntax.tyStruct
               (List._∷_
-              107
+              104
               (List._∷_
-              97
+              111
               (List._∷_
-              106
+              115
               (List._∷_
-              97
-              (List._∷_
-              107
-              (List._∷_
-              117
-              (List._∷_
-              108
-              (List._∷_
-              109
+              116
               (List._∷_
               58
               (List._∷_
@@ -12520,7 +12124,7 @@ module _ (claims· : Claims) where
               115
               (List._∷_
               116
-              (List._∷_ 76 (List._∷_ 105 (List._∷_ 110 (List._∷_ 107 List.[]))))))))))))))))))
+              (List._∷_ 76 (List._∷_ 105 (List._∷_ 110 (List._∷_ 107 List.[]))))))))))))))
               (Syntax.tcons
               (Syntax.tyArray (Syntax.tyInt Syntax.w8) 16)
               (Syntax.tcons
@@ -12560,21 +12164,13 @@ module _ (claims· : Claims) where
           Rows.any-gone
               (Syntax.tyStruct
               (List._∷_
-              107
+              104
               (List._∷_
-              97
+              111
               (List._∷_
-              106
+              115
               (List._∷_
-              97
-              (List._∷_
-              107
-              (List._∷_
-              117
-              (List._∷_
-              108
-              (List._∷_
-              109
+              116
               (List._∷_
               58
               (List._∷_
@@ -12593,7 +12189,7 @@ module _ (claims· : Claims) where
               117
               (List._∷_
               116
-              (List._∷_ 99 (List._∷_ 111 (List._∷_ 109 (List._∷_ 101 List.[])))))))))))))))))))))
+              (List._∷_ 99 (List._∷_ 111 (List._∷_ 109 (List._∷_ 101 List.[])))))))))))))))))
               (Syntax.tcons
               (Syntax.tyInt Syntax.w8)
               (Syntax.tcons
@@ -12675,21 +12271,13 @@ module _ (claims· : Claims) where
           Rows.any-gone
               (Syntax.tyStruct
               (List._∷_
-              107
+              104
               (List._∷_
-              97
+              111
               (List._∷_
-              106
+              115
               (List._∷_
-              97
-              (List._∷_
-              107
-              (List._∷_
-              117
-              (List._∷_
-              108
-              (List._∷_
-              109
+              116
               (List._∷_
               58
               (List._∷_
@@ -12702,7 +12290,7 @@ module _ (claims· : Claims) where
               115
               (List._∷_
               116
-              (List._∷_ 76 (List._∷_ 105 (List._∷_ 110 (List._∷_ 107 List.[]))))))))))))))))))
+              (List._∷_ 76 (List._∷_ 105 (List._∷_ 110 (List._∷_ 107 List.[]))))))))))))))
               (Syntax.tcons
               (Syntax.tyArray (Syntax.tyInt Syntax.w8) 16)
               (Syntax.tcons
@@ -12745,21 +12333,13 @@ module _ (claims· : Claims) where
           Rows.any-gone
               (Syntax.tyStruct
               (List._∷_
-              107
+              104
               (List._∷_
-              97
+              111
               (List._∷_
-              106
+              115
               (List._∷_
-              97
-              (List._∷_
-              107
-              (List._∷_
-              117
-              (List._∷_
-              108
-              (List._∷_
-              109
+              116
               (List._∷_
               58
               (List._∷_
@@ -12778,7 +12358,7 @@ module _ (claims· : Claims) where
               117
               (List._∷_
               116
-              (List._∷_ 99 (List._∷_ 111 (List._∷_ 109 (List._∷_ 101 List.[])))))))))))))))))))))
+              (List._∷_ 99 (List._∷_ 111 (List._∷_ 109 (List._∷_ 101 List.[])))))))))))))))))
               (Syntax.tcons
               (Syntax.tyInt Syntax.w8)
               (Syntax.tcons
@@ -12858,21 +12438,13 @@ module _ (claims· : Claims) where
           Rows.any-gone
               (Syntax.tyStruct
               (List._∷_
-              107
+              104
               (List._∷_
-              97
+              111
               (List._∷_
-              106
+              115
               (List._∷_
-              97
-              (List._∷_
-              107
-              (List._∷_
-              117
-              (List._∷_
-              108
-              (List._∷_
-              109
+              116
               (List._∷_
               58
               (List._∷_
@@ -12885,7 +12457,7 @@ module _ (claims· : Claims) where
               115
               (List._∷_
               116
-              (List._∷_ 76 (List._∷_ 105 (List._∷_ 110 (List._∷_ 107 List.[]))))))))))))))))))
+              (List._∷_ 76 (List._∷_ 105 (List._∷_ 110 (List._∷_ 107 List.[]))))))))))))))
               (Syntax.tcons
               (Syntax.tyArray (Syntax.tyInt Syntax.w8) 16)
               (Syntax.tcons
@@ -12928,21 +12500,13 @@ module _ (claims· : Claims) where
           Rows.any-gone
               (Syntax.tyStruct
               (List._∷_
-              107
+              104
               (List._∷_
-              97
+              111
               (List._∷_
-              106
+              115
               (List._∷_
-              97
-              (List._∷_
-              107
-              (List._∷_
-              117
-              (List._∷_
-              108
-              (List._∷_
-              109
+              116
               (List._∷_
               58
               (List._∷_
@@ -12961,7 +12525,7 @@ module _ (claims· : Claims) where
               117
               (List._∷_
               116
-              (List._∷_ 99 (List._∷_ 111 (List._∷_ 109 (List._∷_ 101 List.[])))))))))))))))))))))
+              (List._∷_ 99 (List._∷_ 111 (List._∷_ 109 (List._∷_ 101 List.[])))))))))))))))))
               (Syntax.tcons
               (Syntax.tyInt Syntax.w8)
               (Syntax.tcons
@@ -13039,21 +12603,13 @@ module _ (claims· : Claims) where
           Rows.any-gone
               (Syntax.tyStruct
               (List._∷_
-              107
+              104
               (List._∷_
-              97
+              111
               (List._∷_
-              106
+              115
               (List._∷_
-              97
-              (List._∷_
-              107
-              (List._∷_
-              117
-              (List._∷_
-              108
-              (List._∷_
-              109
+              116
               (List._∷_
               58
               (List._∷_
@@ -13066,7 +12622,7 @@ module _ (claims· : Claims) where
               115
               (List._∷_
               116
-              (List._∷_ 76 (List._∷_ 105 (List._∷_ 110 (List._∷_ 107 List.[]))))))))))))))))))
+              (List._∷_ 76 (List._∷_ 105 (List._∷_ 110 (List._∷_ 107 List.[]))))))))))))))
               (Syntax.tcons
               (Syntax.tyArray (Syntax.tyInt Syntax.w8) 16)
               (Syntax.tcons
@@ -13109,21 +12665,13 @@ module _ (claims· : Claims) where
           Rows.any-gone
               (Syntax.tyStruct
               (List._∷_
-              107
+              104
               (List._∷_
-              97
+              111
               (List._∷_
-              106
+              115
               (List._∷_
-              97
-              (List._∷_
-              107
-              (List._∷_
-              117
-              (List._∷_
-              108
-              (List._∷_
-              109
+              116
               (List._∷_
               58
               (List._∷_
@@ -13142,7 +12690,7 @@ module _ (claims· : Claims) where
               117
               (List._∷_
               116
-              (List._∷_ 99 (List._∷_ 111 (List._∷_ 109 (List._∷_ 101 List.[])))))))))))))))))))))
+              (List._∷_ 99 (List._∷_ 111 (List._∷_ 109 (List._∷_ 101 List.[])))))))))))))))))
               (Syntax.tcons
               (Syntax.tyInt Syntax.w8)
               (Syntax.tcons
@@ -13218,21 +12766,13 @@ module _ (claims· : Claims) where
           Rows.any-gone
               (Syntax.tyStruct
               (List._∷_
-              107
+              104
               (List._∷_
-              97
+              111
               (List._∷_
-              106
+              115
               (List._∷_
-              97
-              (List._∷_
-              107
-              (List._∷_
-              117
-              (List._∷_
-              108
-              (List._∷_
-              109
+              116
               (List._∷_
               58
               (List._∷_
@@ -13245,7 +12785,7 @@ module _ (claims· : Claims) where
               115
               (List._∷_
               116
-              (List._∷_ 76 (List._∷_ 105 (List._∷_ 110 (List._∷_ 107 List.[]))))))))))))))))))
+              (List._∷_ 76 (List._∷_ 105 (List._∷_ 110 (List._∷_ 107 List.[]))))))))))))))
               (Syntax.tcons
               (Syntax.tyArray (Syntax.tyInt Syntax.w8) 16)
               (Syntax.tcons
@@ -15006,7 +14546,7 @@ module _ (claims· : Claims) where
               r·4
               (claims· .8)
               (claims· .9)
-              "kajakulm::host_outcome"
+              "host::host_outcome"
               (known .4)
               E
               (λ pos β. β)
@@ -15046,21 +14586,13 @@ module _ (claims· : Claims) where
               A
               (Syntax.tyStruct
               (List._∷_
-              107
+              104
               (List._∷_
-              97
+              111
               (List._∷_
-              106
+              115
               (List._∷_
-              97
-              (List._∷_
-              107
-              (List._∷_
-              117
-              (List._∷_
-              108
-              (List._∷_
-              109
+              116
               (List._∷_
               58
               (List._∷_
@@ -15079,7 +14611,7 @@ module _ (claims· : Claims) where
               117
               (List._∷_
               116
-              (List._∷_ 99 (List._∷_ 111 (List._∷_ 109 (List._∷_ 101 List.[])))))))))))))))))))))
+              (List._∷_ 99 (List._∷_ 111 (List._∷_ 109 (List._∷_ 101 List.[])))))))))))))))))
               (Syntax.tcons
               (Syntax.tyInt Syntax.w8)
               (Syntax.tcons
@@ -15486,7 +15018,7 @@ module _ (claims· : Claims) where
               r·2
               (claims· .4)
               (claims· .5)
-              "kajakulm::answer_of"
+              "host::answer_of"
               (known .2)
               E
               (λ pos β. β)
@@ -16860,21 +16392,13 @@ module _ (claims· : Claims) where
               10
               (Syntax.tyStruct
               (List._∷_
-              107
+              104
               (List._∷_
-              97
+              111
               (List._∷_
-              106
+              115
               (List._∷_
-              97
-              (List._∷_
-              107
-              (List._∷_
-              117
-              (List._∷_
-              108
-              (List._∷_
-              109
+              116
               (List._∷_
               58
               (List._∷_
@@ -16887,7 +16411,7 @@ module _ (claims· : Claims) where
               115
               (List._∷_
               116
-              (List._∷_ 76 (List._∷_ 105 (List._∷_ 110 (List._∷_ 107 List.[]))))))))))))))))))
+              (List._∷_ 76 (List._∷_ 105 (List._∷_ 110 (List._∷_ 107 List.[]))))))))))))))
               (Syntax.tcons
               (Syntax.tyArray (Syntax.tyInt Syntax.w8) 16)
               (Syntax.tcons
@@ -16905,21 +16429,13 @@ module _ (claims· : Claims) where
               (Declared'.row HostLink.the-type)
               (Syntax.tyStruct
               (List._∷_
-              107
+              104
               (List._∷_
-              97
+              111
               (List._∷_
-              106
+              115
               (List._∷_
-              97
-              (List._∷_
-              107
-              (List._∷_
-              117
-              (List._∷_
-              108
-              (List._∷_
-              109
+              116
               (List._∷_
               58
               (List._∷_
@@ -16932,7 +16448,7 @@ module _ (claims· : Claims) where
               115
               (List._∷_
               116
-              (List._∷_ 76 (List._∷_ 105 (List._∷_ 110 (List._∷_ 107 List.[]))))))))))))))))))
+              (List._∷_ 76 (List._∷_ 105 (List._∷_ 110 (List._∷_ 107 List.[]))))))))))))))
               (Syntax.tcons
               (Syntax.tyArray (Syntax.tyInt Syntax.w8) 16)
               (Syntax.tcons
@@ -16972,7 +16488,7 @@ module _ (claims· : Claims) where
               r·0
               (claims· .0)
               (claims· .1)
-              "kajakulm::link_of"
+              "host::link_of"
               (known .0)
               E
               (λ pos β. β)
@@ -19088,31 +18604,9 @@ module _ (claims· : Claims) where
 
         module _ {M : Type 1} (𝓤 : URA.URA M) (H : Wp.Heap 𝓤) (A : Atoms.Atoms 𝓤)
             (W : Kit.Given 𝓤 H A) (𝓣 : Wp.Tables 𝓤 H)
-            (known0 : Plain.Known
-            𝓤
-            H
-            A
-            W
-            𝓣
-            0
-            ps·0
-            r·0
-            (claims· .0)
-            (claims· .1)
-            "kajakulm::link_of")
+            (known0 : Plain.Known 𝓤 H A W 𝓣 0 ps·0 r·0 (claims· .0) (claims· .1) "host::link_of")
             (known1 : Plain.Known 𝓤 H A W 𝓣 5 ps·1 r·1 (claims· .2) (claims· .3) "calls::message")
-            (known2 : Plain.Known
-            𝓤
-            H
-            A
-            W
-            𝓣
-            0
-            ps·2
-            r·2
-            (claims· .4)
-            (claims· .5)
-            "kajakulm::answer_of")
+            (known2 : Plain.Known 𝓤 H A W 𝓣 0 ps·2 r·2 (claims· .4) (claims· .5) "host::answer_of")
             (known3 : Plain.Known 𝓤 H A W 𝓣 1 ps·3 r·3 (claims· .6) (claims· .7) "tally::raise")
             (known4 : Plain.Known
             𝓤
@@ -19125,7 +18619,7 @@ module _ (claims· : Claims) where
             r·4
             (claims· .8)
             (claims· .9)
-            "kajakulm::host_outcome") where
+            "host::host_outcome") where
           pub spec :
               Statement.Triple
               𝓤

@@ -8,10 +8,10 @@ use Rattle.answer.proofs.Answer
 use Rattle.answer.proofs.Answer.Laws
 use Rattle.finish.proofs.Outcome
 use Rattle.finish.proofs.Outcome.Laws as Laws'
-use Rattle.kajakulm.proofs.HostOutcome
-use Rattle.kajakulm.proofs.HostOutcome.Laws as Laws''
-use Rattle.kajakulm.proofs.HostStart
-use Rattle.kajakulm.proofs.HostStart.Laws as Laws'3
+use Rattle.host.proofs.HostOutcome
+use Rattle.host.proofs.HostOutcome.Laws as Laws''
+use Rattle.host.proofs.HostStart
+use Rattle.host.proofs.HostStart.Laws as Laws'3
 use Rattle.own.proofs.Own
 use Rattle.own.proofs.Own.Laws as Laws'4
 use Rattle.start.proofs.Asking
@@ -805,7 +805,7 @@ b7 =
 abbrev b8 : Syntax.Body
 b8 =
     Syntax.call
-    "kajakulm::asking_of"
+    "host::asking_of"
     (List._∷_ (Syntax.copy (Syntax.place 10 List.[])) List.[])
     (Syntax.place 21 List.[])
 
@@ -846,7 +846,7 @@ b10 =
 abbrev b11 : Syntax.Body
 b11 =
     Syntax.call
-    "kajakulm::answer_of"
+    "host::answer_of"
     (List._∷_ (Syntax.copy (Syntax.place 12 List.[])) List.[])
     (Syntax.place 24 List.[])
 
@@ -862,7 +862,7 @@ b12 =
 abbrev b13 : Syntax.Body
 b13 =
     Syntax.call
-    "kajakulm::host_outcome"
+    "host::host_outcome"
     (List._∷_ (Syntax.copy (Syntax.place 12 List.[])) List.[])
     (Syntax.place 0 List.[])
 
@@ -933,21 +933,13 @@ t0 = List._∷_ (
   Rows.any-gone
       (Syntax.tyStruct
       (List._∷_
-      107
+      104
       (List._∷_
-      97
+      111
       (List._∷_
-      106
+      115
       (List._∷_
-      97
-      (List._∷_
-      107
-      (List._∷_
-      117
-      (List._∷_
-      108
-      (List._∷_
-      109
+      116
       (List._∷_
       58
       (List._∷_
@@ -964,9 +956,7 @@ t0 = List._∷_ (
       79
       (List._∷_
       117
-      (List._∷_
-      116
-      (List._∷_ 99 (List._∷_ 111 (List._∷_ 109 (List._∷_ 101 List.[])))))))))))))))))))))
+      (List._∷_ 116 (List._∷_ 99 (List._∷_ 111 (List._∷_ 109 (List._∷_ 101 List.[])))))))))))))))))
       (Syntax.tcons
       (Syntax.tyInt Syntax.w8)
       (Syntax.tcons
@@ -1454,21 +1444,13 @@ t2 = List._∷_ (0, Rows.whole (Declared'.row HostOutcome.the-type)) (List._∷_
   Rows.any-gone
       (Syntax.tyStruct
       (List._∷_
-      107
+      104
       (List._∷_
-      97
+      111
       (List._∷_
-      106
+      115
       (List._∷_
-      97
-      (List._∷_
-      107
-      (List._∷_
-      117
-      (List._∷_
-      108
-      (List._∷_
-      109
+      116
       (List._∷_
       58
       (List._∷_
@@ -1481,9 +1463,7 @@ t2 = List._∷_ (0, Rows.whole (Declared'.row HostOutcome.the-type)) (List._∷_
       115
       (List._∷_
       116
-      (List._∷_
-      83
-      (List._∷_ 116 (List._∷_ 97 (List._∷_ 114 (List._∷_ 116 List.[])))))))))))))))))))
+      (List._∷_ 83 (List._∷_ 116 (List._∷_ 97 (List._∷_ 114 (List._∷_ 116 List.[])))))))))))))))
       (Syntax.tcons
       (Syntax.tyInt Syntax.w8)
       (Syntax.tcons
@@ -1753,21 +1733,13 @@ t3 = List._∷_ (
   Rows.any-gone
       (Syntax.tyStruct
       (List._∷_
-      107
+      104
       (List._∷_
-      97
+      111
       (List._∷_
-      106
+      115
       (List._∷_
-      97
-      (List._∷_
-      107
-      (List._∷_
-      117
-      (List._∷_
-      108
-      (List._∷_
-      109
+      116
       (List._∷_
       58
       (List._∷_
@@ -1784,9 +1756,7 @@ t3 = List._∷_ (
       79
       (List._∷_
       117
-      (List._∷_
-      116
-      (List._∷_ 99 (List._∷_ 111 (List._∷_ 109 (List._∷_ 101 List.[])))))))))))))))))))))
+      (List._∷_ 116 (List._∷_ 99 (List._∷_ 111 (List._∷_ 109 (List._∷_ 101 List.[])))))))))))))))))
       (Syntax.tcons
       (Syntax.tyInt Syntax.w8)
       (Syntax.tcons
@@ -2104,21 +2074,13 @@ t4 = List._∷_ (
   Rows.any-gone
       (Syntax.tyStruct
       (List._∷_
-      107
+      104
       (List._∷_
-      97
+      111
       (List._∷_
-      106
+      115
       (List._∷_
-      97
-      (List._∷_
-      107
-      (List._∷_
-      117
-      (List._∷_
-      108
-      (List._∷_
-      109
+      116
       (List._∷_
       58
       (List._∷_
@@ -2135,9 +2097,7 @@ t4 = List._∷_ (
       79
       (List._∷_
       117
-      (List._∷_
-      116
-      (List._∷_ 99 (List._∷_ 111 (List._∷_ 109 (List._∷_ 101 List.[])))))))))))))))))))))
+      (List._∷_ 116 (List._∷_ 99 (List._∷_ 111 (List._∷_ 109 (List._∷_ 101 List.[])))))))))))))))))
       (Syntax.tcons
       (Syntax.tyInt Syntax.w8)
       (Syntax.tcons
@@ -2451,21 +2411,13 @@ t5 = List._∷_ (
   Rows.any-gone
       (Syntax.tyStruct
       (List._∷_
-      107
+      104
       (List._∷_
-      97
+      111
       (List._∷_
-      106
+      115
       (List._∷_
-      97
-      (List._∷_
-      107
-      (List._∷_
-      117
-      (List._∷_
-      108
-      (List._∷_
-      109
+      116
       (List._∷_
       58
       (List._∷_
@@ -2482,9 +2434,7 @@ t5 = List._∷_ (
       79
       (List._∷_
       117
-      (List._∷_
-      116
-      (List._∷_ 99 (List._∷_ 111 (List._∷_ 109 (List._∷_ 101 List.[])))))))))))))))))))))
+      (List._∷_ 116 (List._∷_ 99 (List._∷_ 111 (List._∷_ 109 (List._∷_ 101 List.[])))))))))))))))))
       (Syntax.tcons
       (Syntax.tyInt Syntax.w8)
       (Syntax.tcons
@@ -2802,21 +2752,13 @@ t6 = List._∷_ (
   Rows.any-gone
       (Syntax.tyStruct
       (List._∷_
-      107
+      104
       (List._∷_
-      97
+      111
       (List._∷_
-      106
+      115
       (List._∷_
-      97
-      (List._∷_
-      107
-      (List._∷_
-      117
-      (List._∷_
-      108
-      (List._∷_
-      109
+      116
       (List._∷_
       58
       (List._∷_
@@ -2833,9 +2775,7 @@ t6 = List._∷_ (
       79
       (List._∷_
       117
-      (List._∷_
-      116
-      (List._∷_ 99 (List._∷_ 111 (List._∷_ 109 (List._∷_ 101 List.[])))))))))))))))))))))
+      (List._∷_ 116 (List._∷_ 99 (List._∷_ 111 (List._∷_ 109 (List._∷_ 101 List.[])))))))))))))))))
       (Syntax.tcons
       (Syntax.tyInt Syntax.w8)
       (Syntax.tcons
@@ -3276,21 +3216,13 @@ t8 = List._∷_ (
   Rows.any-gone
       (Syntax.tyStruct
       (List._∷_
-      107
+      104
       (List._∷_
-      97
+      111
       (List._∷_
-      106
+      115
       (List._∷_
-      97
-      (List._∷_
-      107
-      (List._∷_
-      117
-      (List._∷_
-      108
-      (List._∷_
-      109
+      116
       (List._∷_
       58
       (List._∷_
@@ -3307,9 +3239,7 @@ t8 = List._∷_ (
       79
       (List._∷_
       117
-      (List._∷_
-      116
-      (List._∷_ 99 (List._∷_ 111 (List._∷_ 109 (List._∷_ 101 List.[])))))))))))))))))))))
+      (List._∷_ 116 (List._∷_ 99 (List._∷_ 111 (List._∷_ 109 (List._∷_ 101 List.[])))))))))))))))))
       (Syntax.tcons
       (Syntax.tyInt Syntax.w8)
       (Syntax.tcons
@@ -3878,21 +3808,13 @@ t11 = List._∷_ (
   Rows.any-gone
       (Syntax.tyStruct
       (List._∷_
-      107
+      104
       (List._∷_
-      97
+      111
       (List._∷_
-      106
+      115
       (List._∷_
-      97
-      (List._∷_
-      107
-      (List._∷_
-      117
-      (List._∷_
-      108
-      (List._∷_
-      109
+      116
       (List._∷_
       58
       (List._∷_
@@ -3909,9 +3831,7 @@ t11 = List._∷_ (
       79
       (List._∷_
       117
-      (List._∷_
-      116
-      (List._∷_ 99 (List._∷_ 111 (List._∷_ 109 (List._∷_ 101 List.[])))))))))))))))))))))
+      (List._∷_ 116 (List._∷_ 99 (List._∷_ 111 (List._∷_ 109 (List._∷_ 101 List.[])))))))))))))))))
       (Syntax.tcons
       (Syntax.tyInt Syntax.w8)
       (Syntax.tcons
@@ -4570,21 +4490,13 @@ t15 = List._∷_ (
   Rows.any-gone
       (Syntax.tyStruct
       (List._∷_
-      107
+      104
       (List._∷_
-      97
+      111
       (List._∷_
-      106
+      115
       (List._∷_
-      97
-      (List._∷_
-      107
-      (List._∷_
-      117
-      (List._∷_
-      108
-      (List._∷_
-      109
+      116
       (List._∷_
       58
       (List._∷_
@@ -4601,9 +4513,7 @@ t15 = List._∷_ (
       79
       (List._∷_
       117
-      (List._∷_
-      116
-      (List._∷_ 99 (List._∷_ 111 (List._∷_ 109 (List._∷_ 101 List.[])))))))))))))))))))))
+      (List._∷_ 116 (List._∷_ 99 (List._∷_ 111 (List._∷_ 109 (List._∷_ 101 List.[])))))))))))))))))
       (Syntax.tcons
       (Syntax.tyInt Syntax.w8)
       (Syntax.tcons
@@ -4670,21 +4580,13 @@ t15 = List._∷_ (
   Rows.any-gone
       (Syntax.tyStruct
       (List._∷_
-      107
+      104
       (List._∷_
-      97
+      111
       (List._∷_
-      106
+      115
       (List._∷_
-      97
-      (List._∷_
-      107
-      (List._∷_
-      117
-      (List._∷_
-      108
-      (List._∷_
-      109
+      116
       (List._∷_
       58
       (List._∷_
@@ -4697,9 +4599,7 @@ t15 = List._∷_ (
       115
       (List._∷_
       116
-      (List._∷_
-      83
-      (List._∷_ 116 (List._∷_ 97 (List._∷_ 114 (List._∷_ 116 List.[])))))))))))))))))))
+      (List._∷_ 83 (List._∷_ 116 (List._∷_ 97 (List._∷_ 114 (List._∷_ 116 List.[])))))))))))))))
       (Syntax.tcons
       (Syntax.tyInt Syntax.w8)
       (Syntax.tcons
@@ -4967,21 +4867,13 @@ t16 = List._∷_ (
   Rows.any-gone
       (Syntax.tyStruct
       (List._∷_
-      107
+      104
       (List._∷_
-      97
+      111
       (List._∷_
-      106
+      115
       (List._∷_
-      97
-      (List._∷_
-      107
-      (List._∷_
-      117
-      (List._∷_
-      108
-      (List._∷_
-      109
+      116
       (List._∷_
       58
       (List._∷_
@@ -4998,9 +4890,7 @@ t16 = List._∷_ (
       79
       (List._∷_
       117
-      (List._∷_
-      116
-      (List._∷_ 99 (List._∷_ 111 (List._∷_ 109 (List._∷_ 101 List.[])))))))))))))))))))))
+      (List._∷_ 116 (List._∷_ 99 (List._∷_ 111 (List._∷_ 109 (List._∷_ 101 List.[])))))))))))))))))
       (Syntax.tcons
       (Syntax.tyInt Syntax.w8)
       (Syntax.tcons
@@ -5067,21 +4957,13 @@ t16 = List._∷_ (
   Rows.any-gone
       (Syntax.tyStruct
       (List._∷_
-      107
+      104
       (List._∷_
-      97
+      111
       (List._∷_
-      106
+      115
       (List._∷_
-      97
-      (List._∷_
-      107
-      (List._∷_
-      117
-      (List._∷_
-      108
-      (List._∷_
-      109
+      116
       (List._∷_
       58
       (List._∷_
@@ -5094,9 +4976,7 @@ t16 = List._∷_ (
       115
       (List._∷_
       116
-      (List._∷_
-      83
-      (List._∷_ 116 (List._∷_ 97 (List._∷_ 114 (List._∷_ 116 List.[])))))))))))))))))))
+      (List._∷_ 83 (List._∷_ 116 (List._∷_ 97 (List._∷_ 114 (List._∷_ 116 List.[])))))))))))))))
       (Syntax.tcons
       (Syntax.tyInt Syntax.w8)
       (Syntax.tcons
@@ -5222,21 +5102,13 @@ t18 = List._∷_ (
   Rows.any-gone
       (Syntax.tyStruct
       (List._∷_
-      107
+      104
       (List._∷_
-      97
+      111
       (List._∷_
-      106
+      115
       (List._∷_
-      97
-      (List._∷_
-      107
-      (List._∷_
-      117
-      (List._∷_
-      108
-      (List._∷_
-      109
+      116
       (List._∷_
       58
       (List._∷_
@@ -5253,9 +5125,7 @@ t18 = List._∷_ (
       79
       (List._∷_
       117
-      (List._∷_
-      116
-      (List._∷_ 99 (List._∷_ 111 (List._∷_ 109 (List._∷_ 101 List.[])))))))))))))))))))))
+      (List._∷_ 116 (List._∷_ 99 (List._∷_ 111 (List._∷_ 109 (List._∷_ 101 List.[])))))))))))))))))
       (Syntax.tcons
       (Syntax.tyInt Syntax.w8)
       (Syntax.tcons
@@ -5333,21 +5203,13 @@ t18 = List._∷_ (
   Rows.any-gone
       (Syntax.tyStruct
       (List._∷_
-      107
+      104
       (List._∷_
-      97
+      111
       (List._∷_
-      106
+      115
       (List._∷_
-      97
-      (List._∷_
-      107
-      (List._∷_
-      117
-      (List._∷_
-      108
-      (List._∷_
-      109
+      116
       (List._∷_
       58
       (List._∷_
@@ -5360,9 +5222,7 @@ t18 = List._∷_ (
       115
       (List._∷_
       116
-      (List._∷_
-      83
-      (List._∷_ 116 (List._∷_ 97 (List._∷_ 114 (List._∷_ 116 List.[])))))))))))))))))))
+      (List._∷_ 83 (List._∷_ 116 (List._∷_ 97 (List._∷_ 114 (List._∷_ 116 List.[])))))))))))))))
       (Syntax.tcons
       (Syntax.tyInt Syntax.w8)
       (Syntax.tcons
@@ -5517,21 +5377,13 @@ t20 = List._∷_ (
   Rows.any-gone
       (Syntax.tyStruct
       (List._∷_
-      107
+      104
       (List._∷_
-      97
+      111
       (List._∷_
-      106
+      115
       (List._∷_
-      97
-      (List._∷_
-      107
-      (List._∷_
-      117
-      (List._∷_
-      108
-      (List._∷_
-      109
+      116
       (List._∷_
       58
       (List._∷_
@@ -5548,9 +5400,7 @@ t20 = List._∷_ (
       79
       (List._∷_
       117
-      (List._∷_
-      116
-      (List._∷_ 99 (List._∷_ 111 (List._∷_ 109 (List._∷_ 101 List.[])))))))))))))))))))))
+      (List._∷_ 116 (List._∷_ 99 (List._∷_ 111 (List._∷_ 109 (List._∷_ 101 List.[])))))))))))))))))
       (Syntax.tcons
       (Syntax.tyInt Syntax.w8)
       (Syntax.tcons
@@ -5626,21 +5476,13 @@ t20 = List._∷_ (
   Rows.any-gone
       (Syntax.tyStruct
       (List._∷_
-      107
+      104
       (List._∷_
-      97
+      111
       (List._∷_
-      106
+      115
       (List._∷_
-      97
-      (List._∷_
-      107
-      (List._∷_
-      117
-      (List._∷_
-      108
-      (List._∷_
-      109
+      116
       (List._∷_
       58
       (List._∷_
@@ -5653,9 +5495,7 @@ t20 = List._∷_ (
       115
       (List._∷_
       116
-      (List._∷_
-      83
-      (List._∷_ 116 (List._∷_ 97 (List._∷_ 114 (List._∷_ 116 List.[])))))))))))))))))))
+      (List._∷_ 83 (List._∷_ 116 (List._∷_ 97 (List._∷_ 114 (List._∷_ 116 List.[])))))))))))))))
       (Syntax.tcons
       (Syntax.tyInt Syntax.w8)
       (Syntax.tcons
@@ -5695,21 +5535,13 @@ t21 = List._∷_ (
   Rows.any-gone
       (Syntax.tyStruct
       (List._∷_
-      107
+      104
       (List._∷_
-      97
+      111
       (List._∷_
-      106
+      115
       (List._∷_
-      97
-      (List._∷_
-      107
-      (List._∷_
-      117
-      (List._∷_
-      108
-      (List._∷_
-      109
+      116
       (List._∷_
       58
       (List._∷_
@@ -5726,9 +5558,7 @@ t21 = List._∷_ (
       79
       (List._∷_
       117
-      (List._∷_
-      116
-      (List._∷_ 99 (List._∷_ 111 (List._∷_ 109 (List._∷_ 101 List.[])))))))))))))))))))))
+      (List._∷_ 116 (List._∷_ 99 (List._∷_ 111 (List._∷_ 109 (List._∷_ 101 List.[])))))))))))))))))
       (Syntax.tcons
       (Syntax.tyInt Syntax.w8)
       (Syntax.tcons
@@ -5802,21 +5632,13 @@ t21 = List._∷_ (
   Rows.any-gone
       (Syntax.tyStruct
       (List._∷_
-      107
+      104
       (List._∷_
-      97
+      111
       (List._∷_
-      106
+      115
       (List._∷_
-      97
-      (List._∷_
-      107
-      (List._∷_
-      117
-      (List._∷_
-      108
-      (List._∷_
-      109
+      116
       (List._∷_
       58
       (List._∷_
@@ -5829,9 +5651,7 @@ t21 = List._∷_ (
       115
       (List._∷_
       116
-      (List._∷_
-      83
-      (List._∷_ 116 (List._∷_ 97 (List._∷_ 114 (List._∷_ 116 List.[])))))))))))))))))))
+      (List._∷_ 83 (List._∷_ 116 (List._∷_ 97 (List._∷_ 114 (List._∷_ 116 List.[])))))))))))))))
       (Syntax.tcons
       (Syntax.tyInt Syntax.w8)
       (Syntax.tcons
@@ -5992,21 +5812,13 @@ t23 = List._∷_ (
   Rows.any-gone
       (Syntax.tyStruct
       (List._∷_
-      107
+      104
       (List._∷_
-      97
+      111
       (List._∷_
-      106
+      115
       (List._∷_
-      97
-      (List._∷_
-      107
-      (List._∷_
-      117
-      (List._∷_
-      108
-      (List._∷_
-      109
+      116
       (List._∷_
       58
       (List._∷_
@@ -6023,9 +5835,7 @@ t23 = List._∷_ (
       79
       (List._∷_
       117
-      (List._∷_
-      116
-      (List._∷_ 99 (List._∷_ 111 (List._∷_ 109 (List._∷_ 101 List.[])))))))))))))))))))))
+      (List._∷_ 116 (List._∷_ 99 (List._∷_ 111 (List._∷_ 109 (List._∷_ 101 List.[])))))))))))))))))
       (Syntax.tcons
       (Syntax.tyInt Syntax.w8)
       (Syntax.tcons
@@ -6097,21 +5907,13 @@ t23 = List._∷_ (
   Rows.any-gone
       (Syntax.tyStruct
       (List._∷_
-      107
+      104
       (List._∷_
-      97
+      111
       (List._∷_
-      106
+      115
       (List._∷_
-      97
-      (List._∷_
-      107
-      (List._∷_
-      117
-      (List._∷_
-      108
-      (List._∷_
-      109
+      116
       (List._∷_
       58
       (List._∷_
@@ -6124,9 +5926,7 @@ t23 = List._∷_ (
       115
       (List._∷_
       116
-      (List._∷_
-      83
-      (List._∷_ 116 (List._∷_ 97 (List._∷_ 114 (List._∷_ 116 List.[])))))))))))))))))))
+      (List._∷_ 83 (List._∷_ 116 (List._∷_ 97 (List._∷_ 114 (List._∷_ 116 List.[])))))))))))))))
       (Syntax.tcons
       (Syntax.tyInt Syntax.w8)
       (Syntax.tcons
@@ -6290,21 +6090,13 @@ t25 = List._∷_ (
   Rows.any-gone
       (Syntax.tyStruct
       (List._∷_
-      107
+      104
       (List._∷_
-      97
+      111
       (List._∷_
-      106
+      115
       (List._∷_
-      97
-      (List._∷_
-      107
-      (List._∷_
-      117
-      (List._∷_
-      108
-      (List._∷_
-      109
+      116
       (List._∷_
       58
       (List._∷_
@@ -6321,9 +6113,7 @@ t25 = List._∷_ (
       79
       (List._∷_
       117
-      (List._∷_
-      116
-      (List._∷_ 99 (List._∷_ 111 (List._∷_ 109 (List._∷_ 101 List.[])))))))))))))))))))))
+      (List._∷_ 116 (List._∷_ 99 (List._∷_ 111 (List._∷_ 109 (List._∷_ 101 List.[])))))))))))))))))
       (Syntax.tcons
       (Syntax.tyInt Syntax.w8)
       (Syntax.tcons
@@ -6393,21 +6183,13 @@ t25 = List._∷_ (
   Rows.any-gone
       (Syntax.tyStruct
       (List._∷_
-      107
+      104
       (List._∷_
-      97
+      111
       (List._∷_
-      106
+      115
       (List._∷_
-      97
-      (List._∷_
-      107
-      (List._∷_
-      117
-      (List._∷_
-      108
-      (List._∷_
-      109
+      116
       (List._∷_
       58
       (List._∷_
@@ -6420,9 +6202,7 @@ t25 = List._∷_ (
       115
       (List._∷_
       116
-      (List._∷_
-      83
-      (List._∷_ 116 (List._∷_ 97 (List._∷_ 114 (List._∷_ 116 List.[])))))))))))))))))))
+      (List._∷_ 83 (List._∷_ 116 (List._∷_ 97 (List._∷_ 114 (List._∷_ 116 List.[])))))))))))))))
       (Syntax.tcons
       (Syntax.tyInt Syntax.w8)
       (Syntax.tcons
@@ -6462,21 +6242,13 @@ t26 = List._∷_ (
   Rows.any-gone
       (Syntax.tyStruct
       (List._∷_
-      107
+      104
       (List._∷_
-      97
+      111
       (List._∷_
-      106
+      115
       (List._∷_
-      97
-      (List._∷_
-      107
-      (List._∷_
-      117
-      (List._∷_
-      108
-      (List._∷_
-      109
+      116
       (List._∷_
       58
       (List._∷_
@@ -6493,9 +6265,7 @@ t26 = List._∷_ (
       79
       (List._∷_
       117
-      (List._∷_
-      116
-      (List._∷_ 99 (List._∷_ 111 (List._∷_ 109 (List._∷_ 101 List.[])))))))))))))))))))))
+      (List._∷_ 116 (List._∷_ 99 (List._∷_ 111 (List._∷_ 109 (List._∷_ 101 List.[])))))))))))))))))
       (Syntax.tcons
       (Syntax.tyInt Syntax.w8)
       (Syntax.tcons
@@ -6565,21 +6335,13 @@ t26 = List._∷_ (
   Rows.any-gone
       (Syntax.tyStruct
       (List._∷_
-      107
+      104
       (List._∷_
-      97
+      111
       (List._∷_
-      106
+      115
       (List._∷_
-      97
-      (List._∷_
-      107
-      (List._∷_
-      117
-      (List._∷_
-      108
-      (List._∷_
-      109
+      116
       (List._∷_
       58
       (List._∷_
@@ -6592,9 +6354,7 @@ t26 = List._∷_ (
       115
       (List._∷_
       116
-      (List._∷_
-      83
-      (List._∷_ 116 (List._∷_ 97 (List._∷_ 114 (List._∷_ 116 List.[])))))))))))))))))))
+      (List._∷_ 83 (List._∷_ 116 (List._∷_ 97 (List._∷_ 114 (List._∷_ 116 List.[])))))))))))))))
       (Syntax.tcons
       (Syntax.tyInt Syntax.w8)
       (Syntax.tcons
@@ -7151,21 +6911,13 @@ t32 = List._∷_ (0, Rows.whole (Declared'.row HostOutcome.the-type)) (List._∷
   Rows.any-gone
       (Syntax.tyStruct
       (List._∷_
-      107
+      104
       (List._∷_
-      97
+      111
       (List._∷_
-      106
+      115
       (List._∷_
-      97
-      (List._∷_
-      107
-      (List._∷_
-      117
-      (List._∷_
-      108
-      (List._∷_
-      109
+      116
       (List._∷_
       58
       (List._∷_
@@ -7178,9 +6930,7 @@ t32 = List._∷_ (0, Rows.whole (Declared'.row HostOutcome.the-type)) (List._∷
       115
       (List._∷_
       116
-      (List._∷_
-      83
-      (List._∷_ 116 (List._∷_ 97 (List._∷_ 114 (List._∷_ 116 List.[])))))))))))))))))))
+      (List._∷_ 83 (List._∷_ 116 (List._∷_ 97 (List._∷_ 114 (List._∷_ 116 List.[])))))))))))))))
       (Syntax.tcons
       (Syntax.tyInt Syntax.w8)
       (Syntax.tcons
@@ -7267,21 +7017,13 @@ t33 = List._∷_ (0, Rows.whole (Declared'.row HostOutcome.the-type)) (List._∷
   Rows.any-gone
       (Syntax.tyStruct
       (List._∷_
-      107
+      104
       (List._∷_
-      97
+      111
       (List._∷_
-      106
+      115
       (List._∷_
-      97
-      (List._∷_
-      107
-      (List._∷_
-      117
-      (List._∷_
-      108
-      (List._∷_
-      109
+      116
       (List._∷_
       58
       (List._∷_
@@ -7294,9 +7036,7 @@ t33 = List._∷_ (0, Rows.whole (Declared'.row HostOutcome.the-type)) (List._∷
       115
       (List._∷_
       116
-      (List._∷_
-      83
-      (List._∷_ 116 (List._∷_ 97 (List._∷_ 114 (List._∷_ 116 List.[])))))))))))))))))))
+      (List._∷_ 83 (List._∷_ 116 (List._∷_ 97 (List._∷_ 114 (List._∷_ 116 List.[])))))))))))))))
       (Syntax.tcons
       (Syntax.tyInt Syntax.w8)
       (Syntax.tcons
@@ -7613,21 +7353,13 @@ t34 = List._∷_ (0, Rows.whole (Declared'.row HostOutcome.the-type)) (List._∷
   Rows.any-gone
       (Syntax.tyStruct
       (List._∷_
-      107
+      104
       (List._∷_
-      97
+      111
       (List._∷_
-      106
+      115
       (List._∷_
-      97
-      (List._∷_
-      107
-      (List._∷_
-      117
-      (List._∷_
-      108
-      (List._∷_
-      109
+      116
       (List._∷_
       58
       (List._∷_
@@ -7640,9 +7372,7 @@ t34 = List._∷_ (0, Rows.whole (Declared'.row HostOutcome.the-type)) (List._∷
       115
       (List._∷_
       116
-      (List._∷_
-      83
-      (List._∷_ 116 (List._∷_ 97 (List._∷_ 114 (List._∷_ 116 List.[])))))))))))))))))))
+      (List._∷_ 83 (List._∷_ 116 (List._∷_ 97 (List._∷_ 114 (List._∷_ 116 List.[])))))))))))))))
       (Syntax.tcons
       (Syntax.tyInt Syntax.w8)
       (Syntax.tcons
@@ -7959,21 +7689,13 @@ t35 = List._∷_ (0, Rows.whole (Declared'.row HostOutcome.the-type)) (List._∷
   Rows.any-gone
       (Syntax.tyStruct
       (List._∷_
-      107
+      104
       (List._∷_
-      97
+      111
       (List._∷_
-      106
+      115
       (List._∷_
-      97
-      (List._∷_
-      107
-      (List._∷_
-      117
-      (List._∷_
-      108
-      (List._∷_
-      109
+      116
       (List._∷_
       58
       (List._∷_
@@ -7986,9 +7708,7 @@ t35 = List._∷_ (0, Rows.whole (Declared'.row HostOutcome.the-type)) (List._∷
       115
       (List._∷_
       116
-      (List._∷_
-      83
-      (List._∷_ 116 (List._∷_ 97 (List._∷_ 114 (List._∷_ 116 List.[])))))))))))))))))))
+      (List._∷_ 83 (List._∷_ 116 (List._∷_ 97 (List._∷_ 114 (List._∷_ 116 List.[])))))))))))))))
       (Syntax.tcons
       (Syntax.tyInt Syntax.w8)
       (Syntax.tcons
@@ -8560,21 +8280,13 @@ module _ (claims· : Claims) where
       10
       (Syntax.tyStruct
       (List._∷_
-      107
+      104
       (List._∷_
-      97
+      111
       (List._∷_
-      106
+      115
       (List._∷_
-      97
-      (List._∷_
-      107
-      (List._∷_
-      117
-      (List._∷_
-      108
-      (List._∷_
-      109
+      116
       (List._∷_
       58
       (List._∷_
@@ -8587,9 +8299,7 @@ module _ (claims· : Claims) where
       115
       (List._∷_
       116
-      (List._∷_
-      83
-      (List._∷_ 116 (List._∷_ 97 (List._∷_ 114 (List._∷_ 116 List.[])))))))))))))))))))
+      (List._∷_ 83 (List._∷_ 116 (List._∷_ 97 (List._∷_ 114 (List._∷_ 116 List.[])))))))))))))))
       (Syntax.tcons
       (Syntax.tyInt Syntax.w8)
       (Syntax.tcons
@@ -9187,21 +8897,13 @@ module _ (claims· : Claims) where
       List.[]
       (Syntax.tyStruct
       (List._∷_
-      107
+      104
       (List._∷_
-      97
+      111
       (List._∷_
-      106
+      115
       (List._∷_
-      97
-      (List._∷_
-      107
-      (List._∷_
-      117
-      (List._∷_
-      108
-      (List._∷_
-      109
+      116
       (List._∷_
       58
       (List._∷_
@@ -9218,9 +8920,7 @@ module _ (claims· : Claims) where
       79
       (List._∷_
       117
-      (List._∷_
-      116
-      (List._∷_ 99 (List._∷_ 111 (List._∷_ 109 (List._∷_ 101 List.[])))))))))))))))))))))
+      (List._∷_ 116 (List._∷_ 99 (List._∷_ 111 (List._∷_ 109 (List._∷_ 101 List.[])))))))))))))))))
       (Syntax.tcons
       (Syntax.tyInt Syntax.w8)
       (Syntax.tcons
@@ -9488,13 +9188,12 @@ module _ (claims· : Claims) where
       Closed =
           (𝓤 : URA.URA M) (H : Wp.Heap 𝓤) (A : Atoms.Atoms 𝓤) (W : Kit.Given 𝓤 H A) (𝓣 : Wp.Tables
           𝓤 H) (known0 : Plain.Known 𝓤 H A W 𝓣 0 ps·0 r·0 (claims· .0) (claims· .1)
-          "kajakulm::asking_of") (known1 : Plain.Known 𝓤 H A W 𝓣 5 ps·1 r·1 (claims· .2)
-          (claims· .3) "calls::start") (known2 : Plain.Known 𝓤 H A W 𝓣 0 ps·2 r·2 (claims· .4)
-          (claims· .5) "kajakulm::answer_of") (known3 : Plain.Known 𝓤 H A W 𝓣 1 ps·3 r·3
-          (claims· .6) (claims· .7) "tally::raise") (known4 : Plain.Known 𝓤 H A W 𝓣 0 ps·4 r·4
-          (claims· .8) (claims· .9) "kajakulm::host_outcome") → Statement.Triple 𝓤 (Wp.WpFn 𝓤 H
-          (𝓣 .C) (𝓣 .Λ) (Function.fnOf 6 ps r xs m hs body)) (Function.plainOf 𝓤 H A 6 ps r Pre·
-          Post·)
+          "host::asking_of") (known1 : Plain.Known 𝓤 H A W 𝓣 5 ps·1 r·1 (claims· .2) (claims· .3)
+          "calls::start") (known2 : Plain.Known 𝓤 H A W 𝓣 0 ps·2 r·2 (claims· .4) (claims· .5)
+          "host::answer_of") (known3 : Plain.Known 𝓤 H A W 𝓣 1 ps·3 r·3 (claims· .6) (claims· .7)
+          "tally::raise") (known4 : Plain.Known 𝓤 H A W 𝓣 0 ps·4 r·4 (claims· .8) (claims· .9)
+          "host::host_outcome") → Statement.Triple 𝓤 (Wp.WpFn 𝓤 H (𝓣 .C) (𝓣 .Λ) (Function.fnOf 6 ps
+          r xs m hs body)) (Function.plainOf 𝓤 H A 6 ps r Pre· Post·)
 
     module _ where
       abbrev at0 : Typed.TF T48 O0
@@ -9648,11 +9347,11 @@ module _ (claims· : Claims) where
           (W : Kit.Given 𝓤 H A) (𝓣 : Wp.Tables 𝓤 H) where
         abbrev Knowns : Type 1
         Knowns =
-            Plain.Known 𝓤 H A W 𝓣 0 ps·0 r·0 (claims· .0) (claims· .1) "kajakulm::asking_of" ×
+            Plain.Known 𝓤 H A W 𝓣 0 ps·0 r·0 (claims· .0) (claims· .1) "host::asking_of" ×
             Plain.Known 𝓤 H A W 𝓣 5 ps·1 r·1 (claims· .2) (claims· .3) "calls::start" ×
-            Plain.Known 𝓤 H A W 𝓣 0 ps·2 r·2 (claims· .4) (claims· .5) "kajakulm::answer_of" ×
+            Plain.Known 𝓤 H A W 𝓣 0 ps·2 r·2 (claims· .4) (claims· .5) "host::answer_of" ×
             Plain.Known 𝓤 H A W 𝓣 1 ps·3 r·3 (claims· .6) (claims· .7) "tally::raise" ×
-            Plain.Known 𝓤 H A W 𝓣 0 ps·4 r·4 (claims· .8) (claims· .9) "kajakulm::host_outcome"
+            Plain.Known 𝓤 H A W 𝓣 0 ps·4 r·4 (claims· .8) (claims· .9) "host::host_outcome"
 
       module _ (κs : Lifetimes.Lfts 6) (qs : Lifetimes.Shares 6) where
         abbrev g3 : List.List Row.Entry
@@ -9661,21 +9360,13 @@ module _ (claims· : Claims) where
           Rows.any-gone
               (Syntax.tyStruct
               (List._∷_
-              107
+              104
               (List._∷_
-              97
+              111
               (List._∷_
-              106
+              115
               (List._∷_
-              97
-              (List._∷_
-              107
-              (List._∷_
-              117
-              (List._∷_
-              108
-              (List._∷_
-              109
+              116
               (List._∷_
               58
               (List._∷_
@@ -9694,7 +9385,7 @@ module _ (claims· : Claims) where
               117
               (List._∷_
               116
-              (List._∷_ 99 (List._∷_ 111 (List._∷_ 109 (List._∷_ 101 List.[])))))))))))))))))))))
+              (List._∷_ 99 (List._∷_ 111 (List._∷_ 109 (List._∷_ 101 List.[])))))))))))))))))
               (Syntax.tcons
               (Syntax.tyInt Syntax.w8)
               (Syntax.tcons
@@ -10032,21 +9723,13 @@ module _ (claims· : Claims) where
           Rows.any-gone
               (Syntax.tyStruct
               (List._∷_
-              107
+              104
               (List._∷_
-              97
+              111
               (List._∷_
-              106
+              115
               (List._∷_
-              97
-              (List._∷_
-              107
-              (List._∷_
-              117
-              (List._∷_
-              108
-              (List._∷_
-              109
+              116
               (List._∷_
               58
               (List._∷_
@@ -10065,7 +9748,7 @@ module _ (claims· : Claims) where
               117
               (List._∷_
               116
-              (List._∷_ 99 (List._∷_ 111 (List._∷_ 109 (List._∷_ 101 List.[])))))))))))))))))))))
+              (List._∷_ 99 (List._∷_ 111 (List._∷_ 109 (List._∷_ 101 List.[])))))))))))))))))
               (Syntax.tcons
               (Syntax.tyInt Syntax.w8)
               (Syntax.tcons
@@ -10399,21 +10082,13 @@ module _ (claims· : Claims) where
           Rows.any-gone
               (Syntax.tyStruct
               (List._∷_
-              107
+              104
               (List._∷_
-              97
+              111
               (List._∷_
-              106
+              115
               (List._∷_
-              97
-              (List._∷_
-              107
-              (List._∷_
-              117
-              (List._∷_
-              108
-              (List._∷_
-              109
+              116
               (List._∷_
               58
               (List._∷_
@@ -10432,7 +10107,7 @@ module _ (claims· : Claims) where
               117
               (List._∷_
               116
-              (List._∷_ 99 (List._∷_ 111 (List._∷_ 109 (List._∷_ 101 List.[])))))))))))))))))))))
+              (List._∷_ 99 (List._∷_ 111 (List._∷_ 109 (List._∷_ 101 List.[])))))))))))))))))
               (Syntax.tcons
               (Syntax.tyInt Syntax.w8)
               (Syntax.tcons
@@ -10770,21 +10445,13 @@ module _ (claims· : Claims) where
           Rows.any-gone
               (Syntax.tyStruct
               (List._∷_
-              107
+              104
               (List._∷_
-              97
+              111
               (List._∷_
-              106
+              115
               (List._∷_
-              97
-              (List._∷_
-              107
-              (List._∷_
-              117
-              (List._∷_
-              108
-              (List._∷_
-              109
+              116
               (List._∷_
               58
               (List._∷_
@@ -10803,7 +10470,7 @@ module _ (claims· : Claims) where
               117
               (List._∷_
               116
-              (List._∷_ 99 (List._∷_ 111 (List._∷_ 109 (List._∷_ 101 List.[])))))))))))))))))))))
+              (List._∷_ 99 (List._∷_ 111 (List._∷_ 109 (List._∷_ 101 List.[])))))))))))))))))
               (Syntax.tcons
               (Syntax.tyInt Syntax.w8)
               (Syntax.tcons
@@ -11139,21 +10806,13 @@ module _ (claims· : Claims) where
           Rows.any-gone
               (Syntax.tyStruct
               (List._∷_
-              107
+              104
               (List._∷_
-              97
+              111
               (List._∷_
-              106
+              115
               (List._∷_
-              97
-              (List._∷_
-              107
-              (List._∷_
-              117
-              (List._∷_
-              108
-              (List._∷_
-              109
+              116
               (List._∷_
               58
               (List._∷_
@@ -11172,7 +10831,7 @@ module _ (claims· : Claims) where
               117
               (List._∷_
               116
-              (List._∷_ 99 (List._∷_ 111 (List._∷_ 109 (List._∷_ 101 List.[])))))))))))))))))))))
+              (List._∷_ 99 (List._∷_ 111 (List._∷_ 109 (List._∷_ 101 List.[])))))))))))))))))
               (Syntax.tcons
               (Syntax.tyInt Syntax.w8)
               (Syntax.tcons
@@ -11510,21 +11169,13 @@ module _ (claims· : Claims) where
           Rows.any-gone
               (Syntax.tyStruct
               (List._∷_
-              107
+              104
               (List._∷_
-              97
+              111
               (List._∷_
-              106
+              115
               (List._∷_
-              97
-              (List._∷_
-              107
-              (List._∷_
-              117
-              (List._∷_
-              108
-              (List._∷_
-              109
+              116
               (List._∷_
               58
               (List._∷_
@@ -11543,7 +11194,7 @@ module _ (claims· : Claims) where
               117
               (List._∷_
               116
-              (List._∷_ 99 (List._∷_ 111 (List._∷_ 109 (List._∷_ 101 List.[])))))))))))))))))))))
+              (List._∷_ 99 (List._∷_ 111 (List._∷_ 109 (List._∷_ 101 List.[])))))))))))))))))
               (Syntax.tcons
               (Syntax.tyInt Syntax.w8)
               (Syntax.tcons
@@ -11883,21 +11534,13 @@ module _ (claims· : Claims) where
           Rows.any-gone
               (Syntax.tyStruct
               (List._∷_
-              107
+              104
               (List._∷_
-              97
+              111
               (List._∷_
-              106
+              115
               (List._∷_
-              97
-              (List._∷_
-              107
-              (List._∷_
-              117
-              (List._∷_
-              108
-              (List._∷_
-              109
+              116
               (List._∷_
               58
               (List._∷_
@@ -11916,7 +11559,7 @@ module _ (claims· : Claims) where
               117
               (List._∷_
               116
-              (List._∷_ 99 (List._∷_ 111 (List._∷_ 109 (List._∷_ 101 List.[])))))))))))))))))))))
+              (List._∷_ 99 (List._∷_ 111 (List._∷_ 109 (List._∷_ 101 List.[])))))))))))))))))
               (Syntax.tcons
               (Syntax.tyInt Syntax.w8)
               (Syntax.tcons
@@ -11992,21 +11635,13 @@ module _ (claims· : Claims) where
           Rows.any-gone
               (Syntax.tyStruct
               (List._∷_
-              107
+              104
               (List._∷_
-              97
+              111
               (List._∷_
-              106
+              115
               (List._∷_
-              97
-              (List._∷_
-              107
-              (List._∷_
-              117
-              (List._∷_
-              108
-              (List._∷_
-              109
+              116
               (List._∷_
               58
               (List._∷_
@@ -12021,7 +11656,7 @@ module _ (claims· : Claims) where
               116
               (List._∷_
               83
-              (List._∷_ 116 (List._∷_ 97 (List._∷_ 114 (List._∷_ 116 List.[])))))))))))))))))))
+              (List._∷_ 116 (List._∷_ 97 (List._∷_ 114 (List._∷_ 116 List.[])))))))))))))))
               (Syntax.tcons
               (Syntax.tyInt Syntax.w8)
               (Syntax.tcons
@@ -12300,21 +11935,13 @@ module _ (claims· : Claims) where
           Rows.any-gone
               (Syntax.tyStruct
               (List._∷_
-              107
+              104
               (List._∷_
-              97
+              111
               (List._∷_
-              106
+              115
               (List._∷_
-              97
-              (List._∷_
-              107
-              (List._∷_
-              117
-              (List._∷_
-              108
-              (List._∷_
-              109
+              116
               (List._∷_
               58
               (List._∷_
@@ -12333,7 +11960,7 @@ module _ (claims· : Claims) where
               117
               (List._∷_
               116
-              (List._∷_ 99 (List._∷_ 111 (List._∷_ 109 (List._∷_ 101 List.[])))))))))))))))))))))
+              (List._∷_ 99 (List._∷_ 111 (List._∷_ 109 (List._∷_ 101 List.[])))))))))))))))))
               (Syntax.tcons
               (Syntax.tyInt Syntax.w8)
               (Syntax.tcons
@@ -12409,21 +12036,13 @@ module _ (claims· : Claims) where
           Rows.any-gone
               (Syntax.tyStruct
               (List._∷_
-              107
+              104
               (List._∷_
-              97
+              111
               (List._∷_
-              106
+              115
               (List._∷_
-              97
-              (List._∷_
-              107
-              (List._∷_
-              117
-              (List._∷_
-              108
-              (List._∷_
-              109
+              116
               (List._∷_
               58
               (List._∷_
@@ -12438,7 +12057,7 @@ module _ (claims· : Claims) where
               116
               (List._∷_
               83
-              (List._∷_ 116 (List._∷_ 97 (List._∷_ 114 (List._∷_ 116 List.[])))))))))))))))))))
+              (List._∷_ 116 (List._∷_ 97 (List._∷_ 114 (List._∷_ 116 List.[])))))))))))))))
               (Syntax.tcons
               (Syntax.tyInt Syntax.w8)
               (Syntax.tcons
@@ -12478,21 +12097,13 @@ module _ (claims· : Claims) where
           Rows.any-gone
               (Syntax.tyStruct
               (List._∷_
-              107
+              104
               (List._∷_
-              97
+              111
               (List._∷_
-              106
+              115
               (List._∷_
-              97
-              (List._∷_
-              107
-              (List._∷_
-              117
-              (List._∷_
-              108
-              (List._∷_
-              109
+              116
               (List._∷_
               58
               (List._∷_
@@ -12511,7 +12122,7 @@ module _ (claims· : Claims) where
               117
               (List._∷_
               116
-              (List._∷_ 99 (List._∷_ 111 (List._∷_ 109 (List._∷_ 101 List.[])))))))))))))))))))))
+              (List._∷_ 99 (List._∷_ 111 (List._∷_ 109 (List._∷_ 101 List.[])))))))))))))))))
               (Syntax.tcons
               (Syntax.tyInt Syntax.w8)
               (Syntax.tcons
@@ -12598,21 +12209,13 @@ module _ (claims· : Claims) where
           Rows.any-gone
               (Syntax.tyStruct
               (List._∷_
-              107
+              104
               (List._∷_
-              97
+              111
               (List._∷_
-              106
+              115
               (List._∷_
-              97
-              (List._∷_
-              107
-              (List._∷_
-              117
-              (List._∷_
-              108
-              (List._∷_
-              109
+              116
               (List._∷_
               58
               (List._∷_
@@ -12627,7 +12230,7 @@ module _ (claims· : Claims) where
               116
               (List._∷_
               83
-              (List._∷_ 116 (List._∷_ 97 (List._∷_ 114 (List._∷_ 116 List.[])))))))))))))))))))
+              (List._∷_ 116 (List._∷_ 97 (List._∷_ 114 (List._∷_ 116 List.[])))))))))))))))
               (Syntax.tcons
               (Syntax.tyInt Syntax.w8)
               (Syntax.tcons
@@ -12667,21 +12270,13 @@ module _ (claims· : Claims) where
           Rows.any-gone
               (Syntax.tyStruct
               (List._∷_
-              107
+              104
               (List._∷_
-              97
+              111
               (List._∷_
-              106
+              115
               (List._∷_
-              97
-              (List._∷_
-              107
-              (List._∷_
-              117
-              (List._∷_
-              108
-              (List._∷_
-              109
+              116
               (List._∷_
               58
               (List._∷_
@@ -12700,7 +12295,7 @@ module _ (claims· : Claims) where
               117
               (List._∷_
               116
-              (List._∷_ 99 (List._∷_ 111 (List._∷_ 109 (List._∷_ 101 List.[])))))))))))))))))))))
+              (List._∷_ 99 (List._∷_ 111 (List._∷_ 109 (List._∷_ 101 List.[])))))))))))))))))
               (Syntax.tcons
               (Syntax.tyInt Syntax.w8)
               (Syntax.tcons
@@ -12785,21 +12380,13 @@ module _ (claims· : Claims) where
           Rows.any-gone
               (Syntax.tyStruct
               (List._∷_
-              107
+              104
               (List._∷_
-              97
+              111
               (List._∷_
-              106
+              115
               (List._∷_
-              97
-              (List._∷_
-              107
-              (List._∷_
-              117
-              (List._∷_
-              108
-              (List._∷_
-              109
+              116
               (List._∷_
               58
               (List._∷_
@@ -12814,7 +12401,7 @@ module _ (claims· : Claims) where
               116
               (List._∷_
               83
-              (List._∷_ 116 (List._∷_ 97 (List._∷_ 114 (List._∷_ 116 List.[])))))))))))))))))))
+              (List._∷_ 116 (List._∷_ 97 (List._∷_ 114 (List._∷_ 116 List.[])))))))))))))))
               (Syntax.tcons
               (Syntax.tyInt Syntax.w8)
               (Syntax.tcons
@@ -12857,21 +12444,13 @@ module _ (claims· : Claims) where
           Rows.any-gone
               (Syntax.tyStruct
               (List._∷_
-              107
+              104
               (List._∷_
-              97
+              111
               (List._∷_
-              106
+              115
               (List._∷_
-              97
-              (List._∷_
-              107
-              (List._∷_
-              117
-              (List._∷_
-              108
-              (List._∷_
-              109
+              116
               (List._∷_
               58
               (List._∷_
@@ -12890,7 +12469,7 @@ module _ (claims· : Claims) where
               117
               (List._∷_
               116
-              (List._∷_ 99 (List._∷_ 111 (List._∷_ 109 (List._∷_ 101 List.[])))))))))))))))))))))
+              (List._∷_ 99 (List._∷_ 111 (List._∷_ 109 (List._∷_ 101 List.[])))))))))))))))))
               (Syntax.tcons
               (Syntax.tyInt Syntax.w8)
               (Syntax.tcons
@@ -12973,21 +12552,13 @@ module _ (claims· : Claims) where
           Rows.any-gone
               (Syntax.tyStruct
               (List._∷_
-              107
+              104
               (List._∷_
-              97
+              111
               (List._∷_
-              106
+              115
               (List._∷_
-              97
-              (List._∷_
-              107
-              (List._∷_
-              117
-              (List._∷_
-              108
-              (List._∷_
-              109
+              116
               (List._∷_
               58
               (List._∷_
@@ -13002,7 +12573,7 @@ module _ (claims· : Claims) where
               116
               (List._∷_
               83
-              (List._∷_ 116 (List._∷_ 97 (List._∷_ 114 (List._∷_ 116 List.[])))))))))))))))))))
+              (List._∷_ 116 (List._∷_ 97 (List._∷_ 114 (List._∷_ 116 List.[])))))))))))))))
               (Syntax.tcons
               (Syntax.tyInt Syntax.w8)
               (Syntax.tcons
@@ -13045,21 +12616,13 @@ module _ (claims· : Claims) where
           Rows.any-gone
               (Syntax.tyStruct
               (List._∷_
-              107
+              104
               (List._∷_
-              97
+              111
               (List._∷_
-              106
+              115
               (List._∷_
-              97
-              (List._∷_
-              107
-              (List._∷_
-              117
-              (List._∷_
-              108
-              (List._∷_
-              109
+              116
               (List._∷_
               58
               (List._∷_
@@ -13078,7 +12641,7 @@ module _ (claims· : Claims) where
               117
               (List._∷_
               116
-              (List._∷_ 99 (List._∷_ 111 (List._∷_ 109 (List._∷_ 101 List.[])))))))))))))))))))))
+              (List._∷_ 99 (List._∷_ 111 (List._∷_ 109 (List._∷_ 101 List.[])))))))))))))))))
               (Syntax.tcons
               (Syntax.tyInt Syntax.w8)
               (Syntax.tcons
@@ -13159,21 +12722,13 @@ module _ (claims· : Claims) where
           Rows.any-gone
               (Syntax.tyStruct
               (List._∷_
-              107
+              104
               (List._∷_
-              97
+              111
               (List._∷_
-              106
+              115
               (List._∷_
-              97
-              (List._∷_
-              107
-              (List._∷_
-              117
-              (List._∷_
-              108
-              (List._∷_
-              109
+              116
               (List._∷_
               58
               (List._∷_
@@ -13188,7 +12743,7 @@ module _ (claims· : Claims) where
               116
               (List._∷_
               83
-              (List._∷_ 116 (List._∷_ 97 (List._∷_ 114 (List._∷_ 116 List.[])))))))))))))))))))
+              (List._∷_ 116 (List._∷_ 97 (List._∷_ 114 (List._∷_ 116 List.[])))))))))))))))
               (Syntax.tcons
               (Syntax.tyInt Syntax.w8)
               (Syntax.tcons
@@ -13231,21 +12786,13 @@ module _ (claims· : Claims) where
           Rows.any-gone
               (Syntax.tyStruct
               (List._∷_
-              107
+              104
               (List._∷_
-              97
+              111
               (List._∷_
-              106
+              115
               (List._∷_
-              97
-              (List._∷_
-              107
-              (List._∷_
-              117
-              (List._∷_
-              108
-              (List._∷_
-              109
+              116
               (List._∷_
               58
               (List._∷_
@@ -13264,7 +12811,7 @@ module _ (claims· : Claims) where
               117
               (List._∷_
               116
-              (List._∷_ 99 (List._∷_ 111 (List._∷_ 109 (List._∷_ 101 List.[])))))))))))))))))))))
+              (List._∷_ 99 (List._∷_ 111 (List._∷_ 109 (List._∷_ 101 List.[])))))))))))))))))
               (Syntax.tcons
               (Syntax.tyInt Syntax.w8)
               (Syntax.tcons
@@ -13343,21 +12890,13 @@ module _ (claims· : Claims) where
           Rows.any-gone
               (Syntax.tyStruct
               (List._∷_
-              107
+              104
               (List._∷_
-              97
+              111
               (List._∷_
-              106
+              115
               (List._∷_
-              97
-              (List._∷_
-              107
-              (List._∷_
-              117
-              (List._∷_
-              108
-              (List._∷_
-              109
+              116
               (List._∷_
               58
               (List._∷_
@@ -13372,7 +12911,7 @@ module _ (claims· : Claims) where
               116
               (List._∷_
               83
-              (List._∷_ 116 (List._∷_ 97 (List._∷_ 114 (List._∷_ 116 List.[])))))))))))))))))))
+              (List._∷_ 116 (List._∷_ 97 (List._∷_ 114 (List._∷_ 116 List.[])))))))))))))))
               (Syntax.tcons
               (Syntax.tyInt Syntax.w8)
               (Syntax.tcons
@@ -15111,7 +14650,7 @@ module _ (claims· : Claims) where
               r·4
               (claims· .8)
               (claims· .9)
-              "kajakulm::host_outcome"
+              "host::host_outcome"
               (known .4)
               E
               (λ pos β. β)
@@ -15151,21 +14690,13 @@ module _ (claims· : Claims) where
               A
               (Syntax.tyStruct
               (List._∷_
-              107
+              104
               (List._∷_
-              97
+              111
               (List._∷_
-              106
+              115
               (List._∷_
-              97
-              (List._∷_
-              107
-              (List._∷_
-              117
-              (List._∷_
-              108
-              (List._∷_
-              109
+              116
               (List._∷_
               58
               (List._∷_
@@ -15184,7 +14715,7 @@ module _ (claims· : Claims) where
               117
               (List._∷_
               116
-              (List._∷_ 99 (List._∷_ 111 (List._∷_ 109 (List._∷_ 101 List.[])))))))))))))))))))))
+              (List._∷_ 99 (List._∷_ 111 (List._∷_ 109 (List._∷_ 101 List.[])))))))))))))))))
               (Syntax.tcons
               (Syntax.tyInt Syntax.w8)
               (Syntax.tcons
@@ -15591,7 +15122,7 @@ module _ (claims· : Claims) where
               r·2
               (claims· .4)
               (claims· .5)
-              "kajakulm::answer_of"
+              "host::answer_of"
               (known .2)
               E
               (λ pos β. β)
@@ -16978,21 +16509,13 @@ module _ (claims· : Claims) where
               10
               (Syntax.tyStruct
               (List._∷_
-              107
+              104
               (List._∷_
-              97
+              111
               (List._∷_
-              106
+              115
               (List._∷_
-              97
-              (List._∷_
-              107
-              (List._∷_
-              117
-              (List._∷_
-              108
-              (List._∷_
-              109
+              116
               (List._∷_
               58
               (List._∷_
@@ -17007,7 +16530,7 @@ module _ (claims· : Claims) where
               116
               (List._∷_
               83
-              (List._∷_ 116 (List._∷_ 97 (List._∷_ 114 (List._∷_ 116 List.[])))))))))))))))))))
+              (List._∷_ 116 (List._∷_ 97 (List._∷_ 114 (List._∷_ 116 List.[])))))))))))))))
               (Syntax.tcons
               (Syntax.tyInt Syntax.w8)
               (Syntax.tcons
@@ -17025,21 +16548,13 @@ module _ (claims· : Claims) where
               (Declared'.row HostStart.the-type)
               (Syntax.tyStruct
               (List._∷_
-              107
+              104
               (List._∷_
-              97
+              111
               (List._∷_
-              106
+              115
               (List._∷_
-              97
-              (List._∷_
-              107
-              (List._∷_
-              117
-              (List._∷_
-              108
-              (List._∷_
-              109
+              116
               (List._∷_
               58
               (List._∷_
@@ -17054,7 +16569,7 @@ module _ (claims· : Claims) where
               116
               (List._∷_
               83
-              (List._∷_ 116 (List._∷_ 97 (List._∷_ 114 (List._∷_ 116 List.[])))))))))))))))))))
+              (List._∷_ 116 (List._∷_ 97 (List._∷_ 114 (List._∷_ 116 List.[])))))))))))))))
               (Syntax.tcons
               (Syntax.tyInt Syntax.w8)
               (Syntax.tcons
@@ -17094,7 +16609,7 @@ module _ (claims· : Claims) where
               r·0
               (claims· .0)
               (claims· .1)
-              "kajakulm::asking_of"
+              "host::asking_of"
               (known .0)
               E
               (λ pos β. β)
@@ -19130,31 +18645,9 @@ module _ (claims· : Claims) where
 
         module _ {M : Type 1} (𝓤 : URA.URA M) (H : Wp.Heap 𝓤) (A : Atoms.Atoms 𝓤)
             (W : Kit.Given 𝓤 H A) (𝓣 : Wp.Tables 𝓤 H)
-            (known0 : Plain.Known
-            𝓤
-            H
-            A
-            W
-            𝓣
-            0
-            ps·0
-            r·0
-            (claims· .0)
-            (claims· .1)
-            "kajakulm::asking_of")
+            (known0 : Plain.Known 𝓤 H A W 𝓣 0 ps·0 r·0 (claims· .0) (claims· .1) "host::asking_of")
             (known1 : Plain.Known 𝓤 H A W 𝓣 5 ps·1 r·1 (claims· .2) (claims· .3) "calls::start")
-            (known2 : Plain.Known
-            𝓤
-            H
-            A
-            W
-            𝓣
-            0
-            ps·2
-            r·2
-            (claims· .4)
-            (claims· .5)
-            "kajakulm::answer_of")
+            (known2 : Plain.Known 𝓤 H A W 𝓣 0 ps·2 r·2 (claims· .4) (claims· .5) "host::answer_of")
             (known3 : Plain.Known 𝓤 H A W 𝓣 1 ps·3 r·3 (claims· .6) (claims· .7) "tally::raise")
             (known4 : Plain.Known
             𝓤
@@ -19167,7 +18660,7 @@ module _ (claims· : Claims) where
             r·4
             (claims· .8)
             (claims· .9)
-            "kajakulm::host_outcome") where
+            "host::host_outcome") where
           pub spec :
               Statement.Triple
               𝓤

@@ -2,15 +2,15 @@
 use Rattle.calls.proofs.start.Met
 use Rattle.calls.proofs.Lent.start.Reads
 use Rattle.calls.proofs.start.Symbol
-use Rattle.kajakulm.proofs.answer_of.Met as Met'
-use Rattle.kajakulm.proofs.answer_of.Reads as Reads'
-use Rattle.kajakulm.proofs.answer_of.Symbol as Symbol'
-use Rattle.kajakulm.proofs.asking_of.Met as Met''
-use Rattle.kajakulm.proofs.asking_of.Reads as Reads''
-use Rattle.kajakulm.proofs.asking_of.Symbol as Symbol''
-use Rattle.kajakulm.proofs.host_outcome.Met as Met'3
-use Rattle.kajakulm.proofs.host_outcome.Reads as Reads'3
-use Rattle.kajakulm.proofs.host_outcome.Symbol as Symbol'3
+use Rattle.host.proofs.answer_of.Met as Met'
+use Rattle.host.proofs.answer_of.Reads as Reads'
+use Rattle.host.proofs.answer_of.Symbol as Symbol'
+use Rattle.host.proofs.asking_of.Met as Met''
+use Rattle.host.proofs.asking_of.Reads as Reads''
+use Rattle.host.proofs.asking_of.Symbol as Symbol''
+use Rattle.host.proofs.host_outcome.Met as Met'3
+use Rattle.host.proofs.host_outcome.Reads as Reads'3
+use Rattle.host.proofs.host_outcome.Symbol as Symbol'3
 use Rattle.kajakulm.proofs.kajakulm_start.Code
 use Rattle.kajakulm.proofs.kajakulm_start.Key
 use Rattle.kajakulm.proofs.Lent.kajakulm_start.Kinds
@@ -525,7 +525,7 @@ module _ {M : Type 1} where
       Code.env
       Symbol''.name
       Symbol''.routine
-      Code.calls-kajakulm·asking-of
+      Code.calls-host·asking-of
       (Met''.met 𝓤 H 𝓜 𝓖 𝓡))
       (Reads.known
       record { M = M; 𝓤 = 𝓤; H = H; 𝓜 = 𝓜; 𝓖 = 𝓖; 𝓡 = 𝓡 }
@@ -539,7 +539,7 @@ module _ {M : Type 1} where
       Code.env
       Symbol'.name
       Symbol'.routine
-      Code.calls-kajakulm·answer-of
+      Code.calls-host·answer-of
       (Met'.met 𝓤 H 𝓜 𝓖 𝓡))
       (Reads'5.known
       record { M = M; 𝓤 = 𝓤; H = H; 𝓜 = 𝓜; 𝓖 = 𝓖; 𝓡 = 𝓡 }
@@ -553,5 +553,5 @@ module _ {M : Type 1} where
       Code.env
       Symbol'3.name
       Symbol'3.routine
-      Code.calls-kajakulm·host-outcome
+      Code.calls-host·host-outcome
       (Met'3.met 𝓤 H 𝓜 𝓖 𝓡))

@@ -1,6 +1,6 @@
 use borrow.Author.Needs.{needs}
-use Rattle.kajakulm.proofs.host_outcome.Statement.{statement}
-use Rattle.kajakulm.proofs.host_outcome.Tie as tie
+use Rattle.host.proofs.host_outcome.Statement.{statement}
+use Rattle.host.proofs.host_outcome.Tie as tie
 
 neighbour-in-requires : tie.Need-neighbour-in-requires
 neighbour-in-requires c κs = search needs

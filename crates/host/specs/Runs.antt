@@ -13,8 +13,8 @@ use Rattle.memory.specs.Claim.{Done, Kept}
 use Rattle.row.specs.declared.InstanceRow.{InstanceRow}
 use Rattle.row.specs.declared.RouteRow.{RouteRow}
 use Rattle.finish.specs.Gives.{stateOf}
-use Rattle.kajakulm.specs.Host.{HostGives}
-use Rattle.kajakulm.specs.declared.HostOutcome.{HostOutcome}
+use Rattle.host.specs.Host.{HostGives}
+use Rattle.host.specs.declared.HostOutcome.{HostOutcome}
 
 -- What an exported call was given and what it left; a name with ' is what is lent as the call leaves it.
 pub record HostCall : Type 0 where

@@ -7,8 +7,8 @@ use Rattle.lemmas.specs.Written.{over}
 use Rattle.plain.specs.Given.{Destination}
 use Rattle.plain.specs.Tally.{cleared, raised, tallied}
 use Rattle.tally.proofs.Counts.{counted}
-use Rattle.kajakulm.specs.Host.{wayNumber, neighbourIn}
-use Rattle.kajakulm.specs.Runs.{HostCall, resultOf, toldTo, Keeps, Tallies, TallyClaim}
+use Rattle.host.specs.Host.{wayNumber, neighbourIn}
+use Rattle.host.specs.Runs.{HostCall, resultOf, toldTo, Keeps, Tallies, TallyClaim}
 
 -- ---- Demand 3
 

@@ -16,9 +16,9 @@ use Rattle.message.specs.declared.Link.{Link}
 use Rattle.finish.specs.Gives.{stateOf, Records, RouteRecords}
 use Rattle.finish.specs.declared.Outcome.{Outcome}
 use Rattle.start.specs.declared.Asking.{Asking}
-use Rattle.kajakulm.specs.declared.HostLink.{HostLink}
-use Rattle.kajakulm.specs.declared.HostStart.{HostStart}
-use Rattle.kajakulm.specs.declared.HostOutcome.{HostOutcome}
+use Rattle.host.specs.declared.HostLink.{HostLink}
+use Rattle.host.specs.declared.HostStart.{HostStart}
+use Rattle.host.specs.declared.HostOutcome.{HostOutcome}
 
 -- ---- What a host hands in
 

@@ -9,8 +9,8 @@ use Rattle.row.specs.declared.InstanceRow.{InstanceRow}
 use Rattle.row.specs.declared.RouteRow.{RouteRow}
 use Rattle.finish.specs.Gives.{Gives}
 use Rattle.finish.specs.declared.Outcome.{Outcome}
-use Rattle.kajakulm.specs.Host.{wayNumber, neighbourIn, hostOf, HostGives}
-use Rattle.kajakulm.specs.declared.HostOutcome.{HostOutcome}
+use Rattle.host.specs.Host.{wayNumber, neighbourIn, hostOf, HostGives}
+use Rattle.host.specs.declared.HostOutcome.{HostOutcome}
 
 pub told : (res : plain.Result) (rows rows' : List InstanceRow) (routes routes' : List RouteRow) (forward forward' reply reply' counts counts' : List ℕ) (r : Outcome) (h : HostOutcome)
     → Gives res rows rows' routes routes' forward forward' reply reply' r → counts' ≡ raised (answerNumber (r .answer)) counts → h ≡ hostOf r
