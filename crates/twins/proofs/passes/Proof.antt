@@ -6,10 +6,10 @@ use mathlib.Core.Path.{_≡_, sym, _∙_}
 use mathlib.Core.Bool.{false}
 use denote.Ref.{now}
 use Rattle.plain.specs.Lists.{anyTwo}
-use Rattle.twins.specs.Pair.{rowTwins}
+use Rattle.key.specs.Pair.{rowTwins}
 use borrow.Author.Count.{below-more}
-use Rattle.twins.specs.Filter.{hashRow, inClass}
-use Rattle.twins.proofs.Filter.{one-class, each-class}
+use Rattle.filter.specs.Filter.{hashRow, inClass}
+use Rattle.filter.proofs.Filter.{one-class, each-class}
 use borrow.Author.Needs.{needs}
 use Rattle.twins.proofs.passes.Statement.{statement}
 use Rattle.twins.proofs.passes.Proof.Tie as tie

@@ -7,10 +7,10 @@ use lib.ListN.{getD, take, drop}
 use Rattle.plain.specs.Lists.{any}
 use Rattle.row.specs.declared.InstanceRow.{InstanceRow}
 use Rattle.row.specs.Meaning.{noRow}
-use Rattle.twins.specs.Pair.{rowTwins}
+use Rattle.key.specs.Pair.{rowTwins}
 use lib.Seq.{getD-take}
 use Rattle.lemmas.proofs.Walk.{any-hit, any-miss, any-end}
-use Rattle.twins.proofs.Any.{first-below, first-past}
+use Rattle.key.proofs.Any.{first-below, first-past}
 use borrow.Author.Needs.{needs}
 use Rattle.twins.proofs.scan.Statement.{statement}
 use Rattle.twins.proofs.scan.Proof.Tie as tie

@@ -7,10 +7,10 @@ use lib.ListN.{getD, take, drop}
 use Rattle.plain.specs.Lists.{any}
 use Rattle.row.specs.declared.RouteRow.{RouteRow}
 use Rattle.row.specs.Meaning.{noRoute}
-use Rattle.twins.specs.Pair.{routePair}
+use Rattle.key.specs.Pair.{routePair}
 use lib.Seq.{getD-take}
 use Rattle.lemmas.proofs.Walk.{any-hit, any-miss, any-end}
-use Rattle.twins.proofs.Any.{first-below, first-past}
+use Rattle.key.proofs.Any.{first-below, first-past}
 use borrow.Author.Needs.{needs}
 use Rattle.twins.proofs.scan_routes.Statement.{statement}
 use Rattle.twins.proofs.scan_routes.Proof.Tie as tie

@@ -241,7 +241,7 @@ b9 =
 abbrev b10 : Syntax.Body
 b10 =
     Syntax.call
-    "twins::hash_route"
+    "filter::hash_route"
     (List._∷_ (Syntax.copy (Syntax.place 12 List.[])) List.[])
     (Syntax.place 5 List.[])
 
@@ -285,7 +285,7 @@ b14 =
 abbrev b15 : Syntax.Body
 b15 =
     Syntax.call
-    "twins::few_slot_of"
+    "filter::few_slot_of"
     (List._∷_ (Syntax.copy (Syntax.place 5 List.[])) List.[])
     (Syntax.place 7 List.[])
 
@@ -323,7 +323,7 @@ b20 = Syntax.assign (Syntax.place 8 List.[]) (Syntax.rvOpd (Syntax.copy (Syntax.
 abbrev b21 : Syntax.Body
 b21 =
     Syntax.call
-    "twins::maybe"
+    "filter::maybe"
     (List._∷_
     (Syntax.copy (Syntax.place 6 List.[]))
     (List._∷_
@@ -362,7 +362,7 @@ b27 = Syntax.cond (Syntax.copy (Syntax.place 17 List.[])) b25 b26
 abbrev b28 : Syntax.Body
 b28 =
     Syntax.call
-    "twins::marked"
+    "filter::marked"
     (List._∷_
     (Syntax.copy (Syntax.place 6 List.[]))
     (List._∷_
@@ -2583,13 +2583,14 @@ module _ (claims· : Claims) where
       Closed =
           (𝓤 : URA.URA M) (H : Wp.Heap 𝓤) (A : Atoms.Atoms 𝓤) (W : Kit.Given 𝓤 H A) (𝓣 : Wp.Tables
           𝓤 H) (known0 : Plain.Known 𝓤 H A W 𝓣 0 ps·0 r·0 (claims· .0) (claims· .1)
-          "twins::hash_route") (known1 : Plain.Known 𝓤 H A W 𝓣 0 ps·1 r·1 (claims· .2) (claims· .3)
-          "live::is_live_route") (known2 : Plain.Known 𝓤 H A W 𝓣 0 ps·2 r·2 (claims· .4)
-          (claims· .5) "twins::few_slot_of") (known3 : Plain.Known 𝓤 H A W 𝓣 0 ps·3 r·3
-          (claims· .6) (claims· .7) "twins::maybe") (known4 : Plain.Known 𝓤 H A W 𝓣 1 ps·4 r·4
+          "filter::hash_route") (known1 : Plain.Known 𝓤 H A W 𝓣 0 ps·1 r·1 (claims· .2)
+          (claims· .3) "live::is_live_route") (known2 : Plain.Known 𝓤 H A W 𝓣 0 ps·2 r·2
+          (claims· .4) (claims· .5) "filter::few_slot_of") (known3 : Plain.Known 𝓤 H A W 𝓣 0 ps·3
+          r·3 (claims· .6) (claims· .7) "filter::maybe") (known4 : Plain.Known 𝓤 H A W 𝓣 1 ps·4 r·4
           (claims· .8) (claims· .9) "twins::earlier_route") (known5 : Plain.Known 𝓤 H A W 𝓣 0 ps·5
-          r·5 (claims· .10) (claims· .11) "twins::marked") → Statement.Triple 𝓤 (Wp.WpFn 𝓤 H (𝓣 .C)
-          (𝓣 .Λ) (Function.fnOf 1 ps r xs m hs body)) (Function.plainOf 𝓤 H A 1 ps r Pre· Post·)
+          r·5 (claims· .10) (claims· .11) "filter::marked") → Statement.Triple 𝓤 (Wp.WpFn 𝓤 H
+          (𝓣 .C) (𝓣 .Λ) (Function.fnOf 1 ps r xs m hs body)) (Function.plainOf 𝓤 H A 1 ps r Pre·
+          Post·)
 
     module _ (Inv·0 : InvT-loop) (μ·0 : MeasureT-loop) where
       abbrev at0 : (bs : List.List Nat.ℕ) → Typed.TF T10 O4
@@ -2842,12 +2843,12 @@ module _ (claims· : Claims) where
           (W : Kit.Given 𝓤 H A) (𝓣 : Wp.Tables 𝓤 H) where
         abbrev Knowns : Type 1
         Knowns =
-            Plain.Known 𝓤 H A W 𝓣 0 ps·0 r·0 (claims· .0) (claims· .1) "twins::hash_route" ×
+            Plain.Known 𝓤 H A W 𝓣 0 ps·0 r·0 (claims· .0) (claims· .1) "filter::hash_route" ×
             Plain.Known 𝓤 H A W 𝓣 0 ps·1 r·1 (claims· .2) (claims· .3) "live::is_live_route" ×
-            Plain.Known 𝓤 H A W 𝓣 0 ps·2 r·2 (claims· .4) (claims· .5) "twins::few_slot_of" ×
-            Plain.Known 𝓤 H A W 𝓣 0 ps·3 r·3 (claims· .6) (claims· .7) "twins::maybe" ×
+            Plain.Known 𝓤 H A W 𝓣 0 ps·2 r·2 (claims· .4) (claims· .5) "filter::few_slot_of" ×
+            Plain.Known 𝓤 H A W 𝓣 0 ps·3 r·3 (claims· .6) (claims· .7) "filter::maybe" ×
             Plain.Known 𝓤 H A W 𝓣 1 ps·4 r·4 (claims· .8) (claims· .9) "twins::earlier_route" ×
-            Plain.Known 𝓤 H A W 𝓣 0 ps·5 r·5 (claims· .10) (claims· .11) "twins::marked"
+            Plain.Known 𝓤 H A W 𝓣 0 ps·5 r·5 (claims· .10) (claims· .11) "filter::marked"
 
       module _ (κs : Lifetimes.Lfts 1) (qs : Lifetimes.Shares 1) where
         abbrev G0 : Row.Cx
@@ -4098,7 +4099,7 @@ module _ (claims· : Claims) where
               r·5
               (claims· .10)
               (claims· .11)
-              "twins::marked"
+              "filter::marked"
               (known .5)
               E
               (λ pos β. β)
@@ -4229,7 +4230,7 @@ module _ (claims· : Claims) where
               r·3
               (claims· .6)
               (claims· .7)
-              "twins::maybe"
+              "filter::maybe"
               (known .3)
               E
               (λ pos β. β)
@@ -4552,7 +4553,7 @@ module _ (claims· : Claims) where
               r·2
               (claims· .4)
               (claims· .5)
-              "twins::few_slot_of"
+              "filter::few_slot_of"
               (known .2)
               E
               (λ pos β. β)
@@ -4941,7 +4942,7 @@ module _ (claims· : Claims) where
               r·0
               (claims· .0)
               (claims· .1)
-              "twins::hash_route"
+              "filter::hash_route"
               (known .0)
               E
               (λ pos β. β)
@@ -7088,7 +7089,7 @@ module _ (claims· : Claims) where
             r·0
             (claims· .0)
             (claims· .1)
-            "twins::hash_route")
+            "filter::hash_route")
             (known1 : Plain.Known
             𝓤
             H
@@ -7112,8 +7113,8 @@ module _ (claims· : Claims) where
             r·2
             (claims· .4)
             (claims· .5)
-            "twins::few_slot_of")
-            (known3 : Plain.Known 𝓤 H A W 𝓣 0 ps·3 r·3 (claims· .6) (claims· .7) "twins::maybe")
+            "filter::few_slot_of")
+            (known3 : Plain.Known 𝓤 H A W 𝓣 0 ps·3 r·3 (claims· .6) (claims· .7) "filter::maybe")
             (known4 : Plain.Known
             𝓤
             H
@@ -7137,7 +7138,7 @@ module _ (claims· : Claims) where
             r·5
             (claims· .10)
             (claims· .11)
-            "twins::marked") where
+            "filter::marked") where
           pub spec :
               Statement.Triple
               𝓤

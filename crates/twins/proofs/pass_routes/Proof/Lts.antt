@@ -256,7 +256,7 @@ b9 =
 abbrev b10 : Syntax.Body
 b10 =
     Syntax.call
-    "twins::hash_route"
+    "filter::hash_route"
     (List._∷_ (Syntax.copy (Syntax.place 14 List.[])) List.[])
     (Syntax.place 7 List.[])
 
@@ -300,7 +300,7 @@ b14 =
 abbrev b15 : Syntax.Body
 b15 =
     Syntax.call
-    "twins::is_chosen"
+    "filter::is_chosen"
     (List._∷_
     (Syntax.copy (Syntax.place 3 List.[]))
     (List._∷_
@@ -313,7 +313,7 @@ b15 =
 abbrev b16 : Syntax.Body
 b16 =
     Syntax.call
-    "twins::slot_of"
+    "filter::slot_of"
     (List._∷_ (Syntax.copy (Syntax.place 7 List.[])) List.[])
     (Syntax.place 9 List.[])
 
@@ -352,7 +352,7 @@ b21 =
 abbrev b22 : Syntax.Body
 b22 =
     Syntax.call
-    "twins::maybe"
+    "filter::maybe"
     (List._∷_
     (Syntax.copy (Syntax.place 8 List.[]))
     (List._∷_
@@ -391,7 +391,7 @@ b28 = Syntax.cond (Syntax.copy (Syntax.place 19 List.[])) b26 b27
 abbrev b29 : Syntax.Body
 b29 =
     Syntax.call
-    "twins::marked"
+    "filter::marked"
     (List._∷_
     (Syntax.copy (Syntax.place 8 List.[]))
     (List._∷_
@@ -2730,14 +2730,15 @@ module _ (claims· : Claims) where
       Closed =
           (𝓤 : URA.URA M) (H : Wp.Heap 𝓤) (A : Atoms.Atoms 𝓤) (W : Kit.Given 𝓤 H A) (𝓣 : Wp.Tables
           𝓤 H) (known0 : Plain.Known 𝓤 H A W 𝓣 0 ps·0 r·0 (claims· .0) (claims· .1)
-          "twins::hash_route") (known1 : Plain.Known 𝓤 H A W 𝓣 0 ps·1 r·1 (claims· .2) (claims· .3)
-          "live::is_live_route") (known2 : Plain.Known 𝓤 H A W 𝓣 0 ps·2 r·2 (claims· .4)
-          (claims· .5) "twins::is_chosen") (known3 : Plain.Known 𝓤 H A W 𝓣 0 ps·3 r·3 (claims· .6)
-          (claims· .7) "twins::slot_of") (known4 : Plain.Known 𝓤 H A W 𝓣 0 ps·4 r·4 (claims· .8)
-          (claims· .9) "twins::maybe") (known5 : Plain.Known 𝓤 H A W 𝓣 1 ps·5 r·5 (claims· .10)
-          (claims· .11) "twins::earlier_route") (known6 : Plain.Known 𝓤 H A W 𝓣 0 ps·6 r·6
-          (claims· .12) (claims· .13) "twins::marked") → Statement.Triple 𝓤 (Wp.WpFn 𝓤 H (𝓣 .C)
-          (𝓣 .Λ) (Function.fnOf 1 ps r xs m hs body)) (Function.plainOf 𝓤 H A 1 ps r Pre· Post·)
+          "filter::hash_route") (known1 : Plain.Known 𝓤 H A W 𝓣 0 ps·1 r·1 (claims· .2)
+          (claims· .3) "live::is_live_route") (known2 : Plain.Known 𝓤 H A W 𝓣 0 ps·2 r·2
+          (claims· .4) (claims· .5) "filter::is_chosen") (known3 : Plain.Known 𝓤 H A W 𝓣 0 ps·3 r·3
+          (claims· .6) (claims· .7) "filter::slot_of") (known4 : Plain.Known 𝓤 H A W 𝓣 0 ps·4 r·4
+          (claims· .8) (claims· .9) "filter::maybe") (known5 : Plain.Known 𝓤 H A W 𝓣 1 ps·5 r·5
+          (claims· .10) (claims· .11) "twins::earlier_route") (known6 : Plain.Known 𝓤 H A W 𝓣 0
+          ps·6 r·6 (claims· .12) (claims· .13) "filter::marked") → Statement.Triple 𝓤 (Wp.WpFn 𝓤 H
+          (𝓣 .C) (𝓣 .Λ) (Function.fnOf 1 ps r xs m hs body)) (Function.plainOf 𝓤 H A 1 ps r Pre·
+          Post·)
 
     module _ (Inv·0 : InvT-loop) (μ·0 : MeasureT-loop) where
       abbrev at0 : (bs : List.List Nat.ℕ) → Typed.TF T10 O4
@@ -3012,13 +3013,13 @@ module _ (claims· : Claims) where
           (W : Kit.Given 𝓤 H A) (𝓣 : Wp.Tables 𝓤 H) where
         abbrev Knowns : Type 1
         Knowns =
-            Plain.Known 𝓤 H A W 𝓣 0 ps·0 r·0 (claims· .0) (claims· .1) "twins::hash_route" ×
+            Plain.Known 𝓤 H A W 𝓣 0 ps·0 r·0 (claims· .0) (claims· .1) "filter::hash_route" ×
             Plain.Known 𝓤 H A W 𝓣 0 ps·1 r·1 (claims· .2) (claims· .3) "live::is_live_route" ×
-            Plain.Known 𝓤 H A W 𝓣 0 ps·2 r·2 (claims· .4) (claims· .5) "twins::is_chosen" ×
-            Plain.Known 𝓤 H A W 𝓣 0 ps·3 r·3 (claims· .6) (claims· .7) "twins::slot_of" ×
-            Plain.Known 𝓤 H A W 𝓣 0 ps·4 r·4 (claims· .8) (claims· .9) "twins::maybe" ×
+            Plain.Known 𝓤 H A W 𝓣 0 ps·2 r·2 (claims· .4) (claims· .5) "filter::is_chosen" ×
+            Plain.Known 𝓤 H A W 𝓣 0 ps·3 r·3 (claims· .6) (claims· .7) "filter::slot_of" ×
+            Plain.Known 𝓤 H A W 𝓣 0 ps·4 r·4 (claims· .8) (claims· .9) "filter::maybe" ×
             Plain.Known 𝓤 H A W 𝓣 1 ps·5 r·5 (claims· .10) (claims· .11) "twins::earlier_route" ×
-            Plain.Known 𝓤 H A W 𝓣 0 ps·6 r·6 (claims· .12) (claims· .13) "twins::marked"
+            Plain.Known 𝓤 H A W 𝓣 0 ps·6 r·6 (claims· .12) (claims· .13) "filter::marked"
 
       module _ (κs : Lifetimes.Lfts 1) (qs : Lifetimes.Shares 1) where
         abbrev G0 : Row.Cx
@@ -4377,7 +4378,7 @@ module _ (claims· : Claims) where
               r·6
               (claims· .12)
               (claims· .13)
-              "twins::marked"
+              "filter::marked"
               (known .6)
               E
               (λ pos β. β)
@@ -4508,7 +4509,7 @@ module _ (claims· : Claims) where
               r·4
               (claims· .8)
               (claims· .9)
-              "twins::maybe"
+              "filter::maybe"
               (known .4)
               E
               (λ pos β. β)
@@ -4831,7 +4832,7 @@ module _ (claims· : Claims) where
               r·3
               (claims· .6)
               (claims· .7)
-              "twins::slot_of"
+              "filter::slot_of"
               (known .3)
               E
               (λ pos β. β)
@@ -4891,7 +4892,7 @@ module _ (claims· : Claims) where
               r·2
               (claims· .4)
               (claims· .5)
-              "twins::is_chosen"
+              "filter::is_chosen"
               (known .2)
               E
               (λ pos β. β)
@@ -5290,7 +5291,7 @@ module _ (claims· : Claims) where
               r·0
               (claims· .0)
               (claims· .1)
-              "twins::hash_route"
+              "filter::hash_route"
               (known .0)
               E
               (λ pos β. β)
@@ -7657,7 +7658,7 @@ module _ (claims· : Claims) where
             r·0
             (claims· .0)
             (claims· .1)
-            "twins::hash_route")
+            "filter::hash_route")
             (known1 : Plain.Known
             𝓤
             H
@@ -7681,9 +7682,9 @@ module _ (claims· : Claims) where
             r·2
             (claims· .4)
             (claims· .5)
-            "twins::is_chosen")
-            (known3 : Plain.Known 𝓤 H A W 𝓣 0 ps·3 r·3 (claims· .6) (claims· .7) "twins::slot_of")
-            (known4 : Plain.Known 𝓤 H A W 𝓣 0 ps·4 r·4 (claims· .8) (claims· .9) "twins::maybe")
+            "filter::is_chosen")
+            (known3 : Plain.Known 𝓤 H A W 𝓣 0 ps·3 r·3 (claims· .6) (claims· .7) "filter::slot_of")
+            (known4 : Plain.Known 𝓤 H A W 𝓣 0 ps·4 r·4 (claims· .8) (claims· .9) "filter::maybe")
             (known5 : Plain.Known
             𝓤
             H
@@ -7707,7 +7708,7 @@ module _ (claims· : Claims) where
             r·6
             (claims· .12)
             (claims· .13)
-            "twins::marked") where
+            "filter::marked") where
           pub spec :
               Statement.Triple
               𝓤

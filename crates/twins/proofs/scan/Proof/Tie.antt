@@ -1,7 +1,7 @@
 -- Made by tools/lend.py of the twin of `scan`: do not edit.
-use Rattle.twins.proofs.are_twins.Met
-use Rattle.twins.proofs.are_twins.Reads
-use Rattle.twins.proofs.are_twins.Symbol
+use Rattle.key.proofs.are_twins.Met
+use Rattle.key.proofs.are_twins.Reads
+use Rattle.key.proofs.are_twins.Symbol
 use Rattle.twins.proofs.scan.Code
 use Rattle.twins.proofs.scan.Key
 use Rattle.twins.proofs.Lent.scan.Kinds
@@ -150,5 +150,5 @@ module _ {M : Type 1} where
       Code.env
       Symbol.name
       Symbol.routine
-      Code.calls-twins·are-twins
+      Code.calls-key·are-twins
       (Met.met 𝓤 H 𝓜 𝓖 𝓡))

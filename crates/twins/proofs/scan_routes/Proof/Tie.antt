@@ -1,7 +1,7 @@
 -- Made by tools/lend.py of the twin of `scan_routes`: do not edit.
-use Rattle.twins.proofs.are_twin_routes.Met
-use Rattle.twins.proofs.are_twin_routes.Reads
-use Rattle.twins.proofs.are_twin_routes.Symbol
+use Rattle.key.proofs.are_twin_routes.Met
+use Rattle.key.proofs.are_twin_routes.Reads
+use Rattle.key.proofs.are_twin_routes.Symbol
 use Rattle.twins.proofs.scan_routes.Code
 use Rattle.twins.proofs.scan_routes.Key
 use Rattle.twins.proofs.Lent.scan_routes.Kinds
@@ -174,5 +174,5 @@ module _ {M : Type 1} where
       Code.env
       Symbol.name
       Symbol.routine
-      Code.calls-twins·are-twin-routes
+      Code.calls-key·are-twin-routes
       (Met.met 𝓤 H 𝓜 𝓖 𝓡))

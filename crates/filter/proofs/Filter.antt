@@ -1,0 +1,180 @@
+-- The soundness of the filter: where it has no mark for a row's hash, no earlier row that was marked has the row's key.
+use Prim.Native.Nat.{ℕ, _+_, _<_, _/_, _%_}
+use mathlib.Core.Path.{_≡_, refl, sym, _∙_}
+use mathlib.Core.Bool.{Bool, true, false, cond, _||_}
+use mathlib.Core.List.{List, [], _∷_}
+use mathlib.Core.Logic.{⊎-elim}
+use native.Mathlib.Omega.{arith}
+use native.Mathlib.Nat.{eq-or-lt-of-le}
+use lib.Dec.{eqb}
+use lib.Bits.{bitOr, bitAnd, and-le-r}
+use lib.ListN.{length, getD, set, take, length-take}
+use lib.Seq.{getD-set-same, getD-set-other, getD-take}
+use borrow.Author.Tests.{eqb-true, eqb-false, eq-eqb}
+use Rattle.plain.specs.Lists.{any, anyTwo}
+use Rattle.lemmas.proofs.Choice.{true-false, or-left, or-right, or-neither}
+use Rattle.table.proofs.Found.{cond-true}
+use Rattle.filter.specs.Filter.{bitsOf, hasBits, maybeOf, markedOf, classOf, chosenOf, inClass}
+use Rattle.key.proofs.Any.{not-so, so, any-false, any-not, two-less}
+use Rattle.filter.proofs.Words.{or-has, or-keeps}
+
+-- ---- words
+
+marks : (w h : ℕ) → hasBits (markedOf true w h) h ≡ true
+unfolding hasBits markedOf
+marks w h = eq-eqb _ _ (or-has w (bitsOf h))
+
+stays : (on : Bool) (w h g : ℕ) → hasBits w g ≡ true → hasBits (markedOf on w h) g ≡ true
+unfolding hasBits markedOf
+stays true w h g e = eq-eqb _ _ (or-keeps w (bitsOf g) (bitsOf h) (eqb-true (bitOr w (bitsOf g)) w e))
+stays false w h g e = e
+
+-- the words have the mark of a hash, of which `slot` tells the word
+abbrev pub has : (ℕ → ℕ) → List ℕ → ℕ → Bool
+has slot ws h = hasBits (getD ws (slot h) 0) h
+
+-- ---- one pass over rows of any kind
+
+-- Rows of a table: of a hash is asked only that twins have one, and of twins that both are live.
+pub record Kind : Type 1 where
+  pub Row : Type 0
+  -- what is read past the end
+  pub none : Row
+  pub hash : Row → ℕ
+  pub live : Row → Bool
+  pub twins : Row → Row → Bool
+  pub joins : (a b : Row) → twins a b ≡ true → (live a ≡ true) × (live b ≡ true) × (hash a ≡ hash b)
+
+module _ (slot : ℕ → ℕ) (K : Kind) (mask p : ℕ) (rows : List (K .Row)) where
+  abbrev pub row : ℕ → K .Row
+  row k = getD rows k (K .none)
+
+  -- row j has a twin before it, and one of the pass's class
+  abbrev pub earlierTwin : ℕ → Bool
+  earlierTwin j = any (λ (a : K .Row). K .twins a (row j)) (take j rows)
+
+  abbrev pub earlierIn : ℕ → Bool
+  earlierIn j = any (λ (a : K .Row). inClass (K .hash) mask p (K .twins) a (row j)) (take j rows)
+
+  abbrev pub chosen : K .Row → Bool
+  chosen r = chosenOf mask p (K .live r) (K .hash r)
+
+  -- every chosen row before j has its mark
+  pub Holds : ℕ → List ℕ → Type 0
+  Holds j ws = (k : ℕ) → k < j → chosen (row k) ≡ true → has slot ws (K .hash (row k)) ≡ true
+
+  pub none-held : (ws : List ℕ) → Holds 0 ws
+  unfolding Holds
+  none-held ws k l = absurd (omega arith)
+
+  -- no mark, or a mark and no earlier twin: no earlier twin of the class
+  miss : (j : ℕ) (ws : List ℕ) → j < length rows → Holds j ws
+      → cond (maybeOf (chosen (row j)) (getD ws (slot (K .hash (row j))) 0) (K .hash (row j)))
+      (earlierTwin j) false ≡ false
+      → earlierIn j ≡ false
+  unfolding maybeOf Holds inClass chosenOf
+  miss j ws low holds e =
+      any-false (λ (a : K .Row). inClass (K .hash) mask p (K .twins) a (row j)) (take j rows) (K .none) (λ k l. not-so _ (λ w. twin-not k l w))
+    where
+      twin-not : (k : ℕ) → k < length (take j rows) → inClass (K .hash) mask p (K .twins) (getD (take j rows) k (K .none)) (row j) ≡ true → ⊥
+      twin-not k l w =
+          let b : k < j = omega (arith, length-take j rows) in
+          let row-k : getD (take j rows) k (K .none) ≡ row k = getD-take j rows k (K .none) b in
+          let q = cond-true (eqb (classOf mask (K .hash (row j))) p) (K .twins (getD (take j rows) k (K .none)) (row j)) w in
+          let tw : K .twins (row k) (row j) ≡ true = rw row-k at (q .1) in
+          let s = K .joins (row k) (row j) tw in
+          let c : chosen (row k) ≡ true = rw (s .0, s .2, q .0) in
+          let m : has slot ws (K .hash (row j)) ≡ true = rw (s .2) at (holds k b c) in
+          let f : earlierTwin j ≡ false = rw (s .1, q .0, m) at e in
+          let g = any-not (λ (a : K .Row). K .twins a (row j)) (take j rows) (K .none) f k l in
+          true-false (sym (q .1) ∙ g)
+
+  -- a twin was found of a row that is chosen
+  hit : (j : ℕ) (w : ℕ) → cond (maybeOf (chosen (row j)) w (K .hash (row j))) (earlierTwin j) false ≡ true
+      → earlierIn j ≡ true
+  unfolding maybeOf inClass chosenOf
+  hit j w e =
+      let q = cond-true _ (earlierTwin j) e in
+      let r = cond-true (chosen (row j)) (hasBits w (K .hash (row j))) (q .0) in
+      let s = cond-true (K .live (row j)) (eqb (classOf mask (K .hash (row j))) p) (r .0) in
+      rw (s .1) (q .1)
+
+  -- its own mark is set, and the others stay
+  keep : (j : ℕ) (ws : List ℕ) → slot (K .hash (row j)) < length ws → Holds j ws
+      → Holds (j + 1) (set ws (slot (K .hash (row j))) (markedOf (chosen (row j)) (getD ws (slot (K .hash (row j))) 0) (K .hash (row j))))
+  unfolding Holds
+  keep j ws room holds k l c =
+      ⊎-elim
+      (λ (e : k ≡ j).
+      let on : chosen (row j) ≡ true = rw e at c in
+      rw (e, getD-set-same ws _ _ 0 room, on) (marks _ _))
+      (λ (m : k < j). go m (eqb (slot (K .hash (row k))) (slot (K .hash (row j)))) refl)
+      (eq-or-lt-of-le (omega arith))
+    where
+      go : k < j → (b : Bool) → eqb (slot (K .hash (row k))) (slot (K .hash (row j))) ≡ b
+          → has slot
+          (set ws (slot (K .hash (row j))) (markedOf (chosen (row j)) (getD ws (slot (K .hash (row j))) 0) (K .hash (row j))))
+          (K .hash (row k)) ≡ true
+      go m true q =
+          let e : slot (K .hash (row k)) ≡ slot (K .hash (row j)) = eqb-true (slot (K .hash (row k))) (slot (K .hash (row j))) q in
+          rw (e, getD-set-same ws _ _ 0 room) (stays _ _ _ _ (rw e at (holds k m c)))
+      go m false q =
+          rw (getD-set-other ws _ _ _ 0 (eqb-false (slot (K .hash (row k))) (slot (K .hash (row j))) q)) (holds k m c)
+
+  -- the same with a name for each thing that the code computes on the way
+  module _ (j h s x : ℕ) (v on m b : Bool) (ws : List ℕ)
+      (hashed : h ≡ K .hash (row j)) (lives : v ≡ K .live (row j)) (chose : on ≡ chosenOf mask p v h) (placed : s ≡ slot h) where
+    chose-is : on ≡ chosen (row j)
+    chose-is = chose ∙ rw (hashed, lives)
+
+    pub pass-miss : j < length rows → Holds j ws → m ≡ maybeOf on (getD ws s 0) h → b ≡ cond m (earlierTwin j) false
+        → b ≡ false → earlierIn j ≡ false
+    pass-miss low holds e f g = miss j ws low holds (rw (← chose-is, ← hashed, ← placed, ← e) (sym f ∙ g))
+
+    pub pass-keep : Holds j ws → s < length ws → x ≡ markedOf on (getD ws s 0) h → Holds (j + 1) (set ws s x)
+    pass-keep holds room e = rw (e, chose-is, placed, hashed) (keep j ws (rw (← hashed, ← placed) room) holds)
+
+    pub pass-hit : m ≡ maybeOf on (getD ws s 0) h → b ≡ cond m (earlierTwin j) false → b ≡ true
+        → earlierIn j ≡ true
+    pass-hit e f g = hit j (getD ws s 0) (rw (← chose-is, ← hashed, ← e) (sym f ∙ g))
+
+-- ---- a pass for each class
+
+module _ {R : Type 0} (hash : R → ℕ) (twins : R → R → Bool) (mask : ℕ) where
+  any-class : (x : R) (ys : List R) → ((q : ℕ) → q < mask + 1 → any (inClass hash mask q twins x) ys ≡ false) → any (twins x) ys ≡ false
+  unfolding any inClass classOf
+  any-class x [] f = refl
+  any-class x (y ∷ ys) f =
+      let c = classOf mask (hash y) in
+      let e : inClass hash mask c twins x y || any (inClass hash mask c twins x) ys ≡ false =
+      f c (omega (arith, and-le-r (hash y / 65536 % 65536) mask)) in
+      let g : inClass hash mask c twins x y ≡ false = or-left (inClass hash mask c twins x y) (any (inClass hash mask c twins x) ys) e in
+      or-neither (twins x y) (any (twins x) ys) (rw (eq-eqb c c refl) at g)
+      (any-class x ys (λ q l. or-right (inClass hash mask q twins x y) (any (inClass hash mask q twins x) ys) (f q l)))
+
+  -- every row is of one of the classes
+  pub each-class : (rows : List R) → ((q : ℕ) → q < mask + 1 → anyTwo (inClass hash mask q twins) rows ≡ false) → anyTwo twins rows ≡ false
+  unfolding anyTwo
+  each-class [] f = refl
+  each-class (r ∷ rows) f =
+      or-neither (any (twins r) rows) (anyTwo twins rows)
+      (any-class r rows (λ q l. or-left (any (inClass hash mask q twins r) rows) (anyTwo (inClass hash mask q twins) rows) (f q l)))
+      (each-class rows (λ q l. or-right (any (inClass hash mask q twins r) rows) (anyTwo (inClass hash mask q twins) rows) (f q l)))
+
+  pub one-class : (q : ℕ) (rows : List R) → anyTwo (inClass hash mask q twins) rows ≡ true → anyTwo twins rows ≡ true
+  unfolding inClass
+  one-class q rows e =
+      so (anyTwo twins rows) (λ n. true-false (sym e
+      ∙ two-less (inClass hash mask q twins) twins (λ a b w. cond-true (eqb (classOf mask (hash b)) q) (twins a b) w .1) rows n))
+
+-- ---- one class for all
+
+-- every row is of the one class
+pub one-chosen : (v : Bool) (h : ℕ) → v ≡ chosenOf 0 0 v h
+unfolding chosenOf classOf
+one-chosen true h = sym (eq-eqb (bitAnd (h / 65536 % 65536) 0) 0 (omega (arith, and-le-r (h / 65536 % 65536) 0)))
+one-chosen false h = refl
+
+pub all-class : {R : Type 0} (hash : R → ℕ) (twins : R → R → Bool) (rows : List R) → anyTwo (inClass hash 0 0 twins) rows ≡ false
+    → anyTwo twins rows ≡ false
+all-class hash twins rows e = each-class hash twins 0 rows (λ q l. let z : q ≡ 0 = omega arith in rw z e)

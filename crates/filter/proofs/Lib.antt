@@ -1,0 +1,3 @@
+pub mod Filter
+pub mod Joins
+pub mod Words

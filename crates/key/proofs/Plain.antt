@@ -1,0 +1,209 @@
+-- Twins among records are twins among the live rows of the plain node's tables.
+use Prim.Native.Nat.{ℕ, suc, _+_}
+use mathlib.Core.Path.{_≡_, refl, sym, _∙_}
+use mathlib.Core.Bool.{Bool, true, false, cond, _&&_, _||_}
+use mathlib.Core.List.{List, [], _∷_, _++_, map}
+use mathlib.Core.Option.{Option, some, none}
+use mathlib.Core.Logic.{_⊎_, inl, inr}
+use lib.Dec.{eqb}
+use borrow.Author.Tests.{eqb-true}
+use Rattle.plain.specs.Lists.{any, anyTwo, same}
+use Rattle.plain.specs.Given.{RequestRow, ReplyRow, Instance, Route}
+use Rattle.plain.specs.Table.{Numbered, live, liveFrom, liveRows, instanceDeadline, routeDeadline}
+use Rattle.plain.specs.Answers.{requests, replies, requestTwins, replyTwins, routeTwins}
+use Rattle.lemmas.proofs.Choice.{true-false}
+use Rattle.row.specs.Meaning.{instanceOf, routeOf, requestOf, replyOf, routeIn}
+use Rattle.live.specs.Look.{partOf, held, asRequest, asReply}
+use Rattle.live.proofs.Laws.{request-part, reply-part, route-part}
+use Rattle.row.specs.declared.InstanceRow.{InstanceRow}
+use Rattle.row.specs.declared.RouteRow.{RouteRow}
+use Rattle.table.proofs.Found.{asPart, parts, seen, parts-cons, requests-are, replies-are, routes-are}
+use Rattle.key.specs.Pair.{sameKey, rowTwins, sameThree, routePair}
+use Rattle.key.proofs.Any.{or-none, two-same, two-either}
+
+-- ---- keys compared by their addresses first
+
+pub key-far : (a b : InstanceRow) → same (a .dodagid) (b .dodagid) ≡ false → sameKey a b ≡ false
+unfolding sameKey
+key-far a b e = rw e (go (eqb (a .kind) (b .kind)) (eqb (a .instance) (b .instance)))
+  where
+    go : (k i : Bool) → k && (i && false) ≡ false
+    go true true = refl
+    go true false = refl
+    go false i = refl
+
+pub key-near : (a b : InstanceRow) → eqb (a .kind) (b .kind) ≡ true → same (a .dodagid) (b .dodagid) ≡ true
+    → sameKey a b ≡ eqb (a .instance) (b .instance)
+unfolding sameKey
+key-near a b k e = rw (k, e) (go (eqb (a .instance) (b .instance)))
+  where
+    go : (i : Bool) → true && (i && true) ≡ i
+    go true = refl
+    go false = refl
+
+pub three-far : (a b : RouteRow) → same (a .destination) (b .destination) ≡ false → sameThree a b ≡ false
+unfolding sameThree
+three-far a b e = rw e (go (same (a .source) (b .source)))
+  where
+    go : (s : Bool) → s && false && eqb (a .instance) (b .instance) ≡ false
+    go true = refl
+    go false = refl
+
+-- ---- what is said of the live rows of a kind is said of the records
+
+-- both are there, and are so
+abbrev both : {B : Type 0} → (B → B → Bool) → Option B → Option B → Bool
+both q none o = false
+both q (some a) o = held (q a) o
+
+any-never : {R : Type 0} (rows : List R) → any (λ (r : R). false) rows ≡ false
+unfolding any
+any-never [] = refl
+any-never (r ∷ rows) = any-never rows
+
+module _ {R A B : Type 0} (read : R → Option A) (deadline : A → Option ℕ) (part : A → Option B) (c : ℕ) where
+  any-seen : (f : B → Bool) (i : ℕ) (rows : List R)
+      → any (λ (n : Numbered B). f (n .row)) (parts part (liveFrom deadline c i (map read rows)))
+      ≡ any (λ (r : R). held f (seen deadline part c (read r))) rows
+  unfolding any parts liveFrom
+  any-seen f i [] = refl
+  any-seen f i (r ∷ rows) = rw (parts-cons deadline part c i (read r) (map read rows)) (go (seen deadline part c (read r)) (any-seen f (suc i) rows))
+    where
+      go : (x : Option B)
+          → any (λ (n : Numbered B). f (n .row)) (parts part (liveFrom deadline c (suc i) (map read rows)))
+          ≡ any (λ (r : R). held f (seen deadline part c (read r))) rows
+          → any (λ (n : Numbered B). f (n .row)) (asPart i x ++ parts part (liveFrom deadline c (suc i) (map read rows)))
+          ≡ held f x || any (λ (r : R). held f (seen deadline part c (read r))) rows
+      go none e = e
+      go (some b) e = rw e
+
+  two-seen : (q : B → B → Bool) (i : ℕ) (rows : List R)
+      → anyTwo (λ (n m : Numbered B). q (n .row) (m .row)) (parts part (liveFrom deadline c i (map read rows)))
+      ≡ anyTwo (λ (a b : R). both q (seen deadline part c (read a)) (seen deadline part c (read b))) rows
+  unfolding anyTwo parts liveFrom
+  two-seen q i [] = refl
+  two-seen q i (r ∷ rows) = rw (parts-cons deadline part c i (read r) (map read rows)) (go (seen deadline part c (read r)) (two-seen q (suc i) rows))
+    where
+      go : (x : Option B)
+          → anyTwo (λ (n m : Numbered B). q (n .row) (m .row)) (parts part (liveFrom deadline c (suc i) (map read rows)))
+          ≡ anyTwo (λ (a b : R). both q (seen deadline part c (read a)) (seen deadline part c (read b))) rows
+          → anyTwo (λ (n m : Numbered B). q (n .row) (m .row)) (asPart i x ++ parts part (liveFrom deadline c (suc i) (map read rows)))
+          ≡ any (λ (b : R). both q x (seen deadline part c (read b))) rows
+          || anyTwo (λ (a b : R). both q (seen deadline part c (read a)) (seen deadline part c (read b))) rows
+      go none e = rw (any-never rows) e
+      go (some a) e = rw (any-seen (q a) (suc i) rows, e)
+
+-- ---- instance rows
+
+both-none : {B : Type 0} (q : B → B → Bool) (o : Option B) → both q o none ≡ false
+both-none q none = refl
+both-none q (some b) = refl
+
+cond-false : (k : Bool) → cond k false false ≡ false
+cond-false true = refl
+cond-false false = refl
+
+cond-self : (k : Bool) → k ≡ cond k true false
+cond-self true = refl
+cond-self false = refl
+
+-- a live row is of one of the two kinds
+live-kind : (t : ℕ) (r : InstanceRow) → live instanceDeadline t (instanceOf r) ≡ true → (r .kind ≡ 1) ⊎ (r .kind ≡ 2)
+unfolding instanceOf
+live-kind t r = go (eqb (r .kind) 1) refl (eqb (r .kind) 2) refl
+  where
+    go : (x : Bool) → eqb (r .kind) 1 ≡ x → (y : Bool) → eqb (r .kind) 2 ≡ y
+        → live instanceDeadline t (cond x (some (Instance.request (requestOf r))) (cond y (some (Instance.reply (replyOf r))) none)) ≡ true
+        → (r .kind ≡ 1) ⊎ (r .kind ≡ 2)
+    go true e y f l = inl (eqb-true (r .kind) 1 e)
+    go false e true f l = inr (eqb-true (r .kind) 2 f)
+    go false e false f l = true-false (sym l)
+
+live-route : (t : ℕ) (r : RouteRow) → live routeDeadline t (routeOf r) ≡ true → r .kind ≡ 1
+unfolding routeOf
+live-route t r = go (eqb (r .kind) 1) refl
+  where
+    go : (x : Bool) → eqb (r .kind) 1 ≡ x → live routeDeadline t (cond x (some (routeIn r)) none) ≡ true → r .kind ≡ 1
+    go true e l = eqb-true (r .kind) 1 e
+    go false e l = true-false (sym l)
+
+abbrev sameRequest : RequestRow → RequestRow → Bool
+sameRequest a b = eqb (a .instance) (b .instance) && same (a .dodagid) (b .dodagid)
+
+abbrev sameReply : ReplyRow → ReplyRow → Bool
+sameReply a b = eqb (a .instance) (b .instance) && same (a .dodagid) (b .dodagid)
+
+module _ (t : ℕ) (a b : InstanceRow) where
+  -- both live: their kinds are 1 or 2
+  both-live : (a .kind ≡ 1) ⊎ (a .kind ≡ 2) → (b .kind ≡ 1) ⊎ (b .kind ≡ 2)
+      → both sameRequest (partOf asRequest (instanceOf a)) (partOf asRequest (instanceOf b))
+      || both sameReply (partOf asReply (instanceOf a)) (partOf asReply (instanceOf b))
+      ≡ cond (sameKey a b) true false
+  unfolding sameKey requestOf replyOf
+  both-live (inl e) (inl f) =
+      rw (request-part a, request-part b, reply-part a, reply-part b, e, f) (or-none
+      (eqb (a .instance) (b .instance) && same (a .dodagid) (b .dodagid)) ∙ cond-self
+      (eqb (a .instance) (b .instance) && same (a .dodagid) (b .dodagid)))
+  both-live (inl e) (inr f) = rw (request-part a, request-part b, reply-part a, reply-part b, e, f)
+  both-live (inr e) (inl f) = rw (request-part a, request-part b, reply-part a, reply-part b, e, f)
+  both-live (inr e) (inr f) =
+      rw (request-part a, request-part b, reply-part a, reply-part b, e, f) (cond-self
+      (eqb (a .instance) (b .instance) && same (a .dodagid) (b .dodagid)))
+
+  row-pair : both sameRequest (seen instanceDeadline asRequest t (instanceOf a)) (seen instanceDeadline asRequest t (instanceOf b))
+      || both sameReply (seen instanceDeadline asReply t (instanceOf a)) (seen instanceDeadline asReply t (instanceOf b))
+      ≡ rowTwins t a b
+  unfolding rowTwins
+  row-pair = go (live instanceDeadline t (instanceOf a)) refl (live instanceDeadline t (instanceOf b)) refl
+    where
+      go : (x : Bool) → live instanceDeadline t (instanceOf a) ≡ x → (y : Bool) → live instanceDeadline t (instanceOf b) ≡ y
+          → both sameRequest (cond x (partOf asRequest (instanceOf a)) none) (cond y (partOf asRequest (instanceOf b)) none)
+          || both sameReply (cond x (partOf asReply (instanceOf a)) none) (cond y (partOf asReply (instanceOf b)) none)
+          ≡ cond (sameKey a b) (cond x y false) false
+      go false e y f = sym (cond-false (sameKey a b))
+      go true e false f =
+          rw (both-none sameRequest (partOf asRequest (instanceOf a)), both-none sameReply (partOf asReply (instanceOf a)), cond-false (sameKey a b))
+      go true e true f = both-live (live-kind t a e) (live-kind t b f)
+
+-- "two request rows, two reply rows .. of the same key, both live at the last accepted time"
+pub rows-twins : (t : ℕ) (rows : List InstanceRow)
+    → anyTwo (rowTwins t) rows
+    ≡ anyTwo requestTwins (requests (liveRows instanceDeadline t (map instanceOf rows)))
+    || anyTwo replyTwins (replies (liveRows instanceDeadline t (map instanceOf rows)))
+rows-twins t rows =
+    rw (requests-are (liveRows instanceDeadline t (map instanceOf rows)), replies-are (liveRows instanceDeadline t (map instanceOf rows)))
+    (sym (rw (two-seen instanceOf instanceDeadline asRequest t sameRequest 0 rows, two-seen instanceOf instanceDeadline asReply t sameReply 0 rows)
+    (two-either
+    (λ (a b : InstanceRow). both sameRequest (seen instanceDeadline asRequest t (instanceOf a)) (seen instanceDeadline asRequest t (instanceOf b)))
+    (λ (a b : InstanceRow). both sameReply (seen instanceDeadline asReply t (instanceOf a)) (seen instanceDeadline asReply t (instanceOf b)))
+    rows
+    ∙ two-same _ (rowTwins t) (row-pair t) rows)))
+
+-- ---- routes
+
+abbrev sameRoute : Route → Route → Bool
+sameRoute a b = same (a .source) (b .source) && same (a .destination) (b .destination) && eqb (a .instance) (b .instance)
+
+module _ (t : ℕ) (a b : RouteRow) where
+  both-live-routes : a .kind ≡ 1 → b .kind ≡ 1 → both sameRoute (partOf some (routeOf a)) (partOf some (routeOf b)) ≡ cond (sameThree a b) true false
+  unfolding sameThree routeIn
+  both-live-routes e f =
+      rw (route-part a, route-part b, e, f)
+      (cond-self (same (a .source) (b .source) && same (a .destination) (b .destination) && eqb (a .instance) (b .instance)))
+
+  route-pair : both sameRoute (seen routeDeadline some t (routeOf a)) (seen routeDeadline some t (routeOf b)) ≡ routePair t a b
+  unfolding routePair
+  route-pair = go (live routeDeadline t (routeOf a)) refl (live routeDeadline t (routeOf b)) refl
+    where
+      go : (x : Bool) → live routeDeadline t (routeOf a) ≡ x → (y : Bool) → live routeDeadline t (routeOf b) ≡ y
+          → both sameRoute (cond x (partOf some (routeOf a)) none) (cond y (partOf some (routeOf b)) none)
+          ≡ cond (sameThree a b) (cond x y false) false
+      go false e y f = sym (cond-false (sameThree a b))
+      go true e false f = rw (both-none sameRoute (partOf some (routeOf a)), cond-false (sameThree a b))
+      go true e true f = both-live-routes (live-route t a e) (live-route t b f)
+
+-- ".. or two routes of the same key, both live at the last accepted time"
+pub routes-twins : (t : ℕ) (routes : List RouteRow) → anyTwo (routePair t) routes ≡ anyTwo routeTwins (liveRows routeDeadline t (map routeOf routes))
+routes-twins t routes =
+    rw (routes-are (liveRows routeDeadline t (map routeOf routes)))
+    (sym (two-seen routeOf routeDeadline some t sameRoute 0 routes ∙ two-same _ (routePair t) (route-pair t) routes))

@@ -1,0 +1,61 @@
+// Two rows of a table, by value: whether they have one key, and are twins (01, answer 2).
+ghost use mathlib.Core.Path.{_≡_};
+ghost use Rattle.key.specs.Pair.{sameKey, sameThree, rowTwins, routePair};
+use row::InstanceRow;
+use row::RouteRow;
+
+// The addresses are compared first: few are the same, while kinds and numbers often are.
+fn is_same_key(a: InstanceRow, b: InstanceRow) -> bool
+    ensures { λ r. ⌜ r ≡ sameKey a b ⌝ }
+{
+    let x = a.dodagid;
+    let y = b.dodagid;
+    if address::is_same(x, y) {
+        if a.kind != b.kind {
+            return false;
+        }
+        return a.instance == b.instance;
+    }
+    false
+}
+
+// The key is compared first: few rows have the same.
+pub fn are_twins(a: InstanceRow, b: InstanceRow, t: u64) -> bool
+    ensures { λ r. ⌜ r ≡ rowTwins t a b ⌝ }
+{
+    if is_same_key(a, b) {
+        if live::is_live(a, t) {
+            return live::is_live(b, t);
+        }
+        return false;
+    }
+    false
+}
+
+fn is_same_three(a: RouteRow, b: RouteRow) -> bool
+    ensures { λ r. ⌜ r ≡ sameThree a b ⌝ }
+{
+    let d = a.destination;
+    let y = b.destination;
+    if address::is_same(d, y) {
+        let s = a.source;
+        let x = b.source;
+        if address::is_same(s, x) {
+            return a.instance == b.instance;
+        }
+        return false;
+    }
+    false
+}
+
+pub fn are_twin_routes(a: RouteRow, b: RouteRow, t: u64) -> bool
+    ensures { λ r. ⌜ r ≡ routePair t a b ⌝ }
+{
+    if is_same_three(a, b) {
+        if live::is_live_route(a, t) {
+            return live::is_live_route(b, t);
+        }
+        return false;
+    }
+    false
+}
