@@ -13,7 +13,7 @@ use lib.Seq.{getD-set-same, getD-set-other, getD-take}
 use borrow.Author.Tests.{eqb-true, eqb-false, eq-eqb}
 use Rattle.plain.specs.Lists.{any, anyTwo}
 use Rattle.lemmas.proofs.Choice.{true-false, or-left, or-right, or-neither}
-use Rattle.table.proofs.Found.{cond-true}
+use Rattle.first.proofs.Found.{cond-true}
 use Rattle.filter.specs.Filter.{bitsOf, hasBits, maybeOf, markedOf, classOf, chosenOf, inClass}
 use Rattle.key.proofs.Any.{not-so, so, any-false, any-not, two-less}
 use Rattle.filter.proofs.Words.{or-has, or-keeps}

@@ -11,7 +11,7 @@ use Rattle.lemmas.proofs.Same.{same-equal}
 use Rattle.row.specs.Meaning.{instanceOf, routeOf, noRow, noRoute}
 use Rattle.row.specs.declared.InstanceRow.{InstanceRow}
 use Rattle.row.specs.declared.RouteRow.{RouteRow}
-use Rattle.table.proofs.Found.{cond-true}
+use Rattle.first.proofs.Found.{cond-true}
 use Rattle.key.specs.Pair.{sameKey, rowTwins, sameThree, routePair}
 use Rattle.filter.specs.Filter.{hashRow, hashRoute}
 use Rattle.filter.proofs.Filter.{Kind}

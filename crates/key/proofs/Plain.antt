@@ -17,7 +17,7 @@ use Rattle.live.specs.Look.{partOf, held, asRequest, asReply}
 use Rattle.live.proofs.Laws.{request-part, reply-part, route-part}
 use Rattle.row.specs.declared.InstanceRow.{InstanceRow}
 use Rattle.row.specs.declared.RouteRow.{RouteRow}
-use Rattle.table.proofs.Found.{asPart, parts, seen, parts-cons, requests-are, replies-are, routes-are}
+use Rattle.first.proofs.Found.{asPart, parts, seen, parts-cons, requests-are, replies-are, routes-are}
 use Rattle.key.specs.Pair.{sameKey, rowTwins, sameThree, routePair}
 use Rattle.key.proofs.Any.{or-none, two-same, two-either}
 

@@ -16,10 +16,10 @@ use Rattle.lemmas.proofs.Choice.{true-false}
 use Rattle.row.specs.Meaning.{instanceOf, routeOf, noRow, noRoute}
 use Rattle.row.specs.declared.InstanceRow.{InstanceRow}
 use Rattle.row.specs.declared.RouteRow.{RouteRow}
-use Rattle.table.specs.First.{first, firstFrom}
-use Rattle.table.specs.Spare.{dead}
-use Rattle.table.proofs.Room.{room-none, room-one, room-two}
-use Rattle.table.proofs.Store.{store-none, store-become, store-new, store-new-two, store-become-new}
+use Rattle.first.specs.First.{first, firstFrom}
+use Rattle.first.specs.Spare.{dead}
+use Rattle.first.proofs.Room.{room-none, room-one, room-two}
+use Rattle.first.proofs.Store.{store-none, store-become, store-new, store-new-two, store-become-new}
 use Rattle.place.specs.declared.Places as P
 use Rattle.place.specs.declared.RoutePlace.{RoutePlace}
 use Rattle.place.specs.Places.{HasRow, HasRoute, rowChange, hopChange, Placed, RoutePlaced}

@@ -79,14 +79,14 @@ pub fn place_rows(rows: &[InstanceRow], t: u64, is: bool, at: usize, replies: bo
 {
     if is {
         if replies {
-            return two(at, table::find_spare(rows, t, 0), rows.len());
+            return two(at, find::find_spare(rows, t, 0), rows.len());
         }
         return one(at, rows.len());
     }
-    let first = table::find_spare(rows, t, 0);
+    let first = find::find_spare(rows, t, 0);
     if replies {
         if first < rows.len() {
-            return two(first, table::find_spare(rows, t, first + 1), rows.len());
+            return two(first, find::find_spare(rows, t, first + 1), rows.len());
         }
         return full(rows.len());
     }
@@ -102,7 +102,7 @@ pub fn place_route(routes: &[RouteRow], t: u64, routed: bool, is: bool, at: usiz
         if is {
             return route_to(at, routes.len());
         }
-        return route_to(table::find_spare_route(routes, t), routes.len());
+        return route_to(find::find_spare_route(routes, t), routes.len());
     }
     no_route(routes.len())
 }

@@ -22,8 +22,8 @@ use Rattle.live.specs.Look.{partOf, here, asRequest, requestHere, replyHere, ro
 use Rattle.live.proofs.Laws.{request-here}
 use Rattle.row.specs.declared.InstanceRow.{InstanceRow}
 use Rattle.row.specs.declared.RouteRow.{RouteRow}
-use Rattle.table.specs.First.{first}
-use Rattle.table.proofs.Found.{lasts-before, found, missing, found-true, read-at, requests-are, request-found, request-missing, request-live, reply-found, reply-missing, reply-live, route-found, route-missing, route-live, delta-taken}
+use Rattle.first.specs.First.{first}
+use Rattle.first.proofs.Found.{lasts-before, found, missing, found-true, read-at, requests-are, request-found, request-missing, request-live, reply-found, reply-missing, reply-live, route-found, route-missing, route-live, delta-taken}
 use Rattle.message.specs.Message.{requestFound, replyFound, routeFound, deltaFound}
 use Rattle.message.specs.declared.Found.{Found}
 use Rattle.message.specs.declared.FoundRoute.{FoundRoute}

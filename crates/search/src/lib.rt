@@ -5,7 +5,7 @@ ghost use mathlib.Core.List.{map};
 ghost use Prim.Native.Nat.{ℕ, _≤_};
 ghost use Rattle.plain.specs.Table.{instanceDeadline, routeDeadline};
 ghost use Rattle.row.specs.Meaning.{instanceOf, routeOf, noRow, noRoute};
-ghost use Rattle.table.specs.First.{first};
+ghost use Rattle.first.specs.First.{first};
 ghost use Rattle.search.specs.Seen.{requestSeen, replySeen, routeSeen, partnerSeen, deltaSeen, partnerHere, LiveRow, LiveRoute};
 ghost use Rattle.message.specs.Message.{requestFound, replyFound, routeFound, deltaFound};
 use message::Found;
@@ -147,7 +147,7 @@ pub fn search_request(rows: &[InstanceRow], t: u64, instance: u8, dodagid: [u8; 
     ensures found { λ r. ⌜ ((clock : ℕ) → clock ≤ t → requestFound r ≡ requestSeen clock (now (rows .entry)) t instance dodagid) × (r .is ≡ true → r .row .kind ≡ 1) ⌝ }
     ensures here { λ r. ⌜ LiveRow (now (rows .entry)) t r ⌝ }
 {
-    let i = table::find_request(rows, t, instance, dodagid);
+    let i = find::find_request(rows, t, instance, dodagid);
     if i < rows.len() {
         return found(i, rows[i]);
     }
@@ -159,7 +159,7 @@ pub fn search_reply(rows: &[InstanceRow], t: u64, instance: u8, dodagid: [u8; 16
     ensures found { λ r. ⌜ ((clock : ℕ) → clock ≤ t → replyFound r ≡ replySeen clock (now (rows .entry)) t instance dodagid) ⌝ }
     ensures here { λ r. ⌜ LiveRow (now (rows .entry)) t r ⌝ }
 {
-    let i = table::find_reply(rows, t, instance, dodagid);
+    let i = find::find_reply(rows, t, instance, dodagid);
     if i < rows.len() {
         return found(i, rows[i]);
     }
@@ -194,7 +194,7 @@ pub fn search_route(
     ensures found { λ r. ⌜ ((clock : ℕ) → clock ≤ t → routeFound r ≡ routeSeen clock (now (routes .entry)) t source destination instance) ⌝ }
     ensures here { λ r. ⌜ LiveRoute (now (routes .entry)) t r ⌝ }
 {
-    let i = table::find_route(routes, t, source, destination, instance);
+    let i = find::find_route(routes, t, source, destination, instance);
     if i < routes.len() {
         return found_route(i, routes[i]);
     }
@@ -208,7 +208,7 @@ pub fn free_delta(rows: &[InstanceRow], t: u64, instance: u8, dodagid: [u8; 16])
     let mut delta: u8 = 0;
     while delta < 64 {
         let number = sequence::plus_delta(instance, delta);
-        let i = table::find_reply(rows, t, number, dodagid);
+        let i = find::find_reply(rows, t, number, dodagid);
         if i < rows.len() {
             delta += 1;
         } else {

@@ -1,10 +1,5 @@
 pub mod all_good
 pub mod all_good_routes
-pub mod find_reply
-pub mod find_request
-pub mod find_route
-pub mod find_spare
-pub mod find_spare_route
 pub mod put_route
 pub mod put_row
 pub mod route_at

@@ -1,5 +1,2 @@
-pub mod Found
+pub mod Good
 pub mod Lent
-pub mod Room
-pub mod Search
-pub mod Store

@@ -6,8 +6,8 @@ use mathlib.Core.List.{map}
 use denote.Ref.{now}
 use lib.ListN.{length, drop}
 use Rattle.row.specs.Meaning.{instanceOf, noRow}
-use Rattle.table.specs.First.{first}
-use Rattle.table.proofs.Search.{at-start, at-hit, at-miss, at-end}
+use Rattle.first.specs.First.{first}
+use Rattle.first.proofs.Search.{at-start, at-hit, at-miss, at-end}
 use Rattle.search.specs.Seen.{partnerHere}
 use borrow.Author.Needs.{needs}
 use Rattle.search.proofs.find_partner.Statement.{statement}

@@ -1,7 +1,7 @@
 pub mod Lts
 pub mod Tie
 use denote.Ref.{now}
-use Rattle.table.proofs.Found.{reply-live}
+use Rattle.first.proofs.Found.{reply-live}
 use Rattle.search.proofs.Laws.{reply-hit, reply-miss, live-hit, live-miss}
 use borrow.Author.Needs.{needs}
 use Rattle.search.proofs.search_reply.Statement.{statement}

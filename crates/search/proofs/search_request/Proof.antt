@@ -1,7 +1,7 @@
 pub mod Lts
 pub mod Tie
 use denote.Ref.{now}
-use Rattle.table.proofs.Found.{request-live}
+use Rattle.first.proofs.Found.{request-live}
 use Rattle.search.proofs.Laws.{request-hit, request-miss, request-kind, request-no-kind, live-hit, live-miss}
 use borrow.Author.Needs.{needs}
 use Rattle.search.proofs.search_request.Statement.{statement}

@@ -1,7 +1,7 @@
 pub mod Lts
 pub mod Tie
 use denote.Ref.{now}
-use Rattle.table.proofs.Found.{route-live}
+use Rattle.first.proofs.Found.{route-live}
 use Rattle.search.proofs.Laws.{route-hit, route-miss, live-route-hit, live-route-miss}
 use borrow.Author.Needs.{needs}
 use Rattle.search.proofs.search_route.Statement.{statement}

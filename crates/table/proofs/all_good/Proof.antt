@@ -7,7 +7,7 @@ use denote.Ref.{now}
 use lib.ListN.{length, drop}
 use Rattle.plain.specs.Answers.{allGood, goodInstance}
 use Rattle.row.specs.Meaning.{instanceOf, noRow}
-use Rattle.table.proofs.Search.{good-hit, good-miss, good-end}
+use Rattle.table.proofs.Good.{good-hit, good-miss, good-end}
 use borrow.Author.Needs.{needs}
 use Rattle.table.proofs.all_good.Statement.{statement}
 use Rattle.table.proofs.all_good.Proof.Tie as tie

@@ -7,7 +7,7 @@ use denote.Ref.{now}
 use lib.ListN.{length, drop}
 use Rattle.plain.specs.Answers.{allGood, goodRoute}
 use Rattle.row.specs.Meaning.{routeOf, noRoute}
-use Rattle.table.proofs.Search.{good-hit, good-miss, good-end}
+use Rattle.table.proofs.Good.{good-hit, good-miss, good-end}
 use borrow.Author.Needs.{needs}
 use Rattle.table.proofs.all_good_routes.Statement.{statement}
 use Rattle.table.proofs.all_good_routes.Proof.Tie as tie

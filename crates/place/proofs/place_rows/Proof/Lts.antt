@@ -216,7 +216,7 @@ b1 = Syntax.assign (Syntax.place 8 List.[]) (Syntax.rvOpd (Syntax.copy (Syntax.p
 abbrev b2 : Syntax.Body
 b2 =
     Syntax.call
-    "table::find_spare"
+    "find::find_spare"
     (List._∷_
     (Syntax.copy (Syntax.place 1 List.[]))
     (List._∷_ (Syntax.copy (Syntax.place 2 List.[])) (List._∷_ (Syntax.int Syntax.w64 0) List.[])))
@@ -296,7 +296,7 @@ b19 = Syntax.cond (Syntax.copy (Syntax.place 7 List.[])) b17 b18
 abbrev b20 : Syntax.Body
 b20 =
     Syntax.call
-    "table::find_spare"
+    "find::find_spare"
     (List._∷_
     (Syntax.copy (Syntax.place 1 List.[]))
     (List._∷_ (Syntax.copy (Syntax.place 2 List.[])) (List._∷_ (Syntax.int Syntax.w64 0) List.[])))
@@ -332,7 +332,7 @@ b24 =
 abbrev b25 : Syntax.Body
 b25 =
     Syntax.call
-    "table::find_spare"
+    "find::find_spare"
     (List._∷_
     (Syntax.copy (Syntax.place 1 List.[]))
     (List._∷_
@@ -2440,7 +2440,7 @@ module _ (claims· : Claims) where
       Closed =
           (𝓤 : URA.URA M) (H : Wp.Heap 𝓤) (A : Atoms.Atoms 𝓤) (W : Kit.Given 𝓤 H A) (𝓣 : Wp.Tables
           𝓤 H) (known0 : Plain.Known 𝓤 H A W 𝓣 1 ps·0 r·0 (claims· .0) (claims· .1)
-          "table::find_spare") (known1 : Plain.Known 𝓤 H A W 𝓣 0 ps·1 r·1 (claims· .2) (claims· .3)
+          "find::find_spare") (known1 : Plain.Known 𝓤 H A W 𝓣 0 ps·1 r·1 (claims· .2) (claims· .3)
           "place::two") (known2 : Plain.Known 𝓤 H A W 𝓣 0 ps·2 r·2 (claims· .4) (claims· .5)
           "place::one") (known3 : Plain.Known 𝓤 H A W 𝓣 0 ps·3 r·3 (claims· .6) (claims· .7)
           "place::full") → Statement.Triple 𝓤 (Wp.WpFn 𝓤 H (𝓣 .C) (𝓣 .Λ) (Function.fnOf 1 ps r xs m
@@ -2682,7 +2682,7 @@ module _ (claims· : Claims) where
           (W : Kit.Given 𝓤 H A) (𝓣 : Wp.Tables 𝓤 H) where
         abbrev Knowns : Type 1
         Knowns =
-            Plain.Known 𝓤 H A W 𝓣 1 ps·0 r·0 (claims· .0) (claims· .1) "table::find_spare" ×
+            Plain.Known 𝓤 H A W 𝓣 1 ps·0 r·0 (claims· .0) (claims· .1) "find::find_spare" ×
             Plain.Known 𝓤 H A W 𝓣 0 ps·1 r·1 (claims· .2) (claims· .3) "place::two" ×
             Plain.Known 𝓤 H A W 𝓣 0 ps·2 r·2 (claims· .4) (claims· .5) "place::one" ×
             Plain.Known 𝓤 H A W 𝓣 0 ps·3 r·3 (claims· .6) (claims· .7) "place::full"
@@ -3405,7 +3405,7 @@ module _ (claims· : Claims) where
               r·0
               (claims· .0)
               (claims· .1)
-              "table::find_spare"
+              "find::find_spare"
               (known .0)
               E
               (λ pos β. β)
@@ -4225,7 +4225,7 @@ module _ (claims· : Claims) where
               r·0
               (claims· .0)
               (claims· .1)
-              "table::find_spare"
+              "find::find_spare"
               (known .0)
               E
               (λ pos β. β)
@@ -5185,7 +5185,7 @@ module _ (claims· : Claims) where
               r·0
               (claims· .0)
               (claims· .1)
-              "table::find_spare"
+              "find::find_spare"
               (known .0)
               E
               (λ pos β. β)
@@ -6318,7 +6318,7 @@ module _ (claims· : Claims) where
             r·0
             (claims· .0)
             (claims· .1)
-            "table::find_spare")
+            "find::find_spare")
             (known1 : Plain.Known 𝓤 H A W 𝓣 0 ps·1 r·1 (claims· .2) (claims· .3) "place::two")
             (known2 : Plain.Known 𝓤 H A W 𝓣 0 ps·2 r·2 (claims· .4) (claims· .5) "place::one")
             (known3 : Plain.Known

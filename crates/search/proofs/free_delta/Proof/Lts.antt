@@ -199,7 +199,7 @@ b5 =
 abbrev b6 : Syntax.Body
 b6 =
     Syntax.call
-    "table::find_reply"
+    "find::find_reply"
     (List._∷_
     (Syntax.copy (Syntax.place 1 List.[]))
     (List._∷_
@@ -1525,7 +1525,7 @@ module _ (claims· : Claims) where
           (𝓤 : URA.URA M) (H : Wp.Heap 𝓤) (A : Atoms.Atoms 𝓤) (W : Kit.Given 𝓤 H A) (𝓣 : Wp.Tables
           𝓤 H) (known0 : Plain.Known 𝓤 H A W 𝓣 0 ps·0 r·0 (claims· .0) (claims· .1)
           "sequence::plus_delta") (known1 : Plain.Known 𝓤 H A W 𝓣 1 ps·1 r·1 (claims· .2)
-          (claims· .3) "table::find_reply") (known2 : Plain.Known 𝓤 H A W 𝓣 0 ps·2 r·2 (claims· .4)
+          (claims· .3) "find::find_reply") (known2 : Plain.Known 𝓤 H A W 𝓣 0 ps·2 r·2 (claims· .4)
           (claims· .5) "search::free") (known3 : Plain.Known 𝓤 H A W 𝓣 0 ps·3 r·3 (claims· .6)
           (claims· .7) "search::none_free") → Statement.Triple 𝓤 (Wp.WpFn 𝓤 H (𝓣 .C) (𝓣 .Λ)
           (Function.fnOf 1 ps r xs m hs body)) (Function.plainOf 𝓤 H A 1 ps r Pre· Post·)
@@ -1661,7 +1661,7 @@ module _ (claims· : Claims) where
         abbrev Knowns : Type 1
         Knowns =
             Plain.Known 𝓤 H A W 𝓣 0 ps·0 r·0 (claims· .0) (claims· .1) "sequence::plus_delta" ×
-            Plain.Known 𝓤 H A W 𝓣 1 ps·1 r·1 (claims· .2) (claims· .3) "table::find_reply" ×
+            Plain.Known 𝓤 H A W 𝓣 1 ps·1 r·1 (claims· .2) (claims· .3) "find::find_reply" ×
             Plain.Known 𝓤 H A W 𝓣 0 ps·2 r·2 (claims· .4) (claims· .5) "search::free" ×
             Plain.Known 𝓤 H A W 𝓣 0 ps·3 r·3 (claims· .6) (claims· .7) "search::none_free"
 
@@ -2403,7 +2403,7 @@ module _ (claims· : Claims) where
               r·1
               (claims· .2)
               (claims· .3)
-              "table::find_reply"
+              "find::find_reply"
               (known .1)
               E
               (λ pos β. β)
@@ -3628,7 +3628,7 @@ module _ (claims· : Claims) where
             r·1
             (claims· .2)
             (claims· .3)
-            "table::find_reply")
+            "find::find_reply")
             (known2 : Plain.Known 𝓤 H A W 𝓣 0 ps·2 r·2 (claims· .4) (claims· .5) "search::free")
             (known3 : Plain.Known
             𝓤

@@ -1,22 +1,22 @@
 -- Made by tools/lend.py of the twin of `free_delta`: do not edit.
-use Rattle.search.proofs.free.Met
-use Rattle.search.proofs.free.Reads
-use Rattle.search.proofs.free.Symbol
+use Rattle.find.proofs.find_reply.Met
+use Rattle.find.proofs.Lent.find_reply.Reads
+use Rattle.find.proofs.find_reply.Symbol
+use Rattle.search.proofs.free.Met as Met'
+use Rattle.search.proofs.free.Reads as Reads'
+use Rattle.search.proofs.free.Symbol as Symbol'
 use Rattle.search.proofs.free_delta.Code
 use Rattle.search.proofs.free_delta.Key
 use Rattle.search.proofs.Lent.free_delta.Kinds
 use Rattle.search.proofs.free_delta.Proof.Lts
-use Rattle.search.proofs.Lent.free_delta.Reads as Reads'
+use Rattle.search.proofs.Lent.free_delta.Reads as Reads''
 use Rattle.search.proofs.free_delta.Statement
-use Rattle.search.proofs.none_free.Met as Met'
-use Rattle.search.proofs.none_free.Reads as Reads''
-use Rattle.search.proofs.none_free.Symbol as Symbol'
-use Rattle.sequence.proofs.plus_delta.Met as Met''
-use Rattle.sequence.proofs.plus_delta.Reads as Reads'3
-use Rattle.sequence.proofs.plus_delta.Symbol as Symbol''
-use Rattle.table.proofs.find_reply.Met as Met'3
-use Rattle.table.proofs.Lent.find_reply.Reads as Reads'4
-use Rattle.table.proofs.find_reply.Symbol as Symbol'3
+use Rattle.search.proofs.none_free.Met as Met''
+use Rattle.search.proofs.none_free.Reads as Reads'3
+use Rattle.search.proofs.none_free.Symbol as Symbol''
+use Rattle.sequence.proofs.plus_delta.Met as Met'3
+use Rattle.sequence.proofs.plus_delta.Reads as Reads'4
+use Rattle.sequence.proofs.plus_delta.Symbol as Symbol'3
 use borrow.Fn.Run
 use borrow.Fn.Written
 use contract.Running
@@ -29,243 +29,243 @@ MeasureT-loop = Lts.MeasureT-loop
 
 abbrev pub Start : (Inv : InvT-loop) → (μ : MeasureT-loop) → Type 0
 Start = λ Inv μ. Lts.Start (
-  Reads'3.Asked,
-  Reads'3.Learnt,
   Reads'4.Asked,
   Reads'4.Learnt,
   Reads.Asked,
   Reads.Learnt,
-  Reads''.Asked,
-  Reads''.Learnt,
-) Reads'.Pre Reads'.Post Inv μ
+  Reads'.Asked,
+  Reads'.Learnt,
+  Reads'3.Asked,
+  Reads'3.Learnt,
+) Reads''.Pre Reads''.Post Inv μ
 
 abbrev pub At-loop : (Inv : InvT-loop) → (μ : MeasureT-loop) → Type 0
 At-loop = λ Inv μ. Lts.At-loop (
-  Reads'3.Asked,
-  Reads'3.Learnt,
   Reads'4.Asked,
   Reads'4.Learnt,
   Reads.Asked,
   Reads.Learnt,
-  Reads''.Asked,
-  Reads''.Learnt,
-) Reads'.Pre Reads'.Post Inv μ
+  Reads'.Asked,
+  Reads'.Learnt,
+  Reads'3.Asked,
+  Reads'3.Learnt,
+) Reads''.Pre Reads''.Post Inv μ
 
 abbrev pub In-loop : (Inv : InvT-loop) → (μ : MeasureT-loop) → Type 0
 In-loop = λ Inv μ. Lts.In-loop (
-  Reads'3.Asked,
-  Reads'3.Learnt,
   Reads'4.Asked,
   Reads'4.Learnt,
   Reads.Asked,
   Reads.Learnt,
-  Reads''.Asked,
-  Reads''.Learnt,
-) Reads'.Pre Reads'.Post Inv μ
+  Reads'.Asked,
+  Reads'.Learnt,
+  Reads'3.Asked,
+  Reads'3.Learnt,
+) Reads''.Pre Reads''.Post Inv μ
 
 abbrev pub After-loop : (Inv : InvT-loop) → (μ : MeasureT-loop) → Type 0
 After-loop = λ Inv μ. Lts.After-loop (
-  Reads'3.Asked,
-  Reads'3.Learnt,
   Reads'4.Asked,
   Reads'4.Learnt,
   Reads.Asked,
   Reads.Learnt,
-  Reads''.Asked,
-  Reads''.Learnt,
-) Reads'.Pre Reads'.Post Inv μ
+  Reads'.Asked,
+  Reads'.Learnt,
+  Reads'3.Asked,
+  Reads'3.Learnt,
+) Reads''.Pre Reads''.Post Inv μ
 
 abbrev pub After-plus-delta : (Inv : InvT-loop) → (μ : MeasureT-loop) → Type 0
 After-plus-delta = λ Inv μ. Lts.After-plus-delta (
-  Reads'3.Asked,
-  Reads'3.Learnt,
   Reads'4.Asked,
   Reads'4.Learnt,
   Reads.Asked,
   Reads.Learnt,
-  Reads''.Asked,
-  Reads''.Learnt,
-) Reads'.Pre Reads'.Post Inv μ
+  Reads'.Asked,
+  Reads'.Learnt,
+  Reads'3.Asked,
+  Reads'3.Learnt,
+) Reads''.Pre Reads''.Post Inv μ
 
 abbrev pub After-find-reply : (Inv : InvT-loop) → (μ : MeasureT-loop) → Type 0
 After-find-reply = λ Inv μ. Lts.After-find-reply (
-  Reads'3.Asked,
-  Reads'3.Learnt,
   Reads'4.Asked,
   Reads'4.Learnt,
   Reads.Asked,
   Reads.Learnt,
-  Reads''.Asked,
-  Reads''.Learnt,
-) Reads'.Pre Reads'.Post Inv μ
+  Reads'.Asked,
+  Reads'.Learnt,
+  Reads'3.Asked,
+  Reads'3.Learnt,
+) Reads''.Pre Reads''.Post Inv μ
 
 abbrev pub Then1 : (Inv : InvT-loop) → (μ : MeasureT-loop) → Type 0
 Then1 = λ Inv μ. Lts.Then1 (
-  Reads'3.Asked,
-  Reads'3.Learnt,
   Reads'4.Asked,
   Reads'4.Learnt,
   Reads.Asked,
   Reads.Learnt,
-  Reads''.Asked,
-  Reads''.Learnt,
-) Reads'.Pre Reads'.Post Inv μ
+  Reads'.Asked,
+  Reads'.Learnt,
+  Reads'3.Asked,
+  Reads'3.Learnt,
+) Reads''.Pre Reads''.Post Inv μ
 
 abbrev pub Else1 : (Inv : InvT-loop) → (μ : MeasureT-loop) → Type 0
 Else1 = λ Inv μ. Lts.Else1 (
-  Reads'3.Asked,
-  Reads'3.Learnt,
   Reads'4.Asked,
   Reads'4.Learnt,
   Reads.Asked,
   Reads.Learnt,
-  Reads''.Asked,
-  Reads''.Learnt,
-) Reads'.Pre Reads'.Post Inv μ
+  Reads'.Asked,
+  Reads'.Learnt,
+  Reads'3.Asked,
+  Reads'3.Learnt,
+) Reads''.Pre Reads''.Post Inv μ
 
 abbrev pub After-free : (Inv : InvT-loop) → (μ : MeasureT-loop) → Type 0
 After-free = λ Inv μ. Lts.After-free (
-  Reads'3.Asked,
-  Reads'3.Learnt,
   Reads'4.Asked,
   Reads'4.Learnt,
   Reads.Asked,
   Reads.Learnt,
-  Reads''.Asked,
-  Reads''.Learnt,
-) Reads'.Pre Reads'.Post Inv μ
+  Reads'.Asked,
+  Reads'.Learnt,
+  Reads'3.Asked,
+  Reads'3.Learnt,
+) Reads''.Pre Reads''.Post Inv μ
 
 abbrev pub After-none-free : (Inv : InvT-loop) → (μ : MeasureT-loop) → Type 0
 After-none-free = λ Inv μ. Lts.After-none-free (
-  Reads'3.Asked,
-  Reads'3.Learnt,
   Reads'4.Asked,
   Reads'4.Learnt,
   Reads.Asked,
   Reads.Learnt,
-  Reads''.Asked,
-  Reads''.Learnt,
-) Reads'.Pre Reads'.Post Inv μ
+  Reads'.Asked,
+  Reads'.Learnt,
+  Reads'3.Asked,
+  Reads'3.Learnt,
+) Reads''.Pre Reads''.Post Inv μ
 
 abbrev pub Need-loop-holds : (Inv : InvT-loop) → (μ : MeasureT-loop) → Type 0
 Need-loop-holds = λ Inv μ. Lts.Need-loop-holds (
-  Reads'3.Asked,
-  Reads'3.Learnt,
   Reads'4.Asked,
   Reads'4.Learnt,
   Reads.Asked,
   Reads.Learnt,
-  Reads''.Asked,
-  Reads''.Learnt,
-) Reads'.Pre Reads'.Post Inv μ
+  Reads'.Asked,
+  Reads'.Learnt,
+  Reads'3.Asked,
+  Reads'3.Learnt,
+) Reads''.Pre Reads''.Post Inv μ
 
 abbrev pub Need-plus-delta-requires : (Inv : InvT-loop) → (μ : MeasureT-loop) → Type 0
 Need-plus-delta-requires = λ Inv μ. Lts.Need-plus-delta-requires (
-  Reads'3.Asked,
-  Reads'3.Learnt,
   Reads'4.Asked,
   Reads'4.Learnt,
   Reads.Asked,
   Reads.Learnt,
-  Reads''.Asked,
-  Reads''.Learnt,
-) Reads'.Pre Reads'.Post Inv μ
+  Reads'.Asked,
+  Reads'.Learnt,
+  Reads'3.Asked,
+  Reads'3.Learnt,
+) Reads''.Pre Reads''.Post Inv μ
 
 abbrev pub Need-find-reply-requires : (Inv : InvT-loop) → (μ : MeasureT-loop) → Type 0
 Need-find-reply-requires = λ Inv μ. Lts.Need-find-reply-requires (
-  Reads'3.Asked,
-  Reads'3.Learnt,
   Reads'4.Asked,
   Reads'4.Learnt,
   Reads.Asked,
   Reads.Learnt,
-  Reads''.Asked,
-  Reads''.Learnt,
-) Reads'.Pre Reads'.Post Inv μ
+  Reads'.Asked,
+  Reads'.Learnt,
+  Reads'3.Asked,
+  Reads'3.Learnt,
+) Reads''.Pre Reads''.Post Inv μ
 
 abbrev pub Need-add-delta : (Inv : InvT-loop) → (μ : MeasureT-loop) → Type 0
 Need-add-delta = λ Inv μ. Lts.Need-add-delta (
-  Reads'3.Asked,
-  Reads'3.Learnt,
   Reads'4.Asked,
   Reads'4.Learnt,
   Reads.Asked,
   Reads.Learnt,
-  Reads''.Asked,
-  Reads''.Learnt,
-) Reads'.Pre Reads'.Post Inv μ
+  Reads'.Asked,
+  Reads'.Learnt,
+  Reads'3.Asked,
+  Reads'3.Learnt,
+) Reads''.Pre Reads''.Post Inv μ
 
 abbrev pub Need-loop-less : (Inv : InvT-loop) → (μ : MeasureT-loop) → Type 0
 Need-loop-less = λ Inv μ. Lts.Need-loop-less (
-  Reads'3.Asked,
-  Reads'3.Learnt,
   Reads'4.Asked,
   Reads'4.Learnt,
   Reads.Asked,
   Reads.Learnt,
-  Reads''.Asked,
-  Reads''.Learnt,
-) Reads'.Pre Reads'.Post Inv μ
+  Reads'.Asked,
+  Reads'.Learnt,
+  Reads'3.Asked,
+  Reads'3.Learnt,
+) Reads''.Pre Reads''.Post Inv μ
 
 abbrev pub Need-loop-again : (Inv : InvT-loop) → (μ : MeasureT-loop) → Type 0
 Need-loop-again = λ Inv μ. Lts.Need-loop-again (
-  Reads'3.Asked,
-  Reads'3.Learnt,
   Reads'4.Asked,
   Reads'4.Learnt,
   Reads.Asked,
   Reads.Learnt,
-  Reads''.Asked,
-  Reads''.Learnt,
-) Reads'.Pre Reads'.Post Inv μ
+  Reads'.Asked,
+  Reads'.Learnt,
+  Reads'3.Asked,
+  Reads'3.Learnt,
+) Reads''.Pre Reads''.Post Inv μ
 
 abbrev pub Need-free-requires : (Inv : InvT-loop) → (μ : MeasureT-loop) → Type 0
 Need-free-requires = λ Inv μ. Lts.Need-free-requires (
-  Reads'3.Asked,
-  Reads'3.Learnt,
   Reads'4.Asked,
   Reads'4.Learnt,
   Reads.Asked,
   Reads.Learnt,
-  Reads''.Asked,
-  Reads''.Learnt,
-) Reads'.Pre Reads'.Post Inv μ
+  Reads'.Asked,
+  Reads'.Learnt,
+  Reads'3.Asked,
+  Reads'3.Learnt,
+) Reads''.Pre Reads''.Post Inv μ
 
 abbrev pub Need-returns : (Inv : InvT-loop) → (μ : MeasureT-loop) → Type 0
 Need-returns = λ Inv μ. Lts.Need-returns (
-  Reads'3.Asked,
-  Reads'3.Learnt,
   Reads'4.Asked,
   Reads'4.Learnt,
   Reads.Asked,
   Reads.Learnt,
-  Reads''.Asked,
-  Reads''.Learnt,
-) Reads'.Pre Reads'.Post Inv μ
+  Reads'.Asked,
+  Reads'.Learnt,
+  Reads'3.Asked,
+  Reads'3.Learnt,
+) Reads''.Pre Reads''.Post Inv μ
 
 abbrev pub Need-none-free-requires : (Inv : InvT-loop) → (μ : MeasureT-loop) → Type 0
 Need-none-free-requires = λ Inv μ. Lts.Need-none-free-requires (
-  Reads'3.Asked,
-  Reads'3.Learnt,
   Reads'4.Asked,
   Reads'4.Learnt,
   Reads.Asked,
   Reads.Learnt,
-  Reads''.Asked,
-  Reads''.Learnt,
-) Reads'.Pre Reads'.Post Inv μ
+  Reads'.Asked,
+  Reads'.Learnt,
+  Reads'3.Asked,
+  Reads'3.Learnt,
+) Reads''.Pre Reads''.Post Inv μ
 
 abbrev pub Need-returns-2 : (Inv : InvT-loop) → (μ : MeasureT-loop) → Type 0
 Need-returns-2 = λ Inv μ. Lts.Need-returns-2 (
-  Reads'3.Asked,
-  Reads'3.Learnt,
   Reads'4.Asked,
   Reads'4.Learnt,
   Reads.Asked,
   Reads.Learnt,
-  Reads''.Asked,
-  Reads''.Learnt,
-) Reads'.Pre Reads'.Post Inv μ
+  Reads'.Asked,
+  Reads'.Learnt,
+  Reads'3.Asked,
+  Reads'3.Learnt,
+) Reads''.Pre Reads''.Post Inv μ
 
 module _ {M : Type 1} where
   pub spec :
@@ -282,29 +282,29 @@ module _ {M : Type 1} where
       (answer : Need-none-free-requires Inv μ) →
       (answer : Need-returns-2 Inv μ) →
       Lts.Closed (
-        Reads'3.Asked,
-        Reads'3.Learnt,
         Reads'4.Asked,
         Reads'4.Learnt,
         Reads.Asked,
         Reads.Learnt,
-        Reads''.Asked,
-        Reads''.Learnt,
-      ) Reads'.Pre Reads'.Post M
+        Reads'.Asked,
+        Reads'.Learnt,
+        Reads'3.Asked,
+        Reads'3.Learnt,
+      ) Reads''.Pre Reads''.Post M
   spec =
       λ Inv μ answer answer' answer'' answer'3 answer'4 answer'5 answer'6 answer'7 answer'8
       answer'9. Lts.spec (
-        Reads'3.Asked,
-        Reads'3.Learnt,
         Reads'4.Asked,
         Reads'4.Learnt,
         Reads.Asked,
         Reads.Learnt,
-        Reads''.Asked,
-        Reads''.Learnt,
+        Reads'.Asked,
+        Reads'.Learnt,
+        Reads'3.Asked,
+        Reads'3.Learnt,
       )
-      Reads'.Pre
-      Reads'.Post
+      Reads''.Pre
+      Reads''.Post
       Inv
       μ
       answer
@@ -319,67 +319,67 @@ module _ {M : Type 1} where
       answer'9
 
   pub close : Lts.Closed (
-    Reads'3.Asked,
-    Reads'3.Learnt,
     Reads'4.Asked,
     Reads'4.Learnt,
     Reads.Asked,
     Reads.Learnt,
-    Reads''.Asked,
-    Reads''.Learnt,
-  ) Reads'.Pre Reads'.Post M → Statement.statement M
+    Reads'.Asked,
+    Reads'.Learnt,
+    Reads'3.Asked,
+    Reads'3.Learnt,
+  ) Reads''.Pre Reads''.Post M → Statement.statement M
   unfolding Code.routine Running.tablesOf
   close =
       λ closed 𝓤 H 𝓜 𝓖 𝓡. Written.close
       1
       Kinds.ps
       Kinds.r
-      Reads'.Ghost
-      Reads'.requires
-      Reads'.ensures
-      Reads'.pre-read
-      Reads'.Pinned
-      Reads'.Owned
-      Reads'.post-read
+      Reads''.Ghost
+      Reads''.requires
+      Reads''.ensures
+      Reads''.pre-read
+      Reads''.Pinned
+      Reads''.Owned
+      Reads''.post-read
       record { M = M; 𝓤 = 𝓤; H = H; 𝓜 = 𝓜; 𝓖 = 𝓖; 𝓡 = 𝓡 }
       Code.env
       Key.name
       Code.function
       (Code.unfolded 𝓤 H 𝓜 𝓡)
       (λ κs a g. tt)
-      (λ κs. Reads'.owns κs record { M = M; 𝓤 = 𝓤; H = H; 𝓜 = 𝓜; 𝓖 = 𝓖; 𝓡 = 𝓡 })
-      (Reads'.passes record { M = M; 𝓤 = 𝓤; H = H; 𝓜 = 𝓜; 𝓖 = 𝓖; 𝓡 = 𝓡 })
+      (λ κs. Reads''.owns κs record { M = M; 𝓤 = 𝓤; H = H; 𝓜 = 𝓜; 𝓖 = 𝓖; 𝓡 = 𝓡 })
+      (Reads''.passes record { M = M; 𝓤 = 𝓤; H = H; 𝓜 = 𝓜; 𝓖 = 𝓖; 𝓡 = 𝓡 })
       λ g. closed
       𝓤
       H
       (𝓖 .A)
       (Running.givenOf 𝓤 H 𝓜 𝓖)
       (Run.Over 𝓤 H 𝓜 𝓖 𝓡 Code.env)
-      (Reads'3.known
-      record { M = M; 𝓤 = 𝓤; H = H; 𝓜 = 𝓜; 𝓖 = 𝓖; 𝓡 = 𝓡 }
-      Code.env
-      Symbol''.name
-      Symbol''.routine
-      Code.calls-sequence·plus-delta
-      (Met''.met 𝓤 H 𝓜 𝓖 𝓡))
       (Reads'4.known
       record { M = M; 𝓤 = 𝓤; H = H; 𝓜 = 𝓜; 𝓖 = 𝓖; 𝓡 = 𝓡 }
       Code.env
       Symbol'3.name
       Symbol'3.routine
-      Code.calls-table·find-reply
+      Code.calls-sequence·plus-delta
       (Met'3.met 𝓤 H 𝓜 𝓖 𝓡))
       (Reads.known
       record { M = M; 𝓤 = 𝓤; H = H; 𝓜 = 𝓜; 𝓖 = 𝓖; 𝓡 = 𝓡 }
       Code.env
       Symbol.name
       Symbol.routine
-      Code.calls-search·free
+      Code.calls-find·find-reply
       (Met.met 𝓤 H 𝓜 𝓖 𝓡))
-      (Reads''.known
+      (Reads'.known
       record { M = M; 𝓤 = 𝓤; H = H; 𝓜 = 𝓜; 𝓖 = 𝓖; 𝓡 = 𝓡 }
       Code.env
       Symbol'.name
       Symbol'.routine
-      Code.calls-search·none-free
+      Code.calls-search·free
       (Met'.met 𝓤 H 𝓜 𝓖 𝓡))
+      (Reads'3.known
+      record { M = M; 𝓤 = 𝓤; H = H; 𝓜 = 𝓜; 𝓖 = 𝓖; 𝓡 = 𝓡 }
+      Code.env
+      Symbol''.name
+      Symbol''.routine
+      Code.calls-search·none-free
+      (Met''.met 𝓤 H 𝓜 𝓖 𝓡))
