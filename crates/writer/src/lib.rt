@@ -10,9 +10,9 @@ ghost use Rattle.writer.specs.Given.{messageFrom};
 use plain::Base;
 use plain::Discovery;
 use plain::Target;
-use writer_option::put_arts;
-use writer_option::put_base;
-use writer_option::put_configuration;
+use writer_art::put_arts;
+use writer_base::put_base;
+use writer_base::put_configuration;
 use writer_option::put_discovery;
 
 // A whole message.

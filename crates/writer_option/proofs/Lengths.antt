@@ -1,66 +1,17 @@
--- How long the octets of the base and of each option are.
-use Prim.Native.Nat.{ℕ, suc, _+_, _-_, _*_, _/_, _≤_, _<_}
+-- How long the octets of an RREQ or RREP are.
+use Prim.Native.Nat.{ℕ, suc, _+_, _≤_}
 use mathlib.Core.Path.{_≡_, refl, ap}
-use mathlib.Core.Bool.{Bool, true, false, cond}
-use mathlib.Core.List.{List, [], _∷_, _++_, map, flatten}
-use mathlib.Core.Option.{some, none}
+use mathlib.Core.Bool.{Bool, true, false}
+use mathlib.Core.List.{List, _++_}
 use native.Mathlib.Omega.{arith}
-use lib.Dec.{eqb}
-use lib.ListN.{length, getD, take, length-append, length-take}
-use lib.Seq.{getD-take}
-use borrow.Author.Tests.{leb-true}
-use Rattle.lemmas.proofs.Choice.{and-left, and-right}
+use lib.ListN.{length}
 use Rattle.plain.specs.Lists.{all}
 use Rattle.plain.specs.Address.{Address}
-use Rattle.plain.specs.Octets.{prefixOctets, baseOctets, configurationOctets, routeBodyOctets, routeOctets, elided, artOctets}
-use Rattle.plain.specs.declared.Target.{Target}
-use Rattle.plain.specs.declared.Base.{Base}
+use Rattle.plain.specs.Octets.{routeBodyOctets, routeOctets, elided}
 use Rattle.plain.specs.declared.Discovery.{Discovery}
-use Rattle.writer_option.specs.Heads.{routeHead, artHead, routeWord}
-use Rattle.writer_option.specs.Sendable.{Sendable, shortPrefix, shortPrefixes}
-use Rattle.writer_octets.proofs.Addresses.{all-at, long, elided-length}
-
--- what an array of targets is read as past its end
-abbrev pub noTarget : Target
-noTarget = record { seq = 0; plen = 0; addr = [] }
-
--- each of the first n targets has a Prefix Length that can be sent
-pub short-at : (n : ℕ) (ts : List Target) (i : ℕ) → i < n → i < length ts → shortPrefixes (take n ts) ≡ true → getD ts i noTarget .plen ≤ 127
-short-at n ts i h k e =
-    leb-true (getD ts i noTarget .plen) 127
-    (rw (getD-take n ts i noTarget h) at (all-at shortPrefix (take n ts) i noTarget (omega (arith, length-take n ts)) e))
-
-pub prefix-octets-le : (plen : ℕ) → plen ≤ 127 → prefixOctets plen ≤ 16
-prefix-octets-le plen h = go (eqb plen 0)
-  where
-    go : (z : Bool) → (cond z 128 plen + 7) / 8 ≤ 16
-    go true = omega arith
-    go false = omega arith
-
--- an ART is its head and so many octets of its target
-pub art-parts : (t : Target) (size : ℕ) → size ≡ prefixOctets (t .plen) → size ≤ length (t .addr) → artOctets t ≡ artHead t size ++ take size (t .addr)
-unfolding artOctets
-art-parts t size e h =
-    let k : suc (suc (length (take size (t .addr)))) ≡ size + 2 = omega (arith, length-take size (t .addr)) in
-    rw (← e, k)
-
-pub art-length : (t : Target) → length (artOctets t) ≡ 4 + length (take (prefixOctets (t .plen)) (t .addr))
-unfolding artOctets
-art-length t = omega arith
-
-pub art-le : (t : Target) → t .plen ≤ 127 → length (artOctets t) ≤ 20
-art-le t h = omega (arith, art-length t, length-take (prefixOctets (t .plen)) (t .addr), prefix-octets-le (t .plen) h)
-
-pub arts-le : (ts : List Target) → shortPrefixes ts ≡ true → length (flatten (map artOctets ts)) ≤ 20 * length ts
-unfolding flatten all
-arts-le [] e = omega arith
-arts-le (t ∷ ts) e =
-    omega (
-      arith,
-      length-append (artOctets t) (flatten (map artOctets ts)),
-      art-le t (leb-true (t .plen) 127 (and-left (shortPrefix t) (all shortPrefix ts) e)),
-      arts-le ts (and-right (shortPrefix t) (all shortPrefix ts) e),
-    )
+use Rattle.writer_octets.proofs.Addresses.{long, elided-length}
+use Rattle.writer_option.specs.Heads.{routeHead, routeWord}
+use Rattle.writer_option.specs.Sendable.{Sendable}
 
 -- an RREQ or RREP is its head and, with H 0, its vector
 pub route-parts : (d : Discovery) (v : List Address) (size : ℕ) → d .h ≡ false → size ≡ length (elided (d .compr) v)
@@ -86,19 +37,3 @@ route-le d v s e = go (d .h) refl
           elided-length (d .compr) v e,
           s .octets h,
         )
-
-pub base-length : (b : Base) → length (baseOctets b) ≡ 8 + length (b .dodagid)
-unfolding baseOctets
-base-length b = omega arith
-
-pub configuration-none : configurationOctets none ≡ []
-unfolding configurationOctets
-configuration-none = refl
-
-pub configuration-some : (n : ℕ) (body : List ℕ) → length body ≡ n → configurationOctets (some body) ≡ (4 ∷ n ∷ []) ++ body
-unfolding configurationOctets
-configuration-some n body e = rw e
-
-pub configuration-le : (present : Bool) (body : List ℕ) → length body ≡ 14 → length (configurationOctets (cond present (some body) none)) ≤ 16
-configuration-le true body e = omega (arith, ap length (configuration-some 14 body e))
-configuration-le false body e = omega (arith, ap length configuration-none)

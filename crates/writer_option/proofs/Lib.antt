@@ -1,3 +1,2 @@
-pub mod Stores
--- how long the base and each option are, for the proofs of callers too
+-- how long an RREQ or RREP is, for the proofs of callers too
 pub mod Lengths

@@ -1,15 +1,9 @@
--- The octets before a part of variable length. Contracts inside the crate name them; a public one does not.
+-- The octets before a vector. Contracts inside the crate name them; a public one does not.
 use Prim.Native.Nat.{ℕ, _+_}
 use mathlib.Core.Bool.{cond}
 use mathlib.Core.List.{List, [], _∷_, _++_}
-use Rattle.plain.specs.declared.Target.{Target}
-use Rattle.plain.specs.declared.Base.{Base}
 use Rattle.plain.specs.declared.Discovery.{Discovery}
-use Rattle.plain.specs.Octets.{bit, word, wordOctets, baseBits, routeBits, numberBits, artBits, rreqType, rrepType, artType}
-
--- the base up to the DODAGID
-abbrev pub baseHead : Base → List ℕ
-baseHead b = (b .instance ∷ b .version ∷ wordOctets (b .rank)) ++ (word baseBits (bit (b .g) ∷ 0 ∷ 4 ∷ b .prf ∷ []) ∷ 0 ∷ 0 ∷ 0 ∷ [])
+use Rattle.plain.specs.Octets.{bit, word, wordOctets, routeBits, numberBits, rreqType, rrepType}
 
 -- the first two octets of an RREQ or RREP, as a word
 unfoldable pub routeWord : Discovery → ℕ
@@ -19,7 +13,3 @@ routeWord d = word routeBits (bit (d .flag) ∷ bit (d .h) ∷ 0 ∷ cond (d .h)
 abbrev pub routeHead : Discovery → ℕ → List ℕ
 routeHead d size =
     (cond (d .reply) rrepType rreqType ∷ (size + 3) ∷ wordOctets (routeWord d)) ++ (word (numberBits (d .reply)) (d .number ∷ 0 ∷ []) ∷ [])
-
--- an ART up to the octets of its target, so many
-abbrev pub artHead : Target → ℕ → List ℕ
-artHead t size = artType ∷ (size + 2) ∷ t .seq ∷ word artBits (0 ∷ t .plen ∷ []) ∷ []

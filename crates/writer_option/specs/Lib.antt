@@ -1,4 +1,4 @@
 -- What must hold of a message that is written.
 pub mod Sendable
--- The parts of an encoding before a part of variable length, as the code writes them.
+-- The part of an encoding before a part of variable length, as the code writes it.
 pub mod Heads

@@ -1,68 +1,16 @@
-// Writers of the base and of each option: each writes at the front of the part of the buffer that it is lent, and answers how many octets it
-// wrote.
+// The writer of the RREQ or RREP: it writes at the front of the part of the buffer that it is lent, and answers how many octets it wrote.
 ghost use mathlib.Core.Path.{_≡_};
-ghost use mathlib.Core.Bool.{cond, false, true};
-ghost use mathlib.Core.List.{[], _∷_, map, flatten};
-ghost use mathlib.Core.Option.{some, none};
+ghost use mathlib.Core.Bool.{cond};
+ghost use mathlib.Core.List.{[], _∷_};
 ghost use Prim.Native.Nat.{_≤_};
 ghost use lib.ListN.{length, take};
 ghost use Rattle.lemmas.specs.Written.{Written};
-ghost use Rattle.plain.specs.Octets.{bit, word, numberBits, rreqType, rrepType, prefixOctets, baseOctets, configurationOctets, routeOctets, artOctets};
-ghost use Rattle.writer_option.specs.Heads.{baseHead, routeWord, routeHead, artHead};
-ghost use Rattle.writer_option.specs.Sendable.{Sendable, shortPrefixes};
-use plain::Base;
+ghost use Rattle.plain.specs.Octets.{word, numberBits, rreqType, rrepType, routeOctets};
+ghost use Rattle.writer_option.specs.Heads.{routeWord, routeHead};
+ghost use Rattle.writer_option.specs.Sendable.{Sendable};
 use plain::Discovery;
-use plain::Target;
-use writer_octets::put_octets;
+use writer_base::bit_of;
 use writer_octets::put_vector;
-
-// A flag as a field of one bit.
-fn bit_of(b: bool) -> u8
-    ensures { λ r. ⌜ (r ≡ bit b) × (r ≤ 1) ⌝ }
-{
-    if b { 1 } else { 0 }
-}
-
-// The base up to the DODAGID. MOP is 4.
-fn put_base_head(out: &mut [u8], b: Base) -> usize
-    requires { ⌜ 8 ≤ length (now out) ⌝ }
-    ensures { λ r. ⌜ Written (baseHead b) (now (out .entry)) (now (out .exit)) r ⌝ }
-{
-    out[0] = b.instance;
-    out[1] = b.version;
-    out[2] = (b.rank / 256) as u8;
-    out[3] = (b.rank % 256) as u8;
-    out[4] = bit_of(b.g) * 128 + 4 * 8 + b.prf % 8;
-    out[5] = 0;
-    out[6] = 0;
-    out[7] = 0;
-    8
-}
-
-// The base.
-pub fn put_base(out: &mut [u8], b: Base) -> usize
-    requires { ⌜ 24 ≤ length (now out) ⌝ }
-    ensures { λ r. ⌜ Written (baseOctets b) (now (out .entry)) (now (out .exit)) r ⌝ }
-{
-    let dodagid = b.dodagid;
-    let n = put_base_head(out, b);
-    let m = put_octets(&mut out[n..], &dodagid);
-    n + m
-}
-
-// The DODAG Configuration, if it is present.
-pub fn put_configuration(out: &mut [u8], present: bool, octets: [u8; 14]) -> usize
-    requires { ⌜ length (configurationOctets (cond present (some octets) none)) ≤ length (now out) ⌝ }
-    ensures { λ r. ⌜ Written (configurationOctets (cond present (some octets) none)) (now (out .entry)) (now (out .exit)) r ⌝ }
-{
-    if present {
-        out[0] = 0x04;
-        out[1] = 14;
-        let m = put_octets(&mut out[2..], &octets);
-        return 2 + m;
-    }
-    0
-}
 
 // Compr as it is sent: 0 with H 1.
 fn compr_sent(d: Discovery) -> u8
@@ -131,54 +79,4 @@ pub fn put_discovery(out: &mut [u8], d: Discovery, n: usize, vector: [[u8; 16]; 
     let at = put_route_head(out, d, n * (16 - compr));
     let m = put_vector(&mut out[at..], compr, n, vector);
     at + m
-}
-
-// How many octets of a target are sent.
-fn target_octets(plen: u8) -> usize
-    ensures { λ r. ⌜ r ≡ prefixOctets plen ⌝ }
-{
-    if plen == 0 {
-        return 16;
-    }
-    (plen as usize + 7) / 8
-}
-
-// Type, length, Dest SeqNo and Prefix Length of an ART with so many octets of a target.
-fn put_art_head(out: &mut [u8], t: Target, size: usize) -> usize
-    requires { ⌜ (size ≤ 16) × (4 ≤ length (now out)) ⌝ }
-    ensures { λ r. ⌜ Written (artHead t size) (now (out .entry)) (now (out .exit)) r ⌝ }
-{
-    out[0] = 0x0d;
-    out[1] = (size + 2) as u8;
-    out[2] = t.seq;
-    out[3] = t.plen % 128;
-    4
-}
-
-// An ART.
-pub fn put_art(out: &mut [u8], t: Target) -> usize
-    requires { ⌜ (t .plen ≤ 127) × (length (artOctets t) ≤ length (now out)) ⌝ }
-    ensures { λ r. ⌜ Written (artOctets t) (now (out .entry)) (now (out .exit)) r ⌝ }
-{
-    let size = target_octets(t.plen);
-    let a = t.addr;
-    let n = put_art_head(out, t, size);
-    let m = put_octets(&mut out[n..], &a[..size]);
-    n + m
-}
-
-// An ART for each of the first so many targets.
-pub fn put_arts(out: &mut [u8], count: usize, targets: [Target; 8]) -> usize
-    requires { ⌜ (count ≤ 8) × (shortPrefixes (take count targets) ≡ true) × (length (flatten (map artOctets (take count targets))) ≤ length (now out)) ⌝ }
-    ensures { λ r. ⌜ Written (flatten (map artOctets (take count targets))) (now (out .entry)) (now (out .exit)) r ⌝ }
-{
-    let mut at: usize = 0;
-    let mut i: usize = 0;
-    while i < count {
-        let t = targets[i];
-        let m = put_art(&mut out[at..], t);
-        at = at + m;
-        i = i + 1;
-    }
-    at
 }

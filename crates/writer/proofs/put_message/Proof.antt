@@ -12,9 +12,9 @@ use Rattle.writer.proofs.put_message.Tie as tie
 use Rattle.writer.proofs.put_message.Reads as reads
 use Rattle.writer.proofs.put_message.Lts as lts
 use Rattle.writer_octets.proofs.Addresses.{arrays-long}
-use Rattle.writer_option.proofs.put_arts.Reads as put-arts-reads
-use Rattle.writer_option.proofs.put_base.Reads as put-base-reads
-use Rattle.writer_option.proofs.put_configuration.Reads as put-configuration-reads
+use Rattle.writer_art.proofs.put_arts.Reads as put-arts-reads
+use Rattle.writer_base.proofs.put_base.Reads as put-base-reads
+use Rattle.writer_base.proofs.put_configuration.Reads as put-configuration-reads
 use Rattle.writer_option.proofs.put_discovery.Reads as put-discovery-reads
 
 -- how many octets each part of the message has at most

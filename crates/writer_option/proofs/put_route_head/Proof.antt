@@ -1,7 +1,7 @@
 -- `writer_option::put_route_head` meets its contract.
 use lib.ListN.{length-set}
 use borrow.Author.Needs.{needs}
-use Rattle.writer_option.proofs.Stores.{high-octet, stored}
+use Rattle.writer_base.proofs.Stores.{high-octet, stored}
 use Rattle.writer_option.proofs.put_route_head.Statement.{statement}
 use Rattle.writer_option.proofs.put_route_head.Tie as tie
 

@@ -6,12 +6,12 @@ use native.Mathlib.Omega.{arith}
 use lib.ListN.{length, length-take, length-drop, length-set}
 use borrow.Author.Needs.{needs}
 use Rattle.lemmas.proofs.Buffer.{length-written, written-then, written-none}
-use Rattle.writer_option.proofs.Lengths.{configuration-some, configuration-none}
-use Rattle.writer_option.proofs.Stores.{stored}
-use Rattle.writer_option.proofs.put_configuration.Statement.{statement}
-use Rattle.writer_option.proofs.put_configuration.Tie as tie
-use Rattle.writer_option.proofs.put_configuration.Reads as reads
-use Rattle.writer_option.proofs.put_configuration.Lts as lts
+use Rattle.writer_base.proofs.Lengths.{configuration-some, configuration-none}
+use Rattle.writer_base.proofs.Stores.{stored}
+use Rattle.writer_base.proofs.put_configuration.Statement.{statement}
+use Rattle.writer_base.proofs.put_configuration.Tie as tie
+use Rattle.writer_base.proofs.put_configuration.Reads as reads
+use Rattle.writer_base.proofs.put_configuration.Lts as lts
 use Rattle.writer_octets.proofs.put_octets.Reads as put-octets-reads
 
 -- there is room for type, length and 14 octets

@@ -5,8 +5,8 @@ use lib.ListN.{length, length-take, length-drop}
 use borrow.Author.Needs.{needs}
 use Rattle.lemmas.proofs.Buffer.{written-then}
 use Rattle.plain.specs.Octets.{baseOctets}
-use Rattle.writer_option.proofs.put_base.Statement.{statement}
-use Rattle.writer_option.proofs.put_base.Tie as tie
+use Rattle.writer_base.proofs.put_base.Statement.{statement}
+use Rattle.writer_base.proofs.put_base.Tie as tie
 
 put-base-head-requires : tie.Need-put-base-head-requires
 put-base-head-requires c κs = search needs

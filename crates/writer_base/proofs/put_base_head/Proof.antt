@@ -2,9 +2,9 @@
 use native.Mathlib.Omega.{arith}
 use lib.ListN.{length-set}
 use borrow.Author.Needs.{needs}
-use Rattle.writer_option.proofs.Stores.{high-octet, stored, base-word}
-use Rattle.writer_option.proofs.put_base_head.Statement.{statement}
-use Rattle.writer_option.proofs.put_base_head.Tie as tie
+use Rattle.writer_base.proofs.Stores.{high-octet, stored, base-word}
+use Rattle.writer_base.proofs.put_base_head.Statement.{statement}
+use Rattle.writer_base.proofs.put_base_head.Tie as tie
 
 slice-write-out : tie.Need-slice-write-out
 slice-write-out c = search needs

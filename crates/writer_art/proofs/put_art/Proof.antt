@@ -6,14 +6,14 @@ use lib.ListN.{length, length-take, length-drop}
 use borrow.Author.Needs.{needs}
 use Rattle.lemmas.proofs.Buffer.{written-then}
 use Rattle.plain.specs.Octets.{artOctets, prefixOctets}
-use Rattle.writer_option.proofs.Lengths.{prefix-octets-le, art-parts}
-use Rattle.writer_option.proofs.put_art.Statement.{statement}
-use Rattle.writer_option.proofs.put_art.Tie as tie
-use Rattle.writer_option.proofs.put_art.Reads as reads
-use Rattle.writer_option.proofs.put_art.Lts as lts
-use Rattle.writer_option.proofs.put_art_head.Reads as put-art-head-reads
+use Rattle.writer_art.proofs.Lengths.{prefix-octets-le, art-parts}
+use Rattle.writer_art.proofs.put_art.Statement.{statement}
+use Rattle.writer_art.proofs.put_art.Tie as tie
+use Rattle.writer_art.proofs.put_art.Reads as reads
+use Rattle.writer_art.proofs.put_art.Lts as lts
+use Rattle.writer_art.proofs.put_art_head.Reads as put-art-head-reads
 use Rattle.writer_octets.proofs.put_octets.Reads as put-octets-reads
-use Rattle.writer_option.proofs.target_octets.Reads as target-octets-reads
+use Rattle.writer_art.proofs.target_octets.Reads as target-octets-reads
 
 -- how many octets there are
 sized : (s : lts.Start (target-octets-reads.Asked, target-octets-reads.Learnt, put-art-head-reads.Asked, put-art-head-reads.Learnt, put-octets-reads.Asked, put-octets-reads.Learnt) reads.Pre reads.Post)

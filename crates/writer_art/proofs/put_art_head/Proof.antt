@@ -1,9 +1,10 @@
 -- `writer_option::put_art_head` meets its contract.
 use lib.ListN.{length-set}
 use borrow.Author.Needs.{needs}
-use Rattle.writer_option.proofs.Stores.{stored, art-word}
-use Rattle.writer_option.proofs.put_art_head.Statement.{statement}
-use Rattle.writer_option.proofs.put_art_head.Tie as tie
+use Rattle.writer_base.proofs.Stores.{stored}
+use Rattle.writer_art.proofs.Words.{art-word}
+use Rattle.writer_art.proofs.put_art_head.Statement.{statement}
+use Rattle.writer_art.proofs.put_art_head.Tie as tie
 
 slice-write-out : tie.Need-slice-write-out
 slice-write-out c = search needs

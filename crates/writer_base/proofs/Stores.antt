@@ -6,7 +6,7 @@ use native.Mathlib.Omega.{arith}
 use lib.ListN.{length}
 use lib.Seq.{sets, sets-eq}
 use Rattle.lemmas.specs.Written.{Written}
-use Rattle.plain.specs.Octets.{word, sum, baseBits, artBits}
+use Rattle.plain.specs.Octets.{word, sum, baseBits}
 
 pub stored : (vs d : List ℕ) → length vs ≤ length d → Written vs d (sets d 0 vs) (length vs)
 stored vs d h = let z : 0 + length vs ≡ length vs = omega arith in record { count = refl; holds = sets-eq vs d 0 (omega arith) ∙ rw z }
@@ -18,7 +18,3 @@ high-octet n h = omega arith
 pub base-word : (g prf : ℕ) → g ≤ 1 → word baseBits (g ∷ 0 ∷ 4 ∷ prf ∷ []) ≡ g * 128 + 32 + prf % 8
 unfolding word sum
 base-word g prf h = omega arith
-
-pub art-word : (plen : ℕ) → word artBits (0 ∷ plen ∷ []) ≡ plen % 128
-unfolding word sum
-art-word plen = omega arith

@@ -1,8 +1,8 @@
 -- `writer_option::target_octets` meets its contract.
 use borrow.Author.Needs.{needs}
 use Rattle.lemmas.proofs.Cases.{cases}
-use Rattle.writer_option.proofs.target_octets.Statement.{statement}
-use Rattle.writer_option.proofs.target_octets.Tie as tie
+use Rattle.writer_art.proofs.target_octets.Statement.{statement}
+use Rattle.writer_art.proofs.target_octets.Tie as tie
 
 returns : tie.Need-returns
 returns c = search cases

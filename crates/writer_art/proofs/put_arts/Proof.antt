@@ -8,13 +8,13 @@ use borrow.Author.Needs.{needs}
 use Rattle.lemmas.proofs.Buffer.{written-then, written-none}
 use Rattle.lemmas.specs.Written.{Written}
 use Rattle.plain.specs.Octets.{artOctets}
-use Rattle.writer_option.proofs.Lengths.{noTarget, short-at}
+use Rattle.writer_art.proofs.Lengths.{noTarget, short-at}
 use Rattle.writer_octets.proofs.Parts.{parts-none, parts-more, parts-room}
-use Rattle.writer_option.proofs.put_arts.Statement.{statement}
-use Rattle.writer_option.proofs.put_arts.Tie as tie
-use Rattle.writer_option.proofs.put_arts.Reads as reads
-use Rattle.writer_option.proofs.put_arts.Lts as lts
-use Rattle.writer_option.proofs.put_art.Reads as put-art-reads
+use Rattle.writer_art.proofs.put_arts.Statement.{statement}
+use Rattle.writer_art.proofs.put_arts.Tie as tie
+use Rattle.writer_art.proofs.put_arts.Reads as reads
+use Rattle.writer_art.proofs.put_arts.Lts as lts
+use Rattle.writer_art.proofs.put_art.Reads as put-art-reads
 
 abbrev Inv-loop : tie.InvT-loop
 Inv-loop out₀ count targets at₀ i₀ out at i = (i ≤ count) × (length out ≡ length out₀) × Written (flatten (map artOctets (take i targets))) out₀ out at
