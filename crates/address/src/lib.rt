@@ -1,10 +1,10 @@
 // Addresses: sixteen octets by value (01, "Octets on the air").
 ghost use mathlib.Core.Path.{_≡_};
-ghost use Prim.Native.Nat.{_+_, _-_, _≤_};
+ghost use Prim.Native.Nat.{_+_, _≤_};
 ghost use lib.ListN.{length};
 ghost use lib.Seq.{paste};
 ghost use Rattle.plain.specs.Lists.{same};
-ghost use Rattle.plain.specs.Address.{linkLocal, allZero, unusable, keepBits, firstBits, agree, restore, sharesFirst};
+ghost use Rattle.plain.specs.Address.{linkLocal, allZero, unusable, firstBits, agree, restore, sharesFirst};
 
 // Whether the first `compr` octets of `a` are those of the DODAGID.
 pub fn shares_first(compr: u8, dodagid: [u8; 16], a: [u8; 16]) -> bool
@@ -75,42 +75,6 @@ pub fn is_unusable(a: [u8; 16]) -> bool
     is_all_zero(a)
 }
 
-// The first k bits of an octet, the others 0.
-pub fn keep_bits(k: u8, x: u8) -> u8
-    ensures { λ r. ⌜ r ≡ keepBits k x ⌝ }
-{
-    if 8 <= k {
-        return x;
-    }
-    if k == 0 {
-        return 0;
-    }
-    let spare = 8 - k;
-    x >> spare << spare
-}
-
-// What is left of k bits after the first eight.
-fn past_octet(k: u8) -> u8
-    ensures { λ r. ⌜ r ≡ k - 8 ⌝ }
-{
-    if k < 8 { 0 } else { k - 8 }
-}
-
-// The first k bits of an address, octet by octet.
-fn cut_bits(k: u8, a: [u8; 16]) -> [u8; 16]
-    ensures { λ r. ⌜ r ≡ firstBits k a ⌝ }
-{
-    let mut kept = [0u8; 16];
-    let mut left = k;
-    let mut i: usize = 0;
-    while i < 16 {
-        kept[i] = keep_bits(left, a[i]);
-        left = past_octet(left);
-        i = i + 1;
-    }
-    kept
-}
-
 // The first k bits of an address, the others 0. Most are asked for whole.
 pub fn first_bits(k: u8, a: [u8; 16]) -> [u8; 16]
     ensures { λ r. ⌜ r ≡ firstBits k a ⌝ }
@@ -118,7 +82,7 @@ pub fn first_bits(k: u8, a: [u8; 16]) -> [u8; 16]
     if 128 <= k {
         return a;
     }
-    cut_bits(k, a)
+    prefix::cut_bits(k, a)
 }
 
 // Whether two addresses share their first k bits.
@@ -128,7 +92,7 @@ pub fn do_agree(k: u8, a: [u8; 16], b: [u8; 16]) -> bool
     if 128 <= k {
         return is_same(a, b);
     }
-    is_same(cut_bits(k, a), cut_bits(k, b))
+    is_same(prefix::cut_bits(k, a), prefix::cut_bits(k, b))
 }
 
 // Puts some octets over those of `out` from `at` on.

@@ -12,7 +12,7 @@ use Rattle.plain.specs.Address.{Address, keepBits, firstBits}
 use Rattle.plain.specs.Octets.{sameTarget, prefixBits}
 use Rattle.plain.specs.Request.{matches, wholeBits}
 use Rattle.plain.specs.declared.Target.{Target}
-use Rattle.address.proofs.Laws.{keep-all}
+use Rattle.prefix.proofs.Laws.{keep-all}
 
 keep-twice : (k x : ℕ) → keepBits k (keepBits k x) ≡ keepBits k x
 unfolding keepBits

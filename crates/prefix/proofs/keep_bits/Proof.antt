@@ -2,10 +2,10 @@ use mathlib.Core.Path.{sym}
 use native.Mathlib.Nat.{mod-eq-of-lt}
 use native.Mathlib.Omega.{arith}
 use borrow.Author.Needs.{needs}
-use Rattle.address.proofs.Laws.{keep-le, keep-all, keep-none}
+use Rattle.prefix.proofs.Laws.{keep-le, keep-all, keep-none}
 use Rattle.plain.specs.Address.{keepBits}
-use Rattle.address.proofs.keep_bits.Statement.{statement}
-use Rattle.address.proofs.keep_bits.Tie as tie
+use Rattle.prefix.proofs.keep_bits.Statement.{statement}
+use Rattle.prefix.proofs.keep_bits.Tie as tie
 
 returns : tie.Need-returns
 returns c = sym (keep-all _ _ (c .if1 .taken))

@@ -3,10 +3,10 @@ use mathlib.Core.Path.{_≡_, refl}
 use native.Mathlib.Omega.{arith}
 use lib.ListN.{length}
 use borrow.Author.Needs.{needs}
-use Rattle.address.proofs.Laws.{Keeping, keep-more, keep-end}
+use Rattle.prefix.proofs.Laws.{Keeping, keep-more, keep-end}
 use Rattle.lemmas.proofs.Cases.{cases}
-use Rattle.address.proofs.cut_bits.Statement.{statement}
-use Rattle.address.proofs.cut_bits.Tie as tie
+use Rattle.prefix.proofs.cut_bits.Statement.{statement}
+use Rattle.prefix.proofs.cut_bits.Tie as tie
 
 abbrev Inv-loop : tie.InvT-loop
 Inv-loop k a kept₀ left₀ i₀ kept left i = (i ≤ 16) × (length kept ≡ 16) × Keeping k a kept left i
