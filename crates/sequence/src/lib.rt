@@ -2,39 +2,7 @@
 use plain::Freshness;
 use plain::Standing;
 ghost use mathlib.Core.Path.{_≡_};
-ghost use Prim.Native.Nat.{_+_, _-_};
-ghost use Rattle.plain.specs.Rank.{sameSide, lowIsNewer, freshness, stepped, standing, outdated, plusDelta, minusDelta};
-
-// By how much two numbers differ.
-fn difference(a: u8, b: u8) -> u8
-    ensures { λ r. ⌜ r ≡ a - b + (b - a) ⌝ }
-{
-    if b < a { a - b } else { b - a }
-}
-
-// How a stands to b, both on the same side of 128.
-fn on_same_side(a: u8, b: u8) -> Freshness
-    ensures { λ r. ⌜ r ≡ sameSide a b ⌝ }
-{
-    if 16 < difference(a, b) {
-        return Freshness::NotComparable;
-    }
-    if b < a {
-        return Freshness::Newer;
-    }
-    if a < b {
-        Freshness::Older
-    } else {
-        Freshness::Equal
-    }
-}
-
-// Whether `low`, under 128, is newer than `high`, from 128 on.
-fn is_low_newer(high: u8, low: u8) -> bool
-    ensures { λ r. ⌜ r ≡ lowIsNewer high low ⌝ }
-{
-    256 + (low as u16) - (high as u16) <= 16
-}
+ghost use Rattle.plain.specs.Rank.{freshness, stepped, standing, outdated, plusDelta, minusDelta};
 
 // How a stands to b: Newer where a is the newer one.
 pub fn compare(a: u8, b: u8) -> Freshness
@@ -42,17 +10,17 @@ pub fn compare(a: u8, b: u8) -> Freshness
 {
     if 128 <= a {
         if 128 <= b {
-            return on_same_side(a, b);
+            return lollipop::on_same_side(a, b);
         }
-        if is_low_newer(a, b) {
+        if lollipop::is_low_newer(a, b) {
             return Freshness::Older;
         }
         return Freshness::Newer;
     }
     if b < 128 {
-        return on_same_side(a, b);
+        return lollipop::on_same_side(a, b);
     }
-    if is_low_newer(b, a) {
+    if lollipop::is_low_newer(b, a) {
         Freshness::Newer
     } else {
         Freshness::Older

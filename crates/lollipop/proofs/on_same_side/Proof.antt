@@ -1,6 +1,6 @@
 use borrow.Author.Needs.{needs}
-use Rattle.sequence.proofs.on_same_side.Statement.{statement}
-use Rattle.sequence.proofs.on_same_side.Tie as tie
+use Rattle.lollipop.proofs.on_same_side.Statement.{statement}
+use Rattle.lollipop.proofs.on_same_side.Tie as tie
 use Rattle.lemmas.proofs.Cases.{cases}
 
 difference-requires : tie.Need-difference-requires
