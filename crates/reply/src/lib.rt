@@ -157,9 +157,9 @@ fn loops(o: Own, p: Parsed, vector: [[u8; 16]; 16], w: Facts) -> bool
             return false;
         }
         let receiving = o.receiving;
-        return !own::stands_once(receiving, p.n, vector);
+        return !path::stands_once(receiving, p.n, vector);
     }
-    own::has_ours(o, p.n, vector)
+    path::has_ours(o, p.n, vector)
 }
 
 // Answer 11: the link towards TargNode is asked of an asymmetric reply.
@@ -345,7 +345,7 @@ fn next_node(o: Own, p: Parsed, vector: [[u8; 16]; 16], w: Facts) -> [u8; 16]
     }
     let first = orig_node(p);
     let receiving = o.receiving;
-    own::address_before(first, receiving, p.n, vector)
+    path::address_before(first, receiving, p.n, vector)
 }
 
 fn destination(o: Own, p: Parsed, vector: [[u8; 16]; 16], w: Facts) -> Destination

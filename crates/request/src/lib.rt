@@ -249,7 +249,7 @@ pub fn judge(o: Own, k: Link, p: Parsed, vector: [[u8; 16]; 16], a: Facts) -> An
 {
     let dodagid = p.base.dodagid;
     let s = a.standing;
-    if own::has_ours(o, p.n, vector) {
+    if path::has_ours(o, p.n, vector) {
         return Answer::Loop;
     }
     if own::cannot_elide(o, p.discovery.h, p.discovery.compr, dodagid) {

@@ -6,8 +6,8 @@ use Rattle.reply.proofs.loops.Statement.{statement}
 use Rattle.reply.proofs.loops.Tie as tie
 use Rattle.reply.proofs.loops.Reads as reads
 use Rattle.reply.proofs.loops.Lts as lts
-use Rattle.own.proofs.has_ours.Reads as has-ours-reads
-use Rattle.own.proofs.stands_once.Reads as stands-once-reads
+use Rattle.path.proofs.has_ours.Reads as has-ours-reads
+use Rattle.path.proofs.stands_once.Reads as stands-once-reads
 use Rattle.lemmas.proofs.Cases.{cases}
 
 -- src/lib.rt:151:9

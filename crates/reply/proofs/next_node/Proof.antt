@@ -3,7 +3,7 @@ use Rattle.reply.proofs.next_node.Statement.{statement}
 use Rattle.reply.proofs.next_node.Tie as tie
 use Rattle.reply.proofs.next_node.Reads as reads
 use Rattle.reply.proofs.next_node.Lts as lts
-use Rattle.own.proofs.address_before.Reads as address-before-reads
+use Rattle.path.proofs.address_before.Reads as address-before-reads
 use Rattle.reply.proofs.orig_node.Reads as orig-node-reads
 use Rattle.lemmas.proofs.Cases.{cases}
 

@@ -5,10 +5,10 @@ use lib.ListN.{length, take, drop}
 use borrow.Author.Needs.{needs}
 use Rattle.plain.specs.Lists.{any}
 use Rattle.plain.specs.Request.{ours}
 use Rattle.own.specs.Settings.{settingsOf}
-use Rattle.own.proofs.Walk.{any-hit, any-miss, any-end}
-use Rattle.own.proofs.has_ours.Statement.{statement}
-use Rattle.own.proofs.has_ours.Tie as tie
+use Rattle.path.proofs.Walk.{any-hit, any-miss, any-end}
+use Rattle.path.proofs.has_ours.Statement.{statement}
+use Rattle.path.proofs.has_ours.Tie as tie
 use Rattle.lemmas.proofs.Cases.{cases}
 
 abbrev Inv-loop : tie.InvT-loop

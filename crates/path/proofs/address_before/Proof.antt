@@ -4,9 +4,9 @@ use native.Mathlib.Omega.{arith}
 use lib.ListN.{length, take, drop}
 use borrow.Author.Needs.{needs}
 use Rattle.plain.specs.Reply.{before}
-use Rattle.own.proofs.Walk.{before-hit, before-miss, before-end}
-use Rattle.own.proofs.address_before.Statement.{statement}
-use Rattle.own.proofs.address_before.Tie as tie
+use Rattle.path.proofs.Walk.{before-hit, before-miss, before-end}
+use Rattle.path.proofs.address_before.Statement.{statement}
+use Rattle.path.proofs.address_before.Tie as tie
 use Rattle.lemmas.proofs.Cases.{cases}
 
 abbrev Inv-loop : tie.InvT-loop

@@ -6,9 +6,9 @@ use borrow.Author.Needs.{needs}
 use lib.Dec.{eqb}
 use mathlib.Core.List.{[]}
 use Rattle.plain.specs.Lists.{count, same}
-use Rattle.own.proofs.Walk.{count-one, count-more, count-end}
-use Rattle.own.proofs.stands_once.Statement.{statement}
-use Rattle.own.proofs.stands_once.Tie as tie
+use Rattle.path.proofs.Walk.{count-one, count-more, count-end}
+use Rattle.path.proofs.stands_once.Statement.{statement}
+use Rattle.path.proofs.stands_once.Tie as tie
 use Rattle.lemmas.proofs.Cases.{cases}
 
 abbrev Inv-loop : tie.InvT-loop
