@@ -1,16 +1,15 @@
 -- What stands at a position of a message.
 use Prim.Native.Nat.{ℕ, _+_, _-_, _/_, _%_, _≤_, _<_}
 use mathlib.Core.Path.{_≡_}
-use mathlib.Core.Bool.{Bool, false, not}
+use mathlib.Core.Bool.{Bool}
 use mathlib.Core.List.{List, _∷_}
 use native.Mathlib.Omega.{arith}
 use lib.ListN.{length, getD, drop, length-drop, drop-of-length-le}
 use lib.Seq.{drop-drop}
 use lib.Dec.{eqb}
-use borrow.Author.Tests.{ne-eqb, le-leb, lt-leb, le-ltb}
-use Rattle.plain.specs.Octets.{fields, sum, wordAt, comprOf, hOf, numberOf, discoveryOf, badRoute}
+use borrow.Author.Tests.{ne-eqb, le-leb, lt-leb}
+use Rattle.plain.specs.Octets.{fields, sum, wordAt, comprOf, hOf, numberOf, discoveryOf}
 use Rattle.lemmas.proofs.Walk.{left-at}
-use Rattle.lemmas.proofs.Choice.{cond-case}
 use Rattle.option.specs.declared.Next.the-variants.{Pad, Body, End, Cut}
 use Rattle.option.specs.Follows.{Follows}
 
@@ -52,22 +51,9 @@ module _ (msg : List ℕ) (at : ℕ) where
 
 -- ---- The fields of an RREQ or RREP
 
-pub compr-below : (body : List ℕ) → comprOf body < 16
-unfolding fields sum
-compr-below body = cond-case (λ (n : ℕ). n < 16) (hOf body) 0 _ (λ _. omega arith) (λ _. omega arith)
-
 module _ (body : List ℕ) (w : ℕ) (e : w ≡ wordAt body 0) where
-  pub compr-is : hOf body ≡ false → w / 512 % 16 ≡ comprOf body
-  unfolding fields sum
-  compr-is h = rw (h, e)
-
   pub discovery-is : (reply h : Bool) (c n : ℕ) → h ≡ hOf body → c ≡ comprOf body → n ≡ numberOf reply body
       → record { reply = reply; flag = eqb (w / 32768 % 2) 1; h = h; compr = c; l = w / 128 % 4; limit = w % 128; number = n }
       ≡ discoveryOf reply body
   unfolding discoveryOf fields sum
   discovery-is reply h c n p q r = let l : w % 128 ≡ w / 1 % 128 = omega arith in rw (p, q, r, l, e)
-
-pub vector-is : (body : List ℕ) → 3 ≤ length body → hOf body ≡ false
-    → not (eqb ((length body - 3) % (16 - comprOf body)) 0) ≡ badRoute body
-unfolding badRoute
-vector-is body l h = rw (le-ltb (length body) 3 l, h, length-drop 3 body)

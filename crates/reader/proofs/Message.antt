@@ -16,7 +16,7 @@ use Rattle.plain.specs.declared.Discovery.{Discovery}
 use Rattle.plain.specs.declared.Target.{Target}
 use Rattle.scan.specs.declared.Scan.{Scan}
 use Rattle.scan.specs.Scanned.{Outlined}
-use Rattle.option.proofs.Laws.{compr-below}
+use Rattle.option_body.proofs.Laws.{compr-below}
 use Rattle.reader.specs.declared.Reading.{Reading}
 use Rattle.reader.specs.declared.Refusal.{Refusal}
 use Rattle.reader.specs.Reading.{refusalNumber, messageRead, heardFrom, Bounded}

@@ -117,7 +117,7 @@ fn read_base(msg: &[u8]) -> Base
     Base {
         instance: art::octet_at(msg, 0),
         version: art::octet_at(msg, 1),
-        rank: option::word_at(msg, 2),
+        rank: option_body::word_at(msg, 2),
         g: flags / 128 == 1,
         prf: flags % 8,
         dodagid,

@@ -1,11 +1,11 @@
 use mathlib.Core.Path.{sym, _∙_}
 use native.Mathlib.Omega.{arith}
 use borrow.Author.Needs.{needs}
-use Rattle.option.proofs.Laws.{compr-below, vector-is}
+use Rattle.option_body.proofs.Laws.{compr-below, vector-is}
 use Rattle.plain.specs.Octets.{badRoute}
 use Rattle.lemmas.proofs.Cases.{cases}
-use Rattle.option.proofs.is_bad_route.Statement.{statement}
-use Rattle.option.proofs.is_bad_route.Tie as tie
+use Rattle.option_body.proofs.is_bad_route.Statement.{statement}
+use Rattle.option_body.proofs.is_bad_route.Tie as tie
 
 returns : tie.Need-returns
 unfolding badRoute

@@ -1,10 +1,10 @@
 use mathlib.Core.Path.{sym, _∙_}
 use borrow.Author.Needs.{needs}
-use Rattle.option.proofs.Laws.{compr-is}
+use Rattle.option_body.proofs.Laws.{compr-is}
 use Rattle.plain.specs.Octets.{fields, sum}
 use Rattle.lemmas.proofs.Cases.{cases}
-use Rattle.option.proofs.compr_of.Statement.{statement}
-use Rattle.option.proofs.compr_of.Tie as tie
+use Rattle.option_body.proofs.compr_of.Statement.{statement}
+use Rattle.option_body.proofs.compr_of.Tie as tie
 
 has-h-requires : tie.Need-has-h-requires
 has-h-requires c κs = search needs

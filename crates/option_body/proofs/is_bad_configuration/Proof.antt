@@ -1,8 +1,8 @@
 use borrow.Author.Needs.{needs}
 use Rattle.plain.specs.Octets.{badConfiguration}
 use Rattle.lemmas.proofs.Cases.{cases}
-use Rattle.option.proofs.is_bad_configuration.Statement.{statement}
-use Rattle.option.proofs.is_bad_configuration.Tie as tie
+use Rattle.option_body.proofs.is_bad_configuration.Statement.{statement}
+use Rattle.option_body.proofs.is_bad_configuration.Tie as tie
 
 returns : tie.Need-returns
 unfolding badConfiguration

@@ -1,8 +1,8 @@
 use borrow.Author.Needs.{needs}
 use Rattle.plain.specs.Octets.{fields, sum}
 use Rattle.lemmas.proofs.Cases.{cases}
-use Rattle.option.proofs.has_h.Statement.{statement}
-use Rattle.option.proofs.has_h.Tie as tie
+use Rattle.option_body.proofs.has_h.Statement.{statement}
+use Rattle.option_body.proofs.has_h.Tie as tie
 
 word-at-requires : tie.Need-word-at-requires
 word-at-requires c κs = search needs
