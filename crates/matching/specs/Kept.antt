@@ -1,19 +1,14 @@
--- Targets by value as the lists of the rules, and our two addresses as the node's settings.
+-- Targets by value as the lists of the rules.
 use Prim.Native.Nat.{ℕ, _≤_}
 use mathlib.Core.Path.{_≡_}
 use mathlib.Core.Bool.{false}
 use mathlib.Core.List.{List, []}
 use lib.ListN.{take}
-use Rattle.plain.specs.Address.{Address}
-use Rattle.plain.specs.Given.{Settings}
 use Rattle.plain.specs.Lists.{once}
 use Rattle.plain.specs.Octets.{mostTargets, sameTarget}
 use Rattle.plain.specs.declared.Target.{Target}
 use Rattle.art.specs.declared.Targets.{Targets}
 use Rattle.art.specs.Collected.{Collected}
-
-abbrev pub settings : Address → Address → Settings
-settings receiving sending = record { receiving = receiving; sending = sending }
 
 -- the first `count` of them
 abbrev pub listOf : Targets → List Target

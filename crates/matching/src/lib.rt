@@ -6,26 +6,9 @@ ghost use mathlib.Core.Path.{_≡_};
 ghost use mathlib.Core.Bool.{cond};
 ghost use mathlib.Core.List.{[], _∷_, _++_};
 ghost use Rattle.plain.specs.Lists.{any};
-ghost use Rattle.plain.specs.Request.{matches, matchesUs, notOurs, common, wholeBits};
-ghost use Rattle.matching.specs.Kept.{settings, listOf, Kept, Nothing};
-
-// Whether a target equals an address, or shares its first Prefix Length bits. What it is to match is asked here alone.
-pub fn does_match(t: Target, a: [u8; 16]) -> bool
-    ensures { λ r. ⌜ r ≡ matches t a ⌝ }
-{
-    let prefix = t.addr;
-    address::do_agree(art::prefix_bits(t.plen), prefix, a)
-}
-
-// Whether a target matches one of our addresses.
-pub fn matches_us(t: Target, receiving: [u8; 16], sending: [u8; 16]) -> bool
-    ensures { λ r. ⌜ r ≡ matchesUs (settings receiving sending) t ⌝ }
-{
-    if does_match(t, receiving) {
-        return true;
-    }
-    does_match(t, sending)
-}
+ghost use Rattle.plain.specs.Request.{matchesUs, notOurs, common, wholeBits};
+ghost use Rattle.matching.specs.Kept.{listOf, Kept, Nothing};
+ghost use Rattle.ours.specs.Ours.{settings};
 
 // Whether we are TargNode: one of the targets matches us.
 pub fn is_named(ts: Targets, receiving: [u8; 16], sending: [u8; 16]) -> bool
@@ -37,7 +20,7 @@ pub fn is_named(ts: Targets, receiving: [u8; 16], sending: [u8; 16]) -> bool
     let mut i: usize = 0;
     while i < n {
         let t = list[i];
-        if matches_us(t, receiving, sending) {
+        if ours::matches_us(t, receiving, sending) {
             return true;
         }
         i = i + 1;
@@ -94,7 +77,7 @@ pub fn not_ours(ts: Targets, receiving: [u8; 16], sending: [u8; 16]) -> Targets
     let mut i: usize = 0;
     while i < n {
         let t = list[i];
-        kept = keep_if(kept, t, !matches_us(t, receiving, sending));
+        kept = keep_if(kept, t, !ours::matches_us(t, receiving, sending));
         i = i + 1;
     }
     kept

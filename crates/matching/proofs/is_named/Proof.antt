@@ -5,7 +5,7 @@ use mathlib.Core.Path.{_≡_, sym, _∙_}
 use native.Mathlib.Omega.{arith}
 use lib.ListN.{length, length-map}
 use borrow.Author.Needs.{needs}
-use Rattle.matching.specs.Kept.{settings}
+use Rattle.ours.specs.Ours.{settings}
 use Rattle.plain.specs.Request.{matchesUs}
 use Rattle.address.proofs.First.{Unfound, is-found, not-here, nowhere}
 use Rattle.matching.proofs.is_named.Statement.{statement}

@@ -4,7 +4,8 @@ use native.Mathlib.Omega.{arith}
 use lib.ListN.{length, length-map}
 use borrow.Author.Needs.{needs}
 use Rattle.plain.specs.declared.Target.{Target}
-use Rattle.matching.specs.Kept.{settings, listOf}
+use Rattle.matching.specs.Kept.{listOf}
+use Rattle.ours.specs.Ours.{settings}
 use Rattle.matching.proofs.Sifted.{Sifted, sift-more, sift-end}
 use mathlib.Core.Bool.{false, not}
 use Rattle.plain.specs.Request.{matchesUs}

@@ -1,6 +1,6 @@
 use borrow.Author.Needs.{needs}
-use Rattle.matching.proofs.matches_us.Statement.{statement}
-use Rattle.matching.proofs.matches_us.Tie as tie
+use Rattle.ours.proofs.matches_us.Statement.{statement}
+use Rattle.ours.proofs.matches_us.Tie as tie
 use Rattle.lemmas.proofs.Cases.{cases}
 
 does-match-requires : tie.Need-does-match-requires

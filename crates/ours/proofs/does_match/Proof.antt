@@ -1,6 +1,6 @@
 use borrow.Author.Needs.{needs}
-use Rattle.matching.proofs.does_match.Statement.{statement}
-use Rattle.matching.proofs.does_match.Tie as tie
+use Rattle.ours.proofs.does_match.Statement.{statement}
+use Rattle.ours.proofs.does_match.Tie as tie
 use Rattle.lemmas.proofs.Cases.{cases}
 use Rattle.plain.specs.Request.{matches}
 
