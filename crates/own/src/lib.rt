@@ -59,17 +59,30 @@ pub fn grown_count(o: Own, h: bool, n: usize) -> usize
     n + 2
 }
 
+// Sixteen addresses by value are whole: nothing is done with them but to say so.
+fn known(vector: [[u8; 16]; 16])
+    ensures { λ r. ⌜ (length vector ≡ 16) × Whole vector ⌝ }
+{}
+
+// The same of addresses behind a reference, which by itself tells nothing of what it refers to. No code is left of it.
+pub fn whole(vector: &[[u8; 16]; 16])
+    ensures { λ r. ⌜ (length (now (vector .entry)) ≡ 16) × Whole (now (vector .entry)) ⌝ }
+{
+    known(*vector);
+}
+
 // A vector with ours added: the receiving address, then the sending one if different.
-pub fn grown_vector(o: Own, h: bool, n: usize, vector: [[u8; 16]; 16]) -> [[u8; 16]; 16]
+pub fn grown_vector(o: Own, h: bool, n: usize, vector: &[[u8; 16]; 16]) -> [[u8; 16]; 16]
     requires { ⌜ grownCount (settingsOf o) h n ≤ 16 ⌝ }
-    ensures { λ r. ⌜ take (grownCount (settingsOf o) h n) r ≡ grown (settingsOf o) h (take n vector) ⌝ }
+    ensures { λ r. ⌜ take (grownCount (settingsOf o) h n) r ≡ grown (settingsOf o) h (take n (now (vector .entry))) ⌝ }
 {
     if h {
-        return vector;
+        return *vector;
     }
+    whole(vector);
     let receiving = o.receiving;
     let sending = o.sending;
-    let mut grown = vector;
+    let mut grown = *vector;
     grown[n] = receiving;
     if address::is_same(receiving, sending) {
         return grown;

@@ -11,13 +11,14 @@ ghost use Rattle.own.specs.Settings.{settingsOf};
 use own::Own;
 
 // Whether one of our addresses stands in a vector.
-pub fn has_ours(o: Own, n: usize, vector: [[u8; 16]; 16]) -> bool
+pub fn has_ours(o: Own, n: usize, vector: &[[u8; 16]; 16]) -> bool
     requires { ⌜ n ≤ 16 ⌝ }
-    ensures { λ r. ⌜ r ≡ any (ours (settingsOf o)) (take n vector) ⌝ }
+    ensures { λ r. ⌜ r ≡ any (ours (settingsOf o)) (take n (now (vector .entry))) ⌝ }
 {
+    let addresses = &vector[..];
     let mut i: usize = 0;
     while i < n {
-        let a = vector[i];
+        let a = addresses[i];
         if own::is_ours(o, a) {
             return true;
         }
@@ -37,14 +38,15 @@ fn count_same(a: [u8; 16], b: [u8; 16]) -> usize
 }
 
 // Whether an address stands in a vector exactly once.
-pub fn stands_once(a: [u8; 16], n: usize, vector: [[u8; 16]; 16]) -> bool
+pub fn stands_once(a: [u8; 16], n: usize, vector: &[[u8; 16]; 16]) -> bool
     requires { ⌜ n ≤ 16 ⌝ }
-    ensures { λ r. ⌜ r ≡ eqb (count (same a) (take n vector)) 1 ⌝ }
+    ensures { λ r. ⌜ r ≡ eqb (count (same a) (take n (now (vector .entry)))) 1 ⌝ }
 {
+    let addresses = &vector[..];
     let mut found: usize = 0;
     let mut i: usize = 0;
     while i < n {
-        let b = vector[i];
+        let b = addresses[i];
         found = found + count_same(a, b);
         i = i + 1;
     }
@@ -52,14 +54,15 @@ pub fn stands_once(a: [u8; 16], n: usize, vector: [[u8; 16]; 16]) -> bool
 }
 
 // The address before `a` in a vector: `first` where nothing stands before it.
-pub fn address_before(first: [u8; 16], a: [u8; 16], n: usize, vector: [[u8; 16]; 16]) -> [u8; 16]
+pub fn address_before(first: [u8; 16], a: [u8; 16], n: usize, vector: &[[u8; 16]; 16]) -> [u8; 16]
     requires { ⌜ n ≤ 16 ⌝ }
-    ensures { λ r. ⌜ r ≡ before first a (take n vector) ⌝ }
+    ensures { λ r. ⌜ r ≡ before first a (take n (now (vector .entry))) ⌝ }
 {
+    let addresses = &vector[..];
     let mut last = first;
     let mut i: usize = 0;
     while i < n {
-        let next = vector[i];
+        let next = addresses[i];
         if address::is_same(a, next) {
             return last;
         }

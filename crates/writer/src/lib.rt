@@ -13,6 +13,7 @@ use plain::Target;
 use writer_art::put_arts;
 use writer_base::put_base;
 use writer_base::put_configuration;
+use writer_octets::whole;
 use writer_option::put_discovery;
 
 // A whole message.
@@ -23,13 +24,14 @@ pub fn put_message(
     configuration: [u8; 14],
     d: Discovery,
     n: usize,
-    vector: [[u8; 16]; 16],
+    vector: &[[u8; 16]; 16],
     count: usize,
     targets: [Target; 8],
 ) -> usize
     requires { ⌜ Sendable d n × (count ≤ 8) × (shortPrefixes (take count targets) ≡ true) × (457 ≤ length (now out)) ⌝ }
-    ensures { λ r. ⌜ Written (octetsOf (messageFrom base configured configuration d n vector count targets)) (now (out .entry)) (now (out .exit)) r ⌝ }
+    ensures { λ r. ⌜ Written (octetsOf (messageFrom base configured configuration d n (now (vector .entry)) count targets)) (now (out .entry)) (now (out .exit)) r ⌝ }
 {
+    whole(vector);
     let a = put_base(out, base);
     let b = a + put_configuration(&mut out[a..], configured, configuration);
     let c = b + put_discovery(&mut out[b..], d, n, vector);

@@ -62,12 +62,11 @@ elided-length compr (a ∷ v) e =
       suc-mul (length v) (16 - compr),
     )
 
--- the same of the first n addresses of an array, as a need is handed it
-pub elided-taken : (w : Width) (compr k n : ℕ) (xs : List Address) (vs : List Val) → n ≤ length xs → Is (Array (Array (UInt w) 16) k) xs vs
-    → n * (16 - compr) ≡ length (elided compr (take n xs))
-elided-taken w compr k n xs vs h g =
+-- the same of the first n addresses of an array
+pub elided-taken : (compr n : ℕ) (xs : List Address) → n ≤ length xs → all (long 16) xs ≡ true → n * (16 - compr) ≡ length (elided compr (take n xs))
+elided-taken compr n xs h g =
     let e : length (take n xs) ≡ n = omega (arith, length-take n xs) in
-    sym (elided-length compr (take n xs) (all-take (long 16) n xs (arrays-long w 16 k xs vs g)) ∙ ap (λ (m : ℕ). m * (16 - compr)) e)
+    sym (elided-length compr (take n xs) (all-take (long 16) n xs g) ∙ ap (λ (m : ℕ). m * (16 - compr)) e)
 
 -- what is left of an address of k octets, as a part that is lent has it
 pub elide-part : (k compr : ℕ) (a : Address) → length a ≡ k → take (k - compr) (drop compr a) ≡ drop compr a

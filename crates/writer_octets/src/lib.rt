@@ -1,10 +1,13 @@
 // Writers of octets and addresses: each writes at the front of the part of the buffer that it is lent, and answers how many octets it wrote.
 ghost use mathlib.Core.Path.{_≡_};
+ghost use mathlib.Core.Bool.{true};
 ghost use mathlib.Core.List.{reverse};
 ghost use Prim.Native.Nat.{_≤_};
 ghost use lib.ListN.{length, take};
+ghost use lib.Dec.{eqb};
 ghost use Rattle.lemmas.specs.Written.{Written};
-ghost use Rattle.plain.specs.Address.{elide};
+ghost use Rattle.plain.specs.Lists.{all};
+ghost use Rattle.plain.specs.Address.{Address, elide};
 ghost use Rattle.plain.specs.Octets.{elided};
 
 // Octets as they are.
@@ -29,14 +32,15 @@ fn put_address(out: &mut [u8], compr: usize, a: [u8; 16]) -> usize
 }
 
 // The first so many addresses, each without its first Compr octets.
-pub fn put_vector(out: &mut [u8], compr: usize, n: usize, vector: [[u8; 16]; 16]) -> usize
-    requires { ⌜ (compr ≤ 16) × (n ≤ 16) × (length (elided compr (take n vector)) ≤ length (now out)) ⌝ }
-    ensures { λ r. ⌜ Written (elided compr (take n vector)) (now (out .entry)) (now (out .exit)) r ⌝ }
+pub fn put_vector(out: &mut [u8], compr: usize, n: usize, vector: &[[u8; 16]; 16]) -> usize
+    requires { ⌜ (compr ≤ 16) × (n ≤ 16) × (length (elided compr (take n (now vector))) ≤ length (now out)) ⌝ }
+    ensures { λ r. ⌜ Written (elided compr (take n (now (vector .entry)))) (now (out .entry)) (now (out .exit)) r ⌝ }
 {
+    let addresses = &vector[..];
     let mut at: usize = 0;
     let mut i: usize = 0;
     while i < n {
-        let a = vector[i];
+        let a = addresses[i];
         let m = put_address(&mut out[at..], compr, a);
         at = at + m;
         i = i + 1;
@@ -44,24 +48,38 @@ pub fn put_vector(out: &mut [u8], compr: usize, n: usize, vector: [[u8; 16]; 16]
     at
 }
 
-// The whole addresses, one after the other.
-pub fn put_path(out: &mut [u8], n: usize, vector: [[u8; 16]; 16]) -> usize
-    requires { ⌜ (n ≤ 16) × (256 ≤ length (now out)) ⌝ }
-    ensures { λ r. ⌜ Written (elided 0 (take n vector)) (now (out .entry)) (now (out .exit)) r ⌝ }
+// Sixteen addresses by value have sixteen octets each: nothing is done with them but to say so.
+fn known(vector: [[u8; 16]; 16])
+    ensures { λ r. ⌜ (length vector ≡ 16) × (all (λ (a : Address). eqb (length a) 16) vector ≡ true) ⌝ }
+{}
+
+// The same of addresses behind a reference, which by itself tells nothing of what it refers to. No code is left of it.
+pub fn whole(vector: &[[u8; 16]; 16])
+    ensures { λ r. ⌜ (length (now (vector .entry)) ≡ 16) × (all (λ (a : Address). eqb (length a) 16) (now (vector .entry)) ≡ true) ⌝ }
 {
+    known(*vector);
+}
+
+// The whole addresses, one after the other.
+pub fn put_path(out: &mut [u8], n: usize, vector: &[[u8; 16]; 16]) -> usize
+    requires { ⌜ (n ≤ 16) × (256 ≤ length (now out)) ⌝ }
+    ensures { λ r. ⌜ Written (elided 0 (take n (now (vector .entry)))) (now (out .entry)) (now (out .exit)) r ⌝ }
+{
+    whole(vector);
     put_vector(out, 0, n, vector)
 }
 
 // The first n addresses turned round.
-pub fn reversed(n: usize, vector: [[u8; 16]; 16]) -> [[u8; 16]; 16]
+pub fn reversed(n: usize, vector: &[[u8; 16]; 16]) -> [[u8; 16]; 16]
     requires { ⌜ n ≤ 16 ⌝ }
-    ensures { λ r. ⌜ take n r ≡ reverse (take n vector) ⌝ }
+    ensures { λ r. ⌜ take n r ≡ reverse (take n (now (vector .entry))) ⌝ }
 {
+    let addresses = &vector[..];
     let mut r = [[0u8; 16]; 16];
     let mut i: usize = 0;
     while i < n {
         let from = n - i - 1;
-        let a = vector[from];
+        let a = addresses[from];
         r[i] = a;
         i = i + 1;
     }

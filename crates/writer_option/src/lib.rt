@@ -11,6 +11,7 @@ ghost use Rattle.writer_option.specs.Sendable.{Sendable};
 use plain::Discovery;
 use writer_base::bit_of;
 use writer_octets::put_vector;
+use writer_octets::whole;
 
 // Compr as it is sent: 0 with H 1.
 fn compr_sent(d: Discovery) -> u8
@@ -68,13 +69,14 @@ fn put_route_head(out: &mut [u8], d: Discovery, size: usize) -> usize
 }
 
 // The RREQ or RREP with its vector, which is none with H 1.
-pub fn put_discovery(out: &mut [u8], d: Discovery, n: usize, vector: [[u8; 16]; 16]) -> usize
-    requires { ⌜ Sendable d n × (length (routeOctets d (take n vector)) ≤ length (now out)) ⌝ }
-    ensures { λ r. ⌜ Written (routeOctets d (take n vector)) (now (out .entry)) (now (out .exit)) r ⌝ }
+pub fn put_discovery(out: &mut [u8], d: Discovery, n: usize, vector: &[[u8; 16]; 16]) -> usize
+    requires { ⌜ Sendable d n × (length (routeOctets d (take n (now vector))) ≤ length (now out)) ⌝ }
+    ensures { λ r. ⌜ Written (routeOctets d (take n (now (vector .entry)))) (now (out .entry)) (now (out .exit)) r ⌝ }
 {
     if d.h {
         return put_route_head(out, d, 0);
     }
+    whole(vector);
     let compr = d.compr as usize;
     let at = put_route_head(out, d, n * (16 - compr));
     let m = put_vector(&mut out[at..], compr, n, vector);

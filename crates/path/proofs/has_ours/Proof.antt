@@ -12,10 +12,10 @@ use Rattle.path.proofs.has_ours.Tie as tie
 use Rattle.lemmas.proofs.Cases.{cases}
 
 abbrev Inv-loop : tie.InvT-loop
-Inv-loop o n vector i₀ i = (i ≤ n) × (any (ours (settingsOf o)) (take n vector) ≡ any (ours (settingsOf o)) (drop i (take n vector)))
+Inv-loop o n vector addresses i₀ i = (i ≤ n) × (any (ours (settingsOf o)) (take n vector) ≡ any (ours (settingsOf o)) (drop i (take n vector)))
 
 abbrev μ-loop : tie.MeasureT-loop
-μ-loop o n vector i₀ i = n - i
+μ-loop o n vector addresses i₀ i = n - i
 
 loop-holds : tie.Need-loop-holds Inv-loop μ-loop
 loop-holds c = (search needs, refl)
@@ -23,8 +23,8 @@ loop-holds c = (search needs, refl)
 mul-a : tie.Need-mul-a Inv-loop μ-loop
 mul-a c = search cases
 
-array-copy-out-a : tie.Need-array-copy-out-a Inv-loop μ-loop
-array-copy-out-a c = search cases
+shared-slice-copy-out-a : tie.Need-shared-slice-copy-out-a Inv-loop μ-loop
+shared-slice-copy-out-a c = search cases
 
 is-ours-requires : tie.Need-is-ours-requires Inv-loop μ-loop
 is-ours-requires c κs = search cases
@@ -32,9 +32,9 @@ is-ours-requires c κs = search cases
 returns : tie.Need-returns Inv-loop μ-loop
 returns c =
     let l = c .before .before .before .before .loop in
-    let s = c .before .before .before .before .before .args in
-    let q : length (s .t3) ≡ 16 = search needs in
-    sym (any-hit (s .n) (s .t3) (omega arith) (l .i) _ (l .inv .1) (search needs) (sym (c .before .is-ours .ensures) ∙ c .if1 .taken))
+    let s = c .before .before .before .before .before .before .args in
+    let q : length (s .vector .now) ≡ 16 = search needs in
+    sym (any-hit (s .n) (s .vector .now) (omega arith) (l .i) _ (l .inv .1) (search needs) (sym (c .before .is-ours .ensures) ∙ c .if1 .taken))
 
 add-i : tie.Need-add-i Inv-loop μ-loop
 add-i c = search cases
@@ -45,16 +45,16 @@ loop-less c = search cases
 loop-again : tie.Need-loop-again Inv-loop μ-loop
 loop-again c =
     let l = c .before .before .before .before .loop in
-    let s = c .before .before .before .before .before .args in
-    let q : length (s .t3) ≡ 16 = search needs in
-    (search needs, any-miss (s .n) (s .t3) (omega arith) (l .i) _ (l .inv .1) (search needs) (sym (c .before .is-ours .ensures) ∙ c .if1 .left))
+    let s = c .before .before .before .before .before .before .args in
+    let q : length (s .vector .now) ≡ 16 = search needs in
+    (search needs, any-miss (s .n) (s .vector .now) (omega arith) (l .i) _ (l .inv .1) (search needs) (sym (c .before .is-ours .ensures) ∙ c .if1 .left))
 
 returns-2 : tie.Need-returns-2 Inv-loop μ-loop
 returns-2 c =
     let l = c .before .loop in
-    let s = c .before .before .args in
-    let q : length (s .t3) ≡ 16 = search needs in
-    sym (any-end (s .n) (s .t3) (omega arith) (l .i) _ (l .inv .1) (search needs))
+    let s = c .before .before .before .args in
+    let q : length (s .vector .now) ≡ 16 = search needs in
+    sym (any-end (s .n) (s .vector .now) (omega arith) (l .i) _ (l .inv .1) (search needs))
 
 pub has-ours-spec : {M : Type 1} → statement M
 has-ours-spec =
@@ -64,7 +64,7 @@ has-ours-spec =
     μ-loop
     loop-holds
     mul-a
-    array-copy-out-a
+    shared-slice-copy-out-a
     is-ours-requires
     returns
     add-i

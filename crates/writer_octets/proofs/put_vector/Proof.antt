@@ -17,18 +17,18 @@ use Rattle.writer_octets.proofs.put_vector.Lts as lts
 use Rattle.writer_octets.proofs.put_address.Reads as put-address-reads
 
 abbrev Inv-loop : tie.InvT-loop
-Inv-loop out₀ compr n vector at₀ i₀ out at i = (i ≤ n) × (length out ≡ length out₀) × Written (elided compr (take i vector)) out₀ out at
+Inv-loop out₀ compr n vector addresses at₀ i₀ out at i = (i ≤ n) × (length out ≡ length out₀) × Written (elided compr (take i vector)) out₀ out at
 
 abbrev μ-loop : tie.MeasureT-loop
-μ-loop out₀ compr n vector at₀ i₀ out at i = n - i
+μ-loop out₀ compr n vector addresses at₀ i₀ out at i = n - i
 
 -- what is left has room for the next one
 room : (c : lts.In-loop (put-address-reads.Asked, put-address-reads.Learnt) reads.Pre reads.Post Inv-loop μ-loop)
-    → c .before .loop .at + length (elide (c .before .before .before .args .compr) (getD (c .before .before .before .args .t4) (c .before .loop .i) [])) ≤ length (c .before .loop .out)
+    → c .before .loop .at + length (elide (c .before .before .before .before .args .compr) (getD (c .before .before .before .before .args .vector .now) (c .before .loop .i) [])) ≤ length (c .before .loop .out)
 room c =
-    let s = c .before .before .before in
+    let s = c .before .before .before .before in
     let l = c .before .loop in
-    parts-room (elide (s .args .compr)) (l .i) (s .args .n) (l .at) (s .args .t4) [] _ _ (c .loop-test .taken) (search needs) (l .inv .2) (s .pre .2) (l .inv .1)
+    parts-room (elide (s .args .compr)) (l .i) (s .args .n) (l .at) (s .args .vector .now) [] _ _ (c .loop-test .taken) (search needs) (l .inv .2) (s .pre .2) (l .inv .1)
 
 loop-holds : tie.Need-loop-holds Inv-loop μ-loop
 loop-holds c = (search needs, refl, rw parts-none (written-none _))
@@ -36,8 +36,8 @@ loop-holds c = (search needs, refl, rw parts-none (written-none _))
 mul-a : tie.Need-mul-a Inv-loop μ-loop
 mul-a c = search needs
 
-array-copy-out-a : tie.Need-array-copy-out-a Inv-loop μ-loop
-array-copy-out-a c = search needs
+shared-slice-copy-out-a : tie.Need-shared-slice-copy-out-a Inv-loop μ-loop
+shared-slice-copy-out-a c = search needs
 
 sub-put-address : tie.Need-sub-put-address Inv-loop μ-loop
 sub-put-address c = let r = room (c .before) in omega arith
@@ -49,7 +49,7 @@ part-put-address-end : tie.Need-part-put-address-end Inv-loop μ-loop
 part-put-address-end c = search needs
 
 put-address-requires : tie.Need-put-address-requires Inv-loop μ-loop
-put-address-requires c κs = let r = room (c .before .before) in let p : _ ≤ 16 = c .before .before .before .before .before .pre .0 in (p, simp (length-take, length-drop) (omega (arith, length-drop (c .before .before .before .before .before .args .compr) (getD (c .before .before .before .before .before .args .t4) (c .before .before .before .loop .i) []))))
+put-address-requires c κs = let r = room (c .before .before) in let p : _ ≤ 16 = c .before .before .before .before .before .before .pre .0 in (p, simp (length-take, length-drop) (omega (arith, length-drop (c .before .before .before .before .before .before .args .compr) (getD (c .before .before .before .before .before .before .args .vector .now) (c .before .before .before .loop .i) []))))
 
 add-at : tie.Need-add-at Inv-loop μ-loop
 add-at c = let r = room (c .before .before .before .before .before) in omega arith
@@ -62,15 +62,15 @@ loop-less c = search needs
 
 loop-again : tie.Need-loop-again Inv-loop μ-loop
 loop-again c =
-    let s = c .before .before .before .before .before .before .before .before in
+    let s = c .before .before .before .before .before .before .before .before .before in
     let l = c .before .before .before .before .before .before .loop in
-    (search needs, search needs, rw (parts-more (elide (s .args .compr)) (l .i) (s .args .t4) [] (search needs)) (written-then _ _ _ _ _ _ _ (l .inv .2) (c .before .before .put-address .ensures)))
+    (search needs, search needs, rw (parts-more (elide (s .args .compr)) (l .i) (s .args .vector .now) [] (search needs)) (written-then _ _ _ _ _ _ _ (l .inv .2) (c .before .before .put-address .ensures)))
 
 same-length : tie.Need-same-length Inv-loop μ-loop
 same-length c = c .before .loop .inv .1
 
 returns : tie.Need-returns Inv-loop μ-loop
-returns c = let l = c .before .loop in let e : l .i ≡ c .before .before .before .args .n = omega arith in rw e at (l .inv .2)
+returns c = let l = c .before .loop in let e : l .i ≡ c .before .before .before .before .args .n = omega arith in rw e at (l .inv .2)
 
 pub put-vector-spec : {M : Type 1} → statement M
 put-vector-spec =
@@ -80,7 +80,7 @@ put-vector-spec =
     μ-loop
     loop-holds
     mul-a
-    array-copy-out-a
+    shared-slice-copy-out-a
     sub-put-address
     part-put-address-start
     part-put-address-end

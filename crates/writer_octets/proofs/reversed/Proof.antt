@@ -10,14 +10,14 @@ use Rattle.writer_octets.proofs.reversed.Statement.{statement}
 use Rattle.writer_octets.proofs.reversed.Tie as tie
 
 abbrev Inv-loop : tie.InvT-loop
-Inv-loop n vector r₀ i₀ r i =
+Inv-loop n vector addresses r₀ i₀ r i =
     (i ≤ n) × (n ≤ 16) × (length vector ≡ 16) × (length r ≡ 16) × (take i r ≡ reverse (drop (n - i) (take n vector)))
 
 abbrev μ-loop : tie.MeasureT-loop
-μ-loop n vector r₀ i₀ r i = n - i
+μ-loop n vector addresses r₀ i₀ r i = n - i
 
 loop-holds : tie.Need-loop-holds Inv-loop μ-loop
-loop-holds c = let a = c .args in (search needs, search needs, search needs, refl, turned-none (a .n) (a .t2))
+loop-holds c = let a = c .before .args in (search needs, search needs, search needs, refl, turned-none (a .n) (a .vector .now))
 
 sub-from : tie.Need-sub-from Inv-loop μ-loop
 sub-from c = search cases
@@ -28,8 +28,8 @@ sub-from-2 c = search cases
 mul-a : tie.Need-mul-a Inv-loop μ-loop
 mul-a c = search cases
 
-array-copy-out-a : tie.Need-array-copy-out-a Inv-loop μ-loop
-array-copy-out-a c = search cases
+shared-slice-copy-out-a : tie.Need-shared-slice-copy-out-a Inv-loop μ-loop
+shared-slice-copy-out-a c = search cases
 
 mul-r : tie.Need-mul-r Inv-loop μ-loop
 mul-r c = search cases
@@ -63,7 +63,7 @@ reversed-spec =
     sub-from
     sub-from-2
     mul-a
-    array-copy-out-a
+    shared-slice-copy-out-a
     mul-r
     array-set-from-r
     add-i

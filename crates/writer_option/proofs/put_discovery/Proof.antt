@@ -4,39 +4,38 @@ use mathlib.Core.Path.{_≡_, ap}
 use native.Mathlib.Omega.{arith}
 use lib.ListN.{length, take, length-take, length-drop}
 use borrow.Author.Needs.{needs}
-use mir.Syntax.{w8}
 use Rattle.lemmas.proofs.Buffer.{written-then}
 use Rattle.plain.specs.Octets.{routeOctets, elided}
 use Rattle.writer_octets.proofs.Addresses.{elided-taken}
 use Rattle.writer_option.proofs.Lengths.{route-parts, route-bare}
 use Rattle.writer_option.proofs.put_discovery.Statement.{statement}
 use Rattle.writer_option.proofs.put_discovery.Tie as tie
-use Rattle.writer_option.proofs.put_discovery.Reads as reads
-use Rattle.writer_option.proofs.put_discovery.Lts as lts
-use Rattle.writer_option.proofs.put_route_head.Reads as put-route-head-reads
-use Rattle.writer_octets.proofs.put_vector.Reads as put-vector-reads
 
 -- how many octets there are with H 0
-sized : (c : lts.Else1 (put-route-head-reads.Asked, put-route-head-reads.Learnt, put-vector-reads.Asked, put-vector-reads.Learnt) reads.Pre reads.Post)
-    → (c .before .before .args .n * (16 - c .before .before .args .d .compr) ≤ 252)
-    × (c .before .before .args .n * (16 - c .before .before .args .d .compr) ≡ length (elided (c .before .before .args .d .compr) (take (c .before .before .args .n) (c .before .before .args .vector))))
-    × (length (routeOctets (c .before .before .args .d) (take (c .before .before .args .n) (c .before .before .args .vector))) ≡ 5 + c .before .before .args .n * (16 - c .before .before .args .d .compr))
+sized : (c : tie.After-whole)
+    → (c .before .before .before .args .n * (16 - c .before .before .before .args .d .compr) ≤ 252)
+    × (c .before .before .before .args .n * (16 - c .before .before .before .args .d .compr) ≡ length (elided (c .before .before .before .args .d .compr) (take (c .before .before .before .args .n) (c .before .before .before .args .vector .now))))
+    × (length (routeOctets (c .before .before .before .args .d) (take (c .before .before .before .args .n) (c .before .before .before .args .vector .now))) ≡ 5 + c .before .before .before .args .n * (16 - c .before .before .before .args .d .compr))
 sized c =
-    let s = c .before .before in
+    let s = c .before .before .before in
     let a = s .args in
-    let e = elided-taken w8 (a .d .compr) 16 (a .n) (a .vector) _ (omega arith) (s .good .1 .1 .1 .0) in
-    (s .pre .0 .octets (c .if1 .left), e, omega (arith, ap length (route-parts (a .d) (take (a .n) (a .vector)) _ (c .if1 .left) e)))
+    let w = c .whole .ensures in
+    let e = elided-taken (a .d .compr) (a .n) (a .vector .now) (omega arith) (w .1) in
+    (s .pre .0 .octets (c .before .if1 .left), e, omega (arith, ap length (route-parts (a .d) (take (a .n) (a .vector .now)) _ (c .before .if1 .left) e)))
 
 put-route-head-requires : tie.Need-put-route-head-requires
 put-route-head-requires c κs =
     let s = c .before .before .before in
-    (search needs, omega (arith, ap length (route-bare (s .args .d) (take (s .args .n) (s .args .vector)) (c .before .if1 .taken))))
+    (search needs, omega (arith, ap length (route-bare (s .args .d) (take (s .args .n) (s .args .vector .now)) (c .before .if1 .taken))))
 
 same-length : tie.Need-same-length
 same-length c = search needs
 
 returns : tie.Need-returns
 returns c = rw (route-bare (c .before .before .before .before .before .before .args .d) _ (c .before .before .before .before .if1 .taken)) (c .before .before .put-route-head .ensures)
+
+whole-requires : tie.Need-whole-requires
+whole-requires c κs = search needs
 
 cast-compr : tie.Need-cast-compr
 cast-compr c = search needs
@@ -70,7 +69,7 @@ same-length-2 c = search needs
 
 returns-2 : tie.Need-returns-2
 returns-2 c =
-    rw (route-parts (c .before .before .before .before .before .before .before .before .before .before .before .args .d) _ _ (c .before .before .before .before .before .before .before .before .before .if1 .left) (sized (c .before .before .before .before .before .before .before .before .before) .1))
+    rw (route-parts (c .before .before .before .before .before .before .before .before .before .before .before .before .args .d) _ _ (c .before .before .before .before .before .before .before .before .before .before .if1 .left) (sized (c .before .before .before .before .before .before .before .before .before) .1))
     (written-then _ _ _ _ _ _ _ (c .before .before .before .before .before .before .put-route-head2 .ensures) (c .before .before .put-vector .ensures))
 
 pub put-discovery-spec : {M : Type 1} → statement M
@@ -80,6 +79,7 @@ put-discovery-spec =
     put-route-head-requires
     same-length
     returns
+    whole-requires
     cast-compr
     sub-put-route-head
     mul-put-route-head
