@@ -3,22 +3,23 @@ use Prim.Native.Nat.{ℕ, _+_, _<_, _≤_}
 use mathlib.Core.Path.{_≡_, refl, sym, _∙_}
 use mathlib.Core.Bool.{Bool, true, false, _||_}
 use mathlib.Core.List.{List, [], _∷_, map}
-use lib.ListN.{length, getD, drop, drop-of-length-le}
+use lib.ListN.{length, getD, drop, drop-of-length-le, replicate}
 use Rattle.plain.specs.Lists.{any, once}
 use Rattle.plain.specs.Octets.{sameTarget}
 use Rattle.plain.specs.Request.{wholeBits}
 use Rattle.plain.specs.Blank.{noTarget}
 use Rattle.plain.specs.declared.Target.{Target}
 use Rattle.lemmas.proofs.Walk.{left-at}
-use Rattle.art.specs.Collected.{Collected}
+use Rattle.art.specs.declared.Count.{Count}
+use Rattle.art.specs.Collected.{noneYet, targetsIn, Collected, Joined}
+use Rattle.art.proofs.Laws.{none-collected, gathered}
 use Rattle.matching.proofs.Whole.{once-whole}
-use Rattle.matching.proofs.Gathered.{gathered, gathered-over}
 use Rattle.gather.specs.declared.Gathering.{Gathering}
-use Rattle.gather.specs.Gathers.{isLong, Gathers, Begun, TakenIn}
+use Rattle.gather.specs.Gathers.{isLong, Gathers}
 
-pub record Underway (ts rest : List Target) (g : Gathering) : Type 0 where
-  pub long : g .long || any isLong rest ≡ any isLong ts
-  pub collected : Collected (once sameTarget (map wholeBits ts)) (map wholeBits rest) (g .targets)
+pub record Underway (ts rest list : List Target) (c : Count) (long : Bool) : Type 0 where
+  pub prefixes : long || any isLong rest ≡ any isLong ts
+  pub collected : Collected (once sameTarget (map wholeBits ts)) (map wholeBits rest) (targetsIn list c)
 
 or-after : (a b c : Bool) → (a || b) || c ≡ a || (b || c)
 or-after true b c = refl
@@ -28,28 +29,32 @@ or-none : (a : Bool) → a || false ≡ a
 or-none true = refl
 or-none false = refl
 
-pub begun : (ts : List Target) (g : Gathering) → Begun g → Underway ts (drop 0 ts) g
-begun ts g b = record { long = rw (b .long); collected = b .nothing .collected (map wholeBits ts) }
+pub begun : (ts : List Target) → Underway ts (drop 0 ts) (replicate 8 noTarget) noneYet false
+begun ts = record { prefixes = refl; collected = none-collected (map wholeBits ts) }
 
-step : (ts rest : List Target) (g r : Gathering) (t : Target) → TakenIn g t r → Underway ts (t ∷ rest) g → Underway ts rest r
+step : (ts rest list after : List Target) (c r : Count) (long : Bool) (t : Target) → Joined c list (wholeBits t) r after
+    → Underway ts (t ∷ rest) list c long → Underway ts rest after r (long || isLong t)
 unfolding any
-step ts rest g r t k v = record {
-  long = rw (k .long) (or-after (g .long) (isLong t) (any isLong rest) ∙ v .long);
-  collected = k .joined .collected _ _ (v .collected);
+step ts rest list after c r long t j v = record {
+  prefixes = or-after long (isLong t) (any isLong rest) ∙ v .prefixes;
+  collected = j .collected _ _ (v .collected);
 }
 
-module _ (ts : List Target) (i : ℕ) (g : Gathering) (v : Underway ts (drop i ts) g) where
-  pub one-more : (r : Gathering) → i < length ts → TakenIn g (getD ts i noTarget) r → Underway ts (drop (i + 1) ts) r
-  one-more r h k = step ts (drop (i + 1) ts) g r (getD ts i noTarget) k (rw (left-at ts i noTarget h) at v)
+module _ (ts : List Target) (i : ℕ) (list : List Target) (c : Count) (long : Bool) (v : Underway ts (drop i ts) list c long) where
+  pub one-more : (after : List Target) (r : Count) → i < length ts → Joined c list (wholeBits (getD ts i noTarget)) r after
+      → Underway ts (drop (i + 1) ts) after r (long || isLong (getD ts i noTarget))
+  one-more after r h j =
+      step ts (drop (i + 1) ts) list after c r long (getD ts i noTarget) j (rw (left-at ts i noTarget h) at v)
 
-  pub all-in : length ts ≤ i → Gathers ts g
+  pub all-in : length ts ≤ i → Gathers ts (record { targets = targetsIn list c; long = long })
   unfolding any
   all-in h =
-      let u : Underway ts [] g = rw (drop-of-length-le ts {i = i} h) at v in
+      let u : Underway ts [] list c long = rw (drop-of-length-le ts {i = i} h) at v in
+      let w = gathered (u .collected) in
       record {
-        long = sym (or-none (g .long)) ∙ u .long;
-        over = rw (← once-whole ts) (gathered-over _ (g .targets) (u .collected));
-        few = u .collected .few;
-        room = u .collected .room;
-        held = λ e. gathered _ (g .targets) (u .collected) e .held ∙ once-whole ts;
+        long = sym (or-none long) ∙ u .prefixes;
+        over = rw (← once-whole ts) (w .over);
+        few = w .few;
+        room = w .room;
+        held = λ e. w .held e ∙ once-whole ts;
       }

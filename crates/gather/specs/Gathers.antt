@@ -1,7 +1,7 @@
 -- The targets of a start of our own discovery, gathered, and whether the start is a bad call.
 use Prim.Native.Nat.{ℕ, _≤_}
 use mathlib.Core.Path.{_≡_}
-use mathlib.Core.Bool.{Bool, true, false, _||_}
+use mathlib.Core.Bool.{Bool, true, false}
 use mathlib.Core.List.{List, map}
 use lib.Dec.{ltb, leb}
 use lib.ListN.{length, take}
@@ -11,8 +11,6 @@ use Rattle.plain.specs.Octets.{sameTarget, mostTargets}
 use Rattle.plain.specs.Answers.{badStart}
 use Rattle.plain.specs.Request.{wholeBits, startTargets}
 use Rattle.plain.specs.declared.Target.{Target}
-use Rattle.art.specs.Collected.{Joined}
-use Rattle.matching.specs.Kept.{Nothing}
 use Rattle.gather.specs.declared.Gathering.{Gathering}
 
 -- "a target prefix over 127"
@@ -34,16 +32,6 @@ pub record Gathers (ts : List Target) (g : Gathering) : Type 0 where
   pub few : g .targets .count ≤ mostTargets
   pub room : length (g .targets .list) ≡ mostTargets
   pub held : g .targets .over ≡ false → heldIn g ≡ map wholeBits (once sameTarget ts)
-
--- nothing is gathered yet
-pub record Begun (g : Gathering) : Type 0 where
-  pub long : g .long ≡ false
-  pub nothing : Nothing (g .targets)
-
--- the next target is taken in
-pub record TakenIn (g : Gathering) (t : Target) (r : Gathering) : Type 0 where
-  pub long : r .long ≡ g .long || isLong t
-  pub joined : Joined (g .targets) (wholeBits t) (r .targets)
 
 -- `bad` says whether a start with these targets and these fields is a bad call: "a start with 0 or over 8 targets, a target prefix over
 -- 127, L over 3, Compr over 15, RankLimit over 127"

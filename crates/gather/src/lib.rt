@@ -1,9 +1,12 @@
 // The targets of a start of our own discovery (01, "Octets on the air"): "A target listed twice in a request or start .. counts once, at its
 // first place; the 8 are counted after that." Spare bits are "stored and sent as zero".
+use art::Count;
 use art::Targets;
 use plain::Target;
-ghost use Prim.Native.Nat.{_≤_};
-ghost use Rattle.gather.specs.Gathers.{Gathers, Begun, TakenIn, Judged};
+ghost use mathlib.Core.Path.{_≡_};
+ghost use mathlib.Core.Bool.{_||_};
+ghost use Rattle.art.specs.Collected.{targetsIn};
+ghost use Rattle.gather.specs.Gathers.{isLong, Gathers, Judged};
 
 // What is gathered: the targets, and whether a prefix is over 127.
 pub struct Gathering {
@@ -11,47 +14,39 @@ pub struct Gathering {
     pub long: bool,
 }
 
-// Nothing is gathered yet.
-fn none_yet() -> Gathering
-    ensures { λ r. ⌜ Begun r ⌝ }
+// Whether a prefix is over 127, with one more target.
+fn is_long(long: bool, t: Target) -> bool
+    ensures { λ r. ⌜ r ≡ long || isLong t ⌝ }
 {
-    let targets = matching::nothing();
-    Gathering {
-        targets,
-        long: false,
-    }
+    if long { true } else { 127 < t.plen }
 }
 
-// One more target, with spare bits zero.
-fn take_in(g: Gathering, t: Target) -> Gathering
-    requires { ⌜ g .targets .count ≤ 8 ⌝ }
-    ensures { λ r. ⌜ TakenIn g t r ⌝ }
+// What is gathered.
+fn gathered(list: [Target; 8], c: Count, long: bool) -> Gathering
+    ensures { λ r. ⌜ r ≡ record { targets = targetsIn list c; long = long } ⌝ }
 {
-    let old = g.targets;
-    let targets = art::with_target(old, matching::whole_bits(t));
-    if g.long {
-        return Gathering {
-            targets,
-            long: true,
-        };
-    }
-    Gathering {
-        targets,
-        long: 127 < t.plen,
-    }
+    let targets = Targets {
+        over: c.over,
+        count: c.n,
+        list,
+    };
+    Gathering { targets, long }
 }
 
 // The targets that are handed in.
 pub fn gather(given: &[Target]) -> Gathering
     ensures { λ r. ⌜ Gathers (now (given .entry)) r ⌝ }
 {
-    let mut g = none_yet();
+    let mut list = art::blank_list();
+    let mut c = art::none_yet();
+    let mut long = false;
     let mut i: usize = 0;
     while i < given.len() {
-        g = take_in(g, given[i]);
+        c = art::collect(&mut list, c, matching::whole_bits(given[i]));
+        long = is_long(long, given[i]);
         i += 1;
     }
-    g
+    gathered(list, c, long)
 }
 
 // Whether a start is a bad call: "a start with 0 or over 8 targets, a target prefix over 127, L over 3, Compr over 15, RankLimit over 127".

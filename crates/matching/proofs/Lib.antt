@@ -1,3 +1,3 @@
+pub mod Lent
 pub mod Sifted
 pub mod Whole
-pub mod Gathered

@@ -28,19 +28,15 @@ pub fn is_named(ts: Targets, receiving: [u8; 16], sending: [u8; 16]) -> bool
     false
 }
 
-// No targets: what is collected one after the other, and what is kept, begins with these.
-pub fn nothing() -> Targets
+// No targets: what is kept begins with these.
+fn nothing() -> Targets
     ensures { λ r. ⌜ Nothing r ⌝ }
 {
-    let blank = Target {
-        seq: 0,
-        plen: 0,
-        addr: [0u8; 16],
-    };
+    let list = art::blank_list();
     Targets {
         over: false,
         count: 0,
-        list: [blank; 8],
+        list,
     }
 }
 
@@ -83,21 +79,33 @@ pub fn not_ours(ts: Targets, receiving: [u8; 16], sending: [u8; 16]) -> Targets
     kept
 }
 
+fn count_of(ts: Targets) -> usize
+    ensures { λ r. ⌜ r ≡ ts .count ⌝ }
+{
+    ts.count
+}
+
+fn list_of(ts: Targets) -> [Target; 8]
+    ensures { λ r. ⌜ r ≡ ts .list ⌝ }
+{
+    ts.list
+}
+
 // The targets of a message that are also in the row, in the message's order and with its Dest SeqNos.
 pub fn common(ts: Targets, row: Targets) -> Targets
     requires { ⌜ ts .count ≤ 8 ⌝ }
     requires { ⌜ row .count ≤ 8 ⌝ }
     ensures { λ r. ⌜ Kept (common (listOf ts) (listOf row)) r ⌝ }
 {
-    let n = ts.count;
-    let list = ts.list;
-    let m = row.count;
-    let held = row.list;
+    let n = count_of(ts);
+    let list = list_of(ts);
+    let m = count_of(row);
+    let held = list_of(row);
     let mut kept = nothing();
     let mut i: usize = 0;
     while i < n {
         let t = list[i];
-        kept = keep_if(kept, t, art::is_listed(t, held, m));
+        kept = keep_if(kept, t, art::is_listed(t, &held, m));
         i = i + 1;
     }
     kept

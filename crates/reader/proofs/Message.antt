@@ -14,8 +14,8 @@ use Rattle.plain.specs.Octets.{octetAt, wordAt, optionsOf, ofType, artType, tar
 use Rattle.plain.specs.declared.Base.{Base}
 use Rattle.plain.specs.declared.Discovery.{Discovery}
 use Rattle.plain.specs.declared.Target.{Target}
-use Rattle.scan.specs.declared.Scan.{Scan}
-use Rattle.scan.specs.Scanned.{Outlined}
+use Rattle.art.specs.declared.Targets.{Targets}
+use Rattle.art.specs.Collected.{Gathered}
 use Rattle.option_body.proofs.Laws.{compr-below}
 use Rattle.reader.specs.declared.Reading.{Reading}
 use Rattle.reader.specs.declared.Refusal.{Refusal}
@@ -58,7 +58,8 @@ message-by : {a b : Base} {c d : Option (List ℕ)} {e f : Discovery} {g h : Lis
     (record { base = b; configuration = d; discovery = f; vector = h; targets = j })
 message-by p q r s t = rw (p, q, r, s, t)
 
-module _ {msg : List ℕ} {s : Scan} {r : Reading} (v : Outlined msg s) (w : Filled msg s (baseOf msg) r) where
+module _ {msg : List ℕ} {ts : Targets} {r : Reading} (v : Gathered (targetsOf (ofType artType (optionsOf msg))) ts)
+    (w : Filled msg ts (baseOf msg) r) where
   compr-is : r .discovery .compr ≡ comprOf (routeBody (optionsOf msg))
   unfolding discoveryOf
   compr-is = ap (λ (d : _). d .compr) (w .discovery)
@@ -69,44 +70,35 @@ module _ {msg : List ℕ} {s : Scan} {r : Reading} (v : Outlined msg s) (w : Fil
   size-is : length (vectorOctets (routeBody (optionsOf msg))) ≡ r .size
   size-is = sym (ap length (w .vector)) ∙ simp (length-take, length-drop) (omega (arith, w .within))
 
-  over-is : s .targets .over ≡ ltb 8 (length (targetsOf (ofType artType (optionsOf msg))))
-  over-is = go (s .targets .over) refl
-    where
-      go : (b : Bool) → s .targets .over ≡ b → b ≡ ltb 8 (length (targetsOf (ofType artType (optionsOf msg))))
-      go true e = sym (lt-ltb 8 _ (v .many e))
-      go false e =
-          let k = ap length (v .held e) in
-          sym (le-ltb 8 (length (targetsOf (ofType artType (optionsOf msg)))) (omega (arith, k, v .few, length-take (s .targets .count) (s .targets .list))))
-
-  many-is : ltb 16 (r .size / (16 - r .discovery .compr)) || s .targets .over ≡ tooMany (messageOf msg)
+  many-is : ltb 16 (r .size / (16 - r .discovery .compr)) || ts .over ≡ tooMany (messageOf msg)
   unfolding tooMany messageOf
   many-is =
       rw (
         length-restored (comprOf (routeBody (optionsOf msg))) (baseOf msg .dodagid) (vectorOctets (routeBody (optionsOf msg))),
         size-is,
         ← compr-is,
-        ← over-is,
+        ← v .over,
       )
 
   vector-is : restored (r .discovery .compr) (r .base .dodagid) (take (r .size) (drop (r .at) msg))
       ≡ restored (comprOf (routeBody (optionsOf msg))) (baseOf msg .dodagid) (vectorOctets (routeBody (optionsOf msg)))
   vector-is = rw (compr-is, w .base-is, w .vector)
 
-  message-is : s .targets .over ≡ false → messageRead msg r ≡ messageOf msg
+  message-is : ts .over ≡ false → messageRead msg r ≡ messageOf msg
   unfolding messageOf
   message-is e = message-by (w .base-is) (w .configuration) (w .discovery) vector-is (rw (w .count, w .targets) (v .held e))
 
   module _ (a : malformed msg ≡ false) (b : unfit msg ≡ false) (c : unusable (baseOf msg .dodagid) ≡ false) where
-    pub hear-many : ltb 16 (r .size / (16 - r .discovery .compr)) || s .targets .over ≡ true → hear msg ≡ octets.Heard.refused 6
+    pub hear-many : ltb 16 (r .size / (16 - r .discovery .compr)) || ts .over ≡ true → hear msg ≡ octets.Heard.refused 6
     unfolding hear
     hear-many e = rw (a, b, c, ← many-is, e)
 
-    pub hear-heard : ltb 16 (r .size / (16 - r .discovery .compr)) || s .targets .over ≡ false → heardFrom msg r ≡ hear msg
+    pub hear-heard : ltb 16 (r .size / (16 - r .discovery .compr)) || ts .over ≡ false → heardFrom msg r ≡ hear msg
     unfolding hear heardFrom
     hear-heard e =
         rw (w .number, a, b, c, ← many-is, e) (ap octets.Heard.heard (message-is (or-right (ltb 16 (r .size / (16 - r .discovery .compr))) _ e)))
 
-  pub bounded : ltb 16 (r .size / (16 - r .discovery .compr)) || s .targets .over ≡ false → Bounded (length msg) r
+  pub bounded : ltb 16 (r .size / (16 - r .discovery .compr)) || ts .over ≡ false → Bounded (length msg) r
   bounded e = record {
     few = omega (arith, w .count, v .few);
     within = w .within;

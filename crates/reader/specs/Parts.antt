@@ -7,9 +7,9 @@ use mathlib.Core.Option.{some, none}
 use lib.ListN.{length, take, drop}
 use Rattle.plain.specs.Octets.{optionsOf, ofType, configurationType, configurationOf, routeBody, replyCounts, discoveryOf, vectorOctets, hOf}
 use Rattle.plain.specs.declared.Base.{Base}
+use Rattle.art.specs.declared.Targets.{Targets}
 use Rattle.option.specs.Follows.{partOf}
 use Rattle.scan.specs.declared.Found.{Found}
-use Rattle.scan.specs.declared.Scan.{Scan}
 use Rattle.reader.specs.declared.Reading.{Reading}
 use Rattle.reader.specs.Reading.{refusalNumber}
 
@@ -22,7 +22,7 @@ pub record RouteAt (msg : List ℕ) (f : Found) : Type 0 where
   pub alone : hOf (partOf msg (f .start) (f .end)) ≡ true → f .end ≡ f .start + 3
 
 -- the fields of a message, each as its octets say
-pub record Filled (msg : List ℕ) (s : Scan) (base : Base) (r : Reading) : Type 0 where
+pub record Filled (msg : List ℕ) (ts : Targets) (base : Base) (r : Reading) : Type 0 where
   pub number : refusalNumber (r .refusal) ≡ 0
   pub base-is : r .base ≡ base
   pub configuration : cond (r .configured) (some (r .configuration)) none ≡ configurationOf (ofType configurationType (optionsOf msg))
@@ -31,5 +31,5 @@ pub record Filled (msg : List ℕ) (s : Scan) (base : Base) (r : Reading) : Type
   pub within : r .at + r .size ≤ length msg
   pub short : r .size ≤ 252
   pub alone : r .discovery .h ≡ true → r .size ≡ 0
-  pub count : r .count ≡ s .targets .count
-  pub targets : r .targets ≡ s .targets .list
+  pub count : r .count ≡ ts .count
+  pub targets : r .targets ≡ ts .list

@@ -12,6 +12,7 @@ ghost use Rattle.scan.specs.Seen.{Told};
 ghost use Rattle.scan.specs.Scanned.{Outlined, Scanned};
 ghost use Rattle.reader.specs.Reading.{refusalNumber, heardFrom, Bounded};
 ghost use Rattle.reader.specs.Parts.{RouteAt, Filled};
+use art::Targets;
 use plain::Base;
 use plain::Discovery;
 use plain::Target;
@@ -150,16 +151,16 @@ fn route(s: Scan) -> Found
 }
 
 // A message that is not refused.
-fn fill(msg: &[u8], s: Scan, base: Base) -> Reading
+fn fill(msg: &[u8], s: Scan, base: Base, ts: Targets) -> Reading
     requires { ⌜ Outlined (now msg) s × (unfit (now msg) ≡ false) ⌝ }
-    ensures { λ r. ⌜ Filled (now (msg .entry)) s base r ⌝ }
+    ensures { λ r. ⌜ Filled (now (msg .entry)) ts base r ⌝ }
 {
     let configuration = s.configuration;
     let octets = read_configuration(msg, configuration);
     let body = route(s);
     let start = body.start;
     let end = body.end;
-    let targets = s.targets.list;
+    let targets = ts.list;
     Reading {
         refusal: Refusal::Heard,
         base,
@@ -168,7 +169,7 @@ fn fill(msg: &[u8], s: Scan, base: Base) -> Reading
         discovery: option::discovery(is_reply(s), &msg[start..end]),
         at: start + 3,
         size: end - start - 3,
-        count: s.targets.count,
+        count: ts.count,
         targets,
     }
 }
@@ -207,11 +208,7 @@ fn refused(refusal: Refusal) -> Reading
         limit: 0,
         number: 0,
     };
-    let blank = Target {
-        seq: 0,
-        plen: 0,
-        addr: dodagid,
-    };
+    let targets = art::blank_list();
     Reading {
         refusal,
         base,
@@ -221,7 +218,7 @@ fn refused(refusal: Refusal) -> Reading
         at: 0,
         size: 0,
         count: 0,
-        targets: [blank; 8],
+        targets,
     }
 }
 
@@ -242,8 +239,9 @@ pub fn read(msg: &[u8]) -> Reading
     if address::is_unusable(dodagid) {
         return refused(Refusal::Unusable);
     }
-    let r = fill(msg, s, base);
-    if is_too_many(r.size, r.discovery.compr, s.targets.over) {
+    let ts = scan::read_targets(msg);
+    let r = fill(msg, s, base, ts);
+    if is_too_many(r.size, r.discovery.compr, ts.over) {
         return refused(Refusal::TooMany);
     }
     r

@@ -1,18 +1,14 @@
--- One more option taken in.
+-- One more option of a type noted.
 use Prim.Native.Nat.{ℕ}
 use mathlib.Core.Path.{_≡_, _∙_}
-use mathlib.Core.Bool.{false}
 use mathlib.Core.List.{List, _∷_}
 use native.Mathlib.Omega.{arith}
 use borrow.Author.Tests.{eq-eqb, ne-eqb}
 use Rattle.plain.specs.Lists.{those}
-use Rattle.plain.specs.Octets.{Opt, artType, badOption, badArt, targetOf}
+use Rattle.plain.specs.Octets.{Opt}
 use Rattle.option.specs.Follows.{optionOf, partOf}
 use Rattle.scan.specs.declared.Found.{Found}
 use Rattle.scan.specs.Seen.{Right, Seen}
-use Rattle.scan.specs.Scanned.{artTargets}
-
--- ---- The options of a type
 
 module _ {wanted kind start end : ℕ} {f : Found} {msg : List ℕ} {all rest : List Opt} (w : Right msg kind start end)
     (v : Seen wanted msg all (optionOf kind (partOf msg start end) ∷ rest) f) where
@@ -43,18 +39,3 @@ module _ {wanted kind start end : ℕ} {f : Found} {msg : List ℕ} {all rest : 
       body = rw (e, ne-eqb (f .count) 0 z) at (v .body);
       right = λ _. v .right (omega arith);
     }
-
--- ---- A target
-
-pub art-good : (kind : ℕ) (body : List ℕ) → kind ≡ artType → badOption (optionOf kind body) ≡ false → badArt body ≡ false
-unfolding badOption
-art-good kind body e h = rw e at h
-
-module _ (kind : ℕ) (body : List ℕ) (rest : List Opt) where
-  pub arts-other : (kind ≡ artType → ⊥) → artTargets (optionOf kind body ∷ rest) ≡ artTargets rest
-  unfolding those
-  arts-other h = rw (ne-eqb kind artType h)
-
-  pub arts-next : kind ≡ artType → artTargets (optionOf kind body ∷ rest) ≡ targetOf body ∷ artTargets rest
-  unfolding those
-  arts-next h = rw (eq-eqb kind artType h)

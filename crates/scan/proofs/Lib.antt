@@ -1,2 +1,5 @@
+pub mod Collecting
 pub mod Laws
+pub mod Lent
 pub mod Passing
+pub mod Turn

@@ -1,34 +1,29 @@
 -- The pass over the options, one turn for each thing that may stand at a position.
-use Prim.Native.Nat.{ℕ, zero, suc, _+_, _-_, _≤_, _<_}
+use Prim.Native.Nat.{ℕ, _+_, _-_, _<_}
 use mathlib.Core.Path.{_≡_, refl, sym, ap, _∙_}
 use mathlib.Core.Bool.{true, false}
-use mathlib.Core.List.{List, [], append-nil}
+use mathlib.Core.List.{List, []}
 use mathlib.Core.Option.{Option, some, none}
 use native.Mathlib.Omega.{arith}
 use lib.ListN.{length, drop}
 use borrow.Author.Tests.{ne-eqb}
 use Rattle.lemmas.proofs.Choice.{true-false}
-use Rattle.plain.specs.Lists.{any, those, onceAfter}
-use Rattle.plain.specs.Octets.{Opt, optionsIn, optionsOf, nextOption, anyBad, badOption, followedBy}
-use Rattle.option.specs.Follows.{optionOf, partOf, onwards, Follows}
+use Rattle.plain.specs.Lists.{any, those}
+use Rattle.plain.specs.Octets.{Opt, optionsIn, optionsOf, anyBad, badOption, followedBy}
+use Rattle.option.specs.Follows.{optionOf, partOf, Follows}
 use Rattle.option.specs.declared.Next.{Next}
 use Rattle.option.specs.declared.Next.the-variants.{Pad, Body, End, Cut}
 use Rattle.scan.specs.declared.Found.{Found}
 use Rattle.scan.specs.declared.Scan.{Scan}
 use Rattle.scan.specs.Seen.{Seen, Told}
 use Rattle.scan.specs.Scanned.{freshScan, Ahead, OptionTaken, Outlined, Scanned}
+use Rattle.scan.proofs.Turn.{body-placed, end-next, cut-next, pad-next, body-next}
 
 -- what holds before each turn: the options from `at` on, read in `left` steps, are those that are to come
 pub record Passing (msg : List ℕ) (s : Scan) (at left : ℕ) : Type 0 where
   pub bad : s .bad ≡ false
-  pub few : s .targets .count ≤ 8
   pub same : anyBad (optionsIn left (drop at msg)) ≡ anyBad (optionsOf msg)
   pub ahead : (all rest : List Opt) → optionsOf msg ≡ some all → optionsIn left (drop at msg) ≡ some rest → Ahead msg all rest s
-
-options-step : (n : ℕ) (xs : List ℕ) → 0 < n → optionsIn n xs ≡ nextOption (optionsIn (n - 1)) xs
-unfolding optionsIn
-options-step zero xs h = absurd (omega arith)
-options-step (suc n) xs h = let e : suc n - 1 ≡ n = omega arith in rw e
 
 -- a right option in front changes nothing, a bad one decides
 right-first : (o : Opt) (os : Option (List Opt)) → badOption o ≡ false → anyBad (followedBy o os) ≡ anyBad os
@@ -49,14 +44,12 @@ seen-none wanted msg all rest e = record { few = omega arith; count = rw e (omeg
 pub passing-first : (msg : List ℕ) → Passing msg freshScan 24 (length msg)
 passing-first msg = record {
   bad = refl;
-  few = omega arith;
   same = refl;
   ahead = λ all rest p q. let e : all ≡ rest = cc in record {
     configuration = seen-none _ msg all rest e;
     rreq = seen-none _ msg all rest e;
     rrep = seen-none _ msg all rest e;
     art = seen-none _ msg all rest e;
-    targets = record { few = omega arith; room = refl; many = λ h. true-false (sym h); held = λ h. rw e };
   };
 }
 
@@ -69,15 +62,11 @@ told-all wanted msg all f e v = record {
 }
 
 outlined-all : (msg : List ℕ) (all : List Opt) (s : Scan) → optionsOf msg ≡ some all → Ahead msg all [] s → Outlined msg s
-unfolding those onceAfter
 outlined-all msg all s e v = record {
   configuration = told-all _ msg all _ e (v .configuration);
   rreq = told-all _ msg all _ e (v .rreq);
   rrep = told-all _ msg all _ e (v .rrep);
   art = told-all _ msg all _ e (v .art);
-  few = v .targets .few;
-  many = λ h. rw e (v .targets .many h);
-  held = λ h. rw e (sym (v .targets .held h ∙ append-nil _));
 }
 
 pub scanned-bad : (msg : List ℕ) (r : Scan) → r .bad ≡ true → anyBad (optionsOf msg) ≡ true → Scanned msg r
@@ -99,47 +88,32 @@ module _ {msg : List ℕ} {s : Scan} {at left : ℕ} (v : Passing msg s at left)
   unfolding optionsIn
   scanned-out h = scanned-none (rw h)
 
+  -- ---- One turn
+
   module _ {n : Next} (h : 0 < left) (w : Follows msg at n) where
-    next : optionsIn left (drop at msg) ≡ onwards (optionsIn (left - 1)) msg at n
-    next = options-step left (drop at msg) h ∙ w .reads (optionsIn (left - 1))
-
-    -- ---- One turn
-
     pub scanned-end : n ≡ End → Scanned msg s
-    scanned-end e = scanned-none (next ∙ rw e)
+    scanned-end e = scanned-none (end-next w h e)
 
     pub scanned-cut : n ≡ Cut → anyBad (optionsOf msg) ≡ true
-    scanned-cut e = sym (v .same) ∙ rw (next, e)
-
-    pub pad-placed : n ≡ Pad → at < length msg
-    pad-placed e = rw e at (w .placed)
+    scanned-cut e = sym (v .same) ∙ rw (cut-next w h e)
 
     pub passing-pad : n ≡ Pad → Passing msg s (at + 1) (left - 1)
-    passing-pad e = let f : optionsIn left (drop at msg) ≡ optionsIn (left - 1) (drop (at + 1) msg) = next ∙ rw e in record {
+    passing-pad e = record {
       bad = v .bad;
-      few = v .few;
-      same = sym (ap anyBad f) ∙ v .same;
-      ahead = λ all rest p q. v .ahead all rest p (f ∙ q);
+      same = sym (ap anyBad (pad-next w h e)) ∙ v .same;
+      ahead = λ all rest p q. v .ahead all rest p (pad-next w h e ∙ q);
     }
 
     module _ {kind start end : ℕ} (e : n ≡ Body kind start end) where
-      body-next : optionsIn left (drop at msg) ≡ followedBy (optionOf kind (partOf msg start end)) (optionsIn (left - 1) (drop end msg))
-      body-next = next ∙ rw e
-
-      pub body-placed : (start ≤ end) × (end ≤ start + 255) × (end ≤ length msg)
-      body-placed = let p = rw e at (w .placed) in (p .1, p .2, p .3)
-
       pub bad-body : badOption (optionOf kind (partOf msg start end)) ≡ true → anyBad (optionsOf msg) ≡ true
-      bad-body b = sym (v .same) ∙ ap anyBad body-next ∙ bad-first _ (optionsIn (left - 1) (drop end msg)) b
+      bad-body b = sym (v .same) ∙ ap anyBad (body-next w h e) ∙ bad-first _ (optionsIn (left - 1) (drop end msg)) b
 
-      pub passing-body : {r : Scan} → badOption (optionOf kind (partOf msg start end)) ≡ false
-          → OptionTaken kind start end (partOf msg start end) s r → Passing msg r end (left - 1)
-      passing-body g t = record {
+      pub passing-body : {r : Scan} → badOption (optionOf kind (partOf msg start end)) ≡ false → OptionTaken kind start end s r
+          → Passing msg r end (left - 1)
+      passing-body g t = let p = body-placed w e in record {
         bad = t .bad ∙ v .bad;
-        few = t .few;
-        same = sym (ap anyBad body-next ∙ right-first _ (optionsIn (left - 1) (drop end msg)) g) ∙ v .same;
-        ahead = λ all rest p q.
-            t .ahead msg all rest refl
-            (record { order = body-placed .0; short = body-placed .1; within = body-placed .2; good = g })
-            (v .ahead all _ p (body-next ∙ rw q));
+        same = sym (ap anyBad (body-next w h e) ∙ right-first _ (optionsIn (left - 1) (drop end msg)) g) ∙ v .same;
+        ahead = λ all rest a q.
+            t .ahead msg all rest (record { order = p .0; short = p .1; within = p .2; good = g })
+            (v .ahead all _ a (body-next w h e ∙ rw q));
       }

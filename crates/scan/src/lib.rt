@@ -1,18 +1,18 @@
-// One pass over the options of a message (01, "Octets on the air").
+// Passes over the options of a message (01, "Octets on the air").
 ghost use mathlib.Core.Path.{_≡_};
 ghost use mathlib.Core.Bool.{false, true};
-ghost use Prim.Native.Nat.{_≤_};
-ghost use Rattle.plain.specs.Octets.{badOption};
-ghost use Rattle.option.specs.Follows.{optionOf};
+ghost use Rattle.plain.specs.Octets.{optionsOf, ofType, artType, anyBad, targetsOf};
+ghost use Rattle.art.specs.Collected.{targetsIn, Gathered};
 ghost use Rattle.scan.specs.Seen.{Noted};
-ghost use Rattle.scan.specs.Scanned.{freshScan, ArtTaken, OptionTaken, Scanned};
+ghost use Rattle.scan.specs.Scanned.{freshScan, OptionTaken, Scanned};
+use art::Count;
 use art::Targets;
 use option::Next;
 use plain::Target;
 
 // The options of one type: how many, as far as 2, and where the body of the first one is.
 pub struct Found {
-    pub count: u8,
+    pub count: usize,
     pub start: usize,
     pub end: usize,
 }
@@ -24,7 +24,6 @@ pub struct Scan {
     pub rreq: Found,
     pub rrep: Found,
     pub art: Found,
-    pub targets: Targets,
 }
 
 // What is found of a type after one more option.
@@ -48,34 +47,20 @@ fn noted(f: Found, wanted: u8, kind: u8, start: usize, end: usize) -> Found
     }
 }
 
-// The targets after one more option.
-fn with_art(ts: Targets, kind: u8, body: &[u8]) -> Targets
-    requires { ⌜ (ts .count ≤ 8) × (badOption (optionOf kind (now body)) ≡ false) ⌝ }
-    ensures { λ r. ⌜ ArtTaken kind (now (body .entry)) ts r ⌝ }
-{
-    if kind != 0x0D {
-        return ts;
-    }
-    art::with_target(ts, art::read_target(body))
-}
-
 // What a pass has found after one more option.
-fn with_option(s: Scan, kind: u8, start: usize, end: usize, body: &[u8]) -> Scan
-    requires { ⌜ (s .targets .count ≤ 8) × (badOption (optionOf kind (now body)) ≡ false) ⌝ }
-    ensures { λ r. ⌜ OptionTaken kind start end (now (body .entry)) s r ⌝ }
+fn with_option(s: Scan, kind: u8, start: usize, end: usize) -> Scan
+    ensures { λ r. ⌜ OptionTaken kind start end s r ⌝ }
 {
     let configuration = noted(s.configuration, 0x04, kind, start, end);
     let rreq = noted(s.rreq, 0x0B, kind, start, end);
     let rrep = noted(s.rrep, 0x0C, kind, start, end);
     let art = noted(s.art, 0x0D, kind, start, end);
-    let targets = with_art(s.targets, kind, body);
     Scan {
         bad: s.bad,
         configuration,
         rreq,
         rrep,
         art,
-        targets,
     }
 }
 
@@ -87,23 +72,12 @@ fn fresh() -> Scan
         start: 0,
         end: 0,
     };
-    let blank = Target {
-        seq: 0,
-        plen: 0,
-        addr: [0u8; 16],
-    };
-    let targets = Targets {
-        over: false,
-        count: 0,
-        list: [blank; 8],
-    };
     Scan {
         bad: false,
         configuration: none,
         rreq: none,
         rrep: none,
         art: none,
-        targets,
     }
 }
 
@@ -132,7 +106,7 @@ pub fn read_options(msg: &[u8]) -> Scan
                 if option::is_bad_option(kind, &msg[start..end]) {
                     return malformed(s);
                 }
-                s = with_option(s, kind, start, end, &msg[start..end]);
+                s = with_option(s, kind, start, end);
                 at = end;
             }
             Next::End => {
@@ -144,4 +118,47 @@ pub fn read_options(msg: &[u8]) -> Scan
         }
     }
     s
+}
+
+// The targets that are collected in a list.
+fn targets_in(list: [Target; 8], c: Count) -> Targets
+    ensures { λ r. ⌜ r ≡ targetsIn list c ⌝ }
+{
+    Targets {
+        over: c.over,
+        count: c.n,
+        list,
+    }
+}
+
+// The targets of all ARTs of a message whose options are not bad, each once.
+pub fn read_targets(msg: &[u8]) -> Targets
+    requires { ⌜ anyBad (optionsOf (now msg)) ≡ false ⌝ }
+    ensures { λ r. ⌜ Gathered (targetsOf (ofType artType (optionsOf (now (msg .entry))))) r ⌝ }
+{
+    let mut list = art::blank_list();
+    let mut c = art::none_yet();
+    let mut at = 24;
+    let mut left = msg.len();
+    while 0 < left {
+        left = left - 1;
+        match option::next_option(msg, at) {
+            Next::Pad => {
+                at = at + 1;
+            }
+            Next::Body { kind, start, end } => {
+                at = end;
+                if kind == 0x0D {
+                    c = art::collect(&mut list, c, art::read_target(&msg[start..end]));
+                }
+            }
+            Next::End => {
+                return targets_in(list, c);
+            }
+            Next::Cut => {
+                return targets_in(list, c);
+            }
+        }
+    }
+    targets_in(list, c)
 }

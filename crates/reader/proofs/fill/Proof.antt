@@ -38,15 +38,8 @@ part-discovery-end c =
 discovery-requires : tie.Need-discovery-requires
 discovery-requires c κs = search needs
 
-add-t18 : tie.Need-add-t18
-add-t18 c =
-    let found = c .before .before .before .before .before in
-    let start = found .before .before .before .before in
-    let w = found .route .ensures _ (start .pre .0) (start .pre .1) in
-    omega (arith, w .long)
-
-sub-t19 : tie.Need-sub-t19
-sub-t19 c =
+add-t19 : tie.Need-add-t19
+add-t19 c =
     let found = c .before .before .before .before .before in
     let start = found .before .before .before .before in
     let w = found .route .ensures _ (start .pre .0) (start .pre .1) in
@@ -54,6 +47,13 @@ sub-t19 c =
 
 sub-t20 : tie.Need-sub-t20
 sub-t20 c =
+    let found = c .before .before .before .before .before in
+    let start = found .before .before .before .before in
+    let w = found .route .ensures _ (start .pre .0) (start .pre .1) in
+    omega (arith, w .long)
+
+sub-t21 : tie.Need-sub-t21
+sub-t21 c =
     let found = c .before .before .before .before .before in
     let start = found .before .before .before .before in
     let w = found .route .ensures _ (start .pre .0) (start .pre .1) in
@@ -90,7 +90,7 @@ fill-spec =
     part-discovery-start
     part-discovery-end
     discovery-requires
-    add-t18
-    sub-t19
+    add-t19
     sub-t20
+    sub-t21
     returns)

@@ -2,7 +2,7 @@ use mathlib.Core.Path.{sym, _∙_}
 use native.Mathlib.Omega.{arith}
 use borrow.Author.Needs.{needs}
 use Rattle.reader.proofs.Message.{compr-most, hear-many, hear-heard, bounded, refused-as, hear-malformed, hear-unfit, hear-unusable}
-use Rattle.reader.proofs.Counts.{formed-long, formed-outline}
+use Rattle.reader.proofs.Counts.{formed-long, formed-good, formed-outline}
 use Rattle.reader.proofs.read.Statement.{statement}
 use Rattle.reader.proofs.read.Tie as tie
 
@@ -67,9 +67,15 @@ returns-3 c =
     let d = rw (based .read-base .ensures) at (sym (usable .before .is-unusable .ensures) ∙ usable .if3 .taken) in
     refused-as msg (c .refused3 .result) _ (c .refused3 .ensures) (omega arith) (hear-unusable msg a b d)
 
+read-targets-requires : tie.Need-read-targets-requires
+read-targets-requires c κs =
+    let formed = c .before .before .before .before .before .before in
+    let start = formed .before .before .before .before in
+    formed-good (start .args .msg .now) (sym (formed .before .is-malformed .ensures) ∙ formed .if1 .left)
+
 fill-requires : tie.Need-fill-requires
 fill-requires c κs =
-    let fit = c .before .before .before .before in
+    let fit = c .before .before .before .before .before in
     let formed = fit .before .before in
     let start = formed .before .before .before .before in
     let msg = start .args .msg .now in
@@ -80,20 +86,31 @@ fill-requires c κs =
 
 is-too-many-requires : tie.Need-is-too-many-requires
 is-too-many-requires c κs =
-    let based = c .before .before .before .before in
-    let formed = based .before .before .before in
-    let start = formed .before .before .before .before in
-    let msg = start .args .msg .now in
-    let a = sym (formed .before .is-malformed .ensures) ∙ formed .if1 .left in
-    let v = formed-outline msg a _ (formed .before .before .read-options .ensures) in
+    let based = c .before .before .before .before .before in
     let w = rw (based .read-base .ensures) at (c .fill .ensures) in
-    compr-most v w
+    compr-most (c .before .read-targets .ensures) w
 
 refused-requires-4 : tie.Need-refused-requires-4
 refused-requires-4 c κs = search needs
 
 returns-4 : tie.Need-returns-4
 returns-4 c =
+    let usable = c .before .before .before .before .before in
+    let based = usable .before .before .before in
+    let fit = based .before in
+    let formed = fit .before .before in
+    let start = formed .before .before .before .before in
+    let msg = start .args .msg .now in
+    let a = sym (formed .before .is-malformed .ensures) ∙ formed .if1 .left in
+    let b = sym (fit .before .is-unfit .ensures) ∙ fit .if2 .left in
+    let d = rw (based .read-base .ensures) at (sym (usable .before .is-unusable .ensures) ∙ usable .if3 .left) in
+    let v = c .before .before .before .before .read-targets .ensures in
+    let w = rw (based .read-base .ensures) at (c .before .before .before .fill .ensures) in
+    let e = sym (c .before .before .is-too-many .ensures) ∙ c .before .if4 .taken in
+    refused-as msg (c .refused4 .result) _ (c .refused4 .ensures) (omega arith) (hear-many v w a b d e)
+
+returns-5 : tie.Need-returns-5
+returns-5 c =
     let usable = c .before .before .before .before in
     let based = usable .before .before .before in
     let fit = based .before in
@@ -103,23 +120,7 @@ returns-4 c =
     let a = sym (formed .before .is-malformed .ensures) ∙ formed .if1 .left in
     let b = sym (fit .before .is-unfit .ensures) ∙ fit .if2 .left in
     let d = rw (based .read-base .ensures) at (sym (usable .before .is-unusable .ensures) ∙ usable .if3 .left) in
-    let v = formed-outline msg a _ (formed .before .before .read-options .ensures) in
-    let w = rw (based .read-base .ensures) at (c .before .before .before .fill .ensures) in
-    let e = sym (c .before .before .is-too-many .ensures) ∙ c .before .if4 .taken in
-    refused-as msg (c .refused4 .result) _ (c .refused4 .ensures) (omega arith) (hear-many v w a b d e)
-
-returns-5 : tie.Need-returns-5
-returns-5 c =
-    let usable = c .before .before .before in
-    let based = usable .before .before .before in
-    let fit = based .before in
-    let formed = fit .before .before in
-    let start = formed .before .before .before .before in
-    let msg = start .args .msg .now in
-    let a = sym (formed .before .is-malformed .ensures) ∙ formed .if1 .left in
-    let b = sym (fit .before .is-unfit .ensures) ∙ fit .if2 .left in
-    let d = rw (based .read-base .ensures) at (sym (usable .before .is-unusable .ensures) ∙ usable .if3 .left) in
-    let v = formed-outline msg a _ (formed .before .before .read-options .ensures) in
+    let v = c .before .before .before .read-targets .ensures in
     let w = rw (based .read-base .ensures) at (c .before .before .fill .ensures) in
     let e = sym (c .before .is-too-many .ensures) ∙ c .if4 .left in
     (hear-heard v w a b d e, λ _. bounded v w e)
@@ -139,6 +140,7 @@ read-spec =
     is-unusable-requires
     refused-requires-3
     returns-3
+    read-targets-requires
     fill-requires
     is-too-many-requires
     refused-requires-4

@@ -1,6 +1,7 @@
 use mathlib.Core.Path.{sym, _∙_}
 use native.Mathlib.Omega.{arith}
-use Rattle.scan.proofs.Passing.{Passing, passing-first, scanned-bad, scanned-out, scanned-end, scanned-cut, pad-placed, passing-pad, body-placed, bad-body, passing-body}
+use Rattle.scan.proofs.Passing.{Passing, passing-first, scanned-bad, scanned-out, scanned-end, scanned-cut, passing-pad, bad-body, passing-body}
+use Rattle.scan.proofs.Turn.{pad-placed, body-placed}
 use Rattle.lemmas.proofs.Cases.{cases}
 use Rattle.scan.proofs.read_options.Statement.{statement}
 use Rattle.scan.proofs.read_options.Tie as tie
@@ -31,7 +32,7 @@ add-at c =
     let next = c .before .before in
     let inside = next .before in
     let loop = inside .before in
-    omega (arith, pad-placed (loop .loop .inv) (inside .loop-test .taken) (next .next-option .ensures) (c .enum-told .given .1))
+    omega (arith, pad-placed (next .next-option .ensures) (c .enum-told .given .1))
 
 loop-less : tie.Need-loop-less Inv-loop μ-loop
 loop-less c = search cases
@@ -51,21 +52,21 @@ sub-is-bad-option c =
     let next = c .before .before .before in
     let inside = next .before in
     let loop = inside .before in
-    body-placed (loop .loop .inv) (inside .loop-test .taken) (next .next-option .ensures) (c .before .kind .given .1) .0
+    body-placed (next .next-option .ensures) (c .before .kind .given .1) .0
 
 part-is-bad-option-start : tie.Need-part-is-bad-option-start Inv-loop μ-loop
 part-is-bad-option-start c =
     let next = c .before .before .before in
     let inside = next .before in
     let loop = inside .before in
-    body-placed (loop .loop .inv) (inside .loop-test .taken) (next .next-option .ensures) (c .before .kind .given .1) .0
+    body-placed (next .next-option .ensures) (c .before .kind .given .1) .0
 
 part-is-bad-option-end : tie.Need-part-is-bad-option-end Inv-loop μ-loop
 part-is-bad-option-end c =
     let next = c .before .before .before in
     let inside = next .before in
     let loop = inside .before in
-    body-placed (loop .loop .inv) (inside .loop-test .taken) (next .next-option .ensures) (c .before .kind .given .1) .2
+    body-placed (next .next-option .ensures) (c .before .kind .given .1) .2
 
 is-bad-option-requires : tie.Need-is-bad-option-requires Inv-loop μ-loop
 is-bad-option-requires c κs = search cases
@@ -81,39 +82,15 @@ returns c =
     let bad = sym (c .before .before .is-bad-option .ensures) ∙ c .before .if1 .taken in
     scanned-bad _ _ (c .malformed .ensures) (bad-body (loop .loop .inv) (inside .loop-test .taken) (next .next-option .ensures) (c .before .before .before .before .before .kind .given .1) bad)
 
-sub-with-option : tie.Need-sub-with-option Inv-loop μ-loop
-sub-with-option c =
-    let next = c .before .before .before .before .before .before in
-    let inside = next .before in
-    let loop = inside .before in
-    body-placed (loop .loop .inv) (inside .loop-test .taken) (next .next-option .ensures) (c .before .before .before .before .kind .given .1) .0
-
-part-with-option-start : tie.Need-part-with-option-start Inv-loop μ-loop
-part-with-option-start c =
-    let next = c .before .before .before .before .before .before in
-    let inside = next .before in
-    let loop = inside .before in
-    body-placed (loop .loop .inv) (inside .loop-test .taken) (next .next-option .ensures) (c .before .before .before .before .kind .given .1) .0
-
-part-with-option-end : tie.Need-part-with-option-end Inv-loop μ-loop
-part-with-option-end c =
-    let next = c .before .before .before .before .before .before in
-    let inside = next .before in
-    let loop = inside .before in
-    body-placed (loop .loop .inv) (inside .loop-test .taken) (next .next-option .ensures) (c .before .before .before .before .kind .given .1) .2
-
 with-option-requires : tie.Need-with-option-requires Inv-loop μ-loop
-with-option-requires c κs =
-    let tested = c .before in
-    let loop = tested .before .before .before .before .before .before .before .before in
-    (loop .loop .inv .few, sym (tested .before .is-bad-option .ensures) ∙ tested .if1 .left)
+with-option-requires c κs = search cases
 
 loop-less-2 : tie.Need-loop-less-2 Inv-loop μ-loop
 loop-less-2 c = search cases
 
 loop-again-2 : tie.Need-loop-again-2 Inv-loop μ-loop
 loop-again-2 c =
-    let tested = c .before .before in
+    let tested = c .before in
     let next = tested .before .before .before .before .before .before in
     let inside = next .before in
     let loop = inside .before in
@@ -167,9 +144,6 @@ read-options-spec =
     is-bad-option-requires
     malformed-requires
     returns
-    sub-with-option
-    part-with-option-start
-    part-with-option-end
     with-option-requires
     loop-less-2
     loop-again-2

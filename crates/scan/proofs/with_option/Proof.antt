@@ -15,25 +15,15 @@ noted-requires-3 c κs = search needs
 noted-requires-4 : tie.Need-noted-requires-4
 noted-requires-4 c κs = search needs
 
-with-art-requires : tie.Need-with-art-requires
-with-art-requires c κs = search needs
-
 returns : tie.Need-returns
 returns c = record {
   bad = refl;
-  few = c .with-art .ensures .few;
-  ahead = λ msg all rest e w v.
-      let configuration = rw e at (v .configuration) in
-      let rreq = rw e at (v .rreq) in
-      let rrep = rw e at (v .rrep) in
-      let art = rw e at (v .art) in
-      record {
-        configuration = c .before .before .before .before .noted .ensures msg all rest w configuration;
-        rreq = c .before .before .before .noted2 .ensures msg all rest w rreq;
-        rrep = c .before .before .noted3 .ensures msg all rest w rrep;
-        art = c .before .noted4 .ensures msg all rest w art;
-        targets = c .with-art .ensures .collected _ rest (v .targets);
-      };
+  ahead = λ msg all rest w v. record {
+    configuration = c .before .before .before .noted .ensures msg all rest w (v .configuration);
+    rreq = c .before .before .noted2 .ensures msg all rest w (v .rreq);
+    rrep = c .before .noted3 .ensures msg all rest w (v .rrep);
+    art = c .noted4 .ensures msg all rest w (v .art);
+  };
 }
 
 pub with-option-spec : {M : Type 1} → statement M
@@ -44,5 +34,4 @@ with-option-spec =
     noted-requires-2
     noted-requires-3
     noted-requires-4
-    with-art-requires
     returns)

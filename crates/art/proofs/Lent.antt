@@ -1,0 +1,3 @@
+pub mod collect
+pub mod is_listed
+pub mod put_target

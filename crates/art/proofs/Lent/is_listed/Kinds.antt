@@ -1,0 +1,20 @@
+-- Made by tools/lend.py of the twin of `is_listed`: do not edit.
+use Rattle.plain.proofs.Elem.Target as KTarget
+use borrow.Fn.Kinds
+use borrow.Kind.Array
+use borrow.Kind.ShrSlice
+use borrow.Table.Referent
+use denote.Array as Array'
+use mathlib.Core.List
+use mir.Syntax
+
+abbrev pub ps : List.List (Kinds.PK 1)
+ps =
+    List._∷_
+    (KTarget.pk)
+    (List._∷_
+    (ShrSlice.pShrS (KTarget.R) 0 tt)
+    (List._∷_ (Kinds.pNum Syntax.w64) List.[]))
+
+abbrev pub r : Kinds.RK 1
+r = Kinds.rBool
