@@ -125,7 +125,8 @@ pub struct Now {
     pub time: u64,
 }
 
-/// Handles one received DIO body.
+/// Handles one received DIO body. Inlined, so that a caller measures the call and no copy of what it hands in.
+#[inline]
 pub fn message(lent: Lent, now: Now, octets: &[u8], link: Link) -> Outcome {
     // SAFETY: each pointer comes with its slice's length; the slices do not
     // overlap, since they are borrowed apart; every octet pattern of the
@@ -153,6 +154,7 @@ pub fn message(lent: Lent, now: Now, octets: &[u8], link: Link) -> Outcome {
 }
 
 /// Handles the start of our own discovery.
+#[inline]
 pub fn start(lent: Lent, now: Now, targets: &[Target], fields: StartFields) -> Outcome {
     // SAFETY: as for `message`.
     unsafe {

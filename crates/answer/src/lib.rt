@@ -60,6 +60,6 @@ pub enum Way {
 
 // A way with its neighbour's address, all zero for every other way.
 pub struct Destination {
-    pub way: Way,
     pub neighbour: [u8; 16],
+    pub way: Way,
 }

@@ -278,7 +278,8 @@ module _ (x : Settings) (clock seq t : ℕ) (rows : List InstanceRow) (routes : 
                 later = l .0;
                 forwardRoom = l .2;
                 replyRoom = l .3;
-                sound = rw ts-are (record { time = l .1; compr = h .compr; targets = h .few; prefixes = h .short });
+                time = l .1;
+                sendable = rw ts-are (record { compr = h .compr; targets = h .few; prefixes = h .short });
               }
 
           targets-are : listOf ts ≡ startTargets asking

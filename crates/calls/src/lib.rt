@@ -114,9 +114,33 @@ pub fn message(
     let p = heard::parsed(r);
     let v = heard::vector_of(octets, r);
     if is_reply(r) {
-        return node::take_reply(instances, routes, forward, reply, o, clock, seq, t, k, p, v);
+        return node::take_reply(
+            instances,
+            routes,
+            forward,
+            reply,
+            o,
+            clock,
+            seq,
+            t,
+            k,
+            &p,
+            &v,
+        );
     }
-    node::take_request(instances, routes, forward, reply, o, clock, seq, t, k, p, v)
+    node::take_request(
+        instances,
+        routes,
+        forward,
+        reply,
+        o,
+        clock,
+        seq,
+        t,
+        k,
+        &p,
+        &v,
+    )
 }
 
 // The start of our own discovery, with any number of targets.

@@ -1,4 +1,4 @@
--- What a decision means: the rules' outcome.
+-- What a decision means: what the rules send and store.
 use Prim.Native.Nat.{ℕ, _≤_}
 use mathlib.Core.Path.{_≡_}
 use mathlib.Core.Bool.{Bool, true, false, cond}
@@ -7,11 +7,11 @@ use mathlib.Core.Option.{Option, some, none}
 use lib.Dec.{eqb}
 use lib.ListN.{length, take}
 use Rattle.plain.specs.Address.{Address}
-use Rattle.plain.specs.Given.{Settings, Instance, Route, Sent}
+use Rattle.plain.specs.Given.{Settings, Instance, Route, Destination}
 use Rattle.plain.specs.Table.{Numbered, Change, put}
 use Rattle.plain.specs.Octets.{Message, octetsOf, elided}
 use Rattle.plain.specs.Request.{Accepted, grown, routeChange, withReplyRow}
-use Rattle.answer.specs.Answer.{answerNumber, destinationOf}
+use Rattle.answer.specs.Answer.{destinationOf}
 use Rattle.row.specs.Meaning.{requestOf, replyOf, routeIn}
 use Rattle.row.specs.Record.{requestRecord, replyRecord, routeRecord}
 use Rattle.row.specs.declared.InstanceRow.{InstanceRow}
@@ -57,15 +57,13 @@ pub record Fits (x : Settings) (p : Post) (vector : List Address) : Type 0 where
   pub targets : p .message .count ≤ 8
   pub prefixes : shortPrefixes (take (p .message .count) (p .message .targets)) ≡ true
 
--- ---- The outcome
+-- A post is the rules': what it sends, where to, and that it can be written.
+pub record Posts (x : Settings) (vector : List Address) (octets : List ℕ) (to : Destination) (p : Post) : Type 0 where
+  pub sends : postOctets x p vector ≡ octets
+  pub goes : destinationOf (p .to) ≡ to
+  pub fits : Fits x p vector
 
-abbrev pub sentBy : Settings → Decided → List Address → Sent
-sentBy x d vector = record {
-  forward = postOctets x (d .forward) vector;
-  forwardTo = destinationOf (d .forward .to);
-  reply = postOctets x (d .reply) vector;
-  replyTo = destinationOf (d .reply .to);
-}
+-- ---- What is stored
 
 -- the row that a record to be stored means, and the record that is written for a row
 unfoldable pub instanceMeant : InstanceRow → Instance
@@ -82,16 +80,11 @@ instancesBy found d = withReplyRow (put found (instanceMeant (d .row))) (d .repl
 unfoldable pub routesBy : Option (Numbered Route) → Decided → Change Route
 routesBy found d = routeChange (d .routed) found (routeIn (d .route))
 
--- A decision is the rules': k is the first line that holds, or 0, and `acc` the outcome where it is 0. Each record is the one that is
--- written for its row.
-pub record Decides {B : Type 0} (x : Settings) (vector : List Address) (k : ℕ) (acc : Accepted) (found : Option (Numbered B)) (hop : Option (Numbered Route)) (d : Decided) : Type 0 where
-  pub answer : answerNumber (d .answer) ≡ k
-  pub sent : k ≡ 0 → sentBy x d vector ≡ acc .sent
-  pub own : k ≡ 0 → d .seq ≡ acc .own
-  pub instances : k ≡ 0 → instancesBy found d ≡ acc .instances
-  pub routes : k ≡ 0 → routesBy hop d ≡ acc .routes
-  pub row : k ≡ 0 → recordOf (instanceMeant (d .row)) ≡ d .row
-  pub second : k ≡ 0 → d .replies ≡ true → replyRecord (replyOf (d .second)) ≡ d .second
-  pub route : k ≡ 0 → d .routed ≡ true → routeRecord (routeIn (d .route)) ≡ d .route
-  pub forward : k ≡ 0 → Fits x (d .forward) vector
-  pub reply : k ≡ 0 → Fits x (d .reply) vector
+-- What is stored is the rules' `acc`. Each record is the one that is written for its row.
+pub record Stores {B : Type 0} (acc : Accepted) (found : Option (Numbered B)) (hop : Option (Numbered Route)) (d : Decided) : Type 0 where
+  pub own : d .seq ≡ acc .own
+  pub instances : instancesBy found d ≡ acc .instances
+  pub routes : routesBy hop d ≡ acc .routes
+  pub row : recordOf (instanceMeant (d .row)) ≡ d .row
+  pub second : d .replies ≡ true → replyRecord (replyOf (d .second)) ≡ d .second
+  pub route : d .routed ≡ true → routeRecord (routeIn (d .route)) ≡ d .route

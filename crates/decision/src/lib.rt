@@ -1,6 +1,5 @@
-// What the rules decide of a call, by value: its answer, and where that is 0 the records to store, our number, and what is sent. Where
-// the records go, and whether there is room for them, is decided by whoever holds the tables.
-use answer::Answer;
+// What the rules decide of a call that they answer 0, by value: the records to store, our number, and what is sent. Where the records go,
+// and whether there is room for them, is decided by whoever holds the tables.
 use answer::Destination;
 use message::Parsed;
 use row::InstanceRow;
@@ -23,15 +22,12 @@ pub struct Post {
     pub to: Destination,
 }
 
-// A decision. `second` is stored where `replies`, `route` where `routed`.
+// What is stored. `second` is stored where `replies`, `route` where `routed`.
 pub struct Decided {
-    pub answer: Answer,
     pub row: InstanceRow,
     pub replies: bool,
     pub second: InstanceRow,
     pub routed: bool,
     pub route: RouteRow,
     pub seq: u8,
-    pub forward: Post,
-    pub reply: Post,
 }

@@ -1,6 +1,6 @@
--- What a decision comes to, by each way out.
+-- What a call comes to, by each way out.
 use Prim.Native.Nat.{ℕ, zero, suc, _<_, _≤_}
-use mathlib.Core.Path.{_≡_, refl, sym, ap, ap₂, subst, _∙_}
+use mathlib.Core.Path.{_≡_, refl, sym, ap, subst, _∙_}
 use mathlib.Core.Logic.{_⊎_, inl, inr, ⊎-elim}
 use mathlib.Core.Bool.{Bool, true, false, cond, _&&_}
 use mathlib.Core.List.{List, [], _∷_, map}
@@ -17,19 +17,21 @@ use Rattle.plain.specs.Table.{hasRoom, placed, instanceDeadline, routeDeadline}
 use Rattle.plain.specs.Request.{Accepted}
 use Rattle.plain.specs.Plain as plain
 use Rattle.plain.specs.Plain.{enact, place, refusedBy, stored}
-use Rattle.answer.specs.Answer.{answerNumber}
+use Rattle.answer.specs.Answer.{answerNumber, destinationOf}
+use Rattle.answer.specs.declared.Destination.{Destination}
 use Rattle.answer.specs.declared.Answer.{Answer}
 use Rattle.answer.specs.declared.Answer.the-variants.{Done, NoRow}
 use Rattle.row.specs.Meaning.{instanceOf, routeOf, requestOf, replyOf, routeIn, noRow, noRoute}
 use Rattle.row.specs.Record.{requestRecord, replyRecord, routeRecord}
 use Rattle.row.specs.declared.InstanceRow.{InstanceRow}
 use Rattle.row.specs.declared.RouteRow.{RouteRow}
-use Rattle.decision.specs.Decision.{sentBy, postOctets, instanceMeant, recordOf}
+use Rattle.decision.specs.Decision.{postOctets, instanceMeant, recordOf}
 use Rattle.decision.specs.declared.Decided.{Decided}
 use Rattle.decision.specs.declared.Post.{Post}
 use Rattle.place.specs.Places.{rowChange, hopChange, Placed, RoutePlaced}
 use Rattle.place.specs.declared.Places as P
 use Rattle.place.specs.declared.RoutePlace.{RoutePlace}
+use Rattle.finish.specs.declared.Live.{Live}
 use Rattle.finish.specs.declared.Outcome.{Outcome}
 use Rattle.finish.specs.Gives.{nothingSent, stateOf, decisionOf, Records, RouteRecords, Settled, Gives}
 
@@ -121,106 +123,79 @@ module _ (clock seq t : ℕ) (rows : List InstanceRow) (routes : List RouteRow) 
   unfolding enact
   refused-gives k acc a r e n f = rw (ne-eqb k 0 n) (refusal-gives k a r e f)
 
-  -- ---- a decision that is taken: 17, or stored and sent
+  -- ---- a call that the rules answer 0: 17, or stored and sent
 
-  module _ (x : Settings) (vector : List Address) (k : ℕ) (acc : Accepted) (is : Bool) (at : ℕ) (his : Bool) (hop : ℕ) (d : Decided)
-      (w : Settled x vector k acc is at his hop d) (zero : k ≡ 0) (p : P.Places) (q : RoutePlace)
-      (pp : Placed rows t is at (d .replies) p) (qq : RoutePlaced routes t (d .routed) his hop q) where
+  module _ (x : Settings) (vector : List Address) (acc : Accepted) (l : Live) (d : Decided) (there back : Post)
+      (w : Settled x vector acc l d there back) (p : P.Places) (q : RoutePlace) (replying routed : Bool) (er : replying ≡ d .replies)
+      (eh : routed ≡ d .routed) (pr : Placed rows t (l .is) (l .at) replying p) (qr : RoutePlaced routes t routed (l .routed) (l .hop) q) where
+    pp : Placed rows t (l .is) (l .at) (d .replies) p
+    pp = subst (λ (b : Bool). Placed rows t (l .is) (l .at) b p) er pr
+
+    qq : RoutePlaced routes t (d .routed) (l .routed) (l .hop) q
+    qq = subst (λ (b : Bool). RoutePlaced routes t b (l .routed) (l .hop) q) eh qr
+
     room-is : hasRoom instanceDeadline t (acc .instances) (map instanceOf rows) && hasRoom routeDeadline t (acc .routes) (map routeOf routes)
         ≡ p .ok && q .ok
     room-is =
         rw (
-          ← w .instances zero,
-          ← w .routes zero,
+          ← w .instances,
+          ← w .routes,
           ← pp .room (instanceMeant (d .row)) (replyOf (d .second)),
           ← qq .room (routeIn (d .route)),
         )
 
-    taken-is : enact t (stateOf clock seq rows routes) (decisionOf k acc)
+    taken-is : enact t (stateOf clock seq rows routes) (plain.Decision.take acc)
         ≡ cond (p .ok && q .ok) (record { answer = 0; sent = acc .sent; state = stored t acc (stateOf clock seq rows routes) }) (refusedBy 17 (stateOf clock seq rows routes))
     unfolding enact place
-    taken-is = rw (eq-eqb k 0 zero, room-is)
+    taken-is = rw room-is
 
-    pub full-gives : (a : Answer) (r : Outcome) → p .ok && q .ok ≡ false → a ≡ NoRow
-        → r ≡ record { answer = a; forward = nothingSent; reply = nothingSent; clock = clock; seq = seq }
-        → Gives (enact t (stateOf clock seq rows routes) (decisionOf k acc)) rows rows routes routes forward forward reply reply r
-    full-gives a r e g f = rw (taken-is, e) (refusal-gives 17 a r (ap answerNumber g) f)
+    pub full-gives : (b : Bool) (r : Outcome) → b ≡ p .ok && q .ok → b ≡ false
+        → r ≡ record { answer = NoRow; forward = nothingSent; reply = nothingSent; clock = clock; seq = seq }
+        → Gives (enact t (stateOf clock seq rows routes) (plain.Decision.take acc)) rows rows routes routes forward forward reply reply r
+    full-gives b r e g f = rw (taken-is, sym e ∙ g) (refusal-gives 17 NoRow r refl f)
 
-    pub done-gives : (r : Outcome) (forward' reply' : List ℕ) (n m : ℕ) → p .ok && q .ok ≡ true
-        → Written (postOctets x (d .forward) vector) forward forward' n → Written (postOctets x (d .reply) vector) reply reply' m
-        → r ≡ record { answer = Done; forward = record { size = n; to = d .forward .to }; reply = record { size = m; to = d .reply .to }; clock = t; seq = d .seq }
-        → Gives (enact t (stateOf clock seq rows routes) (decisionOf k acc)) rows (set (set rows (p .first) (d .row)) (p .second) (d .second)) routes
-        (set routes (q .hop) (d .route)) forward forward' reply reply' r
-    done-gives r forward' reply' n m e u v f =
-        let po : p .ok ≡ true = and-left (p .ok) (q .ok) e in
-        let qo : q .ok ≡ true = and-right (p .ok) (q .ok) e in
-        let s = w .sent zero in
-        rw (taken-is, e, f) (record {
-          answer = refl;
-          state = λ i. record {
-            clock = t;
-            own = w .own zero i;
-            instances = (
-                pp .stored po (d .row) (d .second) (instanceMeant (d .row)) (replyOf (d .second)) (instance-means (d .row) (w .row zero))
-                (λ b. reply-means (d .second) (w .second zero b))
-                ∙ ap (λ z. placed instanceDeadline t z (map instanceOf rows)) (w .instances zero)
-                ) i;
-            routes = (
-                qq .stored qo (d .route) (routeIn (d .route)) (λ b. route-means (d .route) (w .route zero b))
-                ∙ ap (λ z. placed routeDeadline t z (map routeOf routes)) (w .routes zero)
-                ) i;
-          };
-          forwardLength = u .count ∙ ap (λ z. length (z .forward)) s;
-          replyLength = v .count ∙ ap (λ z. length (z .reply)) s;
-          forwardTo = ap (λ z. z .forwardTo) s;
-          replyTo = ap (λ z. z .replyTo) s;
-          forwardOctets = u .holds ∙ ap (λ z. over (z .forward) forward) s;
-          replyOctets = v .holds ∙ ap (λ z. over (z .reply) reply) s;
-          instances = records-two rows (p .first) (p .second) (d .row) (d .second) (w .row zero) (second-record (d .replies) refl);
-          hops = records-route routes (q .hop) (d .route) (route-record (d .routed) refl);
-          kept = λ b. absurd (b refl);
-        })
-      where
-        second-record : (b : Bool) → d .replies ≡ b → p .second < length rows → recordOf (instanceMeant (d .second)) ≡ d .second
-        second-record true g h = reply-record (d .second) (w .second zero g)
-        second-record false g h = absurd (omega (arith, pp .second g))
+    second-record : (b : Bool) → d .replies ≡ b → p .second < length rows → recordOf (instanceMeant (d .second)) ≡ d .second
+    second-record true g h = reply-record (d .second) (w .second g)
+    second-record false g h = absurd (omega (arith, pp .second g))
 
-        route-record : (b : Bool) → d .routed ≡ b → q .hop < length routes → routeRecord (routeIn (d .route)) ≡ d .route
-        route-record true g h = w .route zero g
-        route-record false g h = absurd (omega (arith, qq .unrouted g))
+    route-record : (b : Bool) → d .routed ≡ b → q .hop < length routes → routeRecord (routeIn (d .route)) ≡ d .route
+    route-record true g h = w .route g
+    route-record false g h = absurd (omega (arith, qq .unrouted g))
 
--- The same, as the calls on the way give it.
-module _ (clock seq t : ℕ) (rows rows' : List InstanceRow) (routes routes' : List RouteRow) (forward forward' reply reply' : List ℕ)
-    (x : Settings) (vector : List Address) (k : ℕ) (acc : Accepted) (is : Bool) (at : ℕ) (his : Bool) (hop : ℕ) (d : Decided)
-    (w : Settled x vector k acc is at his hop d) (zero : k ≡ 0) (p : P.Places) (q : RoutePlace) (replying routed : Bool) (replies : replying ≡ d .replies)
-    (routes-is : routed ≡ d .routed) (pp : Placed rows t is at replying p) (qq : RoutePlaced routes t routed his hop q) where
-  pp-is : Placed rows t is at (d .replies) p
-  pp-is = subst (λ (b : Bool). Placed rows t is at b p) replies pp
-
-  qq-is : RoutePlaced routes t (d .routed) his hop q
-  qq-is = subst (λ (b : Bool). RoutePlaced routes t b his hop q) routes-is qq
-
-  pub full-came : (b : Bool) (a : Answer) (r : Outcome) → b ≡ p .ok && q .ok → b ≡ false → a ≡ NoRow
-      → r ≡ record { answer = a; forward = nothingSent; reply = nothingSent; clock = clock; seq = seq }
-      → Gives (enact t (stateOf clock seq rows routes) (decisionOf k acc)) rows rows routes routes forward forward reply reply r
-  full-came b a r e f g h =
-      full-gives clock seq t rows routes forward reply x vector k acc is at his hop d w zero p q pp-is qq-is a r (sym e ∙ f) g h
-
-  pub done-came : (b : Bool) (r : Outcome) (n m : ℕ) (one two : InstanceRow) (route : RouteRow) (post back : Post) → b ≡ p .ok && q .ok → b ≡ true
-      → one ≡ d .row → two ≡ d .second → route ≡ d .route → post ≡ d .forward → back ≡ d .reply
-      → rows' ≡ set (set rows (p .first) one) (p .second) two → routes' ≡ set routes (q .hop) route
-      → Written (postOctets x post vector) forward forward' n → Written (postOctets x back vector) reply reply' m
-      → r ≡ record { answer = Done; forward = record { size = n; to = d .forward .to }; reply = record { size = m; to = d .reply .to }; clock = t; seq = d .seq }
-      → Gives (enact t (stateOf clock seq rows routes) (decisionOf k acc)) rows rows' routes routes' forward forward' reply reply' r
-  done-came b r n m one two route post back e f a1 a2 a3 a4 a5 s1 s2 u v g =
-      let y : rows' ≡ set (set rows (p .first) (d .row)) (p .second) (d .second) =
-      s1 ∙ ap₂ (λ (i j : InstanceRow). set (set rows (p .first) i) (p .second) j) a1 a2 in
-      let z : routes' ≡ set routes (q .hop) (d .route) = s2 ∙ ap (λ (i : RouteRow). set routes (q .hop) i) a3 in
-      rw (y, z)
-      (done-gives clock seq t rows routes forward reply x vector k acc is at his hop d w zero p q pp-is qq-is r forward' reply' n m (sym e ∙ f)
-      (subst (λ (i : Post). Written (postOctets x i vector) forward forward' n) a4 u)
-      (subst (λ (i : Post). Written (postOctets x i vector) reply reply' m) a5 v) g)
-
--- the answer that was tested is the decision's
-pub tested : (d : Decided) (a : Answer) (n : ℕ) → a ≡ d .answer → n ≡ answerNumber a → n ≡ answerNumber (d .answer)
-tested d a n e f = f ∙ ap answerNumber e
+    -- `own`, `to` and `from` are what the outcome says of the own number and of both destinations
+    module _ (rows' : List InstanceRow) (routes' : List RouteRow) (forward' reply' : List ℕ) (n m own : ℕ) (to from : Destination) where
+      pub done-gives : (b : Bool) (r : Outcome) → b ≡ p .ok && q .ok → b ≡ true
+          → rows' ≡ set (set rows (p .first) (d .row)) (p .second) (d .second) → routes' ≡ set routes (q .hop) (d .route)
+          → Written (postOctets x there vector) forward forward' n → Written (postOctets x back vector) reply reply' m
+          → own ≡ d .seq → to ≡ there .to → from ≡ back .to
+          → r ≡ record { answer = Done; forward = record { size = n; to = to }; reply = record { size = m; to = from }; clock = t; seq = own }
+          → Gives (enact t (stateOf clock seq rows routes) (plain.Decision.take acc)) rows rows' routes routes' forward forward' reply reply' r
+      done-gives b r e₀ e₁ s1 s2 u v eo et ef f =
+          let e : p .ok && q .ok ≡ true = sym e₀ ∙ e₁ in
+          let po : p .ok ≡ true = and-left (p .ok) (q .ok) e in
+          let qo : q .ok ≡ true = and-right (p .ok) (q .ok) e in
+          rw (taken-is, e, s1, s2, f) (record {
+            answer = refl;
+            state = λ i. record {
+              clock = t;
+              own = (eo ∙ w .own) i;
+              instances = (
+                  pp .stored po (d .row) (d .second) (instanceMeant (d .row)) (replyOf (d .second)) (instance-means (d .row) (w .row))
+                  (λ z. reply-means (d .second) (w .second z))
+                  ∙ ap (λ z. placed instanceDeadline t z (map instanceOf rows)) (w .instances)
+                  ) i;
+              routes = (
+                  qq .stored qo (d .route) (routeIn (d .route)) (λ z. route-means (d .route) (w .route z))
+                  ∙ ap (λ z. placed routeDeadline t z (map routeOf routes)) (w .routes)
+                  ) i;
+            };
+            forwardLength = u .count ∙ ap length (w .forward .sends);
+            replyLength = v .count ∙ ap length (w .reply .sends);
+            forwardTo = ap destinationOf et ∙ w .forward .goes;
+            replyTo = ap destinationOf ef ∙ w .reply .goes;
+            forwardOctets = u .holds ∙ ap (λ z. over z forward) (w .forward .sends);
+            replyOctets = v .holds ∙ ap (λ z. over z reply) (w .reply .sends);
+            instances = records-two rows (p .first) (p .second) (d .row) (d .second) (w .row) (second-record (d .replies) refl);
+            hops = records-route routes (q .hop) (d .route) (route-record (d .routed) refl);
+            kept = λ z. absurd (z refl);
+          })

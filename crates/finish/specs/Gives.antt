@@ -17,9 +17,11 @@ use Rattle.row.specs.Meaning.{instanceOf, routeOf, replyOf, routeIn, noRow, noR
 use Rattle.row.specs.Record.{replyRecord, routeRecord}
 use Rattle.row.specs.declared.InstanceRow.{InstanceRow}
 use Rattle.row.specs.declared.RouteRow.{RouteRow}
-use Rattle.decision.specs.Decision.{Fits, sentBy, instanceMeant, recordOf}
+use Rattle.decision.specs.Decision.{Fits, Posts, instanceMeant, recordOf}
+use Rattle.decision.specs.declared.Post.{Post}
 use Rattle.decision.specs.declared.Decided.{Decided}
 use Rattle.place.specs.Places.{HasRow, HasRoute, rowChange, hopChange}
+use Rattle.finish.specs.declared.Live.{Live}
 use Rattle.finish.specs.declared.Sent.{Sent}
 use Rattle.finish.specs.declared.Outcome.{Outcome}
 
@@ -60,22 +62,23 @@ pub record Gives (res : plain.Result) (rows rows' : List InstanceRow) (routes ro
   -- "After a refusal .. tables .. are as they stood", with every bit
   pub kept : (res .answer ≡ 0 → ⊥) → (rows' ≡ rows) × (routes' ≡ routes)
 
--- what must hold of a decision that is finished
-pub record Ready (x : Settings) (t : ℕ) (rows : List InstanceRow) (routes : List RouteRow) (forward reply : List ℕ) (vector : List Address) (d : Decided) (is : Bool) (at : ℕ) (his : Bool) (hop : ℕ) : Type 0 where
-  pub row : HasRow rows t is at
-  pub route : HasRoute routes t his hop
+-- what must hold of a call that is finished
+pub record Ready (x : Settings) (t : ℕ) (rows : List InstanceRow) (routes : List RouteRow) (forward reply : List ℕ) (vector : List Address) (there back : Post) (l : Live) : Type 0 where
+  pub row : HasRow rows t (l .is) (l .at)
+  pub route : HasRoute routes t (l .routed) (l .hop)
   pub forwardRoom : 1236 ≤ length forward
   pub replyRoom : 1236 ≤ length reply
-  pub forwardFits : answerNumber (d .answer) ≡ 0 → Fits x (d .forward) vector
-  pub replyFits : answerNumber (d .answer) ≡ 0 → Fits x (d .reply) vector
+  pub places : length vector ≡ 16
+  pub forwardFits : Fits x there vector
+  pub replyFits : Fits x back vector
 
--- a decision is the rules': k the first line that holds, or 0, and `acc` the outcome where it is 0
-pub record Settled (x : Settings) (vector : List Address) (k : ℕ) (acc : Accepted) (is : Bool) (at : ℕ) (his : Bool) (hop : ℕ) (d : Decided) : Type 0 where
-  pub answer : answerNumber (d .answer) ≡ k
-  pub sent : k ≡ 0 → sentBy x d vector ≡ acc .sent
-  pub own : k ≡ 0 → d .seq ≡ acc .own
-  pub instances : k ≡ 0 → rowChange is at (instanceMeant (d .row)) (d .replies) (replyOf (d .second)) ≡ acc .instances
-  pub routes : k ≡ 0 → hopChange (d .routed) his hop (routeIn (d .route)) ≡ acc .routes
-  pub row : k ≡ 0 → recordOf (instanceMeant (d .row)) ≡ d .row
-  pub second : k ≡ 0 → d .replies ≡ true → replyRecord (replyOf (d .second)) ≡ d .second
-  pub route : k ≡ 0 → d .routed ≡ true → routeRecord (routeIn (d .route)) ≡ d .route
+-- what is stored and sent is the rules' `acc`
+pub record Settled (x : Settings) (vector : List Address) (acc : Accepted) (l : Live) (d : Decided) (there back : Post) : Type 0 where
+  pub forward : Posts x vector (acc .sent .forward) (acc .sent .forwardTo) there
+  pub reply : Posts x vector (acc .sent .reply) (acc .sent .replyTo) back
+  pub own : d .seq ≡ acc .own
+  pub instances : rowChange (l .is) (l .at) (instanceMeant (d .row)) (d .replies) (replyOf (d .second)) ≡ acc .instances
+  pub routes : hopChange (d .routed) (l .routed) (l .hop) (routeIn (d .route)) ≡ acc .routes
+  pub row : recordOf (instanceMeant (d .row)) ≡ d .row
+  pub second : d .replies ≡ true → replyRecord (replyOf (d .second)) ≡ d .second
+  pub route : d .routed ≡ true → routeRecord (routeIn (d .route)) ≡ d .route

@@ -1,12 +1,12 @@
-// What a decision comes to: a refusal, 17, or rows stored and octets written.
+// What a call comes to: a refusal, 17, or rows stored and octets written.
 ghost use mathlib.Core.Path.{_≡_};
-ghost use mathlib.Core.Bool.{cond, _&&_};
-ghost use Prim.Native.Nat.{ℕ};
+ghost use mathlib.Core.Bool.{_&&_};
 ghost use lib.ListN.{set};
 ghost use Rattle.plain.specs.Request.{Accepted};
 ghost use Rattle.own.specs.Settings.{settingsOf};
-ghost use Rattle.finish.specs.Gives.{nothingSent, stateOf, decisionOf, Ready, Settled, Gives};
+ghost use Rattle.finish.specs.Gives.{nothingSent, stateOf, Ready, Settled, Gives};
 ghost use Rattle.plain.specs.Plain.{enact};
+ghost use Rattle.plain.specs.Plain.Decision.{take};
 ghost use Rattle.answer.specs.declared.Answer.the-variants.{Done, NoRow};
 use answer::Answer;
 use answer::Destination;
@@ -19,6 +19,14 @@ use place::RoutePlace;
 use row::InstanceRow;
 use row::RouteRow;
 
+// The live row of a call's key and its number, and the live route, where there are any.
+pub struct Live {
+    pub is: bool,
+    pub at: usize,
+    pub routed: bool,
+    pub hop: usize,
+}
+
 // What was written into a buffer, and where it is to go.
 pub struct Sent {
     pub size: usize,
@@ -27,10 +35,10 @@ pub struct Sent {
 
 // What a call comes to, beside the rows and octets that it writes.
 pub struct Outcome {
-    pub answer: Answer,
     pub forward: Sent,
     pub reply: Sent,
     pub clock: u64,
+    pub answer: Answer,
     pub seq: u8,
 }
 
@@ -62,13 +70,9 @@ pub fn refused(a: Answer, clock: u64, seq: u8) -> Outcome
 }
 
 // An accepted call, with what it wrote: its time becomes the last time.
-fn accepted(d: Decided, t: u64, n: usize, m: usize) -> Outcome
-    ensures { λ r. ⌜ r ≡ record { answer = Done; forward = record { size = n; to = d .forward .to }; reply = record { size = m; to = d .reply .to }; clock = t; seq = d .seq } ⌝ }
+fn accepted(own: u8, there: Destination, back: Destination, t: u64, n: usize, m: usize) -> Outcome
+    ensures { λ r. ⌜ r ≡ record { answer = Done; forward = record { size = n; to = there }; reply = record { size = m; to = back }; clock = t; seq = own } ⌝ }
 {
-    let f = d.forward;
-    let g = d.reply;
-    let there = f.to;
-    let back = g.to;
     let forward = Sent { size: n, to: there };
     let reply = Sent { size: m, to: back };
     Outcome {
@@ -76,25 +80,15 @@ fn accepted(d: Decided, t: u64, n: usize, m: usize) -> Outcome
         forward,
         reply,
         clock: t,
-        seq: d.seq,
+        seq: own,
     }
 }
 
-// How a decision ends. Without room it is 17, and the clock stays: "1 to 17 change nothing but the tally".
-fn ended(room: bool, d: Decided, clock: u64, seq: u8, t: u64, n: usize, m: usize) -> Outcome
-    ensures { λ r. ⌜ r ≡ cond room (record { answer = Done; forward = record { size = n; to = d .forward .to }; reply = record { size = m; to = d .reply .to }; clock = t; seq = d .seq }) (record { answer = NoRow; forward = nothingSent; reply = nothingSent; clock = clock; seq = seq }) ⌝ }
+// Without room a call is 17, and the clock stays: "1 to 17 change nothing but the tally".
+fn without_room(clock: u64, seq: u8) -> Outcome
+    ensures { λ r. ⌜ r ≡ record { answer = NoRow; forward = nothingSent; reply = nothingSent; clock = clock; seq = seq } ⌝ }
 {
-    if room {
-        return accepted(d, t, n, m);
-    }
     refused(Answer::NoRow, clock, seq)
-}
-
-fn answer_of(d: Decided) -> Answer
-    ensures { λ r. ⌜ r ≡ d .answer ⌝ }
-{
-    let a = d.answer;
-    a
 }
 
 fn row_of(d: Decided) -> InstanceRow
@@ -118,18 +112,17 @@ fn route_of(d: Decided) -> RouteRow
     r
 }
 
-fn forward_of(d: Decided) -> Post
-    ensures { λ r. ⌜ r ≡ d .forward ⌝ }
+fn own_of(d: Decided) -> u8
+    ensures { λ r. ⌜ r ≡ d .seq ⌝ }
 {
-    let p = d.forward;
-    p
+    d.seq
 }
 
-fn reply_of(d: Decided) -> Post
-    ensures { λ r. ⌜ r ≡ d .reply ⌝ }
+fn to_of(p: Post) -> Destination
+    ensures { λ r. ⌜ r ≡ p .to ⌝ }
 {
-    let p = d.reply;
-    p
+    let a = p.to;
+    a
 }
 
 fn is_replying(d: Decided) -> bool
@@ -157,24 +150,16 @@ fn has_room(p: Places, q: RoutePlace) -> bool
 // ---- over the lent tables
 
 // The records at their places; a place past a table's end is none.
-fn store(
-    instances: &mut [InstanceRow],
-    routes: &mut [RouteRow],
-    p: Places,
-    hop: usize,
-    row: InstanceRow,
-    second: InstanceRow,
-    route: RouteRow,
-)
-    ensures instances { λ _. ⌜ now (instances .exit) ≡ set (set (now (instances .entry)) (p .first) row) (p .second) second ⌝ }
-    ensures routes { λ _. ⌜ now (routes .exit) ≡ set (now (routes .entry)) hop route ⌝ }
+fn store(instances: &mut [InstanceRow], routes: &mut [RouteRow], p: Places, hop: usize, d: &Decided)
+    ensures instances { λ _. ⌜ now (instances .exit) ≡ set (set (now (instances .entry)) (p .first) (now (d .entry) .row)) (p .second) (now (d .entry) .second) ⌝ }
+    ensures routes { λ _. ⌜ now (routes .exit) ≡ set (now (routes .entry)) hop (now (d .entry) .route) ⌝ }
 {
-    table::put_row(instances, p.first, row);
-    table::put_row(instances, p.second, second);
-    table::put_route(routes, hop, route);
+    table::put_row(instances, p.first, row_of(*d));
+    table::put_row(instances, p.second, second_of(*d));
+    table::put_route(routes, hop, route_of(*d));
 }
 
-// What a decision comes to. `is` and `at` name the live row of the call's key, `his` and `hop` the live route.
+// What a call comes to that is answered 0, or 17 for want of a row. `there` is what goes on, `back` our reply.
 pub fn finish(
     instances: &mut [InstanceRow],
     routes: &mut [RouteRow],
@@ -184,34 +169,22 @@ pub fn finish(
     clock: u64,
     seq: u8,
     t: u64,
-    vector: [[u8; 16]; 16],
-    d: Decided,
-    is: bool,
-    at: usize,
-    his: bool,
-    hop: usize,
+    vector: &[[u8; 16]; 16],
+    d: &Decided,
+    there: &Post,
+    back: &Post,
+    l: Live,
 ) -> Outcome
-    requires { ⌜ Ready (settingsOf o) t (now instances) (now routes) (now forward) (now reply) vector d is at his hop ⌝ }
-    ensures { λ r. ⌜ ((k : ℕ) (acc : Accepted) → Settled (settingsOf o) vector k acc is at his hop d → Gives (enact t (stateOf clock seq (now (instances .entry)) (now (routes .entry))) (decisionOf k acc)) (now (instances .entry)) (now (instances .exit)) (now (routes .entry)) (now (routes .exit)) (now (forward .entry)) (now (forward .exit)) (now (reply .entry)) (now (reply .exit)) r) ⌝ }
+    requires { ⌜ Ready (settingsOf o) t (now instances) (now routes) (now forward) (now reply) (now vector) (now there) (now back) l ⌝ }
+    ensures { λ r. ⌜ ((acc : Accepted) → Settled (settingsOf o) (now (vector .entry)) acc l (now (d .entry)) (now (there .entry)) (now (back .entry)) → Gives (enact t (stateOf clock seq (now (instances .entry)) (now (routes .entry))) (take acc)) (now (instances .entry)) (now (instances .exit)) (now (routes .entry)) (now (routes .exit)) (now (forward .entry)) (now (forward .exit)) (now (reply .entry)) (now (reply .exit)) r) ⌝ }
 {
-    if answer::number(answer_of(d)) != 0 {
-        return refused(answer_of(d), clock, seq);
-    }
-    let p = place::place_rows(instances, t, is, at, is_replying(d));
-    let q = place::place_route(routes, t, is_routed(d), his, hop);
+    let p = place::place_rows(instances, t, l.is, l.at, is_replying(*d));
+    let q = place::place_route(routes, t, is_routed(*d), l.routed, l.hop);
     if has_room(p, q) {
-        store(
-            instances,
-            routes,
-            p,
-            q.hop,
-            row_of(d),
-            second_of(d),
-            route_of(d),
-        );
-        let n = post::put_post(forward, o, forward_of(d), vector);
-        let m = post::put_post(reply, o, reply_of(d), vector);
-        return ended(true, d, clock, seq, t, n, m);
+        store(instances, routes, p, q.hop, d);
+        let n = post::put_post(forward, o, there, vector);
+        let m = post::put_post(reply, o, back, vector);
+        return accepted(own_of(*d), to_of(*there), to_of(*back), t, n, m);
     }
-    ended(false, d, clock, seq, t, 0, 0)
+    without_room(clock, seq)
 }

@@ -33,11 +33,13 @@ use Rattle.message.specs.declared.Link.{Link}
 use Rattle.message.specs.declared.Found.{Found}
 use Rattle.message.specs.declared.FoundRoute.{FoundRoute}
 use Rattle.message.specs.declared.FreeDelta.{FreeDelta}
-use Rattle.decision.specs.Decision.{Fits, instanceMeant, instancesBy, routesBy, Decides}
+use Rattle.decision.specs.Decision.{Fits, Posts, Stores, instanceMeant, instancesBy, routesBy}
 use Rattle.decision.specs.declared.Decided.{Decided}
+use Rattle.decision.specs.declared.Post.{Post}
 use Rattle.search.specs.Seen.{requestSeen, replySeen, routeSeen, partnerSeen, deltaSeen, LiveRow, LiveRoute}
 use Rattle.place.specs.Places.{rowChange, hopChange}
-use Rattle.finish.specs.Gives.{stateOf, decisionOf, Ready, Settled, Gives}
+use Rattle.finish.specs.Gives.{stateOf, decisionOf, Ready, Settled}
+use Rattle.finish.specs.declared.Live.{Live}
 use Rattle.art.specs.declared.Targets.{Targets}
 use Rattle.matching.specs.Kept.{listOf}
 use Rattle.start.specs.Start.{startOf, startAnswer}
@@ -148,38 +150,41 @@ hop-number false is at b r = refl
 hop-number true true at b r = refl
 hop-number true false at b r = refl
 
-module _ {B : Type 0} (x : Settings) (vector : List Address) (k : ℕ) (acc : Accepted) (f : Found) (b : B) (g : FoundRoute) (d : Decided)
-    (w : Decides x vector k acc (numbered (f .is) (f .at) b) (routeFound g) d) where
-  settled-is : Settled x vector k acc (f .is) (f .at) (g .is) (g .at) d
+module _ {B : Type 0} (f : Found) (b : B) (g : FoundRoute) (l : Live) (el : l ≡ record { is = f .is; at = f .at; routed = g .is; hop = g .at }) where
+  pub settled : (x : Settings) (vector : List Address) (acc : Accepted) (d : Decided) (there back : Post)
+      → Stores acc (numbered (f .is) (f .at) b) (routeFound g) d
+      → Posts x vector (acc .sent .forward) (acc .sent .forwardTo) there
+      → Posts x vector (acc .sent .reply) (acc .sent .replyTo) back
+      → Settled x vector acc l d there back
   unfolding instancesBy routesBy routeFound withReplyRow
-  settled-is = record {
-    answer = w .answer;
-    sent = w .sent;
-    own = w .own;
-    instances = λ z.
-        sym (ap (λ (q : Change Instance). withReplyRow q (d .replies) (replyOf (d .second))) (put-number (f .is) (f .at) b (instanceMeant (d .row)))) ∙ w .instances z;
-    routes = λ z. sym (hop-number (d .routed) (g .is) (g .at) (routeIn (g .route)) (routeIn (d .route))) ∙ w .routes z;
-    row = w .row;
-    second = w .second;
-    route = w .route;
-  }
+  settled x vector acc d there back w pf pr =
+      rw el
+      (record {
+        forward = pf;
+        reply = pr;
+        own = w .own;
+        instances =
+            sym (ap (λ (q : Change Instance). withReplyRow q (d .replies) (replyOf (d .second))) (put-number (f .is) (f .at) b (instanceMeant (d .row)))) ∙ w .instances;
+        routes = sym (hop-number (d .routed) (g .is) (g .at) (routeIn (g .route)) (routeIn (d .route))) ∙ w .routes;
+        row = w .row;
+        second = w .second;
+        route = w .route;
+      })
 
-  module _ (is : Bool) (at : ℕ) (his : Bool) (hop : ℕ) (e1 : is ≡ f .is) (e2 : at ≡ f .at) (e3 : his ≡ g .is) (e4 : hop ≡ g .at) where
-    pub settled : Settled x vector k acc is at his hop d
-    settled = rw (e1, e2, e3, e4) settled-is
-
-    pub ready : (t : ℕ) (rows : List InstanceRow) (routes : List RouteRow) (forward reply : List ℕ) → LiveRow rows t f → LiveRoute routes t g
-        → 1236 ≤ length forward → 1236 ≤ length reply → Ready x t rows routes forward reply vector d is at his hop
-    ready t rows routes forward reply l m p q =
-        rw (e1, e2, e3, e4)
-        (record {
-          row = record { within = l .within; lives = l .lives };
-          route = record { within = m .within; lives = m .lives };
-          forwardRoom = p;
-          replyRoom = q;
-          forwardFits = λ z. w .forward (sym (w .answer) ∙ z);
-          replyFits = λ z. w .reply (sym (w .answer) ∙ z);
-        })
+  pub ready : (x : Settings) (t : ℕ) (rows : List InstanceRow) (routes : List RouteRow) (forward reply : List ℕ) (vector : List Address) (there back : Post)
+      → LiveRow rows t f → LiveRoute routes t g → 1236 ≤ length forward → 1236 ≤ length reply → length vector ≡ 16 → Fits x there vector
+      → Fits x back vector → Ready x t rows routes forward reply vector there back l
+  ready x t rows routes forward reply vector there back lf lg p q n ff fr =
+      rw el
+      (record {
+        row = record { within = lf .within; lives = lf .lives };
+        route = record { within = lg .within; lives = lg .lives };
+        forwardRoom = p;
+        replyRoom = q;
+        places = n;
+        forwardFits = ff;
+        replyFits = fr;
+      })
 
 -- ---- the facts of a request, from what was found
 
@@ -194,32 +199,9 @@ module _ (clock seq t : ℕ) (rows : List InstanceRow) (routes : List RouteRow) 
   unfolding asked requestSeen routeSeen deltaSeen freeDelta deltaTaken messageIn
   asked-is = rw (sf, sg, sd, e1, e2, e3)
 
-  pub request-given : (a : Asked) (d : Decided)
-      → a ≡ askedWith (settingsOf o) (receivedBy k []) (messageIn p vector) (requestFound f) (routeFound g) (deltaFound free)
-      → Decides (settingsOf o) vector (answerOf (requestLines (settingsOf o) (receivedBy k []) (messageIn p vector) a))
-      (acceptRequest (settingsOf o) seq t (receivedBy k []) (messageIn p vector) a) (requestFound f) (routeFound g) d
-      → Decides (settingsOf o) vector
-      (answerOf (requestLines (settingsOf o) (receivedBy k []) (messageIn p vector) (asked (settingsOf o) (viewOf (stateOf clock seq rows routes)) t (receivedBy k []) (messageIn p vector))))
-      (acceptRequest (settingsOf o) seq t (receivedBy k []) (messageIn p vector) (asked (settingsOf o) (viewOf (stateOf clock seq rows routes)) t (receivedBy k []) (messageIn p vector)))
-      (requestFound f) (routeFound g) d
-  request-given a d e w =
-      subst (λ (z : Asked). Decides (settingsOf o) vector (answerOf (requestLines (settingsOf o) (receivedBy k []) (messageIn p vector) z))
-      (acceptRequest (settingsOf o) seq t (receivedBy k []) (messageIn p vector) z) (requestFound f) (routeFound g) d) (e ∙ asked-is) w
-
 -- two answers are the two halves of a good state
 pub and-are : {a b c d : Bool} → a ≡ c → b ≡ d → a && b ≡ c && d
 and-are e f = rw (e, f)
-
--- the live row that was found, by its number
-pub request-found-is : (x : Settings) (vector : List Address) (k : ℕ) (acc : Accepted) (f : Found) (g : FoundRoute) (d : Decided)
-    → Decides x vector k acc (requestFound f) (routeFound g) d → Decides x vector k acc (numbered (f .is) (f .at) (requestOf (f .row))) (routeFound g) d
-unfolding requestFound
-request-found-is x vector k acc f g d w = w
-
-pub reply-found-is : (x : Settings) (vector : List Address) (k : ℕ) (acc : Accepted) (f : Found) (g : FoundRoute) (d : Decided)
-    → Decides x vector k acc (replyFound f) (routeFound g) d → Decides x vector k acc (numbered (f .is) (f .at) (replyOf (f .row))) (routeFound g) d
-unfolding replyFound
-reply-found-is x vector k acc f g d w = w
 
 -- ---- 1: only our own addresses are left to ask
 module _ (x : Settings) (clock : ℕ) (c : Lent) (e1 : clock ≤ c .time) (e2 : c .time ≤ 2 ^ 40) (e3 : 1236 ≤ c .forwardRoom) (e4 : 1236 ≤ c .replyRoom) where
@@ -260,19 +242,10 @@ module _ (clock seq t : ℕ) (rows : List InstanceRow) (routes : List RouteRow) 
 
   module _ (instance : ℕ) (dodagid : Address) (e4 : instance ≡ p .base .instance) (e5 : dodagid ≡ p .base .dodagid) (f : Found) (g : FoundRoute)
       (sf : replyFound f ≡ replySeen clock rows t instance dodagid) (sg : routeFound g ≡ routeSeen clock routes t orig dodagid number) where
-    answered-is : (q : RequestRow)
+    pub answered-is : (q : RequestRow)
         → answeredWith (settingsOf o) c m q (replyFound f) (routeFound g) ≡ answered (settingsOf o) (viewOf s) t c m q
     unfolding answered replySeen routeSeen messageIn
     answered-is q = rw (sf, sg, e1, e2, e4, e5)
-
-    pub reply-given : (row : InstanceRow) (d : Decided) → row ≡ w .row
-        → Decides (settingsOf o) vector (answerOf (replyLines (settingsOf o) c m (answeredWith (settingsOf o) c m (requestOf row) (replyFound f) (routeFound g))))
-        (acceptReply (settingsOf o) seq t c m (answeredWith (settingsOf o) c m (requestOf row) (replyFound f) (routeFound g))) (replyFound f) (routeFound g) d
-        → Decides (settingsOf o) vector (answerOf (replyLines (settingsOf o) c m (answered (settingsOf o) (viewOf s) t c m (requestOf (w .row)))))
-        (acceptReply (settingsOf o) seq t c m (answered (settingsOf o) (viewOf s) t c m (requestOf (w .row)))) (replyFound f) (routeFound g) d
-    reply-given row d e z =
-        subst (λ (a : Answered). Decides (settingsOf o) vector (answerOf (replyLines (settingsOf o) c m a)) (acceptReply (settingsOf o) seq t c m a) (replyFound f) (routeFound g) d)
-        (answered-is (requestOf row) ∙ ap (λ (i : InstanceRow). answered (settingsOf o) (viewOf s) t c m (requestOf i)) e) z
 
   -- with one it is the reply's
   pub reply-is : (b : Bool) → b ≡ w .is → b ≡ true
@@ -301,33 +274,32 @@ module _ (clock seq t : ℕ) (rows : List InstanceRow) (routes : List RouteRow) 
   unfolding requestSeen
   taken-is = e3 ∙ (sym found-given ∙ rw (sf, e1, e2))
 
-  abbrev startKey : List Target → ℕ
-  startKey targets = answerOf (startLines (settingsOf o) (viewOf (stateOf clock seq rows routes)) t (startOf s targets))
+  -- the answer of a start
+  pub start-answer : (targets : List Target)
+      → startAnswer (settingsOf o) s is ≡ answerOf (startLines (settingsOf o) (viewOf (stateOf clock seq rows routes)) t (startOf s targets))
+  start-answer targets =
+      ap (startAnswer (settingsOf o) s) taken-is ∙ sym (lines-of (settingsOf o) (viewOf (stateOf clock seq rows routes)) t s targets)
 
-  pub start-given : (d : Decided) (vector : List Address) (targets : List Target)
-      → Decides {B = RequestRow} (settingsOf o) vector (startAnswer (settingsOf o) s is) (acceptStart (settingsOf o) seq t (startOf s targets) (listOf ts)) none none d
-      → Decides {B = RequestRow} (settingsOf o) vector (startKey targets) (acceptStart (settingsOf o) seq t (startOf s targets) (listOf ts)) none none d
-  start-given d vector targets w =
-      subst (λ (k : ℕ). Decides {B = RequestRow} (settingsOf o) vector k (acceptStart (settingsOf o) seq t (startOf s targets) (listOf ts)) none none d)
-      (ap (startAnswer (settingsOf o) s) taken-is ∙ sym (lines-of (settingsOf o) (viewOf (stateOf clock seq rows routes)) t s targets)) w
+-- a start is stored in new rows
+abbrev noneFound : Found
+noneFound = record { is = false; at = 0; row = noRow }
 
-module _ (x : Settings) (vector : List Address) (k : ℕ) (acc : Accepted) (d : Decided) (w : Decides {B = RequestRow} x vector k acc none none d) where
-  abbrev noneFound : Found
-  noneFound = record { is = false; at = 0; row = noRow }
+abbrev noRouteFound : FoundRoute
+noRouteFound = record { is = false; at = 0; route = noRoute }
 
-  abbrev noRouteFound : FoundRoute
-  noRouteFound = record { is = false; at = 0; route = noRoute }
-
-  nothing-found : Decides {B = RequestRow} x vector k acc (numbered false 0 (requestOf noRow)) (routeFound noRouteFound) d
+module _ (l : Live) (el : l ≡ record { is = false; at = 0; routed = false; hop = 0 }) where
+  pub new-settled : (x : Settings) (vector : List Address) (acc : Accepted) (d : Decided) (there back : Post)
+      → Stores {B = RequestRow} acc none none d
+      → Posts x vector (acc .sent .forward) (acc .sent .forwardTo) there
+      → Posts x vector (acc .sent .reply) (acc .sent .replyTo) back
+      → Settled x vector acc l d there back
   unfolding routeFound
-  nothing-found = w
+  new-settled x vector acc d there back w pf pr = settled noneFound (requestOf noRow) noRouteFound l el x vector acc d there back w pf pr
 
-  pub new-settled : Settled x vector k acc false 0 false 0 d
-  new-settled = settled x vector k acc noneFound (requestOf noRow) noRouteFound d nothing-found false 0 false 0 refl refl refl refl
-
-  pub new-ready : (t : ℕ) (rows : List InstanceRow) (routes : List RouteRow) (forward reply : List ℕ) → 1236 ≤ length forward → 1236 ≤ length reply
-      → Ready x t rows routes forward reply vector d false 0 false 0
-  new-ready t rows routes forward reply p q =
-      ready x vector k acc noneFound (requestOf noRow) noRouteFound d nothing-found false 0 false 0 refl refl refl refl t rows routes forward reply
+  pub new-ready : (x : Settings) (t : ℕ) (rows : List InstanceRow) (routes : List RouteRow) (forward reply : List ℕ) (vector : List Address) (there back : Post)
+      → 1236 ≤ length forward → 1236 ≤ length reply → length vector ≡ 16 → Fits x there vector → Fits x back vector
+      → Ready x t rows routes forward reply vector there back l
+  new-ready x t rows routes forward reply vector there back =
+      ready noneFound (requestOf noRow) noRouteFound l el x t rows routes forward reply vector there back
       (record { within = λ z. true-false (sym z); stands = λ z. true-false (sym z); lives = λ z. true-false (sym z) })
-      (record { within = λ z. true-false (sym z); lives = λ z. true-false (sym z) }) p q
+      (record { within = λ z. true-false (sym z); lives = λ z. true-false (sym z) })

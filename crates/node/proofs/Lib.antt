@@ -1,2 +1,4 @@
-pub mod Lent
 pub mod Laws
+pub mod Requested
+pub mod Answered
+pub mod Lent

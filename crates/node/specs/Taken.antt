@@ -16,7 +16,7 @@ use Rattle.message.specs.declared.Parsed.{Parsed}
 use Rattle.rule.specs.Heard.{Heard}
 use Rattle.plain.specs.declared.Target.{Target}
 use Rattle.art.specs.declared.Targets.{Targets}
-use Rattle.start.specs.Start.{Sound}
+use Rattle.start.specs.Start.{Sendable}
 use Rattle.start.specs.declared.Asking.{Asking}
 use Rattle.finish.specs.Gives.{decisionOf}
 
@@ -38,7 +38,8 @@ pub record TakenStart (clock t : ℕ) (forward reply : List ℕ) (s : Asking) (t
   pub later : clock ≤ t
   pub forwardRoom : 1236 ≤ length forward
   pub replyRoom : 1236 ≤ length reply
-  pub sound : Sound t s ts
+  pub time : t ≤ 2 ^ 40
+  pub sendable : Sendable s ts
 
 -- "A request", from 9 on
 unfoldable pub requestDecision : Settings → State → ℕ → Received → Message → Decision

@@ -1,6 +1,9 @@
 // The node's rules over the lent tables: what a heard request or reply, and a start, come to.
 ghost use mathlib.Core.Path.{_≡_};
+ghost use mathlib.Core.Bool.{false};
 ghost use mathlib.Core.List.{List, []};
+ghost use lib.ListN.{replicate};
+ghost use Rattle.plain.specs.Address.{zeroAddress};
 ghost use Rattle.plain.specs.Given.{State};
 ghost use Rattle.plain.specs.Answers.{badLent, wrongState, goodState, viewOf};
 ghost use Rattle.plain.specs.Plain.{enact};
@@ -14,6 +17,7 @@ ghost use Rattle.node.specs.Taken.{lentBy, Taken, TakenStart, requestDec
 ghost use Rattle.message.specs.Message.{messageIn, receivedBy};
 use answer::Answer;
 use art::Targets;
+use finish::Live;
 use finish::Outcome;
 use message::Found;
 use message::FoundRoute;
@@ -96,22 +100,28 @@ fn is_found(f: Found) -> bool
     f.is
 }
 
-fn found_at(f: Found) -> usize
-    ensures { λ r. ⌜ r ≡ f .at ⌝ }
+// What a call is about in the tables.
+fn live_of(f: Found, g: FoundRoute) -> Live
+    ensures { λ r. ⌜ r ≡ record { is = f .is; at = f .at; routed = g .is; hop = g .at } ⌝ }
 {
-    f.at
+    Live {
+        is: f.is,
+        at: f.at,
+        routed: g.is,
+        hop: g.at,
+    }
 }
 
-fn is_route_found(g: FoundRoute) -> bool
-    ensures { λ r. ⌜ r ≡ g .is ⌝ }
+// A start is about no live row.
+fn none_live() -> Live
+    ensures { λ r. ⌜ r ≡ record { is = false; at = 0; routed = false; hop = 0 } ⌝ }
 {
-    g.is
-}
-
-fn route_found_at(g: FoundRoute) -> usize
-    ensures { λ r. ⌜ r ≡ g .at ⌝ }
-{
-    g.at
+    Live {
+        is: false,
+        at: 0,
+        routed: false,
+        hop: 0,
+    }
 }
 
 fn asked_instance(s: Asking) -> u8
@@ -121,7 +131,9 @@ fn asked_instance(s: Asking) -> u8
 }
 
 // A start has no received addresses.
-fn no_vector() -> [[u8; 16]; 16] {
+fn no_vector() -> [[u8; 16]; 16]
+    ensures { λ r. ⌜ r ≡ replicate 16 zeroAddress ⌝ }
+{
     let a = [0u8; 16];
     [a; 16]
 }
@@ -158,19 +170,28 @@ pub fn take_request(
     seq: u8,
     t: u64,
     k: Link,
-    p: Parsed,
-    vector: [[u8; 16]; 16],
+    p: &Parsed,
+    vector: &[[u8; 16]; 16],
 ) -> Outcome
-    requires { ⌜ Taken clock t (now instances) (now forward) (now reply) p ⌝ }
-    ensures { λ r. ⌜ Gives (enact t (stateOf clock seq (now (instances .entry)) (now (routes .entry))) (requestDecision (settingsOf o) (stateOf clock seq (now (instances .entry)) (now (routes .entry))) t (receivedBy k []) (messageIn p vector))) (now (instances .entry)) (now (instances .exit)) (now (routes .entry)) (now (routes .exit)) (now (forward .entry)) (now (forward .exit)) (now (reply .entry)) (now (reply .exit)) r ⌝ }
+    requires { ⌜ Taken clock t (now instances) (now forward) (now reply) (now p) ⌝ }
+    ensures { λ r. ⌜ Gives (enact t (stateOf clock seq (now (instances .entry)) (now (routes .entry))) (requestDecision (settingsOf o) (stateOf clock seq (now (instances .entry)) (now (routes .entry))) t (receivedBy k []) (messageIn (now (p .entry)) (now (vector .entry))))) (now (instances .entry)) (now (instances .exit)) (now (routes .entry)) (now (routes .exit)) (now (forward .entry)) (now (forward .exit)) (now (reply .entry)) (now (reply .exit)) r ⌝ }
 {
-    let instance = instance_of(p);
-    let dodagid = dodagid_of(p);
+    own::whole(vector);
+    let instance = instance_of(*p);
+    let dodagid = dodagid_of(*p);
     let receiving = receiving_of(o);
     let f = search::search_request(instances, t, instance, dodagid);
     let g = search::search_route(routes, t, receiving, dodagid, instance);
     let free = search::free_delta(instances, t, instance, receiving);
-    let d = request::decide(o, seq, t, k, p, vector, f, g, free);
+    let a = request::gather(o, k, *p, f, g, free);
+    let answer = request::judge(o, k, *p, vector, a);
+    if answer::number(answer) != 0 {
+        return finish::refused(answer, clock, seq);
+    }
+    let d = request_accepted::accepted(o, seq, t, k, *p, a);
+    let there = request_accepted::forward_post(k, *p, a);
+    let back = request_accepted::reply_post(o, k, *p, a, seq);
+    let l = live_of(f, g);
     finish::finish(
         instances,
         routes,
@@ -181,11 +202,10 @@ pub fn take_request(
         seq,
         t,
         vector,
-        d,
-        is_found(f),
-        found_at(f),
-        is_route_found(g),
-        route_found_at(g),
+        &d,
+        &there,
+        &back,
+        l,
     )
 }
 
@@ -200,20 +220,29 @@ pub fn take_reply(
     seq: u8,
     t: u64,
     k: Link,
-    p: Parsed,
-    vector: [[u8; 16]; 16],
+    p: &Parsed,
+    vector: &[[u8; 16]; 16],
 ) -> Outcome
-    requires { ⌜ Taken clock t (now instances) (now forward) (now reply) p ⌝ }
-    ensures { λ r. ⌜ Gives (enact t (stateOf clock seq (now (instances .entry)) (now (routes .entry))) (replyDecision (settingsOf o) (stateOf clock seq (now (instances .entry)) (now (routes .entry))) t (receivedBy k []) (messageIn p vector))) (now (instances .entry)) (now (instances .exit)) (now (routes .entry)) (now (routes .exit)) (now (forward .entry)) (now (forward .exit)) (now (reply .entry)) (now (reply .exit)) r ⌝ }
+    requires { ⌜ Taken clock t (now instances) (now forward) (now reply) (now p) ⌝ }
+    ensures { λ r. ⌜ Gives (enact t (stateOf clock seq (now (instances .entry)) (now (routes .entry))) (replyDecision (settingsOf o) (stateOf clock seq (now (instances .entry)) (now (routes .entry))) t (receivedBy k []) (messageIn (now (p .entry)) (now (vector .entry))))) (now (instances .entry)) (now (instances .exit)) (now (routes .entry)) (now (routes .exit)) (now (forward .entry)) (now (forward .exit)) (now (reply .entry)) (now (reply .exit)) r ⌝ }
 {
-    let number = reply::partner_number(p);
-    let orig = reply::orig_node(p);
-    let w = search::search_partner(instances, t, number, orig, h_of(p));
+    own::whole(vector);
+    let number = reply::partner_number(*p);
+    let orig = reply::orig_node(*p);
+    let w = search::search_partner(instances, t, number, orig, h_of(*p));
     if is_found(w) {
-        let dodagid = dodagid_of(p);
-        let f = search::search_reply(instances, t, instance_of(p), dodagid);
+        let dodagid = dodagid_of(*p);
+        let f = search::search_reply(instances, t, instance_of(*p), dodagid);
         let g = search::search_route(routes, t, orig, dodagid, number);
-        let d = reply::decide(o, seq, t, k, p, vector, found_row(w), f, g);
+        let a = reply::gather(o, k, *p, found_row(w), f, g);
+        let answer = reply::judge(o, k, *p, vector, a);
+        if answer::number(answer) != 0 {
+            return finish::refused(answer, clock, seq);
+        }
+        let d = reply_accepted::accepted(seq, t, k, *p, a);
+        let there = reply_accepted::forward_post(o, *p, vector, a);
+        let back = rule::no_post();
+        let l = live_of(f, g);
         return finish::finish(
             instances,
             routes,
@@ -224,11 +253,10 @@ pub fn take_reply(
             seq,
             t,
             vector,
-            d,
-            is_found(f),
-            found_at(f),
-            is_route_found(g),
-            route_found_at(g),
+            &d,
+            &there,
+            &back,
+            l,
         );
     }
     finish::refused(no_partner(), clock, seq)
@@ -252,7 +280,14 @@ pub fn take_start(
 {
     let receiving = receiving_of(o);
     let f = search::search_request(instances, t, asked_instance(s), receiving);
-    let d = start::start(o, seq, t, s, ts, is_found(f));
+    let answer = start::judge(o, s, is_found(f));
+    if answer::number(answer) != 0 {
+        return finish::refused(answer, clock, seq);
+    }
+    let d = start::accepted(o, seq, t, s, ts);
+    let there = start::start_post(o, seq, s, ts);
+    let back = rule::no_post();
+    let vector = no_vector();
     finish::finish(
         instances,
         routes,
@@ -262,11 +297,10 @@ pub fn take_start(
         clock,
         seq,
         t,
-        no_vector(),
-        d,
-        false,
-        0,
-        false,
-        0,
+        &vector,
+        &d,
+        &there,
+        &back,
+        none_live(),
     )
 }

@@ -7,67 +7,139 @@ ghost use Rattle.lemmas.specs.Written.{Written};
 ghost use Rattle.plain.specs.Octets.{octetsOf, elided};
 ghost use Rattle.own.specs.Settings.{settingsOf};
 ghost use Rattle.writer_option.specs.Sendable.{Sendable, shortPrefixes};
-ghost use Rattle.message.specs.Message.{configurationIn};
 ghost use Rattle.decision.specs.Decision.{postMessage, postPath, postOctets, Fits};
+ghost use Rattle.post.specs.With.{messageWith};
 use decision::Post;
 use decision::What;
-use message::Parsed;
 use own::Own;
+use plain::Base;
+use plain::Discovery;
+use plain::Target;
+
+// ---- by value
+
+fn what_of(p: Post) -> What
+    ensures { λ r. ⌜ r ≡ p .what ⌝ }
+{
+    let w = p.what;
+    w
+}
+
+fn is_grown(p: Post) -> bool
+    ensures { λ r. ⌜ r ≡ p .grown ⌝ }
+{
+    p.grown
+}
+
+fn is_turned(p: Post) -> bool
+    ensures { λ r. ⌜ r ≡ p .turned ⌝ }
+{
+    p.turned
+}
+
+fn addresses_of(p: Post) -> usize
+    ensures { λ r. ⌜ r ≡ p .message .n ⌝ }
+{
+    p.message.n
+}
+
+fn base_of(p: Post) -> Base
+    ensures { λ r. ⌜ r ≡ p .message .base ⌝ }
+{
+    let m = p.message;
+    let b = m.base;
+    b
+}
+
+fn is_configured(p: Post) -> bool
+    ensures { λ r. ⌜ r ≡ p .message .configured ⌝ }
+{
+    p.message.configured
+}
+
+fn configuration_of(p: Post) -> [u8; 14]
+    ensures { λ r. ⌜ r ≡ p .message .configuration ⌝ }
+{
+    let m = p.message;
+    let c = m.configuration;
+    c
+}
+
+fn discovery_of(p: Post) -> Discovery
+    ensures { λ r. ⌜ r ≡ p .message .discovery ⌝ }
+{
+    let m = p.message;
+    let d = m.discovery;
+    d
+}
+
+fn count_of(p: Post) -> usize
+    ensures { λ r. ⌜ r ≡ p .message .count ⌝ }
+{
+    p.message.count
+}
+
+fn targets_of(p: Post) -> [Target; 8]
+    ensures { λ r. ⌜ r ≡ p .message .targets ⌝ }
+{
+    let m = p.message;
+    let t = m.targets;
+    t
+}
+
+// ---- over the lent post
 
 // A message with the first n addresses of a vector.
-fn put_parsed(out: &mut [u8], m: Parsed, n: usize, vector: [[u8; 16]; 16]) -> usize
-    requires { ⌜ Sendable (m .discovery) n × (m .count ≤ 8) × (shortPrefixes (take (m .count) (m .targets)) ≡ true) × (1236 ≤ length (now out)) ⌝ }
-    ensures { λ r. ⌜ Written (octetsOf (record { base = m .base; configuration = configurationIn (m .configured) (m .configuration); discovery = m .discovery; vector = take n vector; targets = take (m .count) (m .targets) })) (now (out .entry)) (now (out .exit)) r ⌝ }
+fn put_parsed(out: &mut [u8], p: &Post, n: usize, vector: &[[u8; 16]; 16]) -> usize
+    requires { ⌜ Sendable (now p .message .discovery) n × (now p .message .count ≤ 8) × (shortPrefixes (take (now p .message .count) (now p .message .targets)) ≡ true) × (1236 ≤ length (now out)) ⌝ }
+    ensures { λ r. ⌜ Written (octetsOf (messageWith (now (p .entry) .message) (take n (now (vector .entry))))) (now (out .entry)) (now (out .exit)) r ⌝ }
 {
-    let base = m.base;
-    let configuration = m.configuration;
-    let discovery = m.discovery;
-    let targets = m.targets;
     writer::put_message(
         out,
-        base,
-        m.configured,
-        configuration,
-        discovery,
+        base_of(*p),
+        is_configured(*p),
+        configuration_of(*p),
+        discovery_of(*p),
         n,
         vector,
-        m.count,
-        targets,
+        count_of(*p),
+        targets_of(*p),
     )
 }
 
 // A message, with our addresses added where it has grown.
-fn put_dio(out: &mut [u8], o: Own, p: Post, vector: [[u8; 16]; 16]) -> usize
-    requires { ⌜ Fits (settingsOf o) p vector × (1236 ≤ length (now out)) ⌝ }
-    ensures { λ r. ⌜ Written (octetsOf (postMessage (settingsOf o) p vector)) (now (out .entry)) (now (out .exit)) r ⌝ }
+fn put_dio(out: &mut [u8], o: Own, p: &Post, vector: &[[u8; 16]; 16]) -> usize
+    requires { ⌜ Fits (settingsOf o) (now p) (now vector) × (length (now vector) ≡ 16) × (1236 ≤ length (now out)) ⌝ }
+    ensures { λ r. ⌜ Written (octetsOf (postMessage (settingsOf o) (now (p .entry)) (now (vector .entry)))) (now (out .entry)) (now (out .exit)) r ⌝ }
 {
-    let m = p.message;
-    if p.grown {
-        let n = own::grown_count(o, false, m.n);
-        let v = own::grown_vector(o, false, m.n, vector);
-        return put_parsed(out, m, n, v);
+    let received = addresses_of(*p);
+    if is_grown(*p) {
+        let n = own::grown_count(o, false, received);
+        let v = own::grown_vector(o, false, received, vector);
+        return put_parsed(out, p, n, &v);
     }
-    put_parsed(out, m, m.n, vector)
+    put_parsed(out, p, received, vector)
 }
 
 // OrigNode's path, turned round where it came asymmetric.
-fn put_route_path(out: &mut [u8], p: Post, vector: [[u8; 16]; 16]) -> usize
-    requires { ⌜ (p .message .n ≤ 16) × (1236 ≤ length (now out)) ⌝ }
-    ensures { λ r. ⌜ Written (elided 0 (postPath p vector)) (now (out .entry)) (now (out .exit)) r ⌝ }
+fn put_route_path(out: &mut [u8], p: &Post, vector: &[[u8; 16]; 16]) -> usize
+    requires { ⌜ (now p .message .n ≤ 16) × (1236 ≤ length (now out)) ⌝ }
+    ensures { λ r. ⌜ Written (elided 0 (postPath (now (p .entry)) (now (vector .entry)))) (now (out .entry)) (now (out .exit)) r ⌝ }
 {
-    let m = p.message;
-    if p.turned {
-        return writer_octets::put_path(out, m.n, writer_octets::reversed(m.n, vector));
+    let n = addresses_of(*p);
+    if is_turned(*p) {
+        let turned = writer_octets::reversed(n, vector);
+        return writer_octets::put_path(out, n, &turned);
     }
-    writer_octets::put_path(out, m.n, vector)
+    writer_octets::put_path(out, n, vector)
 }
 
 // What goes into a buffer: its octets at the front, the rest as it was.
-pub fn put_post(out: &mut [u8], o: Own, p: Post, vector: [[u8; 16]; 16]) -> usize
-    requires { ⌜ Fits (settingsOf o) p vector × (1236 ≤ length (now out)) ⌝ }
-    ensures { λ r. ⌜ Written (postOctets (settingsOf o) p vector) (now (out .entry)) (now (out .exit)) r ⌝ }
+pub fn put_post(out: &mut [u8], o: Own, p: &Post, vector: &[[u8; 16]; 16]) -> usize
+    requires { ⌜ Fits (settingsOf o) (now p) (now vector) × (length (now vector) ≡ 16) × (1236 ≤ length (now out)) ⌝ }
+    ensures { λ r. ⌜ Written (postOctets (settingsOf o) (now (p .entry)) (now (vector .entry))) (now (out .entry)) (now (out .exit)) r ⌝ }
 {
-    let what = p.what;
+    let what = what_of(*p);
     match what {
         What::Nothing => 0,
         What::Dio => put_dio(out, o, p, vector),

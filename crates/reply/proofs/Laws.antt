@@ -8,11 +8,6 @@ use native.Mathlib.Omega.{arith}
 use lib.Dec.{eqb, ltb, leb}
 use lib.ListN.{length, getD, take}
 use borrow.Author.Tests.{leb-false}
-use denote.Array.{Array}
-use denote.Laws.{Is}
-use denote.Plain.{UInt}
-use mir.Syntax.{w8}
-use mir.Val.{Val}
 use Rattle.plain.specs.Address.{Address}
 use Rattle.plain.specs.Given.{Settings, Received, RequestRow, ReplyRow, Route}
 use Rattle.plain.specs.Table.{Numbered}
@@ -30,42 +25,13 @@ use Rattle.row.proofs.Laws.{noTarget}
 use Rattle.message.specs.Message.{replyFound}
 use Rattle.message.specs.declared.Found.{Found}
 use Rattle.reply.specs.Facts.{answeredOf, Gathered, isFull}
-use Rattle.reply.specs.declared.Facts.{Facts}
-
--- of an array of addresses by value, as a parameter's `.good` has it
-pub array-length : (k : ℕ) (v : List Address) (vs : List Val) → Is (Array (Array (UInt w8) 16) k) v vs → length v ≡ k
-array-length k v vs s = s .1 .0 .1
+use Rattle.reply.specs.declared.ReplyFacts.{ReplyFacts}
 
 -- a message with targets has its first as the only one
 pub only-first : (n : ℕ) (ts : List Target) → (n ≡ 0 → ⊥) → 0 < length ts → onlyTarget (take n ts) ≡ getD ts 0 noTarget
 only-first zero ts h k = absurd (h refl)
 only-first (suc n) [] h k = absurd (omega arith)
 only-first (suc n) (t ∷ ts) h k = refl
-
--- ---- Deadlines
-
--- a row's deadline by value means the row's
-pub deadline-kept : (endless at : ℕ) → lasting.deadlineOf (record { endless = not (eqb endless 0); at = at }) ≡ deadlineOf endless at
-unfolding lasting.deadlineOf deadlineOf
-deadline-kept endless at = go (eqb endless 0)
-  where
-    go : (b : Bool) → cond (not b) none (some at) ≡ cond b (some at) none
-    go true = refl
-    go false = refl
-
-module _ (st : Standing) (f : Found) (t l : ℕ) where
-  pub kept-update : f .is ≡ true → isUpdate st ≡ true
-      → keptReplyDeadline st (replyFound f) t l ≡ deadlineOf (f .row .endless) (f .row .deadline)
-  unfolding keptReplyDeadline replyFound replyOf
-  kept-update i u = rw (i, u) refl
-
-  pub kept-not : f .is ≡ true → isUpdate st ≡ false → keptReplyDeadline st (replyFound f) t l ≡ rowDeadline t l
-  unfolding keptReplyDeadline replyFound
-  kept-not i u = rw (i, u) refl
-
-  pub kept-none : f .is ≡ false → keptReplyDeadline st (replyFound f) t l ≡ rowDeadline t l
-  unfolding keptReplyDeadline replyFound
-  kept-none i = rw i refl
 
 -- ---- Answer 16
 
@@ -80,14 +46,15 @@ module _ (m : Message) (a : Answered) where
       go false true true e = true-false (sym e)
       go false false true e = true-false (sym e)
 
-  module _ (x : Settings) where
-    pub full-grows : (r : Bool) → grows m a ≡ true → r ≡ cannotGrow (m .discovery .compr) (grown x false (m .vector)) → r ≡ isFull x m a
-    unfolding isFull
-    full-grows r g e = rw (g, grows-h g) e
-
-    pub full-not : grows m a ≡ false → false ≡ isFull x m a
-    unfolding isFull
-    full-not g = rw g refl
+  pub full-added : (x : Settings) → grows m a && cannotGrow (m .discovery .compr) (grown x false (m .vector)) ≡ isFull x m a
+  unfolding isFull
+  full-added x = go (grows m a) refl
+    where
+      go : (g : Bool) → grows m a ≡ g
+          → grows m a && cannotGrow (m .discovery .compr) (grown x false (m .vector))
+          ≡ grows m a && cannotGrow (m .discovery .compr) (grown x (m .discovery .h) (m .vector))
+      go true e = rw (grows-h e)
+      go false e = rw e
 
 -- ---- Answer 11
 
@@ -147,7 +114,7 @@ below-infinite step advertised increase limit isEnd e =
 
 -- where 12 is not given, our own rank has 16 bits
 pub rank-fits : (x : Settings) (c : Received) (m : Message) (p : RequestRow) (row : Option (Numbered ReplyRow)) (route : Option (Numbered Route))
-    (w : Facts) → Gathered (answeredWith x c m p row route) w → answerOf (replyLines x c m (answeredOf w)) ≡ 0 → w .rank ≤ 65535
+    (w : ReplyFacts) → Gathered (answeredWith x c m p row route) w → answerOf (replyLines x c m (answeredOf w)) ≡ 0 → w .rank ≤ 65535
 unfolding answeredWith answeredOf
 rank-fits x c m p row route w g e =
     go (p .s && not (c .toGroup)) (ap (λ (a : Answered). a .symmetric) (g .means)) (ap (λ (a : Answered). a .rank) (g .means))

@@ -22,11 +22,11 @@ use Rattle.message.specs.Message.{configurationIn, messageIn, receivedBy, route
 use Rattle.message.specs.declared.Parsed.{Parsed}
 use Rattle.message.specs.declared.Link.{Link}
 use Rattle.request.specs.Facts.{askedOf}
-use Rattle.request.specs.Posts.{Roomy}
-use Rattle.request.specs.declared.Facts.{Facts}
+use Rattle.request.specs.Room.{Roomy}
+use Rattle.request.specs.declared.RequestFacts.{RequestFacts}
 
 -- "if targets remain", as the code asks it
-module _ (p : Parsed) (a : Facts) (eight : length (a .targets .list) ≡ 8) where
+module _ (p : Parsed) (a : RequestFacts) (eight : length (a .targets .list) ≡ 8) where
   pub forwards-some : 0 < a .targets .count
       → eqb (p .discovery .limit) 0 || ltb (integerPart (minHop (configurationIn (p .configured) (p .configuration))) (a .rank)) (p .discovery .limit)
       ≡ forwards (messageIn p []) (askedOf a)
@@ -37,7 +37,7 @@ module _ (p : Parsed) (a : Facts) (eight : length (a .targets .list) ≡ 8) wher
   unfolding forwards messageIn askedOf
   forwards-none h = rw (le-ltb 0 (length (take (a .targets .count) (a .targets .list))) (omega (arith, length-take (a .targets .count) (a .targets .list))))
 
-pub lines-of : (x : Settings) (k : Link) (p : Parsed) (v : List Address) (a : Facts)
+pub lines-of : (x : Settings) (k : Link) (p : Parsed) (v : List Address) (a : RequestFacts)
     → answerOf (requestLines x (receivedBy k []) (messageIn p v) (askedOf a))
     ≡ cond (any (ours x) (take (p .n) v)) 9
     (cond (cannotElide x (p .discovery .h) (p .discovery .compr) (p .base .dodagid)) 10
@@ -50,6 +50,14 @@ pub lines-of : (x : Settings) (k : Link) (p : Parsed) (v : List Address) (a : Fa
     0)))))))
 unfolding requestLines answerOf askedOf messageIn forwards
 lines-of x k p v a = refl
+
+-- 16: ours are added where the request goes on and H is 0
+pub full-added : (x : Settings) (goes h : Bool) (compr : ℕ) (v : List Address)
+    → (goes && not h) && cannotGrow compr (grown x false v) ≡ goes && not h && cannotGrow compr (grown x h v)
+full-added x true true compr v = refl
+full-added x true false compr v = refl
+full-added x false true compr v = refl
+full-added x false false compr v = refl
 
 -- ---- What is known where no line holds
 
@@ -66,7 +74,7 @@ clear b9 b10 b11 b12 b13 b14 b15 b16 e =
     let from16 = cond-zero b15 14 _ (cond-zero b14 13 _ (cond-zero b13 12 _ (from13 .1) .1) .1) .1 in
     (from13 .0, cond-zero b16 15 0 from16 .0)
 
-module _ (x : Settings) (k : Link) (p : Parsed) (v : List Address) (a : Facts)
+module _ (x : Settings) (k : Link) (p : Parsed) (v : List Address) (a : RequestFacts)
     (zero-is : answerOf (requestLines x (receivedBy k []) (messageIn p v) (askedOf a)) ≡ 0) where
   quiet : (rankRefused (minHop (configurationIn (p .configured) (p .configuration))) (p .base .rank) (k .increase) (p .discovery .limit) (a .targ) ≡ false)
       × (forwards (messageIn p []) (askedOf a) && not (p .discovery .h)
@@ -102,7 +110,7 @@ room-if : (x : Settings) (h : Bool) (compr : ℕ) (w : List Address) → length 
 room-if x true compr w few whole e = record { addresses = few; octets = λ h. true-false h }
 room-if x false compr w few whole e = grows x compr w whole e
 
-pub has-room : (x : Settings) (k : Link) (p : Parsed) (v : List Address) (a : Facts)
+pub has-room : (x : Settings) (k : Link) (p : Parsed) (v : List Address) (a : RequestFacts)
     → answerOf (requestLines x (receivedBy k []) (messageIn p v) (askedOf a)) ≡ 0
     → p .n ≤ 16 → length (x .receiving) ≡ 16 → length (x .sending) ≡ 16 → Whole v
     → forwards (messageIn p []) (askedOf a) ≡ true

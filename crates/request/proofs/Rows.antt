@@ -6,14 +6,13 @@ use denote.Struct.Declared.{row}
 use Rattle.message.proofs.Found as found
 use Rattle.row.proofs.InstanceRow as instance
 use Rattle.art.proofs.Targets as targets
-use Rattle.own.proofs.Own as own
-use Rattle.request.proofs.Facts as facts
-use mathlib.Core.Path.{_≡_, refl, sym, _∙_}
+use Rattle.request.proofs.RequestFacts as facts
+use mathlib.Core.Path.{_≡_, refl, sym}
 use mathlib.Core.Bool.{Bool, true, false, cond}
-use mathlib.Core.List.{List, [], map}
+use mathlib.Core.List.{List, []}
 use mathlib.Core.Option.{some, none}
 use native.Mathlib.Omega.{arith}
-use lib.ListN.{length, take, length-map}
+use lib.ListN.{length, take}
 use Rattle.plain.specs.Lists.{any, given}
 use Rattle.plain.specs.Address.{Address}
 use Rattle.plain.specs.Given.{Settings}
@@ -26,14 +25,14 @@ use Rattle.matching.specs.Kept.{Kept}
 use Rattle.message.specs.Message.{messageIn, receivedBy, requestFound, routeFound, deltaFound}
 use Rattle.row.specs.declared.InstanceRow.{InstanceRow}
 use Rattle.art.specs.declared.Targets.{Targets}
-use Rattle.own.specs.declared.Own.{Own}
-use Rattle.request.specs.declared.Facts.{Facts}
+use Rattle.request.specs.declared.RequestFacts.{RequestFacts}
 use Rattle.message.specs.declared.Found.{Found}
 use Rattle.message.specs.declared.FoundRoute.{FoundRoute}
 use Rattle.message.specs.declared.FreeDelta.{FreeDelta}
 use Rattle.message.specs.declared.Parsed.{Parsed}
 use Rattle.message.specs.declared.Link.{Link}
 use Rattle.request.specs.Facts.{askedOf, Gathered}
+use Rattle.rule.proofs.Types.{length-mapped}
 use Rattle.request.proofs.Kept.{all-kept}
 
 pub given-delta : (d : FreeDelta) → given (deltaFound d) ≡ d .is
@@ -64,9 +63,6 @@ module _ (f : Found) where
 
 -- ---- What the types of the parameters say
 
-length-mapped : {X Y : Type 0} (h : X → Y) (l : List X) (n : ℕ) → length (map h l) ≡ n → length l ≡ n
-length-mapped h l n e = sym (length-map l h) ∙ e
-
 pub row-eight : (r : InstanceRow) (vs : List Val) → Is (row instance.the-type) r vs → length (r .targets) ≡ 8
 row-eight r vs g = length-mapped _ (r .targets) 8 (g .1 .1 .1 .1 .1 .1 .1 .1 .1 .1 .1 .1 .1 .0 .1 .0 .1)
 
@@ -76,16 +72,12 @@ list-eight ts vs g = length-mapped _ (ts .list) 8 (g .1 .1 .1 .1 .0 .1 .0 .1)
 pub found-eight : (f : Found) (vs : List Val) → Is (row found.the-type) f vs → length (f .row .targets) ≡ 8
 found-eight f vs g = row-eight (f .row) _ (g .1 .1 .1 .1 .0)
 
-pub facts-eight : (a : Facts) (vs : List Val) → Is (row facts.the-type) a vs → length (a .targets .list) ≡ 8
+pub facts-eight : (a : RequestFacts) (vs : List Val) → Is (row facts.the-type) a vs → length (a .targets .list) ≡ 8
 facts-eight a vs g = list-eight (a .targets) _ (g .1 .1 .1 .1 .1 .1 .1 .0)
-
-pub own-sixteen : (o : Own) (vs : List Val) → Is (row own.the-type) o vs → (length (o .receiving) ≡ 16) × (length (o .sending) ≡ 16)
-own-sixteen o vs g =
-    (length-mapped _ (o .receiving) 16 (g .1 .1 .0 .1 .0 .1), length-mapped _ (o .sending) 16 (g .1 .1 .1 .0 .1 .0 .1))
 
 -- ---- The facts, from their parts
 
-pub gathered-is : (x : Settings) (k : Link) (p : Parsed) (f : Found) (g : FoundRoute) (d : FreeDelta) (a : Facts)
+pub gathered-is : (x : Settings) (k : Link) (p : Parsed) (f : Found) (g : FoundRoute) (d : FreeDelta) (a : RequestFacts)
     → shortPrefixes (take (p .count) (p .targets)) ≡ true
     → a .row ≡ f
     → a .route ≡ g

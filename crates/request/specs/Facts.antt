@@ -6,9 +6,9 @@ use Rattle.plain.specs.Request.{Asked}
 use Rattle.writer_option.specs.Sendable.{shortPrefixes}
 use Rattle.matching.specs.Kept.{listOf}
 use Rattle.message.specs.Message.{requestFound, routeFound, deltaFound}
-use Rattle.request.specs.declared.Facts.{Facts}
+use Rattle.request.specs.declared.RequestFacts.{RequestFacts}
 
-unfoldable pub askedOf : Facts → Asked
+unfoldable pub askedOf : RequestFacts → Asked
 askedOf a = record {
   row = requestFound (a .row);
   route = routeFound (a .route);
@@ -20,13 +20,13 @@ askedOf a = record {
 }
 
 -- The rank and the targets of facts that are no 12, and of any message that was heard, can be stored and sent.
-pub record Sendable (a : Facts) : Type 0 where
+pub record Sendable (a : RequestFacts) : Type 0 where
   pub rank : a .rank < 65536
   pub few : a .targets .count ≤ 8
   pub prefixes : shortPrefixes (listOf (a .targets)) ≡ true
 
 -- they are those of a request, and its targets can be sent
-pub record Gathered (asked : Asked) (a : Facts) : Type 0 where
+pub record Gathered (asked : Asked) (a : RequestFacts) : Type 0 where
   pub means : askedOf a ≡ asked
   pub few : a .targets .count ≤ 8
   pub prefixes : shortPrefixes (listOf (a .targets)) ≡ true

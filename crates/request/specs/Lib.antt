@@ -1,6 +1,4 @@
--- what must hold of a call
-pub mod Sound
 -- what the gathered facts mean
 pub mod Facts
--- what is said of each post
-pub mod Posts
+-- room in the vector
+pub mod Room

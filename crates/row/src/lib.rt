@@ -6,7 +6,7 @@ ghost use Prim.Native.Nat.{_≤_};
 ghost use lib.Dec.{leb};
 ghost use lib.ListN.{take, replicate};
 ghost use Rattle.lemmas.specs.Written.{over};
-ghost use Rattle.row.specs.Meaning.{blankTarget};
+ghost use Rattle.row.specs.Meaning.{blankTarget, noRow, noRoute};
 ghost use Rattle.row.specs.Record.{bitOf, untilOf, requestRecord, replyRecord, routeRecord};
 use plain::Target;
 
@@ -189,5 +189,43 @@ pub fn route_row(
         destination,
         next,
         deadline: until(endless, deadline),
+    }
+}
+
+// A row that is not in use.
+pub fn no_row() -> InstanceRow
+    ensures { λ r. ⌜ r ≡ noRow ⌝ }
+{
+    let ts = blanks();
+    InstanceRow {
+        kind: 0,
+        instance: 0,
+        seq: 0,
+        s: 0,
+        h: 0,
+        replied: 0,
+        endless: 0,
+        count: 0,
+        rank: 0,
+        dodagid: [0u8; 16],
+        neighbour: [0u8; 16],
+        targets: ts,
+        deadline: 0,
+    }
+}
+
+// A route that is not in use.
+pub fn no_route() -> RouteRow
+    ensures { λ r. ⌜ r ≡ noRoute ⌝ }
+{
+    RouteRow {
+        kind: 0,
+        instance: 0,
+        seq: 0,
+        endless: 0,
+        source: [0u8; 16],
+        destination: [0u8; 16],
+        next: [0u8; 16],
+        deadline: 0,
     }
 }

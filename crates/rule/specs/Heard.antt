@@ -2,7 +2,10 @@
 use Prim.Native.Nat.{_≤_, _*_, _-_}
 use mathlib.Core.Path.{_≡_}
 use mathlib.Core.Bool.{true, false}
-use lib.ListN.{take}
+use mathlib.Core.List.{List}
+use lib.ListN.{length, take}
+use Rattle.plain.specs.Address.{Address}
+use Rattle.own.specs.Settings.{Whole}
 use Rattle.writer_option.specs.Sendable.{shortPrefixes}
 use Rattle.message.specs.declared.Parsed.{Parsed}
 
@@ -12,3 +15,8 @@ pub record Heard (p : Parsed) : Type 0 where
   pub compr : p .discovery .compr ≤ 15
   pub targets : p .count ≤ 8
   pub prefixes : shortPrefixes (take (p .count) (p .targets)) ≡ true
+
+-- What holds of the array that a vector stands in, by its type: sixteen places, each of sixteen octets.
+pub record Array (vector : List Address) : Type 0 where
+  pub places : length vector ≡ 16
+  pub whole : Whole vector

@@ -1,25 +1,31 @@
 // What the rules for a request and for a reply share: how a message stands to the tables, the route that is stored, and the parts of a
 // decision.
-use answer::Answer;
 use answer::Destination;
 use answer::Way;
-use decision::Decided;
 use decision::Post;
 use decision::What;
 use message::FoundRoute;
 use message::Parsed;
+use own::Own;
 use plain::Base;
+use plain::Discovery;
 use plain::Standing;
-use row::InstanceRow;
+use plain::Target;
 use row::RouteRow;
 ghost use mathlib.Core.Path.{_≡_};
+ghost use mathlib.Core.Bool.{false, _&&_};
+ghost use mathlib.Core.List.{List};
 ghost use Prim.Native.Nat.{_^_, _≤_};
+ghost use lib.ListN.{length};
+ghost use Rattle.plain.specs.Address.{Address};
+ghost use Rattle.plain.specs.Rank.{minHop};
 ghost use Rattle.plain.specs.Given as given;
-ghost use Rattle.plain.specs.Request.{isStale, isNothingNew, isUpdate, routeStale, routeRow, withRank};
+ghost use Rattle.plain.specs.Request.{isStale, isNothingNew, isUpdate, routeStale, routeRow, withRank, grown, cannotGrow};
 ghost use Rattle.answer.specs.Answer.{destinationOf};
 ghost use Rattle.row.specs.Record.{routeRecord};
 ghost use Rattle.message.specs.Message.{configurationIn, routeFound};
-ghost use Rattle.rule.specs.Post.{noPost};
+ghost use Rattle.decision.specs.Blank.{noPost};
+ghost use Rattle.own.specs.Settings.{settingsOf, Whole};
 
 // ---- how a message stands
 
@@ -69,6 +75,26 @@ pub fn is_route_stale(h: bool, g: FoundRoute, seq: u8) -> bool
             return sequence::is_outdated(sequence::compare(route.seq, seq));
         }
         return false;
+    }
+    false
+}
+
+// MinHopRankIncrease of a message.
+pub fn step_of(p: Parsed) -> u16
+    ensures { λ r. ⌜ r ≡ minHop (configurationIn (p .configured) (p .configuration)) ⌝ }
+{
+    let configuration = p.configuration;
+    deadline::min_hop(p.configured, configuration)
+}
+
+// 16: ours are to be added to a vector of n addresses, and cannot be. It is small in what it is handed, since it is called for and not
+// compiled into its callers: a message by value would be copied for it.
+pub fn cannot_add(o: Own, adds: bool, compr: u8, n: usize) -> bool
+    requires { ⌜ (compr ≤ 16) × (n ≤ 16) ⌝ }
+    ensures { λ r. ⌜ ((v : List Address) → length v ≡ n → Whole v → r ≡ adds && cannotGrow compr (grown (settingsOf o) false v)) ⌝ }
+{
+    if adds {
+        return own::cannot_grow(o, compr, n);
     }
     false
 }
@@ -125,36 +151,49 @@ pub fn to_neighbour(a: [u8; 16]) -> Destination
     }
 }
 
-// Nothing is sent. The message is not looked at.
-pub fn no_post(p: Parsed) -> Post
-    ensures { λ r. ⌜ r ≡ noPost p ⌝ }
+// Nothing is sent.
+pub fn no_post() -> Post
+    ensures { λ r. ⌜ r ≡ noPost ⌝ }
 {
+    let zero = [0u8; 16];
+    let blank = Target {
+        seq: 0,
+        plen: 0,
+        addr: zero,
+    };
+    let base = Base {
+        instance: 0,
+        version: 0,
+        rank: 0,
+        g: false,
+        prf: 0,
+        dodagid: zero,
+    };
+    let discovery = Discovery {
+        reply: false,
+        flag: false,
+        h: false,
+        compr: 0,
+        l: 0,
+        limit: 0,
+        number: 0,
+    };
     Post {
         what: What::Nothing,
-        message: p,
+        message: Parsed {
+            base,
+            configured: false,
+            configuration: [0u8; 14],
+            discovery,
+            n: 0,
+            count: 0,
+            targets: [blank; 8],
+        },
         grown: false,
         turned: false,
         to: Destination {
             way: Way::Nowhere,
-            neighbour: [0; 16],
+            neighbour: zero,
         },
-    }
-}
-
-// A decision whose answer is not 0: nothing else of it is looked at.
-pub fn refused(answer: Answer, seq: u8, p: Parsed, row: InstanceRow, route: RouteRow) -> Decided
-    ensures { λ r. ⌜ r .answer ≡ answer ⌝ }
-{
-    let nothing = no_post(p);
-    Decided {
-        answer,
-        row,
-        replies: false,
-        second: row,
-        routed: false,
-        route,
-        seq,
-        forward: nothing,
-        reply: nothing,
     }
 }

@@ -11,7 +11,6 @@ ghost use Rattle.message.specs.Message.{requestFound, replyFound, routeFound, d
 use message::Found;
 use message::FoundRoute;
 use message::FreeDelta;
-use plain::Target;
 use row::InstanceRow;
 use row::RouteRow;
 
@@ -42,7 +41,7 @@ fn found(at: usize, row: InstanceRow) -> Found
 fn not_found(at: usize) -> Found
     ensures { λ r. ⌜ r ≡ record { is = false; at = at; row = noRow } ⌝ }
 {
-    let none = no_row();
+    let none = row::no_row();
     Found {
         is: false,
         at,
@@ -63,7 +62,7 @@ fn found_route(at: usize, route: RouteRow) -> FoundRoute
 fn no_route_found(at: usize) -> FoundRoute
     ensures { λ r. ⌜ r ≡ record { is = false; at = at; route = noRoute } ⌝ }
 {
-    let none = no_route();
+    let none = row::no_route();
     FoundRoute {
         is: false,
         at,
@@ -83,46 +82,6 @@ fn none_free() -> FreeDelta
     FreeDelta {
         is: false,
         delta: 0,
-    }
-}
-
-fn no_row() -> InstanceRow
-    ensures { λ r. ⌜ r ≡ noRow ⌝ }
-{
-    let blank = Target {
-        seq: 0,
-        plen: 0,
-        addr: [0u8; 16],
-    };
-    InstanceRow {
-        kind: 0,
-        instance: 0,
-        seq: 0,
-        s: 0,
-        h: 0,
-        replied: 0,
-        endless: 0,
-        count: 0,
-        rank: 0,
-        dodagid: [0u8; 16],
-        neighbour: [0u8; 16],
-        targets: [blank; 8],
-        deadline: 0,
-    }
-}
-
-fn no_route() -> RouteRow
-    ensures { λ r. ⌜ r ≡ noRoute ⌝ }
-{
-    RouteRow {
-        kind: 0,
-        instance: 0,
-        seq: 0,
-        endless: 0,
-        source: [0u8; 16],
-        destination: [0u8; 16],
-        next: [0u8; 16],
-        deadline: 0,
     }
 }
 

@@ -1,7 +1,7 @@
--- The decision of a start, from its parts.
+-- What a start stores and sends, from its parts.
 use Prim.Native.Nat.{ℕ, _≤_}
 use mathlib.Core.Path.{_≡_, refl, sym, _∙_}
-use mathlib.Core.Bool.{Bool, true, false, cond}
+use mathlib.Core.Bool.{true, false, cond}
 use mathlib.Core.List.{List, []}
 use mathlib.Core.Option.{none, some}
 use native.Mathlib.Omega.{arith}
@@ -13,7 +13,7 @@ use Rattle.plain.specs.Rank.{stepped, rowDeadline}
 use Rattle.plain.specs.Request.{startRow, startMessage, acceptStart, withReplyRow, routeChange}
 use Rattle.plain.specs.declared.Target.{Target}
 use Rattle.lemmas.proofs.Choice.{cond-case, true-false}
-use Rattle.answer.specs.Answer.{answerNumber, destinationOf}
+use Rattle.answer.specs.Answer.{destinationOf}
 use Rattle.answer.specs.declared.Destination as code
 use Rattle.deadline.specs.Deadline.{deadlineOf}
 use Rattle.deadline.specs.declared.Deadline.{Deadline}
@@ -23,13 +23,12 @@ use Rattle.art.specs.declared.Targets.{Targets}
 use Rattle.matching.specs.Kept.{listOf}
 use Rattle.message.specs.Message.{messageIn}
 use Rattle.message.specs.declared.Parsed.{Parsed}
-use Rattle.decision.specs.Decision.{Decides, postVector, octetsAs, instancesBy, routesBy}
+use Rattle.decision.specs.Decision.{Posts, Stores, instancesBy, routesBy}
 use Rattle.decision.specs.declared.Decided.{Decided}
-use Rattle.rule.specs.Post.{Posts, noPost}
-use Rattle.rule.proofs.Laws.{request-meant}
-use Rattle.request.proofs.Sent.{dio-posts, plainPost, plain-message}
-use Rattle.request.proofs.Accept.{request-again}
-use Rattle.start.specs.Start.{startOf, startAnswer, Sound}
+use Rattle.rule.proofs.Laws.{request-meant, request-again}
+use Rattle.rule.proofs.Sent.{dio-posts, plainPost, plain-message}
+use Rattle.start.specs.Start as start
+use Rattle.start.specs.Start.{startOf}
 use Rattle.start.specs.declared.Asking.{Asking}
 
 -- ---- The row
@@ -58,7 +57,7 @@ no-addresses : (m : Parsed) (vector : List Address) → m .n ≡ 0 → messageIn
 unfolding messageIn
 no-addresses m vector e = rw e
 
-module _ (x : Settings) (vector : List Address) (own t : ℕ) (s : Asking) (ts : Targets) (g : Sound t s ts) (m : Parsed)
+module _ (x : Settings) (vector : List Address) (own : ℕ) (s : Asking) (ts : Targets) (g : start.Sendable s ts) (m : Parsed)
     (em : messageIn m [] ≡ startMessage x own (startOf s []) (listOf ts)) (en : m .n ≡ 0) (ec : m .count ≡ ts .count) where
   start-sendable : Sendable (startMessage x own (startOf s []) (listOf ts) .discovery) 0
   unfolding startMessage
@@ -82,39 +81,21 @@ module _ (x : Settings) (vector : List Address) (own t : ℕ) (s : Asking) (ts :
       dio-posts x vector (plainPost m to) (startMessage x own (startOf s []) (listOf ts)) Destination.group refl (plain-message x m to vector ∙ (no-addresses m vector en ∙ em)) et
       (omega (arith, en)) (omega (arith, ec, g .targets)) (rw start-vector start-sendable) start-prefixes
 
-  -- a message that can be sent, and is not
-  pub quiet-posts : Posts x vector [] Destination.nowhere (noPost m)
-  unfolding octetsAs postVector
-  quiet-posts =
-      let d : Posts x vector (octetsOf (startMessage x own (startOf s []) (listOf ts))) Destination.nowhere (plainPost m (noPost m .to)) =
-      dio-posts x vector (plainPost m (noPost m .to)) (startMessage x own (startOf s []) (listOf ts)) Destination.nowhere refl
-      (plain-message x m (noPost m .to) vector ∙ (no-addresses m vector en ∙ em)) refl (omega (arith, en)) (omega (arith, ec, g .targets)) (rw start-vector start-sendable)
-      start-prefixes in
-      record { sends = refl; goes = refl; fits = record { received = d .fits .received; sendable = d .fits .sendable; targets = d .fits .targets; prefixes = d .fits .prefixes } }
+-- ---- What is stored
 
--- ---- The decision
-
-module _ (x : Settings) (vector : List Address) (own next t : ℕ) (s : Asking) (ts : Targets) (taken : Bool) (r : Decided) where
-  pub started-is : next ≡ stepped own
-      → answerNumber (r .answer) ≡ startAnswer x s taken
-      → r .row ≡ requestRecord (startRow x t next (startOf s []) (listOf ts))
-      → r .replies ≡ false
-      → r .routed ≡ false
-      → r .seq ≡ next
-      → Posts x vector (octetsOf (startMessage x next (startOf s []) (listOf ts))) Destination.group (r .forward)
-      → Posts x vector [] Destination.nowhere (r .reply)
-      → (targets : List Target)
-      → Decides {B = RequestRow} x vector (startAnswer x s taken) (acceptStart x own t (startOf s targets) (listOf ts)) none none r
-  unfolding acceptStart startRow startMessage instancesBy routesBy withReplyRow routeChange
-  started-is en ea er ep ed eq pf pr targets = record {
-    answer = ea;
-    sent = λ z. rw (pf .sends, pf .goes, pr .sends, pr .goes, en);
-    own = λ z. eq ∙ en;
-    instances = λ z. rw (er, ep, request-meant (startRow x t next (startOf s []) (listOf ts)), en);
-    routes = λ z. rw ed;
-    row = λ z. rw er (request-again (startRow x t next (startOf s []) (listOf ts)));
-    second = λ z w. true-false (sym w ∙ ep);
-    route = λ z w. true-false (sym w ∙ ed);
-    forward = λ z. pf .fits;
-    reply = λ z. pr .fits;
-  }
+pub stored-is : (x : Settings) (own next t : ℕ) (s : Asking) (ts : Targets) (r : Decided) → next ≡ stepped own
+    → r .row ≡ requestRecord (startRow x t next (startOf s []) (listOf ts))
+    → r .replies ≡ false
+    → r .routed ≡ false
+    → r .seq ≡ next
+    → (targets : List Target)
+    → Stores {B = RequestRow} (acceptStart x own t (startOf s targets) (listOf ts)) none none r
+unfolding acceptStart startRow instancesBy routesBy withReplyRow routeChange
+stored-is x own next t s ts r en er ep ed eq targets = record {
+  own = eq ∙ en;
+  instances = rw (er, ep, request-meant (startRow x t next (startOf s []) (listOf ts)), en);
+  routes = rw ed;
+  row = rw er (request-again (startRow x t next (startOf s []) (listOf ts)));
+  second = λ w. true-false (sym w ∙ ep);
+  route = λ w. true-false (sym w ∙ ed);
+}

@@ -1,5 +1,5 @@
 -- What a start by value means, and what must hold of it.
-use Prim.Native.Nat.{ℕ, _≤_, _^_}
+use Prim.Native.Nat.{ℕ, _≤_}
 use mathlib.Core.Path.{_≡_}
 use mathlib.Core.Bool.{Bool, true, cond}
 use mathlib.Core.List.{List}
@@ -19,9 +19,8 @@ startOf s targets = record { instance = s .instance; h = s .h; compr = s .compr;
 unfoldable pub startAnswer : rules.Settings → Asking → Bool → ℕ
 startAnswer x s taken = cond (cannotElide x (s .h) (s .compr) (x .receiving)) 10 (cond taken 14 0)
 
--- What holds of every start that is not 1: "time .. above 2^40", "over 8 targets, a target prefix over 127, .. Compr over 15".
-pub record Sound (t : ℕ) (s : Asking) (ts : Targets) : Type 0 where
-  pub time : t ≤ 2 ^ 40
+-- What holds of every start that is not 1, so that it can be sent: "over 8 targets, a target prefix over 127, .. Compr over 15".
+pub record Sendable (s : Asking) (ts : Targets) : Type 0 where
   pub compr : s .compr ≤ 15
   pub targets : ts .count ≤ 8
   pub prefixes : shortPrefixes (listOf ts) ≡ true

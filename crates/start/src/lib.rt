@@ -9,8 +9,7 @@ use own::Own;
 use plain::Base;
 use plain::Discovery;
 use row::InstanceRow;
-use row::RouteRow;
-ghost use Prim.Native.Nat.{_≤_};
+ghost use Prim.Native.Nat.{ℕ, _≤_, _^_};
 ghost use mathlib.Core.Path.{_≡_};
 ghost use mathlib.Core.Bool.{cond};
 ghost use mathlib.Core.List.{List, []};
@@ -20,13 +19,12 @@ ghost use Rattle.plain.specs.Given as rules;
 ghost use Rattle.plain.specs.Request.{startRow, startMessage, acceptStart};
 ghost use Rattle.plain.specs.declared.Target as plain;
 ghost use Rattle.answer.specs.Answer.{answerNumber};
-ghost use Rattle.row.specs.Meaning.{noRoute};
 ghost use Rattle.row.specs.Record.{requestRecord};
 ghost use Rattle.matching.specs.Kept.{listOf};
 ghost use Rattle.own.specs.Settings.{settingsOf};
 ghost use Rattle.message.specs.Message.{messageIn};
-ghost use Rattle.decision.specs.Decision.{Decides};
-ghost use Rattle.start.specs.Start.{startOf, startAnswer, Sound};
+ghost use Rattle.decision.specs.Decision.{Posts, Stores};
+ghost use Rattle.start.specs.Start.{startOf, startAnswer, Sendable};
 
 // What a start brings, but for its targets.
 pub struct Asking {
@@ -54,7 +52,7 @@ pub fn judge(o: Own, s: Asking, taken: bool) -> Answer
 
 // Its row, with our stepped number: all its targets stay, those that are ours too.
 fn start_row(o: Own, seq: u8, t: u64, s: Asking, ts: Targets) -> InstanceRow
-    requires { ⌜ Sound t s ts ⌝ }
+    requires { ⌜ (t ≤ 2 ^ 40) × (ts .count ≤ 8) ⌝ }
     ensures { λ r. ⌜ r ≡ requestRecord (startRow (settingsOf o) t seq (startOf s []) (listOf ts)) ⌝ }
 {
     let receiving = o.receiving;
@@ -117,49 +115,37 @@ fn start_message(o: Own, seq: u8, s: Asking, ts: Targets) -> Parsed
     }
 }
 
-// No route is stored.
-fn no_route() -> RouteRow
-    ensures { λ r. ⌜ r ≡ noRoute ⌝ }
+// What a start sends, to the group. `seq` is our number before it is stepped. No vector was received: whatever stands for one plays no part.
+pub fn start_post(o: Own, seq: u8, s: Asking, ts: Targets) -> Post
+    requires { ⌜ Sendable s ts ⌝ }
+    ensures { λ r. ⌜ ((t : ℕ) (vector : List Address) (targets : List plain.Target) → Posts (settingsOf o) vector (acceptStart (settingsOf o) seq t (startOf s targets) (listOf ts) .sent .forward) (acceptStart (settingsOf o) seq t (startOf s targets) (listOf ts) .sent .forwardTo) r) ⌝ }
 {
-    RouteRow {
-        kind: 0,
-        instance: 0,
-        seq: 0,
-        endless: 0,
-        source: [0; 16],
-        destination: [0; 16],
-        next: [0; 16],
-        deadline: 0,
+    let message = start_message(o, sequence::step(seq), s, ts);
+    let to = rule::to_group();
+    Post {
+        what: What::Dio,
+        message,
+        grown: false,
+        turned: false,
+        to,
     }
 }
 
-// What a start comes to, from our own number, the time, its targets without repeats, and whether a row of its key is live. No vector was
-// received: whatever stands for one plays no part.
-pub fn start(o: Own, seq: u8, t: u64, s: Asking, ts: Targets, taken: bool) -> Decided
-    requires { ⌜ Sound t s ts ⌝ }
-    ensures { λ r. ⌜ ((vector : List Address) (targets : List plain.Target) → Decides {B = rules.RequestRow} (settingsOf o) vector (startAnswer (settingsOf o) s taken) (acceptStart (settingsOf o) seq t (startOf s targets) (listOf ts)) none none r) ⌝ }
+// What a start stores that is answered 0. It stores no route, and no reply row.
+pub fn accepted(o: Own, seq: u8, t: u64, s: Asking, ts: Targets) -> Decided
+    requires { ⌜ (t ≤ 2 ^ 40) × (ts .count ≤ 8) ⌝ }
+    ensures { λ r. ⌜ ((targets : List plain.Target) → Stores {B = rules.RequestRow} (acceptStart (settingsOf o) seq t (startOf s targets) (listOf ts)) none none r) ⌝ }
 {
     let next = sequence::step(seq);
-    let answer = judge(o, s, taken);
     let row = start_row(o, next, t, s, ts);
-    let message = start_message(o, next, s, ts);
-    let to = rule::to_group();
-    let route = no_route();
+    let none = row::no_row();
+    let route = row::no_route();
     Decided {
-        answer,
         row,
         replies: false,
-        second: row,
+        second: none,
         routed: false,
         route,
         seq: next,
-        forward: Post {
-            what: What::Dio,
-            message,
-            grown: false,
-            turned: false,
-            to,
-        },
-        reply: rule::no_post(message),
     }
 }

@@ -1,16 +1,26 @@
 pub mod Lts
 pub mod Tie
+use mathlib.Core.Path.{_∙_}
 use borrow.Author.Needs.{needs}
 use Rattle.finish.proofs.store.Statement.{statement}
 use Rattle.finish.proofs.store.Proof.Tie as tie
 use Rattle.finish.proofs.store.Proof.Lts as lts
 use Rattle.finish.proofs.Lent.store.Reads as reads
 
+row-of-requires : tie.Need-row-of-requires
+row-of-requires c = search needs
+
 put-row-requires : tie.Need-put-row-requires
 put-row-requires c = search needs
 
+second-of-requires : tie.Need-second-of-requires
+second-of-requires c = search needs
+
 put-row-requires-2 : tie.Need-put-row-requires-2
 put-row-requires-2 c = search needs
+
+route-of-requires : tie.Need-route-of-requires
+route-of-requires c = search needs
 
 put-route-requires : tie.Need-put-route-requires
 put-route-requires c = search needs
@@ -22,7 +32,12 @@ same-length-2 : tie.Need-same-length-2
 same-length-2 c = search needs
 
 returns : tie.Need-returns
-returns c = (rw (c .before .before .before .before .before .before .before .put-row .ensures) at (c .before .before .before .before .put-row2 .ensures), c .before .put-route .ensures)
+returns c =
+    let first = c .before .before .before .before .before .before .before .before .before .before .before .put-row in
+    let second = c .before .before .before .before .before .before .put-row2 in (
+      second .ensures ∙ rw (first .ensures, c .before .before .before .before .before .before .before .before .before .before .before .before .row-of .ensures, c .before .before .before .before .before .before .before .second-of .ensures),
+      c .before .put-route .ensures ∙ rw (c .before .before .route-of .ensures),
+    )
 
 pub store-spec : {M : Type 1} → statement M
-store-spec = tie.close (tie.spec put-row-requires put-row-requires-2 put-route-requires same-length same-length-2 returns)
+store-spec = tie.close (tie.spec row-of-requires put-row-requires second-of-requires put-row-requires-2 route-of-requires put-route-requires same-length same-length-2 returns)

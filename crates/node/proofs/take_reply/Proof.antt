@@ -1,21 +1,29 @@
 pub mod Lts
 pub mod Tie
-use mathlib.Core.Path.{ap}
+use denote.Ref.{now}
+use mathlib.Core.Path.{sym, ap, _∙_}
+use mathlib.Core.List.{[]}
+use native.Mathlib.Omega.{arith}
+use Rattle.plain.specs.Given.{Destination}
 use Rattle.plain.specs.Answers.{viewOf}
 use Rattle.plain.specs.Plain.{idle}
-use Rattle.finish.specs.Gives.{stateOf}
-use native.Mathlib.Omega.{arith}
-use denote.Ref.{now}
-use Rattle.own.specs.Settings.{settingsOf}
-use Rattle.row.specs.Meaning.{replyOf}
 use Rattle.answer.specs.Answer.{answerNumber}
+use Rattle.row.specs.Meaning.{replyOf}
+use Rattle.own.specs.Settings.{settingsOf}
+use Rattle.decision.specs.Decision.{Posts}
+use Rattle.rule.proofs.Laws.{posts-nothing}
+use Rattle.finish.specs.Gives.{stateOf}
 use Rattle.finish.proofs.Laws.{refused-gives}
-use Rattle.node.proofs.Laws.{ready, settled, reply-given, reply-found-is, reply-is, no-partner-is}
+use Rattle.node.proofs.Laws.{no-partner-is, reply-is, answered-is, ready}
+use Rattle.node.proofs.Answered.{reply-refused, reply-rank, reply-room, reply-taken, reply-settled}
 use borrow.Author.Needs.{needs}
 use Rattle.node.proofs.take_reply.Statement.{statement}
 use Rattle.node.proofs.take_reply.Proof.Tie as tie
 use Rattle.node.proofs.take_reply.Proof.Lts as lts
 use Rattle.node.proofs.Lent.take_reply.Reads as reads
+
+whole-requires : tie.Need-whole-requires
+whole-requires c = search needs
 
 partner-number-requires : tie.Need-partner-number-requires
 partner-number-requires c = search needs
@@ -47,23 +55,20 @@ search-route-requires c = search needs
 found-row-requires : tie.Need-found-row-requires
 found-row-requires c = search needs
 
-decide-requires : tie.Need-decide-requires
-decide-requires c κs = record { time = c .before .before .before .before .before .before .before .before .before .before .before .before .before .before .before .before .pre .time; heard = c .before .before .before .before .before .before .before .before .before .before .before .before .before .before .before .before .pre .heard }
+gather-requires : tie.Need-gather-requires
+gather-requires c = search needs
 
-is-found-requires-2 : tie.Need-is-found-requires-2
-is-found-requires-2 c = search needs
+judge-requires : tie.Need-judge-requires
+judge-requires c κs =
+    let o = c .before .before .before .before .before .before .before .before .before .before .before .before .before .before .before .before .before .before .before .before .before .before .before .before .before in
+    let w = c .before .before .before .before .before .before .before .before .before .before .before .before .before .before .before .before .before .before .before .before .before .before .whole in
+    ((o .pre .heard .addresses, omega (arith, o .pre .heard .compr)), record { places = w .ensures .0; whole = w .ensures .1 })
 
-found-at-requires : tie.Need-found-at-requires
-found-at-requires c = search needs
+number-requires : tie.Need-number-requires
+number-requires c = search needs
 
-is-route-found-requires : tie.Need-is-route-found-requires
-is-route-found-requires c = search needs
-
-route-found-at-requires : tie.Need-route-found-at-requires
-route-found-at-requires c = search needs
-
-finish-requires : tie.Need-finish-requires
-finish-requires c κs = ready (settingsOf (c .before .before .before .before .before .before .before .before .before .before .before .before .before .before .before .before .before .before .before .before .before .before .before .before .before .args .o)) (c .before .before .before .before .before .before .before .before .before .before .before .before .before .before .before .before .before .before .before .before .before .before .before .before .before .args .vector) _ _ (c .before .before .before .before .before .before .before .before .before .before .before .before .search-reply .result) (replyOf (c .before .before .before .before .before .before .before .before .before .before .before .before .search-reply .result .row)) (c .before .before .before .before .before .before .before .before .before .before .search-route .result) (c .before .before .before .before .before .before .before .before .decide .result) (reply-found-is _ _ _ _ _ _ _ (c .before .before .before .before .before .before .before .before .decide .ensures)) _ _ _ _ (c .before .before .before .is-found2 .ensures) (c .before .before .found-at .ensures) (c .before .is-route-found .ensures) (c .route-found-at .ensures) (c .before .before .before .before .before .before .before .before .before .before .before .before .before .before .before .before .before .before .before .before .before .before .before .before .before .args .t) (now (c .before .before .before .before .before .before .before .before .before .before .before .before .before .before .before .before .before .before .before .before .before .before .before .before .before .args .instances)) (now (c .before .before .before .before .before .before .before .before .before .before .before .before .before .before .before .before .before .before .before .before .before .before .before .before .before .args .routes)) (now (c .before .before .before .before .before .before .before .before .before .before .before .before .before .before .before .before .before .before .before .before .before .before .before .before .before .args .forward)) (now (c .before .before .before .before .before .before .before .before .before .before .before .before .before .before .before .before .before .before .before .before .before .before .before .before .before .args .reply)) (c .before .before .before .before .before .before .before .before .before .before .before .before .search-reply .ensures .1) (c .before .before .before .before .before .before .before .before .before .before .search-route .ensures .1) (c .before .before .before .before .before .before .before .before .before .before .before .before .before .before .before .before .before .before .before .before .before .before .before .before .before .pre .forwardRoom) (c .before .before .before .before .before .before .before .before .before .before .before .before .before .before .before .before .before .before .before .before .before .before .before .before .before .pre .replyRoom)
+refused-requires : tie.Need-refused-requires
+refused-requires c = search needs
 
 same-length : tie.Need-same-length
 same-length c = search needs
@@ -71,26 +76,213 @@ same-length c = search needs
 same-length-2 : tie.Need-same-length-2
 same-length-2 c = search needs
 
+returns : tie.Need-returns
+returns c =
+    let o = c .before .before .before .before .before .before .before .before .before .before .before .before .before .before .before .before .before .before .before .before .before .before .before .before .before .before .before .before .before in
+    let a = o .args in
+    let rows = now (a .instances) in
+    let routes = now (a .routes) in
+    let vector = now (a .vector) in
+    let number = c .before .before .before .before .before .before .before .before .before .before .before .before .before .before .before .before .before .before .before .before .before .before .before .before .partner-number in
+    let orig = c .before .before .before .before .before .before .before .before .before .before .before .before .before .before .before .before .before .before .before .before .before .before .orig-node in
+    let h = c .before .before .before .before .before .before .before .before .before .before .before .before .before .before .before .before .before .before .before .h-of in
+    let w = c .before .before .before .before .before .before .before .before .before .before .before .before .before .before .before .before .before .before .search-partner in
+    let is = c .before .before .before .before .before .before .before .before .before .before .before .before .before .before .before .before .before .is-found in
+    let dodagid = c .before .before .before .before .before .before .before .before .before .before .before .before .before .before .dodagid-of in
+    let instance = c .before .before .before .before .before .before .before .before .before .before .before .instance-of in
+    let f = c .before .before .before .before .before .before .before .before .before .before .search-reply in
+    let g = c .before .before .before .before .before .before .before .before .search-route in
+    let partner = c .before .before .before .before .before .before .found-row in
+    let facts = c .before .before .before .before .before .gather in
+    let found =
+    answered-is (a .clock) (a .seq) (a .t) rows routes (a .o) (a .k) (now (a .p)) vector (number .result) (orig .result) (h .result)
+    (number .ensures vector) (orig .ensures vector) (h .ensures) (w .result) (w .ensures (a .clock) (o .pre .later)) (instance .result) (dodagid .result)
+    (instance .ensures) (dodagid .ensures) (f .result) (g .result) (f .ensures .0 (a .clock) (o .pre .later)) (g .ensures .0 (a .clock) (o .pre .later)) in
+    let decided =
+    reply-is (a .clock) (a .seq) (a .t) rows routes (a .o) (a .k) (now (a .p)) vector (number .result) (orig .result) (h .result)
+    (number .ensures vector) (orig .ensures vector) (h .ensures) (w .result) (w .ensures (a .clock) (o .pre .later)) (is .result) (is .ensures)
+    (c .before .before .before .before .before .before .before .before .before .before .before .before .before .before .before .before .if1 .taken) in
+    reply-refused (a .clock) (a .seq) (a .t) rows routes (a .o) (a .k) (now (a .p)) vector (f .result) (g .result) (w .result .row) (partner .result) (partner .ensures) (facts .result) (facts .ensures vector) found decided (now (a .forward)) (now (a .reply)) (c .before .before .before .judge .result) (c .before .before .number .result)
+    (c .refused .result) (c .before .before .before .judge .ensures) (c .before .before .number .ensures) (c .before .if2 .taken) (c .refused .ensures)
+
+accepted-requires : tie.Need-accepted-requires
+accepted-requires c κs =
+    let o = c .before .before .before .before .before .before .before .before .before .before .before .before .before .before .before .before .before .before .before .before .before .before .before .before .before .before .before .before .before in
+    let a = o .args in
+    let rows = now (a .instances) in
+    let routes = now (a .routes) in
+    let vector = now (a .vector) in
+    let number = c .before .before .before .before .before .before .before .before .before .before .before .before .before .before .before .before .before .before .before .before .before .before .before .before .partner-number in
+    let orig = c .before .before .before .before .before .before .before .before .before .before .before .before .before .before .before .before .before .before .before .before .before .before .orig-node in
+    let h = c .before .before .before .before .before .before .before .before .before .before .before .before .before .before .before .before .before .before .before .h-of in
+    let w = c .before .before .before .before .before .before .before .before .before .before .before .before .before .before .before .before .before .before .search-partner in
+    let is = c .before .before .before .before .before .before .before .before .before .before .before .before .before .before .before .before .before .is-found in
+    let dodagid = c .before .before .before .before .before .before .before .before .before .before .before .before .before .before .dodagid-of in
+    let instance = c .before .before .before .before .before .before .before .before .before .before .before .instance-of in
+    let f = c .before .before .before .before .before .before .before .before .before .before .search-reply in
+    let g = c .before .before .before .before .before .before .before .before .search-route in
+    let partner = c .before .before .before .before .before .before .found-row in
+    let facts = c .before .before .before .before .before .gather in
+    let found =
+    answered-is (a .clock) (a .seq) (a .t) rows routes (a .o) (a .k) (now (a .p)) vector (number .result) (orig .result) (h .result)
+    (number .ensures vector) (orig .ensures vector) (h .ensures) (w .result) (w .ensures (a .clock) (o .pre .later)) (instance .result) (dodagid .result)
+    (instance .ensures) (dodagid .ensures) (f .result) (g .result) (f .ensures .0 (a .clock) (o .pre .later)) (g .ensures .0 (a .clock) (o .pre .later)) in
+    let decided =
+    reply-is (a .clock) (a .seq) (a .t) rows routes (a .o) (a .k) (now (a .p)) vector (number .result) (orig .result) (h .result)
+    (number .ensures vector) (orig .ensures vector) (h .ensures) (w .result) (w .ensures (a .clock) (o .pre .later)) (is .result) (is .ensures)
+    (c .before .before .before .before .before .before .before .before .before .before .before .before .before .before .before .before .if1 .taken) in
+    let zero = sym (c .before .before .before .judge .ensures) ∙ (sym (c .before .before .number .ensures) ∙ c .before .if2 .left) in
+    (o .pre .time, reply-rank (a .clock) (a .seq) (a .t) rows routes (a .o) (a .k) (now (a .p)) vector (f .result) (g .result) (w .result .row) (partner .result) (partner .ensures) (facts .result) (facts .ensures vector) found decided zero)
+
+forward-post-requires : tie.Need-forward-post-requires
+forward-post-requires c κs =
+    let o = c .before .before .before .before .before .before .before .before .before .before .before .before .before .before .before .before .before .before .before .before .before .before .before .before .before .before .before .before .before .before .before in
+    let a = o .args in
+    let rows = now (a .instances) in
+    let routes = now (a .routes) in
+    let vector = now (a .vector) in
+    let number = c .before .before .before .before .before .before .before .before .before .before .before .before .before .before .before .before .before .before .before .before .before .before .before .before .before .before .partner-number in
+    let orig = c .before .before .before .before .before .before .before .before .before .before .before .before .before .before .before .before .before .before .before .before .before .before .before .before .orig-node in
+    let h = c .before .before .before .before .before .before .before .before .before .before .before .before .before .before .before .before .before .before .before .before .before .h-of in
+    let w = c .before .before .before .before .before .before .before .before .before .before .before .before .before .before .before .before .before .before .before .before .search-partner in
+    let is = c .before .before .before .before .before .before .before .before .before .before .before .before .before .before .before .before .before .before .before .is-found in
+    let dodagid = c .before .before .before .before .before .before .before .before .before .before .before .before .before .before .before .before .dodagid-of in
+    let instance = c .before .before .before .before .before .before .before .before .before .before .before .before .before .instance-of in
+    let f = c .before .before .before .before .before .before .before .before .before .before .before .before .search-reply in
+    let g = c .before .before .before .before .before .before .before .before .before .before .search-route in
+    let partner = c .before .before .before .before .before .before .before .before .found-row in
+    let facts = c .before .before .before .before .before .before .before .gather in
+    let found =
+    answered-is (a .clock) (a .seq) (a .t) rows routes (a .o) (a .k) (now (a .p)) vector (number .result) (orig .result) (h .result)
+    (number .ensures vector) (orig .ensures vector) (h .ensures) (w .result) (w .ensures (a .clock) (o .pre .later)) (instance .result) (dodagid .result)
+    (instance .ensures) (dodagid .ensures) (f .result) (g .result) (f .ensures .0 (a .clock) (o .pre .later)) (g .ensures .0 (a .clock) (o .pre .later)) in
+    let decided =
+    reply-is (a .clock) (a .seq) (a .t) rows routes (a .o) (a .k) (now (a .p)) vector (number .result) (orig .result) (h .result)
+    (number .ensures vector) (orig .ensures vector) (h .ensures) (w .result) (w .ensures (a .clock) (o .pre .later)) (is .result) (is .ensures)
+    (c .before .before .before .before .before .before .before .before .before .before .before .before .before .before .before .before .before .before .if1 .taken) in
+    let zero = sym (c .before .before .before .before .before .judge .ensures) ∙ (sym (c .before .before .before .before .number .ensures) ∙ c .before .before .before .if2 .left) in
+    let v = c .before .before .before .before .before .before .before .before .before .before .before .before .before .before .before .before .before .before .before .before .before .before .before .before .before .before .before .before .whole in
+    (o .pre .heard, record { places = v .ensures .0; whole = v .ensures .1 }, reply-rank (a .clock) (a .seq) (a .t) rows routes (a .o) (a .k) (now (a .p)) vector (f .result) (g .result) (w .result .row) (partner .result) (partner .ensures) (facts .result) (facts .ensures vector) found decided zero, reply-room (a .clock) (a .seq) (a .t) rows routes (a .o) (a .k) (now (a .p)) vector (f .result) (g .result) (w .result .row) (partner .result) (partner .ensures) (facts .result) (facts .ensures vector) found decided zero)
+
+no-post-requires : tie.Need-no-post-requires
+no-post-requires c = search needs
+
+live-of-requires : tie.Need-live-of-requires
+live-of-requires c = search needs
+
+finish-requires : tie.Need-finish-requires
+finish-requires c κs =
+    let o = c .before .before .before .before .before .before .before .before .before .before .before .before .before .before .before .before .before .before .before .before .before .before .before .before .before .before .before .before .before .before .before .before .before .before .before .before .before .before .before .before .before in
+    let a = o .args in
+    let rows = now (a .instances) in
+    let routes = now (a .routes) in
+    let vector = now (a .vector) in
+    let number = c .before .before .before .before .before .before .before .before .before .before .before .before .before .before .before .before .before .before .before .before .before .before .before .before .before .before .before .before .before .before .before .before .before .before .before .before .partner-number in
+    let orig = c .before .before .before .before .before .before .before .before .before .before .before .before .before .before .before .before .before .before .before .before .before .before .before .before .before .before .before .before .before .before .before .before .before .before .orig-node in
+    let h = c .before .before .before .before .before .before .before .before .before .before .before .before .before .before .before .before .before .before .before .before .before .before .before .before .before .before .before .before .before .before .before .h-of in
+    let w = c .before .before .before .before .before .before .before .before .before .before .before .before .before .before .before .before .before .before .before .before .before .before .before .before .before .before .before .before .before .before .search-partner in
+    let is = c .before .before .before .before .before .before .before .before .before .before .before .before .before .before .before .before .before .before .before .before .before .before .before .before .before .before .before .before .before .is-found in
+    let dodagid = c .before .before .before .before .before .before .before .before .before .before .before .before .before .before .before .before .before .before .before .before .before .before .before .before .before .before .dodagid-of in
+    let instance = c .before .before .before .before .before .before .before .before .before .before .before .before .before .before .before .before .before .before .before .before .before .before .before .instance-of in
+    let f = c .before .before .before .before .before .before .before .before .before .before .before .before .before .before .before .before .before .before .before .before .before .before .search-reply in
+    let g = c .before .before .before .before .before .before .before .before .before .before .before .before .before .before .before .before .before .before .before .before .search-route in
+    let partner = c .before .before .before .before .before .before .before .before .before .before .before .before .before .before .before .before .before .before .found-row in
+    let facts = c .before .before .before .before .before .before .before .before .before .before .before .before .before .before .before .before .before .gather in
+    let found =
+    answered-is (a .clock) (a .seq) (a .t) rows routes (a .o) (a .k) (now (a .p)) vector (number .result) (orig .result) (h .result)
+    (number .ensures vector) (orig .ensures vector) (h .ensures) (w .result) (w .ensures (a .clock) (o .pre .later)) (instance .result) (dodagid .result)
+    (instance .ensures) (dodagid .ensures) (f .result) (g .result) (f .ensures .0 (a .clock) (o .pre .later)) (g .ensures .0 (a .clock) (o .pre .later)) in
+    let decided =
+    reply-is (a .clock) (a .seq) (a .t) rows routes (a .o) (a .k) (now (a .p)) vector (number .result) (orig .result) (h .result)
+    (number .ensures vector) (orig .ensures vector) (h .ensures) (w .result) (w .ensures (a .clock) (o .pre .later)) (is .result) (is .ensures)
+    (c .before .before .before .before .before .before .before .before .before .before .before .before .before .before .before .before .before .before .before .before .before .before .before .before .before .before .before .before .if1 .taken) in
+    let zero = sym (c .before .before .before .before .before .before .before .before .before .before .before .before .before .before .before .judge .ensures) ∙ (sym (c .before .before .before .before .before .before .before .before .before .before .before .before .before .before .number .ensures) ∙ c .before .before .before .before .before .before .before .before .before .before .before .before .before .if2 .left) in
+    let v = c .before .before .before .before .before .before .before .before .before .before .before .before .before .before .before .before .before .before .before .before .before .before .before .before .before .before .before .before .before .before .before .before .before .before .before .before .before .before .whole in
+    let d = c .before .before .before .before .before .before .before .before .before .before .before .accepted in
+    let there = c .before .before .before .before .before .before .before .before .before .forward-post in
+    let back = c .before .before .before .before .before .before .before .before .no-post in
+    let l = c .before .before .before .before .before .before .before .live-of in
+    let quiet : Posts (settingsOf (a .o)) vector [] Destination.nowhere (back .result) = rw (back .ensures) (posts-nothing (settingsOf (a .o)) vector) in
+    ready (f .result) (replyOf (f .result .row)) (g .result) (l .result) (l .ensures) (settingsOf (a .o)) (a .t) rows routes (now (a .forward))
+    (now (a .reply)) vector (there .result) (back .result) (f .ensures .1) (g .ensures .1) (o .pre .forwardRoom) (o .pre .replyRoom) (v .ensures .0)
+    (there .ensures .fits) (quiet .fits)
+
 same-length-3 : tie.Need-same-length-3
 same-length-3 c = search needs
 
 same-length-4 : tie.Need-same-length-4
 same-length-4 c = search needs
 
-returns : tie.Need-returns
-returns c = rw (reply-is (c .before .before .before .before .before .before .before .before .before .before .before .before .before .before .before .before .before .before .before .before .before .before .before .before .before .before .before .before .before .before .before .before .args .clock) (c .before .before .before .before .before .before .before .before .before .before .before .before .before .before .before .before .before .before .before .before .before .before .before .before .before .before .before .before .before .before .before .before .args .seq) (c .before .before .before .before .before .before .before .before .before .before .before .before .before .before .before .before .before .before .before .before .before .before .before .before .before .before .before .before .before .before .before .before .args .t) (now (c .before .before .before .before .before .before .before .before .before .before .before .before .before .before .before .before .before .before .before .before .before .before .before .before .before .before .before .before .before .before .before .before .args .instances)) (now (c .before .before .before .before .before .before .before .before .before .before .before .before .before .before .before .before .before .before .before .before .before .before .before .before .before .before .before .before .before .before .before .before .args .routes)) (c .before .before .before .before .before .before .before .before .before .before .before .before .before .before .before .before .before .before .before .before .before .before .before .before .before .before .before .before .before .before .before .before .args .o) (c .before .before .before .before .before .before .before .before .before .before .before .before .before .before .before .before .before .before .before .before .before .before .before .before .before .before .before .before .before .before .before .before .args .k) (c .before .before .before .before .before .before .before .before .before .before .before .before .before .before .before .before .before .before .before .before .before .before .before .before .before .before .before .before .before .before .before .before .args .p) (c .before .before .before .before .before .before .before .before .before .before .before .before .before .before .before .before .before .before .before .before .before .before .before .before .before .before .before .before .before .before .before .before .args .vector) _ _ _ (c .before .before .before .before .before .before .before .before .before .before .before .before .before .before .before .before .before .before .before .before .before .before .before .before .before .before .before .before .before .partner-number .ensures (c .before .before .before .before .before .before .before .before .before .before .before .before .before .before .before .before .before .before .before .before .before .before .before .before .before .before .before .before .before .before .before .before .args .vector)) (c .before .before .before .before .before .before .before .before .before .before .before .before .before .before .before .before .before .before .before .before .before .before .before .before .before .before .before .before .orig-node .ensures (c .before .before .before .before .before .before .before .before .before .before .before .before .before .before .before .before .before .before .before .before .before .before .before .before .before .before .before .before .before .before .before .before .args .vector)) (c .before .before .before .before .before .before .before .before .before .before .before .before .before .before .before .before .before .before .before .before .before .before .before .before .before .before .h-of .ensures) (c .before .before .before .before .before .before .before .before .before .before .before .before .before .before .before .before .before .before .before .before .before .before .before .before .before .search-partner .result) (c .before .before .before .before .before .before .before .before .before .before .before .before .before .before .before .before .before .before .before .before .before .before .before .before .before .search-partner .ensures (c .before .before .before .before .before .before .before .before .before .before .before .before .before .before .before .before .before .before .before .before .before .before .before .before .before .before .before .before .before .before .before .before .args .clock) (c .before .before .before .before .before .before .before .before .before .before .before .before .before .before .before .before .before .before .before .before .before .before .before .before .before .before .before .before .before .before .before .before .pre .later)) (c .before .before .before .before .before .before .before .before .before .before .before .before .before .before .before .before .before .before .before .before .before .before .before .before .is-found .result) (c .before .before .before .before .before .before .before .before .before .before .before .before .before .before .before .before .before .before .before .before .before .before .before .before .is-found .ensures) (c .before .before .before .before .before .before .before .before .before .before .before .before .before .before .before .before .before .before .before .before .before .before .before .if1 .taken)) (c .before .before .before .before .before .before .finish .ensures _ _ (settled (settingsOf (c .before .before .before .before .before .before .before .before .before .before .before .before .before .before .before .before .before .before .before .before .before .before .before .before .before .before .before .before .before .before .before .before .args .o)) (c .before .before .before .before .before .before .before .before .before .before .before .before .before .before .before .before .before .before .before .before .before .before .before .before .before .before .before .before .before .before .before .before .args .vector) _ _ (c .before .before .before .before .before .before .before .before .before .before .before .before .before .before .before .before .before .before .before .search-reply .result) (replyOf (c .before .before .before .before .before .before .before .before .before .before .before .before .before .before .before .before .before .before .before .search-reply .result .row)) (c .before .before .before .before .before .before .before .before .before .before .before .before .before .before .before .before .before .search-route .result) (c .before .before .before .before .before .before .before .before .before .before .before .before .before .before .before .decide .result) (reply-found-is _ _ _ _ _ _ _ (reply-given (c .before .before .before .before .before .before .before .before .before .before .before .before .before .before .before .before .before .before .before .before .before .before .before .before .before .before .before .before .before .before .before .before .args .clock) (c .before .before .before .before .before .before .before .before .before .before .before .before .before .before .before .before .before .before .before .before .before .before .before .before .before .before .before .before .before .before .before .before .args .seq) (c .before .before .before .before .before .before .before .before .before .before .before .before .before .before .before .before .before .before .before .before .before .before .before .before .before .before .before .before .before .before .before .before .args .t) (now (c .before .before .before .before .before .before .before .before .before .before .before .before .before .before .before .before .before .before .before .before .before .before .before .before .before .before .before .before .before .before .before .before .args .instances)) (now (c .before .before .before .before .before .before .before .before .before .before .before .before .before .before .before .before .before .before .before .before .before .before .before .before .before .before .before .before .before .before .before .before .args .routes)) (c .before .before .before .before .before .before .before .before .before .before .before .before .before .before .before .before .before .before .before .before .before .before .before .before .before .before .before .before .before .before .before .before .args .o) (c .before .before .before .before .before .before .before .before .before .before .before .before .before .before .before .before .before .before .before .before .before .before .before .before .before .before .before .before .before .before .before .before .args .k) (c .before .before .before .before .before .before .before .before .before .before .before .before .before .before .before .before .before .before .before .before .before .before .before .before .before .before .before .before .before .before .before .before .args .p) (c .before .before .before .before .before .before .before .before .before .before .before .before .before .before .before .before .before .before .before .before .before .before .before .before .before .before .before .before .before .before .before .before .args .vector) _ _ _ (c .before .before .before .before .before .before .before .before .before .before .before .before .before .before .before .before .before .before .before .before .before .before .before .before .before .before .before .before .before .partner-number .ensures (c .before .before .before .before .before .before .before .before .before .before .before .before .before .before .before .before .before .before .before .before .before .before .before .before .before .before .before .before .before .before .before .before .args .vector)) (c .before .before .before .before .before .before .before .before .before .before .before .before .before .before .before .before .before .before .before .before .before .before .before .before .before .before .before .before .orig-node .ensures (c .before .before .before .before .before .before .before .before .before .before .before .before .before .before .before .before .before .before .before .before .before .before .before .before .before .before .before .before .before .before .before .before .args .vector)) (c .before .before .before .before .before .before .before .before .before .before .before .before .before .before .before .before .before .before .before .before .before .before .before .before .before .before .h-of .ensures) (c .before .before .before .before .before .before .before .before .before .before .before .before .before .before .before .before .before .before .before .before .before .before .before .before .before .search-partner .result) (c .before .before .before .before .before .before .before .before .before .before .before .before .before .before .before .before .before .before .before .before .before .before .before .before .before .search-partner .ensures (c .before .before .before .before .before .before .before .before .before .before .before .before .before .before .before .before .before .before .before .before .before .before .before .before .before .before .before .before .before .before .before .before .args .clock) (c .before .before .before .before .before .before .before .before .before .before .before .before .before .before .before .before .before .before .before .before .before .before .before .before .before .before .before .before .before .before .before .before .pre .later)) _ _ (c .before .before .before .before .before .before .before .before .before .before .before .before .before .before .before .before .before .before .before .before .instance-of .ensures) (c .before .before .before .before .before .before .before .before .before .before .before .before .before .before .before .before .before .before .before .before .before .before .dodagid-of .ensures) (c .before .before .before .before .before .before .before .before .before .before .before .before .before .before .before .before .before .before .before .search-reply .result) (c .before .before .before .before .before .before .before .before .before .before .before .before .before .before .before .before .before .search-route .result) (c .before .before .before .before .before .before .before .before .before .before .before .before .before .before .before .before .before .before .before .search-reply .ensures .0 (c .before .before .before .before .before .before .before .before .before .before .before .before .before .before .before .before .before .before .before .before .before .before .before .before .before .before .before .before .before .before .before .before .args .clock) (c .before .before .before .before .before .before .before .before .before .before .before .before .before .before .before .before .before .before .before .before .before .before .before .before .before .before .before .before .before .before .before .before .pre .later)) (c .before .before .before .before .before .before .before .before .before .before .before .before .before .before .before .before .before .search-route .ensures .0 (c .before .before .before .before .before .before .before .before .before .before .before .before .before .before .before .before .before .before .before .before .before .before .before .before .before .before .before .before .before .before .before .before .args .clock) (c .before .before .before .before .before .before .before .before .before .before .before .before .before .before .before .before .before .before .before .before .before .before .before .before .before .before .before .before .before .before .before .before .pre .later)) (c .before .before .before .before .before .before .before .before .before .before .before .before .before .before .before .before .found-row .result) (c .before .before .before .before .before .before .before .before .before .before .before .before .before .before .before .decide .result) (c .before .before .before .before .before .before .before .before .before .before .before .before .before .before .before .before .found-row .ensures) (c .before .before .before .before .before .before .before .before .before .before .before .before .before .before .before .decide .ensures))) _ _ _ _ (c .before .before .before .before .before .before .before .before .before .before .is-found2 .ensures) (c .before .before .before .before .before .before .before .before .before .found-at .ensures) (c .before .before .before .before .before .before .before .before .is-route-found .ensures) (c .before .before .before .before .before .before .before .route-found-at .ensures)))
+same-length-5 : tie.Need-same-length-5
+same-length-5 c = search needs
+
+same-length-6 : tie.Need-same-length-6
+same-length-6 c = search needs
+
+returns-2 : tie.Need-returns-2
+returns-2 c =
+    let o = c .before .before .before .before .before .before .before .before .before .before .before .before .before .before .before .before .before .before .before .before .before .before .before .before .before .before .before .before .before .before .before .before .before .before .before .before .before .before .before .before .before .before .before .before .before .before .before .before in
+    let a = o .args in
+    let rows = now (a .instances) in
+    let routes = now (a .routes) in
+    let vector = now (a .vector) in
+    let number = c .before .before .before .before .before .before .before .before .before .before .before .before .before .before .before .before .before .before .before .before .before .before .before .before .before .before .before .before .before .before .before .before .before .before .before .before .before .before .before .before .before .before .before .partner-number in
+    let orig = c .before .before .before .before .before .before .before .before .before .before .before .before .before .before .before .before .before .before .before .before .before .before .before .before .before .before .before .before .before .before .before .before .before .before .before .before .before .before .before .before .before .orig-node in
+    let h = c .before .before .before .before .before .before .before .before .before .before .before .before .before .before .before .before .before .before .before .before .before .before .before .before .before .before .before .before .before .before .before .before .before .before .before .before .before .before .h-of in
+    let w = c .before .before .before .before .before .before .before .before .before .before .before .before .before .before .before .before .before .before .before .before .before .before .before .before .before .before .before .before .before .before .before .before .before .before .before .before .before .search-partner in
+    let is = c .before .before .before .before .before .before .before .before .before .before .before .before .before .before .before .before .before .before .before .before .before .before .before .before .before .before .before .before .before .before .before .before .before .before .before .before .is-found in
+    let dodagid = c .before .before .before .before .before .before .before .before .before .before .before .before .before .before .before .before .before .before .before .before .before .before .before .before .before .before .before .before .before .before .before .before .before .dodagid-of in
+    let instance = c .before .before .before .before .before .before .before .before .before .before .before .before .before .before .before .before .before .before .before .before .before .before .before .before .before .before .before .before .before .before .instance-of in
+    let f = c .before .before .before .before .before .before .before .before .before .before .before .before .before .before .before .before .before .before .before .before .before .before .before .before .before .before .before .before .before .search-reply in
+    let g = c .before .before .before .before .before .before .before .before .before .before .before .before .before .before .before .before .before .before .before .before .before .before .before .before .before .before .before .search-route in
+    let partner = c .before .before .before .before .before .before .before .before .before .before .before .before .before .before .before .before .before .before .before .before .before .before .before .before .before .found-row in
+    let facts = c .before .before .before .before .before .before .before .before .before .before .before .before .before .before .before .before .before .before .before .before .before .before .before .before .gather in
+    let found =
+    answered-is (a .clock) (a .seq) (a .t) rows routes (a .o) (a .k) (now (a .p)) vector (number .result) (orig .result) (h .result)
+    (number .ensures vector) (orig .ensures vector) (h .ensures) (w .result) (w .ensures (a .clock) (o .pre .later)) (instance .result) (dodagid .result)
+    (instance .ensures) (dodagid .ensures) (f .result) (g .result) (f .ensures .0 (a .clock) (o .pre .later)) (g .ensures .0 (a .clock) (o .pre .later)) in
+    let decided =
+    reply-is (a .clock) (a .seq) (a .t) rows routes (a .o) (a .k) (now (a .p)) vector (number .result) (orig .result) (h .result)
+    (number .ensures vector) (orig .ensures vector) (h .ensures) (w .result) (w .ensures (a .clock) (o .pre .later)) (is .result) (is .ensures)
+    (c .before .before .before .before .before .before .before .before .before .before .before .before .before .before .before .before .before .before .before .before .before .before .before .before .before .before .before .before .before .before .before .before .before .before .before .if1 .taken) in
+    let zero = sym (c .before .before .before .before .before .before .before .before .before .before .before .before .before .before .before .before .before .before .before .before .before .before .judge .ensures) ∙ (sym (c .before .before .before .before .before .before .before .before .before .before .before .before .before .before .before .before .before .before .before .before .before .number .ensures) ∙ c .before .before .before .before .before .before .before .before .before .before .before .before .before .before .before .before .before .before .before .before .if2 .left) in
+    let v = c .before .before .before .before .before .before .before .before .before .before .before .before .before .before .before .before .before .before .before .before .before .before .before .before .before .before .before .before .before .before .before .before .before .before .before .before .before .before .before .before .before .before .before .before .before .whole in
+    let d = c .before .before .before .before .before .before .before .before .before .before .before .before .before .before .before .before .before .before .accepted in
+    let there = c .before .before .before .before .before .before .before .before .before .before .before .before .before .before .before .before .forward-post in
+    let back = c .before .before .before .before .before .before .before .before .before .before .before .before .before .before .before .no-post in
+    let l = c .before .before .before .before .before .before .before .before .before .before .before .before .before .before .live-of in
+    let quiet : Posts (settingsOf (a .o)) vector [] Destination.nowhere (back .result) = rw (back .ensures) (posts-nothing (settingsOf (a .o)) vector) in
+    rw (reply-taken (a .clock) (a .seq) (a .t) rows routes (a .o) (a .k) (now (a .p)) vector (f .result) (g .result) (w .result .row) (partner .result) (partner .ensures) (facts .result) (facts .ensures vector) found decided zero)
+    (c .before .before .before .before .before .before .finish .ensures _
+    (reply-settled (a .clock) (a .seq) (a .t) rows routes (a .o) (a .k) (now (a .p)) vector (f .result) (g .result) (w .result .row) (partner .result) (partner .ensures) (facts .result) (facts .ensures vector) found decided (l .result) (l .ensures) (d .result) (there .result) (back .result) (d .ensures (settingsOf (a .o)) vector)
+    (there .ensures) quiet))
 
 no-partner-requires : tie.Need-no-partner-requires
 no-partner-requires c = search needs
 
-refused-requires : tie.Need-refused-requires
-refused-requires c = search needs
+refused-requires-2 : tie.Need-refused-requires-2
+refused-requires-2 c = search needs
 
-same-length-5 : tie.Need-same-length-5
-same-length-5 c = search needs
+same-length-7 : tie.Need-same-length-7
+same-length-7 c = search needs
 
-returns-2 : tie.Need-returns-2
-returns-2 c = rw (no-partner-is (c .before .before .before .before .before .before .before .before .before .before .before .args .clock) (c .before .before .before .before .before .before .before .before .before .before .before .args .seq) (c .before .before .before .before .before .before .before .before .before .before .before .args .t) (now (c .before .before .before .before .before .before .before .before .before .before .before .args .instances)) (now (c .before .before .before .before .before .before .before .before .before .before .before .args .routes)) (c .before .before .before .before .before .before .before .before .before .before .before .args .o) (c .before .before .before .before .before .before .before .before .before .before .before .args .k) (c .before .before .before .before .before .before .before .before .before .before .before .args .p) (c .before .before .before .before .before .before .before .before .before .before .before .args .vector) _ _ _ (c .before .before .before .before .before .before .before .before .partner-number .ensures (c .before .before .before .before .before .before .before .before .before .before .before .args .vector)) (c .before .before .before .before .before .before .before .orig-node .ensures (c .before .before .before .before .before .before .before .before .before .before .before .args .vector)) (c .before .before .before .before .before .h-of .ensures) (c .before .before .before .before .search-partner .result) (c .before .before .before .before .search-partner .ensures (c .before .before .before .before .before .before .before .before .before .before .before .args .clock) (c .before .before .before .before .before .before .before .before .before .before .before .pre .later)) (c .before .before .before .is-found .result) (c .before .before .before .is-found .ensures) (c .before .before .if1 .left)) (refused-gives (c .before .before .before .before .before .before .before .before .before .before .before .args .clock) (c .before .before .before .before .before .before .before .before .before .before .before .args .seq) (c .before .before .before .before .before .before .before .before .before .before .before .args .t) (now (c .before .before .before .before .before .before .before .before .before .before .before .args .instances)) (now (c .before .before .before .before .before .before .before .before .before .before .before .args .routes)) (now (c .before .before .before .before .before .before .before .before .before .before .before .args .forward)) (now (c .before .before .before .before .before .before .before .before .before .before .before .args .reply)) 8 (idle (viewOf (stateOf (c .before .before .before .before .before .before .before .before .before .before .before .args .clock) (c .before .before .before .before .before .before .before .before .before .before .before .args .seq) (now (c .before .before .before .before .before .before .before .before .before .before .before .args .instances)) (now (c .before .before .before .before .before .before .before .before .before .before .before .args .routes))))) _ (c .refused .result) (ap answerNumber (c .before .no-partner .ensures)) (λ z. absurd (omega arith)) (c .refused .ensures))
+returns-3 : tie.Need-returns-3
+returns-3 c =
+    let o = c .before .before .before .before .before .before .before .before .before .before .before .before .before .before .before in
+    let a = o .args in
+    let rows = now (a .instances) in
+    let routes = now (a .routes) in
+    let vector = now (a .vector) in
+    let number = c .before .before .before .before .before .before .before .before .before .before .partner-number in
+    let orig = c .before .before .before .before .before .before .before .before .orig-node in
+    let h = c .before .before .before .before .before .h-of in
+    let w = c .before .before .before .before .search-partner in
+    let is = c .before .before .before .is-found in
+    rw (no-partner-is (a .clock) (a .seq) (a .t) rows routes (a .o) (a .k) (now (a .p)) vector (number .result) (orig .result) (h .result)
+    (number .ensures vector) (orig .ensures vector) (h .ensures) (w .result) (w .ensures (a .clock) (o .pre .later)) (is .result) (is .ensures)
+    (c .before .before .if1 .left))
+    (refused-gives (a .clock) (a .seq) (a .t) rows routes (now (a .forward)) (now (a .reply)) 8 (idle (viewOf (stateOf (a .clock) (a .seq) rows routes))) _
+    (c .refused2 .result) (ap answerNumber (c .before .no-partner .ensures)) (λ z. absurd (omega arith)) (c .refused2 .ensures))
 
 pub take-reply-spec : {M : Type 1} → statement M
-take-reply-spec = tie.close (tie.spec partner-number-requires orig-node-requires h-of-requires search-partner-requires is-found-requires dodagid-of-requires instance-of-requires search-reply-requires search-route-requires found-row-requires decide-requires is-found-requires-2 found-at-requires is-route-found-requires route-found-at-requires finish-requires same-length same-length-2 same-length-3 same-length-4 returns no-partner-requires refused-requires same-length-5 returns-2)
+take-reply-spec = tie.close (tie.spec whole-requires partner-number-requires orig-node-requires h-of-requires search-partner-requires is-found-requires dodagid-of-requires instance-of-requires search-reply-requires search-route-requires found-row-requires gather-requires judge-requires number-requires refused-requires same-length same-length-2 returns accepted-requires forward-post-requires no-post-requires live-of-requires finish-requires same-length-3 same-length-4 same-length-5 same-length-6 returns-2 no-partner-requires refused-requires-2 same-length-7 returns-3)

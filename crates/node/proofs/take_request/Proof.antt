@@ -1,16 +1,20 @@
 pub mod Lts
 pub mod Tie
-use mathlib.Core.Path.{refl}
 use denote.Ref.{now}
-use Rattle.own.specs.Settings.{settingsOf}
+use mathlib.Core.Path.{sym, _∙_}
 use Rattle.row.specs.Meaning.{requestOf}
-use Rattle.node.specs.Taken.{requestDecision}
-use Rattle.node.proofs.Laws.{row-few, ready, settled, request-given, request-found-is}
+use Rattle.own.specs.Settings.{settingsOf}
+use Rattle.rule.proofs.Types.{own-sixteen}
+use Rattle.node.proofs.Laws.{row-few, asked-is, ready}
+use Rattle.node.proofs.Requested.{request-refused, request-sendable, request-room, request-taken, request-settled}
 use borrow.Author.Needs.{needs}
 use Rattle.node.proofs.take_request.Statement.{statement}
 use Rattle.node.proofs.take_request.Proof.Tie as tie
 use Rattle.node.proofs.take_request.Proof.Lts as lts
 use Rattle.node.proofs.Lent.take_request.Reads as reads
+
+whole-requires : tie.Need-whole-requires
+whole-requires c = search needs
 
 instance-of-requires : tie.Need-instance-of-requires
 instance-of-requires c = search needs
@@ -30,23 +34,23 @@ search-route-requires c = search needs
 free-delta-requires : tie.Need-free-delta-requires
 free-delta-requires c = search needs
 
-decide-requires : tie.Need-decide-requires
-decide-requires c κs = record { time = c .before .before .before .before .before .before .before .before .before .before .before .pre .time; heard = c .before .before .before .before .before .before .before .before .before .before .before .pre .heard; row = row-few (now (c .before .before .before .before .before .before .before .before .before .before .before .args .instances)) (c .before .before .before .before .before .before .before .before .before .before .before .args .t) (c .before .before .before .before .search-request .result) (c .before .before .before .before .before .before .before .before .before .before .before .pre .good) (c .before .before .before .before .search-request .ensures .1) (c .before .before .before .before .search-request .ensures .0 .1) }
+gather-requires : tie.Need-gather-requires
+gather-requires c κs =
+    let o = c .before .before .before .before .before .before .before .before .before .before .before .before .before .before .before in
+    let f = c .before .before .before .before .before .search-request in
+    (o .pre .heard, row-few (now (o .args .instances)) (o .args .t) (f .result) (o .pre .good) (f .ensures .1) (f .ensures .0 .1))
 
-is-found-requires : tie.Need-is-found-requires
-is-found-requires c = search needs
+judge-requires : tie.Need-judge-requires
+judge-requires c κs =
+    let o = c .before .before .before .before .before .before .before .before .before .before .before .before .before .before .before .before .before in
+    let w = c .before .before .before .before .before .before .before .before .before .before .before .before .before .before .whole in
+    (o .pre .heard, record { places = w .ensures .0; whole = w .ensures .1 })
 
-found-at-requires : tie.Need-found-at-requires
-found-at-requires c = search needs
+number-requires : tie.Need-number-requires
+number-requires c = search needs
 
-is-route-found-requires : tie.Need-is-route-found-requires
-is-route-found-requires c = search needs
-
-route-found-at-requires : tie.Need-route-found-at-requires
-route-found-at-requires c = search needs
-
-finish-requires : tie.Need-finish-requires
-finish-requires c κs = ready (settingsOf (c .before .before .before .before .before .before .before .before .before .before .before .before .before .before .before .before .before .before .before .before .args .o)) (c .before .before .before .before .before .before .before .before .before .before .before .before .before .before .before .before .before .before .before .before .args .vector) _ _ (c .before .before .before .before .before .before .before .before .before .before .before .before .before .search-request .result) (requestOf (c .before .before .before .before .before .before .before .before .before .before .before .before .before .search-request .result .row)) (c .before .before .before .before .before .before .before .before .before .before .before .search-route .result) (c .before .before .before .before .before .before .before .before .decide .result) (request-found-is _ _ _ _ _ _ _ (c .before .before .before .before .before .before .before .before .decide .ensures)) _ _ _ _ (c .before .before .before .is-found .ensures) (c .before .before .found-at .ensures) (c .before .is-route-found .ensures) (c .route-found-at .ensures) (c .before .before .before .before .before .before .before .before .before .before .before .before .before .before .before .before .before .before .before .before .args .t) (now (c .before .before .before .before .before .before .before .before .before .before .before .before .before .before .before .before .before .before .before .before .args .instances)) (now (c .before .before .before .before .before .before .before .before .before .before .before .before .before .before .before .before .before .before .before .before .args .routes)) (now (c .before .before .before .before .before .before .before .before .before .before .before .before .before .before .before .before .before .before .before .before .args .forward)) (now (c .before .before .before .before .before .before .before .before .before .before .before .before .before .before .before .before .before .before .before .before .args .reply)) (c .before .before .before .before .before .before .before .before .before .before .before .before .before .search-request .ensures .1) (c .before .before .before .before .before .before .before .before .before .before .before .search-route .ensures .1) (c .before .before .before .before .before .before .before .before .before .before .before .before .before .before .before .before .before .before .before .before .pre .forwardRoom) (c .before .before .before .before .before .before .before .before .before .before .before .before .before .before .before .before .before .before .before .before .pre .replyRoom)
+refused-requires : tie.Need-refused-requires
+refused-requires c = search needs
 
 same-length : tie.Need-same-length
 same-length c = search needs
@@ -54,15 +58,152 @@ same-length c = search needs
 same-length-2 : tie.Need-same-length-2
 same-length-2 c = search needs
 
+returns : tie.Need-returns
+returns c =
+    let o = c .before .before .before .before .before .before .before .before .before .before .before .before .before .before .before .before .before .before .before .before .before in
+    let a = o .args in
+    let rows = now (a .instances) in
+    let routes = now (a .routes) in
+    let vector = now (a .vector) in
+    let instance = c .before .before .before .before .before .before .before .before .before .before .before .before .before .before .before .before .instance-of in
+    let dodagid = c .before .before .before .before .before .before .before .before .before .before .before .before .before .before .dodagid-of in
+    let receiving = c .before .before .before .before .before .before .before .before .before .before .before .before .before .receiving-of in
+    let f = c .before .before .before .before .before .before .before .before .before .before .before .search-request in
+    let g = c .before .before .before .before .before .before .before .before .before .search-route in
+    let free = c .before .before .before .before .before .before .before .free-delta in
+    let facts = c .before .before .before .before .before .gather in
+    let found =
+    asked-is (a .clock) (a .seq) (a .t) rows routes (a .o) (a .k) (now (a .p)) vector (instance .result) (dodagid .result) (receiving .result)
+    (instance .ensures) (dodagid .ensures) (receiving .ensures) (f .result) (g .result) (free .result) (f .ensures .0 .0 (a .clock) (o .pre .later))
+    (g .ensures .0 (a .clock) (o .pre .later)) (free .ensures (a .clock) (o .pre .later)) in
+    request-refused (a .clock) (a .seq) (a .t) rows routes (a .o) (a .k) (now (a .p)) vector (f .result) (g .result) (free .result) (facts .result) (facts .ensures vector) found (now (a .forward)) (now (a .reply)) (c .before .before .before .judge .result)
+    (c .before .before .number .result) (c .refused .result) (c .before .before .before .judge .ensures) (c .before .before .number .ensures) (c .before .if1 .taken) (c .refused .ensures)
+
+accepted-requires : tie.Need-accepted-requires
+accepted-requires c κs =
+    let o = c .before .before .before .before .before .before .before .before .before .before .before .before .before .before .before .before .before .before .before .before .before in
+    let a = o .args in
+    let rows = now (a .instances) in
+    let routes = now (a .routes) in
+    let vector = now (a .vector) in
+    let instance = c .before .before .before .before .before .before .before .before .before .before .before .before .before .before .before .before .instance-of in
+    let dodagid = c .before .before .before .before .before .before .before .before .before .before .before .before .before .before .dodagid-of in
+    let receiving = c .before .before .before .before .before .before .before .before .before .before .before .before .before .receiving-of in
+    let f = c .before .before .before .before .before .before .before .before .before .before .before .search-request in
+    let g = c .before .before .before .before .before .before .before .before .before .search-route in
+    let free = c .before .before .before .before .before .before .before .free-delta in
+    let facts = c .before .before .before .before .before .gather in
+    let found =
+    asked-is (a .clock) (a .seq) (a .t) rows routes (a .o) (a .k) (now (a .p)) vector (instance .result) (dodagid .result) (receiving .result)
+    (instance .ensures) (dodagid .ensures) (receiving .ensures) (f .result) (g .result) (free .result) (f .ensures .0 .0 (a .clock) (o .pre .later))
+    (g .ensures .0 (a .clock) (o .pre .later)) (free .ensures (a .clock) (o .pre .later)) in
+    let zero = sym (c .before .before .before .judge .ensures) ∙ (sym (c .before .before .number .ensures) ∙ c .before .if1 .left) in
+    (o .pre .time, request-sendable (a .clock) (a .seq) (a .t) rows routes (a .o) (a .k) (now (a .p)) vector (f .result) (g .result) (free .result) (facts .result) (facts .ensures vector) found zero)
+
+forward-post-requires : tie.Need-forward-post-requires
+forward-post-requires c κs =
+    let o = c .before .before .before .before .before .before .before .before .before .before .before .before .before .before .before .before .before .before .before .before .before .before .before in
+    let a = o .args in
+    let rows = now (a .instances) in
+    let routes = now (a .routes) in
+    let vector = now (a .vector) in
+    let instance = c .before .before .before .before .before .before .before .before .before .before .before .before .before .before .before .before .before .before .instance-of in
+    let dodagid = c .before .before .before .before .before .before .before .before .before .before .before .before .before .before .before .before .dodagid-of in
+    let receiving = c .before .before .before .before .before .before .before .before .before .before .before .before .before .before .before .receiving-of in
+    let f = c .before .before .before .before .before .before .before .before .before .before .before .before .before .search-request in
+    let g = c .before .before .before .before .before .before .before .before .before .before .before .search-route in
+    let free = c .before .before .before .before .before .before .before .before .before .free-delta in
+    let facts = c .before .before .before .before .before .before .before .gather in
+    let found =
+    asked-is (a .clock) (a .seq) (a .t) rows routes (a .o) (a .k) (now (a .p)) vector (instance .result) (dodagid .result) (receiving .result)
+    (instance .ensures) (dodagid .ensures) (receiving .ensures) (f .result) (g .result) (free .result) (f .ensures .0 .0 (a .clock) (o .pre .later))
+    (g .ensures .0 (a .clock) (o .pre .later)) (free .ensures (a .clock) (o .pre .later)) in
+    let zero = sym (c .before .before .before .before .before .judge .ensures) ∙ (sym (c .before .before .before .before .number .ensures) ∙ c .before .before .before .if1 .left) in
+    (o .pre .heard, request-sendable (a .clock) (a .seq) (a .t) rows routes (a .o) (a .k) (now (a .p)) vector (f .result) (g .result) (free .result) (facts .result) (facts .ensures vector) found zero)
+
+reply-post-requires : tie.Need-reply-post-requires
+reply-post-requires c κs = c .before .before .before .before .before .before .before .before .before .before .before .before .before .before .before .before .before .before .before .before .before .before .before .before .before .pre .heard
+
+live-of-requires : tie.Need-live-of-requires
+live-of-requires c = search needs
+
+finish-requires : tie.Need-finish-requires
+finish-requires c κs =
+    let o = c .before .before .before .before .before .before .before .before .before .before .before .before .before .before .before .before .before .before .before .before .before .before .before .before .before .before .before .before .before .before .before .before .before .before in
+    let a = o .args in
+    let rows = now (a .instances) in
+    let routes = now (a .routes) in
+    let vector = now (a .vector) in
+    let instance = c .before .before .before .before .before .before .before .before .before .before .before .before .before .before .before .before .before .before .before .before .before .before .before .before .before .before .before .before .before .instance-of in
+    let dodagid = c .before .before .before .before .before .before .before .before .before .before .before .before .before .before .before .before .before .before .before .before .before .before .before .before .before .before .before .dodagid-of in
+    let receiving = c .before .before .before .before .before .before .before .before .before .before .before .before .before .before .before .before .before .before .before .before .before .before .before .before .before .before .receiving-of in
+    let f = c .before .before .before .before .before .before .before .before .before .before .before .before .before .before .before .before .before .before .before .before .before .before .before .before .search-request in
+    let g = c .before .before .before .before .before .before .before .before .before .before .before .before .before .before .before .before .before .before .before .before .before .before .search-route in
+    let free = c .before .before .before .before .before .before .before .before .before .before .before .before .before .before .before .before .before .before .before .before .free-delta in
+    let facts = c .before .before .before .before .before .before .before .before .before .before .before .before .before .before .before .before .before .before .gather in
+    let found =
+    asked-is (a .clock) (a .seq) (a .t) rows routes (a .o) (a .k) (now (a .p)) vector (instance .result) (dodagid .result) (receiving .result)
+    (instance .ensures) (dodagid .ensures) (receiving .ensures) (f .result) (g .result) (free .result) (f .ensures .0 .0 (a .clock) (o .pre .later))
+    (g .ensures .0 (a .clock) (o .pre .later)) (free .ensures (a .clock) (o .pre .later)) in
+    let zero = sym (c .before .before .before .before .before .before .before .before .before .before .before .before .before .before .before .before .judge .ensures) ∙ (sym (c .before .before .before .before .before .before .before .before .before .before .before .before .before .before .before .number .ensures) ∙ c .before .before .before .before .before .before .before .before .before .before .before .before .before .before .if1 .left) in
+    let sixteen = own-sixteen (a .o) _ (o .good .1 .1 .1 .1 .0) in
+    let w = c .before .before .before .before .before .before .before .before .before .before .before .before .before .before .before .before .before .before .before .before .before .before .before .before .before .before .before .before .before .before .before .whole in
+    let d = c .before .before .before .before .before .before .before .before .before .before .before .before .accepted in
+    let there = c .before .before .before .before .before .before .before .before .before .before .forward-post in
+    let back = c .before .before .before .before .before .before .before .before .reply-post in
+    let l = c .before .before .before .before .before .before .before .live-of in
+    let pf =
+    there .ensures (settingsOf (a .o)) (a .seq) (a .t) vector
+    (request-room (a .clock) (a .seq) (a .t) rows routes (a .o) (a .k) (now (a .p)) vector (f .result) (g .result) (free .result) (facts .result) (facts .ensures vector) found zero (o .pre .heard .addresses) (sixteen .0) (sixteen .1) (w .ensures .1)) in
+    let pr = back .ensures (a .t) vector (w .ensures .0) in
+    ready (f .result) (requestOf (f .result .row)) (g .result) (l .result) (l .ensures) (settingsOf (a .o)) (a .t) rows routes (now (a .forward))
+    (now (a .reply)) vector (there .result) (back .result) (f .ensures .1) (g .ensures .1) (o .pre .forwardRoom) (o .pre .replyRoom) (w .ensures .0)
+    (pf .fits) (pr .fits)
+
 same-length-3 : tie.Need-same-length-3
 same-length-3 c = search needs
 
 same-length-4 : tie.Need-same-length-4
 same-length-4 c = search needs
 
-returns : tie.Need-returns
-unfolding requestDecision
-returns c = c .before .before .before .before .before .before .finish .ensures _ _ (settled (settingsOf (c .before .before .before .before .before .before .before .before .before .before .before .before .before .before .before .before .before .before .before .before .before .before .before .before .before .before .before .args .o)) (c .before .before .before .before .before .before .before .before .before .before .before .before .before .before .before .before .before .before .before .before .before .before .before .before .before .before .before .args .vector) _ _ (c .before .before .before .before .before .before .before .before .before .before .before .before .before .before .before .before .before .before .before .before .search-request .result) (requestOf (c .before .before .before .before .before .before .before .before .before .before .before .before .before .before .before .before .before .before .before .before .search-request .result .row)) (c .before .before .before .before .before .before .before .before .before .before .before .before .before .before .before .before .before .before .search-route .result) (c .before .before .before .before .before .before .before .before .before .before .before .before .before .before .before .decide .result) (request-found-is _ _ _ _ _ _ _ (request-given (c .before .before .before .before .before .before .before .before .before .before .before .before .before .before .before .before .before .before .before .before .before .before .before .before .before .before .before .args .clock) (c .before .before .before .before .before .before .before .before .before .before .before .before .before .before .before .before .before .before .before .before .before .before .before .before .before .before .before .args .seq) (c .before .before .before .before .before .before .before .before .before .before .before .before .before .before .before .before .before .before .before .before .before .before .before .before .before .before .before .args .t) (now (c .before .before .before .before .before .before .before .before .before .before .before .before .before .before .before .before .before .before .before .before .before .before .before .before .before .before .before .args .instances)) (now (c .before .before .before .before .before .before .before .before .before .before .before .before .before .before .before .before .before .before .before .before .before .before .before .before .before .before .before .args .routes)) (c .before .before .before .before .before .before .before .before .before .before .before .before .before .before .before .before .before .before .before .before .before .before .before .before .before .before .before .args .o) (c .before .before .before .before .before .before .before .before .before .before .before .before .before .before .before .before .before .before .before .before .before .before .before .before .before .before .before .args .k) (c .before .before .before .before .before .before .before .before .before .before .before .before .before .before .before .before .before .before .before .before .before .before .before .before .before .before .before .args .p) (c .before .before .before .before .before .before .before .before .before .before .before .before .before .before .before .before .before .before .before .before .before .before .before .before .before .before .before .args .vector) _ _ _ (c .before .before .before .before .before .before .before .before .before .before .before .before .before .before .before .before .before .before .before .before .before .before .before .before .instance-of .ensures) (c .before .before .before .before .before .before .before .before .before .before .before .before .before .before .before .before .before .before .before .before .before .before .before .dodagid-of .ensures) (c .before .before .before .before .before .before .before .before .before .before .before .before .before .before .before .before .before .before .before .before .before .before .receiving-of .ensures) (c .before .before .before .before .before .before .before .before .before .before .before .before .before .before .before .before .before .before .before .before .search-request .result) (c .before .before .before .before .before .before .before .before .before .before .before .before .before .before .before .before .before .before .search-route .result) (c .before .before .before .before .before .before .before .before .before .before .before .before .before .before .before .before .free-delta .result) (c .before .before .before .before .before .before .before .before .before .before .before .before .before .before .before .before .before .before .before .before .search-request .ensures .0 .0 (c .before .before .before .before .before .before .before .before .before .before .before .before .before .before .before .before .before .before .before .before .before .before .before .before .before .before .before .args .clock) (c .before .before .before .before .before .before .before .before .before .before .before .before .before .before .before .before .before .before .before .before .before .before .before .before .before .before .before .pre .later)) (c .before .before .before .before .before .before .before .before .before .before .before .before .before .before .before .before .before .before .search-route .ensures .0 (c .before .before .before .before .before .before .before .before .before .before .before .before .before .before .before .before .before .before .before .before .before .before .before .before .before .before .before .args .clock) (c .before .before .before .before .before .before .before .before .before .before .before .before .before .before .before .before .before .before .before .before .before .before .before .before .before .before .before .pre .later)) (c .before .before .before .before .before .before .before .before .before .before .before .before .before .before .before .before .free-delta .ensures (c .before .before .before .before .before .before .before .before .before .before .before .before .before .before .before .before .before .before .before .before .before .before .before .before .before .before .before .args .clock) (c .before .before .before .before .before .before .before .before .before .before .before .before .before .before .before .before .before .before .before .before .before .before .before .before .before .before .before .pre .later)) _ (c .before .before .before .before .before .before .before .before .before .before .before .before .before .before .before .decide .result) refl (c .before .before .before .before .before .before .before .before .before .before .before .before .before .before .before .decide .ensures))) _ _ _ _ (c .before .before .before .before .before .before .before .before .before .before .is-found .ensures) (c .before .before .before .before .before .before .before .before .before .found-at .ensures) (c .before .before .before .before .before .before .before .before .is-route-found .ensures) (c .before .before .before .before .before .before .before .route-found-at .ensures))
+same-length-5 : tie.Need-same-length-5
+same-length-5 c = search needs
+
+same-length-6 : tie.Need-same-length-6
+same-length-6 c = search needs
+
+returns-2 : tie.Need-returns-2
+returns-2 c =
+    let o = c .before .before .before .before .before .before .before .before .before .before .before .before .before .before .before .before .before .before .before .before .before .before .before .before .before .before .before .before .before .before .before .before .before .before .before .before .before .before .before .before .before in
+    let a = o .args in
+    let rows = now (a .instances) in
+    let routes = now (a .routes) in
+    let vector = now (a .vector) in
+    let instance = c .before .before .before .before .before .before .before .before .before .before .before .before .before .before .before .before .before .before .before .before .before .before .before .before .before .before .before .before .before .before .before .before .before .before .before .before .instance-of in
+    let dodagid = c .before .before .before .before .before .before .before .before .before .before .before .before .before .before .before .before .before .before .before .before .before .before .before .before .before .before .before .before .before .before .before .before .before .before .dodagid-of in
+    let receiving = c .before .before .before .before .before .before .before .before .before .before .before .before .before .before .before .before .before .before .before .before .before .before .before .before .before .before .before .before .before .before .before .before .before .receiving-of in
+    let f = c .before .before .before .before .before .before .before .before .before .before .before .before .before .before .before .before .before .before .before .before .before .before .before .before .before .before .before .before .before .before .before .search-request in
+    let g = c .before .before .before .before .before .before .before .before .before .before .before .before .before .before .before .before .before .before .before .before .before .before .before .before .before .before .before .before .before .search-route in
+    let free = c .before .before .before .before .before .before .before .before .before .before .before .before .before .before .before .before .before .before .before .before .before .before .before .before .before .before .before .free-delta in
+    let facts = c .before .before .before .before .before .before .before .before .before .before .before .before .before .before .before .before .before .before .before .before .before .before .before .before .before .gather in
+    let found =
+    asked-is (a .clock) (a .seq) (a .t) rows routes (a .o) (a .k) (now (a .p)) vector (instance .result) (dodagid .result) (receiving .result)
+    (instance .ensures) (dodagid .ensures) (receiving .ensures) (f .result) (g .result) (free .result) (f .ensures .0 .0 (a .clock) (o .pre .later))
+    (g .ensures .0 (a .clock) (o .pre .later)) (free .ensures (a .clock) (o .pre .later)) in
+    let zero = sym (c .before .before .before .before .before .before .before .before .before .before .before .before .before .before .before .before .before .before .before .before .before .before .before .judge .ensures) ∙ (sym (c .before .before .before .before .before .before .before .before .before .before .before .before .before .before .before .before .before .before .before .before .before .before .number .ensures) ∙ c .before .before .before .before .before .before .before .before .before .before .before .before .before .before .before .before .before .before .before .before .before .if1 .left) in
+    let sixteen = own-sixteen (a .o) _ (o .good .1 .1 .1 .1 .0) in
+    let w = c .before .before .before .before .before .before .before .before .before .before .before .before .before .before .before .before .before .before .before .before .before .before .before .before .before .before .before .before .before .before .before .before .before .before .before .before .before .before .whole in
+    let d = c .before .before .before .before .before .before .before .before .before .before .before .before .before .before .before .before .before .before .before .accepted in
+    let there = c .before .before .before .before .before .before .before .before .before .before .before .before .before .before .before .before .before .forward-post in
+    let back = c .before .before .before .before .before .before .before .before .before .before .before .before .before .before .before .reply-post in
+    let l = c .before .before .before .before .before .before .before .before .before .before .before .before .before .before .live-of in
+    let pf =
+    there .ensures (settingsOf (a .o)) (a .seq) (a .t) vector
+    (request-room (a .clock) (a .seq) (a .t) rows routes (a .o) (a .k) (now (a .p)) vector (f .result) (g .result) (free .result) (facts .result) (facts .ensures vector) found zero (o .pre .heard .addresses) (sixteen .0) (sixteen .1) (w .ensures .1)) in
+    let pr = back .ensures (a .t) vector (w .ensures .0) in
+    rw (request-taken (a .clock) (a .seq) (a .t) rows routes (a .o) (a .k) (now (a .p)) vector (f .result) (g .result) (free .result) (facts .result) (facts .ensures vector) found zero)
+    (c .before .before .before .before .before .before .finish .ensures _
+    (request-settled (a .clock) (a .seq) (a .t) rows routes (a .o) (a .k) (now (a .p)) vector (f .result) (g .result) (free .result) (facts .result) (facts .ensures vector) found (l .result) (l .ensures) (d .result) (there .result) (back .result) (d .ensures vector) pf pr))
 
 pub take-request-spec : {M : Type 1} → statement M
-take-request-spec = tie.close (tie.spec instance-of-requires dodagid-of-requires receiving-of-requires search-request-requires search-route-requires free-delta-requires decide-requires is-found-requires found-at-requires is-route-found-requires route-found-at-requires finish-requires same-length same-length-2 same-length-3 same-length-4 returns)
+take-request-spec = tie.close (tie.spec whole-requires instance-of-requires dodagid-of-requires receiving-of-requires search-request-requires search-route-requires free-delta-requires gather-requires judge-requires number-requires refused-requires same-length same-length-2 returns accepted-requires forward-post-requires reply-post-requires live-of-requires finish-requires same-length-3 same-length-4 same-length-5 same-length-6 returns-2)

@@ -1,11 +1,19 @@
 pub mod Lts
 pub mod Tie
-use mathlib.Core.Path.{refl}
-use mathlib.Core.List.{[]}
 use denote.Ref.{now}
+use mathlib.Core.Path.{sym, ap, _∙_}
+use lib.ListN.{length, length-replicate}
+use Rattle.plain.specs.Address.{zeroAddress}
+use mathlib.Core.List.{[]}
+use borrow.Author.Tests.{eq-eqb}
+use Rattle.plain.specs.Given.{Destination}
+use Rattle.plain.specs.Request.{acceptStart}
 use Rattle.own.specs.Settings.{settingsOf}
+use Rattle.decision.specs.Decision.{Posts}
+use Rattle.rule.proofs.Laws.{posts-nothing}
+use Rattle.finish.proofs.Laws.{refused-gives}
 use Rattle.node.specs.Taken.{startDecision}
-use Rattle.node.proofs.Laws.{start-given, new-settled, new-ready}
+use Rattle.node.proofs.Laws.{start-answer, new-settled, new-ready}
 use borrow.Author.Needs.{needs}
 use Rattle.node.proofs.take_start.Statement.{statement}
 use Rattle.node.proofs.take_start.Proof.Tie as tie
@@ -24,17 +32,72 @@ search-request-requires c = search needs
 is-found-requires : tie.Need-is-found-requires
 is-found-requires c = search needs
 
-start-requires : tie.Need-start-requires
-start-requires c κs = c .before .before .before .before .before .before .before .pre .sound
+judge-requires : tie.Need-judge-requires
+judge-requires c = search needs
+
+number-requires : tie.Need-number-requires
+number-requires c = search needs
+
+refused-requires : tie.Need-refused-requires
+refused-requires c = search needs
+
+same-length : tie.Need-same-length
+same-length c = search needs
+
+returns : tie.Need-returns
+unfolding startDecision
+returns c =
+    λ targets.
+    let o = c .before .before .before .before .before .before .before .before .before .before .before in
+    let a = o .args in
+    let rows = now (a .instances) in
+    let routes = now (a .routes) in
+    let receiving = c .before .before .before .before .before .before .before .before .receiving-of in
+    let instance = c .before .before .before .before .before .before .asked-instance in
+    let f = c .before .before .before .before .before .search-request in
+    let is = c .before .before .before .before .is-found in
+    let judge = c .before .before .before .judge in
+    let number = c .before .before .number in
+    let e =
+    judge .ensures ∙ start-answer (a .clock) (a .seq) (a .t) rows routes (a .o) (a .s) (a .ts) (instance .result) (receiving .result) (instance .ensures) (receiving .ensures) (f .result) (is .result) (is .ensures) (f .ensures .0 .0 (a .clock) (o .pre .later)) targets in
+    refused-gives (a .clock) (a .seq) (a .t) rows routes (now (a .forward)) (now (a .reply)) _ _ (judge .result) (c .refused .result) e
+    (λ z. c .before .if1 .taken (number .ensures ∙ (e ∙ z))) (c .refused .ensures)
+
+accepted-requires : tie.Need-accepted-requires
+accepted-requires c = search needs
+
+start-post-requires : tie.Need-start-post-requires
+start-post-requires c κs = c .before .before .before .before .before .before .before .before .before .before .before .pre .sendable
+
+no-post-requires : tie.Need-no-post-requires
+no-post-requires c = search needs
 
 no-vector-requires : tie.Need-no-vector-requires
 no-vector-requires c = search needs
 
-finish-requires : tie.Need-finish-requires
-finish-requires c κs = new-ready (settingsOf (c .before .before .before .before .before .before .before .before .before .before .before .before .before .args .o)) (c .no-vector .result) _ _ (c .before .before .before .before .before .start .result) (start-given (c .before .before .before .before .before .before .before .before .before .before .before .before .before .args .clock) (c .before .before .before .before .before .before .before .before .before .before .before .before .before .args .seq) (c .before .before .before .before .before .before .before .before .before .before .before .before .before .args .t) (now (c .before .before .before .before .before .before .before .before .before .before .before .before .before .args .instances)) (now (c .before .before .before .before .before .before .before .before .before .before .before .before .before .args .routes)) (c .before .before .before .before .before .before .before .before .before .before .before .before .before .args .o) (c .before .before .before .before .before .before .before .before .before .before .before .before .before .args .s) (c .before .before .before .before .before .before .before .before .before .before .before .before .before .args .ts) (c .before .before .before .before .before .before .before .before .asked-instance .result) (c .before .before .before .before .before .before .before .before .before .before .receiving-of .result) (c .before .before .before .before .before .before .before .before .asked-instance .ensures) (c .before .before .before .before .before .before .before .before .before .before .receiving-of .ensures) (c .before .before .before .before .before .before .before .search-request .result) (c .before .before .before .before .before .before .is-found .result) (c .before .before .before .before .before .before .is-found .ensures) (c .before .before .before .before .before .before .before .search-request .ensures .0 .0 (c .before .before .before .before .before .before .before .before .before .before .before .before .before .args .clock) (c .before .before .before .before .before .before .before .before .before .before .before .before .before .pre .later)) (c .before .before .before .before .before .start .result) (c .no-vector .result) [] (c .before .before .before .before .before .start .ensures (c .no-vector .result) [])) (c .before .before .before .before .before .before .before .before .before .before .before .before .before .args .t) (now (c .before .before .before .before .before .before .before .before .before .before .before .before .before .args .instances)) (now (c .before .before .before .before .before .before .before .before .before .before .before .before .before .args .routes)) (now (c .before .before .before .before .before .before .before .before .before .before .before .before .before .args .forward)) (now (c .before .before .before .before .before .before .before .before .before .before .before .before .before .args .reply)) (c .before .before .before .before .before .before .before .before .before .before .before .before .before .pre .forwardRoom) (c .before .before .before .before .before .before .before .before .before .before .before .before .before .pre .replyRoom)
+none-live-requires : tie.Need-none-live-requires
+none-live-requires c = search needs
 
-same-length : tie.Need-same-length
-same-length c = search needs
+finish-requires : tie.Need-finish-requires
+finish-requires c κs =
+    let o = c .before .before .before .before .before .before .before .before .before .before .before .before .before .before .before .before .before .before .before .before .before .before .before in
+    let a = o .args in
+    let rows = now (a .instances) in
+    let routes = now (a .routes) in
+    let receiving = c .before .before .before .before .before .before .before .before .before .before .before .before .before .before .before .before .before .before .before .before .receiving-of in
+    let instance = c .before .before .before .before .before .before .before .before .before .before .before .before .before .before .before .before .before .before .asked-instance in
+    let f = c .before .before .before .before .before .before .before .before .before .before .before .before .before .before .before .before .before .search-request in
+    let is = c .before .before .before .before .before .before .before .before .before .before .before .before .before .before .before .before .is-found in
+    let judge = c .before .before .before .before .before .before .before .before .before .before .before .before .before .before .before .judge in
+    let number = c .before .before .before .before .before .before .before .before .before .before .before .before .before .before .number in
+    let d = c .before .before .before .before .before .before .before .before .before .before .before .before .accepted in
+    let there = c .before .before .before .before .before .before .before .before .before .before .before .start-post in
+    let back = c .before .before .before .before .before .before .before .before .before .before .no-post in
+    let vector = c .before .before .before .before .before .before .before .before .before .no-vector .result in
+    let l = c .none-live in
+    let quiet : Posts (settingsOf (a .o)) vector [] Destination.nowhere (back .result) = rw (back .ensures) (posts-nothing (settingsOf (a .o)) vector) in
+    new-ready (l .result) (l .ensures) (settingsOf (a .o)) (a .t) rows routes (now (a .forward)) (now (a .reply)) vector (there .result) (back .result)
+    (o .pre .forwardRoom) (o .pre .replyRoom) (ap length (c .before .before .before .before .before .before .before .before .before .no-vector .ensures) ∙ length-replicate 16 zeroAddress) (there .ensures (a .t) vector [] .fits) (quiet .fits)
 
 same-length-2 : tie.Need-same-length-2
 same-length-2 c = search needs
@@ -45,9 +108,34 @@ same-length-3 c = search needs
 same-length-4 : tie.Need-same-length-4
 same-length-4 c = search needs
 
-returns : tie.Need-returns
-unfolding startDecision
-returns c = λ targets. c .before .before .before .before .before .before .finish .ensures _ _ (new-settled (settingsOf (c .before .before .before .before .before .before .before .before .before .before .before .before .before .before .before .before .before .before .before .before .args .o)) (c .before .before .before .before .before .before .before .no-vector .result) _ _ (c .before .before .before .before .before .before .before .before .before .before .before .before .start .result) (start-given (c .before .before .before .before .before .before .before .before .before .before .before .before .before .before .before .before .before .before .before .before .args .clock) (c .before .before .before .before .before .before .before .before .before .before .before .before .before .before .before .before .before .before .before .before .args .seq) (c .before .before .before .before .before .before .before .before .before .before .before .before .before .before .before .before .before .before .before .before .args .t) (now (c .before .before .before .before .before .before .before .before .before .before .before .before .before .before .before .before .before .before .before .before .args .instances)) (now (c .before .before .before .before .before .before .before .before .before .before .before .before .before .before .before .before .before .before .before .before .args .routes)) (c .before .before .before .before .before .before .before .before .before .before .before .before .before .before .before .before .before .before .before .before .args .o) (c .before .before .before .before .before .before .before .before .before .before .before .before .before .before .before .before .before .before .before .before .args .s) (c .before .before .before .before .before .before .before .before .before .before .before .before .before .before .before .before .before .before .before .before .args .ts) (c .before .before .before .before .before .before .before .before .before .before .before .before .before .before .before .asked-instance .result) (c .before .before .before .before .before .before .before .before .before .before .before .before .before .before .before .before .before .receiving-of .result) (c .before .before .before .before .before .before .before .before .before .before .before .before .before .before .before .asked-instance .ensures) (c .before .before .before .before .before .before .before .before .before .before .before .before .before .before .before .before .before .receiving-of .ensures) (c .before .before .before .before .before .before .before .before .before .before .before .before .before .before .search-request .result) (c .before .before .before .before .before .before .before .before .before .before .before .before .before .is-found .result) (c .before .before .before .before .before .before .before .before .before .before .before .before .before .is-found .ensures) (c .before .before .before .before .before .before .before .before .before .before .before .before .before .before .search-request .ensures .0 .0 (c .before .before .before .before .before .before .before .before .before .before .before .before .before .before .before .before .before .before .before .before .args .clock) (c .before .before .before .before .before .before .before .before .before .before .before .before .before .before .before .before .before .before .before .before .pre .later)) (c .before .before .before .before .before .before .before .before .before .before .before .before .start .result) (c .before .before .before .before .before .before .before .no-vector .result) targets (c .before .before .before .before .before .before .before .before .before .before .before .before .start .ensures (c .before .before .before .before .before .before .before .no-vector .result) targets)))
+same-length-5 : tie.Need-same-length-5
+same-length-5 c = search needs
+
+returns-2 : tie.Need-returns-2
+unfolding startDecision acceptStart
+returns-2 c =
+    λ targets.
+    let o = c .before .before .before .before .before .before .before .before .before .before .before .before .before .before .before .before .before .before .before .before .before .before .before .before .before .before .before .before .before .before in
+    let a = o .args in
+    let rows = now (a .instances) in
+    let routes = now (a .routes) in
+    let receiving = c .before .before .before .before .before .before .before .before .before .before .before .before .before .before .before .before .before .before .before .before .before .before .before .before .before .before .before .receiving-of in
+    let instance = c .before .before .before .before .before .before .before .before .before .before .before .before .before .before .before .before .before .before .before .before .before .before .before .before .before .asked-instance in
+    let f = c .before .before .before .before .before .before .before .before .before .before .before .before .before .before .before .before .before .before .before .before .before .before .before .before .search-request in
+    let is = c .before .before .before .before .before .before .before .before .before .before .before .before .before .before .before .before .before .before .before .before .before .before .before .is-found in
+    let judge = c .before .before .before .before .before .before .before .before .before .before .before .before .before .before .before .before .before .before .before .before .before .before .judge in
+    let number = c .before .before .before .before .before .before .before .before .before .before .before .before .before .before .before .before .before .before .before .before .before .number in
+    let d = c .before .before .before .before .before .before .before .before .before .before .before .before .before .before .before .before .before .before .before .accepted in
+    let there = c .before .before .before .before .before .before .before .before .before .before .before .before .before .before .before .before .before .before .start-post in
+    let back = c .before .before .before .before .before .before .before .before .before .before .before .before .before .before .before .before .before .no-post in
+    let vector = c .before .before .before .before .before .before .before .before .before .before .before .before .before .before .before .before .no-vector .result in
+    let l = c .before .before .before .before .before .before .before .none-live in
+    let quiet : Posts (settingsOf (a .o)) vector [] Destination.nowhere (back .result) = rw (back .ensures) (posts-nothing (settingsOf (a .o)) vector) in
+    let zero = sym (start-answer (a .clock) (a .seq) (a .t) rows routes (a .o) (a .s) (a .ts) (instance .result) (receiving .result) (instance .ensures) (receiving .ensures) (f .result) (is .result) (is .ensures) (f .ensures .0 .0 (a .clock) (o .pre .later)) targets) ∙ (sym (judge .ensures) ∙ (sym (number .ensures) ∙ c .before .before .before .before .before .before .before .before .before .before .before .before .before .before .before .before .before .before .before .before .if1 .left)) in
+    rw (eq-eqb _ 0 zero)
+    (c .before .before .before .before .before .before .finish .ensures _
+    (new-settled (l .result) (l .ensures) (settingsOf (a .o)) vector _ (d .result) (there .result) (back .result) (d .ensures targets)
+    (there .ensures (a .t) vector targets) quiet))
 
 pub take-start-spec : {M : Type 1} → statement M
-take-start-spec = tie.close (tie.spec receiving-of-requires asked-instance-requires search-request-requires is-found-requires start-requires no-vector-requires finish-requires same-length same-length-2 same-length-3 same-length-4 returns)
+take-start-spec = tie.close (tie.spec receiving-of-requires asked-instance-requires search-request-requires is-found-requires judge-requires number-requires refused-requires same-length returns accepted-requires start-post-requires no-post-requires no-vector-requires none-live-requires finish-requires same-length-2 same-length-3 same-length-4 same-length-5 returns-2)

@@ -1,56 +1,75 @@
+pub mod Lts
+pub mod Tie
+use denote.Ref.{now}
+use mathlib.Core.Path.{sym, _∙_}
 use Rattle.own.specs.Settings.{settingsOf}
 use Rattle.post.proofs.Laws.{grown-sendable, grown-fits, grown-written, plain-sendable, plain-written}
 use borrow.Author.Needs.{needs}
 use Rattle.post.proofs.put_dio.Statement.{statement}
-use Rattle.post.proofs.put_dio.Tie as tie
-use Rattle.post.proofs.put_dio.Reads as reads
-use Rattle.post.proofs.put_dio.Lts as lts
-use Rattle.own.proofs.grown_count.Reads as grown-count-reads
-use Rattle.own.proofs.grown_vector.Reads as grown-vector-reads
-use Rattle.post.proofs.put_parsed.Reads as put-parsed-reads
-use Rattle.lemmas.proofs.Cases.{cases}
+use Rattle.post.proofs.put_dio.Proof.Tie as tie
+use Rattle.post.proofs.put_dio.Proof.Lts as lts
+use Rattle.post.proofs.Lent.put_dio.Reads as reads
 
--- src/lib.rt:46:13
+addresses-of-requires : tie.Need-addresses-of-requires
+addresses-of-requires c = search needs
+
+is-grown-requires : tie.Need-is-grown-requires
+is-grown-requires c = search needs
+
 grown-count-requires : tie.Need-grown-count-requires
-grown-count-requires c κs = search needs
+grown-count-requires c = search needs
 
--- src/lib.rt:47:13
 grown-vector-requires : tie.Need-grown-vector-requires
-grown-vector-requires c κs = grown-fits (settingsOf (c .before .before .before .before .args .o)) (c .before .before .before .before .args .p) (c .before .before .before .before .args .vector) (c .before .before .before .before .pre .0) (search needs) (c .before .if1 .taken)
+grown-vector-requires c κs =
+    let o = c .before .before .before .before .before .before .before in
+    let k = c .before .before .before .before .addresses-of in
+    grown-fits (settingsOf (o .args .o)) (now (o .args .p)) (now (o .args .vector)) (o .pre .0) (o .pre .1) (sym (c .before .before .is-grown .ensures) ∙ c .before .if1 .taken)
+    (k .result) (k .ensures)
 
--- src/lib.rt:48:9
 put-parsed-requires : tie.Need-put-parsed-requires
-put-parsed-requires c κs = let e = c .before .before .grown-count .ensures in (rw e (grown-sendable (settingsOf (c .before .before .before .before .before .before .args .o)) (c .before .before .before .before .before .before .args .p) (c .before .before .before .before .before .before .args .vector) (c .before .before .before .before .before .before .pre .0) (search needs) (c .before .before .before .if1 .taken)), c .before .before .before .before .before .before .pre .0 .targets, c .before .before .before .before .before .before .pre .0 .prefixes, search needs)
+put-parsed-requires c κs =
+    let o = c .before .before .before .before .before .before .before .before .before .before in
+    let k = c .before .before .before .before .before .before .before .addresses-of in
+    let n = c .before .before .before .grown-count in (
+      grown-sendable (settingsOf (o .args .o)) (now (o .args .p)) (now (o .args .vector)) (o .pre .0) (o .pre .1)
+          (sym (c .before .before .before .before .before .is-grown .ensures) ∙ c .before .before .before .before .if1 .taken) (k .result) (n .result) (k .ensures) (n .ensures),
+      o .pre .0 .targets,
+      o .pre .0 .prefixes,
+      search needs,
+    )
 
--- src/lib.rt:48:9
 same-length : tie.Need-same-length
 same-length c = search needs
 
--- src/lib.rt:48:9
 returns : tie.Need-returns
-returns c = grown-written (settingsOf (c .before .before .before .before .before .before .before .before .before .args .o)) (c .before .before .before .before .before .before .before .before .before .args .p) (c .before .before .before .before .before .before .before .before .before .args .vector) (c .before .before .before .before .before .before .before .before .before .pre .0) (search needs) (c .before .before .before .before .before .before .if1 .taken) _ _ _ _ _ (c .before .before .before .before .before .grown-count .ensures) (c .before .before .before .before .grown-vector .ensures) (c .before .before .put-parsed .ensures)
+returns c =
+    let o = c .before .before .before .before .before .before .before .before .before .before .before .before .before in
+    let k = c .before .before .before .before .before .before .before .before .before .before .addresses-of in
+    let n = c .before .before .before .before .before .before .grown-count in
+    grown-written (settingsOf (o .args .o)) (now (o .args .p)) (now (o .args .vector)) (o .pre .0) (o .pre .1)
+    (sym (c .before .before .before .before .before .before .before .before .is-grown .ensures) ∙ c .before .before .before .before .before .before .before .if1 .taken) (k .result) (n .result) (k .ensures) (n .ensures) _ _ _ _ (c .before .before .before .before .before .grown-vector .ensures)
+    (c .before .before .put-parsed .ensures)
 
--- src/lib.rt:50:5
 put-parsed-requires-2 : tie.Need-put-parsed-requires-2
-put-parsed-requires-2 c κs = (plain-sendable (settingsOf (c .before .before .before .before .args .o)) (c .before .before .before .before .args .p) (c .before .before .before .before .args .vector) (c .before .before .before .before .pre .0) (search needs) (c .before .if1 .left), c .before .before .before .before .pre .0 .targets, c .before .before .before .before .pre .0 .prefixes, search needs)
+put-parsed-requires-2 c κs =
+    let o = c .before .before .before .before .before .before .before in
+    let k = c .before .before .before .before .addresses-of in (
+      plain-sendable (settingsOf (o .args .o)) (now (o .args .p)) (now (o .args .vector)) (o .pre .0) (o .pre .1)
+          (sym (c .before .before .is-grown .ensures) ∙ c .before .if1 .left) (k .result) (k .ensures),
+      o .pre .0 .targets,
+      o .pre .0 .prefixes,
+      search needs,
+    )
 
--- src/lib.rt:40:1
 same-length-2 : tie.Need-same-length-2
 same-length-2 c = search needs
 
--- src/lib.rt:40:1
 returns-2 : tie.Need-returns-2
-returns-2 c = plain-written (settingsOf (c .before .before .before .before .before .before .before .args .o)) (c .before .before .before .before .before .before .before .args .p) (c .before .before .before .before .before .before .before .args .vector) (c .before .before .before .before .before .before .before .pre .0) (search needs) (c .before .before .before .before .if1 .left) _ _ _ (c .before .before .put-parsed2 .ensures)
+returns-2 c =
+    let o = c .before .before .before .before .before .before .before .before .before .before in
+    let k = c .before .before .before .before .before .before .before .addresses-of in
+    plain-written (settingsOf (o .args .o)) (now (o .args .p)) (now (o .args .vector)) (o .pre .0) (o .pre .1)
+    (sym (c .before .before .before .before .before .is-grown .ensures) ∙ c .before .before .before .before .if1 .left) (k .result) (k .ensures) _ _ _ (c .before .before .put-parsed2 .ensures)
 
 pub put-dio-spec : {M : Type 1} → statement M
-put-dio-spec =
-    tie.close
-    (tie.spec
-    grown-count-requires
-    grown-vector-requires
-    put-parsed-requires
-    same-length
-    returns
-    put-parsed-requires-2
-    same-length-2
-    returns-2)
+put-dio-spec = tie.close (tie.spec addresses-of-requires is-grown-requires grown-count-requires grown-vector-requires put-parsed-requires same-length returns put-parsed-requires-2 same-length-2 returns-2)

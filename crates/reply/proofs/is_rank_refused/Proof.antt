@@ -4,7 +4,7 @@ use Rattle.reply.proofs.is_rank_refused.Statement.{statement}
 use Rattle.reply.proofs.is_rank_refused.Tie as tie
 use Rattle.reply.proofs.is_rank_refused.Reads as reads
 use Rattle.reply.proofs.is_rank_refused.Lts as lts
-use Rattle.deadline.proofs.min_hop.Reads as min-hop-reads
+use Rattle.deadline.proofs.min_hop.Reads as step-of-reads
 use Rattle.rank.proofs.is_refused.Reads as is-refused-reads
 use Rattle.lemmas.proofs.Cases.{cases}
 
@@ -14,8 +14,8 @@ unfolding messageIn
 returns c = λ v. search (c .if1 .taken, cases)
 
 -- src/lib.rt:181:9
-min-hop-requires : tie.Need-min-hop-requires
-min-hop-requires c κs = search needs
+step-of-requires : tie.Need-step-of-requires
+step-of-requires c κs = search needs
 
 -- src/lib.rt:182:5
 is-refused-requires : tie.Need-is-refused-requires
@@ -24,7 +24,7 @@ is-refused-requires c κs = search needs
 -- src/lib.rt:174:1
 returns-2 : tie.Need-returns-2
 unfolding messageIn
-returns-2 c = λ v. search (← c .is-refused .ensures, ← c .before .min-hop .ensures, c .before .before .before .if1 .left, cases)
+returns-2 c = λ v. search (← c .is-refused .ensures, ← c .before .step-of .ensures, c .before .before .if1 .left, cases)
 
 pub is-rank-refused-spec : {M : Type 1} → statement M
-is-rank-refused-spec = tie.close (tie.spec returns min-hop-requires is-refused-requires returns-2)
+is-rank-refused-spec = tie.close (tie.spec returns step-of-requires is-refused-requires returns-2)

@@ -3,6 +3,7 @@ use Rattle.reply.specs.Facts.{answeredOf, isFull}
 use Rattle.plain.specs.Reply.{replyLines}
 use Rattle.message.specs.Message.{messageIn}
 use mathlib.Core.Path.{sym, _∙_}
+use denote.Ref.{now}
 use borrow.Author.Needs.{needs}
 use Rattle.reply.proofs.judge.Statement.{statement}
 use Rattle.reply.proofs.judge.Tie as tie
@@ -68,7 +69,7 @@ returns-4 c =
     (line-miss _ _ (sym (c .before .before .before .before .before .before .before .before .loops .ensures) ∙ c .before .before .before .before .before .before .before .if1 .left)
     ∙ line-miss _ _ (sym (c .before .before .before .before .before .cannot-elide .ensures) ∙ c .before .before .before .before .if2 .left)
     ∙ line-miss _ _ (sym (c .before .before .before .is-link-bad .ensures) ∙ c .before .before .if3 .left)
-    ∙ line-hit _ _ (sym (c .before .is-rank-refused .ensures (s .vector)) ∙ c .if4 .taken))
+    ∙ line-hit _ _ (sym (c .before .is-rank-refused .ensures (now (s .vector))) ∙ c .if4 .taken))
 
 -- src/lib.rt:240:8
 is-stale-requires : tie.Need-is-stale-requires
@@ -83,8 +84,8 @@ returns-5 c =
     (line-miss _ _ (sym (c .before .before .before .before .before .before .before .before .before .before .loops .ensures) ∙ c .before .before .before .before .before .before .before .before .before .if1 .left)
     ∙ line-miss _ _ (sym (c .before .before .before .before .before .before .before .cannot-elide .ensures) ∙ c .before .before .before .before .before .before .if2 .left)
     ∙ line-miss _ _ (sym (c .before .before .before .before .before .is-link-bad .ensures) ∙ c .before .before .before .before .if3 .left)
-    ∙ line-miss _ _ (sym (c .before .before .before .is-rank-refused .ensures (s .vector)) ∙ c .before .before .if4 .left)
-    ∙ line-hit _ _ (sym (c .before .is-stale .ensures (s .vector)) ∙ c .if5 .taken))
+    ∙ line-miss _ _ (sym (c .before .before .before .is-rank-refused .ensures (now (s .vector))) ∙ c .before .before .if4 .left)
+    ∙ line-hit _ _ (sym (c .before .is-stale .ensures (now (s .vector))) ∙ c .if5 .taken))
 
 -- src/lib.rt:244:8
 is-nothing-new-requires : tie.Need-is-nothing-new-requires
@@ -99,8 +100,8 @@ returns-6 c =
     (line-miss _ _ (sym (c .before .before .before .before .before .before .before .before .before .before .before .before .loops .ensures) ∙ c .before .before .before .before .before .before .before .before .before .before .before .if1 .left)
     ∙ line-miss _ _ (sym (c .before .before .before .before .before .before .before .before .before .cannot-elide .ensures) ∙ c .before .before .before .before .before .before .before .before .if2 .left)
     ∙ line-miss _ _ (sym (c .before .before .before .before .before .before .before .is-link-bad .ensures) ∙ c .before .before .before .before .before .before .if3 .left)
-    ∙ line-miss _ _ (sym (c .before .before .before .before .before .is-rank-refused .ensures (s .vector)) ∙ c .before .before .before .before .if4 .left)
-    ∙ line-miss _ _ (sym (c .before .before .before .is-stale .ensures (s .vector)) ∙ c .before .before .if5 .left)
+    ∙ line-miss _ _ (sym (c .before .before .before .before .before .is-rank-refused .ensures (now (s .vector))) ∙ c .before .before .before .before .if4 .left)
+    ∙ line-miss _ _ (sym (c .before .before .before .is-stale .ensures (now (s .vector))) ∙ c .before .before .if5 .left)
     ∙ line-hit _ _ (sym (c .before .is-nothing-new .ensures) ∙ c .if6 .taken))
 
 -- src/lib.rt:247:8
@@ -111,29 +112,31 @@ is-full-requires c κs = search needs
 returns-7 : tie.Need-returns-7
 unfolding replyLines answeredOf messageIn isFull
 returns-7 c =
-    let s = c .before .before .before .before .before .before .before .before .before .before .before .before .before .before .before .args in
+    let o = c .before .before .before .before .before .before .before .before .before .before .before .before .before .before .before in
+    let s = o .args in
     sym
     (line-miss _ _ (sym (c .before .before .before .before .before .before .before .before .before .before .before .before .before .before .loops .ensures) ∙ c .before .before .before .before .before .before .before .before .before .before .before .before .before .if1 .left)
     ∙ line-miss _ _ (sym (c .before .before .before .before .before .before .before .before .before .before .before .cannot-elide .ensures) ∙ c .before .before .before .before .before .before .before .before .before .before .if2 .left)
     ∙ line-miss _ _ (sym (c .before .before .before .before .before .before .before .before .before .is-link-bad .ensures) ∙ c .before .before .before .before .before .before .before .before .if3 .left)
-    ∙ line-miss _ _ (sym (c .before .before .before .before .before .before .before .is-rank-refused .ensures (s .vector)) ∙ c .before .before .before .before .before .before .if4 .left)
-    ∙ line-miss _ _ (sym (c .before .before .before .before .before .is-stale .ensures (s .vector)) ∙ c .before .before .before .before .if5 .left)
+    ∙ line-miss _ _ (sym (c .before .before .before .before .before .before .before .is-rank-refused .ensures (now (s .vector))) ∙ c .before .before .before .before .before .before .if4 .left)
+    ∙ line-miss _ _ (sym (c .before .before .before .before .before .is-stale .ensures (now (s .vector))) ∙ c .before .before .before .before .if5 .left)
     ∙ line-miss _ _ (sym (c .before .before .before .is-nothing-new .ensures) ∙ c .before .before .if6 .left)
-    ∙ line-hit _ _ (sym (c .before .is-full .ensures) ∙ c .if7 .taken))
+    ∙ line-hit _ _ (sym (c .before .is-full .ensures (now (s .vector)) (o .pre .1)) ∙ c .if7 .taken))
 
 -- src/lib.rt:223:1
 returns-8 : tie.Need-returns-8
 unfolding replyLines answeredOf messageIn isFull
 returns-8 c =
-    let s = c .before .before .before .before .before .before .before .before .before .before .before .before .before .before .before .args in
+    let o = c .before .before .before .before .before .before .before .before .before .before .before .before .before .before .before in
+    let s = o .args in
     sym
     (line-miss _ _ (sym (c .before .before .before .before .before .before .before .before .before .before .before .before .before .before .loops .ensures) ∙ c .before .before .before .before .before .before .before .before .before .before .before .before .before .if1 .left)
     ∙ line-miss _ _ (sym (c .before .before .before .before .before .before .before .before .before .before .before .cannot-elide .ensures) ∙ c .before .before .before .before .before .before .before .before .before .before .if2 .left)
     ∙ line-miss _ _ (sym (c .before .before .before .before .before .before .before .before .before .is-link-bad .ensures) ∙ c .before .before .before .before .before .before .before .before .if3 .left)
-    ∙ line-miss _ _ (sym (c .before .before .before .before .before .before .before .is-rank-refused .ensures (s .vector)) ∙ c .before .before .before .before .before .before .if4 .left)
-    ∙ line-miss _ _ (sym (c .before .before .before .before .before .is-stale .ensures (s .vector)) ∙ c .before .before .before .before .if5 .left)
+    ∙ line-miss _ _ (sym (c .before .before .before .before .before .before .before .is-rank-refused .ensures (now (s .vector))) ∙ c .before .before .before .before .before .before .if4 .left)
+    ∙ line-miss _ _ (sym (c .before .before .before .before .before .is-stale .ensures (now (s .vector))) ∙ c .before .before .before .before .if5 .left)
     ∙ line-miss _ _ (sym (c .before .before .before .is-nothing-new .ensures) ∙ c .before .before .if6 .left)
-    ∙ line-miss _ _ (sym (c .before .is-full .ensures) ∙ c .if7 .left)
+    ∙ line-miss _ _ (sym (c .before .is-full .ensures (now (s .vector)) (o .pre .1)) ∙ c .if7 .left)
     ∙ line-end)
 
 pub judge-spec : {M : Type 1} → statement M

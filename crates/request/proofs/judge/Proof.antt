@@ -3,8 +3,9 @@ use native.Mathlib.Omega.{arith}
 use lib.ListN.{length, take}
 use lib.Seq.{length-take-le}
 use Rattle.own.specs.Settings.{settingsOf}
-use Rattle.own.proofs.Growth.{whole-array, whole-take}
+use Rattle.own.proofs.Growth.{whole-take}
 use Rattle.request.proofs.Lines.{lines-of}
+use denote.Ref.{now}
 use borrow.Author.Needs.{needs}
 use Rattle.request.proofs.judge.Statement.{statement}
 use Rattle.request.proofs.judge.Tie as tie
@@ -17,7 +18,7 @@ returns c =
     let s = c .before .before .before in
     let a = s .args in
     rw (
-      lines-of (settingsOf (a .o)) (a .k) (a .p) (a .vector) (a .a),
+      lines-of (settingsOf (a .o)) (a .k) (a .p) (now (a .vector)) (a .a),
       sym (c .before .has-ours .ensures) ∙ c .if1 .taken,
     )
 
@@ -29,7 +30,7 @@ returns-2 c =
     let s = c .before .before .before .before .before in
     let a = s .args in
     rw (
-      lines-of (settingsOf (a .o)) (a .k) (a .p) (a .vector) (a .a),
+      lines-of (settingsOf (a .o)) (a .k) (a .p) (now (a .vector)) (a .a),
       sym (c .before .before .before .has-ours .ensures) ∙ c .before .before .if1 .left,
       sym (c .before .cannot-elide .ensures) ∙ c .if2 .taken,
     )
@@ -39,7 +40,7 @@ returns-3 c =
     let s = c .before .before .before .before .before .before .before in
     let a = s .args in
     rw (
-      lines-of (settingsOf (a .o)) (a .k) (a .p) (a .vector) (a .a),
+      lines-of (settingsOf (a .o)) (a .k) (a .p) (now (a .vector)) (a .a),
       sym (c .before .before .before .before .before .has-ours .ensures) ∙ c .before .before .before .before .if1 .left,
       sym (c .before .before .before .cannot-elide .ensures) ∙ c .before .before .if2 .left,
       c .if3 .taken,
@@ -53,7 +54,7 @@ returns-4 c =
     let s = c .before .before .before .before .before .before .before .before .before in
     let a = s .args in
     rw (
-      lines-of (settingsOf (a .o)) (a .k) (a .p) (a .vector) (a .a),
+      lines-of (settingsOf (a .o)) (a .k) (a .p) (now (a .vector)) (a .a),
       sym (c .before .before .before .before .before .before .before .has-ours .ensures) ∙ c .before .before .before .before .before .before .if1 .left,
       sym (c .before .before .before .before .before .cannot-elide .ensures) ∙ c .before .before .before .before .if2 .left,
       c .before .before .if3 .left,
@@ -68,7 +69,7 @@ returns-5 c =
     let s = c .before .before .before .before .before .before .before .before .before .before .before in
     let a = s .args in
     rw (
-      lines-of (settingsOf (a .o)) (a .k) (a .p) (a .vector) (a .a),
+      lines-of (settingsOf (a .o)) (a .k) (a .p) (now (a .vector)) (a .a),
       sym (c .before .before .before .before .before .before .before .before .before .has-ours .ensures) ∙ c .before .before .before .before .before .before .before .before .if1 .left,
       sym (c .before .before .before .before .before .before .before .cannot-elide .ensures) ∙ c .before .before .before .before .before .before .if2 .left,
       c .before .before .before .before .if3 .left,
@@ -84,7 +85,7 @@ returns-6 c =
     let s = c .before .before .before .before .before .before .before .before .before .before .before .before .before in
     let a = s .args in
     rw (
-      lines-of (settingsOf (a .o)) (a .k) (a .p) (a .vector) (a .a),
+      lines-of (settingsOf (a .o)) (a .k) (a .p) (now (a .vector)) (a .a),
       sym (c .before .before .before .before .before .before .before .before .before .before .before .has-ours .ensures) ∙ c .before .before .before .before .before .before .before .before .before .before .if1 .left,
       sym (c .before .before .before .before .before .before .before .before .before .cannot-elide .ensures) ∙ c .before .before .before .before .before .before .before .before .if2 .left,
       c .before .before .before .before .before .before .if3 .left,
@@ -101,7 +102,7 @@ returns-7 c =
     let s = c .before .before .before .before .before .before .before .before .before .before .before .before .before .before .before in
     let a = s .args in
     rw (
-      lines-of (settingsOf (a .o)) (a .k) (a .p) (a .vector) (a .a),
+      lines-of (settingsOf (a .o)) (a .k) (a .p) (now (a .vector)) (a .a),
       sym (c .before .before .before .before .before .before .before .before .before .before .before .before .before .has-ours .ensures) ∙ c .before .before .before .before .before .before .before .before .before .before .before .before .if1 .left,
       sym (c .before .before .before .before .before .before .before .before .before .before .before .cannot-elide .ensures) ∙ c .before .before .before .before .before .before .before .before .before .before .if2 .left,
       c .before .before .before .before .before .before .before .before .if3 .left,
@@ -118,11 +119,11 @@ returns-8 : tie.Need-returns-8
 returns-8 c =
     let s = c .before .before .before .before .before .before .before .before .before .before .before .before .before .before .before .before .before in
     let a = s .args in
-    let sixteen : length (a .vector) ≡ 16 = s .good .1 .1 .1 .0 .1 .0 .1 in
-    let len : length (take (a .p .n) (a .vector)) ≡ a .p .n = length-take-le (a .p .n) (a .vector) (omega (arith, s .pre .addresses)) in
-    let whole = whole-take (a .p .n) (a .vector) (whole-array 16 (a .vector) _ (s .good .1 .1 .1 .0)) in
+    let len : length (take (a .p .n) (now (a .vector))) ≡ a .p .n =
+    length-take-le (a .p .n) (now (a .vector)) (omega (arith, s .pre .0 .addresses, s .pre .1 .places)) in
+    let whole = whole-take (a .p .n) (now (a .vector)) (s .pre .1 .whole) in
     rw (
-      lines-of (settingsOf (a .o)) (a .k) (a .p) (a .vector) (a .a),
+      lines-of (settingsOf (a .o)) (a .k) (a .p) (now (a .vector)) (a .a),
       sym (c .before .before .before .before .before .before .before .before .before .before .before .before .before .before .before .has-ours .ensures) ∙ c .before .before .before .before .before .before .before .before .before .before .before .before .before .before .if1 .left,
       sym (c .before .before .before .before .before .before .before .before .before .before .before .before .before .cannot-elide .ensures) ∙ c .before .before .before .before .before .before .before .before .before .before .before .before .if2 .left,
       c .before .before .before .before .before .before .before .before .before .before .if3 .left,
@@ -137,11 +138,11 @@ returns-9 : tie.Need-returns-9
 returns-9 c =
     let s = c .before .before .before .before .before .before .before .before .before .before .before .before .before .before .before .before .before in
     let a = s .args in
-    let sixteen : length (a .vector) ≡ 16 = s .good .1 .1 .1 .0 .1 .0 .1 in
-    let len : length (take (a .p .n) (a .vector)) ≡ a .p .n = length-take-le (a .p .n) (a .vector) (omega (arith, s .pre .addresses)) in
-    let whole = whole-take (a .p .n) (a .vector) (whole-array 16 (a .vector) _ (s .good .1 .1 .1 .0)) in
+    let len : length (take (a .p .n) (now (a .vector))) ≡ a .p .n =
+    length-take-le (a .p .n) (now (a .vector)) (omega (arith, s .pre .0 .addresses, s .pre .1 .places)) in
+    let whole = whole-take (a .p .n) (now (a .vector)) (s .pre .1 .whole) in
     rw (
-      lines-of (settingsOf (a .o)) (a .k) (a .p) (a .vector) (a .a),
+      lines-of (settingsOf (a .o)) (a .k) (a .p) (now (a .vector)) (a .a),
       sym (c .before .before .before .before .before .before .before .before .before .before .before .before .before .before .before .has-ours .ensures) ∙ c .before .before .before .before .before .before .before .before .before .before .before .before .before .before .if1 .left,
       sym (c .before .before .before .before .before .before .before .before .before .before .before .before .before .cannot-elide .ensures) ∙ c .before .before .before .before .before .before .before .before .before .before .before .before .if2 .left,
       c .before .before .before .before .before .before .before .before .before .before .if3 .left,

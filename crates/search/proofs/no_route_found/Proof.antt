@@ -3,7 +3,6 @@ use Rattle.search.proofs.no_route_found.Statement.{statement}
 use Rattle.search.proofs.no_route_found.Tie as tie
 use Rattle.search.proofs.no_route_found.Reads as reads
 use Rattle.search.proofs.no_route_found.Lts as lts
-use Rattle.search.proofs.no_route.Reads as no-route-reads
 use Rattle.lemmas.proofs.Cases.{cases}
 
 -- src/lib.rt:70:9

@@ -3,7 +3,6 @@ use Rattle.search.proofs.not_found.Statement.{statement}
 use Rattle.search.proofs.not_found.Tie as tie
 use Rattle.search.proofs.not_found.Reads as reads
 use Rattle.search.proofs.not_found.Lts as lts
-use Rattle.search.proofs.no_row.Reads as no-row-reads
 use Rattle.lemmas.proofs.Cases.{cases}
 
 -- src/lib.rt:49:9

@@ -1,6 +1,7 @@
 -- Made by tools/lend.py of the twin of `start`: do not edit.
 use Rattle.row.proofs.Elem.InstanceRow as KInstanceRow
 use Rattle.row.proofs.Elem.RouteRow as KRouteRow
+use Rattle.message.proofs.Elem.Parsed as KParsed
 use Rattle.plain.proofs.Elem.Target as KTarget
 use Prim.Native.Nat
 use Rattle.answer.proofs.Answer
@@ -1249,6 +1250,160 @@ t0 = List._∷_ (
       117
       (List._∷_ 116 (List._∷_ 99 (List._∷_ 111 (List._∷_ 109 (List._∷_ 101 List.[])))))))))))))))
       (Syntax.tcons
+      (Syntax.tyStruct
+      (List._∷_
+      102
+      (List._∷_
+      105
+      (List._∷_
+      110
+      (List._∷_
+      105
+      (List._∷_
+      115
+      (List._∷_
+      104
+      (List._∷_
+      58
+      (List._∷_ 58 (List._∷_ 83 (List._∷_ 101 (List._∷_ 110 (List._∷_ 116 List.[]))))))))))))
+      (Syntax.tcons
+      (Syntax.tyInt Syntax.w64)
+      (Syntax.tcons
+      (Syntax.tyStruct
+      (List._∷_
+      97
+      (List._∷_
+      110
+      (List._∷_
+      115
+      (List._∷_
+      119
+      (List._∷_
+      101
+      (List._∷_
+      114
+      (List._∷_
+      58
+      (List._∷_
+      58
+      (List._∷_
+      68
+      (List._∷_
+      101
+      (List._∷_
+      115
+      (List._∷_
+      116
+      (List._∷_
+      105
+      (List._∷_
+      110
+      (List._∷_
+      97
+      (List._∷_ 116 (List._∷_ 105 (List._∷_ 111 (List._∷_ 110 List.[])))))))))))))))))))
+      (Syntax.tcons
+      (Syntax.tyArray (Syntax.tyInt Syntax.w8) 16)
+      (Syntax.tcons
+      (Syntax.tyEnum
+      (List._∷_
+      97
+      (List._∷_
+      110
+      (List._∷_
+      115
+      (List._∷_
+      119
+      (List._∷_
+      101
+      (List._∷_
+      114
+      (List._∷_ 58 (List._∷_ 58 (List._∷_ 87 (List._∷_ 97 (List._∷_ 121 List.[])))))))))))
+      (Syntax.ttcons
+      Syntax.tnil
+      (Syntax.ttcons
+      Syntax.tnil
+      (Syntax.ttcons Syntax.tnil (Syntax.ttcons Syntax.tnil Syntax.ttnil)))))
+      Syntax.tnil)))
+      Syntax.tnil)))
+      (Syntax.tcons
+      (Syntax.tyStruct
+      (List._∷_
+      102
+      (List._∷_
+      105
+      (List._∷_
+      110
+      (List._∷_
+      105
+      (List._∷_
+      115
+      (List._∷_
+      104
+      (List._∷_
+      58
+      (List._∷_ 58 (List._∷_ 83 (List._∷_ 101 (List._∷_ 110 (List._∷_ 116 List.[]))))))))))))
+      (Syntax.tcons
+      (Syntax.tyInt Syntax.w64)
+      (Syntax.tcons
+      (Syntax.tyStruct
+      (List._∷_
+      97
+      (List._∷_
+      110
+      (List._∷_
+      115
+      (List._∷_
+      119
+      (List._∷_
+      101
+      (List._∷_
+      114
+      (List._∷_
+      58
+      (List._∷_
+      58
+      (List._∷_
+      68
+      (List._∷_
+      101
+      (List._∷_
+      115
+      (List._∷_
+      116
+      (List._∷_
+      105
+      (List._∷_
+      110
+      (List._∷_
+      97
+      (List._∷_ 116 (List._∷_ 105 (List._∷_ 111 (List._∷_ 110 List.[])))))))))))))))))))
+      (Syntax.tcons
+      (Syntax.tyArray (Syntax.tyInt Syntax.w8) 16)
+      (Syntax.tcons
+      (Syntax.tyEnum
+      (List._∷_
+      97
+      (List._∷_
+      110
+      (List._∷_
+      115
+      (List._∷_
+      119
+      (List._∷_
+      101
+      (List._∷_
+      114
+      (List._∷_ 58 (List._∷_ 58 (List._∷_ 87 (List._∷_ 97 (List._∷_ 121 List.[])))))))))))
+      (Syntax.ttcons
+      Syntax.tnil
+      (Syntax.ttcons
+      Syntax.tnil
+      (Syntax.ttcons Syntax.tnil (Syntax.ttcons Syntax.tnil Syntax.ttnil)))))
+      Syntax.tnil)))
+      Syntax.tnil)))
+      (Syntax.tcons
+      (Syntax.tyInt Syntax.w64)
+      (Syntax.tcons
       (Syntax.tyEnum
       (List._∷_
       97
@@ -1302,156 +1457,6 @@ t0 = List._∷_ (
       (Syntax.ttcons
       Syntax.tnil
       (Syntax.ttcons Syntax.tnil (Syntax.ttcons Syntax.tnil Syntax.ttnil)))))))))))))))))))
-      (Syntax.tcons
-      (Syntax.tyStruct
-      (List._∷_
-      102
-      (List._∷_
-      105
-      (List._∷_
-      110
-      (List._∷_
-      105
-      (List._∷_
-      115
-      (List._∷_
-      104
-      (List._∷_
-      58
-      (List._∷_ 58 (List._∷_ 83 (List._∷_ 101 (List._∷_ 110 (List._∷_ 116 List.[]))))))))))))
-      (Syntax.tcons
-      (Syntax.tyInt Syntax.w64)
-      (Syntax.tcons
-      (Syntax.tyStruct
-      (List._∷_
-      97
-      (List._∷_
-      110
-      (List._∷_
-      115
-      (List._∷_
-      119
-      (List._∷_
-      101
-      (List._∷_
-      114
-      (List._∷_
-      58
-      (List._∷_
-      58
-      (List._∷_
-      68
-      (List._∷_
-      101
-      (List._∷_
-      115
-      (List._∷_
-      116
-      (List._∷_
-      105
-      (List._∷_
-      110
-      (List._∷_
-      97
-      (List._∷_ 116 (List._∷_ 105 (List._∷_ 111 (List._∷_ 110 List.[])))))))))))))))))))
-      (Syntax.tcons
-      (Syntax.tyEnum
-      (List._∷_
-      97
-      (List._∷_
-      110
-      (List._∷_
-      115
-      (List._∷_
-      119
-      (List._∷_
-      101
-      (List._∷_
-      114
-      (List._∷_ 58 (List._∷_ 58 (List._∷_ 87 (List._∷_ 97 (List._∷_ 121 List.[])))))))))))
-      (Syntax.ttcons
-      Syntax.tnil
-      (Syntax.ttcons
-      Syntax.tnil
-      (Syntax.ttcons Syntax.tnil (Syntax.ttcons Syntax.tnil Syntax.ttnil)))))
-      (Syntax.tcons (Syntax.tyArray (Syntax.tyInt Syntax.w8) 16) Syntax.tnil)))
-      Syntax.tnil)))
-      (Syntax.tcons
-      (Syntax.tyStruct
-      (List._∷_
-      102
-      (List._∷_
-      105
-      (List._∷_
-      110
-      (List._∷_
-      105
-      (List._∷_
-      115
-      (List._∷_
-      104
-      (List._∷_
-      58
-      (List._∷_ 58 (List._∷_ 83 (List._∷_ 101 (List._∷_ 110 (List._∷_ 116 List.[]))))))))))))
-      (Syntax.tcons
-      (Syntax.tyInt Syntax.w64)
-      (Syntax.tcons
-      (Syntax.tyStruct
-      (List._∷_
-      97
-      (List._∷_
-      110
-      (List._∷_
-      115
-      (List._∷_
-      119
-      (List._∷_
-      101
-      (List._∷_
-      114
-      (List._∷_
-      58
-      (List._∷_
-      58
-      (List._∷_
-      68
-      (List._∷_
-      101
-      (List._∷_
-      115
-      (List._∷_
-      116
-      (List._∷_
-      105
-      (List._∷_
-      110
-      (List._∷_
-      97
-      (List._∷_ 116 (List._∷_ 105 (List._∷_ 111 (List._∷_ 110 List.[])))))))))))))))))))
-      (Syntax.tcons
-      (Syntax.tyEnum
-      (List._∷_
-      97
-      (List._∷_
-      110
-      (List._∷_
-      115
-      (List._∷_
-      119
-      (List._∷_
-      101
-      (List._∷_
-      114
-      (List._∷_ 58 (List._∷_ 58 (List._∷_ 87 (List._∷_ 97 (List._∷_ 121 List.[])))))))))))
-      (Syntax.ttcons
-      Syntax.tnil
-      (Syntax.ttcons
-      Syntax.tnil
-      (Syntax.ttcons Syntax.tnil (Syntax.ttcons Syntax.tnil Syntax.ttnil)))))
-      (Syntax.tcons (Syntax.tyArray (Syntax.tyInt Syntax.w8) 16) Syntax.tnil)))
-      Syntax.tnil)))
-      (Syntax.tcons
-      (Syntax.tyInt Syntax.w64)
       (Syntax.tcons (Syntax.tyInt Syntax.w8) Syntax.tnil)))))),
 ) (List._∷_ (
   1,
@@ -2114,6 +2119,160 @@ t4 = List._∷_ (
       117
       (List._∷_ 116 (List._∷_ 99 (List._∷_ 111 (List._∷_ 109 (List._∷_ 101 List.[])))))))))))))))
       (Syntax.tcons
+      (Syntax.tyStruct
+      (List._∷_
+      102
+      (List._∷_
+      105
+      (List._∷_
+      110
+      (List._∷_
+      105
+      (List._∷_
+      115
+      (List._∷_
+      104
+      (List._∷_
+      58
+      (List._∷_ 58 (List._∷_ 83 (List._∷_ 101 (List._∷_ 110 (List._∷_ 116 List.[]))))))))))))
+      (Syntax.tcons
+      (Syntax.tyInt Syntax.w64)
+      (Syntax.tcons
+      (Syntax.tyStruct
+      (List._∷_
+      97
+      (List._∷_
+      110
+      (List._∷_
+      115
+      (List._∷_
+      119
+      (List._∷_
+      101
+      (List._∷_
+      114
+      (List._∷_
+      58
+      (List._∷_
+      58
+      (List._∷_
+      68
+      (List._∷_
+      101
+      (List._∷_
+      115
+      (List._∷_
+      116
+      (List._∷_
+      105
+      (List._∷_
+      110
+      (List._∷_
+      97
+      (List._∷_ 116 (List._∷_ 105 (List._∷_ 111 (List._∷_ 110 List.[])))))))))))))))))))
+      (Syntax.tcons
+      (Syntax.tyArray (Syntax.tyInt Syntax.w8) 16)
+      (Syntax.tcons
+      (Syntax.tyEnum
+      (List._∷_
+      97
+      (List._∷_
+      110
+      (List._∷_
+      115
+      (List._∷_
+      119
+      (List._∷_
+      101
+      (List._∷_
+      114
+      (List._∷_ 58 (List._∷_ 58 (List._∷_ 87 (List._∷_ 97 (List._∷_ 121 List.[])))))))))))
+      (Syntax.ttcons
+      Syntax.tnil
+      (Syntax.ttcons
+      Syntax.tnil
+      (Syntax.ttcons Syntax.tnil (Syntax.ttcons Syntax.tnil Syntax.ttnil)))))
+      Syntax.tnil)))
+      Syntax.tnil)))
+      (Syntax.tcons
+      (Syntax.tyStruct
+      (List._∷_
+      102
+      (List._∷_
+      105
+      (List._∷_
+      110
+      (List._∷_
+      105
+      (List._∷_
+      115
+      (List._∷_
+      104
+      (List._∷_
+      58
+      (List._∷_ 58 (List._∷_ 83 (List._∷_ 101 (List._∷_ 110 (List._∷_ 116 List.[]))))))))))))
+      (Syntax.tcons
+      (Syntax.tyInt Syntax.w64)
+      (Syntax.tcons
+      (Syntax.tyStruct
+      (List._∷_
+      97
+      (List._∷_
+      110
+      (List._∷_
+      115
+      (List._∷_
+      119
+      (List._∷_
+      101
+      (List._∷_
+      114
+      (List._∷_
+      58
+      (List._∷_
+      58
+      (List._∷_
+      68
+      (List._∷_
+      101
+      (List._∷_
+      115
+      (List._∷_
+      116
+      (List._∷_
+      105
+      (List._∷_
+      110
+      (List._∷_
+      97
+      (List._∷_ 116 (List._∷_ 105 (List._∷_ 111 (List._∷_ 110 List.[])))))))))))))))))))
+      (Syntax.tcons
+      (Syntax.tyArray (Syntax.tyInt Syntax.w8) 16)
+      (Syntax.tcons
+      (Syntax.tyEnum
+      (List._∷_
+      97
+      (List._∷_
+      110
+      (List._∷_
+      115
+      (List._∷_
+      119
+      (List._∷_
+      101
+      (List._∷_
+      114
+      (List._∷_ 58 (List._∷_ 58 (List._∷_ 87 (List._∷_ 97 (List._∷_ 121 List.[])))))))))))
+      (Syntax.ttcons
+      Syntax.tnil
+      (Syntax.ttcons
+      Syntax.tnil
+      (Syntax.ttcons Syntax.tnil (Syntax.ttcons Syntax.tnil Syntax.ttnil)))))
+      Syntax.tnil)))
+      Syntax.tnil)))
+      (Syntax.tcons
+      (Syntax.tyInt Syntax.w64)
+      (Syntax.tcons
       (Syntax.tyEnum
       (List._∷_
       97
@@ -2167,156 +2326,6 @@ t4 = List._∷_ (
       (Syntax.ttcons
       Syntax.tnil
       (Syntax.ttcons Syntax.tnil (Syntax.ttcons Syntax.tnil Syntax.ttnil)))))))))))))))))))
-      (Syntax.tcons
-      (Syntax.tyStruct
-      (List._∷_
-      102
-      (List._∷_
-      105
-      (List._∷_
-      110
-      (List._∷_
-      105
-      (List._∷_
-      115
-      (List._∷_
-      104
-      (List._∷_
-      58
-      (List._∷_ 58 (List._∷_ 83 (List._∷_ 101 (List._∷_ 110 (List._∷_ 116 List.[]))))))))))))
-      (Syntax.tcons
-      (Syntax.tyInt Syntax.w64)
-      (Syntax.tcons
-      (Syntax.tyStruct
-      (List._∷_
-      97
-      (List._∷_
-      110
-      (List._∷_
-      115
-      (List._∷_
-      119
-      (List._∷_
-      101
-      (List._∷_
-      114
-      (List._∷_
-      58
-      (List._∷_
-      58
-      (List._∷_
-      68
-      (List._∷_
-      101
-      (List._∷_
-      115
-      (List._∷_
-      116
-      (List._∷_
-      105
-      (List._∷_
-      110
-      (List._∷_
-      97
-      (List._∷_ 116 (List._∷_ 105 (List._∷_ 111 (List._∷_ 110 List.[])))))))))))))))))))
-      (Syntax.tcons
-      (Syntax.tyEnum
-      (List._∷_
-      97
-      (List._∷_
-      110
-      (List._∷_
-      115
-      (List._∷_
-      119
-      (List._∷_
-      101
-      (List._∷_
-      114
-      (List._∷_ 58 (List._∷_ 58 (List._∷_ 87 (List._∷_ 97 (List._∷_ 121 List.[])))))))))))
-      (Syntax.ttcons
-      Syntax.tnil
-      (Syntax.ttcons
-      Syntax.tnil
-      (Syntax.ttcons Syntax.tnil (Syntax.ttcons Syntax.tnil Syntax.ttnil)))))
-      (Syntax.tcons (Syntax.tyArray (Syntax.tyInt Syntax.w8) 16) Syntax.tnil)))
-      Syntax.tnil)))
-      (Syntax.tcons
-      (Syntax.tyStruct
-      (List._∷_
-      102
-      (List._∷_
-      105
-      (List._∷_
-      110
-      (List._∷_
-      105
-      (List._∷_
-      115
-      (List._∷_
-      104
-      (List._∷_
-      58
-      (List._∷_ 58 (List._∷_ 83 (List._∷_ 101 (List._∷_ 110 (List._∷_ 116 List.[]))))))))))))
-      (Syntax.tcons
-      (Syntax.tyInt Syntax.w64)
-      (Syntax.tcons
-      (Syntax.tyStruct
-      (List._∷_
-      97
-      (List._∷_
-      110
-      (List._∷_
-      115
-      (List._∷_
-      119
-      (List._∷_
-      101
-      (List._∷_
-      114
-      (List._∷_
-      58
-      (List._∷_
-      58
-      (List._∷_
-      68
-      (List._∷_
-      101
-      (List._∷_
-      115
-      (List._∷_
-      116
-      (List._∷_
-      105
-      (List._∷_
-      110
-      (List._∷_
-      97
-      (List._∷_ 116 (List._∷_ 105 (List._∷_ 111 (List._∷_ 110 List.[])))))))))))))))))))
-      (Syntax.tcons
-      (Syntax.tyEnum
-      (List._∷_
-      97
-      (List._∷_
-      110
-      (List._∷_
-      115
-      (List._∷_
-      119
-      (List._∷_
-      101
-      (List._∷_
-      114
-      (List._∷_ 58 (List._∷_ 58 (List._∷_ 87 (List._∷_ 97 (List._∷_ 121 List.[])))))))))))
-      (Syntax.ttcons
-      Syntax.tnil
-      (Syntax.ttcons
-      Syntax.tnil
-      (Syntax.ttcons Syntax.tnil (Syntax.ttcons Syntax.tnil Syntax.ttnil)))))
-      (Syntax.tcons (Syntax.tyArray (Syntax.tyInt Syntax.w8) 16) Syntax.tnil)))
-      Syntax.tnil)))
-      (Syntax.tcons
-      (Syntax.tyInt Syntax.w64)
       (Syntax.tcons (Syntax.tyInt Syntax.w8) Syntax.tnil)))))),
 ) (List._∷_ (
   1,
@@ -2525,6 +2534,160 @@ t5 = List._∷_ (
       117
       (List._∷_ 116 (List._∷_ 99 (List._∷_ 111 (List._∷_ 109 (List._∷_ 101 List.[])))))))))))))))
       (Syntax.tcons
+      (Syntax.tyStruct
+      (List._∷_
+      102
+      (List._∷_
+      105
+      (List._∷_
+      110
+      (List._∷_
+      105
+      (List._∷_
+      115
+      (List._∷_
+      104
+      (List._∷_
+      58
+      (List._∷_ 58 (List._∷_ 83 (List._∷_ 101 (List._∷_ 110 (List._∷_ 116 List.[]))))))))))))
+      (Syntax.tcons
+      (Syntax.tyInt Syntax.w64)
+      (Syntax.tcons
+      (Syntax.tyStruct
+      (List._∷_
+      97
+      (List._∷_
+      110
+      (List._∷_
+      115
+      (List._∷_
+      119
+      (List._∷_
+      101
+      (List._∷_
+      114
+      (List._∷_
+      58
+      (List._∷_
+      58
+      (List._∷_
+      68
+      (List._∷_
+      101
+      (List._∷_
+      115
+      (List._∷_
+      116
+      (List._∷_
+      105
+      (List._∷_
+      110
+      (List._∷_
+      97
+      (List._∷_ 116 (List._∷_ 105 (List._∷_ 111 (List._∷_ 110 List.[])))))))))))))))))))
+      (Syntax.tcons
+      (Syntax.tyArray (Syntax.tyInt Syntax.w8) 16)
+      (Syntax.tcons
+      (Syntax.tyEnum
+      (List._∷_
+      97
+      (List._∷_
+      110
+      (List._∷_
+      115
+      (List._∷_
+      119
+      (List._∷_
+      101
+      (List._∷_
+      114
+      (List._∷_ 58 (List._∷_ 58 (List._∷_ 87 (List._∷_ 97 (List._∷_ 121 List.[])))))))))))
+      (Syntax.ttcons
+      Syntax.tnil
+      (Syntax.ttcons
+      Syntax.tnil
+      (Syntax.ttcons Syntax.tnil (Syntax.ttcons Syntax.tnil Syntax.ttnil)))))
+      Syntax.tnil)))
+      Syntax.tnil)))
+      (Syntax.tcons
+      (Syntax.tyStruct
+      (List._∷_
+      102
+      (List._∷_
+      105
+      (List._∷_
+      110
+      (List._∷_
+      105
+      (List._∷_
+      115
+      (List._∷_
+      104
+      (List._∷_
+      58
+      (List._∷_ 58 (List._∷_ 83 (List._∷_ 101 (List._∷_ 110 (List._∷_ 116 List.[]))))))))))))
+      (Syntax.tcons
+      (Syntax.tyInt Syntax.w64)
+      (Syntax.tcons
+      (Syntax.tyStruct
+      (List._∷_
+      97
+      (List._∷_
+      110
+      (List._∷_
+      115
+      (List._∷_
+      119
+      (List._∷_
+      101
+      (List._∷_
+      114
+      (List._∷_
+      58
+      (List._∷_
+      58
+      (List._∷_
+      68
+      (List._∷_
+      101
+      (List._∷_
+      115
+      (List._∷_
+      116
+      (List._∷_
+      105
+      (List._∷_
+      110
+      (List._∷_
+      97
+      (List._∷_ 116 (List._∷_ 105 (List._∷_ 111 (List._∷_ 110 List.[])))))))))))))))))))
+      (Syntax.tcons
+      (Syntax.tyArray (Syntax.tyInt Syntax.w8) 16)
+      (Syntax.tcons
+      (Syntax.tyEnum
+      (List._∷_
+      97
+      (List._∷_
+      110
+      (List._∷_
+      115
+      (List._∷_
+      119
+      (List._∷_
+      101
+      (List._∷_
+      114
+      (List._∷_ 58 (List._∷_ 58 (List._∷_ 87 (List._∷_ 97 (List._∷_ 121 List.[])))))))))))
+      (Syntax.ttcons
+      Syntax.tnil
+      (Syntax.ttcons
+      Syntax.tnil
+      (Syntax.ttcons Syntax.tnil (Syntax.ttcons Syntax.tnil Syntax.ttnil)))))
+      Syntax.tnil)))
+      Syntax.tnil)))
+      (Syntax.tcons
+      (Syntax.tyInt Syntax.w64)
+      (Syntax.tcons
       (Syntax.tyEnum
       (List._∷_
       97
@@ -2578,156 +2741,6 @@ t5 = List._∷_ (
       (Syntax.ttcons
       Syntax.tnil
       (Syntax.ttcons Syntax.tnil (Syntax.ttcons Syntax.tnil Syntax.ttnil)))))))))))))))))))
-      (Syntax.tcons
-      (Syntax.tyStruct
-      (List._∷_
-      102
-      (List._∷_
-      105
-      (List._∷_
-      110
-      (List._∷_
-      105
-      (List._∷_
-      115
-      (List._∷_
-      104
-      (List._∷_
-      58
-      (List._∷_ 58 (List._∷_ 83 (List._∷_ 101 (List._∷_ 110 (List._∷_ 116 List.[]))))))))))))
-      (Syntax.tcons
-      (Syntax.tyInt Syntax.w64)
-      (Syntax.tcons
-      (Syntax.tyStruct
-      (List._∷_
-      97
-      (List._∷_
-      110
-      (List._∷_
-      115
-      (List._∷_
-      119
-      (List._∷_
-      101
-      (List._∷_
-      114
-      (List._∷_
-      58
-      (List._∷_
-      58
-      (List._∷_
-      68
-      (List._∷_
-      101
-      (List._∷_
-      115
-      (List._∷_
-      116
-      (List._∷_
-      105
-      (List._∷_
-      110
-      (List._∷_
-      97
-      (List._∷_ 116 (List._∷_ 105 (List._∷_ 111 (List._∷_ 110 List.[])))))))))))))))))))
-      (Syntax.tcons
-      (Syntax.tyEnum
-      (List._∷_
-      97
-      (List._∷_
-      110
-      (List._∷_
-      115
-      (List._∷_
-      119
-      (List._∷_
-      101
-      (List._∷_
-      114
-      (List._∷_ 58 (List._∷_ 58 (List._∷_ 87 (List._∷_ 97 (List._∷_ 121 List.[])))))))))))
-      (Syntax.ttcons
-      Syntax.tnil
-      (Syntax.ttcons
-      Syntax.tnil
-      (Syntax.ttcons Syntax.tnil (Syntax.ttcons Syntax.tnil Syntax.ttnil)))))
-      (Syntax.tcons (Syntax.tyArray (Syntax.tyInt Syntax.w8) 16) Syntax.tnil)))
-      Syntax.tnil)))
-      (Syntax.tcons
-      (Syntax.tyStruct
-      (List._∷_
-      102
-      (List._∷_
-      105
-      (List._∷_
-      110
-      (List._∷_
-      105
-      (List._∷_
-      115
-      (List._∷_
-      104
-      (List._∷_
-      58
-      (List._∷_ 58 (List._∷_ 83 (List._∷_ 101 (List._∷_ 110 (List._∷_ 116 List.[]))))))))))))
-      (Syntax.tcons
-      (Syntax.tyInt Syntax.w64)
-      (Syntax.tcons
-      (Syntax.tyStruct
-      (List._∷_
-      97
-      (List._∷_
-      110
-      (List._∷_
-      115
-      (List._∷_
-      119
-      (List._∷_
-      101
-      (List._∷_
-      114
-      (List._∷_
-      58
-      (List._∷_
-      58
-      (List._∷_
-      68
-      (List._∷_
-      101
-      (List._∷_
-      115
-      (List._∷_
-      116
-      (List._∷_
-      105
-      (List._∷_
-      110
-      (List._∷_
-      97
-      (List._∷_ 116 (List._∷_ 105 (List._∷_ 111 (List._∷_ 110 List.[])))))))))))))))))))
-      (Syntax.tcons
-      (Syntax.tyEnum
-      (List._∷_
-      97
-      (List._∷_
-      110
-      (List._∷_
-      115
-      (List._∷_
-      119
-      (List._∷_
-      101
-      (List._∷_
-      114
-      (List._∷_ 58 (List._∷_ 58 (List._∷_ 87 (List._∷_ 97 (List._∷_ 121 List.[])))))))))))
-      (Syntax.ttcons
-      Syntax.tnil
-      (Syntax.ttcons
-      Syntax.tnil
-      (Syntax.ttcons Syntax.tnil (Syntax.ttcons Syntax.tnil Syntax.ttnil)))))
-      (Syntax.tcons (Syntax.tyArray (Syntax.tyInt Syntax.w8) 16) Syntax.tnil)))
-      Syntax.tnil)))
-      (Syntax.tcons
-      (Syntax.tyInt Syntax.w64)
       (Syntax.tcons (Syntax.tyInt Syntax.w8) Syntax.tnil)))))),
 ) (List._∷_ (
   1,
@@ -2936,6 +2949,160 @@ t6 = List._∷_ (
       117
       (List._∷_ 116 (List._∷_ 99 (List._∷_ 111 (List._∷_ 109 (List._∷_ 101 List.[])))))))))))))))
       (Syntax.tcons
+      (Syntax.tyStruct
+      (List._∷_
+      102
+      (List._∷_
+      105
+      (List._∷_
+      110
+      (List._∷_
+      105
+      (List._∷_
+      115
+      (List._∷_
+      104
+      (List._∷_
+      58
+      (List._∷_ 58 (List._∷_ 83 (List._∷_ 101 (List._∷_ 110 (List._∷_ 116 List.[]))))))))))))
+      (Syntax.tcons
+      (Syntax.tyInt Syntax.w64)
+      (Syntax.tcons
+      (Syntax.tyStruct
+      (List._∷_
+      97
+      (List._∷_
+      110
+      (List._∷_
+      115
+      (List._∷_
+      119
+      (List._∷_
+      101
+      (List._∷_
+      114
+      (List._∷_
+      58
+      (List._∷_
+      58
+      (List._∷_
+      68
+      (List._∷_
+      101
+      (List._∷_
+      115
+      (List._∷_
+      116
+      (List._∷_
+      105
+      (List._∷_
+      110
+      (List._∷_
+      97
+      (List._∷_ 116 (List._∷_ 105 (List._∷_ 111 (List._∷_ 110 List.[])))))))))))))))))))
+      (Syntax.tcons
+      (Syntax.tyArray (Syntax.tyInt Syntax.w8) 16)
+      (Syntax.tcons
+      (Syntax.tyEnum
+      (List._∷_
+      97
+      (List._∷_
+      110
+      (List._∷_
+      115
+      (List._∷_
+      119
+      (List._∷_
+      101
+      (List._∷_
+      114
+      (List._∷_ 58 (List._∷_ 58 (List._∷_ 87 (List._∷_ 97 (List._∷_ 121 List.[])))))))))))
+      (Syntax.ttcons
+      Syntax.tnil
+      (Syntax.ttcons
+      Syntax.tnil
+      (Syntax.ttcons Syntax.tnil (Syntax.ttcons Syntax.tnil Syntax.ttnil)))))
+      Syntax.tnil)))
+      Syntax.tnil)))
+      (Syntax.tcons
+      (Syntax.tyStruct
+      (List._∷_
+      102
+      (List._∷_
+      105
+      (List._∷_
+      110
+      (List._∷_
+      105
+      (List._∷_
+      115
+      (List._∷_
+      104
+      (List._∷_
+      58
+      (List._∷_ 58 (List._∷_ 83 (List._∷_ 101 (List._∷_ 110 (List._∷_ 116 List.[]))))))))))))
+      (Syntax.tcons
+      (Syntax.tyInt Syntax.w64)
+      (Syntax.tcons
+      (Syntax.tyStruct
+      (List._∷_
+      97
+      (List._∷_
+      110
+      (List._∷_
+      115
+      (List._∷_
+      119
+      (List._∷_
+      101
+      (List._∷_
+      114
+      (List._∷_
+      58
+      (List._∷_
+      58
+      (List._∷_
+      68
+      (List._∷_
+      101
+      (List._∷_
+      115
+      (List._∷_
+      116
+      (List._∷_
+      105
+      (List._∷_
+      110
+      (List._∷_
+      97
+      (List._∷_ 116 (List._∷_ 105 (List._∷_ 111 (List._∷_ 110 List.[])))))))))))))))))))
+      (Syntax.tcons
+      (Syntax.tyArray (Syntax.tyInt Syntax.w8) 16)
+      (Syntax.tcons
+      (Syntax.tyEnum
+      (List._∷_
+      97
+      (List._∷_
+      110
+      (List._∷_
+      115
+      (List._∷_
+      119
+      (List._∷_
+      101
+      (List._∷_
+      114
+      (List._∷_ 58 (List._∷_ 58 (List._∷_ 87 (List._∷_ 97 (List._∷_ 121 List.[])))))))))))
+      (Syntax.ttcons
+      Syntax.tnil
+      (Syntax.ttcons
+      Syntax.tnil
+      (Syntax.ttcons Syntax.tnil (Syntax.ttcons Syntax.tnil Syntax.ttnil)))))
+      Syntax.tnil)))
+      Syntax.tnil)))
+      (Syntax.tcons
+      (Syntax.tyInt Syntax.w64)
+      (Syntax.tcons
       (Syntax.tyEnum
       (List._∷_
       97
@@ -2989,156 +3156,6 @@ t6 = List._∷_ (
       (Syntax.ttcons
       Syntax.tnil
       (Syntax.ttcons Syntax.tnil (Syntax.ttcons Syntax.tnil Syntax.ttnil)))))))))))))))))))
-      (Syntax.tcons
-      (Syntax.tyStruct
-      (List._∷_
-      102
-      (List._∷_
-      105
-      (List._∷_
-      110
-      (List._∷_
-      105
-      (List._∷_
-      115
-      (List._∷_
-      104
-      (List._∷_
-      58
-      (List._∷_ 58 (List._∷_ 83 (List._∷_ 101 (List._∷_ 110 (List._∷_ 116 List.[]))))))))))))
-      (Syntax.tcons
-      (Syntax.tyInt Syntax.w64)
-      (Syntax.tcons
-      (Syntax.tyStruct
-      (List._∷_
-      97
-      (List._∷_
-      110
-      (List._∷_
-      115
-      (List._∷_
-      119
-      (List._∷_
-      101
-      (List._∷_
-      114
-      (List._∷_
-      58
-      (List._∷_
-      58
-      (List._∷_
-      68
-      (List._∷_
-      101
-      (List._∷_
-      115
-      (List._∷_
-      116
-      (List._∷_
-      105
-      (List._∷_
-      110
-      (List._∷_
-      97
-      (List._∷_ 116 (List._∷_ 105 (List._∷_ 111 (List._∷_ 110 List.[])))))))))))))))))))
-      (Syntax.tcons
-      (Syntax.tyEnum
-      (List._∷_
-      97
-      (List._∷_
-      110
-      (List._∷_
-      115
-      (List._∷_
-      119
-      (List._∷_
-      101
-      (List._∷_
-      114
-      (List._∷_ 58 (List._∷_ 58 (List._∷_ 87 (List._∷_ 97 (List._∷_ 121 List.[])))))))))))
-      (Syntax.ttcons
-      Syntax.tnil
-      (Syntax.ttcons
-      Syntax.tnil
-      (Syntax.ttcons Syntax.tnil (Syntax.ttcons Syntax.tnil Syntax.ttnil)))))
-      (Syntax.tcons (Syntax.tyArray (Syntax.tyInt Syntax.w8) 16) Syntax.tnil)))
-      Syntax.tnil)))
-      (Syntax.tcons
-      (Syntax.tyStruct
-      (List._∷_
-      102
-      (List._∷_
-      105
-      (List._∷_
-      110
-      (List._∷_
-      105
-      (List._∷_
-      115
-      (List._∷_
-      104
-      (List._∷_
-      58
-      (List._∷_ 58 (List._∷_ 83 (List._∷_ 101 (List._∷_ 110 (List._∷_ 116 List.[]))))))))))))
-      (Syntax.tcons
-      (Syntax.tyInt Syntax.w64)
-      (Syntax.tcons
-      (Syntax.tyStruct
-      (List._∷_
-      97
-      (List._∷_
-      110
-      (List._∷_
-      115
-      (List._∷_
-      119
-      (List._∷_
-      101
-      (List._∷_
-      114
-      (List._∷_
-      58
-      (List._∷_
-      58
-      (List._∷_
-      68
-      (List._∷_
-      101
-      (List._∷_
-      115
-      (List._∷_
-      116
-      (List._∷_
-      105
-      (List._∷_
-      110
-      (List._∷_
-      97
-      (List._∷_ 116 (List._∷_ 105 (List._∷_ 111 (List._∷_ 110 List.[])))))))))))))))))))
-      (Syntax.tcons
-      (Syntax.tyEnum
-      (List._∷_
-      97
-      (List._∷_
-      110
-      (List._∷_
-      115
-      (List._∷_
-      119
-      (List._∷_
-      101
-      (List._∷_
-      114
-      (List._∷_ 58 (List._∷_ 58 (List._∷_ 87 (List._∷_ 97 (List._∷_ 121 List.[])))))))))))
-      (Syntax.ttcons
-      Syntax.tnil
-      (Syntax.ttcons
-      Syntax.tnil
-      (Syntax.ttcons Syntax.tnil (Syntax.ttcons Syntax.tnil Syntax.ttnil)))))
-      (Syntax.tcons (Syntax.tyArray (Syntax.tyInt Syntax.w8) 16) Syntax.tnil)))
-      Syntax.tnil)))
-      (Syntax.tcons
-      (Syntax.tyInt Syntax.w64)
       (Syntax.tcons (Syntax.tyInt Syntax.w8) Syntax.tnil)))))),
 ) (List._∷_ (
   1,
@@ -3349,6 +3366,160 @@ t7 = List._∷_ (
       117
       (List._∷_ 116 (List._∷_ 99 (List._∷_ 111 (List._∷_ 109 (List._∷_ 101 List.[])))))))))))))))
       (Syntax.tcons
+      (Syntax.tyStruct
+      (List._∷_
+      102
+      (List._∷_
+      105
+      (List._∷_
+      110
+      (List._∷_
+      105
+      (List._∷_
+      115
+      (List._∷_
+      104
+      (List._∷_
+      58
+      (List._∷_ 58 (List._∷_ 83 (List._∷_ 101 (List._∷_ 110 (List._∷_ 116 List.[]))))))))))))
+      (Syntax.tcons
+      (Syntax.tyInt Syntax.w64)
+      (Syntax.tcons
+      (Syntax.tyStruct
+      (List._∷_
+      97
+      (List._∷_
+      110
+      (List._∷_
+      115
+      (List._∷_
+      119
+      (List._∷_
+      101
+      (List._∷_
+      114
+      (List._∷_
+      58
+      (List._∷_
+      58
+      (List._∷_
+      68
+      (List._∷_
+      101
+      (List._∷_
+      115
+      (List._∷_
+      116
+      (List._∷_
+      105
+      (List._∷_
+      110
+      (List._∷_
+      97
+      (List._∷_ 116 (List._∷_ 105 (List._∷_ 111 (List._∷_ 110 List.[])))))))))))))))))))
+      (Syntax.tcons
+      (Syntax.tyArray (Syntax.tyInt Syntax.w8) 16)
+      (Syntax.tcons
+      (Syntax.tyEnum
+      (List._∷_
+      97
+      (List._∷_
+      110
+      (List._∷_
+      115
+      (List._∷_
+      119
+      (List._∷_
+      101
+      (List._∷_
+      114
+      (List._∷_ 58 (List._∷_ 58 (List._∷_ 87 (List._∷_ 97 (List._∷_ 121 List.[])))))))))))
+      (Syntax.ttcons
+      Syntax.tnil
+      (Syntax.ttcons
+      Syntax.tnil
+      (Syntax.ttcons Syntax.tnil (Syntax.ttcons Syntax.tnil Syntax.ttnil)))))
+      Syntax.tnil)))
+      Syntax.tnil)))
+      (Syntax.tcons
+      (Syntax.tyStruct
+      (List._∷_
+      102
+      (List._∷_
+      105
+      (List._∷_
+      110
+      (List._∷_
+      105
+      (List._∷_
+      115
+      (List._∷_
+      104
+      (List._∷_
+      58
+      (List._∷_ 58 (List._∷_ 83 (List._∷_ 101 (List._∷_ 110 (List._∷_ 116 List.[]))))))))))))
+      (Syntax.tcons
+      (Syntax.tyInt Syntax.w64)
+      (Syntax.tcons
+      (Syntax.tyStruct
+      (List._∷_
+      97
+      (List._∷_
+      110
+      (List._∷_
+      115
+      (List._∷_
+      119
+      (List._∷_
+      101
+      (List._∷_
+      114
+      (List._∷_
+      58
+      (List._∷_
+      58
+      (List._∷_
+      68
+      (List._∷_
+      101
+      (List._∷_
+      115
+      (List._∷_
+      116
+      (List._∷_
+      105
+      (List._∷_
+      110
+      (List._∷_
+      97
+      (List._∷_ 116 (List._∷_ 105 (List._∷_ 111 (List._∷_ 110 List.[])))))))))))))))))))
+      (Syntax.tcons
+      (Syntax.tyArray (Syntax.tyInt Syntax.w8) 16)
+      (Syntax.tcons
+      (Syntax.tyEnum
+      (List._∷_
+      97
+      (List._∷_
+      110
+      (List._∷_
+      115
+      (List._∷_
+      119
+      (List._∷_
+      101
+      (List._∷_
+      114
+      (List._∷_ 58 (List._∷_ 58 (List._∷_ 87 (List._∷_ 97 (List._∷_ 121 List.[])))))))))))
+      (Syntax.ttcons
+      Syntax.tnil
+      (Syntax.ttcons
+      Syntax.tnil
+      (Syntax.ttcons Syntax.tnil (Syntax.ttcons Syntax.tnil Syntax.ttnil)))))
+      Syntax.tnil)))
+      Syntax.tnil)))
+      (Syntax.tcons
+      (Syntax.tyInt Syntax.w64)
+      (Syntax.tcons
       (Syntax.tyEnum
       (List._∷_
       97
@@ -3402,156 +3573,6 @@ t7 = List._∷_ (
       (Syntax.ttcons
       Syntax.tnil
       (Syntax.ttcons Syntax.tnil (Syntax.ttcons Syntax.tnil Syntax.ttnil)))))))))))))))))))
-      (Syntax.tcons
-      (Syntax.tyStruct
-      (List._∷_
-      102
-      (List._∷_
-      105
-      (List._∷_
-      110
-      (List._∷_
-      105
-      (List._∷_
-      115
-      (List._∷_
-      104
-      (List._∷_
-      58
-      (List._∷_ 58 (List._∷_ 83 (List._∷_ 101 (List._∷_ 110 (List._∷_ 116 List.[]))))))))))))
-      (Syntax.tcons
-      (Syntax.tyInt Syntax.w64)
-      (Syntax.tcons
-      (Syntax.tyStruct
-      (List._∷_
-      97
-      (List._∷_
-      110
-      (List._∷_
-      115
-      (List._∷_
-      119
-      (List._∷_
-      101
-      (List._∷_
-      114
-      (List._∷_
-      58
-      (List._∷_
-      58
-      (List._∷_
-      68
-      (List._∷_
-      101
-      (List._∷_
-      115
-      (List._∷_
-      116
-      (List._∷_
-      105
-      (List._∷_
-      110
-      (List._∷_
-      97
-      (List._∷_ 116 (List._∷_ 105 (List._∷_ 111 (List._∷_ 110 List.[])))))))))))))))))))
-      (Syntax.tcons
-      (Syntax.tyEnum
-      (List._∷_
-      97
-      (List._∷_
-      110
-      (List._∷_
-      115
-      (List._∷_
-      119
-      (List._∷_
-      101
-      (List._∷_
-      114
-      (List._∷_ 58 (List._∷_ 58 (List._∷_ 87 (List._∷_ 97 (List._∷_ 121 List.[])))))))))))
-      (Syntax.ttcons
-      Syntax.tnil
-      (Syntax.ttcons
-      Syntax.tnil
-      (Syntax.ttcons Syntax.tnil (Syntax.ttcons Syntax.tnil Syntax.ttnil)))))
-      (Syntax.tcons (Syntax.tyArray (Syntax.tyInt Syntax.w8) 16) Syntax.tnil)))
-      Syntax.tnil)))
-      (Syntax.tcons
-      (Syntax.tyStruct
-      (List._∷_
-      102
-      (List._∷_
-      105
-      (List._∷_
-      110
-      (List._∷_
-      105
-      (List._∷_
-      115
-      (List._∷_
-      104
-      (List._∷_
-      58
-      (List._∷_ 58 (List._∷_ 83 (List._∷_ 101 (List._∷_ 110 (List._∷_ 116 List.[]))))))))))))
-      (Syntax.tcons
-      (Syntax.tyInt Syntax.w64)
-      (Syntax.tcons
-      (Syntax.tyStruct
-      (List._∷_
-      97
-      (List._∷_
-      110
-      (List._∷_
-      115
-      (List._∷_
-      119
-      (List._∷_
-      101
-      (List._∷_
-      114
-      (List._∷_
-      58
-      (List._∷_
-      58
-      (List._∷_
-      68
-      (List._∷_
-      101
-      (List._∷_
-      115
-      (List._∷_
-      116
-      (List._∷_
-      105
-      (List._∷_
-      110
-      (List._∷_
-      97
-      (List._∷_ 116 (List._∷_ 105 (List._∷_ 111 (List._∷_ 110 List.[])))))))))))))))))))
-      (Syntax.tcons
-      (Syntax.tyEnum
-      (List._∷_
-      97
-      (List._∷_
-      110
-      (List._∷_
-      115
-      (List._∷_
-      119
-      (List._∷_
-      101
-      (List._∷_
-      114
-      (List._∷_ 58 (List._∷_ 58 (List._∷_ 87 (List._∷_ 97 (List._∷_ 121 List.[])))))))))))
-      (Syntax.ttcons
-      Syntax.tnil
-      (Syntax.ttcons
-      Syntax.tnil
-      (Syntax.ttcons Syntax.tnil (Syntax.ttcons Syntax.tnil Syntax.ttnil)))))
-      (Syntax.tcons (Syntax.tyArray (Syntax.tyInt Syntax.w8) 16) Syntax.tnil)))
-      Syntax.tnil)))
-      (Syntax.tcons
-      (Syntax.tyInt Syntax.w64)
       (Syntax.tcons (Syntax.tyInt Syntax.w8) Syntax.tnil)))))),
 ) (List._∷_ (
   1,
@@ -3760,6 +3781,160 @@ t8 = List._∷_ (
       117
       (List._∷_ 116 (List._∷_ 99 (List._∷_ 111 (List._∷_ 109 (List._∷_ 101 List.[])))))))))))))))
       (Syntax.tcons
+      (Syntax.tyStruct
+      (List._∷_
+      102
+      (List._∷_
+      105
+      (List._∷_
+      110
+      (List._∷_
+      105
+      (List._∷_
+      115
+      (List._∷_
+      104
+      (List._∷_
+      58
+      (List._∷_ 58 (List._∷_ 83 (List._∷_ 101 (List._∷_ 110 (List._∷_ 116 List.[]))))))))))))
+      (Syntax.tcons
+      (Syntax.tyInt Syntax.w64)
+      (Syntax.tcons
+      (Syntax.tyStruct
+      (List._∷_
+      97
+      (List._∷_
+      110
+      (List._∷_
+      115
+      (List._∷_
+      119
+      (List._∷_
+      101
+      (List._∷_
+      114
+      (List._∷_
+      58
+      (List._∷_
+      58
+      (List._∷_
+      68
+      (List._∷_
+      101
+      (List._∷_
+      115
+      (List._∷_
+      116
+      (List._∷_
+      105
+      (List._∷_
+      110
+      (List._∷_
+      97
+      (List._∷_ 116 (List._∷_ 105 (List._∷_ 111 (List._∷_ 110 List.[])))))))))))))))))))
+      (Syntax.tcons
+      (Syntax.tyArray (Syntax.tyInt Syntax.w8) 16)
+      (Syntax.tcons
+      (Syntax.tyEnum
+      (List._∷_
+      97
+      (List._∷_
+      110
+      (List._∷_
+      115
+      (List._∷_
+      119
+      (List._∷_
+      101
+      (List._∷_
+      114
+      (List._∷_ 58 (List._∷_ 58 (List._∷_ 87 (List._∷_ 97 (List._∷_ 121 List.[])))))))))))
+      (Syntax.ttcons
+      Syntax.tnil
+      (Syntax.ttcons
+      Syntax.tnil
+      (Syntax.ttcons Syntax.tnil (Syntax.ttcons Syntax.tnil Syntax.ttnil)))))
+      Syntax.tnil)))
+      Syntax.tnil)))
+      (Syntax.tcons
+      (Syntax.tyStruct
+      (List._∷_
+      102
+      (List._∷_
+      105
+      (List._∷_
+      110
+      (List._∷_
+      105
+      (List._∷_
+      115
+      (List._∷_
+      104
+      (List._∷_
+      58
+      (List._∷_ 58 (List._∷_ 83 (List._∷_ 101 (List._∷_ 110 (List._∷_ 116 List.[]))))))))))))
+      (Syntax.tcons
+      (Syntax.tyInt Syntax.w64)
+      (Syntax.tcons
+      (Syntax.tyStruct
+      (List._∷_
+      97
+      (List._∷_
+      110
+      (List._∷_
+      115
+      (List._∷_
+      119
+      (List._∷_
+      101
+      (List._∷_
+      114
+      (List._∷_
+      58
+      (List._∷_
+      58
+      (List._∷_
+      68
+      (List._∷_
+      101
+      (List._∷_
+      115
+      (List._∷_
+      116
+      (List._∷_
+      105
+      (List._∷_
+      110
+      (List._∷_
+      97
+      (List._∷_ 116 (List._∷_ 105 (List._∷_ 111 (List._∷_ 110 List.[])))))))))))))))))))
+      (Syntax.tcons
+      (Syntax.tyArray (Syntax.tyInt Syntax.w8) 16)
+      (Syntax.tcons
+      (Syntax.tyEnum
+      (List._∷_
+      97
+      (List._∷_
+      110
+      (List._∷_
+      115
+      (List._∷_
+      119
+      (List._∷_
+      101
+      (List._∷_
+      114
+      (List._∷_ 58 (List._∷_ 58 (List._∷_ 87 (List._∷_ 97 (List._∷_ 121 List.[])))))))))))
+      (Syntax.ttcons
+      Syntax.tnil
+      (Syntax.ttcons
+      Syntax.tnil
+      (Syntax.ttcons Syntax.tnil (Syntax.ttcons Syntax.tnil Syntax.ttnil)))))
+      Syntax.tnil)))
+      Syntax.tnil)))
+      (Syntax.tcons
+      (Syntax.tyInt Syntax.w64)
+      (Syntax.tcons
       (Syntax.tyEnum
       (List._∷_
       97
@@ -3813,156 +3988,6 @@ t8 = List._∷_ (
       (Syntax.ttcons
       Syntax.tnil
       (Syntax.ttcons Syntax.tnil (Syntax.ttcons Syntax.tnil Syntax.ttnil)))))))))))))))))))
-      (Syntax.tcons
-      (Syntax.tyStruct
-      (List._∷_
-      102
-      (List._∷_
-      105
-      (List._∷_
-      110
-      (List._∷_
-      105
-      (List._∷_
-      115
-      (List._∷_
-      104
-      (List._∷_
-      58
-      (List._∷_ 58 (List._∷_ 83 (List._∷_ 101 (List._∷_ 110 (List._∷_ 116 List.[]))))))))))))
-      (Syntax.tcons
-      (Syntax.tyInt Syntax.w64)
-      (Syntax.tcons
-      (Syntax.tyStruct
-      (List._∷_
-      97
-      (List._∷_
-      110
-      (List._∷_
-      115
-      (List._∷_
-      119
-      (List._∷_
-      101
-      (List._∷_
-      114
-      (List._∷_
-      58
-      (List._∷_
-      58
-      (List._∷_
-      68
-      (List._∷_
-      101
-      (List._∷_
-      115
-      (List._∷_
-      116
-      (List._∷_
-      105
-      (List._∷_
-      110
-      (List._∷_
-      97
-      (List._∷_ 116 (List._∷_ 105 (List._∷_ 111 (List._∷_ 110 List.[])))))))))))))))))))
-      (Syntax.tcons
-      (Syntax.tyEnum
-      (List._∷_
-      97
-      (List._∷_
-      110
-      (List._∷_
-      115
-      (List._∷_
-      119
-      (List._∷_
-      101
-      (List._∷_
-      114
-      (List._∷_ 58 (List._∷_ 58 (List._∷_ 87 (List._∷_ 97 (List._∷_ 121 List.[])))))))))))
-      (Syntax.ttcons
-      Syntax.tnil
-      (Syntax.ttcons
-      Syntax.tnil
-      (Syntax.ttcons Syntax.tnil (Syntax.ttcons Syntax.tnil Syntax.ttnil)))))
-      (Syntax.tcons (Syntax.tyArray (Syntax.tyInt Syntax.w8) 16) Syntax.tnil)))
-      Syntax.tnil)))
-      (Syntax.tcons
-      (Syntax.tyStruct
-      (List._∷_
-      102
-      (List._∷_
-      105
-      (List._∷_
-      110
-      (List._∷_
-      105
-      (List._∷_
-      115
-      (List._∷_
-      104
-      (List._∷_
-      58
-      (List._∷_ 58 (List._∷_ 83 (List._∷_ 101 (List._∷_ 110 (List._∷_ 116 List.[]))))))))))))
-      (Syntax.tcons
-      (Syntax.tyInt Syntax.w64)
-      (Syntax.tcons
-      (Syntax.tyStruct
-      (List._∷_
-      97
-      (List._∷_
-      110
-      (List._∷_
-      115
-      (List._∷_
-      119
-      (List._∷_
-      101
-      (List._∷_
-      114
-      (List._∷_
-      58
-      (List._∷_
-      58
-      (List._∷_
-      68
-      (List._∷_
-      101
-      (List._∷_
-      115
-      (List._∷_
-      116
-      (List._∷_
-      105
-      (List._∷_
-      110
-      (List._∷_
-      97
-      (List._∷_ 116 (List._∷_ 105 (List._∷_ 111 (List._∷_ 110 List.[])))))))))))))))))))
-      (Syntax.tcons
-      (Syntax.tyEnum
-      (List._∷_
-      97
-      (List._∷_
-      110
-      (List._∷_
-      115
-      (List._∷_
-      119
-      (List._∷_
-      101
-      (List._∷_
-      114
-      (List._∷_ 58 (List._∷_ 58 (List._∷_ 87 (List._∷_ 97 (List._∷_ 121 List.[])))))))))))
-      (Syntax.ttcons
-      Syntax.tnil
-      (Syntax.ttcons
-      Syntax.tnil
-      (Syntax.ttcons Syntax.tnil (Syntax.ttcons Syntax.tnil Syntax.ttnil)))))
-      (Syntax.tcons (Syntax.tyArray (Syntax.tyInt Syntax.w8) 16) Syntax.tnil)))
-      Syntax.tnil)))
-      (Syntax.tcons
-      (Syntax.tyInt Syntax.w64)
       (Syntax.tcons (Syntax.tyInt Syntax.w8) Syntax.tnil)))))),
 ) (List._∷_ (
   1,
@@ -4171,6 +4196,160 @@ t9 = List._∷_ (
       117
       (List._∷_ 116 (List._∷_ 99 (List._∷_ 111 (List._∷_ 109 (List._∷_ 101 List.[])))))))))))))))
       (Syntax.tcons
+      (Syntax.tyStruct
+      (List._∷_
+      102
+      (List._∷_
+      105
+      (List._∷_
+      110
+      (List._∷_
+      105
+      (List._∷_
+      115
+      (List._∷_
+      104
+      (List._∷_
+      58
+      (List._∷_ 58 (List._∷_ 83 (List._∷_ 101 (List._∷_ 110 (List._∷_ 116 List.[]))))))))))))
+      (Syntax.tcons
+      (Syntax.tyInt Syntax.w64)
+      (Syntax.tcons
+      (Syntax.tyStruct
+      (List._∷_
+      97
+      (List._∷_
+      110
+      (List._∷_
+      115
+      (List._∷_
+      119
+      (List._∷_
+      101
+      (List._∷_
+      114
+      (List._∷_
+      58
+      (List._∷_
+      58
+      (List._∷_
+      68
+      (List._∷_
+      101
+      (List._∷_
+      115
+      (List._∷_
+      116
+      (List._∷_
+      105
+      (List._∷_
+      110
+      (List._∷_
+      97
+      (List._∷_ 116 (List._∷_ 105 (List._∷_ 111 (List._∷_ 110 List.[])))))))))))))))))))
+      (Syntax.tcons
+      (Syntax.tyArray (Syntax.tyInt Syntax.w8) 16)
+      (Syntax.tcons
+      (Syntax.tyEnum
+      (List._∷_
+      97
+      (List._∷_
+      110
+      (List._∷_
+      115
+      (List._∷_
+      119
+      (List._∷_
+      101
+      (List._∷_
+      114
+      (List._∷_ 58 (List._∷_ 58 (List._∷_ 87 (List._∷_ 97 (List._∷_ 121 List.[])))))))))))
+      (Syntax.ttcons
+      Syntax.tnil
+      (Syntax.ttcons
+      Syntax.tnil
+      (Syntax.ttcons Syntax.tnil (Syntax.ttcons Syntax.tnil Syntax.ttnil)))))
+      Syntax.tnil)))
+      Syntax.tnil)))
+      (Syntax.tcons
+      (Syntax.tyStruct
+      (List._∷_
+      102
+      (List._∷_
+      105
+      (List._∷_
+      110
+      (List._∷_
+      105
+      (List._∷_
+      115
+      (List._∷_
+      104
+      (List._∷_
+      58
+      (List._∷_ 58 (List._∷_ 83 (List._∷_ 101 (List._∷_ 110 (List._∷_ 116 List.[]))))))))))))
+      (Syntax.tcons
+      (Syntax.tyInt Syntax.w64)
+      (Syntax.tcons
+      (Syntax.tyStruct
+      (List._∷_
+      97
+      (List._∷_
+      110
+      (List._∷_
+      115
+      (List._∷_
+      119
+      (List._∷_
+      101
+      (List._∷_
+      114
+      (List._∷_
+      58
+      (List._∷_
+      58
+      (List._∷_
+      68
+      (List._∷_
+      101
+      (List._∷_
+      115
+      (List._∷_
+      116
+      (List._∷_
+      105
+      (List._∷_
+      110
+      (List._∷_
+      97
+      (List._∷_ 116 (List._∷_ 105 (List._∷_ 111 (List._∷_ 110 List.[])))))))))))))))))))
+      (Syntax.tcons
+      (Syntax.tyArray (Syntax.tyInt Syntax.w8) 16)
+      (Syntax.tcons
+      (Syntax.tyEnum
+      (List._∷_
+      97
+      (List._∷_
+      110
+      (List._∷_
+      115
+      (List._∷_
+      119
+      (List._∷_
+      101
+      (List._∷_
+      114
+      (List._∷_ 58 (List._∷_ 58 (List._∷_ 87 (List._∷_ 97 (List._∷_ 121 List.[])))))))))))
+      (Syntax.ttcons
+      Syntax.tnil
+      (Syntax.ttcons
+      Syntax.tnil
+      (Syntax.ttcons Syntax.tnil (Syntax.ttcons Syntax.tnil Syntax.ttnil)))))
+      Syntax.tnil)))
+      Syntax.tnil)))
+      (Syntax.tcons
+      (Syntax.tyInt Syntax.w64)
+      (Syntax.tcons
       (Syntax.tyEnum
       (List._∷_
       97
@@ -4224,156 +4403,6 @@ t9 = List._∷_ (
       (Syntax.ttcons
       Syntax.tnil
       (Syntax.ttcons Syntax.tnil (Syntax.ttcons Syntax.tnil Syntax.ttnil)))))))))))))))))))
-      (Syntax.tcons
-      (Syntax.tyStruct
-      (List._∷_
-      102
-      (List._∷_
-      105
-      (List._∷_
-      110
-      (List._∷_
-      105
-      (List._∷_
-      115
-      (List._∷_
-      104
-      (List._∷_
-      58
-      (List._∷_ 58 (List._∷_ 83 (List._∷_ 101 (List._∷_ 110 (List._∷_ 116 List.[]))))))))))))
-      (Syntax.tcons
-      (Syntax.tyInt Syntax.w64)
-      (Syntax.tcons
-      (Syntax.tyStruct
-      (List._∷_
-      97
-      (List._∷_
-      110
-      (List._∷_
-      115
-      (List._∷_
-      119
-      (List._∷_
-      101
-      (List._∷_
-      114
-      (List._∷_
-      58
-      (List._∷_
-      58
-      (List._∷_
-      68
-      (List._∷_
-      101
-      (List._∷_
-      115
-      (List._∷_
-      116
-      (List._∷_
-      105
-      (List._∷_
-      110
-      (List._∷_
-      97
-      (List._∷_ 116 (List._∷_ 105 (List._∷_ 111 (List._∷_ 110 List.[])))))))))))))))))))
-      (Syntax.tcons
-      (Syntax.tyEnum
-      (List._∷_
-      97
-      (List._∷_
-      110
-      (List._∷_
-      115
-      (List._∷_
-      119
-      (List._∷_
-      101
-      (List._∷_
-      114
-      (List._∷_ 58 (List._∷_ 58 (List._∷_ 87 (List._∷_ 97 (List._∷_ 121 List.[])))))))))))
-      (Syntax.ttcons
-      Syntax.tnil
-      (Syntax.ttcons
-      Syntax.tnil
-      (Syntax.ttcons Syntax.tnil (Syntax.ttcons Syntax.tnil Syntax.ttnil)))))
-      (Syntax.tcons (Syntax.tyArray (Syntax.tyInt Syntax.w8) 16) Syntax.tnil)))
-      Syntax.tnil)))
-      (Syntax.tcons
-      (Syntax.tyStruct
-      (List._∷_
-      102
-      (List._∷_
-      105
-      (List._∷_
-      110
-      (List._∷_
-      105
-      (List._∷_
-      115
-      (List._∷_
-      104
-      (List._∷_
-      58
-      (List._∷_ 58 (List._∷_ 83 (List._∷_ 101 (List._∷_ 110 (List._∷_ 116 List.[]))))))))))))
-      (Syntax.tcons
-      (Syntax.tyInt Syntax.w64)
-      (Syntax.tcons
-      (Syntax.tyStruct
-      (List._∷_
-      97
-      (List._∷_
-      110
-      (List._∷_
-      115
-      (List._∷_
-      119
-      (List._∷_
-      101
-      (List._∷_
-      114
-      (List._∷_
-      58
-      (List._∷_
-      58
-      (List._∷_
-      68
-      (List._∷_
-      101
-      (List._∷_
-      115
-      (List._∷_
-      116
-      (List._∷_
-      105
-      (List._∷_
-      110
-      (List._∷_
-      97
-      (List._∷_ 116 (List._∷_ 105 (List._∷_ 111 (List._∷_ 110 List.[])))))))))))))))))))
-      (Syntax.tcons
-      (Syntax.tyEnum
-      (List._∷_
-      97
-      (List._∷_
-      110
-      (List._∷_
-      115
-      (List._∷_
-      119
-      (List._∷_
-      101
-      (List._∷_
-      114
-      (List._∷_ 58 (List._∷_ 58 (List._∷_ 87 (List._∷_ 97 (List._∷_ 121 List.[])))))))))))
-      (Syntax.ttcons
-      Syntax.tnil
-      (Syntax.ttcons
-      Syntax.tnil
-      (Syntax.ttcons Syntax.tnil (Syntax.ttcons Syntax.tnil Syntax.ttnil)))))
-      (Syntax.tcons (Syntax.tyArray (Syntax.tyInt Syntax.w8) 16) Syntax.tnil)))
-      Syntax.tnil)))
-      (Syntax.tcons
-      (Syntax.tyInt Syntax.w64)
       (Syntax.tcons (Syntax.tyInt Syntax.w8) Syntax.tnil)))))),
 ) (List._∷_ (
   1,
@@ -4596,6 +4625,160 @@ t10 = List._∷_ (
       117
       (List._∷_ 116 (List._∷_ 99 (List._∷_ 111 (List._∷_ 109 (List._∷_ 101 List.[])))))))))))))))
       (Syntax.tcons
+      (Syntax.tyStruct
+      (List._∷_
+      102
+      (List._∷_
+      105
+      (List._∷_
+      110
+      (List._∷_
+      105
+      (List._∷_
+      115
+      (List._∷_
+      104
+      (List._∷_
+      58
+      (List._∷_ 58 (List._∷_ 83 (List._∷_ 101 (List._∷_ 110 (List._∷_ 116 List.[]))))))))))))
+      (Syntax.tcons
+      (Syntax.tyInt Syntax.w64)
+      (Syntax.tcons
+      (Syntax.tyStruct
+      (List._∷_
+      97
+      (List._∷_
+      110
+      (List._∷_
+      115
+      (List._∷_
+      119
+      (List._∷_
+      101
+      (List._∷_
+      114
+      (List._∷_
+      58
+      (List._∷_
+      58
+      (List._∷_
+      68
+      (List._∷_
+      101
+      (List._∷_
+      115
+      (List._∷_
+      116
+      (List._∷_
+      105
+      (List._∷_
+      110
+      (List._∷_
+      97
+      (List._∷_ 116 (List._∷_ 105 (List._∷_ 111 (List._∷_ 110 List.[])))))))))))))))))))
+      (Syntax.tcons
+      (Syntax.tyArray (Syntax.tyInt Syntax.w8) 16)
+      (Syntax.tcons
+      (Syntax.tyEnum
+      (List._∷_
+      97
+      (List._∷_
+      110
+      (List._∷_
+      115
+      (List._∷_
+      119
+      (List._∷_
+      101
+      (List._∷_
+      114
+      (List._∷_ 58 (List._∷_ 58 (List._∷_ 87 (List._∷_ 97 (List._∷_ 121 List.[])))))))))))
+      (Syntax.ttcons
+      Syntax.tnil
+      (Syntax.ttcons
+      Syntax.tnil
+      (Syntax.ttcons Syntax.tnil (Syntax.ttcons Syntax.tnil Syntax.ttnil)))))
+      Syntax.tnil)))
+      Syntax.tnil)))
+      (Syntax.tcons
+      (Syntax.tyStruct
+      (List._∷_
+      102
+      (List._∷_
+      105
+      (List._∷_
+      110
+      (List._∷_
+      105
+      (List._∷_
+      115
+      (List._∷_
+      104
+      (List._∷_
+      58
+      (List._∷_ 58 (List._∷_ 83 (List._∷_ 101 (List._∷_ 110 (List._∷_ 116 List.[]))))))))))))
+      (Syntax.tcons
+      (Syntax.tyInt Syntax.w64)
+      (Syntax.tcons
+      (Syntax.tyStruct
+      (List._∷_
+      97
+      (List._∷_
+      110
+      (List._∷_
+      115
+      (List._∷_
+      119
+      (List._∷_
+      101
+      (List._∷_
+      114
+      (List._∷_
+      58
+      (List._∷_
+      58
+      (List._∷_
+      68
+      (List._∷_
+      101
+      (List._∷_
+      115
+      (List._∷_
+      116
+      (List._∷_
+      105
+      (List._∷_
+      110
+      (List._∷_
+      97
+      (List._∷_ 116 (List._∷_ 105 (List._∷_ 111 (List._∷_ 110 List.[])))))))))))))))))))
+      (Syntax.tcons
+      (Syntax.tyArray (Syntax.tyInt Syntax.w8) 16)
+      (Syntax.tcons
+      (Syntax.tyEnum
+      (List._∷_
+      97
+      (List._∷_
+      110
+      (List._∷_
+      115
+      (List._∷_
+      119
+      (List._∷_
+      101
+      (List._∷_
+      114
+      (List._∷_ 58 (List._∷_ 58 (List._∷_ 87 (List._∷_ 97 (List._∷_ 121 List.[])))))))))))
+      (Syntax.ttcons
+      Syntax.tnil
+      (Syntax.ttcons
+      Syntax.tnil
+      (Syntax.ttcons Syntax.tnil (Syntax.ttcons Syntax.tnil Syntax.ttnil)))))
+      Syntax.tnil)))
+      Syntax.tnil)))
+      (Syntax.tcons
+      (Syntax.tyInt Syntax.w64)
+      (Syntax.tcons
       (Syntax.tyEnum
       (List._∷_
       97
@@ -4649,156 +4832,6 @@ t10 = List._∷_ (
       (Syntax.ttcons
       Syntax.tnil
       (Syntax.ttcons Syntax.tnil (Syntax.ttcons Syntax.tnil Syntax.ttnil)))))))))))))))))))
-      (Syntax.tcons
-      (Syntax.tyStruct
-      (List._∷_
-      102
-      (List._∷_
-      105
-      (List._∷_
-      110
-      (List._∷_
-      105
-      (List._∷_
-      115
-      (List._∷_
-      104
-      (List._∷_
-      58
-      (List._∷_ 58 (List._∷_ 83 (List._∷_ 101 (List._∷_ 110 (List._∷_ 116 List.[]))))))))))))
-      (Syntax.tcons
-      (Syntax.tyInt Syntax.w64)
-      (Syntax.tcons
-      (Syntax.tyStruct
-      (List._∷_
-      97
-      (List._∷_
-      110
-      (List._∷_
-      115
-      (List._∷_
-      119
-      (List._∷_
-      101
-      (List._∷_
-      114
-      (List._∷_
-      58
-      (List._∷_
-      58
-      (List._∷_
-      68
-      (List._∷_
-      101
-      (List._∷_
-      115
-      (List._∷_
-      116
-      (List._∷_
-      105
-      (List._∷_
-      110
-      (List._∷_
-      97
-      (List._∷_ 116 (List._∷_ 105 (List._∷_ 111 (List._∷_ 110 List.[])))))))))))))))))))
-      (Syntax.tcons
-      (Syntax.tyEnum
-      (List._∷_
-      97
-      (List._∷_
-      110
-      (List._∷_
-      115
-      (List._∷_
-      119
-      (List._∷_
-      101
-      (List._∷_
-      114
-      (List._∷_ 58 (List._∷_ 58 (List._∷_ 87 (List._∷_ 97 (List._∷_ 121 List.[])))))))))))
-      (Syntax.ttcons
-      Syntax.tnil
-      (Syntax.ttcons
-      Syntax.tnil
-      (Syntax.ttcons Syntax.tnil (Syntax.ttcons Syntax.tnil Syntax.ttnil)))))
-      (Syntax.tcons (Syntax.tyArray (Syntax.tyInt Syntax.w8) 16) Syntax.tnil)))
-      Syntax.tnil)))
-      (Syntax.tcons
-      (Syntax.tyStruct
-      (List._∷_
-      102
-      (List._∷_
-      105
-      (List._∷_
-      110
-      (List._∷_
-      105
-      (List._∷_
-      115
-      (List._∷_
-      104
-      (List._∷_
-      58
-      (List._∷_ 58 (List._∷_ 83 (List._∷_ 101 (List._∷_ 110 (List._∷_ 116 List.[]))))))))))))
-      (Syntax.tcons
-      (Syntax.tyInt Syntax.w64)
-      (Syntax.tcons
-      (Syntax.tyStruct
-      (List._∷_
-      97
-      (List._∷_
-      110
-      (List._∷_
-      115
-      (List._∷_
-      119
-      (List._∷_
-      101
-      (List._∷_
-      114
-      (List._∷_
-      58
-      (List._∷_
-      58
-      (List._∷_
-      68
-      (List._∷_
-      101
-      (List._∷_
-      115
-      (List._∷_
-      116
-      (List._∷_
-      105
-      (List._∷_
-      110
-      (List._∷_
-      97
-      (List._∷_ 116 (List._∷_ 105 (List._∷_ 111 (List._∷_ 110 List.[])))))))))))))))))))
-      (Syntax.tcons
-      (Syntax.tyEnum
-      (List._∷_
-      97
-      (List._∷_
-      110
-      (List._∷_
-      115
-      (List._∷_
-      119
-      (List._∷_
-      101
-      (List._∷_
-      114
-      (List._∷_ 58 (List._∷_ 58 (List._∷_ 87 (List._∷_ 97 (List._∷_ 121 List.[])))))))))))
-      (Syntax.ttcons
-      Syntax.tnil
-      (Syntax.ttcons
-      Syntax.tnil
-      (Syntax.ttcons Syntax.tnil (Syntax.ttcons Syntax.tnil Syntax.ttnil)))))
-      (Syntax.tcons (Syntax.tyArray (Syntax.tyInt Syntax.w8) 16) Syntax.tnil)))
-      Syntax.tnil)))
-      (Syntax.tcons
-      (Syntax.tyInt Syntax.w64)
       (Syntax.tcons (Syntax.tyInt Syntax.w8) Syntax.tnil)))))),
 ) (List._∷_ (
   1,
@@ -5048,6 +5081,160 @@ t11 = List._∷_ (
       117
       (List._∷_ 116 (List._∷_ 99 (List._∷_ 111 (List._∷_ 109 (List._∷_ 101 List.[])))))))))))))))
       (Syntax.tcons
+      (Syntax.tyStruct
+      (List._∷_
+      102
+      (List._∷_
+      105
+      (List._∷_
+      110
+      (List._∷_
+      105
+      (List._∷_
+      115
+      (List._∷_
+      104
+      (List._∷_
+      58
+      (List._∷_ 58 (List._∷_ 83 (List._∷_ 101 (List._∷_ 110 (List._∷_ 116 List.[]))))))))))))
+      (Syntax.tcons
+      (Syntax.tyInt Syntax.w64)
+      (Syntax.tcons
+      (Syntax.tyStruct
+      (List._∷_
+      97
+      (List._∷_
+      110
+      (List._∷_
+      115
+      (List._∷_
+      119
+      (List._∷_
+      101
+      (List._∷_
+      114
+      (List._∷_
+      58
+      (List._∷_
+      58
+      (List._∷_
+      68
+      (List._∷_
+      101
+      (List._∷_
+      115
+      (List._∷_
+      116
+      (List._∷_
+      105
+      (List._∷_
+      110
+      (List._∷_
+      97
+      (List._∷_ 116 (List._∷_ 105 (List._∷_ 111 (List._∷_ 110 List.[])))))))))))))))))))
+      (Syntax.tcons
+      (Syntax.tyArray (Syntax.tyInt Syntax.w8) 16)
+      (Syntax.tcons
+      (Syntax.tyEnum
+      (List._∷_
+      97
+      (List._∷_
+      110
+      (List._∷_
+      115
+      (List._∷_
+      119
+      (List._∷_
+      101
+      (List._∷_
+      114
+      (List._∷_ 58 (List._∷_ 58 (List._∷_ 87 (List._∷_ 97 (List._∷_ 121 List.[])))))))))))
+      (Syntax.ttcons
+      Syntax.tnil
+      (Syntax.ttcons
+      Syntax.tnil
+      (Syntax.ttcons Syntax.tnil (Syntax.ttcons Syntax.tnil Syntax.ttnil)))))
+      Syntax.tnil)))
+      Syntax.tnil)))
+      (Syntax.tcons
+      (Syntax.tyStruct
+      (List._∷_
+      102
+      (List._∷_
+      105
+      (List._∷_
+      110
+      (List._∷_
+      105
+      (List._∷_
+      115
+      (List._∷_
+      104
+      (List._∷_
+      58
+      (List._∷_ 58 (List._∷_ 83 (List._∷_ 101 (List._∷_ 110 (List._∷_ 116 List.[]))))))))))))
+      (Syntax.tcons
+      (Syntax.tyInt Syntax.w64)
+      (Syntax.tcons
+      (Syntax.tyStruct
+      (List._∷_
+      97
+      (List._∷_
+      110
+      (List._∷_
+      115
+      (List._∷_
+      119
+      (List._∷_
+      101
+      (List._∷_
+      114
+      (List._∷_
+      58
+      (List._∷_
+      58
+      (List._∷_
+      68
+      (List._∷_
+      101
+      (List._∷_
+      115
+      (List._∷_
+      116
+      (List._∷_
+      105
+      (List._∷_
+      110
+      (List._∷_
+      97
+      (List._∷_ 116 (List._∷_ 105 (List._∷_ 111 (List._∷_ 110 List.[])))))))))))))))))))
+      (Syntax.tcons
+      (Syntax.tyArray (Syntax.tyInt Syntax.w8) 16)
+      (Syntax.tcons
+      (Syntax.tyEnum
+      (List._∷_
+      97
+      (List._∷_
+      110
+      (List._∷_
+      115
+      (List._∷_
+      119
+      (List._∷_
+      101
+      (List._∷_
+      114
+      (List._∷_ 58 (List._∷_ 58 (List._∷_ 87 (List._∷_ 97 (List._∷_ 121 List.[])))))))))))
+      (Syntax.ttcons
+      Syntax.tnil
+      (Syntax.ttcons
+      Syntax.tnil
+      (Syntax.ttcons Syntax.tnil (Syntax.ttcons Syntax.tnil Syntax.ttnil)))))
+      Syntax.tnil)))
+      Syntax.tnil)))
+      (Syntax.tcons
+      (Syntax.tyInt Syntax.w64)
+      (Syntax.tcons
       (Syntax.tyEnum
       (List._∷_
       97
@@ -5101,156 +5288,6 @@ t11 = List._∷_ (
       (Syntax.ttcons
       Syntax.tnil
       (Syntax.ttcons Syntax.tnil (Syntax.ttcons Syntax.tnil Syntax.ttnil)))))))))))))))))))
-      (Syntax.tcons
-      (Syntax.tyStruct
-      (List._∷_
-      102
-      (List._∷_
-      105
-      (List._∷_
-      110
-      (List._∷_
-      105
-      (List._∷_
-      115
-      (List._∷_
-      104
-      (List._∷_
-      58
-      (List._∷_ 58 (List._∷_ 83 (List._∷_ 101 (List._∷_ 110 (List._∷_ 116 List.[]))))))))))))
-      (Syntax.tcons
-      (Syntax.tyInt Syntax.w64)
-      (Syntax.tcons
-      (Syntax.tyStruct
-      (List._∷_
-      97
-      (List._∷_
-      110
-      (List._∷_
-      115
-      (List._∷_
-      119
-      (List._∷_
-      101
-      (List._∷_
-      114
-      (List._∷_
-      58
-      (List._∷_
-      58
-      (List._∷_
-      68
-      (List._∷_
-      101
-      (List._∷_
-      115
-      (List._∷_
-      116
-      (List._∷_
-      105
-      (List._∷_
-      110
-      (List._∷_
-      97
-      (List._∷_ 116 (List._∷_ 105 (List._∷_ 111 (List._∷_ 110 List.[])))))))))))))))))))
-      (Syntax.tcons
-      (Syntax.tyEnum
-      (List._∷_
-      97
-      (List._∷_
-      110
-      (List._∷_
-      115
-      (List._∷_
-      119
-      (List._∷_
-      101
-      (List._∷_
-      114
-      (List._∷_ 58 (List._∷_ 58 (List._∷_ 87 (List._∷_ 97 (List._∷_ 121 List.[])))))))))))
-      (Syntax.ttcons
-      Syntax.tnil
-      (Syntax.ttcons
-      Syntax.tnil
-      (Syntax.ttcons Syntax.tnil (Syntax.ttcons Syntax.tnil Syntax.ttnil)))))
-      (Syntax.tcons (Syntax.tyArray (Syntax.tyInt Syntax.w8) 16) Syntax.tnil)))
-      Syntax.tnil)))
-      (Syntax.tcons
-      (Syntax.tyStruct
-      (List._∷_
-      102
-      (List._∷_
-      105
-      (List._∷_
-      110
-      (List._∷_
-      105
-      (List._∷_
-      115
-      (List._∷_
-      104
-      (List._∷_
-      58
-      (List._∷_ 58 (List._∷_ 83 (List._∷_ 101 (List._∷_ 110 (List._∷_ 116 List.[]))))))))))))
-      (Syntax.tcons
-      (Syntax.tyInt Syntax.w64)
-      (Syntax.tcons
-      (Syntax.tyStruct
-      (List._∷_
-      97
-      (List._∷_
-      110
-      (List._∷_
-      115
-      (List._∷_
-      119
-      (List._∷_
-      101
-      (List._∷_
-      114
-      (List._∷_
-      58
-      (List._∷_
-      58
-      (List._∷_
-      68
-      (List._∷_
-      101
-      (List._∷_
-      115
-      (List._∷_
-      116
-      (List._∷_
-      105
-      (List._∷_
-      110
-      (List._∷_
-      97
-      (List._∷_ 116 (List._∷_ 105 (List._∷_ 111 (List._∷_ 110 List.[])))))))))))))))))))
-      (Syntax.tcons
-      (Syntax.tyEnum
-      (List._∷_
-      97
-      (List._∷_
-      110
-      (List._∷_
-      115
-      (List._∷_
-      119
-      (List._∷_
-      101
-      (List._∷_
-      114
-      (List._∷_ 58 (List._∷_ 58 (List._∷_ 87 (List._∷_ 97 (List._∷_ 121 List.[])))))))))))
-      (Syntax.ttcons
-      Syntax.tnil
-      (Syntax.ttcons
-      Syntax.tnil
-      (Syntax.ttcons Syntax.tnil (Syntax.ttcons Syntax.tnil Syntax.ttnil)))))
-      (Syntax.tcons (Syntax.tyArray (Syntax.tyInt Syntax.w8) 16) Syntax.tnil)))
-      Syntax.tnil)))
-      (Syntax.tcons
-      (Syntax.tyInt Syntax.w64)
       (Syntax.tcons (Syntax.tyInt Syntax.w8) Syntax.tnil)))))),
 ) (List._∷_ (
   1,
@@ -5497,6 +5534,160 @@ t12 = List._∷_ (
       117
       (List._∷_ 116 (List._∷_ 99 (List._∷_ 111 (List._∷_ 109 (List._∷_ 101 List.[])))))))))))))))
       (Syntax.tcons
+      (Syntax.tyStruct
+      (List._∷_
+      102
+      (List._∷_
+      105
+      (List._∷_
+      110
+      (List._∷_
+      105
+      (List._∷_
+      115
+      (List._∷_
+      104
+      (List._∷_
+      58
+      (List._∷_ 58 (List._∷_ 83 (List._∷_ 101 (List._∷_ 110 (List._∷_ 116 List.[]))))))))))))
+      (Syntax.tcons
+      (Syntax.tyInt Syntax.w64)
+      (Syntax.tcons
+      (Syntax.tyStruct
+      (List._∷_
+      97
+      (List._∷_
+      110
+      (List._∷_
+      115
+      (List._∷_
+      119
+      (List._∷_
+      101
+      (List._∷_
+      114
+      (List._∷_
+      58
+      (List._∷_
+      58
+      (List._∷_
+      68
+      (List._∷_
+      101
+      (List._∷_
+      115
+      (List._∷_
+      116
+      (List._∷_
+      105
+      (List._∷_
+      110
+      (List._∷_
+      97
+      (List._∷_ 116 (List._∷_ 105 (List._∷_ 111 (List._∷_ 110 List.[])))))))))))))))))))
+      (Syntax.tcons
+      (Syntax.tyArray (Syntax.tyInt Syntax.w8) 16)
+      (Syntax.tcons
+      (Syntax.tyEnum
+      (List._∷_
+      97
+      (List._∷_
+      110
+      (List._∷_
+      115
+      (List._∷_
+      119
+      (List._∷_
+      101
+      (List._∷_
+      114
+      (List._∷_ 58 (List._∷_ 58 (List._∷_ 87 (List._∷_ 97 (List._∷_ 121 List.[])))))))))))
+      (Syntax.ttcons
+      Syntax.tnil
+      (Syntax.ttcons
+      Syntax.tnil
+      (Syntax.ttcons Syntax.tnil (Syntax.ttcons Syntax.tnil Syntax.ttnil)))))
+      Syntax.tnil)))
+      Syntax.tnil)))
+      (Syntax.tcons
+      (Syntax.tyStruct
+      (List._∷_
+      102
+      (List._∷_
+      105
+      (List._∷_
+      110
+      (List._∷_
+      105
+      (List._∷_
+      115
+      (List._∷_
+      104
+      (List._∷_
+      58
+      (List._∷_ 58 (List._∷_ 83 (List._∷_ 101 (List._∷_ 110 (List._∷_ 116 List.[]))))))))))))
+      (Syntax.tcons
+      (Syntax.tyInt Syntax.w64)
+      (Syntax.tcons
+      (Syntax.tyStruct
+      (List._∷_
+      97
+      (List._∷_
+      110
+      (List._∷_
+      115
+      (List._∷_
+      119
+      (List._∷_
+      101
+      (List._∷_
+      114
+      (List._∷_
+      58
+      (List._∷_
+      58
+      (List._∷_
+      68
+      (List._∷_
+      101
+      (List._∷_
+      115
+      (List._∷_
+      116
+      (List._∷_
+      105
+      (List._∷_
+      110
+      (List._∷_
+      97
+      (List._∷_ 116 (List._∷_ 105 (List._∷_ 111 (List._∷_ 110 List.[])))))))))))))))))))
+      (Syntax.tcons
+      (Syntax.tyArray (Syntax.tyInt Syntax.w8) 16)
+      (Syntax.tcons
+      (Syntax.tyEnum
+      (List._∷_
+      97
+      (List._∷_
+      110
+      (List._∷_
+      115
+      (List._∷_
+      119
+      (List._∷_
+      101
+      (List._∷_
+      114
+      (List._∷_ 58 (List._∷_ 58 (List._∷_ 87 (List._∷_ 97 (List._∷_ 121 List.[])))))))))))
+      (Syntax.ttcons
+      Syntax.tnil
+      (Syntax.ttcons
+      Syntax.tnil
+      (Syntax.ttcons Syntax.tnil (Syntax.ttcons Syntax.tnil Syntax.ttnil)))))
+      Syntax.tnil)))
+      Syntax.tnil)))
+      (Syntax.tcons
+      (Syntax.tyInt Syntax.w64)
+      (Syntax.tcons
       (Syntax.tyEnum
       (List._∷_
       97
@@ -5550,156 +5741,6 @@ t12 = List._∷_ (
       (Syntax.ttcons
       Syntax.tnil
       (Syntax.ttcons Syntax.tnil (Syntax.ttcons Syntax.tnil Syntax.ttnil)))))))))))))))))))
-      (Syntax.tcons
-      (Syntax.tyStruct
-      (List._∷_
-      102
-      (List._∷_
-      105
-      (List._∷_
-      110
-      (List._∷_
-      105
-      (List._∷_
-      115
-      (List._∷_
-      104
-      (List._∷_
-      58
-      (List._∷_ 58 (List._∷_ 83 (List._∷_ 101 (List._∷_ 110 (List._∷_ 116 List.[]))))))))))))
-      (Syntax.tcons
-      (Syntax.tyInt Syntax.w64)
-      (Syntax.tcons
-      (Syntax.tyStruct
-      (List._∷_
-      97
-      (List._∷_
-      110
-      (List._∷_
-      115
-      (List._∷_
-      119
-      (List._∷_
-      101
-      (List._∷_
-      114
-      (List._∷_
-      58
-      (List._∷_
-      58
-      (List._∷_
-      68
-      (List._∷_
-      101
-      (List._∷_
-      115
-      (List._∷_
-      116
-      (List._∷_
-      105
-      (List._∷_
-      110
-      (List._∷_
-      97
-      (List._∷_ 116 (List._∷_ 105 (List._∷_ 111 (List._∷_ 110 List.[])))))))))))))))))))
-      (Syntax.tcons
-      (Syntax.tyEnum
-      (List._∷_
-      97
-      (List._∷_
-      110
-      (List._∷_
-      115
-      (List._∷_
-      119
-      (List._∷_
-      101
-      (List._∷_
-      114
-      (List._∷_ 58 (List._∷_ 58 (List._∷_ 87 (List._∷_ 97 (List._∷_ 121 List.[])))))))))))
-      (Syntax.ttcons
-      Syntax.tnil
-      (Syntax.ttcons
-      Syntax.tnil
-      (Syntax.ttcons Syntax.tnil (Syntax.ttcons Syntax.tnil Syntax.ttnil)))))
-      (Syntax.tcons (Syntax.tyArray (Syntax.tyInt Syntax.w8) 16) Syntax.tnil)))
-      Syntax.tnil)))
-      (Syntax.tcons
-      (Syntax.tyStruct
-      (List._∷_
-      102
-      (List._∷_
-      105
-      (List._∷_
-      110
-      (List._∷_
-      105
-      (List._∷_
-      115
-      (List._∷_
-      104
-      (List._∷_
-      58
-      (List._∷_ 58 (List._∷_ 83 (List._∷_ 101 (List._∷_ 110 (List._∷_ 116 List.[]))))))))))))
-      (Syntax.tcons
-      (Syntax.tyInt Syntax.w64)
-      (Syntax.tcons
-      (Syntax.tyStruct
-      (List._∷_
-      97
-      (List._∷_
-      110
-      (List._∷_
-      115
-      (List._∷_
-      119
-      (List._∷_
-      101
-      (List._∷_
-      114
-      (List._∷_
-      58
-      (List._∷_
-      58
-      (List._∷_
-      68
-      (List._∷_
-      101
-      (List._∷_
-      115
-      (List._∷_
-      116
-      (List._∷_
-      105
-      (List._∷_
-      110
-      (List._∷_
-      97
-      (List._∷_ 116 (List._∷_ 105 (List._∷_ 111 (List._∷_ 110 List.[])))))))))))))))))))
-      (Syntax.tcons
-      (Syntax.tyEnum
-      (List._∷_
-      97
-      (List._∷_
-      110
-      (List._∷_
-      115
-      (List._∷_
-      119
-      (List._∷_
-      101
-      (List._∷_
-      114
-      (List._∷_ 58 (List._∷_ 58 (List._∷_ 87 (List._∷_ 97 (List._∷_ 121 List.[])))))))))))
-      (Syntax.ttcons
-      Syntax.tnil
-      (Syntax.ttcons
-      Syntax.tnil
-      (Syntax.ttcons Syntax.tnil (Syntax.ttcons Syntax.tnil Syntax.ttnil)))))
-      (Syntax.tcons (Syntax.tyArray (Syntax.tyInt Syntax.w8) 16) Syntax.tnil)))
-      Syntax.tnil)))
-      (Syntax.tcons
-      (Syntax.tyInt Syntax.w64)
       (Syntax.tcons (Syntax.tyInt Syntax.w8) Syntax.tnil)))))),
 ) (List._∷_ (
   1,
@@ -6716,6 +6757,160 @@ t17 = List._∷_ (
       117
       (List._∷_ 116 (List._∷_ 99 (List._∷_ 111 (List._∷_ 109 (List._∷_ 101 List.[])))))))))))))))
       (Syntax.tcons
+      (Syntax.tyStruct
+      (List._∷_
+      102
+      (List._∷_
+      105
+      (List._∷_
+      110
+      (List._∷_
+      105
+      (List._∷_
+      115
+      (List._∷_
+      104
+      (List._∷_
+      58
+      (List._∷_ 58 (List._∷_ 83 (List._∷_ 101 (List._∷_ 110 (List._∷_ 116 List.[]))))))))))))
+      (Syntax.tcons
+      (Syntax.tyInt Syntax.w64)
+      (Syntax.tcons
+      (Syntax.tyStruct
+      (List._∷_
+      97
+      (List._∷_
+      110
+      (List._∷_
+      115
+      (List._∷_
+      119
+      (List._∷_
+      101
+      (List._∷_
+      114
+      (List._∷_
+      58
+      (List._∷_
+      58
+      (List._∷_
+      68
+      (List._∷_
+      101
+      (List._∷_
+      115
+      (List._∷_
+      116
+      (List._∷_
+      105
+      (List._∷_
+      110
+      (List._∷_
+      97
+      (List._∷_ 116 (List._∷_ 105 (List._∷_ 111 (List._∷_ 110 List.[])))))))))))))))))))
+      (Syntax.tcons
+      (Syntax.tyArray (Syntax.tyInt Syntax.w8) 16)
+      (Syntax.tcons
+      (Syntax.tyEnum
+      (List._∷_
+      97
+      (List._∷_
+      110
+      (List._∷_
+      115
+      (List._∷_
+      119
+      (List._∷_
+      101
+      (List._∷_
+      114
+      (List._∷_ 58 (List._∷_ 58 (List._∷_ 87 (List._∷_ 97 (List._∷_ 121 List.[])))))))))))
+      (Syntax.ttcons
+      Syntax.tnil
+      (Syntax.ttcons
+      Syntax.tnil
+      (Syntax.ttcons Syntax.tnil (Syntax.ttcons Syntax.tnil Syntax.ttnil)))))
+      Syntax.tnil)))
+      Syntax.tnil)))
+      (Syntax.tcons
+      (Syntax.tyStruct
+      (List._∷_
+      102
+      (List._∷_
+      105
+      (List._∷_
+      110
+      (List._∷_
+      105
+      (List._∷_
+      115
+      (List._∷_
+      104
+      (List._∷_
+      58
+      (List._∷_ 58 (List._∷_ 83 (List._∷_ 101 (List._∷_ 110 (List._∷_ 116 List.[]))))))))))))
+      (Syntax.tcons
+      (Syntax.tyInt Syntax.w64)
+      (Syntax.tcons
+      (Syntax.tyStruct
+      (List._∷_
+      97
+      (List._∷_
+      110
+      (List._∷_
+      115
+      (List._∷_
+      119
+      (List._∷_
+      101
+      (List._∷_
+      114
+      (List._∷_
+      58
+      (List._∷_
+      58
+      (List._∷_
+      68
+      (List._∷_
+      101
+      (List._∷_
+      115
+      (List._∷_
+      116
+      (List._∷_
+      105
+      (List._∷_
+      110
+      (List._∷_
+      97
+      (List._∷_ 116 (List._∷_ 105 (List._∷_ 111 (List._∷_ 110 List.[])))))))))))))))))))
+      (Syntax.tcons
+      (Syntax.tyArray (Syntax.tyInt Syntax.w8) 16)
+      (Syntax.tcons
+      (Syntax.tyEnum
+      (List._∷_
+      97
+      (List._∷_
+      110
+      (List._∷_
+      115
+      (List._∷_
+      119
+      (List._∷_
+      101
+      (List._∷_
+      114
+      (List._∷_ 58 (List._∷_ 58 (List._∷_ 87 (List._∷_ 97 (List._∷_ 121 List.[])))))))))))
+      (Syntax.ttcons
+      Syntax.tnil
+      (Syntax.ttcons
+      Syntax.tnil
+      (Syntax.ttcons Syntax.tnil (Syntax.ttcons Syntax.tnil Syntax.ttnil)))))
+      Syntax.tnil)))
+      Syntax.tnil)))
+      (Syntax.tcons
+      (Syntax.tyInt Syntax.w64)
+      (Syntax.tcons
       (Syntax.tyEnum
       (List._∷_
       97
@@ -6769,156 +6964,6 @@ t17 = List._∷_ (
       (Syntax.ttcons
       Syntax.tnil
       (Syntax.ttcons Syntax.tnil (Syntax.ttcons Syntax.tnil Syntax.ttnil)))))))))))))))))))
-      (Syntax.tcons
-      (Syntax.tyStruct
-      (List._∷_
-      102
-      (List._∷_
-      105
-      (List._∷_
-      110
-      (List._∷_
-      105
-      (List._∷_
-      115
-      (List._∷_
-      104
-      (List._∷_
-      58
-      (List._∷_ 58 (List._∷_ 83 (List._∷_ 101 (List._∷_ 110 (List._∷_ 116 List.[]))))))))))))
-      (Syntax.tcons
-      (Syntax.tyInt Syntax.w64)
-      (Syntax.tcons
-      (Syntax.tyStruct
-      (List._∷_
-      97
-      (List._∷_
-      110
-      (List._∷_
-      115
-      (List._∷_
-      119
-      (List._∷_
-      101
-      (List._∷_
-      114
-      (List._∷_
-      58
-      (List._∷_
-      58
-      (List._∷_
-      68
-      (List._∷_
-      101
-      (List._∷_
-      115
-      (List._∷_
-      116
-      (List._∷_
-      105
-      (List._∷_
-      110
-      (List._∷_
-      97
-      (List._∷_ 116 (List._∷_ 105 (List._∷_ 111 (List._∷_ 110 List.[])))))))))))))))))))
-      (Syntax.tcons
-      (Syntax.tyEnum
-      (List._∷_
-      97
-      (List._∷_
-      110
-      (List._∷_
-      115
-      (List._∷_
-      119
-      (List._∷_
-      101
-      (List._∷_
-      114
-      (List._∷_ 58 (List._∷_ 58 (List._∷_ 87 (List._∷_ 97 (List._∷_ 121 List.[])))))))))))
-      (Syntax.ttcons
-      Syntax.tnil
-      (Syntax.ttcons
-      Syntax.tnil
-      (Syntax.ttcons Syntax.tnil (Syntax.ttcons Syntax.tnil Syntax.ttnil)))))
-      (Syntax.tcons (Syntax.tyArray (Syntax.tyInt Syntax.w8) 16) Syntax.tnil)))
-      Syntax.tnil)))
-      (Syntax.tcons
-      (Syntax.tyStruct
-      (List._∷_
-      102
-      (List._∷_
-      105
-      (List._∷_
-      110
-      (List._∷_
-      105
-      (List._∷_
-      115
-      (List._∷_
-      104
-      (List._∷_
-      58
-      (List._∷_ 58 (List._∷_ 83 (List._∷_ 101 (List._∷_ 110 (List._∷_ 116 List.[]))))))))))))
-      (Syntax.tcons
-      (Syntax.tyInt Syntax.w64)
-      (Syntax.tcons
-      (Syntax.tyStruct
-      (List._∷_
-      97
-      (List._∷_
-      110
-      (List._∷_
-      115
-      (List._∷_
-      119
-      (List._∷_
-      101
-      (List._∷_
-      114
-      (List._∷_
-      58
-      (List._∷_
-      58
-      (List._∷_
-      68
-      (List._∷_
-      101
-      (List._∷_
-      115
-      (List._∷_
-      116
-      (List._∷_
-      105
-      (List._∷_
-      110
-      (List._∷_
-      97
-      (List._∷_ 116 (List._∷_ 105 (List._∷_ 111 (List._∷_ 110 List.[])))))))))))))))))))
-      (Syntax.tcons
-      (Syntax.tyEnum
-      (List._∷_
-      97
-      (List._∷_
-      110
-      (List._∷_
-      115
-      (List._∷_
-      119
-      (List._∷_
-      101
-      (List._∷_
-      114
-      (List._∷_ 58 (List._∷_ 58 (List._∷_ 87 (List._∷_ 97 (List._∷_ 121 List.[])))))))))))
-      (Syntax.ttcons
-      Syntax.tnil
-      (Syntax.ttcons
-      Syntax.tnil
-      (Syntax.ttcons Syntax.tnil (Syntax.ttcons Syntax.tnil Syntax.ttnil)))))
-      (Syntax.tcons (Syntax.tyArray (Syntax.tyInt Syntax.w8) 16) Syntax.tnil)))
-      Syntax.tnil)))
-      (Syntax.tcons
-      (Syntax.tyInt Syntax.w64)
       (Syntax.tcons (Syntax.tyInt Syntax.w8) Syntax.tnil)))))),
 ) (List._∷_ (
   1,
@@ -7232,6 +7277,160 @@ t19 = List._∷_ (
       117
       (List._∷_ 116 (List._∷_ 99 (List._∷_ 111 (List._∷_ 109 (List._∷_ 101 List.[])))))))))))))))
       (Syntax.tcons
+      (Syntax.tyStruct
+      (List._∷_
+      102
+      (List._∷_
+      105
+      (List._∷_
+      110
+      (List._∷_
+      105
+      (List._∷_
+      115
+      (List._∷_
+      104
+      (List._∷_
+      58
+      (List._∷_ 58 (List._∷_ 83 (List._∷_ 101 (List._∷_ 110 (List._∷_ 116 List.[]))))))))))))
+      (Syntax.tcons
+      (Syntax.tyInt Syntax.w64)
+      (Syntax.tcons
+      (Syntax.tyStruct
+      (List._∷_
+      97
+      (List._∷_
+      110
+      (List._∷_
+      115
+      (List._∷_
+      119
+      (List._∷_
+      101
+      (List._∷_
+      114
+      (List._∷_
+      58
+      (List._∷_
+      58
+      (List._∷_
+      68
+      (List._∷_
+      101
+      (List._∷_
+      115
+      (List._∷_
+      116
+      (List._∷_
+      105
+      (List._∷_
+      110
+      (List._∷_
+      97
+      (List._∷_ 116 (List._∷_ 105 (List._∷_ 111 (List._∷_ 110 List.[])))))))))))))))))))
+      (Syntax.tcons
+      (Syntax.tyArray (Syntax.tyInt Syntax.w8) 16)
+      (Syntax.tcons
+      (Syntax.tyEnum
+      (List._∷_
+      97
+      (List._∷_
+      110
+      (List._∷_
+      115
+      (List._∷_
+      119
+      (List._∷_
+      101
+      (List._∷_
+      114
+      (List._∷_ 58 (List._∷_ 58 (List._∷_ 87 (List._∷_ 97 (List._∷_ 121 List.[])))))))))))
+      (Syntax.ttcons
+      Syntax.tnil
+      (Syntax.ttcons
+      Syntax.tnil
+      (Syntax.ttcons Syntax.tnil (Syntax.ttcons Syntax.tnil Syntax.ttnil)))))
+      Syntax.tnil)))
+      Syntax.tnil)))
+      (Syntax.tcons
+      (Syntax.tyStruct
+      (List._∷_
+      102
+      (List._∷_
+      105
+      (List._∷_
+      110
+      (List._∷_
+      105
+      (List._∷_
+      115
+      (List._∷_
+      104
+      (List._∷_
+      58
+      (List._∷_ 58 (List._∷_ 83 (List._∷_ 101 (List._∷_ 110 (List._∷_ 116 List.[]))))))))))))
+      (Syntax.tcons
+      (Syntax.tyInt Syntax.w64)
+      (Syntax.tcons
+      (Syntax.tyStruct
+      (List._∷_
+      97
+      (List._∷_
+      110
+      (List._∷_
+      115
+      (List._∷_
+      119
+      (List._∷_
+      101
+      (List._∷_
+      114
+      (List._∷_
+      58
+      (List._∷_
+      58
+      (List._∷_
+      68
+      (List._∷_
+      101
+      (List._∷_
+      115
+      (List._∷_
+      116
+      (List._∷_
+      105
+      (List._∷_
+      110
+      (List._∷_
+      97
+      (List._∷_ 116 (List._∷_ 105 (List._∷_ 111 (List._∷_ 110 List.[])))))))))))))))))))
+      (Syntax.tcons
+      (Syntax.tyArray (Syntax.tyInt Syntax.w8) 16)
+      (Syntax.tcons
+      (Syntax.tyEnum
+      (List._∷_
+      97
+      (List._∷_
+      110
+      (List._∷_
+      115
+      (List._∷_
+      119
+      (List._∷_
+      101
+      (List._∷_
+      114
+      (List._∷_ 58 (List._∷_ 58 (List._∷_ 87 (List._∷_ 97 (List._∷_ 121 List.[])))))))))))
+      (Syntax.ttcons
+      Syntax.tnil
+      (Syntax.ttcons
+      Syntax.tnil
+      (Syntax.ttcons Syntax.tnil (Syntax.ttcons Syntax.tnil Syntax.ttnil)))))
+      Syntax.tnil)))
+      Syntax.tnil)))
+      (Syntax.tcons
+      (Syntax.tyInt Syntax.w64)
+      (Syntax.tcons
       (Syntax.tyEnum
       (List._∷_
       97
@@ -7285,156 +7484,6 @@ t19 = List._∷_ (
       (Syntax.ttcons
       Syntax.tnil
       (Syntax.ttcons Syntax.tnil (Syntax.ttcons Syntax.tnil Syntax.ttnil)))))))))))))))))))
-      (Syntax.tcons
-      (Syntax.tyStruct
-      (List._∷_
-      102
-      (List._∷_
-      105
-      (List._∷_
-      110
-      (List._∷_
-      105
-      (List._∷_
-      115
-      (List._∷_
-      104
-      (List._∷_
-      58
-      (List._∷_ 58 (List._∷_ 83 (List._∷_ 101 (List._∷_ 110 (List._∷_ 116 List.[]))))))))))))
-      (Syntax.tcons
-      (Syntax.tyInt Syntax.w64)
-      (Syntax.tcons
-      (Syntax.tyStruct
-      (List._∷_
-      97
-      (List._∷_
-      110
-      (List._∷_
-      115
-      (List._∷_
-      119
-      (List._∷_
-      101
-      (List._∷_
-      114
-      (List._∷_
-      58
-      (List._∷_
-      58
-      (List._∷_
-      68
-      (List._∷_
-      101
-      (List._∷_
-      115
-      (List._∷_
-      116
-      (List._∷_
-      105
-      (List._∷_
-      110
-      (List._∷_
-      97
-      (List._∷_ 116 (List._∷_ 105 (List._∷_ 111 (List._∷_ 110 List.[])))))))))))))))))))
-      (Syntax.tcons
-      (Syntax.tyEnum
-      (List._∷_
-      97
-      (List._∷_
-      110
-      (List._∷_
-      115
-      (List._∷_
-      119
-      (List._∷_
-      101
-      (List._∷_
-      114
-      (List._∷_ 58 (List._∷_ 58 (List._∷_ 87 (List._∷_ 97 (List._∷_ 121 List.[])))))))))))
-      (Syntax.ttcons
-      Syntax.tnil
-      (Syntax.ttcons
-      Syntax.tnil
-      (Syntax.ttcons Syntax.tnil (Syntax.ttcons Syntax.tnil Syntax.ttnil)))))
-      (Syntax.tcons (Syntax.tyArray (Syntax.tyInt Syntax.w8) 16) Syntax.tnil)))
-      Syntax.tnil)))
-      (Syntax.tcons
-      (Syntax.tyStruct
-      (List._∷_
-      102
-      (List._∷_
-      105
-      (List._∷_
-      110
-      (List._∷_
-      105
-      (List._∷_
-      115
-      (List._∷_
-      104
-      (List._∷_
-      58
-      (List._∷_ 58 (List._∷_ 83 (List._∷_ 101 (List._∷_ 110 (List._∷_ 116 List.[]))))))))))))
-      (Syntax.tcons
-      (Syntax.tyInt Syntax.w64)
-      (Syntax.tcons
-      (Syntax.tyStruct
-      (List._∷_
-      97
-      (List._∷_
-      110
-      (List._∷_
-      115
-      (List._∷_
-      119
-      (List._∷_
-      101
-      (List._∷_
-      114
-      (List._∷_
-      58
-      (List._∷_
-      58
-      (List._∷_
-      68
-      (List._∷_
-      101
-      (List._∷_
-      115
-      (List._∷_
-      116
-      (List._∷_
-      105
-      (List._∷_
-      110
-      (List._∷_
-      97
-      (List._∷_ 116 (List._∷_ 105 (List._∷_ 111 (List._∷_ 110 List.[])))))))))))))))))))
-      (Syntax.tcons
-      (Syntax.tyEnum
-      (List._∷_
-      97
-      (List._∷_
-      110
-      (List._∷_
-      115
-      (List._∷_
-      119
-      (List._∷_
-      101
-      (List._∷_
-      114
-      (List._∷_ 58 (List._∷_ 58 (List._∷_ 87 (List._∷_ 97 (List._∷_ 121 List.[])))))))))))
-      (Syntax.ttcons
-      Syntax.tnil
-      (Syntax.ttcons
-      Syntax.tnil
-      (Syntax.ttcons Syntax.tnil (Syntax.ttcons Syntax.tnil Syntax.ttnil)))))
-      (Syntax.tcons (Syntax.tyArray (Syntax.tyInt Syntax.w8) 16) Syntax.tnil)))
-      Syntax.tnil)))
-      (Syntax.tcons
-      (Syntax.tyInt Syntax.w64)
       (Syntax.tcons (Syntax.tyInt Syntax.w8) Syntax.tnil)))))),
 ) (List._∷_ (
   1,
@@ -7577,6 +7626,160 @@ t20 = List._∷_ (
       117
       (List._∷_ 116 (List._∷_ 99 (List._∷_ 111 (List._∷_ 109 (List._∷_ 101 List.[])))))))))))))))
       (Syntax.tcons
+      (Syntax.tyStruct
+      (List._∷_
+      102
+      (List._∷_
+      105
+      (List._∷_
+      110
+      (List._∷_
+      105
+      (List._∷_
+      115
+      (List._∷_
+      104
+      (List._∷_
+      58
+      (List._∷_ 58 (List._∷_ 83 (List._∷_ 101 (List._∷_ 110 (List._∷_ 116 List.[]))))))))))))
+      (Syntax.tcons
+      (Syntax.tyInt Syntax.w64)
+      (Syntax.tcons
+      (Syntax.tyStruct
+      (List._∷_
+      97
+      (List._∷_
+      110
+      (List._∷_
+      115
+      (List._∷_
+      119
+      (List._∷_
+      101
+      (List._∷_
+      114
+      (List._∷_
+      58
+      (List._∷_
+      58
+      (List._∷_
+      68
+      (List._∷_
+      101
+      (List._∷_
+      115
+      (List._∷_
+      116
+      (List._∷_
+      105
+      (List._∷_
+      110
+      (List._∷_
+      97
+      (List._∷_ 116 (List._∷_ 105 (List._∷_ 111 (List._∷_ 110 List.[])))))))))))))))))))
+      (Syntax.tcons
+      (Syntax.tyArray (Syntax.tyInt Syntax.w8) 16)
+      (Syntax.tcons
+      (Syntax.tyEnum
+      (List._∷_
+      97
+      (List._∷_
+      110
+      (List._∷_
+      115
+      (List._∷_
+      119
+      (List._∷_
+      101
+      (List._∷_
+      114
+      (List._∷_ 58 (List._∷_ 58 (List._∷_ 87 (List._∷_ 97 (List._∷_ 121 List.[])))))))))))
+      (Syntax.ttcons
+      Syntax.tnil
+      (Syntax.ttcons
+      Syntax.tnil
+      (Syntax.ttcons Syntax.tnil (Syntax.ttcons Syntax.tnil Syntax.ttnil)))))
+      Syntax.tnil)))
+      Syntax.tnil)))
+      (Syntax.tcons
+      (Syntax.tyStruct
+      (List._∷_
+      102
+      (List._∷_
+      105
+      (List._∷_
+      110
+      (List._∷_
+      105
+      (List._∷_
+      115
+      (List._∷_
+      104
+      (List._∷_
+      58
+      (List._∷_ 58 (List._∷_ 83 (List._∷_ 101 (List._∷_ 110 (List._∷_ 116 List.[]))))))))))))
+      (Syntax.tcons
+      (Syntax.tyInt Syntax.w64)
+      (Syntax.tcons
+      (Syntax.tyStruct
+      (List._∷_
+      97
+      (List._∷_
+      110
+      (List._∷_
+      115
+      (List._∷_
+      119
+      (List._∷_
+      101
+      (List._∷_
+      114
+      (List._∷_
+      58
+      (List._∷_
+      58
+      (List._∷_
+      68
+      (List._∷_
+      101
+      (List._∷_
+      115
+      (List._∷_
+      116
+      (List._∷_
+      105
+      (List._∷_
+      110
+      (List._∷_
+      97
+      (List._∷_ 116 (List._∷_ 105 (List._∷_ 111 (List._∷_ 110 List.[])))))))))))))))))))
+      (Syntax.tcons
+      (Syntax.tyArray (Syntax.tyInt Syntax.w8) 16)
+      (Syntax.tcons
+      (Syntax.tyEnum
+      (List._∷_
+      97
+      (List._∷_
+      110
+      (List._∷_
+      115
+      (List._∷_
+      119
+      (List._∷_
+      101
+      (List._∷_
+      114
+      (List._∷_ 58 (List._∷_ 58 (List._∷_ 87 (List._∷_ 97 (List._∷_ 121 List.[])))))))))))
+      (Syntax.ttcons
+      Syntax.tnil
+      (Syntax.ttcons
+      Syntax.tnil
+      (Syntax.ttcons Syntax.tnil (Syntax.ttcons Syntax.tnil Syntax.ttnil)))))
+      Syntax.tnil)))
+      Syntax.tnil)))
+      (Syntax.tcons
+      (Syntax.tyInt Syntax.w64)
+      (Syntax.tcons
       (Syntax.tyEnum
       (List._∷_
       97
@@ -7630,156 +7833,6 @@ t20 = List._∷_ (
       (Syntax.ttcons
       Syntax.tnil
       (Syntax.ttcons Syntax.tnil (Syntax.ttcons Syntax.tnil Syntax.ttnil)))))))))))))))))))
-      (Syntax.tcons
-      (Syntax.tyStruct
-      (List._∷_
-      102
-      (List._∷_
-      105
-      (List._∷_
-      110
-      (List._∷_
-      105
-      (List._∷_
-      115
-      (List._∷_
-      104
-      (List._∷_
-      58
-      (List._∷_ 58 (List._∷_ 83 (List._∷_ 101 (List._∷_ 110 (List._∷_ 116 List.[]))))))))))))
-      (Syntax.tcons
-      (Syntax.tyInt Syntax.w64)
-      (Syntax.tcons
-      (Syntax.tyStruct
-      (List._∷_
-      97
-      (List._∷_
-      110
-      (List._∷_
-      115
-      (List._∷_
-      119
-      (List._∷_
-      101
-      (List._∷_
-      114
-      (List._∷_
-      58
-      (List._∷_
-      58
-      (List._∷_
-      68
-      (List._∷_
-      101
-      (List._∷_
-      115
-      (List._∷_
-      116
-      (List._∷_
-      105
-      (List._∷_
-      110
-      (List._∷_
-      97
-      (List._∷_ 116 (List._∷_ 105 (List._∷_ 111 (List._∷_ 110 List.[])))))))))))))))))))
-      (Syntax.tcons
-      (Syntax.tyEnum
-      (List._∷_
-      97
-      (List._∷_
-      110
-      (List._∷_
-      115
-      (List._∷_
-      119
-      (List._∷_
-      101
-      (List._∷_
-      114
-      (List._∷_ 58 (List._∷_ 58 (List._∷_ 87 (List._∷_ 97 (List._∷_ 121 List.[])))))))))))
-      (Syntax.ttcons
-      Syntax.tnil
-      (Syntax.ttcons
-      Syntax.tnil
-      (Syntax.ttcons Syntax.tnil (Syntax.ttcons Syntax.tnil Syntax.ttnil)))))
-      (Syntax.tcons (Syntax.tyArray (Syntax.tyInt Syntax.w8) 16) Syntax.tnil)))
-      Syntax.tnil)))
-      (Syntax.tcons
-      (Syntax.tyStruct
-      (List._∷_
-      102
-      (List._∷_
-      105
-      (List._∷_
-      110
-      (List._∷_
-      105
-      (List._∷_
-      115
-      (List._∷_
-      104
-      (List._∷_
-      58
-      (List._∷_ 58 (List._∷_ 83 (List._∷_ 101 (List._∷_ 110 (List._∷_ 116 List.[]))))))))))))
-      (Syntax.tcons
-      (Syntax.tyInt Syntax.w64)
-      (Syntax.tcons
-      (Syntax.tyStruct
-      (List._∷_
-      97
-      (List._∷_
-      110
-      (List._∷_
-      115
-      (List._∷_
-      119
-      (List._∷_
-      101
-      (List._∷_
-      114
-      (List._∷_
-      58
-      (List._∷_
-      58
-      (List._∷_
-      68
-      (List._∷_
-      101
-      (List._∷_
-      115
-      (List._∷_
-      116
-      (List._∷_
-      105
-      (List._∷_
-      110
-      (List._∷_
-      97
-      (List._∷_ 116 (List._∷_ 105 (List._∷_ 111 (List._∷_ 110 List.[])))))))))))))))))))
-      (Syntax.tcons
-      (Syntax.tyEnum
-      (List._∷_
-      97
-      (List._∷_
-      110
-      (List._∷_
-      115
-      (List._∷_
-      119
-      (List._∷_
-      101
-      (List._∷_
-      114
-      (List._∷_ 58 (List._∷_ 58 (List._∷_ 87 (List._∷_ 97 (List._∷_ 121 List.[])))))))))))
-      (Syntax.ttcons
-      Syntax.tnil
-      (Syntax.ttcons
-      Syntax.tnil
-      (Syntax.ttcons Syntax.tnil (Syntax.ttcons Syntax.tnil Syntax.ttnil)))))
-      (Syntax.tcons (Syntax.tyArray (Syntax.tyInt Syntax.w8) 16) Syntax.tnil)))
-      Syntax.tnil)))
-      (Syntax.tcons
-      (Syntax.tyInt Syntax.w64)
       (Syntax.tcons (Syntax.tyInt Syntax.w8) Syntax.tnil)))))),
 ) (List._∷_ (
   1,
@@ -8081,6 +8134,160 @@ t22 = List._∷_ (
       117
       (List._∷_ 116 (List._∷_ 99 (List._∷_ 111 (List._∷_ 109 (List._∷_ 101 List.[])))))))))))))))
       (Syntax.tcons
+      (Syntax.tyStruct
+      (List._∷_
+      102
+      (List._∷_
+      105
+      (List._∷_
+      110
+      (List._∷_
+      105
+      (List._∷_
+      115
+      (List._∷_
+      104
+      (List._∷_
+      58
+      (List._∷_ 58 (List._∷_ 83 (List._∷_ 101 (List._∷_ 110 (List._∷_ 116 List.[]))))))))))))
+      (Syntax.tcons
+      (Syntax.tyInt Syntax.w64)
+      (Syntax.tcons
+      (Syntax.tyStruct
+      (List._∷_
+      97
+      (List._∷_
+      110
+      (List._∷_
+      115
+      (List._∷_
+      119
+      (List._∷_
+      101
+      (List._∷_
+      114
+      (List._∷_
+      58
+      (List._∷_
+      58
+      (List._∷_
+      68
+      (List._∷_
+      101
+      (List._∷_
+      115
+      (List._∷_
+      116
+      (List._∷_
+      105
+      (List._∷_
+      110
+      (List._∷_
+      97
+      (List._∷_ 116 (List._∷_ 105 (List._∷_ 111 (List._∷_ 110 List.[])))))))))))))))))))
+      (Syntax.tcons
+      (Syntax.tyArray (Syntax.tyInt Syntax.w8) 16)
+      (Syntax.tcons
+      (Syntax.tyEnum
+      (List._∷_
+      97
+      (List._∷_
+      110
+      (List._∷_
+      115
+      (List._∷_
+      119
+      (List._∷_
+      101
+      (List._∷_
+      114
+      (List._∷_ 58 (List._∷_ 58 (List._∷_ 87 (List._∷_ 97 (List._∷_ 121 List.[])))))))))))
+      (Syntax.ttcons
+      Syntax.tnil
+      (Syntax.ttcons
+      Syntax.tnil
+      (Syntax.ttcons Syntax.tnil (Syntax.ttcons Syntax.tnil Syntax.ttnil)))))
+      Syntax.tnil)))
+      Syntax.tnil)))
+      (Syntax.tcons
+      (Syntax.tyStruct
+      (List._∷_
+      102
+      (List._∷_
+      105
+      (List._∷_
+      110
+      (List._∷_
+      105
+      (List._∷_
+      115
+      (List._∷_
+      104
+      (List._∷_
+      58
+      (List._∷_ 58 (List._∷_ 83 (List._∷_ 101 (List._∷_ 110 (List._∷_ 116 List.[]))))))))))))
+      (Syntax.tcons
+      (Syntax.tyInt Syntax.w64)
+      (Syntax.tcons
+      (Syntax.tyStruct
+      (List._∷_
+      97
+      (List._∷_
+      110
+      (List._∷_
+      115
+      (List._∷_
+      119
+      (List._∷_
+      101
+      (List._∷_
+      114
+      (List._∷_
+      58
+      (List._∷_
+      58
+      (List._∷_
+      68
+      (List._∷_
+      101
+      (List._∷_
+      115
+      (List._∷_
+      116
+      (List._∷_
+      105
+      (List._∷_
+      110
+      (List._∷_
+      97
+      (List._∷_ 116 (List._∷_ 105 (List._∷_ 111 (List._∷_ 110 List.[])))))))))))))))))))
+      (Syntax.tcons
+      (Syntax.tyArray (Syntax.tyInt Syntax.w8) 16)
+      (Syntax.tcons
+      (Syntax.tyEnum
+      (List._∷_
+      97
+      (List._∷_
+      110
+      (List._∷_
+      115
+      (List._∷_
+      119
+      (List._∷_
+      101
+      (List._∷_
+      114
+      (List._∷_ 58 (List._∷_ 58 (List._∷_ 87 (List._∷_ 97 (List._∷_ 121 List.[])))))))))))
+      (Syntax.ttcons
+      Syntax.tnil
+      (Syntax.ttcons
+      Syntax.tnil
+      (Syntax.ttcons Syntax.tnil (Syntax.ttcons Syntax.tnil Syntax.ttnil)))))
+      Syntax.tnil)))
+      Syntax.tnil)))
+      (Syntax.tcons
+      (Syntax.tyInt Syntax.w64)
+      (Syntax.tcons
       (Syntax.tyEnum
       (List._∷_
       97
@@ -8134,156 +8341,6 @@ t22 = List._∷_ (
       (Syntax.ttcons
       Syntax.tnil
       (Syntax.ttcons Syntax.tnil (Syntax.ttcons Syntax.tnil Syntax.ttnil)))))))))))))))))))
-      (Syntax.tcons
-      (Syntax.tyStruct
-      (List._∷_
-      102
-      (List._∷_
-      105
-      (List._∷_
-      110
-      (List._∷_
-      105
-      (List._∷_
-      115
-      (List._∷_
-      104
-      (List._∷_
-      58
-      (List._∷_ 58 (List._∷_ 83 (List._∷_ 101 (List._∷_ 110 (List._∷_ 116 List.[]))))))))))))
-      (Syntax.tcons
-      (Syntax.tyInt Syntax.w64)
-      (Syntax.tcons
-      (Syntax.tyStruct
-      (List._∷_
-      97
-      (List._∷_
-      110
-      (List._∷_
-      115
-      (List._∷_
-      119
-      (List._∷_
-      101
-      (List._∷_
-      114
-      (List._∷_
-      58
-      (List._∷_
-      58
-      (List._∷_
-      68
-      (List._∷_
-      101
-      (List._∷_
-      115
-      (List._∷_
-      116
-      (List._∷_
-      105
-      (List._∷_
-      110
-      (List._∷_
-      97
-      (List._∷_ 116 (List._∷_ 105 (List._∷_ 111 (List._∷_ 110 List.[])))))))))))))))))))
-      (Syntax.tcons
-      (Syntax.tyEnum
-      (List._∷_
-      97
-      (List._∷_
-      110
-      (List._∷_
-      115
-      (List._∷_
-      119
-      (List._∷_
-      101
-      (List._∷_
-      114
-      (List._∷_ 58 (List._∷_ 58 (List._∷_ 87 (List._∷_ 97 (List._∷_ 121 List.[])))))))))))
-      (Syntax.ttcons
-      Syntax.tnil
-      (Syntax.ttcons
-      Syntax.tnil
-      (Syntax.ttcons Syntax.tnil (Syntax.ttcons Syntax.tnil Syntax.ttnil)))))
-      (Syntax.tcons (Syntax.tyArray (Syntax.tyInt Syntax.w8) 16) Syntax.tnil)))
-      Syntax.tnil)))
-      (Syntax.tcons
-      (Syntax.tyStruct
-      (List._∷_
-      102
-      (List._∷_
-      105
-      (List._∷_
-      110
-      (List._∷_
-      105
-      (List._∷_
-      115
-      (List._∷_
-      104
-      (List._∷_
-      58
-      (List._∷_ 58 (List._∷_ 83 (List._∷_ 101 (List._∷_ 110 (List._∷_ 116 List.[]))))))))))))
-      (Syntax.tcons
-      (Syntax.tyInt Syntax.w64)
-      (Syntax.tcons
-      (Syntax.tyStruct
-      (List._∷_
-      97
-      (List._∷_
-      110
-      (List._∷_
-      115
-      (List._∷_
-      119
-      (List._∷_
-      101
-      (List._∷_
-      114
-      (List._∷_
-      58
-      (List._∷_
-      58
-      (List._∷_
-      68
-      (List._∷_
-      101
-      (List._∷_
-      115
-      (List._∷_
-      116
-      (List._∷_
-      105
-      (List._∷_
-      110
-      (List._∷_
-      97
-      (List._∷_ 116 (List._∷_ 105 (List._∷_ 111 (List._∷_ 110 List.[])))))))))))))))))))
-      (Syntax.tcons
-      (Syntax.tyEnum
-      (List._∷_
-      97
-      (List._∷_
-      110
-      (List._∷_
-      115
-      (List._∷_
-      119
-      (List._∷_
-      101
-      (List._∷_
-      114
-      (List._∷_ 58 (List._∷_ 58 (List._∷_ 87 (List._∷_ 97 (List._∷_ 121 List.[])))))))))))
-      (Syntax.ttcons
-      Syntax.tnil
-      (Syntax.ttcons
-      Syntax.tnil
-      (Syntax.ttcons Syntax.tnil (Syntax.ttcons Syntax.tnil Syntax.ttnil)))))
-      (Syntax.tcons (Syntax.tyArray (Syntax.tyInt Syntax.w8) 16) Syntax.tnil)))
-      Syntax.tnil)))
-      (Syntax.tcons
-      (Syntax.tyInt Syntax.w64)
       (Syntax.tcons (Syntax.tyInt Syntax.w8) Syntax.tnil)))))),
 ) (List._∷_ (
   1,
@@ -8784,6 +8841,160 @@ t25 = List._∷_ (
       117
       (List._∷_ 116 (List._∷_ 99 (List._∷_ 111 (List._∷_ 109 (List._∷_ 101 List.[])))))))))))))))
       (Syntax.tcons
+      (Syntax.tyStruct
+      (List._∷_
+      102
+      (List._∷_
+      105
+      (List._∷_
+      110
+      (List._∷_
+      105
+      (List._∷_
+      115
+      (List._∷_
+      104
+      (List._∷_
+      58
+      (List._∷_ 58 (List._∷_ 83 (List._∷_ 101 (List._∷_ 110 (List._∷_ 116 List.[]))))))))))))
+      (Syntax.tcons
+      (Syntax.tyInt Syntax.w64)
+      (Syntax.tcons
+      (Syntax.tyStruct
+      (List._∷_
+      97
+      (List._∷_
+      110
+      (List._∷_
+      115
+      (List._∷_
+      119
+      (List._∷_
+      101
+      (List._∷_
+      114
+      (List._∷_
+      58
+      (List._∷_
+      58
+      (List._∷_
+      68
+      (List._∷_
+      101
+      (List._∷_
+      115
+      (List._∷_
+      116
+      (List._∷_
+      105
+      (List._∷_
+      110
+      (List._∷_
+      97
+      (List._∷_ 116 (List._∷_ 105 (List._∷_ 111 (List._∷_ 110 List.[])))))))))))))))))))
+      (Syntax.tcons
+      (Syntax.tyArray (Syntax.tyInt Syntax.w8) 16)
+      (Syntax.tcons
+      (Syntax.tyEnum
+      (List._∷_
+      97
+      (List._∷_
+      110
+      (List._∷_
+      115
+      (List._∷_
+      119
+      (List._∷_
+      101
+      (List._∷_
+      114
+      (List._∷_ 58 (List._∷_ 58 (List._∷_ 87 (List._∷_ 97 (List._∷_ 121 List.[])))))))))))
+      (Syntax.ttcons
+      Syntax.tnil
+      (Syntax.ttcons
+      Syntax.tnil
+      (Syntax.ttcons Syntax.tnil (Syntax.ttcons Syntax.tnil Syntax.ttnil)))))
+      Syntax.tnil)))
+      Syntax.tnil)))
+      (Syntax.tcons
+      (Syntax.tyStruct
+      (List._∷_
+      102
+      (List._∷_
+      105
+      (List._∷_
+      110
+      (List._∷_
+      105
+      (List._∷_
+      115
+      (List._∷_
+      104
+      (List._∷_
+      58
+      (List._∷_ 58 (List._∷_ 83 (List._∷_ 101 (List._∷_ 110 (List._∷_ 116 List.[]))))))))))))
+      (Syntax.tcons
+      (Syntax.tyInt Syntax.w64)
+      (Syntax.tcons
+      (Syntax.tyStruct
+      (List._∷_
+      97
+      (List._∷_
+      110
+      (List._∷_
+      115
+      (List._∷_
+      119
+      (List._∷_
+      101
+      (List._∷_
+      114
+      (List._∷_
+      58
+      (List._∷_
+      58
+      (List._∷_
+      68
+      (List._∷_
+      101
+      (List._∷_
+      115
+      (List._∷_
+      116
+      (List._∷_
+      105
+      (List._∷_
+      110
+      (List._∷_
+      97
+      (List._∷_ 116 (List._∷_ 105 (List._∷_ 111 (List._∷_ 110 List.[])))))))))))))))))))
+      (Syntax.tcons
+      (Syntax.tyArray (Syntax.tyInt Syntax.w8) 16)
+      (Syntax.tcons
+      (Syntax.tyEnum
+      (List._∷_
+      97
+      (List._∷_
+      110
+      (List._∷_
+      115
+      (List._∷_
+      119
+      (List._∷_
+      101
+      (List._∷_
+      114
+      (List._∷_ 58 (List._∷_ 58 (List._∷_ 87 (List._∷_ 97 (List._∷_ 121 List.[])))))))))))
+      (Syntax.ttcons
+      Syntax.tnil
+      (Syntax.ttcons
+      Syntax.tnil
+      (Syntax.ttcons Syntax.tnil (Syntax.ttcons Syntax.tnil Syntax.ttnil)))))
+      Syntax.tnil)))
+      Syntax.tnil)))
+      (Syntax.tcons
+      (Syntax.tyInt Syntax.w64)
+      (Syntax.tcons
       (Syntax.tyEnum
       (List._∷_
       97
@@ -8837,156 +9048,6 @@ t25 = List._∷_ (
       (Syntax.ttcons
       Syntax.tnil
       (Syntax.ttcons Syntax.tnil (Syntax.ttcons Syntax.tnil Syntax.ttnil)))))))))))))))))))
-      (Syntax.tcons
-      (Syntax.tyStruct
-      (List._∷_
-      102
-      (List._∷_
-      105
-      (List._∷_
-      110
-      (List._∷_
-      105
-      (List._∷_
-      115
-      (List._∷_
-      104
-      (List._∷_
-      58
-      (List._∷_ 58 (List._∷_ 83 (List._∷_ 101 (List._∷_ 110 (List._∷_ 116 List.[]))))))))))))
-      (Syntax.tcons
-      (Syntax.tyInt Syntax.w64)
-      (Syntax.tcons
-      (Syntax.tyStruct
-      (List._∷_
-      97
-      (List._∷_
-      110
-      (List._∷_
-      115
-      (List._∷_
-      119
-      (List._∷_
-      101
-      (List._∷_
-      114
-      (List._∷_
-      58
-      (List._∷_
-      58
-      (List._∷_
-      68
-      (List._∷_
-      101
-      (List._∷_
-      115
-      (List._∷_
-      116
-      (List._∷_
-      105
-      (List._∷_
-      110
-      (List._∷_
-      97
-      (List._∷_ 116 (List._∷_ 105 (List._∷_ 111 (List._∷_ 110 List.[])))))))))))))))))))
-      (Syntax.tcons
-      (Syntax.tyEnum
-      (List._∷_
-      97
-      (List._∷_
-      110
-      (List._∷_
-      115
-      (List._∷_
-      119
-      (List._∷_
-      101
-      (List._∷_
-      114
-      (List._∷_ 58 (List._∷_ 58 (List._∷_ 87 (List._∷_ 97 (List._∷_ 121 List.[])))))))))))
-      (Syntax.ttcons
-      Syntax.tnil
-      (Syntax.ttcons
-      Syntax.tnil
-      (Syntax.ttcons Syntax.tnil (Syntax.ttcons Syntax.tnil Syntax.ttnil)))))
-      (Syntax.tcons (Syntax.tyArray (Syntax.tyInt Syntax.w8) 16) Syntax.tnil)))
-      Syntax.tnil)))
-      (Syntax.tcons
-      (Syntax.tyStruct
-      (List._∷_
-      102
-      (List._∷_
-      105
-      (List._∷_
-      110
-      (List._∷_
-      105
-      (List._∷_
-      115
-      (List._∷_
-      104
-      (List._∷_
-      58
-      (List._∷_ 58 (List._∷_ 83 (List._∷_ 101 (List._∷_ 110 (List._∷_ 116 List.[]))))))))))))
-      (Syntax.tcons
-      (Syntax.tyInt Syntax.w64)
-      (Syntax.tcons
-      (Syntax.tyStruct
-      (List._∷_
-      97
-      (List._∷_
-      110
-      (List._∷_
-      115
-      (List._∷_
-      119
-      (List._∷_
-      101
-      (List._∷_
-      114
-      (List._∷_
-      58
-      (List._∷_
-      58
-      (List._∷_
-      68
-      (List._∷_
-      101
-      (List._∷_
-      115
-      (List._∷_
-      116
-      (List._∷_
-      105
-      (List._∷_
-      110
-      (List._∷_
-      97
-      (List._∷_ 116 (List._∷_ 105 (List._∷_ 111 (List._∷_ 110 List.[])))))))))))))))))))
-      (Syntax.tcons
-      (Syntax.tyEnum
-      (List._∷_
-      97
-      (List._∷_
-      110
-      (List._∷_
-      115
-      (List._∷_
-      119
-      (List._∷_
-      101
-      (List._∷_
-      114
-      (List._∷_ 58 (List._∷_ 58 (List._∷_ 87 (List._∷_ 97 (List._∷_ 121 List.[])))))))))))
-      (Syntax.ttcons
-      Syntax.tnil
-      (Syntax.ttcons
-      Syntax.tnil
-      (Syntax.ttcons Syntax.tnil (Syntax.ttcons Syntax.tnil Syntax.ttnil)))))
-      (Syntax.tcons (Syntax.tyArray (Syntax.tyInt Syntax.w8) 16) Syntax.tnil)))
-      Syntax.tnil)))
-      (Syntax.tcons
-      (Syntax.tyInt Syntax.w64)
       (Syntax.tcons (Syntax.tyInt Syntax.w8) Syntax.tnil)))))),
 ) (List._∷_ (
   1,
@@ -10034,6 +10095,160 @@ t31 = List._∷_ (
       117
       (List._∷_ 116 (List._∷_ 99 (List._∷_ 111 (List._∷_ 109 (List._∷_ 101 List.[])))))))))))))))
       (Syntax.tcons
+      (Syntax.tyStruct
+      (List._∷_
+      102
+      (List._∷_
+      105
+      (List._∷_
+      110
+      (List._∷_
+      105
+      (List._∷_
+      115
+      (List._∷_
+      104
+      (List._∷_
+      58
+      (List._∷_ 58 (List._∷_ 83 (List._∷_ 101 (List._∷_ 110 (List._∷_ 116 List.[]))))))))))))
+      (Syntax.tcons
+      (Syntax.tyInt Syntax.w64)
+      (Syntax.tcons
+      (Syntax.tyStruct
+      (List._∷_
+      97
+      (List._∷_
+      110
+      (List._∷_
+      115
+      (List._∷_
+      119
+      (List._∷_
+      101
+      (List._∷_
+      114
+      (List._∷_
+      58
+      (List._∷_
+      58
+      (List._∷_
+      68
+      (List._∷_
+      101
+      (List._∷_
+      115
+      (List._∷_
+      116
+      (List._∷_
+      105
+      (List._∷_
+      110
+      (List._∷_
+      97
+      (List._∷_ 116 (List._∷_ 105 (List._∷_ 111 (List._∷_ 110 List.[])))))))))))))))))))
+      (Syntax.tcons
+      (Syntax.tyArray (Syntax.tyInt Syntax.w8) 16)
+      (Syntax.tcons
+      (Syntax.tyEnum
+      (List._∷_
+      97
+      (List._∷_
+      110
+      (List._∷_
+      115
+      (List._∷_
+      119
+      (List._∷_
+      101
+      (List._∷_
+      114
+      (List._∷_ 58 (List._∷_ 58 (List._∷_ 87 (List._∷_ 97 (List._∷_ 121 List.[])))))))))))
+      (Syntax.ttcons
+      Syntax.tnil
+      (Syntax.ttcons
+      Syntax.tnil
+      (Syntax.ttcons Syntax.tnil (Syntax.ttcons Syntax.tnil Syntax.ttnil)))))
+      Syntax.tnil)))
+      Syntax.tnil)))
+      (Syntax.tcons
+      (Syntax.tyStruct
+      (List._∷_
+      102
+      (List._∷_
+      105
+      (List._∷_
+      110
+      (List._∷_
+      105
+      (List._∷_
+      115
+      (List._∷_
+      104
+      (List._∷_
+      58
+      (List._∷_ 58 (List._∷_ 83 (List._∷_ 101 (List._∷_ 110 (List._∷_ 116 List.[]))))))))))))
+      (Syntax.tcons
+      (Syntax.tyInt Syntax.w64)
+      (Syntax.tcons
+      (Syntax.tyStruct
+      (List._∷_
+      97
+      (List._∷_
+      110
+      (List._∷_
+      115
+      (List._∷_
+      119
+      (List._∷_
+      101
+      (List._∷_
+      114
+      (List._∷_
+      58
+      (List._∷_
+      58
+      (List._∷_
+      68
+      (List._∷_
+      101
+      (List._∷_
+      115
+      (List._∷_
+      116
+      (List._∷_
+      105
+      (List._∷_
+      110
+      (List._∷_
+      97
+      (List._∷_ 116 (List._∷_ 105 (List._∷_ 111 (List._∷_ 110 List.[])))))))))))))))))))
+      (Syntax.tcons
+      (Syntax.tyArray (Syntax.tyInt Syntax.w8) 16)
+      (Syntax.tcons
+      (Syntax.tyEnum
+      (List._∷_
+      97
+      (List._∷_
+      110
+      (List._∷_
+      115
+      (List._∷_
+      119
+      (List._∷_
+      101
+      (List._∷_
+      114
+      (List._∷_ 58 (List._∷_ 58 (List._∷_ 87 (List._∷_ 97 (List._∷_ 121 List.[])))))))))))
+      (Syntax.ttcons
+      Syntax.tnil
+      (Syntax.ttcons
+      Syntax.tnil
+      (Syntax.ttcons Syntax.tnil (Syntax.ttcons Syntax.tnil Syntax.ttnil)))))
+      Syntax.tnil)))
+      Syntax.tnil)))
+      (Syntax.tcons
+      (Syntax.tyInt Syntax.w64)
+      (Syntax.tcons
       (Syntax.tyEnum
       (List._∷_
       97
@@ -10087,156 +10302,6 @@ t31 = List._∷_ (
       (Syntax.ttcons
       Syntax.tnil
       (Syntax.ttcons Syntax.tnil (Syntax.ttcons Syntax.tnil Syntax.ttnil)))))))))))))))))))
-      (Syntax.tcons
-      (Syntax.tyStruct
-      (List._∷_
-      102
-      (List._∷_
-      105
-      (List._∷_
-      110
-      (List._∷_
-      105
-      (List._∷_
-      115
-      (List._∷_
-      104
-      (List._∷_
-      58
-      (List._∷_ 58 (List._∷_ 83 (List._∷_ 101 (List._∷_ 110 (List._∷_ 116 List.[]))))))))))))
-      (Syntax.tcons
-      (Syntax.tyInt Syntax.w64)
-      (Syntax.tcons
-      (Syntax.tyStruct
-      (List._∷_
-      97
-      (List._∷_
-      110
-      (List._∷_
-      115
-      (List._∷_
-      119
-      (List._∷_
-      101
-      (List._∷_
-      114
-      (List._∷_
-      58
-      (List._∷_
-      58
-      (List._∷_
-      68
-      (List._∷_
-      101
-      (List._∷_
-      115
-      (List._∷_
-      116
-      (List._∷_
-      105
-      (List._∷_
-      110
-      (List._∷_
-      97
-      (List._∷_ 116 (List._∷_ 105 (List._∷_ 111 (List._∷_ 110 List.[])))))))))))))))))))
-      (Syntax.tcons
-      (Syntax.tyEnum
-      (List._∷_
-      97
-      (List._∷_
-      110
-      (List._∷_
-      115
-      (List._∷_
-      119
-      (List._∷_
-      101
-      (List._∷_
-      114
-      (List._∷_ 58 (List._∷_ 58 (List._∷_ 87 (List._∷_ 97 (List._∷_ 121 List.[])))))))))))
-      (Syntax.ttcons
-      Syntax.tnil
-      (Syntax.ttcons
-      Syntax.tnil
-      (Syntax.ttcons Syntax.tnil (Syntax.ttcons Syntax.tnil Syntax.ttnil)))))
-      (Syntax.tcons (Syntax.tyArray (Syntax.tyInt Syntax.w8) 16) Syntax.tnil)))
-      Syntax.tnil)))
-      (Syntax.tcons
-      (Syntax.tyStruct
-      (List._∷_
-      102
-      (List._∷_
-      105
-      (List._∷_
-      110
-      (List._∷_
-      105
-      (List._∷_
-      115
-      (List._∷_
-      104
-      (List._∷_
-      58
-      (List._∷_ 58 (List._∷_ 83 (List._∷_ 101 (List._∷_ 110 (List._∷_ 116 List.[]))))))))))))
-      (Syntax.tcons
-      (Syntax.tyInt Syntax.w64)
-      (Syntax.tcons
-      (Syntax.tyStruct
-      (List._∷_
-      97
-      (List._∷_
-      110
-      (List._∷_
-      115
-      (List._∷_
-      119
-      (List._∷_
-      101
-      (List._∷_
-      114
-      (List._∷_
-      58
-      (List._∷_
-      58
-      (List._∷_
-      68
-      (List._∷_
-      101
-      (List._∷_
-      115
-      (List._∷_
-      116
-      (List._∷_
-      105
-      (List._∷_
-      110
-      (List._∷_
-      97
-      (List._∷_ 116 (List._∷_ 105 (List._∷_ 111 (List._∷_ 110 List.[])))))))))))))))))))
-      (Syntax.tcons
-      (Syntax.tyEnum
-      (List._∷_
-      97
-      (List._∷_
-      110
-      (List._∷_
-      115
-      (List._∷_
-      119
-      (List._∷_
-      101
-      (List._∷_
-      114
-      (List._∷_ 58 (List._∷_ 58 (List._∷_ 87 (List._∷_ 97 (List._∷_ 121 List.[])))))))))))
-      (Syntax.ttcons
-      Syntax.tnil
-      (Syntax.ttcons
-      Syntax.tnil
-      (Syntax.ttcons Syntax.tnil (Syntax.ttcons Syntax.tnil Syntax.ttnil)))))
-      (Syntax.tcons (Syntax.tyArray (Syntax.tyInt Syntax.w8) 16) Syntax.tnil)))
-      Syntax.tnil)))
-      (Syntax.tcons
-      (Syntax.tyInt Syntax.w64)
       (Syntax.tcons (Syntax.tyInt Syntax.w8) Syntax.tnil)))))),
 ) (List._∷_ (
   1,
@@ -10496,6 +10561,160 @@ t33 = List._∷_ (
       117
       (List._∷_ 116 (List._∷_ 99 (List._∷_ 111 (List._∷_ 109 (List._∷_ 101 List.[])))))))))))))))
       (Syntax.tcons
+      (Syntax.tyStruct
+      (List._∷_
+      102
+      (List._∷_
+      105
+      (List._∷_
+      110
+      (List._∷_
+      105
+      (List._∷_
+      115
+      (List._∷_
+      104
+      (List._∷_
+      58
+      (List._∷_ 58 (List._∷_ 83 (List._∷_ 101 (List._∷_ 110 (List._∷_ 116 List.[]))))))))))))
+      (Syntax.tcons
+      (Syntax.tyInt Syntax.w64)
+      (Syntax.tcons
+      (Syntax.tyStruct
+      (List._∷_
+      97
+      (List._∷_
+      110
+      (List._∷_
+      115
+      (List._∷_
+      119
+      (List._∷_
+      101
+      (List._∷_
+      114
+      (List._∷_
+      58
+      (List._∷_
+      58
+      (List._∷_
+      68
+      (List._∷_
+      101
+      (List._∷_
+      115
+      (List._∷_
+      116
+      (List._∷_
+      105
+      (List._∷_
+      110
+      (List._∷_
+      97
+      (List._∷_ 116 (List._∷_ 105 (List._∷_ 111 (List._∷_ 110 List.[])))))))))))))))))))
+      (Syntax.tcons
+      (Syntax.tyArray (Syntax.tyInt Syntax.w8) 16)
+      (Syntax.tcons
+      (Syntax.tyEnum
+      (List._∷_
+      97
+      (List._∷_
+      110
+      (List._∷_
+      115
+      (List._∷_
+      119
+      (List._∷_
+      101
+      (List._∷_
+      114
+      (List._∷_ 58 (List._∷_ 58 (List._∷_ 87 (List._∷_ 97 (List._∷_ 121 List.[])))))))))))
+      (Syntax.ttcons
+      Syntax.tnil
+      (Syntax.ttcons
+      Syntax.tnil
+      (Syntax.ttcons Syntax.tnil (Syntax.ttcons Syntax.tnil Syntax.ttnil)))))
+      Syntax.tnil)))
+      Syntax.tnil)))
+      (Syntax.tcons
+      (Syntax.tyStruct
+      (List._∷_
+      102
+      (List._∷_
+      105
+      (List._∷_
+      110
+      (List._∷_
+      105
+      (List._∷_
+      115
+      (List._∷_
+      104
+      (List._∷_
+      58
+      (List._∷_ 58 (List._∷_ 83 (List._∷_ 101 (List._∷_ 110 (List._∷_ 116 List.[]))))))))))))
+      (Syntax.tcons
+      (Syntax.tyInt Syntax.w64)
+      (Syntax.tcons
+      (Syntax.tyStruct
+      (List._∷_
+      97
+      (List._∷_
+      110
+      (List._∷_
+      115
+      (List._∷_
+      119
+      (List._∷_
+      101
+      (List._∷_
+      114
+      (List._∷_
+      58
+      (List._∷_
+      58
+      (List._∷_
+      68
+      (List._∷_
+      101
+      (List._∷_
+      115
+      (List._∷_
+      116
+      (List._∷_
+      105
+      (List._∷_
+      110
+      (List._∷_
+      97
+      (List._∷_ 116 (List._∷_ 105 (List._∷_ 111 (List._∷_ 110 List.[])))))))))))))))))))
+      (Syntax.tcons
+      (Syntax.tyArray (Syntax.tyInt Syntax.w8) 16)
+      (Syntax.tcons
+      (Syntax.tyEnum
+      (List._∷_
+      97
+      (List._∷_
+      110
+      (List._∷_
+      115
+      (List._∷_
+      119
+      (List._∷_
+      101
+      (List._∷_
+      114
+      (List._∷_ 58 (List._∷_ 58 (List._∷_ 87 (List._∷_ 97 (List._∷_ 121 List.[])))))))))))
+      (Syntax.ttcons
+      Syntax.tnil
+      (Syntax.ttcons
+      Syntax.tnil
+      (Syntax.ttcons Syntax.tnil (Syntax.ttcons Syntax.tnil Syntax.ttnil)))))
+      Syntax.tnil)))
+      Syntax.tnil)))
+      (Syntax.tcons
+      (Syntax.tyInt Syntax.w64)
+      (Syntax.tcons
       (Syntax.tyEnum
       (List._∷_
       97
@@ -10549,156 +10768,6 @@ t33 = List._∷_ (
       (Syntax.ttcons
       Syntax.tnil
       (Syntax.ttcons Syntax.tnil (Syntax.ttcons Syntax.tnil Syntax.ttnil)))))))))))))))))))
-      (Syntax.tcons
-      (Syntax.tyStruct
-      (List._∷_
-      102
-      (List._∷_
-      105
-      (List._∷_
-      110
-      (List._∷_
-      105
-      (List._∷_
-      115
-      (List._∷_
-      104
-      (List._∷_
-      58
-      (List._∷_ 58 (List._∷_ 83 (List._∷_ 101 (List._∷_ 110 (List._∷_ 116 List.[]))))))))))))
-      (Syntax.tcons
-      (Syntax.tyInt Syntax.w64)
-      (Syntax.tcons
-      (Syntax.tyStruct
-      (List._∷_
-      97
-      (List._∷_
-      110
-      (List._∷_
-      115
-      (List._∷_
-      119
-      (List._∷_
-      101
-      (List._∷_
-      114
-      (List._∷_
-      58
-      (List._∷_
-      58
-      (List._∷_
-      68
-      (List._∷_
-      101
-      (List._∷_
-      115
-      (List._∷_
-      116
-      (List._∷_
-      105
-      (List._∷_
-      110
-      (List._∷_
-      97
-      (List._∷_ 116 (List._∷_ 105 (List._∷_ 111 (List._∷_ 110 List.[])))))))))))))))))))
-      (Syntax.tcons
-      (Syntax.tyEnum
-      (List._∷_
-      97
-      (List._∷_
-      110
-      (List._∷_
-      115
-      (List._∷_
-      119
-      (List._∷_
-      101
-      (List._∷_
-      114
-      (List._∷_ 58 (List._∷_ 58 (List._∷_ 87 (List._∷_ 97 (List._∷_ 121 List.[])))))))))))
-      (Syntax.ttcons
-      Syntax.tnil
-      (Syntax.ttcons
-      Syntax.tnil
-      (Syntax.ttcons Syntax.tnil (Syntax.ttcons Syntax.tnil Syntax.ttnil)))))
-      (Syntax.tcons (Syntax.tyArray (Syntax.tyInt Syntax.w8) 16) Syntax.tnil)))
-      Syntax.tnil)))
-      (Syntax.tcons
-      (Syntax.tyStruct
-      (List._∷_
-      102
-      (List._∷_
-      105
-      (List._∷_
-      110
-      (List._∷_
-      105
-      (List._∷_
-      115
-      (List._∷_
-      104
-      (List._∷_
-      58
-      (List._∷_ 58 (List._∷_ 83 (List._∷_ 101 (List._∷_ 110 (List._∷_ 116 List.[]))))))))))))
-      (Syntax.tcons
-      (Syntax.tyInt Syntax.w64)
-      (Syntax.tcons
-      (Syntax.tyStruct
-      (List._∷_
-      97
-      (List._∷_
-      110
-      (List._∷_
-      115
-      (List._∷_
-      119
-      (List._∷_
-      101
-      (List._∷_
-      114
-      (List._∷_
-      58
-      (List._∷_
-      58
-      (List._∷_
-      68
-      (List._∷_
-      101
-      (List._∷_
-      115
-      (List._∷_
-      116
-      (List._∷_
-      105
-      (List._∷_
-      110
-      (List._∷_
-      97
-      (List._∷_ 116 (List._∷_ 105 (List._∷_ 111 (List._∷_ 110 List.[])))))))))))))))))))
-      (Syntax.tcons
-      (Syntax.tyEnum
-      (List._∷_
-      97
-      (List._∷_
-      110
-      (List._∷_
-      115
-      (List._∷_
-      119
-      (List._∷_
-      101
-      (List._∷_
-      114
-      (List._∷_ 58 (List._∷_ 58 (List._∷_ 87 (List._∷_ 97 (List._∷_ 121 List.[])))))))))))
-      (Syntax.ttcons
-      Syntax.tnil
-      (Syntax.ttcons
-      Syntax.tnil
-      (Syntax.ttcons Syntax.tnil (Syntax.ttcons Syntax.tnil Syntax.ttnil)))))
-      (Syntax.tcons (Syntax.tyArray (Syntax.tyInt Syntax.w8) 16) Syntax.tnil)))
-      Syntax.tnil)))
-      (Syntax.tcons
-      (Syntax.tyInt Syntax.w64)
       (Syntax.tcons (Syntax.tyInt Syntax.w8) Syntax.tnil)))))),
 ) (List._∷_ (
   1,
@@ -11199,6 +11268,160 @@ t36 = List._∷_ (
       117
       (List._∷_ 116 (List._∷_ 99 (List._∷_ 111 (List._∷_ 109 (List._∷_ 101 List.[])))))))))))))))
       (Syntax.tcons
+      (Syntax.tyStruct
+      (List._∷_
+      102
+      (List._∷_
+      105
+      (List._∷_
+      110
+      (List._∷_
+      105
+      (List._∷_
+      115
+      (List._∷_
+      104
+      (List._∷_
+      58
+      (List._∷_ 58 (List._∷_ 83 (List._∷_ 101 (List._∷_ 110 (List._∷_ 116 List.[]))))))))))))
+      (Syntax.tcons
+      (Syntax.tyInt Syntax.w64)
+      (Syntax.tcons
+      (Syntax.tyStruct
+      (List._∷_
+      97
+      (List._∷_
+      110
+      (List._∷_
+      115
+      (List._∷_
+      119
+      (List._∷_
+      101
+      (List._∷_
+      114
+      (List._∷_
+      58
+      (List._∷_
+      58
+      (List._∷_
+      68
+      (List._∷_
+      101
+      (List._∷_
+      115
+      (List._∷_
+      116
+      (List._∷_
+      105
+      (List._∷_
+      110
+      (List._∷_
+      97
+      (List._∷_ 116 (List._∷_ 105 (List._∷_ 111 (List._∷_ 110 List.[])))))))))))))))))))
+      (Syntax.tcons
+      (Syntax.tyArray (Syntax.tyInt Syntax.w8) 16)
+      (Syntax.tcons
+      (Syntax.tyEnum
+      (List._∷_
+      97
+      (List._∷_
+      110
+      (List._∷_
+      115
+      (List._∷_
+      119
+      (List._∷_
+      101
+      (List._∷_
+      114
+      (List._∷_ 58 (List._∷_ 58 (List._∷_ 87 (List._∷_ 97 (List._∷_ 121 List.[])))))))))))
+      (Syntax.ttcons
+      Syntax.tnil
+      (Syntax.ttcons
+      Syntax.tnil
+      (Syntax.ttcons Syntax.tnil (Syntax.ttcons Syntax.tnil Syntax.ttnil)))))
+      Syntax.tnil)))
+      Syntax.tnil)))
+      (Syntax.tcons
+      (Syntax.tyStruct
+      (List._∷_
+      102
+      (List._∷_
+      105
+      (List._∷_
+      110
+      (List._∷_
+      105
+      (List._∷_
+      115
+      (List._∷_
+      104
+      (List._∷_
+      58
+      (List._∷_ 58 (List._∷_ 83 (List._∷_ 101 (List._∷_ 110 (List._∷_ 116 List.[]))))))))))))
+      (Syntax.tcons
+      (Syntax.tyInt Syntax.w64)
+      (Syntax.tcons
+      (Syntax.tyStruct
+      (List._∷_
+      97
+      (List._∷_
+      110
+      (List._∷_
+      115
+      (List._∷_
+      119
+      (List._∷_
+      101
+      (List._∷_
+      114
+      (List._∷_
+      58
+      (List._∷_
+      58
+      (List._∷_
+      68
+      (List._∷_
+      101
+      (List._∷_
+      115
+      (List._∷_
+      116
+      (List._∷_
+      105
+      (List._∷_
+      110
+      (List._∷_
+      97
+      (List._∷_ 116 (List._∷_ 105 (List._∷_ 111 (List._∷_ 110 List.[])))))))))))))))))))
+      (Syntax.tcons
+      (Syntax.tyArray (Syntax.tyInt Syntax.w8) 16)
+      (Syntax.tcons
+      (Syntax.tyEnum
+      (List._∷_
+      97
+      (List._∷_
+      110
+      (List._∷_
+      115
+      (List._∷_
+      119
+      (List._∷_
+      101
+      (List._∷_
+      114
+      (List._∷_ 58 (List._∷_ 58 (List._∷_ 87 (List._∷_ 97 (List._∷_ 121 List.[])))))))))))
+      (Syntax.ttcons
+      Syntax.tnil
+      (Syntax.ttcons
+      Syntax.tnil
+      (Syntax.ttcons Syntax.tnil (Syntax.ttcons Syntax.tnil Syntax.ttnil)))))
+      Syntax.tnil)))
+      Syntax.tnil)))
+      (Syntax.tcons
+      (Syntax.tyInt Syntax.w64)
+      (Syntax.tcons
       (Syntax.tyEnum
       (List._∷_
       97
@@ -11252,156 +11475,6 @@ t36 = List._∷_ (
       (Syntax.ttcons
       Syntax.tnil
       (Syntax.ttcons Syntax.tnil (Syntax.ttcons Syntax.tnil Syntax.ttnil)))))))))))))))))))
-      (Syntax.tcons
-      (Syntax.tyStruct
-      (List._∷_
-      102
-      (List._∷_
-      105
-      (List._∷_
-      110
-      (List._∷_
-      105
-      (List._∷_
-      115
-      (List._∷_
-      104
-      (List._∷_
-      58
-      (List._∷_ 58 (List._∷_ 83 (List._∷_ 101 (List._∷_ 110 (List._∷_ 116 List.[]))))))))))))
-      (Syntax.tcons
-      (Syntax.tyInt Syntax.w64)
-      (Syntax.tcons
-      (Syntax.tyStruct
-      (List._∷_
-      97
-      (List._∷_
-      110
-      (List._∷_
-      115
-      (List._∷_
-      119
-      (List._∷_
-      101
-      (List._∷_
-      114
-      (List._∷_
-      58
-      (List._∷_
-      58
-      (List._∷_
-      68
-      (List._∷_
-      101
-      (List._∷_
-      115
-      (List._∷_
-      116
-      (List._∷_
-      105
-      (List._∷_
-      110
-      (List._∷_
-      97
-      (List._∷_ 116 (List._∷_ 105 (List._∷_ 111 (List._∷_ 110 List.[])))))))))))))))))))
-      (Syntax.tcons
-      (Syntax.tyEnum
-      (List._∷_
-      97
-      (List._∷_
-      110
-      (List._∷_
-      115
-      (List._∷_
-      119
-      (List._∷_
-      101
-      (List._∷_
-      114
-      (List._∷_ 58 (List._∷_ 58 (List._∷_ 87 (List._∷_ 97 (List._∷_ 121 List.[])))))))))))
-      (Syntax.ttcons
-      Syntax.tnil
-      (Syntax.ttcons
-      Syntax.tnil
-      (Syntax.ttcons Syntax.tnil (Syntax.ttcons Syntax.tnil Syntax.ttnil)))))
-      (Syntax.tcons (Syntax.tyArray (Syntax.tyInt Syntax.w8) 16) Syntax.tnil)))
-      Syntax.tnil)))
-      (Syntax.tcons
-      (Syntax.tyStruct
-      (List._∷_
-      102
-      (List._∷_
-      105
-      (List._∷_
-      110
-      (List._∷_
-      105
-      (List._∷_
-      115
-      (List._∷_
-      104
-      (List._∷_
-      58
-      (List._∷_ 58 (List._∷_ 83 (List._∷_ 101 (List._∷_ 110 (List._∷_ 116 List.[]))))))))))))
-      (Syntax.tcons
-      (Syntax.tyInt Syntax.w64)
-      (Syntax.tcons
-      (Syntax.tyStruct
-      (List._∷_
-      97
-      (List._∷_
-      110
-      (List._∷_
-      115
-      (List._∷_
-      119
-      (List._∷_
-      101
-      (List._∷_
-      114
-      (List._∷_
-      58
-      (List._∷_
-      58
-      (List._∷_
-      68
-      (List._∷_
-      101
-      (List._∷_
-      115
-      (List._∷_
-      116
-      (List._∷_
-      105
-      (List._∷_
-      110
-      (List._∷_
-      97
-      (List._∷_ 116 (List._∷_ 105 (List._∷_ 111 (List._∷_ 110 List.[])))))))))))))))))))
-      (Syntax.tcons
-      (Syntax.tyEnum
-      (List._∷_
-      97
-      (List._∷_
-      110
-      (List._∷_
-      115
-      (List._∷_
-      119
-      (List._∷_
-      101
-      (List._∷_
-      114
-      (List._∷_ 58 (List._∷_ 58 (List._∷_ 87 (List._∷_ 97 (List._∷_ 121 List.[])))))))))))
-      (Syntax.ttcons
-      Syntax.tnil
-      (Syntax.ttcons
-      Syntax.tnil
-      (Syntax.ttcons Syntax.tnil (Syntax.ttcons Syntax.tnil Syntax.ttnil)))))
-      (Syntax.tcons (Syntax.tyArray (Syntax.tyInt Syntax.w8) 16) Syntax.tnil)))
-      Syntax.tnil)))
-      (Syntax.tcons
-      (Syntax.tyInt Syntax.w64)
       (Syntax.tcons (Syntax.tyInt Syntax.w8) Syntax.tnil)))))),
 ) (List._∷_ (
   1,
@@ -11900,6 +11973,160 @@ t39 = List._∷_ (
       117
       (List._∷_ 116 (List._∷_ 99 (List._∷_ 111 (List._∷_ 109 (List._∷_ 101 List.[])))))))))))))))
       (Syntax.tcons
+      (Syntax.tyStruct
+      (List._∷_
+      102
+      (List._∷_
+      105
+      (List._∷_
+      110
+      (List._∷_
+      105
+      (List._∷_
+      115
+      (List._∷_
+      104
+      (List._∷_
+      58
+      (List._∷_ 58 (List._∷_ 83 (List._∷_ 101 (List._∷_ 110 (List._∷_ 116 List.[]))))))))))))
+      (Syntax.tcons
+      (Syntax.tyInt Syntax.w64)
+      (Syntax.tcons
+      (Syntax.tyStruct
+      (List._∷_
+      97
+      (List._∷_
+      110
+      (List._∷_
+      115
+      (List._∷_
+      119
+      (List._∷_
+      101
+      (List._∷_
+      114
+      (List._∷_
+      58
+      (List._∷_
+      58
+      (List._∷_
+      68
+      (List._∷_
+      101
+      (List._∷_
+      115
+      (List._∷_
+      116
+      (List._∷_
+      105
+      (List._∷_
+      110
+      (List._∷_
+      97
+      (List._∷_ 116 (List._∷_ 105 (List._∷_ 111 (List._∷_ 110 List.[])))))))))))))))))))
+      (Syntax.tcons
+      (Syntax.tyArray (Syntax.tyInt Syntax.w8) 16)
+      (Syntax.tcons
+      (Syntax.tyEnum
+      (List._∷_
+      97
+      (List._∷_
+      110
+      (List._∷_
+      115
+      (List._∷_
+      119
+      (List._∷_
+      101
+      (List._∷_
+      114
+      (List._∷_ 58 (List._∷_ 58 (List._∷_ 87 (List._∷_ 97 (List._∷_ 121 List.[])))))))))))
+      (Syntax.ttcons
+      Syntax.tnil
+      (Syntax.ttcons
+      Syntax.tnil
+      (Syntax.ttcons Syntax.tnil (Syntax.ttcons Syntax.tnil Syntax.ttnil)))))
+      Syntax.tnil)))
+      Syntax.tnil)))
+      (Syntax.tcons
+      (Syntax.tyStruct
+      (List._∷_
+      102
+      (List._∷_
+      105
+      (List._∷_
+      110
+      (List._∷_
+      105
+      (List._∷_
+      115
+      (List._∷_
+      104
+      (List._∷_
+      58
+      (List._∷_ 58 (List._∷_ 83 (List._∷_ 101 (List._∷_ 110 (List._∷_ 116 List.[]))))))))))))
+      (Syntax.tcons
+      (Syntax.tyInt Syntax.w64)
+      (Syntax.tcons
+      (Syntax.tyStruct
+      (List._∷_
+      97
+      (List._∷_
+      110
+      (List._∷_
+      115
+      (List._∷_
+      119
+      (List._∷_
+      101
+      (List._∷_
+      114
+      (List._∷_
+      58
+      (List._∷_
+      58
+      (List._∷_
+      68
+      (List._∷_
+      101
+      (List._∷_
+      115
+      (List._∷_
+      116
+      (List._∷_
+      105
+      (List._∷_
+      110
+      (List._∷_
+      97
+      (List._∷_ 116 (List._∷_ 105 (List._∷_ 111 (List._∷_ 110 List.[])))))))))))))))))))
+      (Syntax.tcons
+      (Syntax.tyArray (Syntax.tyInt Syntax.w8) 16)
+      (Syntax.tcons
+      (Syntax.tyEnum
+      (List._∷_
+      97
+      (List._∷_
+      110
+      (List._∷_
+      115
+      (List._∷_
+      119
+      (List._∷_
+      101
+      (List._∷_
+      114
+      (List._∷_ 58 (List._∷_ 58 (List._∷_ 87 (List._∷_ 97 (List._∷_ 121 List.[])))))))))))
+      (Syntax.ttcons
+      Syntax.tnil
+      (Syntax.ttcons
+      Syntax.tnil
+      (Syntax.ttcons Syntax.tnil (Syntax.ttcons Syntax.tnil Syntax.ttnil)))))
+      Syntax.tnil)))
+      Syntax.tnil)))
+      (Syntax.tcons
+      (Syntax.tyInt Syntax.w64)
+      (Syntax.tcons
       (Syntax.tyEnum
       (List._∷_
       97
@@ -11953,156 +12180,6 @@ t39 = List._∷_ (
       (Syntax.ttcons
       Syntax.tnil
       (Syntax.ttcons Syntax.tnil (Syntax.ttcons Syntax.tnil Syntax.ttnil)))))))))))))))))))
-      (Syntax.tcons
-      (Syntax.tyStruct
-      (List._∷_
-      102
-      (List._∷_
-      105
-      (List._∷_
-      110
-      (List._∷_
-      105
-      (List._∷_
-      115
-      (List._∷_
-      104
-      (List._∷_
-      58
-      (List._∷_ 58 (List._∷_ 83 (List._∷_ 101 (List._∷_ 110 (List._∷_ 116 List.[]))))))))))))
-      (Syntax.tcons
-      (Syntax.tyInt Syntax.w64)
-      (Syntax.tcons
-      (Syntax.tyStruct
-      (List._∷_
-      97
-      (List._∷_
-      110
-      (List._∷_
-      115
-      (List._∷_
-      119
-      (List._∷_
-      101
-      (List._∷_
-      114
-      (List._∷_
-      58
-      (List._∷_
-      58
-      (List._∷_
-      68
-      (List._∷_
-      101
-      (List._∷_
-      115
-      (List._∷_
-      116
-      (List._∷_
-      105
-      (List._∷_
-      110
-      (List._∷_
-      97
-      (List._∷_ 116 (List._∷_ 105 (List._∷_ 111 (List._∷_ 110 List.[])))))))))))))))))))
-      (Syntax.tcons
-      (Syntax.tyEnum
-      (List._∷_
-      97
-      (List._∷_
-      110
-      (List._∷_
-      115
-      (List._∷_
-      119
-      (List._∷_
-      101
-      (List._∷_
-      114
-      (List._∷_ 58 (List._∷_ 58 (List._∷_ 87 (List._∷_ 97 (List._∷_ 121 List.[])))))))))))
-      (Syntax.ttcons
-      Syntax.tnil
-      (Syntax.ttcons
-      Syntax.tnil
-      (Syntax.ttcons Syntax.tnil (Syntax.ttcons Syntax.tnil Syntax.ttnil)))))
-      (Syntax.tcons (Syntax.tyArray (Syntax.tyInt Syntax.w8) 16) Syntax.tnil)))
-      Syntax.tnil)))
-      (Syntax.tcons
-      (Syntax.tyStruct
-      (List._∷_
-      102
-      (List._∷_
-      105
-      (List._∷_
-      110
-      (List._∷_
-      105
-      (List._∷_
-      115
-      (List._∷_
-      104
-      (List._∷_
-      58
-      (List._∷_ 58 (List._∷_ 83 (List._∷_ 101 (List._∷_ 110 (List._∷_ 116 List.[]))))))))))))
-      (Syntax.tcons
-      (Syntax.tyInt Syntax.w64)
-      (Syntax.tcons
-      (Syntax.tyStruct
-      (List._∷_
-      97
-      (List._∷_
-      110
-      (List._∷_
-      115
-      (List._∷_
-      119
-      (List._∷_
-      101
-      (List._∷_
-      114
-      (List._∷_
-      58
-      (List._∷_
-      58
-      (List._∷_
-      68
-      (List._∷_
-      101
-      (List._∷_
-      115
-      (List._∷_
-      116
-      (List._∷_
-      105
-      (List._∷_
-      110
-      (List._∷_
-      97
-      (List._∷_ 116 (List._∷_ 105 (List._∷_ 111 (List._∷_ 110 List.[])))))))))))))))))))
-      (Syntax.tcons
-      (Syntax.tyEnum
-      (List._∷_
-      97
-      (List._∷_
-      110
-      (List._∷_
-      115
-      (List._∷_
-      119
-      (List._∷_
-      101
-      (List._∷_
-      114
-      (List._∷_ 58 (List._∷_ 58 (List._∷_ 87 (List._∷_ 97 (List._∷_ 121 List.[])))))))))))
-      (Syntax.ttcons
-      Syntax.tnil
-      (Syntax.ttcons
-      Syntax.tnil
-      (Syntax.ttcons Syntax.tnil (Syntax.ttcons Syntax.tnil Syntax.ttnil)))))
-      (Syntax.tcons (Syntax.tyArray (Syntax.tyInt Syntax.w8) 16) Syntax.tnil)))
-      Syntax.tnil)))
-      (Syntax.tcons
-      (Syntax.tyInt Syntax.w64)
       (Syntax.tcons (Syntax.tyInt Syntax.w8) Syntax.tnil)))))),
 ) (List._∷_ (
   1,
@@ -12600,6 +12677,160 @@ t42 = List._∷_ (
       117
       (List._∷_ 116 (List._∷_ 99 (List._∷_ 111 (List._∷_ 109 (List._∷_ 101 List.[])))))))))))))))
       (Syntax.tcons
+      (Syntax.tyStruct
+      (List._∷_
+      102
+      (List._∷_
+      105
+      (List._∷_
+      110
+      (List._∷_
+      105
+      (List._∷_
+      115
+      (List._∷_
+      104
+      (List._∷_
+      58
+      (List._∷_ 58 (List._∷_ 83 (List._∷_ 101 (List._∷_ 110 (List._∷_ 116 List.[]))))))))))))
+      (Syntax.tcons
+      (Syntax.tyInt Syntax.w64)
+      (Syntax.tcons
+      (Syntax.tyStruct
+      (List._∷_
+      97
+      (List._∷_
+      110
+      (List._∷_
+      115
+      (List._∷_
+      119
+      (List._∷_
+      101
+      (List._∷_
+      114
+      (List._∷_
+      58
+      (List._∷_
+      58
+      (List._∷_
+      68
+      (List._∷_
+      101
+      (List._∷_
+      115
+      (List._∷_
+      116
+      (List._∷_
+      105
+      (List._∷_
+      110
+      (List._∷_
+      97
+      (List._∷_ 116 (List._∷_ 105 (List._∷_ 111 (List._∷_ 110 List.[])))))))))))))))))))
+      (Syntax.tcons
+      (Syntax.tyArray (Syntax.tyInt Syntax.w8) 16)
+      (Syntax.tcons
+      (Syntax.tyEnum
+      (List._∷_
+      97
+      (List._∷_
+      110
+      (List._∷_
+      115
+      (List._∷_
+      119
+      (List._∷_
+      101
+      (List._∷_
+      114
+      (List._∷_ 58 (List._∷_ 58 (List._∷_ 87 (List._∷_ 97 (List._∷_ 121 List.[])))))))))))
+      (Syntax.ttcons
+      Syntax.tnil
+      (Syntax.ttcons
+      Syntax.tnil
+      (Syntax.ttcons Syntax.tnil (Syntax.ttcons Syntax.tnil Syntax.ttnil)))))
+      Syntax.tnil)))
+      Syntax.tnil)))
+      (Syntax.tcons
+      (Syntax.tyStruct
+      (List._∷_
+      102
+      (List._∷_
+      105
+      (List._∷_
+      110
+      (List._∷_
+      105
+      (List._∷_
+      115
+      (List._∷_
+      104
+      (List._∷_
+      58
+      (List._∷_ 58 (List._∷_ 83 (List._∷_ 101 (List._∷_ 110 (List._∷_ 116 List.[]))))))))))))
+      (Syntax.tcons
+      (Syntax.tyInt Syntax.w64)
+      (Syntax.tcons
+      (Syntax.tyStruct
+      (List._∷_
+      97
+      (List._∷_
+      110
+      (List._∷_
+      115
+      (List._∷_
+      119
+      (List._∷_
+      101
+      (List._∷_
+      114
+      (List._∷_
+      58
+      (List._∷_
+      58
+      (List._∷_
+      68
+      (List._∷_
+      101
+      (List._∷_
+      115
+      (List._∷_
+      116
+      (List._∷_
+      105
+      (List._∷_
+      110
+      (List._∷_
+      97
+      (List._∷_ 116 (List._∷_ 105 (List._∷_ 111 (List._∷_ 110 List.[])))))))))))))))))))
+      (Syntax.tcons
+      (Syntax.tyArray (Syntax.tyInt Syntax.w8) 16)
+      (Syntax.tcons
+      (Syntax.tyEnum
+      (List._∷_
+      97
+      (List._∷_
+      110
+      (List._∷_
+      115
+      (List._∷_
+      119
+      (List._∷_
+      101
+      (List._∷_
+      114
+      (List._∷_ 58 (List._∷_ 58 (List._∷_ 87 (List._∷_ 97 (List._∷_ 121 List.[])))))))))))
+      (Syntax.ttcons
+      Syntax.tnil
+      (Syntax.ttcons
+      Syntax.tnil
+      (Syntax.ttcons Syntax.tnil (Syntax.ttcons Syntax.tnil Syntax.ttnil)))))
+      Syntax.tnil)))
+      Syntax.tnil)))
+      (Syntax.tcons
+      (Syntax.tyInt Syntax.w64)
+      (Syntax.tcons
       (Syntax.tyEnum
       (List._∷_
       97
@@ -12653,156 +12884,6 @@ t42 = List._∷_ (
       (Syntax.ttcons
       Syntax.tnil
       (Syntax.ttcons Syntax.tnil (Syntax.ttcons Syntax.tnil Syntax.ttnil)))))))))))))))))))
-      (Syntax.tcons
-      (Syntax.tyStruct
-      (List._∷_
-      102
-      (List._∷_
-      105
-      (List._∷_
-      110
-      (List._∷_
-      105
-      (List._∷_
-      115
-      (List._∷_
-      104
-      (List._∷_
-      58
-      (List._∷_ 58 (List._∷_ 83 (List._∷_ 101 (List._∷_ 110 (List._∷_ 116 List.[]))))))))))))
-      (Syntax.tcons
-      (Syntax.tyInt Syntax.w64)
-      (Syntax.tcons
-      (Syntax.tyStruct
-      (List._∷_
-      97
-      (List._∷_
-      110
-      (List._∷_
-      115
-      (List._∷_
-      119
-      (List._∷_
-      101
-      (List._∷_
-      114
-      (List._∷_
-      58
-      (List._∷_
-      58
-      (List._∷_
-      68
-      (List._∷_
-      101
-      (List._∷_
-      115
-      (List._∷_
-      116
-      (List._∷_
-      105
-      (List._∷_
-      110
-      (List._∷_
-      97
-      (List._∷_ 116 (List._∷_ 105 (List._∷_ 111 (List._∷_ 110 List.[])))))))))))))))))))
-      (Syntax.tcons
-      (Syntax.tyEnum
-      (List._∷_
-      97
-      (List._∷_
-      110
-      (List._∷_
-      115
-      (List._∷_
-      119
-      (List._∷_
-      101
-      (List._∷_
-      114
-      (List._∷_ 58 (List._∷_ 58 (List._∷_ 87 (List._∷_ 97 (List._∷_ 121 List.[])))))))))))
-      (Syntax.ttcons
-      Syntax.tnil
-      (Syntax.ttcons
-      Syntax.tnil
-      (Syntax.ttcons Syntax.tnil (Syntax.ttcons Syntax.tnil Syntax.ttnil)))))
-      (Syntax.tcons (Syntax.tyArray (Syntax.tyInt Syntax.w8) 16) Syntax.tnil)))
-      Syntax.tnil)))
-      (Syntax.tcons
-      (Syntax.tyStruct
-      (List._∷_
-      102
-      (List._∷_
-      105
-      (List._∷_
-      110
-      (List._∷_
-      105
-      (List._∷_
-      115
-      (List._∷_
-      104
-      (List._∷_
-      58
-      (List._∷_ 58 (List._∷_ 83 (List._∷_ 101 (List._∷_ 110 (List._∷_ 116 List.[]))))))))))))
-      (Syntax.tcons
-      (Syntax.tyInt Syntax.w64)
-      (Syntax.tcons
-      (Syntax.tyStruct
-      (List._∷_
-      97
-      (List._∷_
-      110
-      (List._∷_
-      115
-      (List._∷_
-      119
-      (List._∷_
-      101
-      (List._∷_
-      114
-      (List._∷_
-      58
-      (List._∷_
-      58
-      (List._∷_
-      68
-      (List._∷_
-      101
-      (List._∷_
-      115
-      (List._∷_
-      116
-      (List._∷_
-      105
-      (List._∷_
-      110
-      (List._∷_
-      97
-      (List._∷_ 116 (List._∷_ 105 (List._∷_ 111 (List._∷_ 110 List.[])))))))))))))))))))
-      (Syntax.tcons
-      (Syntax.tyEnum
-      (List._∷_
-      97
-      (List._∷_
-      110
-      (List._∷_
-      115
-      (List._∷_
-      119
-      (List._∷_
-      101
-      (List._∷_
-      114
-      (List._∷_ 58 (List._∷_ 58 (List._∷_ 87 (List._∷_ 97 (List._∷_ 121 List.[])))))))))))
-      (Syntax.ttcons
-      Syntax.tnil
-      (Syntax.ttcons
-      Syntax.tnil
-      (Syntax.ttcons Syntax.tnil (Syntax.ttcons Syntax.tnil Syntax.ttnil)))))
-      (Syntax.tcons (Syntax.tyArray (Syntax.tyInt Syntax.w8) 16) Syntax.tnil)))
-      Syntax.tnil)))
-      (Syntax.tcons
-      (Syntax.tyInt Syntax.w64)
       (Syntax.tcons (Syntax.tyInt Syntax.w8) Syntax.tnil)))))),
 ) (List._∷_ (
   1,
@@ -13301,6 +13382,160 @@ t46 = List._∷_ (
       117
       (List._∷_ 116 (List._∷_ 99 (List._∷_ 111 (List._∷_ 109 (List._∷_ 101 List.[])))))))))))))))
       (Syntax.tcons
+      (Syntax.tyStruct
+      (List._∷_
+      102
+      (List._∷_
+      105
+      (List._∷_
+      110
+      (List._∷_
+      105
+      (List._∷_
+      115
+      (List._∷_
+      104
+      (List._∷_
+      58
+      (List._∷_ 58 (List._∷_ 83 (List._∷_ 101 (List._∷_ 110 (List._∷_ 116 List.[]))))))))))))
+      (Syntax.tcons
+      (Syntax.tyInt Syntax.w64)
+      (Syntax.tcons
+      (Syntax.tyStruct
+      (List._∷_
+      97
+      (List._∷_
+      110
+      (List._∷_
+      115
+      (List._∷_
+      119
+      (List._∷_
+      101
+      (List._∷_
+      114
+      (List._∷_
+      58
+      (List._∷_
+      58
+      (List._∷_
+      68
+      (List._∷_
+      101
+      (List._∷_
+      115
+      (List._∷_
+      116
+      (List._∷_
+      105
+      (List._∷_
+      110
+      (List._∷_
+      97
+      (List._∷_ 116 (List._∷_ 105 (List._∷_ 111 (List._∷_ 110 List.[])))))))))))))))))))
+      (Syntax.tcons
+      (Syntax.tyArray (Syntax.tyInt Syntax.w8) 16)
+      (Syntax.tcons
+      (Syntax.tyEnum
+      (List._∷_
+      97
+      (List._∷_
+      110
+      (List._∷_
+      115
+      (List._∷_
+      119
+      (List._∷_
+      101
+      (List._∷_
+      114
+      (List._∷_ 58 (List._∷_ 58 (List._∷_ 87 (List._∷_ 97 (List._∷_ 121 List.[])))))))))))
+      (Syntax.ttcons
+      Syntax.tnil
+      (Syntax.ttcons
+      Syntax.tnil
+      (Syntax.ttcons Syntax.tnil (Syntax.ttcons Syntax.tnil Syntax.ttnil)))))
+      Syntax.tnil)))
+      Syntax.tnil)))
+      (Syntax.tcons
+      (Syntax.tyStruct
+      (List._∷_
+      102
+      (List._∷_
+      105
+      (List._∷_
+      110
+      (List._∷_
+      105
+      (List._∷_
+      115
+      (List._∷_
+      104
+      (List._∷_
+      58
+      (List._∷_ 58 (List._∷_ 83 (List._∷_ 101 (List._∷_ 110 (List._∷_ 116 List.[]))))))))))))
+      (Syntax.tcons
+      (Syntax.tyInt Syntax.w64)
+      (Syntax.tcons
+      (Syntax.tyStruct
+      (List._∷_
+      97
+      (List._∷_
+      110
+      (List._∷_
+      115
+      (List._∷_
+      119
+      (List._∷_
+      101
+      (List._∷_
+      114
+      (List._∷_
+      58
+      (List._∷_
+      58
+      (List._∷_
+      68
+      (List._∷_
+      101
+      (List._∷_
+      115
+      (List._∷_
+      116
+      (List._∷_
+      105
+      (List._∷_
+      110
+      (List._∷_
+      97
+      (List._∷_ 116 (List._∷_ 105 (List._∷_ 111 (List._∷_ 110 List.[])))))))))))))))))))
+      (Syntax.tcons
+      (Syntax.tyArray (Syntax.tyInt Syntax.w8) 16)
+      (Syntax.tcons
+      (Syntax.tyEnum
+      (List._∷_
+      97
+      (List._∷_
+      110
+      (List._∷_
+      115
+      (List._∷_
+      119
+      (List._∷_
+      101
+      (List._∷_
+      114
+      (List._∷_ 58 (List._∷_ 58 (List._∷_ 87 (List._∷_ 97 (List._∷_ 121 List.[])))))))))))
+      (Syntax.ttcons
+      Syntax.tnil
+      (Syntax.ttcons
+      Syntax.tnil
+      (Syntax.ttcons Syntax.tnil (Syntax.ttcons Syntax.tnil Syntax.ttnil)))))
+      Syntax.tnil)))
+      Syntax.tnil)))
+      (Syntax.tcons
+      (Syntax.tyInt Syntax.w64)
+      (Syntax.tcons
       (Syntax.tyEnum
       (List._∷_
       97
@@ -13354,156 +13589,6 @@ t46 = List._∷_ (
       (Syntax.ttcons
       Syntax.tnil
       (Syntax.ttcons Syntax.tnil (Syntax.ttcons Syntax.tnil Syntax.ttnil)))))))))))))))))))
-      (Syntax.tcons
-      (Syntax.tyStruct
-      (List._∷_
-      102
-      (List._∷_
-      105
-      (List._∷_
-      110
-      (List._∷_
-      105
-      (List._∷_
-      115
-      (List._∷_
-      104
-      (List._∷_
-      58
-      (List._∷_ 58 (List._∷_ 83 (List._∷_ 101 (List._∷_ 110 (List._∷_ 116 List.[]))))))))))))
-      (Syntax.tcons
-      (Syntax.tyInt Syntax.w64)
-      (Syntax.tcons
-      (Syntax.tyStruct
-      (List._∷_
-      97
-      (List._∷_
-      110
-      (List._∷_
-      115
-      (List._∷_
-      119
-      (List._∷_
-      101
-      (List._∷_
-      114
-      (List._∷_
-      58
-      (List._∷_
-      58
-      (List._∷_
-      68
-      (List._∷_
-      101
-      (List._∷_
-      115
-      (List._∷_
-      116
-      (List._∷_
-      105
-      (List._∷_
-      110
-      (List._∷_
-      97
-      (List._∷_ 116 (List._∷_ 105 (List._∷_ 111 (List._∷_ 110 List.[])))))))))))))))))))
-      (Syntax.tcons
-      (Syntax.tyEnum
-      (List._∷_
-      97
-      (List._∷_
-      110
-      (List._∷_
-      115
-      (List._∷_
-      119
-      (List._∷_
-      101
-      (List._∷_
-      114
-      (List._∷_ 58 (List._∷_ 58 (List._∷_ 87 (List._∷_ 97 (List._∷_ 121 List.[])))))))))))
-      (Syntax.ttcons
-      Syntax.tnil
-      (Syntax.ttcons
-      Syntax.tnil
-      (Syntax.ttcons Syntax.tnil (Syntax.ttcons Syntax.tnil Syntax.ttnil)))))
-      (Syntax.tcons (Syntax.tyArray (Syntax.tyInt Syntax.w8) 16) Syntax.tnil)))
-      Syntax.tnil)))
-      (Syntax.tcons
-      (Syntax.tyStruct
-      (List._∷_
-      102
-      (List._∷_
-      105
-      (List._∷_
-      110
-      (List._∷_
-      105
-      (List._∷_
-      115
-      (List._∷_
-      104
-      (List._∷_
-      58
-      (List._∷_ 58 (List._∷_ 83 (List._∷_ 101 (List._∷_ 110 (List._∷_ 116 List.[]))))))))))))
-      (Syntax.tcons
-      (Syntax.tyInt Syntax.w64)
-      (Syntax.tcons
-      (Syntax.tyStruct
-      (List._∷_
-      97
-      (List._∷_
-      110
-      (List._∷_
-      115
-      (List._∷_
-      119
-      (List._∷_
-      101
-      (List._∷_
-      114
-      (List._∷_
-      58
-      (List._∷_
-      58
-      (List._∷_
-      68
-      (List._∷_
-      101
-      (List._∷_
-      115
-      (List._∷_
-      116
-      (List._∷_
-      105
-      (List._∷_
-      110
-      (List._∷_
-      97
-      (List._∷_ 116 (List._∷_ 105 (List._∷_ 111 (List._∷_ 110 List.[])))))))))))))))))))
-      (Syntax.tcons
-      (Syntax.tyEnum
-      (List._∷_
-      97
-      (List._∷_
-      110
-      (List._∷_
-      115
-      (List._∷_
-      119
-      (List._∷_
-      101
-      (List._∷_
-      114
-      (List._∷_ 58 (List._∷_ 58 (List._∷_ 87 (List._∷_ 97 (List._∷_ 121 List.[])))))))))))
-      (Syntax.ttcons
-      Syntax.tnil
-      (Syntax.ttcons
-      Syntax.tnil
-      (Syntax.ttcons Syntax.tnil (Syntax.ttcons Syntax.tnil Syntax.ttnil)))))
-      (Syntax.tcons (Syntax.tyArray (Syntax.tyInt Syntax.w8) 16) Syntax.tnil)))
-      Syntax.tnil)))
-      (Syntax.tcons
-      (Syntax.tyInt Syntax.w64)
       (Syntax.tcons (Syntax.tyInt Syntax.w8) Syntax.tnil)))))),
 ) (List._∷_ (
   1,
@@ -16131,6 +16216,160 @@ module _ (claims· : Claims) where
       117
       (List._∷_ 116 (List._∷_ 99 (List._∷_ 111 (List._∷_ 109 (List._∷_ 101 List.[])))))))))))))))
       (Syntax.tcons
+      (Syntax.tyStruct
+      (List._∷_
+      102
+      (List._∷_
+      105
+      (List._∷_
+      110
+      (List._∷_
+      105
+      (List._∷_
+      115
+      (List._∷_
+      104
+      (List._∷_
+      58
+      (List._∷_ 58 (List._∷_ 83 (List._∷_ 101 (List._∷_ 110 (List._∷_ 116 List.[]))))))))))))
+      (Syntax.tcons
+      (Syntax.tyInt Syntax.w64)
+      (Syntax.tcons
+      (Syntax.tyStruct
+      (List._∷_
+      97
+      (List._∷_
+      110
+      (List._∷_
+      115
+      (List._∷_
+      119
+      (List._∷_
+      101
+      (List._∷_
+      114
+      (List._∷_
+      58
+      (List._∷_
+      58
+      (List._∷_
+      68
+      (List._∷_
+      101
+      (List._∷_
+      115
+      (List._∷_
+      116
+      (List._∷_
+      105
+      (List._∷_
+      110
+      (List._∷_
+      97
+      (List._∷_ 116 (List._∷_ 105 (List._∷_ 111 (List._∷_ 110 List.[])))))))))))))))))))
+      (Syntax.tcons
+      (Syntax.tyArray (Syntax.tyInt Syntax.w8) 16)
+      (Syntax.tcons
+      (Syntax.tyEnum
+      (List._∷_
+      97
+      (List._∷_
+      110
+      (List._∷_
+      115
+      (List._∷_
+      119
+      (List._∷_
+      101
+      (List._∷_
+      114
+      (List._∷_ 58 (List._∷_ 58 (List._∷_ 87 (List._∷_ 97 (List._∷_ 121 List.[])))))))))))
+      (Syntax.ttcons
+      Syntax.tnil
+      (Syntax.ttcons
+      Syntax.tnil
+      (Syntax.ttcons Syntax.tnil (Syntax.ttcons Syntax.tnil Syntax.ttnil)))))
+      Syntax.tnil)))
+      Syntax.tnil)))
+      (Syntax.tcons
+      (Syntax.tyStruct
+      (List._∷_
+      102
+      (List._∷_
+      105
+      (List._∷_
+      110
+      (List._∷_
+      105
+      (List._∷_
+      115
+      (List._∷_
+      104
+      (List._∷_
+      58
+      (List._∷_ 58 (List._∷_ 83 (List._∷_ 101 (List._∷_ 110 (List._∷_ 116 List.[]))))))))))))
+      (Syntax.tcons
+      (Syntax.tyInt Syntax.w64)
+      (Syntax.tcons
+      (Syntax.tyStruct
+      (List._∷_
+      97
+      (List._∷_
+      110
+      (List._∷_
+      115
+      (List._∷_
+      119
+      (List._∷_
+      101
+      (List._∷_
+      114
+      (List._∷_
+      58
+      (List._∷_
+      58
+      (List._∷_
+      68
+      (List._∷_
+      101
+      (List._∷_
+      115
+      (List._∷_
+      116
+      (List._∷_
+      105
+      (List._∷_
+      110
+      (List._∷_
+      97
+      (List._∷_ 116 (List._∷_ 105 (List._∷_ 111 (List._∷_ 110 List.[])))))))))))))))))))
+      (Syntax.tcons
+      (Syntax.tyArray (Syntax.tyInt Syntax.w8) 16)
+      (Syntax.tcons
+      (Syntax.tyEnum
+      (List._∷_
+      97
+      (List._∷_
+      110
+      (List._∷_
+      115
+      (List._∷_
+      119
+      (List._∷_
+      101
+      (List._∷_
+      114
+      (List._∷_ 58 (List._∷_ 58 (List._∷_ 87 (List._∷_ 97 (List._∷_ 121 List.[])))))))))))
+      (Syntax.ttcons
+      Syntax.tnil
+      (Syntax.ttcons
+      Syntax.tnil
+      (Syntax.ttcons Syntax.tnil (Syntax.ttcons Syntax.tnil Syntax.ttnil)))))
+      Syntax.tnil)))
+      Syntax.tnil)))
+      (Syntax.tcons
+      (Syntax.tyInt Syntax.w64)
+      (Syntax.tcons
       (Syntax.tyEnum
       (List._∷_
       97
@@ -16184,156 +16423,6 @@ module _ (claims· : Claims) where
       (Syntax.ttcons
       Syntax.tnil
       (Syntax.ttcons Syntax.tnil (Syntax.ttcons Syntax.tnil Syntax.ttnil)))))))))))))))))))
-      (Syntax.tcons
-      (Syntax.tyStruct
-      (List._∷_
-      102
-      (List._∷_
-      105
-      (List._∷_
-      110
-      (List._∷_
-      105
-      (List._∷_
-      115
-      (List._∷_
-      104
-      (List._∷_
-      58
-      (List._∷_ 58 (List._∷_ 83 (List._∷_ 101 (List._∷_ 110 (List._∷_ 116 List.[]))))))))))))
-      (Syntax.tcons
-      (Syntax.tyInt Syntax.w64)
-      (Syntax.tcons
-      (Syntax.tyStruct
-      (List._∷_
-      97
-      (List._∷_
-      110
-      (List._∷_
-      115
-      (List._∷_
-      119
-      (List._∷_
-      101
-      (List._∷_
-      114
-      (List._∷_
-      58
-      (List._∷_
-      58
-      (List._∷_
-      68
-      (List._∷_
-      101
-      (List._∷_
-      115
-      (List._∷_
-      116
-      (List._∷_
-      105
-      (List._∷_
-      110
-      (List._∷_
-      97
-      (List._∷_ 116 (List._∷_ 105 (List._∷_ 111 (List._∷_ 110 List.[])))))))))))))))))))
-      (Syntax.tcons
-      (Syntax.tyEnum
-      (List._∷_
-      97
-      (List._∷_
-      110
-      (List._∷_
-      115
-      (List._∷_
-      119
-      (List._∷_
-      101
-      (List._∷_
-      114
-      (List._∷_ 58 (List._∷_ 58 (List._∷_ 87 (List._∷_ 97 (List._∷_ 121 List.[])))))))))))
-      (Syntax.ttcons
-      Syntax.tnil
-      (Syntax.ttcons
-      Syntax.tnil
-      (Syntax.ttcons Syntax.tnil (Syntax.ttcons Syntax.tnil Syntax.ttnil)))))
-      (Syntax.tcons (Syntax.tyArray (Syntax.tyInt Syntax.w8) 16) Syntax.tnil)))
-      Syntax.tnil)))
-      (Syntax.tcons
-      (Syntax.tyStruct
-      (List._∷_
-      102
-      (List._∷_
-      105
-      (List._∷_
-      110
-      (List._∷_
-      105
-      (List._∷_
-      115
-      (List._∷_
-      104
-      (List._∷_
-      58
-      (List._∷_ 58 (List._∷_ 83 (List._∷_ 101 (List._∷_ 110 (List._∷_ 116 List.[]))))))))))))
-      (Syntax.tcons
-      (Syntax.tyInt Syntax.w64)
-      (Syntax.tcons
-      (Syntax.tyStruct
-      (List._∷_
-      97
-      (List._∷_
-      110
-      (List._∷_
-      115
-      (List._∷_
-      119
-      (List._∷_
-      101
-      (List._∷_
-      114
-      (List._∷_
-      58
-      (List._∷_
-      58
-      (List._∷_
-      68
-      (List._∷_
-      101
-      (List._∷_
-      115
-      (List._∷_
-      116
-      (List._∷_
-      105
-      (List._∷_
-      110
-      (List._∷_
-      97
-      (List._∷_ 116 (List._∷_ 105 (List._∷_ 111 (List._∷_ 110 List.[])))))))))))))))))))
-      (Syntax.tcons
-      (Syntax.tyEnum
-      (List._∷_
-      97
-      (List._∷_
-      110
-      (List._∷_
-      115
-      (List._∷_
-      119
-      (List._∷_
-      101
-      (List._∷_
-      114
-      (List._∷_ 58 (List._∷_ 58 (List._∷_ 87 (List._∷_ 97 (List._∷_ 121 List.[])))))))))))
-      (Syntax.ttcons
-      Syntax.tnil
-      (Syntax.ttcons
-      Syntax.tnil
-      (Syntax.ttcons Syntax.tnil (Syntax.ttcons Syntax.tnil Syntax.ttnil)))))
-      (Syntax.tcons (Syntax.tyArray (Syntax.tyInt Syntax.w8) 16) Syntax.tnil)))
-      Syntax.tnil)))
-      (Syntax.tcons
-      (Syntax.tyInt Syntax.w64)
       (Syntax.tcons (Syntax.tyInt Syntax.w8) Syntax.tnil))))))
 
   abbrev s12 : Typed.Mo T14 → Typed.Mo T15
@@ -16733,6 +16822,160 @@ module _ (claims· : Claims) where
       117
       (List._∷_ 116 (List._∷_ 99 (List._∷_ 111 (List._∷_ 109 (List._∷_ 101 List.[])))))))))))))))
       (Syntax.tcons
+      (Syntax.tyStruct
+      (List._∷_
+      102
+      (List._∷_
+      105
+      (List._∷_
+      110
+      (List._∷_
+      105
+      (List._∷_
+      115
+      (List._∷_
+      104
+      (List._∷_
+      58
+      (List._∷_ 58 (List._∷_ 83 (List._∷_ 101 (List._∷_ 110 (List._∷_ 116 List.[]))))))))))))
+      (Syntax.tcons
+      (Syntax.tyInt Syntax.w64)
+      (Syntax.tcons
+      (Syntax.tyStruct
+      (List._∷_
+      97
+      (List._∷_
+      110
+      (List._∷_
+      115
+      (List._∷_
+      119
+      (List._∷_
+      101
+      (List._∷_
+      114
+      (List._∷_
+      58
+      (List._∷_
+      58
+      (List._∷_
+      68
+      (List._∷_
+      101
+      (List._∷_
+      115
+      (List._∷_
+      116
+      (List._∷_
+      105
+      (List._∷_
+      110
+      (List._∷_
+      97
+      (List._∷_ 116 (List._∷_ 105 (List._∷_ 111 (List._∷_ 110 List.[])))))))))))))))))))
+      (Syntax.tcons
+      (Syntax.tyArray (Syntax.tyInt Syntax.w8) 16)
+      (Syntax.tcons
+      (Syntax.tyEnum
+      (List._∷_
+      97
+      (List._∷_
+      110
+      (List._∷_
+      115
+      (List._∷_
+      119
+      (List._∷_
+      101
+      (List._∷_
+      114
+      (List._∷_ 58 (List._∷_ 58 (List._∷_ 87 (List._∷_ 97 (List._∷_ 121 List.[])))))))))))
+      (Syntax.ttcons
+      Syntax.tnil
+      (Syntax.ttcons
+      Syntax.tnil
+      (Syntax.ttcons Syntax.tnil (Syntax.ttcons Syntax.tnil Syntax.ttnil)))))
+      Syntax.tnil)))
+      Syntax.tnil)))
+      (Syntax.tcons
+      (Syntax.tyStruct
+      (List._∷_
+      102
+      (List._∷_
+      105
+      (List._∷_
+      110
+      (List._∷_
+      105
+      (List._∷_
+      115
+      (List._∷_
+      104
+      (List._∷_
+      58
+      (List._∷_ 58 (List._∷_ 83 (List._∷_ 101 (List._∷_ 110 (List._∷_ 116 List.[]))))))))))))
+      (Syntax.tcons
+      (Syntax.tyInt Syntax.w64)
+      (Syntax.tcons
+      (Syntax.tyStruct
+      (List._∷_
+      97
+      (List._∷_
+      110
+      (List._∷_
+      115
+      (List._∷_
+      119
+      (List._∷_
+      101
+      (List._∷_
+      114
+      (List._∷_
+      58
+      (List._∷_
+      58
+      (List._∷_
+      68
+      (List._∷_
+      101
+      (List._∷_
+      115
+      (List._∷_
+      116
+      (List._∷_
+      105
+      (List._∷_
+      110
+      (List._∷_
+      97
+      (List._∷_ 116 (List._∷_ 105 (List._∷_ 111 (List._∷_ 110 List.[])))))))))))))))))))
+      (Syntax.tcons
+      (Syntax.tyArray (Syntax.tyInt Syntax.w8) 16)
+      (Syntax.tcons
+      (Syntax.tyEnum
+      (List._∷_
+      97
+      (List._∷_
+      110
+      (List._∷_
+      115
+      (List._∷_
+      119
+      (List._∷_
+      101
+      (List._∷_
+      114
+      (List._∷_ 58 (List._∷_ 58 (List._∷_ 87 (List._∷_ 97 (List._∷_ 121 List.[])))))))))))
+      (Syntax.ttcons
+      Syntax.tnil
+      (Syntax.ttcons
+      Syntax.tnil
+      (Syntax.ttcons Syntax.tnil (Syntax.ttcons Syntax.tnil Syntax.ttnil)))))
+      Syntax.tnil)))
+      Syntax.tnil)))
+      (Syntax.tcons
+      (Syntax.tyInt Syntax.w64)
+      (Syntax.tcons
       (Syntax.tyEnum
       (List._∷_
       97
@@ -16786,156 +17029,6 @@ module _ (claims· : Claims) where
       (Syntax.ttcons
       Syntax.tnil
       (Syntax.ttcons Syntax.tnil (Syntax.ttcons Syntax.tnil Syntax.ttnil)))))))))))))))))))
-      (Syntax.tcons
-      (Syntax.tyStruct
-      (List._∷_
-      102
-      (List._∷_
-      105
-      (List._∷_
-      110
-      (List._∷_
-      105
-      (List._∷_
-      115
-      (List._∷_
-      104
-      (List._∷_
-      58
-      (List._∷_ 58 (List._∷_ 83 (List._∷_ 101 (List._∷_ 110 (List._∷_ 116 List.[]))))))))))))
-      (Syntax.tcons
-      (Syntax.tyInt Syntax.w64)
-      (Syntax.tcons
-      (Syntax.tyStruct
-      (List._∷_
-      97
-      (List._∷_
-      110
-      (List._∷_
-      115
-      (List._∷_
-      119
-      (List._∷_
-      101
-      (List._∷_
-      114
-      (List._∷_
-      58
-      (List._∷_
-      58
-      (List._∷_
-      68
-      (List._∷_
-      101
-      (List._∷_
-      115
-      (List._∷_
-      116
-      (List._∷_
-      105
-      (List._∷_
-      110
-      (List._∷_
-      97
-      (List._∷_ 116 (List._∷_ 105 (List._∷_ 111 (List._∷_ 110 List.[])))))))))))))))))))
-      (Syntax.tcons
-      (Syntax.tyEnum
-      (List._∷_
-      97
-      (List._∷_
-      110
-      (List._∷_
-      115
-      (List._∷_
-      119
-      (List._∷_
-      101
-      (List._∷_
-      114
-      (List._∷_ 58 (List._∷_ 58 (List._∷_ 87 (List._∷_ 97 (List._∷_ 121 List.[])))))))))))
-      (Syntax.ttcons
-      Syntax.tnil
-      (Syntax.ttcons
-      Syntax.tnil
-      (Syntax.ttcons Syntax.tnil (Syntax.ttcons Syntax.tnil Syntax.ttnil)))))
-      (Syntax.tcons (Syntax.tyArray (Syntax.tyInt Syntax.w8) 16) Syntax.tnil)))
-      Syntax.tnil)))
-      (Syntax.tcons
-      (Syntax.tyStruct
-      (List._∷_
-      102
-      (List._∷_
-      105
-      (List._∷_
-      110
-      (List._∷_
-      105
-      (List._∷_
-      115
-      (List._∷_
-      104
-      (List._∷_
-      58
-      (List._∷_ 58 (List._∷_ 83 (List._∷_ 101 (List._∷_ 110 (List._∷_ 116 List.[]))))))))))))
-      (Syntax.tcons
-      (Syntax.tyInt Syntax.w64)
-      (Syntax.tcons
-      (Syntax.tyStruct
-      (List._∷_
-      97
-      (List._∷_
-      110
-      (List._∷_
-      115
-      (List._∷_
-      119
-      (List._∷_
-      101
-      (List._∷_
-      114
-      (List._∷_
-      58
-      (List._∷_
-      58
-      (List._∷_
-      68
-      (List._∷_
-      101
-      (List._∷_
-      115
-      (List._∷_
-      116
-      (List._∷_
-      105
-      (List._∷_
-      110
-      (List._∷_
-      97
-      (List._∷_ 116 (List._∷_ 105 (List._∷_ 111 (List._∷_ 110 List.[])))))))))))))))))))
-      (Syntax.tcons
-      (Syntax.tyEnum
-      (List._∷_
-      97
-      (List._∷_
-      110
-      (List._∷_
-      115
-      (List._∷_
-      119
-      (List._∷_
-      101
-      (List._∷_
-      114
-      (List._∷_ 58 (List._∷_ 58 (List._∷_ 87 (List._∷_ 97 (List._∷_ 121 List.[])))))))))))
-      (Syntax.ttcons
-      Syntax.tnil
-      (Syntax.ttcons
-      Syntax.tnil
-      (Syntax.ttcons Syntax.tnil (Syntax.ttcons Syntax.tnil Syntax.ttnil)))))
-      (Syntax.tcons (Syntax.tyArray (Syntax.tyInt Syntax.w8) 16) Syntax.tnil)))
-      Syntax.tnil)))
-      (Syntax.tcons
-      (Syntax.tyInt Syntax.w64)
       (Syntax.tcons (Syntax.tyInt Syntax.w8) Syntax.tnil))))))
 
   abbrev s25 : Typed.Mo T28 → Typed.Mo T29
@@ -17371,6 +17464,160 @@ module _ (claims· : Claims) where
       117
       (List._∷_ 116 (List._∷_ 99 (List._∷_ 111 (List._∷_ 109 (List._∷_ 101 List.[])))))))))))))))
       (Syntax.tcons
+      (Syntax.tyStruct
+      (List._∷_
+      102
+      (List._∷_
+      105
+      (List._∷_
+      110
+      (List._∷_
+      105
+      (List._∷_
+      115
+      (List._∷_
+      104
+      (List._∷_
+      58
+      (List._∷_ 58 (List._∷_ 83 (List._∷_ 101 (List._∷_ 110 (List._∷_ 116 List.[]))))))))))))
+      (Syntax.tcons
+      (Syntax.tyInt Syntax.w64)
+      (Syntax.tcons
+      (Syntax.tyStruct
+      (List._∷_
+      97
+      (List._∷_
+      110
+      (List._∷_
+      115
+      (List._∷_
+      119
+      (List._∷_
+      101
+      (List._∷_
+      114
+      (List._∷_
+      58
+      (List._∷_
+      58
+      (List._∷_
+      68
+      (List._∷_
+      101
+      (List._∷_
+      115
+      (List._∷_
+      116
+      (List._∷_
+      105
+      (List._∷_
+      110
+      (List._∷_
+      97
+      (List._∷_ 116 (List._∷_ 105 (List._∷_ 111 (List._∷_ 110 List.[])))))))))))))))))))
+      (Syntax.tcons
+      (Syntax.tyArray (Syntax.tyInt Syntax.w8) 16)
+      (Syntax.tcons
+      (Syntax.tyEnum
+      (List._∷_
+      97
+      (List._∷_
+      110
+      (List._∷_
+      115
+      (List._∷_
+      119
+      (List._∷_
+      101
+      (List._∷_
+      114
+      (List._∷_ 58 (List._∷_ 58 (List._∷_ 87 (List._∷_ 97 (List._∷_ 121 List.[])))))))))))
+      (Syntax.ttcons
+      Syntax.tnil
+      (Syntax.ttcons
+      Syntax.tnil
+      (Syntax.ttcons Syntax.tnil (Syntax.ttcons Syntax.tnil Syntax.ttnil)))))
+      Syntax.tnil)))
+      Syntax.tnil)))
+      (Syntax.tcons
+      (Syntax.tyStruct
+      (List._∷_
+      102
+      (List._∷_
+      105
+      (List._∷_
+      110
+      (List._∷_
+      105
+      (List._∷_
+      115
+      (List._∷_
+      104
+      (List._∷_
+      58
+      (List._∷_ 58 (List._∷_ 83 (List._∷_ 101 (List._∷_ 110 (List._∷_ 116 List.[]))))))))))))
+      (Syntax.tcons
+      (Syntax.tyInt Syntax.w64)
+      (Syntax.tcons
+      (Syntax.tyStruct
+      (List._∷_
+      97
+      (List._∷_
+      110
+      (List._∷_
+      115
+      (List._∷_
+      119
+      (List._∷_
+      101
+      (List._∷_
+      114
+      (List._∷_
+      58
+      (List._∷_
+      58
+      (List._∷_
+      68
+      (List._∷_
+      101
+      (List._∷_
+      115
+      (List._∷_
+      116
+      (List._∷_
+      105
+      (List._∷_
+      110
+      (List._∷_
+      97
+      (List._∷_ 116 (List._∷_ 105 (List._∷_ 111 (List._∷_ 110 List.[])))))))))))))))))))
+      (Syntax.tcons
+      (Syntax.tyArray (Syntax.tyInt Syntax.w8) 16)
+      (Syntax.tcons
+      (Syntax.tyEnum
+      (List._∷_
+      97
+      (List._∷_
+      110
+      (List._∷_
+      115
+      (List._∷_
+      119
+      (List._∷_
+      101
+      (List._∷_
+      114
+      (List._∷_ 58 (List._∷_ 58 (List._∷_ 87 (List._∷_ 97 (List._∷_ 121 List.[])))))))))))
+      (Syntax.ttcons
+      Syntax.tnil
+      (Syntax.ttcons
+      Syntax.tnil
+      (Syntax.ttcons Syntax.tnil (Syntax.ttcons Syntax.tnil Syntax.ttnil)))))
+      Syntax.tnil)))
+      Syntax.tnil)))
+      (Syntax.tcons
+      (Syntax.tyInt Syntax.w64)
+      (Syntax.tcons
       (Syntax.tyEnum
       (List._∷_
       97
@@ -17424,156 +17671,6 @@ module _ (claims· : Claims) where
       (Syntax.ttcons
       Syntax.tnil
       (Syntax.ttcons Syntax.tnil (Syntax.ttcons Syntax.tnil Syntax.ttnil)))))))))))))))))))
-      (Syntax.tcons
-      (Syntax.tyStruct
-      (List._∷_
-      102
-      (List._∷_
-      105
-      (List._∷_
-      110
-      (List._∷_
-      105
-      (List._∷_
-      115
-      (List._∷_
-      104
-      (List._∷_
-      58
-      (List._∷_ 58 (List._∷_ 83 (List._∷_ 101 (List._∷_ 110 (List._∷_ 116 List.[]))))))))))))
-      (Syntax.tcons
-      (Syntax.tyInt Syntax.w64)
-      (Syntax.tcons
-      (Syntax.tyStruct
-      (List._∷_
-      97
-      (List._∷_
-      110
-      (List._∷_
-      115
-      (List._∷_
-      119
-      (List._∷_
-      101
-      (List._∷_
-      114
-      (List._∷_
-      58
-      (List._∷_
-      58
-      (List._∷_
-      68
-      (List._∷_
-      101
-      (List._∷_
-      115
-      (List._∷_
-      116
-      (List._∷_
-      105
-      (List._∷_
-      110
-      (List._∷_
-      97
-      (List._∷_ 116 (List._∷_ 105 (List._∷_ 111 (List._∷_ 110 List.[])))))))))))))))))))
-      (Syntax.tcons
-      (Syntax.tyEnum
-      (List._∷_
-      97
-      (List._∷_
-      110
-      (List._∷_
-      115
-      (List._∷_
-      119
-      (List._∷_
-      101
-      (List._∷_
-      114
-      (List._∷_ 58 (List._∷_ 58 (List._∷_ 87 (List._∷_ 97 (List._∷_ 121 List.[])))))))))))
-      (Syntax.ttcons
-      Syntax.tnil
-      (Syntax.ttcons
-      Syntax.tnil
-      (Syntax.ttcons Syntax.tnil (Syntax.ttcons Syntax.tnil Syntax.ttnil)))))
-      (Syntax.tcons (Syntax.tyArray (Syntax.tyInt Syntax.w8) 16) Syntax.tnil)))
-      Syntax.tnil)))
-      (Syntax.tcons
-      (Syntax.tyStruct
-      (List._∷_
-      102
-      (List._∷_
-      105
-      (List._∷_
-      110
-      (List._∷_
-      105
-      (List._∷_
-      115
-      (List._∷_
-      104
-      (List._∷_
-      58
-      (List._∷_ 58 (List._∷_ 83 (List._∷_ 101 (List._∷_ 110 (List._∷_ 116 List.[]))))))))))))
-      (Syntax.tcons
-      (Syntax.tyInt Syntax.w64)
-      (Syntax.tcons
-      (Syntax.tyStruct
-      (List._∷_
-      97
-      (List._∷_
-      110
-      (List._∷_
-      115
-      (List._∷_
-      119
-      (List._∷_
-      101
-      (List._∷_
-      114
-      (List._∷_
-      58
-      (List._∷_
-      58
-      (List._∷_
-      68
-      (List._∷_
-      101
-      (List._∷_
-      115
-      (List._∷_
-      116
-      (List._∷_
-      105
-      (List._∷_
-      110
-      (List._∷_
-      97
-      (List._∷_ 116 (List._∷_ 105 (List._∷_ 111 (List._∷_ 110 List.[])))))))))))))))))))
-      (Syntax.tcons
-      (Syntax.tyEnum
-      (List._∷_
-      97
-      (List._∷_
-      110
-      (List._∷_
-      115
-      (List._∷_
-      119
-      (List._∷_
-      101
-      (List._∷_
-      114
-      (List._∷_ 58 (List._∷_ 58 (List._∷_ 87 (List._∷_ 97 (List._∷_ 121 List.[])))))))))))
-      (Syntax.ttcons
-      Syntax.tnil
-      (Syntax.ttcons
-      Syntax.tnil
-      (Syntax.ttcons Syntax.tnil (Syntax.ttcons Syntax.tnil Syntax.ttnil)))))
-      (Syntax.tcons (Syntax.tyArray (Syntax.tyInt Syntax.w8) 16) Syntax.tnil)))
-      Syntax.tnil)))
-      (Syntax.tcons
-      (Syntax.tyInt Syntax.w64)
       (Syntax.tcons (Syntax.tyInt Syntax.w8) Syntax.tnil))))))
 
   abbrev s51 : Typed.Mo T55 → Typed.Mo T56
@@ -17991,6 +18088,160 @@ module _ (claims· : Claims) where
       117
       (List._∷_ 116 (List._∷_ 99 (List._∷_ 111 (List._∷_ 109 (List._∷_ 101 List.[])))))))))))))))
       (Syntax.tcons
+      (Syntax.tyStruct
+      (List._∷_
+      102
+      (List._∷_
+      105
+      (List._∷_
+      110
+      (List._∷_
+      105
+      (List._∷_
+      115
+      (List._∷_
+      104
+      (List._∷_
+      58
+      (List._∷_ 58 (List._∷_ 83 (List._∷_ 101 (List._∷_ 110 (List._∷_ 116 List.[]))))))))))))
+      (Syntax.tcons
+      (Syntax.tyInt Syntax.w64)
+      (Syntax.tcons
+      (Syntax.tyStruct
+      (List._∷_
+      97
+      (List._∷_
+      110
+      (List._∷_
+      115
+      (List._∷_
+      119
+      (List._∷_
+      101
+      (List._∷_
+      114
+      (List._∷_
+      58
+      (List._∷_
+      58
+      (List._∷_
+      68
+      (List._∷_
+      101
+      (List._∷_
+      115
+      (List._∷_
+      116
+      (List._∷_
+      105
+      (List._∷_
+      110
+      (List._∷_
+      97
+      (List._∷_ 116 (List._∷_ 105 (List._∷_ 111 (List._∷_ 110 List.[])))))))))))))))))))
+      (Syntax.tcons
+      (Syntax.tyArray (Syntax.tyInt Syntax.w8) 16)
+      (Syntax.tcons
+      (Syntax.tyEnum
+      (List._∷_
+      97
+      (List._∷_
+      110
+      (List._∷_
+      115
+      (List._∷_
+      119
+      (List._∷_
+      101
+      (List._∷_
+      114
+      (List._∷_ 58 (List._∷_ 58 (List._∷_ 87 (List._∷_ 97 (List._∷_ 121 List.[])))))))))))
+      (Syntax.ttcons
+      Syntax.tnil
+      (Syntax.ttcons
+      Syntax.tnil
+      (Syntax.ttcons Syntax.tnil (Syntax.ttcons Syntax.tnil Syntax.ttnil)))))
+      Syntax.tnil)))
+      Syntax.tnil)))
+      (Syntax.tcons
+      (Syntax.tyStruct
+      (List._∷_
+      102
+      (List._∷_
+      105
+      (List._∷_
+      110
+      (List._∷_
+      105
+      (List._∷_
+      115
+      (List._∷_
+      104
+      (List._∷_
+      58
+      (List._∷_ 58 (List._∷_ 83 (List._∷_ 101 (List._∷_ 110 (List._∷_ 116 List.[]))))))))))))
+      (Syntax.tcons
+      (Syntax.tyInt Syntax.w64)
+      (Syntax.tcons
+      (Syntax.tyStruct
+      (List._∷_
+      97
+      (List._∷_
+      110
+      (List._∷_
+      115
+      (List._∷_
+      119
+      (List._∷_
+      101
+      (List._∷_
+      114
+      (List._∷_
+      58
+      (List._∷_
+      58
+      (List._∷_
+      68
+      (List._∷_
+      101
+      (List._∷_
+      115
+      (List._∷_
+      116
+      (List._∷_
+      105
+      (List._∷_
+      110
+      (List._∷_
+      97
+      (List._∷_ 116 (List._∷_ 105 (List._∷_ 111 (List._∷_ 110 List.[])))))))))))))))))))
+      (Syntax.tcons
+      (Syntax.tyArray (Syntax.tyInt Syntax.w8) 16)
+      (Syntax.tcons
+      (Syntax.tyEnum
+      (List._∷_
+      97
+      (List._∷_
+      110
+      (List._∷_
+      115
+      (List._∷_
+      119
+      (List._∷_
+      101
+      (List._∷_
+      114
+      (List._∷_ 58 (List._∷_ 58 (List._∷_ 87 (List._∷_ 97 (List._∷_ 121 List.[])))))))))))
+      (Syntax.ttcons
+      Syntax.tnil
+      (Syntax.ttcons
+      Syntax.tnil
+      (Syntax.ttcons Syntax.tnil (Syntax.ttcons Syntax.tnil Syntax.ttnil)))))
+      Syntax.tnil)))
+      Syntax.tnil)))
+      (Syntax.tcons
+      (Syntax.tyInt Syntax.w64)
+      (Syntax.tcons
       (Syntax.tyEnum
       (List._∷_
       97
@@ -18044,156 +18295,6 @@ module _ (claims· : Claims) where
       (Syntax.ttcons
       Syntax.tnil
       (Syntax.ttcons Syntax.tnil (Syntax.ttcons Syntax.tnil Syntax.ttnil)))))))))))))))))))
-      (Syntax.tcons
-      (Syntax.tyStruct
-      (List._∷_
-      102
-      (List._∷_
-      105
-      (List._∷_
-      110
-      (List._∷_
-      105
-      (List._∷_
-      115
-      (List._∷_
-      104
-      (List._∷_
-      58
-      (List._∷_ 58 (List._∷_ 83 (List._∷_ 101 (List._∷_ 110 (List._∷_ 116 List.[]))))))))))))
-      (Syntax.tcons
-      (Syntax.tyInt Syntax.w64)
-      (Syntax.tcons
-      (Syntax.tyStruct
-      (List._∷_
-      97
-      (List._∷_
-      110
-      (List._∷_
-      115
-      (List._∷_
-      119
-      (List._∷_
-      101
-      (List._∷_
-      114
-      (List._∷_
-      58
-      (List._∷_
-      58
-      (List._∷_
-      68
-      (List._∷_
-      101
-      (List._∷_
-      115
-      (List._∷_
-      116
-      (List._∷_
-      105
-      (List._∷_
-      110
-      (List._∷_
-      97
-      (List._∷_ 116 (List._∷_ 105 (List._∷_ 111 (List._∷_ 110 List.[])))))))))))))))))))
-      (Syntax.tcons
-      (Syntax.tyEnum
-      (List._∷_
-      97
-      (List._∷_
-      110
-      (List._∷_
-      115
-      (List._∷_
-      119
-      (List._∷_
-      101
-      (List._∷_
-      114
-      (List._∷_ 58 (List._∷_ 58 (List._∷_ 87 (List._∷_ 97 (List._∷_ 121 List.[])))))))))))
-      (Syntax.ttcons
-      Syntax.tnil
-      (Syntax.ttcons
-      Syntax.tnil
-      (Syntax.ttcons Syntax.tnil (Syntax.ttcons Syntax.tnil Syntax.ttnil)))))
-      (Syntax.tcons (Syntax.tyArray (Syntax.tyInt Syntax.w8) 16) Syntax.tnil)))
-      Syntax.tnil)))
-      (Syntax.tcons
-      (Syntax.tyStruct
-      (List._∷_
-      102
-      (List._∷_
-      105
-      (List._∷_
-      110
-      (List._∷_
-      105
-      (List._∷_
-      115
-      (List._∷_
-      104
-      (List._∷_
-      58
-      (List._∷_ 58 (List._∷_ 83 (List._∷_ 101 (List._∷_ 110 (List._∷_ 116 List.[]))))))))))))
-      (Syntax.tcons
-      (Syntax.tyInt Syntax.w64)
-      (Syntax.tcons
-      (Syntax.tyStruct
-      (List._∷_
-      97
-      (List._∷_
-      110
-      (List._∷_
-      115
-      (List._∷_
-      119
-      (List._∷_
-      101
-      (List._∷_
-      114
-      (List._∷_
-      58
-      (List._∷_
-      58
-      (List._∷_
-      68
-      (List._∷_
-      101
-      (List._∷_
-      115
-      (List._∷_
-      116
-      (List._∷_
-      105
-      (List._∷_
-      110
-      (List._∷_
-      97
-      (List._∷_ 116 (List._∷_ 105 (List._∷_ 111 (List._∷_ 110 List.[])))))))))))))))))))
-      (Syntax.tcons
-      (Syntax.tyEnum
-      (List._∷_
-      97
-      (List._∷_
-      110
-      (List._∷_
-      115
-      (List._∷_
-      119
-      (List._∷_
-      101
-      (List._∷_
-      114
-      (List._∷_ 58 (List._∷_ 58 (List._∷_ 87 (List._∷_ 97 (List._∷_ 121 List.[])))))))))))
-      (Syntax.ttcons
-      Syntax.tnil
-      (Syntax.ttcons
-      Syntax.tnil
-      (Syntax.ttcons Syntax.tnil (Syntax.ttcons Syntax.tnil Syntax.ttnil)))))
-      (Syntax.tcons (Syntax.tyArray (Syntax.tyInt Syntax.w8) 16) Syntax.tnil)))
-      Syntax.tnil)))
-      (Syntax.tcons
-      (Syntax.tyInt Syntax.w64)
       (Syntax.tcons (Syntax.tyInt Syntax.w8) Syntax.tnil))))))
 
   abbrev s71 : Typed.Mo T75 → Typed.Mo T76
@@ -18771,6 +18872,164 @@ module _ (claims· : Claims) where
               116
               (List._∷_ 99 (List._∷_ 111 (List._∷_ 109 (List._∷_ 101 List.[])))))))))))))))
               (Syntax.tcons
+              (Syntax.tyStruct
+              (List._∷_
+              102
+              (List._∷_
+              105
+              (List._∷_
+              110
+              (List._∷_
+              105
+              (List._∷_
+              115
+              (List._∷_
+              104
+              (List._∷_
+              58
+              (List._∷_
+              58
+              (List._∷_ 83 (List._∷_ 101 (List._∷_ 110 (List._∷_ 116 List.[]))))))))))))
+              (Syntax.tcons
+              (Syntax.tyInt Syntax.w64)
+              (Syntax.tcons
+              (Syntax.tyStruct
+              (List._∷_
+              97
+              (List._∷_
+              110
+              (List._∷_
+              115
+              (List._∷_
+              119
+              (List._∷_
+              101
+              (List._∷_
+              114
+              (List._∷_
+              58
+              (List._∷_
+              58
+              (List._∷_
+              68
+              (List._∷_
+              101
+              (List._∷_
+              115
+              (List._∷_
+              116
+              (List._∷_
+              105
+              (List._∷_
+              110
+              (List._∷_
+              97
+              (List._∷_ 116 (List._∷_ 105 (List._∷_ 111 (List._∷_ 110 List.[])))))))))))))))))))
+              (Syntax.tcons
+              (Syntax.tyArray (Syntax.tyInt Syntax.w8) 16)
+              (Syntax.tcons
+              (Syntax.tyEnum
+              (List._∷_
+              97
+              (List._∷_
+              110
+              (List._∷_
+              115
+              (List._∷_
+              119
+              (List._∷_
+              101
+              (List._∷_
+              114
+              (List._∷_ 58 (List._∷_ 58 (List._∷_ 87 (List._∷_ 97 (List._∷_ 121 List.[])))))))))))
+              (Syntax.ttcons
+              Syntax.tnil
+              (Syntax.ttcons
+              Syntax.tnil
+              (Syntax.ttcons Syntax.tnil (Syntax.ttcons Syntax.tnil Syntax.ttnil)))))
+              Syntax.tnil)))
+              Syntax.tnil)))
+              (Syntax.tcons
+              (Syntax.tyStruct
+              (List._∷_
+              102
+              (List._∷_
+              105
+              (List._∷_
+              110
+              (List._∷_
+              105
+              (List._∷_
+              115
+              (List._∷_
+              104
+              (List._∷_
+              58
+              (List._∷_
+              58
+              (List._∷_ 83 (List._∷_ 101 (List._∷_ 110 (List._∷_ 116 List.[]))))))))))))
+              (Syntax.tcons
+              (Syntax.tyInt Syntax.w64)
+              (Syntax.tcons
+              (Syntax.tyStruct
+              (List._∷_
+              97
+              (List._∷_
+              110
+              (List._∷_
+              115
+              (List._∷_
+              119
+              (List._∷_
+              101
+              (List._∷_
+              114
+              (List._∷_
+              58
+              (List._∷_
+              58
+              (List._∷_
+              68
+              (List._∷_
+              101
+              (List._∷_
+              115
+              (List._∷_
+              116
+              (List._∷_
+              105
+              (List._∷_
+              110
+              (List._∷_
+              97
+              (List._∷_ 116 (List._∷_ 105 (List._∷_ 111 (List._∷_ 110 List.[])))))))))))))))))))
+              (Syntax.tcons
+              (Syntax.tyArray (Syntax.tyInt Syntax.w8) 16)
+              (Syntax.tcons
+              (Syntax.tyEnum
+              (List._∷_
+              97
+              (List._∷_
+              110
+              (List._∷_
+              115
+              (List._∷_
+              119
+              (List._∷_
+              101
+              (List._∷_
+              114
+              (List._∷_ 58 (List._∷_ 58 (List._∷_ 87 (List._∷_ 97 (List._∷_ 121 List.[])))))))))))
+              (Syntax.ttcons
+              Syntax.tnil
+              (Syntax.ttcons
+              Syntax.tnil
+              (Syntax.ttcons Syntax.tnil (Syntax.ttcons Syntax.tnil Syntax.ttnil)))))
+              Syntax.tnil)))
+              Syntax.tnil)))
+              (Syntax.tcons
+              (Syntax.tyInt Syntax.w64)
+              (Syntax.tcons
               (Syntax.tyEnum
               (List._∷_
               97
@@ -18826,160 +19085,6 @@ module _ (claims· : Claims) where
               (Syntax.ttcons
               Syntax.tnil
               (Syntax.ttcons Syntax.tnil (Syntax.ttcons Syntax.tnil Syntax.ttnil)))))))))))))))))))
-              (Syntax.tcons
-              (Syntax.tyStruct
-              (List._∷_
-              102
-              (List._∷_
-              105
-              (List._∷_
-              110
-              (List._∷_
-              105
-              (List._∷_
-              115
-              (List._∷_
-              104
-              (List._∷_
-              58
-              (List._∷_
-              58
-              (List._∷_ 83 (List._∷_ 101 (List._∷_ 110 (List._∷_ 116 List.[]))))))))))))
-              (Syntax.tcons
-              (Syntax.tyInt Syntax.w64)
-              (Syntax.tcons
-              (Syntax.tyStruct
-              (List._∷_
-              97
-              (List._∷_
-              110
-              (List._∷_
-              115
-              (List._∷_
-              119
-              (List._∷_
-              101
-              (List._∷_
-              114
-              (List._∷_
-              58
-              (List._∷_
-              58
-              (List._∷_
-              68
-              (List._∷_
-              101
-              (List._∷_
-              115
-              (List._∷_
-              116
-              (List._∷_
-              105
-              (List._∷_
-              110
-              (List._∷_
-              97
-              (List._∷_ 116 (List._∷_ 105 (List._∷_ 111 (List._∷_ 110 List.[])))))))))))))))))))
-              (Syntax.tcons
-              (Syntax.tyEnum
-              (List._∷_
-              97
-              (List._∷_
-              110
-              (List._∷_
-              115
-              (List._∷_
-              119
-              (List._∷_
-              101
-              (List._∷_
-              114
-              (List._∷_ 58 (List._∷_ 58 (List._∷_ 87 (List._∷_ 97 (List._∷_ 121 List.[])))))))))))
-              (Syntax.ttcons
-              Syntax.tnil
-              (Syntax.ttcons
-              Syntax.tnil
-              (Syntax.ttcons Syntax.tnil (Syntax.ttcons Syntax.tnil Syntax.ttnil)))))
-              (Syntax.tcons (Syntax.tyArray (Syntax.tyInt Syntax.w8) 16) Syntax.tnil)))
-              Syntax.tnil)))
-              (Syntax.tcons
-              (Syntax.tyStruct
-              (List._∷_
-              102
-              (List._∷_
-              105
-              (List._∷_
-              110
-              (List._∷_
-              105
-              (List._∷_
-              115
-              (List._∷_
-              104
-              (List._∷_
-              58
-              (List._∷_
-              58
-              (List._∷_ 83 (List._∷_ 101 (List._∷_ 110 (List._∷_ 116 List.[]))))))))))))
-              (Syntax.tcons
-              (Syntax.tyInt Syntax.w64)
-              (Syntax.tcons
-              (Syntax.tyStruct
-              (List._∷_
-              97
-              (List._∷_
-              110
-              (List._∷_
-              115
-              (List._∷_
-              119
-              (List._∷_
-              101
-              (List._∷_
-              114
-              (List._∷_
-              58
-              (List._∷_
-              58
-              (List._∷_
-              68
-              (List._∷_
-              101
-              (List._∷_
-              115
-              (List._∷_
-              116
-              (List._∷_
-              105
-              (List._∷_
-              110
-              (List._∷_
-              97
-              (List._∷_ 116 (List._∷_ 105 (List._∷_ 111 (List._∷_ 110 List.[])))))))))))))))))))
-              (Syntax.tcons
-              (Syntax.tyEnum
-              (List._∷_
-              97
-              (List._∷_
-              110
-              (List._∷_
-              115
-              (List._∷_
-              119
-              (List._∷_
-              101
-              (List._∷_
-              114
-              (List._∷_ 58 (List._∷_ 58 (List._∷_ 87 (List._∷_ 97 (List._∷_ 121 List.[])))))))))))
-              (Syntax.ttcons
-              Syntax.tnil
-              (Syntax.ttcons
-              Syntax.tnil
-              (Syntax.ttcons Syntax.tnil (Syntax.ttcons Syntax.tnil Syntax.ttnil)))))
-              (Syntax.tcons (Syntax.tyArray (Syntax.tyInt Syntax.w8) 16) Syntax.tnil)))
-              Syntax.tnil)))
-              (Syntax.tcons
-              (Syntax.tyInt Syntax.w64)
               (Syntax.tcons (Syntax.tyInt Syntax.w8) Syntax.tnil)))))),
         ) (List._∷_ (
           1,
@@ -19123,6 +19228,164 @@ module _ (claims· : Claims) where
               116
               (List._∷_ 99 (List._∷_ 111 (List._∷_ 109 (List._∷_ 101 List.[])))))))))))))))
               (Syntax.tcons
+              (Syntax.tyStruct
+              (List._∷_
+              102
+              (List._∷_
+              105
+              (List._∷_
+              110
+              (List._∷_
+              105
+              (List._∷_
+              115
+              (List._∷_
+              104
+              (List._∷_
+              58
+              (List._∷_
+              58
+              (List._∷_ 83 (List._∷_ 101 (List._∷_ 110 (List._∷_ 116 List.[]))))))))))))
+              (Syntax.tcons
+              (Syntax.tyInt Syntax.w64)
+              (Syntax.tcons
+              (Syntax.tyStruct
+              (List._∷_
+              97
+              (List._∷_
+              110
+              (List._∷_
+              115
+              (List._∷_
+              119
+              (List._∷_
+              101
+              (List._∷_
+              114
+              (List._∷_
+              58
+              (List._∷_
+              58
+              (List._∷_
+              68
+              (List._∷_
+              101
+              (List._∷_
+              115
+              (List._∷_
+              116
+              (List._∷_
+              105
+              (List._∷_
+              110
+              (List._∷_
+              97
+              (List._∷_ 116 (List._∷_ 105 (List._∷_ 111 (List._∷_ 110 List.[])))))))))))))))))))
+              (Syntax.tcons
+              (Syntax.tyArray (Syntax.tyInt Syntax.w8) 16)
+              (Syntax.tcons
+              (Syntax.tyEnum
+              (List._∷_
+              97
+              (List._∷_
+              110
+              (List._∷_
+              115
+              (List._∷_
+              119
+              (List._∷_
+              101
+              (List._∷_
+              114
+              (List._∷_ 58 (List._∷_ 58 (List._∷_ 87 (List._∷_ 97 (List._∷_ 121 List.[])))))))))))
+              (Syntax.ttcons
+              Syntax.tnil
+              (Syntax.ttcons
+              Syntax.tnil
+              (Syntax.ttcons Syntax.tnil (Syntax.ttcons Syntax.tnil Syntax.ttnil)))))
+              Syntax.tnil)))
+              Syntax.tnil)))
+              (Syntax.tcons
+              (Syntax.tyStruct
+              (List._∷_
+              102
+              (List._∷_
+              105
+              (List._∷_
+              110
+              (List._∷_
+              105
+              (List._∷_
+              115
+              (List._∷_
+              104
+              (List._∷_
+              58
+              (List._∷_
+              58
+              (List._∷_ 83 (List._∷_ 101 (List._∷_ 110 (List._∷_ 116 List.[]))))))))))))
+              (Syntax.tcons
+              (Syntax.tyInt Syntax.w64)
+              (Syntax.tcons
+              (Syntax.tyStruct
+              (List._∷_
+              97
+              (List._∷_
+              110
+              (List._∷_
+              115
+              (List._∷_
+              119
+              (List._∷_
+              101
+              (List._∷_
+              114
+              (List._∷_
+              58
+              (List._∷_
+              58
+              (List._∷_
+              68
+              (List._∷_
+              101
+              (List._∷_
+              115
+              (List._∷_
+              116
+              (List._∷_
+              105
+              (List._∷_
+              110
+              (List._∷_
+              97
+              (List._∷_ 116 (List._∷_ 105 (List._∷_ 111 (List._∷_ 110 List.[])))))))))))))))))))
+              (Syntax.tcons
+              (Syntax.tyArray (Syntax.tyInt Syntax.w8) 16)
+              (Syntax.tcons
+              (Syntax.tyEnum
+              (List._∷_
+              97
+              (List._∷_
+              110
+              (List._∷_
+              115
+              (List._∷_
+              119
+              (List._∷_
+              101
+              (List._∷_
+              114
+              (List._∷_ 58 (List._∷_ 58 (List._∷_ 87 (List._∷_ 97 (List._∷_ 121 List.[])))))))))))
+              (Syntax.ttcons
+              Syntax.tnil
+              (Syntax.ttcons
+              Syntax.tnil
+              (Syntax.ttcons Syntax.tnil (Syntax.ttcons Syntax.tnil Syntax.ttnil)))))
+              Syntax.tnil)))
+              Syntax.tnil)))
+              (Syntax.tcons
+              (Syntax.tyInt Syntax.w64)
+              (Syntax.tcons
               (Syntax.tyEnum
               (List._∷_
               97
@@ -19178,160 +19441,6 @@ module _ (claims· : Claims) where
               (Syntax.ttcons
               Syntax.tnil
               (Syntax.ttcons Syntax.tnil (Syntax.ttcons Syntax.tnil Syntax.ttnil)))))))))))))))))))
-              (Syntax.tcons
-              (Syntax.tyStruct
-              (List._∷_
-              102
-              (List._∷_
-              105
-              (List._∷_
-              110
-              (List._∷_
-              105
-              (List._∷_
-              115
-              (List._∷_
-              104
-              (List._∷_
-              58
-              (List._∷_
-              58
-              (List._∷_ 83 (List._∷_ 101 (List._∷_ 110 (List._∷_ 116 List.[]))))))))))))
-              (Syntax.tcons
-              (Syntax.tyInt Syntax.w64)
-              (Syntax.tcons
-              (Syntax.tyStruct
-              (List._∷_
-              97
-              (List._∷_
-              110
-              (List._∷_
-              115
-              (List._∷_
-              119
-              (List._∷_
-              101
-              (List._∷_
-              114
-              (List._∷_
-              58
-              (List._∷_
-              58
-              (List._∷_
-              68
-              (List._∷_
-              101
-              (List._∷_
-              115
-              (List._∷_
-              116
-              (List._∷_
-              105
-              (List._∷_
-              110
-              (List._∷_
-              97
-              (List._∷_ 116 (List._∷_ 105 (List._∷_ 111 (List._∷_ 110 List.[])))))))))))))))))))
-              (Syntax.tcons
-              (Syntax.tyEnum
-              (List._∷_
-              97
-              (List._∷_
-              110
-              (List._∷_
-              115
-              (List._∷_
-              119
-              (List._∷_
-              101
-              (List._∷_
-              114
-              (List._∷_ 58 (List._∷_ 58 (List._∷_ 87 (List._∷_ 97 (List._∷_ 121 List.[])))))))))))
-              (Syntax.ttcons
-              Syntax.tnil
-              (Syntax.ttcons
-              Syntax.tnil
-              (Syntax.ttcons Syntax.tnil (Syntax.ttcons Syntax.tnil Syntax.ttnil)))))
-              (Syntax.tcons (Syntax.tyArray (Syntax.tyInt Syntax.w8) 16) Syntax.tnil)))
-              Syntax.tnil)))
-              (Syntax.tcons
-              (Syntax.tyStruct
-              (List._∷_
-              102
-              (List._∷_
-              105
-              (List._∷_
-              110
-              (List._∷_
-              105
-              (List._∷_
-              115
-              (List._∷_
-              104
-              (List._∷_
-              58
-              (List._∷_
-              58
-              (List._∷_ 83 (List._∷_ 101 (List._∷_ 110 (List._∷_ 116 List.[]))))))))))))
-              (Syntax.tcons
-              (Syntax.tyInt Syntax.w64)
-              (Syntax.tcons
-              (Syntax.tyStruct
-              (List._∷_
-              97
-              (List._∷_
-              110
-              (List._∷_
-              115
-              (List._∷_
-              119
-              (List._∷_
-              101
-              (List._∷_
-              114
-              (List._∷_
-              58
-              (List._∷_
-              58
-              (List._∷_
-              68
-              (List._∷_
-              101
-              (List._∷_
-              115
-              (List._∷_
-              116
-              (List._∷_
-              105
-              (List._∷_
-              110
-              (List._∷_
-              97
-              (List._∷_ 116 (List._∷_ 105 (List._∷_ 111 (List._∷_ 110 List.[])))))))))))))))))))
-              (Syntax.tcons
-              (Syntax.tyEnum
-              (List._∷_
-              97
-              (List._∷_
-              110
-              (List._∷_
-              115
-              (List._∷_
-              119
-              (List._∷_
-              101
-              (List._∷_
-              114
-              (List._∷_ 58 (List._∷_ 58 (List._∷_ 87 (List._∷_ 97 (List._∷_ 121 List.[])))))))))))
-              (Syntax.ttcons
-              Syntax.tnil
-              (Syntax.ttcons
-              Syntax.tnil
-              (Syntax.ttcons Syntax.tnil (Syntax.ttcons Syntax.tnil Syntax.ttnil)))))
-              (Syntax.tcons (Syntax.tyArray (Syntax.tyInt Syntax.w8) 16) Syntax.tnil)))
-              Syntax.tnil)))
-              (Syntax.tcons
-              (Syntax.tyInt Syntax.w64)
               (Syntax.tcons (Syntax.tyInt Syntax.w8) Syntax.tnil)))))),
         ) (List._∷_ (
           1,
@@ -19477,6 +19586,164 @@ module _ (claims· : Claims) where
               116
               (List._∷_ 99 (List._∷_ 111 (List._∷_ 109 (List._∷_ 101 List.[])))))))))))))))
               (Syntax.tcons
+              (Syntax.tyStruct
+              (List._∷_
+              102
+              (List._∷_
+              105
+              (List._∷_
+              110
+              (List._∷_
+              105
+              (List._∷_
+              115
+              (List._∷_
+              104
+              (List._∷_
+              58
+              (List._∷_
+              58
+              (List._∷_ 83 (List._∷_ 101 (List._∷_ 110 (List._∷_ 116 List.[]))))))))))))
+              (Syntax.tcons
+              (Syntax.tyInt Syntax.w64)
+              (Syntax.tcons
+              (Syntax.tyStruct
+              (List._∷_
+              97
+              (List._∷_
+              110
+              (List._∷_
+              115
+              (List._∷_
+              119
+              (List._∷_
+              101
+              (List._∷_
+              114
+              (List._∷_
+              58
+              (List._∷_
+              58
+              (List._∷_
+              68
+              (List._∷_
+              101
+              (List._∷_
+              115
+              (List._∷_
+              116
+              (List._∷_
+              105
+              (List._∷_
+              110
+              (List._∷_
+              97
+              (List._∷_ 116 (List._∷_ 105 (List._∷_ 111 (List._∷_ 110 List.[])))))))))))))))))))
+              (Syntax.tcons
+              (Syntax.tyArray (Syntax.tyInt Syntax.w8) 16)
+              (Syntax.tcons
+              (Syntax.tyEnum
+              (List._∷_
+              97
+              (List._∷_
+              110
+              (List._∷_
+              115
+              (List._∷_
+              119
+              (List._∷_
+              101
+              (List._∷_
+              114
+              (List._∷_ 58 (List._∷_ 58 (List._∷_ 87 (List._∷_ 97 (List._∷_ 121 List.[])))))))))))
+              (Syntax.ttcons
+              Syntax.tnil
+              (Syntax.ttcons
+              Syntax.tnil
+              (Syntax.ttcons Syntax.tnil (Syntax.ttcons Syntax.tnil Syntax.ttnil)))))
+              Syntax.tnil)))
+              Syntax.tnil)))
+              (Syntax.tcons
+              (Syntax.tyStruct
+              (List._∷_
+              102
+              (List._∷_
+              105
+              (List._∷_
+              110
+              (List._∷_
+              105
+              (List._∷_
+              115
+              (List._∷_
+              104
+              (List._∷_
+              58
+              (List._∷_
+              58
+              (List._∷_ 83 (List._∷_ 101 (List._∷_ 110 (List._∷_ 116 List.[]))))))))))))
+              (Syntax.tcons
+              (Syntax.tyInt Syntax.w64)
+              (Syntax.tcons
+              (Syntax.tyStruct
+              (List._∷_
+              97
+              (List._∷_
+              110
+              (List._∷_
+              115
+              (List._∷_
+              119
+              (List._∷_
+              101
+              (List._∷_
+              114
+              (List._∷_
+              58
+              (List._∷_
+              58
+              (List._∷_
+              68
+              (List._∷_
+              101
+              (List._∷_
+              115
+              (List._∷_
+              116
+              (List._∷_
+              105
+              (List._∷_
+              110
+              (List._∷_
+              97
+              (List._∷_ 116 (List._∷_ 105 (List._∷_ 111 (List._∷_ 110 List.[])))))))))))))))))))
+              (Syntax.tcons
+              (Syntax.tyArray (Syntax.tyInt Syntax.w8) 16)
+              (Syntax.tcons
+              (Syntax.tyEnum
+              (List._∷_
+              97
+              (List._∷_
+              110
+              (List._∷_
+              115
+              (List._∷_
+              119
+              (List._∷_
+              101
+              (List._∷_
+              114
+              (List._∷_ 58 (List._∷_ 58 (List._∷_ 87 (List._∷_ 97 (List._∷_ 121 List.[])))))))))))
+              (Syntax.ttcons
+              Syntax.tnil
+              (Syntax.ttcons
+              Syntax.tnil
+              (Syntax.ttcons Syntax.tnil (Syntax.ttcons Syntax.tnil Syntax.ttnil)))))
+              Syntax.tnil)))
+              Syntax.tnil)))
+              (Syntax.tcons
+              (Syntax.tyInt Syntax.w64)
+              (Syntax.tcons
               (Syntax.tyEnum
               (List._∷_
               97
@@ -19532,160 +19799,6 @@ module _ (claims· : Claims) where
               (Syntax.ttcons
               Syntax.tnil
               (Syntax.ttcons Syntax.tnil (Syntax.ttcons Syntax.tnil Syntax.ttnil)))))))))))))))))))
-              (Syntax.tcons
-              (Syntax.tyStruct
-              (List._∷_
-              102
-              (List._∷_
-              105
-              (List._∷_
-              110
-              (List._∷_
-              105
-              (List._∷_
-              115
-              (List._∷_
-              104
-              (List._∷_
-              58
-              (List._∷_
-              58
-              (List._∷_ 83 (List._∷_ 101 (List._∷_ 110 (List._∷_ 116 List.[]))))))))))))
-              (Syntax.tcons
-              (Syntax.tyInt Syntax.w64)
-              (Syntax.tcons
-              (Syntax.tyStruct
-              (List._∷_
-              97
-              (List._∷_
-              110
-              (List._∷_
-              115
-              (List._∷_
-              119
-              (List._∷_
-              101
-              (List._∷_
-              114
-              (List._∷_
-              58
-              (List._∷_
-              58
-              (List._∷_
-              68
-              (List._∷_
-              101
-              (List._∷_
-              115
-              (List._∷_
-              116
-              (List._∷_
-              105
-              (List._∷_
-              110
-              (List._∷_
-              97
-              (List._∷_ 116 (List._∷_ 105 (List._∷_ 111 (List._∷_ 110 List.[])))))))))))))))))))
-              (Syntax.tcons
-              (Syntax.tyEnum
-              (List._∷_
-              97
-              (List._∷_
-              110
-              (List._∷_
-              115
-              (List._∷_
-              119
-              (List._∷_
-              101
-              (List._∷_
-              114
-              (List._∷_ 58 (List._∷_ 58 (List._∷_ 87 (List._∷_ 97 (List._∷_ 121 List.[])))))))))))
-              (Syntax.ttcons
-              Syntax.tnil
-              (Syntax.ttcons
-              Syntax.tnil
-              (Syntax.ttcons Syntax.tnil (Syntax.ttcons Syntax.tnil Syntax.ttnil)))))
-              (Syntax.tcons (Syntax.tyArray (Syntax.tyInt Syntax.w8) 16) Syntax.tnil)))
-              Syntax.tnil)))
-              (Syntax.tcons
-              (Syntax.tyStruct
-              (List._∷_
-              102
-              (List._∷_
-              105
-              (List._∷_
-              110
-              (List._∷_
-              105
-              (List._∷_
-              115
-              (List._∷_
-              104
-              (List._∷_
-              58
-              (List._∷_
-              58
-              (List._∷_ 83 (List._∷_ 101 (List._∷_ 110 (List._∷_ 116 List.[]))))))))))))
-              (Syntax.tcons
-              (Syntax.tyInt Syntax.w64)
-              (Syntax.tcons
-              (Syntax.tyStruct
-              (List._∷_
-              97
-              (List._∷_
-              110
-              (List._∷_
-              115
-              (List._∷_
-              119
-              (List._∷_
-              101
-              (List._∷_
-              114
-              (List._∷_
-              58
-              (List._∷_
-              58
-              (List._∷_
-              68
-              (List._∷_
-              101
-              (List._∷_
-              115
-              (List._∷_
-              116
-              (List._∷_
-              105
-              (List._∷_
-              110
-              (List._∷_
-              97
-              (List._∷_ 116 (List._∷_ 105 (List._∷_ 111 (List._∷_ 110 List.[])))))))))))))))))))
-              (Syntax.tcons
-              (Syntax.tyEnum
-              (List._∷_
-              97
-              (List._∷_
-              110
-              (List._∷_
-              115
-              (List._∷_
-              119
-              (List._∷_
-              101
-              (List._∷_
-              114
-              (List._∷_ 58 (List._∷_ 58 (List._∷_ 87 (List._∷_ 97 (List._∷_ 121 List.[])))))))))))
-              (Syntax.ttcons
-              Syntax.tnil
-              (Syntax.ttcons
-              Syntax.tnil
-              (Syntax.ttcons Syntax.tnil (Syntax.ttcons Syntax.tnil Syntax.ttnil)))))
-              (Syntax.tcons (Syntax.tyArray (Syntax.tyInt Syntax.w8) 16) Syntax.tnil)))
-              Syntax.tnil)))
-              (Syntax.tcons
-              (Syntax.tyInt Syntax.w64)
               (Syntax.tcons (Syntax.tyInt Syntax.w8) Syntax.tnil)))))),
         ) (List._∷_ (
           1,
@@ -19829,6 +19942,164 @@ module _ (claims· : Claims) where
               116
               (List._∷_ 99 (List._∷_ 111 (List._∷_ 109 (List._∷_ 101 List.[])))))))))))))))
               (Syntax.tcons
+              (Syntax.tyStruct
+              (List._∷_
+              102
+              (List._∷_
+              105
+              (List._∷_
+              110
+              (List._∷_
+              105
+              (List._∷_
+              115
+              (List._∷_
+              104
+              (List._∷_
+              58
+              (List._∷_
+              58
+              (List._∷_ 83 (List._∷_ 101 (List._∷_ 110 (List._∷_ 116 List.[]))))))))))))
+              (Syntax.tcons
+              (Syntax.tyInt Syntax.w64)
+              (Syntax.tcons
+              (Syntax.tyStruct
+              (List._∷_
+              97
+              (List._∷_
+              110
+              (List._∷_
+              115
+              (List._∷_
+              119
+              (List._∷_
+              101
+              (List._∷_
+              114
+              (List._∷_
+              58
+              (List._∷_
+              58
+              (List._∷_
+              68
+              (List._∷_
+              101
+              (List._∷_
+              115
+              (List._∷_
+              116
+              (List._∷_
+              105
+              (List._∷_
+              110
+              (List._∷_
+              97
+              (List._∷_ 116 (List._∷_ 105 (List._∷_ 111 (List._∷_ 110 List.[])))))))))))))))))))
+              (Syntax.tcons
+              (Syntax.tyArray (Syntax.tyInt Syntax.w8) 16)
+              (Syntax.tcons
+              (Syntax.tyEnum
+              (List._∷_
+              97
+              (List._∷_
+              110
+              (List._∷_
+              115
+              (List._∷_
+              119
+              (List._∷_
+              101
+              (List._∷_
+              114
+              (List._∷_ 58 (List._∷_ 58 (List._∷_ 87 (List._∷_ 97 (List._∷_ 121 List.[])))))))))))
+              (Syntax.ttcons
+              Syntax.tnil
+              (Syntax.ttcons
+              Syntax.tnil
+              (Syntax.ttcons Syntax.tnil (Syntax.ttcons Syntax.tnil Syntax.ttnil)))))
+              Syntax.tnil)))
+              Syntax.tnil)))
+              (Syntax.tcons
+              (Syntax.tyStruct
+              (List._∷_
+              102
+              (List._∷_
+              105
+              (List._∷_
+              110
+              (List._∷_
+              105
+              (List._∷_
+              115
+              (List._∷_
+              104
+              (List._∷_
+              58
+              (List._∷_
+              58
+              (List._∷_ 83 (List._∷_ 101 (List._∷_ 110 (List._∷_ 116 List.[]))))))))))))
+              (Syntax.tcons
+              (Syntax.tyInt Syntax.w64)
+              (Syntax.tcons
+              (Syntax.tyStruct
+              (List._∷_
+              97
+              (List._∷_
+              110
+              (List._∷_
+              115
+              (List._∷_
+              119
+              (List._∷_
+              101
+              (List._∷_
+              114
+              (List._∷_
+              58
+              (List._∷_
+              58
+              (List._∷_
+              68
+              (List._∷_
+              101
+              (List._∷_
+              115
+              (List._∷_
+              116
+              (List._∷_
+              105
+              (List._∷_
+              110
+              (List._∷_
+              97
+              (List._∷_ 116 (List._∷_ 105 (List._∷_ 111 (List._∷_ 110 List.[])))))))))))))))))))
+              (Syntax.tcons
+              (Syntax.tyArray (Syntax.tyInt Syntax.w8) 16)
+              (Syntax.tcons
+              (Syntax.tyEnum
+              (List._∷_
+              97
+              (List._∷_
+              110
+              (List._∷_
+              115
+              (List._∷_
+              119
+              (List._∷_
+              101
+              (List._∷_
+              114
+              (List._∷_ 58 (List._∷_ 58 (List._∷_ 87 (List._∷_ 97 (List._∷_ 121 List.[])))))))))))
+              (Syntax.ttcons
+              Syntax.tnil
+              (Syntax.ttcons
+              Syntax.tnil
+              (Syntax.ttcons Syntax.tnil (Syntax.ttcons Syntax.tnil Syntax.ttnil)))))
+              Syntax.tnil)))
+              Syntax.tnil)))
+              (Syntax.tcons
+              (Syntax.tyInt Syntax.w64)
+              (Syntax.tcons
               (Syntax.tyEnum
               (List._∷_
               97
@@ -19884,160 +20155,6 @@ module _ (claims· : Claims) where
               (Syntax.ttcons
               Syntax.tnil
               (Syntax.ttcons Syntax.tnil (Syntax.ttcons Syntax.tnil Syntax.ttnil)))))))))))))))))))
-              (Syntax.tcons
-              (Syntax.tyStruct
-              (List._∷_
-              102
-              (List._∷_
-              105
-              (List._∷_
-              110
-              (List._∷_
-              105
-              (List._∷_
-              115
-              (List._∷_
-              104
-              (List._∷_
-              58
-              (List._∷_
-              58
-              (List._∷_ 83 (List._∷_ 101 (List._∷_ 110 (List._∷_ 116 List.[]))))))))))))
-              (Syntax.tcons
-              (Syntax.tyInt Syntax.w64)
-              (Syntax.tcons
-              (Syntax.tyStruct
-              (List._∷_
-              97
-              (List._∷_
-              110
-              (List._∷_
-              115
-              (List._∷_
-              119
-              (List._∷_
-              101
-              (List._∷_
-              114
-              (List._∷_
-              58
-              (List._∷_
-              58
-              (List._∷_
-              68
-              (List._∷_
-              101
-              (List._∷_
-              115
-              (List._∷_
-              116
-              (List._∷_
-              105
-              (List._∷_
-              110
-              (List._∷_
-              97
-              (List._∷_ 116 (List._∷_ 105 (List._∷_ 111 (List._∷_ 110 List.[])))))))))))))))))))
-              (Syntax.tcons
-              (Syntax.tyEnum
-              (List._∷_
-              97
-              (List._∷_
-              110
-              (List._∷_
-              115
-              (List._∷_
-              119
-              (List._∷_
-              101
-              (List._∷_
-              114
-              (List._∷_ 58 (List._∷_ 58 (List._∷_ 87 (List._∷_ 97 (List._∷_ 121 List.[])))))))))))
-              (Syntax.ttcons
-              Syntax.tnil
-              (Syntax.ttcons
-              Syntax.tnil
-              (Syntax.ttcons Syntax.tnil (Syntax.ttcons Syntax.tnil Syntax.ttnil)))))
-              (Syntax.tcons (Syntax.tyArray (Syntax.tyInt Syntax.w8) 16) Syntax.tnil)))
-              Syntax.tnil)))
-              (Syntax.tcons
-              (Syntax.tyStruct
-              (List._∷_
-              102
-              (List._∷_
-              105
-              (List._∷_
-              110
-              (List._∷_
-              105
-              (List._∷_
-              115
-              (List._∷_
-              104
-              (List._∷_
-              58
-              (List._∷_
-              58
-              (List._∷_ 83 (List._∷_ 101 (List._∷_ 110 (List._∷_ 116 List.[]))))))))))))
-              (Syntax.tcons
-              (Syntax.tyInt Syntax.w64)
-              (Syntax.tcons
-              (Syntax.tyStruct
-              (List._∷_
-              97
-              (List._∷_
-              110
-              (List._∷_
-              115
-              (List._∷_
-              119
-              (List._∷_
-              101
-              (List._∷_
-              114
-              (List._∷_
-              58
-              (List._∷_
-              58
-              (List._∷_
-              68
-              (List._∷_
-              101
-              (List._∷_
-              115
-              (List._∷_
-              116
-              (List._∷_
-              105
-              (List._∷_
-              110
-              (List._∷_
-              97
-              (List._∷_ 116 (List._∷_ 105 (List._∷_ 111 (List._∷_ 110 List.[])))))))))))))))))))
-              (Syntax.tcons
-              (Syntax.tyEnum
-              (List._∷_
-              97
-              (List._∷_
-              110
-              (List._∷_
-              115
-              (List._∷_
-              119
-              (List._∷_
-              101
-              (List._∷_
-              114
-              (List._∷_ 58 (List._∷_ 58 (List._∷_ 87 (List._∷_ 97 (List._∷_ 121 List.[])))))))))))
-              (Syntax.ttcons
-              Syntax.tnil
-              (Syntax.ttcons
-              Syntax.tnil
-              (Syntax.ttcons Syntax.tnil (Syntax.ttcons Syntax.tnil Syntax.ttnil)))))
-              (Syntax.tcons (Syntax.tyArray (Syntax.tyInt Syntax.w8) 16) Syntax.tnil)))
-              Syntax.tnil)))
-              (Syntax.tcons
-              (Syntax.tyInt Syntax.w64)
               (Syntax.tcons (Syntax.tyInt Syntax.w8) Syntax.tnil)))))),
         ) (List._∷_ (
           1,
@@ -20181,6 +20298,164 @@ module _ (claims· : Claims) where
               116
               (List._∷_ 99 (List._∷_ 111 (List._∷_ 109 (List._∷_ 101 List.[])))))))))))))))
               (Syntax.tcons
+              (Syntax.tyStruct
+              (List._∷_
+              102
+              (List._∷_
+              105
+              (List._∷_
+              110
+              (List._∷_
+              105
+              (List._∷_
+              115
+              (List._∷_
+              104
+              (List._∷_
+              58
+              (List._∷_
+              58
+              (List._∷_ 83 (List._∷_ 101 (List._∷_ 110 (List._∷_ 116 List.[]))))))))))))
+              (Syntax.tcons
+              (Syntax.tyInt Syntax.w64)
+              (Syntax.tcons
+              (Syntax.tyStruct
+              (List._∷_
+              97
+              (List._∷_
+              110
+              (List._∷_
+              115
+              (List._∷_
+              119
+              (List._∷_
+              101
+              (List._∷_
+              114
+              (List._∷_
+              58
+              (List._∷_
+              58
+              (List._∷_
+              68
+              (List._∷_
+              101
+              (List._∷_
+              115
+              (List._∷_
+              116
+              (List._∷_
+              105
+              (List._∷_
+              110
+              (List._∷_
+              97
+              (List._∷_ 116 (List._∷_ 105 (List._∷_ 111 (List._∷_ 110 List.[])))))))))))))))))))
+              (Syntax.tcons
+              (Syntax.tyArray (Syntax.tyInt Syntax.w8) 16)
+              (Syntax.tcons
+              (Syntax.tyEnum
+              (List._∷_
+              97
+              (List._∷_
+              110
+              (List._∷_
+              115
+              (List._∷_
+              119
+              (List._∷_
+              101
+              (List._∷_
+              114
+              (List._∷_ 58 (List._∷_ 58 (List._∷_ 87 (List._∷_ 97 (List._∷_ 121 List.[])))))))))))
+              (Syntax.ttcons
+              Syntax.tnil
+              (Syntax.ttcons
+              Syntax.tnil
+              (Syntax.ttcons Syntax.tnil (Syntax.ttcons Syntax.tnil Syntax.ttnil)))))
+              Syntax.tnil)))
+              Syntax.tnil)))
+              (Syntax.tcons
+              (Syntax.tyStruct
+              (List._∷_
+              102
+              (List._∷_
+              105
+              (List._∷_
+              110
+              (List._∷_
+              105
+              (List._∷_
+              115
+              (List._∷_
+              104
+              (List._∷_
+              58
+              (List._∷_
+              58
+              (List._∷_ 83 (List._∷_ 101 (List._∷_ 110 (List._∷_ 116 List.[]))))))))))))
+              (Syntax.tcons
+              (Syntax.tyInt Syntax.w64)
+              (Syntax.tcons
+              (Syntax.tyStruct
+              (List._∷_
+              97
+              (List._∷_
+              110
+              (List._∷_
+              115
+              (List._∷_
+              119
+              (List._∷_
+              101
+              (List._∷_
+              114
+              (List._∷_
+              58
+              (List._∷_
+              58
+              (List._∷_
+              68
+              (List._∷_
+              101
+              (List._∷_
+              115
+              (List._∷_
+              116
+              (List._∷_
+              105
+              (List._∷_
+              110
+              (List._∷_
+              97
+              (List._∷_ 116 (List._∷_ 105 (List._∷_ 111 (List._∷_ 110 List.[])))))))))))))))))))
+              (Syntax.tcons
+              (Syntax.tyArray (Syntax.tyInt Syntax.w8) 16)
+              (Syntax.tcons
+              (Syntax.tyEnum
+              (List._∷_
+              97
+              (List._∷_
+              110
+              (List._∷_
+              115
+              (List._∷_
+              119
+              (List._∷_
+              101
+              (List._∷_
+              114
+              (List._∷_ 58 (List._∷_ 58 (List._∷_ 87 (List._∷_ 97 (List._∷_ 121 List.[])))))))))))
+              (Syntax.ttcons
+              Syntax.tnil
+              (Syntax.ttcons
+              Syntax.tnil
+              (Syntax.ttcons Syntax.tnil (Syntax.ttcons Syntax.tnil Syntax.ttnil)))))
+              Syntax.tnil)))
+              Syntax.tnil)))
+              (Syntax.tcons
+              (Syntax.tyInt Syntax.w64)
+              (Syntax.tcons
               (Syntax.tyEnum
               (List._∷_
               97
@@ -20236,160 +20511,6 @@ module _ (claims· : Claims) where
               (Syntax.ttcons
               Syntax.tnil
               (Syntax.ttcons Syntax.tnil (Syntax.ttcons Syntax.tnil Syntax.ttnil)))))))))))))))))))
-              (Syntax.tcons
-              (Syntax.tyStruct
-              (List._∷_
-              102
-              (List._∷_
-              105
-              (List._∷_
-              110
-              (List._∷_
-              105
-              (List._∷_
-              115
-              (List._∷_
-              104
-              (List._∷_
-              58
-              (List._∷_
-              58
-              (List._∷_ 83 (List._∷_ 101 (List._∷_ 110 (List._∷_ 116 List.[]))))))))))))
-              (Syntax.tcons
-              (Syntax.tyInt Syntax.w64)
-              (Syntax.tcons
-              (Syntax.tyStruct
-              (List._∷_
-              97
-              (List._∷_
-              110
-              (List._∷_
-              115
-              (List._∷_
-              119
-              (List._∷_
-              101
-              (List._∷_
-              114
-              (List._∷_
-              58
-              (List._∷_
-              58
-              (List._∷_
-              68
-              (List._∷_
-              101
-              (List._∷_
-              115
-              (List._∷_
-              116
-              (List._∷_
-              105
-              (List._∷_
-              110
-              (List._∷_
-              97
-              (List._∷_ 116 (List._∷_ 105 (List._∷_ 111 (List._∷_ 110 List.[])))))))))))))))))))
-              (Syntax.tcons
-              (Syntax.tyEnum
-              (List._∷_
-              97
-              (List._∷_
-              110
-              (List._∷_
-              115
-              (List._∷_
-              119
-              (List._∷_
-              101
-              (List._∷_
-              114
-              (List._∷_ 58 (List._∷_ 58 (List._∷_ 87 (List._∷_ 97 (List._∷_ 121 List.[])))))))))))
-              (Syntax.ttcons
-              Syntax.tnil
-              (Syntax.ttcons
-              Syntax.tnil
-              (Syntax.ttcons Syntax.tnil (Syntax.ttcons Syntax.tnil Syntax.ttnil)))))
-              (Syntax.tcons (Syntax.tyArray (Syntax.tyInt Syntax.w8) 16) Syntax.tnil)))
-              Syntax.tnil)))
-              (Syntax.tcons
-              (Syntax.tyStruct
-              (List._∷_
-              102
-              (List._∷_
-              105
-              (List._∷_
-              110
-              (List._∷_
-              105
-              (List._∷_
-              115
-              (List._∷_
-              104
-              (List._∷_
-              58
-              (List._∷_
-              58
-              (List._∷_ 83 (List._∷_ 101 (List._∷_ 110 (List._∷_ 116 List.[]))))))))))))
-              (Syntax.tcons
-              (Syntax.tyInt Syntax.w64)
-              (Syntax.tcons
-              (Syntax.tyStruct
-              (List._∷_
-              97
-              (List._∷_
-              110
-              (List._∷_
-              115
-              (List._∷_
-              119
-              (List._∷_
-              101
-              (List._∷_
-              114
-              (List._∷_
-              58
-              (List._∷_
-              58
-              (List._∷_
-              68
-              (List._∷_
-              101
-              (List._∷_
-              115
-              (List._∷_
-              116
-              (List._∷_
-              105
-              (List._∷_
-              110
-              (List._∷_
-              97
-              (List._∷_ 116 (List._∷_ 105 (List._∷_ 111 (List._∷_ 110 List.[])))))))))))))))))))
-              (Syntax.tcons
-              (Syntax.tyEnum
-              (List._∷_
-              97
-              (List._∷_
-              110
-              (List._∷_
-              115
-              (List._∷_
-              119
-              (List._∷_
-              101
-              (List._∷_
-              114
-              (List._∷_ 58 (List._∷_ 58 (List._∷_ 87 (List._∷_ 97 (List._∷_ 121 List.[])))))))))))
-              (Syntax.ttcons
-              Syntax.tnil
-              (Syntax.ttcons
-              Syntax.tnil
-              (Syntax.ttcons Syntax.tnil (Syntax.ttcons Syntax.tnil Syntax.ttnil)))))
-              (Syntax.tcons (Syntax.tyArray (Syntax.tyInt Syntax.w8) 16) Syntax.tnil)))
-              Syntax.tnil)))
-              (Syntax.tcons
-              (Syntax.tyInt Syntax.w64)
               (Syntax.tcons (Syntax.tyInt Syntax.w8) Syntax.tnil)))))),
         ) (List._∷_ (
           1,
@@ -20535,6 +20656,164 @@ module _ (claims· : Claims) where
               116
               (List._∷_ 99 (List._∷_ 111 (List._∷_ 109 (List._∷_ 101 List.[])))))))))))))))
               (Syntax.tcons
+              (Syntax.tyStruct
+              (List._∷_
+              102
+              (List._∷_
+              105
+              (List._∷_
+              110
+              (List._∷_
+              105
+              (List._∷_
+              115
+              (List._∷_
+              104
+              (List._∷_
+              58
+              (List._∷_
+              58
+              (List._∷_ 83 (List._∷_ 101 (List._∷_ 110 (List._∷_ 116 List.[]))))))))))))
+              (Syntax.tcons
+              (Syntax.tyInt Syntax.w64)
+              (Syntax.tcons
+              (Syntax.tyStruct
+              (List._∷_
+              97
+              (List._∷_
+              110
+              (List._∷_
+              115
+              (List._∷_
+              119
+              (List._∷_
+              101
+              (List._∷_
+              114
+              (List._∷_
+              58
+              (List._∷_
+              58
+              (List._∷_
+              68
+              (List._∷_
+              101
+              (List._∷_
+              115
+              (List._∷_
+              116
+              (List._∷_
+              105
+              (List._∷_
+              110
+              (List._∷_
+              97
+              (List._∷_ 116 (List._∷_ 105 (List._∷_ 111 (List._∷_ 110 List.[])))))))))))))))))))
+              (Syntax.tcons
+              (Syntax.tyArray (Syntax.tyInt Syntax.w8) 16)
+              (Syntax.tcons
+              (Syntax.tyEnum
+              (List._∷_
+              97
+              (List._∷_
+              110
+              (List._∷_
+              115
+              (List._∷_
+              119
+              (List._∷_
+              101
+              (List._∷_
+              114
+              (List._∷_ 58 (List._∷_ 58 (List._∷_ 87 (List._∷_ 97 (List._∷_ 121 List.[])))))))))))
+              (Syntax.ttcons
+              Syntax.tnil
+              (Syntax.ttcons
+              Syntax.tnil
+              (Syntax.ttcons Syntax.tnil (Syntax.ttcons Syntax.tnil Syntax.ttnil)))))
+              Syntax.tnil)))
+              Syntax.tnil)))
+              (Syntax.tcons
+              (Syntax.tyStruct
+              (List._∷_
+              102
+              (List._∷_
+              105
+              (List._∷_
+              110
+              (List._∷_
+              105
+              (List._∷_
+              115
+              (List._∷_
+              104
+              (List._∷_
+              58
+              (List._∷_
+              58
+              (List._∷_ 83 (List._∷_ 101 (List._∷_ 110 (List._∷_ 116 List.[]))))))))))))
+              (Syntax.tcons
+              (Syntax.tyInt Syntax.w64)
+              (Syntax.tcons
+              (Syntax.tyStruct
+              (List._∷_
+              97
+              (List._∷_
+              110
+              (List._∷_
+              115
+              (List._∷_
+              119
+              (List._∷_
+              101
+              (List._∷_
+              114
+              (List._∷_
+              58
+              (List._∷_
+              58
+              (List._∷_
+              68
+              (List._∷_
+              101
+              (List._∷_
+              115
+              (List._∷_
+              116
+              (List._∷_
+              105
+              (List._∷_
+              110
+              (List._∷_
+              97
+              (List._∷_ 116 (List._∷_ 105 (List._∷_ 111 (List._∷_ 110 List.[])))))))))))))))))))
+              (Syntax.tcons
+              (Syntax.tyArray (Syntax.tyInt Syntax.w8) 16)
+              (Syntax.tcons
+              (Syntax.tyEnum
+              (List._∷_
+              97
+              (List._∷_
+              110
+              (List._∷_
+              115
+              (List._∷_
+              119
+              (List._∷_
+              101
+              (List._∷_
+              114
+              (List._∷_ 58 (List._∷_ 58 (List._∷_ 87 (List._∷_ 97 (List._∷_ 121 List.[])))))))))))
+              (Syntax.ttcons
+              Syntax.tnil
+              (Syntax.ttcons
+              Syntax.tnil
+              (Syntax.ttcons Syntax.tnil (Syntax.ttcons Syntax.tnil Syntax.ttnil)))))
+              Syntax.tnil)))
+              Syntax.tnil)))
+              (Syntax.tcons
+              (Syntax.tyInt Syntax.w64)
+              (Syntax.tcons
               (Syntax.tyEnum
               (List._∷_
               97
@@ -20590,160 +20869,6 @@ module _ (claims· : Claims) where
               (Syntax.ttcons
               Syntax.tnil
               (Syntax.ttcons Syntax.tnil (Syntax.ttcons Syntax.tnil Syntax.ttnil)))))))))))))))))))
-              (Syntax.tcons
-              (Syntax.tyStruct
-              (List._∷_
-              102
-              (List._∷_
-              105
-              (List._∷_
-              110
-              (List._∷_
-              105
-              (List._∷_
-              115
-              (List._∷_
-              104
-              (List._∷_
-              58
-              (List._∷_
-              58
-              (List._∷_ 83 (List._∷_ 101 (List._∷_ 110 (List._∷_ 116 List.[]))))))))))))
-              (Syntax.tcons
-              (Syntax.tyInt Syntax.w64)
-              (Syntax.tcons
-              (Syntax.tyStruct
-              (List._∷_
-              97
-              (List._∷_
-              110
-              (List._∷_
-              115
-              (List._∷_
-              119
-              (List._∷_
-              101
-              (List._∷_
-              114
-              (List._∷_
-              58
-              (List._∷_
-              58
-              (List._∷_
-              68
-              (List._∷_
-              101
-              (List._∷_
-              115
-              (List._∷_
-              116
-              (List._∷_
-              105
-              (List._∷_
-              110
-              (List._∷_
-              97
-              (List._∷_ 116 (List._∷_ 105 (List._∷_ 111 (List._∷_ 110 List.[])))))))))))))))))))
-              (Syntax.tcons
-              (Syntax.tyEnum
-              (List._∷_
-              97
-              (List._∷_
-              110
-              (List._∷_
-              115
-              (List._∷_
-              119
-              (List._∷_
-              101
-              (List._∷_
-              114
-              (List._∷_ 58 (List._∷_ 58 (List._∷_ 87 (List._∷_ 97 (List._∷_ 121 List.[])))))))))))
-              (Syntax.ttcons
-              Syntax.tnil
-              (Syntax.ttcons
-              Syntax.tnil
-              (Syntax.ttcons Syntax.tnil (Syntax.ttcons Syntax.tnil Syntax.ttnil)))))
-              (Syntax.tcons (Syntax.tyArray (Syntax.tyInt Syntax.w8) 16) Syntax.tnil)))
-              Syntax.tnil)))
-              (Syntax.tcons
-              (Syntax.tyStruct
-              (List._∷_
-              102
-              (List._∷_
-              105
-              (List._∷_
-              110
-              (List._∷_
-              105
-              (List._∷_
-              115
-              (List._∷_
-              104
-              (List._∷_
-              58
-              (List._∷_
-              58
-              (List._∷_ 83 (List._∷_ 101 (List._∷_ 110 (List._∷_ 116 List.[]))))))))))))
-              (Syntax.tcons
-              (Syntax.tyInt Syntax.w64)
-              (Syntax.tcons
-              (Syntax.tyStruct
-              (List._∷_
-              97
-              (List._∷_
-              110
-              (List._∷_
-              115
-              (List._∷_
-              119
-              (List._∷_
-              101
-              (List._∷_
-              114
-              (List._∷_
-              58
-              (List._∷_
-              58
-              (List._∷_
-              68
-              (List._∷_
-              101
-              (List._∷_
-              115
-              (List._∷_
-              116
-              (List._∷_
-              105
-              (List._∷_
-              110
-              (List._∷_
-              97
-              (List._∷_ 116 (List._∷_ 105 (List._∷_ 111 (List._∷_ 110 List.[])))))))))))))))))))
-              (Syntax.tcons
-              (Syntax.tyEnum
-              (List._∷_
-              97
-              (List._∷_
-              110
-              (List._∷_
-              115
-              (List._∷_
-              119
-              (List._∷_
-              101
-              (List._∷_
-              114
-              (List._∷_ 58 (List._∷_ 58 (List._∷_ 87 (List._∷_ 97 (List._∷_ 121 List.[])))))))))))
-              (Syntax.ttcons
-              Syntax.tnil
-              (Syntax.ttcons
-              Syntax.tnil
-              (Syntax.ttcons Syntax.tnil (Syntax.ttcons Syntax.tnil Syntax.ttnil)))))
-              (Syntax.tcons (Syntax.tyArray (Syntax.tyInt Syntax.w8) 16) Syntax.tnil)))
-              Syntax.tnil)))
-              (Syntax.tcons
-              (Syntax.tyInt Syntax.w64)
               (Syntax.tcons (Syntax.tyInt Syntax.w8) Syntax.tnil)))))),
         ) (List._∷_ (
           1,
@@ -20891,6 +21016,164 @@ module _ (claims· : Claims) where
               116
               (List._∷_ 99 (List._∷_ 111 (List._∷_ 109 (List._∷_ 101 List.[])))))))))))))))
               (Syntax.tcons
+              (Syntax.tyStruct
+              (List._∷_
+              102
+              (List._∷_
+              105
+              (List._∷_
+              110
+              (List._∷_
+              105
+              (List._∷_
+              115
+              (List._∷_
+              104
+              (List._∷_
+              58
+              (List._∷_
+              58
+              (List._∷_ 83 (List._∷_ 101 (List._∷_ 110 (List._∷_ 116 List.[]))))))))))))
+              (Syntax.tcons
+              (Syntax.tyInt Syntax.w64)
+              (Syntax.tcons
+              (Syntax.tyStruct
+              (List._∷_
+              97
+              (List._∷_
+              110
+              (List._∷_
+              115
+              (List._∷_
+              119
+              (List._∷_
+              101
+              (List._∷_
+              114
+              (List._∷_
+              58
+              (List._∷_
+              58
+              (List._∷_
+              68
+              (List._∷_
+              101
+              (List._∷_
+              115
+              (List._∷_
+              116
+              (List._∷_
+              105
+              (List._∷_
+              110
+              (List._∷_
+              97
+              (List._∷_ 116 (List._∷_ 105 (List._∷_ 111 (List._∷_ 110 List.[])))))))))))))))))))
+              (Syntax.tcons
+              (Syntax.tyArray (Syntax.tyInt Syntax.w8) 16)
+              (Syntax.tcons
+              (Syntax.tyEnum
+              (List._∷_
+              97
+              (List._∷_
+              110
+              (List._∷_
+              115
+              (List._∷_
+              119
+              (List._∷_
+              101
+              (List._∷_
+              114
+              (List._∷_ 58 (List._∷_ 58 (List._∷_ 87 (List._∷_ 97 (List._∷_ 121 List.[])))))))))))
+              (Syntax.ttcons
+              Syntax.tnil
+              (Syntax.ttcons
+              Syntax.tnil
+              (Syntax.ttcons Syntax.tnil (Syntax.ttcons Syntax.tnil Syntax.ttnil)))))
+              Syntax.tnil)))
+              Syntax.tnil)))
+              (Syntax.tcons
+              (Syntax.tyStruct
+              (List._∷_
+              102
+              (List._∷_
+              105
+              (List._∷_
+              110
+              (List._∷_
+              105
+              (List._∷_
+              115
+              (List._∷_
+              104
+              (List._∷_
+              58
+              (List._∷_
+              58
+              (List._∷_ 83 (List._∷_ 101 (List._∷_ 110 (List._∷_ 116 List.[]))))))))))))
+              (Syntax.tcons
+              (Syntax.tyInt Syntax.w64)
+              (Syntax.tcons
+              (Syntax.tyStruct
+              (List._∷_
+              97
+              (List._∷_
+              110
+              (List._∷_
+              115
+              (List._∷_
+              119
+              (List._∷_
+              101
+              (List._∷_
+              114
+              (List._∷_
+              58
+              (List._∷_
+              58
+              (List._∷_
+              68
+              (List._∷_
+              101
+              (List._∷_
+              115
+              (List._∷_
+              116
+              (List._∷_
+              105
+              (List._∷_
+              110
+              (List._∷_
+              97
+              (List._∷_ 116 (List._∷_ 105 (List._∷_ 111 (List._∷_ 110 List.[])))))))))))))))))))
+              (Syntax.tcons
+              (Syntax.tyArray (Syntax.tyInt Syntax.w8) 16)
+              (Syntax.tcons
+              (Syntax.tyEnum
+              (List._∷_
+              97
+              (List._∷_
+              110
+              (List._∷_
+              115
+              (List._∷_
+              119
+              (List._∷_
+              101
+              (List._∷_
+              114
+              (List._∷_ 58 (List._∷_ 58 (List._∷_ 87 (List._∷_ 97 (List._∷_ 121 List.[])))))))))))
+              (Syntax.ttcons
+              Syntax.tnil
+              (Syntax.ttcons
+              Syntax.tnil
+              (Syntax.ttcons Syntax.tnil (Syntax.ttcons Syntax.tnil Syntax.ttnil)))))
+              Syntax.tnil)))
+              Syntax.tnil)))
+              (Syntax.tcons
+              (Syntax.tyInt Syntax.w64)
+              (Syntax.tcons
               (Syntax.tyEnum
               (List._∷_
               97
@@ -20946,160 +21229,6 @@ module _ (claims· : Claims) where
               (Syntax.ttcons
               Syntax.tnil
               (Syntax.ttcons Syntax.tnil (Syntax.ttcons Syntax.tnil Syntax.ttnil)))))))))))))))))))
-              (Syntax.tcons
-              (Syntax.tyStruct
-              (List._∷_
-              102
-              (List._∷_
-              105
-              (List._∷_
-              110
-              (List._∷_
-              105
-              (List._∷_
-              115
-              (List._∷_
-              104
-              (List._∷_
-              58
-              (List._∷_
-              58
-              (List._∷_ 83 (List._∷_ 101 (List._∷_ 110 (List._∷_ 116 List.[]))))))))))))
-              (Syntax.tcons
-              (Syntax.tyInt Syntax.w64)
-              (Syntax.tcons
-              (Syntax.tyStruct
-              (List._∷_
-              97
-              (List._∷_
-              110
-              (List._∷_
-              115
-              (List._∷_
-              119
-              (List._∷_
-              101
-              (List._∷_
-              114
-              (List._∷_
-              58
-              (List._∷_
-              58
-              (List._∷_
-              68
-              (List._∷_
-              101
-              (List._∷_
-              115
-              (List._∷_
-              116
-              (List._∷_
-              105
-              (List._∷_
-              110
-              (List._∷_
-              97
-              (List._∷_ 116 (List._∷_ 105 (List._∷_ 111 (List._∷_ 110 List.[])))))))))))))))))))
-              (Syntax.tcons
-              (Syntax.tyEnum
-              (List._∷_
-              97
-              (List._∷_
-              110
-              (List._∷_
-              115
-              (List._∷_
-              119
-              (List._∷_
-              101
-              (List._∷_
-              114
-              (List._∷_ 58 (List._∷_ 58 (List._∷_ 87 (List._∷_ 97 (List._∷_ 121 List.[])))))))))))
-              (Syntax.ttcons
-              Syntax.tnil
-              (Syntax.ttcons
-              Syntax.tnil
-              (Syntax.ttcons Syntax.tnil (Syntax.ttcons Syntax.tnil Syntax.ttnil)))))
-              (Syntax.tcons (Syntax.tyArray (Syntax.tyInt Syntax.w8) 16) Syntax.tnil)))
-              Syntax.tnil)))
-              (Syntax.tcons
-              (Syntax.tyStruct
-              (List._∷_
-              102
-              (List._∷_
-              105
-              (List._∷_
-              110
-              (List._∷_
-              105
-              (List._∷_
-              115
-              (List._∷_
-              104
-              (List._∷_
-              58
-              (List._∷_
-              58
-              (List._∷_ 83 (List._∷_ 101 (List._∷_ 110 (List._∷_ 116 List.[]))))))))))))
-              (Syntax.tcons
-              (Syntax.tyInt Syntax.w64)
-              (Syntax.tcons
-              (Syntax.tyStruct
-              (List._∷_
-              97
-              (List._∷_
-              110
-              (List._∷_
-              115
-              (List._∷_
-              119
-              (List._∷_
-              101
-              (List._∷_
-              114
-              (List._∷_
-              58
-              (List._∷_
-              58
-              (List._∷_
-              68
-              (List._∷_
-              101
-              (List._∷_
-              115
-              (List._∷_
-              116
-              (List._∷_
-              105
-              (List._∷_
-              110
-              (List._∷_
-              97
-              (List._∷_ 116 (List._∷_ 105 (List._∷_ 111 (List._∷_ 110 List.[])))))))))))))))))))
-              (Syntax.tcons
-              (Syntax.tyEnum
-              (List._∷_
-              97
-              (List._∷_
-              110
-              (List._∷_
-              115
-              (List._∷_
-              119
-              (List._∷_
-              101
-              (List._∷_
-              114
-              (List._∷_ 58 (List._∷_ 58 (List._∷_ 87 (List._∷_ 97 (List._∷_ 121 List.[])))))))))))
-              (Syntax.ttcons
-              Syntax.tnil
-              (Syntax.ttcons
-              Syntax.tnil
-              (Syntax.ttcons Syntax.tnil (Syntax.ttcons Syntax.tnil Syntax.ttnil)))))
-              (Syntax.tcons (Syntax.tyArray (Syntax.tyInt Syntax.w8) 16) Syntax.tnil)))
-              Syntax.tnil)))
-              (Syntax.tcons
-              (Syntax.tyInt Syntax.w64)
               (Syntax.tcons (Syntax.tyInt Syntax.w8) Syntax.tnil)))))),
         ) (List._∷_ (
           1,
@@ -21249,6 +21378,164 @@ module _ (claims· : Claims) where
               116
               (List._∷_ 99 (List._∷_ 111 (List._∷_ 109 (List._∷_ 101 List.[])))))))))))))))
               (Syntax.tcons
+              (Syntax.tyStruct
+              (List._∷_
+              102
+              (List._∷_
+              105
+              (List._∷_
+              110
+              (List._∷_
+              105
+              (List._∷_
+              115
+              (List._∷_
+              104
+              (List._∷_
+              58
+              (List._∷_
+              58
+              (List._∷_ 83 (List._∷_ 101 (List._∷_ 110 (List._∷_ 116 List.[]))))))))))))
+              (Syntax.tcons
+              (Syntax.tyInt Syntax.w64)
+              (Syntax.tcons
+              (Syntax.tyStruct
+              (List._∷_
+              97
+              (List._∷_
+              110
+              (List._∷_
+              115
+              (List._∷_
+              119
+              (List._∷_
+              101
+              (List._∷_
+              114
+              (List._∷_
+              58
+              (List._∷_
+              58
+              (List._∷_
+              68
+              (List._∷_
+              101
+              (List._∷_
+              115
+              (List._∷_
+              116
+              (List._∷_
+              105
+              (List._∷_
+              110
+              (List._∷_
+              97
+              (List._∷_ 116 (List._∷_ 105 (List._∷_ 111 (List._∷_ 110 List.[])))))))))))))))))))
+              (Syntax.tcons
+              (Syntax.tyArray (Syntax.tyInt Syntax.w8) 16)
+              (Syntax.tcons
+              (Syntax.tyEnum
+              (List._∷_
+              97
+              (List._∷_
+              110
+              (List._∷_
+              115
+              (List._∷_
+              119
+              (List._∷_
+              101
+              (List._∷_
+              114
+              (List._∷_ 58 (List._∷_ 58 (List._∷_ 87 (List._∷_ 97 (List._∷_ 121 List.[])))))))))))
+              (Syntax.ttcons
+              Syntax.tnil
+              (Syntax.ttcons
+              Syntax.tnil
+              (Syntax.ttcons Syntax.tnil (Syntax.ttcons Syntax.tnil Syntax.ttnil)))))
+              Syntax.tnil)))
+              Syntax.tnil)))
+              (Syntax.tcons
+              (Syntax.tyStruct
+              (List._∷_
+              102
+              (List._∷_
+              105
+              (List._∷_
+              110
+              (List._∷_
+              105
+              (List._∷_
+              115
+              (List._∷_
+              104
+              (List._∷_
+              58
+              (List._∷_
+              58
+              (List._∷_ 83 (List._∷_ 101 (List._∷_ 110 (List._∷_ 116 List.[]))))))))))))
+              (Syntax.tcons
+              (Syntax.tyInt Syntax.w64)
+              (Syntax.tcons
+              (Syntax.tyStruct
+              (List._∷_
+              97
+              (List._∷_
+              110
+              (List._∷_
+              115
+              (List._∷_
+              119
+              (List._∷_
+              101
+              (List._∷_
+              114
+              (List._∷_
+              58
+              (List._∷_
+              58
+              (List._∷_
+              68
+              (List._∷_
+              101
+              (List._∷_
+              115
+              (List._∷_
+              116
+              (List._∷_
+              105
+              (List._∷_
+              110
+              (List._∷_
+              97
+              (List._∷_ 116 (List._∷_ 105 (List._∷_ 111 (List._∷_ 110 List.[])))))))))))))))))))
+              (Syntax.tcons
+              (Syntax.tyArray (Syntax.tyInt Syntax.w8) 16)
+              (Syntax.tcons
+              (Syntax.tyEnum
+              (List._∷_
+              97
+              (List._∷_
+              110
+              (List._∷_
+              115
+              (List._∷_
+              119
+              (List._∷_
+              101
+              (List._∷_
+              114
+              (List._∷_ 58 (List._∷_ 58 (List._∷_ 87 (List._∷_ 97 (List._∷_ 121 List.[])))))))))))
+              (Syntax.ttcons
+              Syntax.tnil
+              (Syntax.ttcons
+              Syntax.tnil
+              (Syntax.ttcons Syntax.tnil (Syntax.ttcons Syntax.tnil Syntax.ttnil)))))
+              Syntax.tnil)))
+              Syntax.tnil)))
+              (Syntax.tcons
+              (Syntax.tyInt Syntax.w64)
+              (Syntax.tcons
               (Syntax.tyEnum
               (List._∷_
               97
@@ -21304,160 +21591,6 @@ module _ (claims· : Claims) where
               (Syntax.ttcons
               Syntax.tnil
               (Syntax.ttcons Syntax.tnil (Syntax.ttcons Syntax.tnil Syntax.ttnil)))))))))))))))))))
-              (Syntax.tcons
-              (Syntax.tyStruct
-              (List._∷_
-              102
-              (List._∷_
-              105
-              (List._∷_
-              110
-              (List._∷_
-              105
-              (List._∷_
-              115
-              (List._∷_
-              104
-              (List._∷_
-              58
-              (List._∷_
-              58
-              (List._∷_ 83 (List._∷_ 101 (List._∷_ 110 (List._∷_ 116 List.[]))))))))))))
-              (Syntax.tcons
-              (Syntax.tyInt Syntax.w64)
-              (Syntax.tcons
-              (Syntax.tyStruct
-              (List._∷_
-              97
-              (List._∷_
-              110
-              (List._∷_
-              115
-              (List._∷_
-              119
-              (List._∷_
-              101
-              (List._∷_
-              114
-              (List._∷_
-              58
-              (List._∷_
-              58
-              (List._∷_
-              68
-              (List._∷_
-              101
-              (List._∷_
-              115
-              (List._∷_
-              116
-              (List._∷_
-              105
-              (List._∷_
-              110
-              (List._∷_
-              97
-              (List._∷_ 116 (List._∷_ 105 (List._∷_ 111 (List._∷_ 110 List.[])))))))))))))))))))
-              (Syntax.tcons
-              (Syntax.tyEnum
-              (List._∷_
-              97
-              (List._∷_
-              110
-              (List._∷_
-              115
-              (List._∷_
-              119
-              (List._∷_
-              101
-              (List._∷_
-              114
-              (List._∷_ 58 (List._∷_ 58 (List._∷_ 87 (List._∷_ 97 (List._∷_ 121 List.[])))))))))))
-              (Syntax.ttcons
-              Syntax.tnil
-              (Syntax.ttcons
-              Syntax.tnil
-              (Syntax.ttcons Syntax.tnil (Syntax.ttcons Syntax.tnil Syntax.ttnil)))))
-              (Syntax.tcons (Syntax.tyArray (Syntax.tyInt Syntax.w8) 16) Syntax.tnil)))
-              Syntax.tnil)))
-              (Syntax.tcons
-              (Syntax.tyStruct
-              (List._∷_
-              102
-              (List._∷_
-              105
-              (List._∷_
-              110
-              (List._∷_
-              105
-              (List._∷_
-              115
-              (List._∷_
-              104
-              (List._∷_
-              58
-              (List._∷_
-              58
-              (List._∷_ 83 (List._∷_ 101 (List._∷_ 110 (List._∷_ 116 List.[]))))))))))))
-              (Syntax.tcons
-              (Syntax.tyInt Syntax.w64)
-              (Syntax.tcons
-              (Syntax.tyStruct
-              (List._∷_
-              97
-              (List._∷_
-              110
-              (List._∷_
-              115
-              (List._∷_
-              119
-              (List._∷_
-              101
-              (List._∷_
-              114
-              (List._∷_
-              58
-              (List._∷_
-              58
-              (List._∷_
-              68
-              (List._∷_
-              101
-              (List._∷_
-              115
-              (List._∷_
-              116
-              (List._∷_
-              105
-              (List._∷_
-              110
-              (List._∷_
-              97
-              (List._∷_ 116 (List._∷_ 105 (List._∷_ 111 (List._∷_ 110 List.[])))))))))))))))))))
-              (Syntax.tcons
-              (Syntax.tyEnum
-              (List._∷_
-              97
-              (List._∷_
-              110
-              (List._∷_
-              115
-              (List._∷_
-              119
-              (List._∷_
-              101
-              (List._∷_
-              114
-              (List._∷_ 58 (List._∷_ 58 (List._∷_ 87 (List._∷_ 97 (List._∷_ 121 List.[])))))))))))
-              (Syntax.ttcons
-              Syntax.tnil
-              (Syntax.ttcons
-              Syntax.tnil
-              (Syntax.ttcons Syntax.tnil (Syntax.ttcons Syntax.tnil Syntax.ttnil)))))
-              (Syntax.tcons (Syntax.tyArray (Syntax.tyInt Syntax.w8) 16) Syntax.tnil)))
-              Syntax.tnil)))
-              (Syntax.tcons
-              (Syntax.tyInt Syntax.w64)
               (Syntax.tcons (Syntax.tyInt Syntax.w8) Syntax.tnil)))))),
         ) (List._∷_ (
           1,
@@ -25490,6 +25623,164 @@ module _ (claims· : Claims) where
               116
               (List._∷_ 99 (List._∷_ 111 (List._∷_ 109 (List._∷_ 101 List.[])))))))))))))))
               (Syntax.tcons
+              (Syntax.tyStruct
+              (List._∷_
+              102
+              (List._∷_
+              105
+              (List._∷_
+              110
+              (List._∷_
+              105
+              (List._∷_
+              115
+              (List._∷_
+              104
+              (List._∷_
+              58
+              (List._∷_
+              58
+              (List._∷_ 83 (List._∷_ 101 (List._∷_ 110 (List._∷_ 116 List.[]))))))))))))
+              (Syntax.tcons
+              (Syntax.tyInt Syntax.w64)
+              (Syntax.tcons
+              (Syntax.tyStruct
+              (List._∷_
+              97
+              (List._∷_
+              110
+              (List._∷_
+              115
+              (List._∷_
+              119
+              (List._∷_
+              101
+              (List._∷_
+              114
+              (List._∷_
+              58
+              (List._∷_
+              58
+              (List._∷_
+              68
+              (List._∷_
+              101
+              (List._∷_
+              115
+              (List._∷_
+              116
+              (List._∷_
+              105
+              (List._∷_
+              110
+              (List._∷_
+              97
+              (List._∷_ 116 (List._∷_ 105 (List._∷_ 111 (List._∷_ 110 List.[])))))))))))))))))))
+              (Syntax.tcons
+              (Syntax.tyArray (Syntax.tyInt Syntax.w8) 16)
+              (Syntax.tcons
+              (Syntax.tyEnum
+              (List._∷_
+              97
+              (List._∷_
+              110
+              (List._∷_
+              115
+              (List._∷_
+              119
+              (List._∷_
+              101
+              (List._∷_
+              114
+              (List._∷_ 58 (List._∷_ 58 (List._∷_ 87 (List._∷_ 97 (List._∷_ 121 List.[])))))))))))
+              (Syntax.ttcons
+              Syntax.tnil
+              (Syntax.ttcons
+              Syntax.tnil
+              (Syntax.ttcons Syntax.tnil (Syntax.ttcons Syntax.tnil Syntax.ttnil)))))
+              Syntax.tnil)))
+              Syntax.tnil)))
+              (Syntax.tcons
+              (Syntax.tyStruct
+              (List._∷_
+              102
+              (List._∷_
+              105
+              (List._∷_
+              110
+              (List._∷_
+              105
+              (List._∷_
+              115
+              (List._∷_
+              104
+              (List._∷_
+              58
+              (List._∷_
+              58
+              (List._∷_ 83 (List._∷_ 101 (List._∷_ 110 (List._∷_ 116 List.[]))))))))))))
+              (Syntax.tcons
+              (Syntax.tyInt Syntax.w64)
+              (Syntax.tcons
+              (Syntax.tyStruct
+              (List._∷_
+              97
+              (List._∷_
+              110
+              (List._∷_
+              115
+              (List._∷_
+              119
+              (List._∷_
+              101
+              (List._∷_
+              114
+              (List._∷_
+              58
+              (List._∷_
+              58
+              (List._∷_
+              68
+              (List._∷_
+              101
+              (List._∷_
+              115
+              (List._∷_
+              116
+              (List._∷_
+              105
+              (List._∷_
+              110
+              (List._∷_
+              97
+              (List._∷_ 116 (List._∷_ 105 (List._∷_ 111 (List._∷_ 110 List.[])))))))))))))))))))
+              (Syntax.tcons
+              (Syntax.tyArray (Syntax.tyInt Syntax.w8) 16)
+              (Syntax.tcons
+              (Syntax.tyEnum
+              (List._∷_
+              97
+              (List._∷_
+              110
+              (List._∷_
+              115
+              (List._∷_
+              119
+              (List._∷_
+              101
+              (List._∷_
+              114
+              (List._∷_ 58 (List._∷_ 58 (List._∷_ 87 (List._∷_ 97 (List._∷_ 121 List.[])))))))))))
+              (Syntax.ttcons
+              Syntax.tnil
+              (Syntax.ttcons
+              Syntax.tnil
+              (Syntax.ttcons Syntax.tnil (Syntax.ttcons Syntax.tnil Syntax.ttnil)))))
+              Syntax.tnil)))
+              Syntax.tnil)))
+              (Syntax.tcons
+              (Syntax.tyInt Syntax.w64)
+              (Syntax.tcons
               (Syntax.tyEnum
               (List._∷_
               97
@@ -25545,160 +25836,6 @@ module _ (claims· : Claims) where
               (Syntax.ttcons
               Syntax.tnil
               (Syntax.ttcons Syntax.tnil (Syntax.ttcons Syntax.tnil Syntax.ttnil)))))))))))))))))))
-              (Syntax.tcons
-              (Syntax.tyStruct
-              (List._∷_
-              102
-              (List._∷_
-              105
-              (List._∷_
-              110
-              (List._∷_
-              105
-              (List._∷_
-              115
-              (List._∷_
-              104
-              (List._∷_
-              58
-              (List._∷_
-              58
-              (List._∷_ 83 (List._∷_ 101 (List._∷_ 110 (List._∷_ 116 List.[]))))))))))))
-              (Syntax.tcons
-              (Syntax.tyInt Syntax.w64)
-              (Syntax.tcons
-              (Syntax.tyStruct
-              (List._∷_
-              97
-              (List._∷_
-              110
-              (List._∷_
-              115
-              (List._∷_
-              119
-              (List._∷_
-              101
-              (List._∷_
-              114
-              (List._∷_
-              58
-              (List._∷_
-              58
-              (List._∷_
-              68
-              (List._∷_
-              101
-              (List._∷_
-              115
-              (List._∷_
-              116
-              (List._∷_
-              105
-              (List._∷_
-              110
-              (List._∷_
-              97
-              (List._∷_ 116 (List._∷_ 105 (List._∷_ 111 (List._∷_ 110 List.[])))))))))))))))))))
-              (Syntax.tcons
-              (Syntax.tyEnum
-              (List._∷_
-              97
-              (List._∷_
-              110
-              (List._∷_
-              115
-              (List._∷_
-              119
-              (List._∷_
-              101
-              (List._∷_
-              114
-              (List._∷_ 58 (List._∷_ 58 (List._∷_ 87 (List._∷_ 97 (List._∷_ 121 List.[])))))))))))
-              (Syntax.ttcons
-              Syntax.tnil
-              (Syntax.ttcons
-              Syntax.tnil
-              (Syntax.ttcons Syntax.tnil (Syntax.ttcons Syntax.tnil Syntax.ttnil)))))
-              (Syntax.tcons (Syntax.tyArray (Syntax.tyInt Syntax.w8) 16) Syntax.tnil)))
-              Syntax.tnil)))
-              (Syntax.tcons
-              (Syntax.tyStruct
-              (List._∷_
-              102
-              (List._∷_
-              105
-              (List._∷_
-              110
-              (List._∷_
-              105
-              (List._∷_
-              115
-              (List._∷_
-              104
-              (List._∷_
-              58
-              (List._∷_
-              58
-              (List._∷_ 83 (List._∷_ 101 (List._∷_ 110 (List._∷_ 116 List.[]))))))))))))
-              (Syntax.tcons
-              (Syntax.tyInt Syntax.w64)
-              (Syntax.tcons
-              (Syntax.tyStruct
-              (List._∷_
-              97
-              (List._∷_
-              110
-              (List._∷_
-              115
-              (List._∷_
-              119
-              (List._∷_
-              101
-              (List._∷_
-              114
-              (List._∷_
-              58
-              (List._∷_
-              58
-              (List._∷_
-              68
-              (List._∷_
-              101
-              (List._∷_
-              115
-              (List._∷_
-              116
-              (List._∷_
-              105
-              (List._∷_
-              110
-              (List._∷_
-              97
-              (List._∷_ 116 (List._∷_ 105 (List._∷_ 111 (List._∷_ 110 List.[])))))))))))))))))))
-              (Syntax.tcons
-              (Syntax.tyEnum
-              (List._∷_
-              97
-              (List._∷_
-              110
-              (List._∷_
-              115
-              (List._∷_
-              119
-              (List._∷_
-              101
-              (List._∷_
-              114
-              (List._∷_ 58 (List._∷_ 58 (List._∷_ 87 (List._∷_ 97 (List._∷_ 121 List.[])))))))))))
-              (Syntax.ttcons
-              Syntax.tnil
-              (Syntax.ttcons
-              Syntax.tnil
-              (Syntax.ttcons Syntax.tnil (Syntax.ttcons Syntax.tnil Syntax.ttnil)))))
-              (Syntax.tcons (Syntax.tyArray (Syntax.tyInt Syntax.w8) 16) Syntax.tnil)))
-              Syntax.tnil)))
-              (Syntax.tcons
-              (Syntax.tyInt Syntax.w64)
               (Syntax.tcons (Syntax.tyInt Syntax.w8) Syntax.tnil)))))))
               tt
               Path'.refl)
@@ -26386,6 +26523,164 @@ module _ (claims· : Claims) where
               116
               (List._∷_ 99 (List._∷_ 111 (List._∷_ 109 (List._∷_ 101 List.[])))))))))))))))
               (Syntax.tcons
+              (Syntax.tyStruct
+              (List._∷_
+              102
+              (List._∷_
+              105
+              (List._∷_
+              110
+              (List._∷_
+              105
+              (List._∷_
+              115
+              (List._∷_
+              104
+              (List._∷_
+              58
+              (List._∷_
+              58
+              (List._∷_ 83 (List._∷_ 101 (List._∷_ 110 (List._∷_ 116 List.[]))))))))))))
+              (Syntax.tcons
+              (Syntax.tyInt Syntax.w64)
+              (Syntax.tcons
+              (Syntax.tyStruct
+              (List._∷_
+              97
+              (List._∷_
+              110
+              (List._∷_
+              115
+              (List._∷_
+              119
+              (List._∷_
+              101
+              (List._∷_
+              114
+              (List._∷_
+              58
+              (List._∷_
+              58
+              (List._∷_
+              68
+              (List._∷_
+              101
+              (List._∷_
+              115
+              (List._∷_
+              116
+              (List._∷_
+              105
+              (List._∷_
+              110
+              (List._∷_
+              97
+              (List._∷_ 116 (List._∷_ 105 (List._∷_ 111 (List._∷_ 110 List.[])))))))))))))))))))
+              (Syntax.tcons
+              (Syntax.tyArray (Syntax.tyInt Syntax.w8) 16)
+              (Syntax.tcons
+              (Syntax.tyEnum
+              (List._∷_
+              97
+              (List._∷_
+              110
+              (List._∷_
+              115
+              (List._∷_
+              119
+              (List._∷_
+              101
+              (List._∷_
+              114
+              (List._∷_ 58 (List._∷_ 58 (List._∷_ 87 (List._∷_ 97 (List._∷_ 121 List.[])))))))))))
+              (Syntax.ttcons
+              Syntax.tnil
+              (Syntax.ttcons
+              Syntax.tnil
+              (Syntax.ttcons Syntax.tnil (Syntax.ttcons Syntax.tnil Syntax.ttnil)))))
+              Syntax.tnil)))
+              Syntax.tnil)))
+              (Syntax.tcons
+              (Syntax.tyStruct
+              (List._∷_
+              102
+              (List._∷_
+              105
+              (List._∷_
+              110
+              (List._∷_
+              105
+              (List._∷_
+              115
+              (List._∷_
+              104
+              (List._∷_
+              58
+              (List._∷_
+              58
+              (List._∷_ 83 (List._∷_ 101 (List._∷_ 110 (List._∷_ 116 List.[]))))))))))))
+              (Syntax.tcons
+              (Syntax.tyInt Syntax.w64)
+              (Syntax.tcons
+              (Syntax.tyStruct
+              (List._∷_
+              97
+              (List._∷_
+              110
+              (List._∷_
+              115
+              (List._∷_
+              119
+              (List._∷_
+              101
+              (List._∷_
+              114
+              (List._∷_
+              58
+              (List._∷_
+              58
+              (List._∷_
+              68
+              (List._∷_
+              101
+              (List._∷_
+              115
+              (List._∷_
+              116
+              (List._∷_
+              105
+              (List._∷_
+              110
+              (List._∷_
+              97
+              (List._∷_ 116 (List._∷_ 105 (List._∷_ 111 (List._∷_ 110 List.[])))))))))))))))))))
+              (Syntax.tcons
+              (Syntax.tyArray (Syntax.tyInt Syntax.w8) 16)
+              (Syntax.tcons
+              (Syntax.tyEnum
+              (List._∷_
+              97
+              (List._∷_
+              110
+              (List._∷_
+              115
+              (List._∷_
+              119
+              (List._∷_
+              101
+              (List._∷_
+              114
+              (List._∷_ 58 (List._∷_ 58 (List._∷_ 87 (List._∷_ 97 (List._∷_ 121 List.[])))))))))))
+              (Syntax.ttcons
+              Syntax.tnil
+              (Syntax.ttcons
+              Syntax.tnil
+              (Syntax.ttcons Syntax.tnil (Syntax.ttcons Syntax.tnil Syntax.ttnil)))))
+              Syntax.tnil)))
+              Syntax.tnil)))
+              (Syntax.tcons
+              (Syntax.tyInt Syntax.w64)
+              (Syntax.tcons
               (Syntax.tyEnum
               (List._∷_
               97
@@ -26441,160 +26736,6 @@ module _ (claims· : Claims) where
               (Syntax.ttcons
               Syntax.tnil
               (Syntax.ttcons Syntax.tnil (Syntax.ttcons Syntax.tnil Syntax.ttnil)))))))))))))))))))
-              (Syntax.tcons
-              (Syntax.tyStruct
-              (List._∷_
-              102
-              (List._∷_
-              105
-              (List._∷_
-              110
-              (List._∷_
-              105
-              (List._∷_
-              115
-              (List._∷_
-              104
-              (List._∷_
-              58
-              (List._∷_
-              58
-              (List._∷_ 83 (List._∷_ 101 (List._∷_ 110 (List._∷_ 116 List.[]))))))))))))
-              (Syntax.tcons
-              (Syntax.tyInt Syntax.w64)
-              (Syntax.tcons
-              (Syntax.tyStruct
-              (List._∷_
-              97
-              (List._∷_
-              110
-              (List._∷_
-              115
-              (List._∷_
-              119
-              (List._∷_
-              101
-              (List._∷_
-              114
-              (List._∷_
-              58
-              (List._∷_
-              58
-              (List._∷_
-              68
-              (List._∷_
-              101
-              (List._∷_
-              115
-              (List._∷_
-              116
-              (List._∷_
-              105
-              (List._∷_
-              110
-              (List._∷_
-              97
-              (List._∷_ 116 (List._∷_ 105 (List._∷_ 111 (List._∷_ 110 List.[])))))))))))))))))))
-              (Syntax.tcons
-              (Syntax.tyEnum
-              (List._∷_
-              97
-              (List._∷_
-              110
-              (List._∷_
-              115
-              (List._∷_
-              119
-              (List._∷_
-              101
-              (List._∷_
-              114
-              (List._∷_ 58 (List._∷_ 58 (List._∷_ 87 (List._∷_ 97 (List._∷_ 121 List.[])))))))))))
-              (Syntax.ttcons
-              Syntax.tnil
-              (Syntax.ttcons
-              Syntax.tnil
-              (Syntax.ttcons Syntax.tnil (Syntax.ttcons Syntax.tnil Syntax.ttnil)))))
-              (Syntax.tcons (Syntax.tyArray (Syntax.tyInt Syntax.w8) 16) Syntax.tnil)))
-              Syntax.tnil)))
-              (Syntax.tcons
-              (Syntax.tyStruct
-              (List._∷_
-              102
-              (List._∷_
-              105
-              (List._∷_
-              110
-              (List._∷_
-              105
-              (List._∷_
-              115
-              (List._∷_
-              104
-              (List._∷_
-              58
-              (List._∷_
-              58
-              (List._∷_ 83 (List._∷_ 101 (List._∷_ 110 (List._∷_ 116 List.[]))))))))))))
-              (Syntax.tcons
-              (Syntax.tyInt Syntax.w64)
-              (Syntax.tcons
-              (Syntax.tyStruct
-              (List._∷_
-              97
-              (List._∷_
-              110
-              (List._∷_
-              115
-              (List._∷_
-              119
-              (List._∷_
-              101
-              (List._∷_
-              114
-              (List._∷_
-              58
-              (List._∷_
-              58
-              (List._∷_
-              68
-              (List._∷_
-              101
-              (List._∷_
-              115
-              (List._∷_
-              116
-              (List._∷_
-              105
-              (List._∷_
-              110
-              (List._∷_
-              97
-              (List._∷_ 116 (List._∷_ 105 (List._∷_ 111 (List._∷_ 110 List.[])))))))))))))))))))
-              (Syntax.tcons
-              (Syntax.tyEnum
-              (List._∷_
-              97
-              (List._∷_
-              110
-              (List._∷_
-              115
-              (List._∷_
-              119
-              (List._∷_
-              101
-              (List._∷_
-              114
-              (List._∷_ 58 (List._∷_ 58 (List._∷_ 87 (List._∷_ 97 (List._∷_ 121 List.[])))))))))))
-              (Syntax.ttcons
-              Syntax.tnil
-              (Syntax.ttcons
-              Syntax.tnil
-              (Syntax.ttcons Syntax.tnil (Syntax.ttcons Syntax.tnil Syntax.ttnil)))))
-              (Syntax.tcons (Syntax.tyArray (Syntax.tyInt Syntax.w8) 16) Syntax.tnil)))
-              Syntax.tnil)))
-              (Syntax.tcons
-              (Syntax.tyInt Syntax.w64)
               (Syntax.tcons (Syntax.tyInt Syntax.w8) Syntax.tnil)))))))
               tt
               Path'.refl)
@@ -27422,6 +27563,164 @@ module _ (claims· : Claims) where
               116
               (List._∷_ 99 (List._∷_ 111 (List._∷_ 109 (List._∷_ 101 List.[])))))))))))))))
               (Syntax.tcons
+              (Syntax.tyStruct
+              (List._∷_
+              102
+              (List._∷_
+              105
+              (List._∷_
+              110
+              (List._∷_
+              105
+              (List._∷_
+              115
+              (List._∷_
+              104
+              (List._∷_
+              58
+              (List._∷_
+              58
+              (List._∷_ 83 (List._∷_ 101 (List._∷_ 110 (List._∷_ 116 List.[]))))))))))))
+              (Syntax.tcons
+              (Syntax.tyInt Syntax.w64)
+              (Syntax.tcons
+              (Syntax.tyStruct
+              (List._∷_
+              97
+              (List._∷_
+              110
+              (List._∷_
+              115
+              (List._∷_
+              119
+              (List._∷_
+              101
+              (List._∷_
+              114
+              (List._∷_
+              58
+              (List._∷_
+              58
+              (List._∷_
+              68
+              (List._∷_
+              101
+              (List._∷_
+              115
+              (List._∷_
+              116
+              (List._∷_
+              105
+              (List._∷_
+              110
+              (List._∷_
+              97
+              (List._∷_ 116 (List._∷_ 105 (List._∷_ 111 (List._∷_ 110 List.[])))))))))))))))))))
+              (Syntax.tcons
+              (Syntax.tyArray (Syntax.tyInt Syntax.w8) 16)
+              (Syntax.tcons
+              (Syntax.tyEnum
+              (List._∷_
+              97
+              (List._∷_
+              110
+              (List._∷_
+              115
+              (List._∷_
+              119
+              (List._∷_
+              101
+              (List._∷_
+              114
+              (List._∷_ 58 (List._∷_ 58 (List._∷_ 87 (List._∷_ 97 (List._∷_ 121 List.[])))))))))))
+              (Syntax.ttcons
+              Syntax.tnil
+              (Syntax.ttcons
+              Syntax.tnil
+              (Syntax.ttcons Syntax.tnil (Syntax.ttcons Syntax.tnil Syntax.ttnil)))))
+              Syntax.tnil)))
+              Syntax.tnil)))
+              (Syntax.tcons
+              (Syntax.tyStruct
+              (List._∷_
+              102
+              (List._∷_
+              105
+              (List._∷_
+              110
+              (List._∷_
+              105
+              (List._∷_
+              115
+              (List._∷_
+              104
+              (List._∷_
+              58
+              (List._∷_
+              58
+              (List._∷_ 83 (List._∷_ 101 (List._∷_ 110 (List._∷_ 116 List.[]))))))))))))
+              (Syntax.tcons
+              (Syntax.tyInt Syntax.w64)
+              (Syntax.tcons
+              (Syntax.tyStruct
+              (List._∷_
+              97
+              (List._∷_
+              110
+              (List._∷_
+              115
+              (List._∷_
+              119
+              (List._∷_
+              101
+              (List._∷_
+              114
+              (List._∷_
+              58
+              (List._∷_
+              58
+              (List._∷_
+              68
+              (List._∷_
+              101
+              (List._∷_
+              115
+              (List._∷_
+              116
+              (List._∷_
+              105
+              (List._∷_
+              110
+              (List._∷_
+              97
+              (List._∷_ 116 (List._∷_ 105 (List._∷_ 111 (List._∷_ 110 List.[])))))))))))))))))))
+              (Syntax.tcons
+              (Syntax.tyArray (Syntax.tyInt Syntax.w8) 16)
+              (Syntax.tcons
+              (Syntax.tyEnum
+              (List._∷_
+              97
+              (List._∷_
+              110
+              (List._∷_
+              115
+              (List._∷_
+              119
+              (List._∷_
+              101
+              (List._∷_
+              114
+              (List._∷_ 58 (List._∷_ 58 (List._∷_ 87 (List._∷_ 97 (List._∷_ 121 List.[])))))))))))
+              (Syntax.ttcons
+              Syntax.tnil
+              (Syntax.ttcons
+              Syntax.tnil
+              (Syntax.ttcons Syntax.tnil (Syntax.ttcons Syntax.tnil Syntax.ttnil)))))
+              Syntax.tnil)))
+              Syntax.tnil)))
+              (Syntax.tcons
+              (Syntax.tyInt Syntax.w64)
+              (Syntax.tcons
               (Syntax.tyEnum
               (List._∷_
               97
@@ -27477,160 +27776,6 @@ module _ (claims· : Claims) where
               (Syntax.ttcons
               Syntax.tnil
               (Syntax.ttcons Syntax.tnil (Syntax.ttcons Syntax.tnil Syntax.ttnil)))))))))))))))))))
-              (Syntax.tcons
-              (Syntax.tyStruct
-              (List._∷_
-              102
-              (List._∷_
-              105
-              (List._∷_
-              110
-              (List._∷_
-              105
-              (List._∷_
-              115
-              (List._∷_
-              104
-              (List._∷_
-              58
-              (List._∷_
-              58
-              (List._∷_ 83 (List._∷_ 101 (List._∷_ 110 (List._∷_ 116 List.[]))))))))))))
-              (Syntax.tcons
-              (Syntax.tyInt Syntax.w64)
-              (Syntax.tcons
-              (Syntax.tyStruct
-              (List._∷_
-              97
-              (List._∷_
-              110
-              (List._∷_
-              115
-              (List._∷_
-              119
-              (List._∷_
-              101
-              (List._∷_
-              114
-              (List._∷_
-              58
-              (List._∷_
-              58
-              (List._∷_
-              68
-              (List._∷_
-              101
-              (List._∷_
-              115
-              (List._∷_
-              116
-              (List._∷_
-              105
-              (List._∷_
-              110
-              (List._∷_
-              97
-              (List._∷_ 116 (List._∷_ 105 (List._∷_ 111 (List._∷_ 110 List.[])))))))))))))))))))
-              (Syntax.tcons
-              (Syntax.tyEnum
-              (List._∷_
-              97
-              (List._∷_
-              110
-              (List._∷_
-              115
-              (List._∷_
-              119
-              (List._∷_
-              101
-              (List._∷_
-              114
-              (List._∷_ 58 (List._∷_ 58 (List._∷_ 87 (List._∷_ 97 (List._∷_ 121 List.[])))))))))))
-              (Syntax.ttcons
-              Syntax.tnil
-              (Syntax.ttcons
-              Syntax.tnil
-              (Syntax.ttcons Syntax.tnil (Syntax.ttcons Syntax.tnil Syntax.ttnil)))))
-              (Syntax.tcons (Syntax.tyArray (Syntax.tyInt Syntax.w8) 16) Syntax.tnil)))
-              Syntax.tnil)))
-              (Syntax.tcons
-              (Syntax.tyStruct
-              (List._∷_
-              102
-              (List._∷_
-              105
-              (List._∷_
-              110
-              (List._∷_
-              105
-              (List._∷_
-              115
-              (List._∷_
-              104
-              (List._∷_
-              58
-              (List._∷_
-              58
-              (List._∷_ 83 (List._∷_ 101 (List._∷_ 110 (List._∷_ 116 List.[]))))))))))))
-              (Syntax.tcons
-              (Syntax.tyInt Syntax.w64)
-              (Syntax.tcons
-              (Syntax.tyStruct
-              (List._∷_
-              97
-              (List._∷_
-              110
-              (List._∷_
-              115
-              (List._∷_
-              119
-              (List._∷_
-              101
-              (List._∷_
-              114
-              (List._∷_
-              58
-              (List._∷_
-              58
-              (List._∷_
-              68
-              (List._∷_
-              101
-              (List._∷_
-              115
-              (List._∷_
-              116
-              (List._∷_
-              105
-              (List._∷_
-              110
-              (List._∷_
-              97
-              (List._∷_ 116 (List._∷_ 105 (List._∷_ 111 (List._∷_ 110 List.[])))))))))))))))))))
-              (Syntax.tcons
-              (Syntax.tyEnum
-              (List._∷_
-              97
-              (List._∷_
-              110
-              (List._∷_
-              115
-              (List._∷_
-              119
-              (List._∷_
-              101
-              (List._∷_
-              114
-              (List._∷_ 58 (List._∷_ 58 (List._∷_ 87 (List._∷_ 97 (List._∷_ 121 List.[])))))))))))
-              (Syntax.ttcons
-              Syntax.tnil
-              (Syntax.ttcons
-              Syntax.tnil
-              (Syntax.ttcons Syntax.tnil (Syntax.ttcons Syntax.tnil Syntax.ttnil)))))
-              (Syntax.tcons (Syntax.tyArray (Syntax.tyInt Syntax.w8) 16) Syntax.tnil)))
-              Syntax.tnil)))
-              (Syntax.tcons
-              (Syntax.tyInt Syntax.w64)
               (Syntax.tcons (Syntax.tyInt Syntax.w8) Syntax.tnil)))))))
               tt
               Path'.refl)
@@ -29521,6 +29666,164 @@ module _ (claims· : Claims) where
               116
               (List._∷_ 99 (List._∷_ 111 (List._∷_ 109 (List._∷_ 101 List.[])))))))))))))))
               (Syntax.tcons
+              (Syntax.tyStruct
+              (List._∷_
+              102
+              (List._∷_
+              105
+              (List._∷_
+              110
+              (List._∷_
+              105
+              (List._∷_
+              115
+              (List._∷_
+              104
+              (List._∷_
+              58
+              (List._∷_
+              58
+              (List._∷_ 83 (List._∷_ 101 (List._∷_ 110 (List._∷_ 116 List.[]))))))))))))
+              (Syntax.tcons
+              (Syntax.tyInt Syntax.w64)
+              (Syntax.tcons
+              (Syntax.tyStruct
+              (List._∷_
+              97
+              (List._∷_
+              110
+              (List._∷_
+              115
+              (List._∷_
+              119
+              (List._∷_
+              101
+              (List._∷_
+              114
+              (List._∷_
+              58
+              (List._∷_
+              58
+              (List._∷_
+              68
+              (List._∷_
+              101
+              (List._∷_
+              115
+              (List._∷_
+              116
+              (List._∷_
+              105
+              (List._∷_
+              110
+              (List._∷_
+              97
+              (List._∷_ 116 (List._∷_ 105 (List._∷_ 111 (List._∷_ 110 List.[])))))))))))))))))))
+              (Syntax.tcons
+              (Syntax.tyArray (Syntax.tyInt Syntax.w8) 16)
+              (Syntax.tcons
+              (Syntax.tyEnum
+              (List._∷_
+              97
+              (List._∷_
+              110
+              (List._∷_
+              115
+              (List._∷_
+              119
+              (List._∷_
+              101
+              (List._∷_
+              114
+              (List._∷_ 58 (List._∷_ 58 (List._∷_ 87 (List._∷_ 97 (List._∷_ 121 List.[])))))))))))
+              (Syntax.ttcons
+              Syntax.tnil
+              (Syntax.ttcons
+              Syntax.tnil
+              (Syntax.ttcons Syntax.tnil (Syntax.ttcons Syntax.tnil Syntax.ttnil)))))
+              Syntax.tnil)))
+              Syntax.tnil)))
+              (Syntax.tcons
+              (Syntax.tyStruct
+              (List._∷_
+              102
+              (List._∷_
+              105
+              (List._∷_
+              110
+              (List._∷_
+              105
+              (List._∷_
+              115
+              (List._∷_
+              104
+              (List._∷_
+              58
+              (List._∷_
+              58
+              (List._∷_ 83 (List._∷_ 101 (List._∷_ 110 (List._∷_ 116 List.[]))))))))))))
+              (Syntax.tcons
+              (Syntax.tyInt Syntax.w64)
+              (Syntax.tcons
+              (Syntax.tyStruct
+              (List._∷_
+              97
+              (List._∷_
+              110
+              (List._∷_
+              115
+              (List._∷_
+              119
+              (List._∷_
+              101
+              (List._∷_
+              114
+              (List._∷_
+              58
+              (List._∷_
+              58
+              (List._∷_
+              68
+              (List._∷_
+              101
+              (List._∷_
+              115
+              (List._∷_
+              116
+              (List._∷_
+              105
+              (List._∷_
+              110
+              (List._∷_
+              97
+              (List._∷_ 116 (List._∷_ 105 (List._∷_ 111 (List._∷_ 110 List.[])))))))))))))))))))
+              (Syntax.tcons
+              (Syntax.tyArray (Syntax.tyInt Syntax.w8) 16)
+              (Syntax.tcons
+              (Syntax.tyEnum
+              (List._∷_
+              97
+              (List._∷_
+              110
+              (List._∷_
+              115
+              (List._∷_
+              119
+              (List._∷_
+              101
+              (List._∷_
+              114
+              (List._∷_ 58 (List._∷_ 58 (List._∷_ 87 (List._∷_ 97 (List._∷_ 121 List.[])))))))))))
+              (Syntax.ttcons
+              Syntax.tnil
+              (Syntax.ttcons
+              Syntax.tnil
+              (Syntax.ttcons Syntax.tnil (Syntax.ttcons Syntax.tnil Syntax.ttnil)))))
+              Syntax.tnil)))
+              Syntax.tnil)))
+              (Syntax.tcons
+              (Syntax.tyInt Syntax.w64)
+              (Syntax.tcons
               (Syntax.tyEnum
               (List._∷_
               97
@@ -29576,160 +29879,6 @@ module _ (claims· : Claims) where
               (Syntax.ttcons
               Syntax.tnil
               (Syntax.ttcons Syntax.tnil (Syntax.ttcons Syntax.tnil Syntax.ttnil)))))))))))))))))))
-              (Syntax.tcons
-              (Syntax.tyStruct
-              (List._∷_
-              102
-              (List._∷_
-              105
-              (List._∷_
-              110
-              (List._∷_
-              105
-              (List._∷_
-              115
-              (List._∷_
-              104
-              (List._∷_
-              58
-              (List._∷_
-              58
-              (List._∷_ 83 (List._∷_ 101 (List._∷_ 110 (List._∷_ 116 List.[]))))))))))))
-              (Syntax.tcons
-              (Syntax.tyInt Syntax.w64)
-              (Syntax.tcons
-              (Syntax.tyStruct
-              (List._∷_
-              97
-              (List._∷_
-              110
-              (List._∷_
-              115
-              (List._∷_
-              119
-              (List._∷_
-              101
-              (List._∷_
-              114
-              (List._∷_
-              58
-              (List._∷_
-              58
-              (List._∷_
-              68
-              (List._∷_
-              101
-              (List._∷_
-              115
-              (List._∷_
-              116
-              (List._∷_
-              105
-              (List._∷_
-              110
-              (List._∷_
-              97
-              (List._∷_ 116 (List._∷_ 105 (List._∷_ 111 (List._∷_ 110 List.[])))))))))))))))))))
-              (Syntax.tcons
-              (Syntax.tyEnum
-              (List._∷_
-              97
-              (List._∷_
-              110
-              (List._∷_
-              115
-              (List._∷_
-              119
-              (List._∷_
-              101
-              (List._∷_
-              114
-              (List._∷_ 58 (List._∷_ 58 (List._∷_ 87 (List._∷_ 97 (List._∷_ 121 List.[])))))))))))
-              (Syntax.ttcons
-              Syntax.tnil
-              (Syntax.ttcons
-              Syntax.tnil
-              (Syntax.ttcons Syntax.tnil (Syntax.ttcons Syntax.tnil Syntax.ttnil)))))
-              (Syntax.tcons (Syntax.tyArray (Syntax.tyInt Syntax.w8) 16) Syntax.tnil)))
-              Syntax.tnil)))
-              (Syntax.tcons
-              (Syntax.tyStruct
-              (List._∷_
-              102
-              (List._∷_
-              105
-              (List._∷_
-              110
-              (List._∷_
-              105
-              (List._∷_
-              115
-              (List._∷_
-              104
-              (List._∷_
-              58
-              (List._∷_
-              58
-              (List._∷_ 83 (List._∷_ 101 (List._∷_ 110 (List._∷_ 116 List.[]))))))))))))
-              (Syntax.tcons
-              (Syntax.tyInt Syntax.w64)
-              (Syntax.tcons
-              (Syntax.tyStruct
-              (List._∷_
-              97
-              (List._∷_
-              110
-              (List._∷_
-              115
-              (List._∷_
-              119
-              (List._∷_
-              101
-              (List._∷_
-              114
-              (List._∷_
-              58
-              (List._∷_
-              58
-              (List._∷_
-              68
-              (List._∷_
-              101
-              (List._∷_
-              115
-              (List._∷_
-              116
-              (List._∷_
-              105
-              (List._∷_
-              110
-              (List._∷_
-              97
-              (List._∷_ 116 (List._∷_ 105 (List._∷_ 111 (List._∷_ 110 List.[])))))))))))))))))))
-              (Syntax.tcons
-              (Syntax.tyEnum
-              (List._∷_
-              97
-              (List._∷_
-              110
-              (List._∷_
-              115
-              (List._∷_
-              119
-              (List._∷_
-              101
-              (List._∷_
-              114
-              (List._∷_ 58 (List._∷_ 58 (List._∷_ 87 (List._∷_ 97 (List._∷_ 121 List.[])))))))))))
-              (Syntax.ttcons
-              Syntax.tnil
-              (Syntax.ttcons
-              Syntax.tnil
-              (Syntax.ttcons Syntax.tnil (Syntax.ttcons Syntax.tnil Syntax.ttnil)))))
-              (Syntax.tcons (Syntax.tyArray (Syntax.tyInt Syntax.w8) 16) Syntax.tnil)))
-              Syntax.tnil)))
-              (Syntax.tcons
-              (Syntax.tyInt Syntax.w64)
               (Syntax.tcons (Syntax.tyInt Syntax.w8) Syntax.tnil)))))))
               (tt, (tt, (tt, (tt, tt))))
               Path'.refl)

@@ -1,20 +1,21 @@
 -- Made by tools/lend.py of the twin of `finish`: do not edit.
 use Rattle.row.proofs.Elem.InstanceRow as KInstanceRow
 use Rattle.row.proofs.Elem.RouteRow as KRouteRow
-use Rattle.decision.proofs.Decided
-use Rattle.decision.proofs.Decided.Laws
+use Rattle.decision.proofs.Elem.Decided as KDecided
+use Rattle.decision.proofs.Elem.Post as KPost
+use Rattle.finish.proofs.Live
+use Rattle.finish.proofs.Live.Laws
 use Rattle.finish.proofs.Outcome
 use Rattle.finish.proofs.Outcome.Laws as Laws'
 use Rattle.own.proofs.Own
 use Rattle.own.proofs.Own.Laws as Laws''
 use borrow.Fn.Kinds
-use borrow.Kind.Array
 use borrow.Kind.MutSlice
 use borrow.Kind.Value
 use borrow.Rule.Local
 use borrow.Table.Referent
 use borrow.Table.Rows
-use denote.Array as Array'
+use denote.Array
 use denote.Exit
 use denote.Struct.Declared
 use denote.Struct.Laws as Laws'3
@@ -22,7 +23,7 @@ use mathlib.Core.List
 use mathlib.Core.Path as Path'
 use mir.Syntax
 
-abbrev pub ps : List.List (Kinds.PK 4)
+abbrev pub ps : List.List (Kinds.PK 8)
 ps =
     List._∷_
     (MutSlice.pMutS (KInstanceRow.R) 0 tt)
@@ -55,33 +56,31 @@ ps =
     (List._∷_
     (Kinds.pNum Syntax.w64)
     (List._∷_
-    (Array.pArr
-    (Array.eArr (Array.eInt Syntax.w8) 16)
-    (Array.eArr-laws (Array.eInt Syntax.w8) (Array.eInt-laws Syntax.w8) 16)
-    16)
+    (Kinds.pShr (Array.Array (Array.Array (Referent.rtF (Referent.fInt Syntax.w8)) 16) 16) 4 tt)
+    (List._∷_
+    (Kinds.pShr (KDecided.R) 5 tt)
+    (List._∷_
+    (Kinds.pShr (KPost.R) 6 tt)
+    (List._∷_
+    (Kinds.pShr (KPost.R) 7 tt)
     (List._∷_ (Value.pVal record {
-      ty = Declared.row Decided.the-type;
+      ty = Declared.row Live.the-type;
       one = Path'.refl;
-      val = Laws'3.val Decided.the-type Laws.the-laws;
-      tells = Laws'3.tells Decided.the-type Laws.the-laws;
-      still = Laws'3.still Decided.the-type Laws.the-copy Exit.yes;
-      row = Rows.whole (Declared.row Decided.the-type);
+      val = Laws'3.val Live.the-type Laws.the-laws;
+      tells = Laws'3.tells Live.the-type Laws.the-laws;
+      still = Laws'3.still Live.the-type Laws.the-copy Exit.yes;
+      row = Rows.whole (Declared.row Live.the-type);
       rd = λ x. x;
       mk = λ x. x;
     } λ M 𝓤 H A W. record {
-      copies = Laws'3.copy Decided.the-type Laws.the-copy 𝓤 H A W;
-      lawful = Laws'3.lawful Decided.the-type Laws.the-laws 𝓤 H A W;
-      makes = Laws'3.makes Decided.the-type Laws.the-plain 𝓤 H A;
-      in-mem = Local.mem-whole 𝓤 H A W (Declared.row Decided.the-type);
-      of-mem = Local.whole-mem 𝓤 H A W (Declared.row Decided.the-type);
-    })
-    (List._∷_
-    Kinds.pBool
-    (List._∷_
-    (Kinds.pNum Syntax.w64)
-    (List._∷_ Kinds.pBool (List._∷_ (Kinds.pNum Syntax.w64) List.[])))))))))))))
+      copies = Laws'3.copy Live.the-type Laws.the-copy 𝓤 H A W;
+      lawful = Laws'3.lawful Live.the-type Laws.the-laws 𝓤 H A W;
+      makes = Laws'3.makes Live.the-type Laws.the-plain 𝓤 H A;
+      in-mem = Local.mem-whole 𝓤 H A W (Declared.row Live.the-type);
+      of-mem = Local.whole-mem 𝓤 H A W (Declared.row Live.the-type);
+    }) List.[]))))))))))))
 
-abbrev pub r : Kinds.RK 4
+abbrev pub r : Kinds.RK 8
 r = Value.rVal record {
   ty = Declared.row Outcome.the-type;
   one = Path'.refl;

@@ -1,16 +1,17 @@
 -- Made by tools/lend.py of the twin of `store`: do not edit.
 use Rattle.row.proofs.Elem.InstanceRow as KInstanceRow
 use Rattle.row.proofs.Elem.RouteRow as KRouteRow
+use Rattle.decision.proofs.Elem.Decided as KDecided
+use Rattle.decision.proofs.Elem.Post as KPost
 use Rattle.place.proofs.Places
 use Rattle.place.proofs.Places.Laws
 use borrow.Fn.Kinds
-use borrow.Kind.Array
 use borrow.Kind.MutSlice
 use borrow.Kind.Value
 use borrow.Rule.Local
 use borrow.Table.Referent
 use borrow.Table.Rows
-use denote.Array as Array'
+use denote.Array
 use denote.Exit
 use denote.Struct.Declared
 use denote.Struct.Laws as Laws'
@@ -18,7 +19,7 @@ use mathlib.Core.List
 use mathlib.Core.Path as Path'
 use mir.Syntax
 
-abbrev pub ps : List.List (Kinds.PK 2)
+abbrev pub ps : List.List (Kinds.PK 3)
 ps =
     List._∷_
     (MutSlice.pMutS (KInstanceRow.R) 0 tt)
@@ -43,10 +44,8 @@ ps =
     (List._∷_
     (Kinds.pNum Syntax.w64)
     (List._∷_
-    (KInstanceRow.pk)
-    (List._∷_
-    (KInstanceRow.pk)
-    (List._∷_ (KRouteRow.pk) List.[]))))))
+    (Kinds.pShr (KDecided.R) 2 tt)
+    List.[]))))
 
-abbrev pub r : Kinds.RK 2
+abbrev pub r : Kinds.RK 3
 r = Kinds.rUnit

@@ -1,6 +1,8 @@
 -- Made by tools/lend.py of the twin of `store`: do not edit.
 use Rattle.row.proofs.Elem.InstanceRow as KInstanceRow
 use Rattle.row.proofs.Elem.RouteRow as KRouteRow
+use Rattle.decision.proofs.Elem.Decided as KDecided
+use Rattle.decision.proofs.Elem.Post as KPost
 use Prim.Native.Nat
 use Rattle.place.proofs.Places
 use Rattle.place.proofs.Places.Laws
@@ -15,17 +17,23 @@ use borrow.Fn.Plain
 use borrow.Kind.Array
 use borrow.Kind.MutSlice
 use borrow.Kind.Num
+use borrow.Kind.ShrRef
 use borrow.Kind.Unit as Unit'
 use borrow.Kind.Value
 use borrow.Rule.Array.Init
 use borrow.Rule.Array.Rows
+use borrow.Rule.Array.Whole
+use borrow.Rule.DerefMove
 use borrow.Rule.Lifetime
 use borrow.Rule.Local
 use borrow.Rule.Scalar
 use borrow.Rule.Slice.Mut
 use borrow.Rule.Slice.Relend
 use borrow.Rule.Slice.Shared
+use borrow.Rule.Yields
 use borrow.Struct.Reads
+use borrow.Table.Copies
+use borrow.Table.Own
 use borrow.Table.Reads as Reads'
 use borrow.Table.Referent
 use borrow.Table.Row
@@ -48,7 +56,7 @@ use mir.Val
 use prog.Wp
 use types.Kit
 
-abbrev pub ps : List.List (Kinds.PK 2)
+abbrev pub ps : List.List (Kinds.PK 3)
 ps =
     List._∷_
     (MutSlice.pMutS (KInstanceRow.R) 0 tt)
@@ -73,12 +81,10 @@ ps =
     (List._∷_
     (Num.pNum Syntax.w64)
     (List._∷_
-    (KInstanceRow.pk)
-    (List._∷_
-    (KInstanceRow.pk)
-    (List._∷_ (KRouteRow.pk) List.[]))))))
+    (ShrRef.pShr (KDecided.R) 2 tt)
+    List.[]))))
 
-abbrev pub r : Kinds.RK 2
+abbrev pub r : Kinds.RK 3
 r = Unit'.rUnit
 
 abbrev pub xs : List.List Syntax.Ty
@@ -94,6 +100,10 @@ xs =
     (Syntax.tyRef Syntax.erased Syntax.mut (KInstanceRow.named))
     (Syntax.tcons (Syntax.tyInt Syntax.w64) Syntax.tnil)))
     (List._∷_
+    (KInstanceRow.spelled)
+    (List._∷_
+    (KDecided.spelled)
+    (List._∷_
     (Syntax.tyRef Syntax.erased Syntax.mut (KInstanceRow.named))
     (List._∷_
     (Syntax.tyStruct
@@ -109,32 +119,50 @@ xs =
     (Syntax.tcons
     (Syntax.tyRef Syntax.erased Syntax.mut (KRouteRow.named))
     (Syntax.tcons (Syntax.tyInt Syntax.w64) Syntax.tnil)))
-    List.[]))))))
+    (List._∷_ (KRouteRow.spelled) List.[])))))))))
 
 abbrev pub m : Nat.ℕ
 m = 3
 
-abbrev pub ps·0 : List.List (Kinds.PK 1)
-ps·0 =
+abbrev pub ps·0 : List.List (Kinds.PK 0)
+ps·0 = List._∷_ (KDecided.pk) List.[]
+
+abbrev pub r·0 : Kinds.RK 0
+r·0 = KInstanceRow.rk
+
+abbrev pub ps·1 : List.List (Kinds.PK 1)
+ps·1 =
     List._∷_
     (MutSlice.pMutS (KInstanceRow.R) 0 tt)
     (List._∷_
     (Num.pNum Syntax.w64)
     (List._∷_ (KInstanceRow.pk) List.[]))
 
-abbrev pub r·0 : Kinds.RK 1
-r·0 = Unit'.rUnit
+abbrev pub r·1 : Kinds.RK 1
+r·1 = Unit'.rUnit
 
-abbrev pub ps·1 : List.List (Kinds.PK 1)
-ps·1 =
+abbrev pub ps·2 : List.List (Kinds.PK 0)
+ps·2 = List._∷_ (KDecided.pk) List.[]
+
+abbrev pub r·2 : Kinds.RK 0
+r·2 = KInstanceRow.rk
+
+abbrev pub ps·3 : List.List (Kinds.PK 0)
+ps·3 = List._∷_ (KDecided.pk) List.[]
+
+abbrev pub r·3 : Kinds.RK 0
+r·3 = KRouteRow.rk
+
+abbrev pub ps·4 : List.List (Kinds.PK 1)
+ps·4 =
     List._∷_
     (MutSlice.pMutS (KRouteRow.R) 0 tt)
     (List._∷_
     (Num.pNum Syntax.w64)
     (List._∷_ (KRouteRow.pk) List.[]))
 
-abbrev pub r·1 : Kinds.RK 1
-r·1 = Unit'.rUnit
+abbrev pub r·4 : Kinds.RK 1
+r·4 = Unit'.rUnit
 
 abbrev pub hs : List.List Syntax.Home
 hs =
@@ -164,12 +192,14 @@ hs =
     Syntax.valueLocal
     (List._∷_
     Syntax.valueLocal
-    (List._∷_ Syntax.valueLocal (List._∷_ Syntax.valueLocal List.[]))))))))))))))
+    (List._∷_
+    Syntax.valueLocal
+    (List._∷_ Syntax.valueLocal (List._∷_ Syntax.valueLocal List.[])))))))))))))))
 
 abbrev b0 : Syntax.Body
 b0 =
     Syntax.assign
-    (Syntax.place 9 List.[])
+    (Syntax.place 7 List.[])
     (Syntax.addrOf
     (Syntax.place
     1
@@ -180,25 +210,42 @@ b0 =
 abbrev b1 : Syntax.Body
 b1 =
     Syntax.assign
-    (Syntax.place 10 List.[])
+    (Syntax.place 8 List.[])
     (Syntax.aggregate
     (List._∷_
-    (Syntax.copy (Syntax.place 9 List.[]))
+    (Syntax.copy (Syntax.place 7 List.[]))
     (List._∷_ (Syntax.copy (Syntax.place 1 (List._∷_ (Syntax.field 1) List.[]))) List.[])))
 
 abbrev b2 : Syntax.Body
 b2 =
-    Syntax.call
-    "table::put_row"
-    (List._∷_
-    (Syntax.copy (Syntax.place 10 List.[]))
-    (List._∷_
-    (Syntax.copy (Syntax.place 3 (List._∷_ (Syntax.field 1) List.[])))
-    (List._∷_ (Syntax.copy (Syntax.place 5 List.[])) List.[])))
-    (Syntax.place 8 List.[])
+    Syntax.assign
+    (Syntax.place 10 List.[])
+    (Syntax.rvOpd
+    (Syntax.copy
+    (Syntax.place
+    5
+    (List._∷_ (Syntax.deref (KDecided.spelled)) List.[]))))
 
 abbrev b3 : Syntax.Body
 b3 =
+    Syntax.call
+    "finish::row_of"
+    (List._∷_ (Syntax.copy (Syntax.place 10 List.[])) List.[])
+    (Syntax.place 9 List.[])
+
+abbrev b4 : Syntax.Body
+b4 =
+    Syntax.call
+    "table::put_row"
+    (List._∷_
+    (Syntax.copy (Syntax.place 8 List.[]))
+    (List._∷_
+    (Syntax.copy (Syntax.place 3 (List._∷_ (Syntax.field 1) List.[])))
+    (List._∷_ (Syntax.copy (Syntax.place 9 List.[])) List.[])))
+    (Syntax.place 6 List.[])
+
+abbrev b5 : Syntax.Body
+b5 =
     Syntax.assign
     (Syntax.place 11 List.[])
     (Syntax.addrOf
@@ -208,8 +255,8 @@ b3 =
     (Syntax.field 0)
     (List._∷_ (Syntax.deref (KInstanceRow.spelled)) List.[]))))
 
-abbrev b4 : Syntax.Body
-b4 =
+abbrev b6 : Syntax.Body
+b6 =
     Syntax.assign
     (Syntax.place 12 List.[])
     (Syntax.aggregate
@@ -217,19 +264,36 @@ b4 =
     (Syntax.copy (Syntax.place 11 List.[]))
     (List._∷_ (Syntax.copy (Syntax.place 1 (List._∷_ (Syntax.field 1) List.[]))) List.[])))
 
-abbrev b5 : Syntax.Body
-b5 =
+abbrev b7 : Syntax.Body
+b7 =
+    Syntax.assign
+    (Syntax.place 10 List.[])
+    (Syntax.rvOpd
+    (Syntax.copy
+    (Syntax.place
+    5
+    (List._∷_ (Syntax.deref (KDecided.spelled)) List.[]))))
+
+abbrev b8 : Syntax.Body
+b8 =
+    Syntax.call
+    "finish::second_of"
+    (List._∷_ (Syntax.copy (Syntax.place 10 List.[])) List.[])
+    (Syntax.place 9 List.[])
+
+abbrev b9 : Syntax.Body
+b9 =
     Syntax.call
     "table::put_row"
     (List._∷_
     (Syntax.copy (Syntax.place 12 List.[]))
     (List._∷_
     (Syntax.copy (Syntax.place 3 (List._∷_ (Syntax.field 2) List.[])))
-    (List._∷_ (Syntax.copy (Syntax.place 6 List.[])) List.[])))
-    (Syntax.place 8 List.[])
+    (List._∷_ (Syntax.copy (Syntax.place 9 List.[])) List.[])))
+    (Syntax.place 6 List.[])
 
-abbrev b6 : Syntax.Body
-b6 =
+abbrev b10 : Syntax.Body
+b10 =
     Syntax.assign
     (Syntax.place 13 List.[])
     (Syntax.addrOf
@@ -239,8 +303,8 @@ b6 =
     (Syntax.field 0)
     (List._∷_ (Syntax.deref (KRouteRow.spelled)) List.[]))))
 
-abbrev b7 : Syntax.Body
-b7 =
+abbrev b11 : Syntax.Body
+b11 =
     Syntax.assign
     (Syntax.place 14 List.[])
     (Syntax.aggregate
@@ -248,58 +312,103 @@ b7 =
     (Syntax.copy (Syntax.place 13 List.[]))
     (List._∷_ (Syntax.copy (Syntax.place 2 (List._∷_ (Syntax.field 1) List.[]))) List.[])))
 
-abbrev b8 : Syntax.Body
-b8 =
+abbrev b12 : Syntax.Body
+b12 =
+    Syntax.assign
+    (Syntax.place 10 List.[])
+    (Syntax.rvOpd
+    (Syntax.copy
+    (Syntax.place
+    5
+    (List._∷_ (Syntax.deref (KDecided.spelled)) List.[]))))
+
+abbrev b13 : Syntax.Body
+b13 =
+    Syntax.call
+    "finish::route_of"
+    (List._∷_ (Syntax.copy (Syntax.place 10 List.[])) List.[])
+    (Syntax.place 15 List.[])
+
+abbrev b14 : Syntax.Body
+b14 =
     Syntax.call
     "table::put_route"
     (List._∷_
     (Syntax.copy (Syntax.place 14 List.[]))
     (List._∷_
     (Syntax.copy (Syntax.place 4 List.[]))
-    (List._∷_ (Syntax.copy (Syntax.place 7 List.[])) List.[])))
-    (Syntax.place 8 List.[])
-
-abbrev b9 : Syntax.Body
-b9 = Syntax.assign (Syntax.place 0 List.[]) (Syntax.rvOpd Syntax.opdUnit)
-
-abbrev b10 : Syntax.Body
-b10 = Syntax.return
-
-abbrev b11 : Syntax.Body
-b11 = Syntax.seq b9 b10
-
-abbrev b12 : Syntax.Body
-b12 = Syntax.seq b8 b11
-
-abbrev b13 : Syntax.Body
-b13 = Syntax.seq b7 b12
-
-abbrev b14 : Syntax.Body
-b14 = Syntax.seq b6 b13
+    (List._∷_ (Syntax.copy (Syntax.place 15 List.[])) List.[])))
+    (Syntax.place 6 List.[])
 
 abbrev b15 : Syntax.Body
-b15 = Syntax.seq b5 b14
+b15 = Syntax.assign (Syntax.place 0 List.[]) (Syntax.rvOpd Syntax.opdUnit)
 
 abbrev b16 : Syntax.Body
-b16 = Syntax.seq b4 b15
+b16 = Syntax.return
 
 abbrev b17 : Syntax.Body
-b17 = Syntax.seq b3 b16
+b17 = Syntax.seq b15 b16
 
 abbrev b18 : Syntax.Body
-b18 = Syntax.seq b2 b17
+b18 = Syntax.seq b14 b17
 
 abbrev b19 : Syntax.Body
-b19 = Syntax.seq b1 b18
+b19 = Syntax.seq b13 b18
 
 abbrev b20 : Syntax.Body
-b20 = Syntax.seq b0 b19
+b20 = Syntax.seq b12 b19
+
+abbrev b21 : Syntax.Body
+b21 = Syntax.seq b11 b20
+
+abbrev b22 : Syntax.Body
+b22 = Syntax.seq b10 b21
+
+abbrev b23 : Syntax.Body
+b23 = Syntax.seq b9 b22
+
+abbrev b24 : Syntax.Body
+b24 = Syntax.seq b8 b23
+
+abbrev b25 : Syntax.Body
+b25 = Syntax.seq b7 b24
+
+abbrev b26 : Syntax.Body
+b26 = Syntax.seq b6 b25
+
+abbrev b27 : Syntax.Body
+b27 = Syntax.seq b5 b26
+
+abbrev b28 : Syntax.Body
+b28 = Syntax.seq b4 b27
+
+abbrev b29 : Syntax.Body
+b29 = Syntax.seq b3 b28
+
+abbrev b30 : Syntax.Body
+b30 = Syntax.seq b2 b29
+
+abbrev b31 : Syntax.Body
+b31 = Syntax.seq b1 b30
+
+abbrev b32 : Syntax.Body
+b32 = Syntax.seq b0 b31
 
 abbrev pub body : Syntax.Body
-body = b20
+body = b32
 
 abbrev pub Claims : Type 1
-Claims = Kinds.In 1 ps·0 × Kinds.Out 1 ps·0 r·0 × Kinds.In 1 ps·1 × Kinds.Out 1 ps·1 r·1
+Claims =
+    Kinds.In 0 ps·0 ×
+    Kinds.Out 0 ps·0 r·0 ×
+    Kinds.In 1 ps·1 ×
+    Kinds.Out 1 ps·1 r·1 ×
+    Kinds.In 0 ps·2 ×
+    Kinds.Out 0 ps·2 r·2 ×
+    Kinds.In 0 ps·3 ×
+    Kinds.Out 0 ps·3 r·3 ×
+    Kinds.In 1 ps·4 ×
+    Kinds.Out 1 ps·4 r·4
 
 abbrev pub t0 : List.List Row.Entry
 t0 = List._∷_ (0, Rows'.any-gone Syntax.tyUnit) (List._∷_ (
@@ -317,24 +426,27 @@ t0 = List._∷_ (0, Rows'.any-gone Syntax.tyUnit) (List._∷_ (
 ) (List._∷_ (3, Rows'.whole (Declared.row Places.the-type)) (List._∷_ (
   4,
   Rows'.sc-here (Row.sInt Syntax.w64),
-) (List._∷_ (5, KInstanceRow.row) (List._∷_ (
-  6,
-  KInstanceRow.row,
-) (List._∷_ (7, KRouteRow.row) (List._∷_ (
-  8,
-  Rows'.any-gone Syntax.tyUnit,
 ) (List._∷_ (
-  9,
+  5,
+  Rows'.sref
+      (KDecided.R)
+      (Syntax.tyRef (Syntax.named 2) Syntax.imm (KDecided.named))
+      2,
+) (List._∷_ (6, Rows'.any-gone Syntax.tyUnit) (List._∷_ (
+  7,
   Rows'.any-gone
       (Syntax.tyRef Syntax.erased Syntax.mut (KInstanceRow.named)),
 ) (List._∷_ (
-  10,
+  8,
   Rows'.any-gone
       (Syntax.tyStruct
       (List._∷_ 38 (List._∷_ 91 (List._∷_ 93 List.[])))
       (Syntax.tcons
       (Syntax.tyRef Syntax.erased Syntax.mut (KInstanceRow.named))
       (Syntax.tcons (Syntax.tyInt Syntax.w64) Syntax.tnil))),
+) (List._∷_ (9, Rows'.any-gone (KInstanceRow.spelled)) (List._∷_ (
+  10,
+  Rows'.any-gone (KDecided.spelled),
 ) (List._∷_ (
   11,
   Rows'.any-gone
@@ -359,7 +471,10 @@ t0 = List._∷_ (0, Rows'.any-gone Syntax.tyUnit) (List._∷_ (
       (Syntax.tcons
       (Syntax.tyRef Syntax.erased Syntax.mut (KRouteRow.named))
       (Syntax.tcons (Syntax.tyInt Syntax.w64) Syntax.tnil))),
-) List.[]))))))))))))))
+)
+    (List._∷_
+    (15, Rows'.any-gone (KRouteRow.spelled))
+    List.[])))))))))))))))
 
 abbrev pub t1 : List.List Row.Entry
 t1 = List._∷_ (0, Rows'.sc-here Row.sUnit) (List._∷_ (
@@ -402,22 +517,25 @@ t1 = List._∷_ (0, Rows'.sc-here Row.sUnit) (List._∷_ (
       (Syntax.tcons (Syntax.tyInt Syntax.w64) Syntax.tnil)))),
 ) (List._∷_ (4, Rows'.any-gone (Syntax.tyInt Syntax.w64)) (List._∷_ (
   5,
-  Rows'.any-gone (KInstanceRow.spelled),
-) (List._∷_ (6, Rows'.any-gone (KInstanceRow.spelled)) (List._∷_ (
+  Rows'.sref
+      (KDecided.R)
+      (Syntax.tyRef (Syntax.named 2) Syntax.imm (KDecided.named))
+      2,
+) (List._∷_ (6, Rows'.any-gone Syntax.tyUnit) (List._∷_ (
   7,
-  Rows'.any-gone (KRouteRow.spelled),
-) (List._∷_ (8, Rows'.any-gone Syntax.tyUnit) (List._∷_ (
-  9,
   Rows'.any-gone
       (Syntax.tyRef Syntax.erased Syntax.mut (KInstanceRow.named)),
 ) (List._∷_ (
-  10,
+  8,
   Rows'.any-gone
       (Syntax.tyStruct
       (List._∷_ 38 (List._∷_ 91 (List._∷_ 93 List.[])))
       (Syntax.tcons
       (Syntax.tyRef Syntax.erased Syntax.mut (KInstanceRow.named))
       (Syntax.tcons (Syntax.tyInt Syntax.w64) Syntax.tnil))),
+) (List._∷_ (9, Rows'.any-gone (KInstanceRow.spelled)) (List._∷_ (
+  10,
+  Rows'.any-gone (KDecided.spelled),
 ) (List._∷_ (
   11,
   Rows'.any-gone
@@ -442,7 +560,10 @@ t1 = List._∷_ (0, Rows'.sc-here Row.sUnit) (List._∷_ (
       (Syntax.tcons
       (Syntax.tyRef Syntax.erased Syntax.mut (KRouteRow.named))
       (Syntax.tcons (Syntax.tyInt Syntax.w64) Syntax.tnil))),
-) List.[]))))))))))))))
+)
+    (List._∷_
+    (15, Rows'.any-gone (KRouteRow.spelled))
+    List.[])))))))))))))))
 
 abbrev pub t2 : List.List Row.Entry
 t2 = List._∷_ (0, Rows'.any-gone Syntax.tyUnit) (List._∷_ (
@@ -451,7 +572,7 @@ t2 = List._∷_ (0, Rows'.any-gone Syntax.tyUnit) (List._∷_ (
       (KInstanceRow.R)
       (Syntax.tyRef (Syntax.named 0) Syntax.mut (KInstanceRow.named))
       0
-      2
+      3
       Row.off,
 ) (List._∷_ (
   2,
@@ -462,26 +583,29 @@ t2 = List._∷_ (0, Rows'.any-gone Syntax.tyUnit) (List._∷_ (
 ) (List._∷_ (3, Rows'.whole (Declared.row Places.the-type)) (List._∷_ (
   4,
   Rows'.sc-here (Row.sInt Syntax.w64),
-) (List._∷_ (5, KInstanceRow.row) (List._∷_ (
-  6,
-  KInstanceRow.row,
-) (List._∷_ (7, KRouteRow.row) (List._∷_ (
-  8,
-  Rows'.any-gone Syntax.tyUnit,
 ) (List._∷_ (
-  9,
+  5,
+  Rows'.sref
+      (KDecided.R)
+      (Syntax.tyRef (Syntax.named 2) Syntax.imm (KDecided.named))
+      2,
+) (List._∷_ (6, Rows'.any-gone Syntax.tyUnit) (List._∷_ (
+  7,
   Relend.msptr
       (KInstanceRow.R)
       (Syntax.tyRef Syntax.erased Syntax.mut (KInstanceRow.named))
-      2,
+      3,
 ) (List._∷_ (
-  10,
+  8,
   Rows'.any-gone
       (Syntax.tyStruct
       (List._∷_ 38 (List._∷_ 91 (List._∷_ 93 List.[])))
       (Syntax.tcons
       (Syntax.tyRef Syntax.erased Syntax.mut (KInstanceRow.named))
       (Syntax.tcons (Syntax.tyInt Syntax.w64) Syntax.tnil))),
+) (List._∷_ (9, Rows'.any-gone (KInstanceRow.spelled)) (List._∷_ (
+  10,
+  Rows'.any-gone (KDecided.spelled),
 ) (List._∷_ (
   11,
   Rows'.any-gone
@@ -506,7 +630,10 @@ t2 = List._∷_ (0, Rows'.any-gone Syntax.tyUnit) (List._∷_ (
       (Syntax.tcons
       (Syntax.tyRef Syntax.erased Syntax.mut (KRouteRow.named))
       (Syntax.tcons (Syntax.tyInt Syntax.w64) Syntax.tnil))),
-) List.[]))))))))))))))
+)
+    (List._∷_
+    (15, Rows'.any-gone (KRouteRow.spelled))
+    List.[])))))))))))))))
 
 abbrev pub t3 : List.List Row.Entry
 t3 = List._∷_ (0, Rows'.any-gone Syntax.tyUnit) (List._∷_ (
@@ -515,7 +642,7 @@ t3 = List._∷_ (0, Rows'.any-gone Syntax.tyUnit) (List._∷_ (
       (KInstanceRow.R)
       (Syntax.tyRef (Syntax.named 0) Syntax.mut (KInstanceRow.named))
       0
-      2
+      3
       Row.off,
 ) (List._∷_ (
   2,
@@ -526,22 +653,25 @@ t3 = List._∷_ (0, Rows'.any-gone Syntax.tyUnit) (List._∷_ (
 ) (List._∷_ (3, Rows'.whole (Declared.row Places.the-type)) (List._∷_ (
   4,
   Rows'.sc-here (Row.sInt Syntax.w64),
-) (List._∷_ (5, KInstanceRow.row) (List._∷_ (
-  6,
-  KInstanceRow.row,
-) (List._∷_ (7, KRouteRow.row) (List._∷_ (
-  8,
-  Rows'.any-gone Syntax.tyUnit,
 ) (List._∷_ (
-  9,
+  5,
+  Rows'.sref
+      (KDecided.R)
+      (Syntax.tyRef (Syntax.named 2) Syntax.imm (KDecided.named))
+      2,
+) (List._∷_ (6, Rows'.any-gone Syntax.tyUnit) (List._∷_ (
+  7,
   Rows'.any-gone
       (Syntax.tyRef Syntax.erased Syntax.mut (KInstanceRow.named)),
 ) (List._∷_ (
-  10,
+  8,
   Mut.mslice
       (KInstanceRow.R)
       (Syntax.tyRef Syntax.erased Syntax.mut (KInstanceRow.named))
-      2,
+      3,
+) (List._∷_ (9, Rows'.any-gone (KInstanceRow.spelled)) (List._∷_ (
+  10,
+  Rows'.any-gone (KDecided.spelled),
 ) (List._∷_ (
   11,
   Rows'.any-gone
@@ -566,7 +696,10 @@ t3 = List._∷_ (0, Rows'.any-gone Syntax.tyUnit) (List._∷_ (
       (Syntax.tcons
       (Syntax.tyRef Syntax.erased Syntax.mut (KRouteRow.named))
       (Syntax.tcons (Syntax.tyInt Syntax.w64) Syntax.tnil))),
-) List.[]))))))))))))))
+)
+    (List._∷_
+    (15, Rows'.any-gone (KRouteRow.spelled))
+    List.[])))))))))))))))
 
 abbrev pub t4 : List.List Row.Entry
 t4 = List._∷_ (0, Rows'.any-gone Syntax.tyUnit) (List._∷_ (
@@ -575,7 +708,7 @@ t4 = List._∷_ (0, Rows'.any-gone Syntax.tyUnit) (List._∷_ (
       (KInstanceRow.R)
       (Syntax.tyRef (Syntax.named 0) Syntax.mut (KInstanceRow.named))
       0
-      2
+      3
       Row.off,
 ) (List._∷_ (
   2,
@@ -586,21 +719,25 @@ t4 = List._∷_ (0, Rows'.any-gone Syntax.tyUnit) (List._∷_ (
 ) (List._∷_ (3, Rows'.whole (Declared.row Places.the-type)) (List._∷_ (
   4,
   Rows'.sc-here (Row.sInt Syntax.w64),
-) (List._∷_ (5, KInstanceRow.row) (List._∷_ (
-  6,
-  KInstanceRow.row,
-) (List._∷_ (7, KRouteRow.row) (List._∷_ (
-  8,
-  Rows'.sc-here Row.sUnit,
 ) (List._∷_ (
-  9,
+  5,
+  Rows'.sref
+      (KDecided.R)
+      (Syntax.tyRef (Syntax.named 2) Syntax.imm (KDecided.named))
+      2,
+) (List._∷_ (6, Rows'.any-gone Syntax.tyUnit) (List._∷_ (
+  7,
   Rows'.any-gone
       (Syntax.tyRef Syntax.erased Syntax.mut (KInstanceRow.named)),
 ) (List._∷_ (
-  10,
-  Mut.msleft
+  8,
+  Mut.mslice
       (KInstanceRow.R)
-      (Syntax.tyRef Syntax.erased Syntax.mut (KInstanceRow.named)),
+      (Syntax.tyRef Syntax.erased Syntax.mut (KInstanceRow.named))
+      3,
+) (List._∷_ (9, Rows'.any-gone (KInstanceRow.spelled)) (List._∷_ (
+  10,
+  KDecided.row,
 ) (List._∷_ (
   11,
   Rows'.any-gone
@@ -625,7 +762,10 @@ t4 = List._∷_ (0, Rows'.any-gone Syntax.tyUnit) (List._∷_ (
       (Syntax.tcons
       (Syntax.tyRef Syntax.erased Syntax.mut (KRouteRow.named))
       (Syntax.tcons (Syntax.tyInt Syntax.w64) Syntax.tnil))),
-) List.[]))))))))))))))
+)
+    (List._∷_
+    (15, Rows'.any-gone (KRouteRow.spelled))
+    List.[])))))))))))))))
 
 abbrev pub t5 : List.List Row.Entry
 t5 = List._∷_ (0, Rows'.any-gone Syntax.tyUnit) (List._∷_ (
@@ -634,7 +774,7 @@ t5 = List._∷_ (0, Rows'.any-gone Syntax.tyUnit) (List._∷_ (
       (KInstanceRow.R)
       (Syntax.tyRef (Syntax.named 0) Syntax.mut (KInstanceRow.named))
       0
-      2
+      3
       Row.off,
 ) (List._∷_ (
   2,
@@ -645,21 +785,25 @@ t5 = List._∷_ (0, Rows'.any-gone Syntax.tyUnit) (List._∷_ (
 ) (List._∷_ (3, Rows'.whole (Declared.row Places.the-type)) (List._∷_ (
   4,
   Rows'.sc-here (Row.sInt Syntax.w64),
-) (List._∷_ (5, Rows'.any-gone (KInstanceRow.spelled)) (List._∷_ (
-  6,
-  KInstanceRow.row,
-) (List._∷_ (7, KRouteRow.row) (List._∷_ (
-  8,
-  Rows'.sc-here Row.sUnit,
 ) (List._∷_ (
-  9,
+  5,
+  Rows'.sref
+      (KDecided.R)
+      (Syntax.tyRef (Syntax.named 2) Syntax.imm (KDecided.named))
+      2,
+) (List._∷_ (6, Rows'.any-gone Syntax.tyUnit) (List._∷_ (
+  7,
   Rows'.any-gone
       (Syntax.tyRef Syntax.erased Syntax.mut (KInstanceRow.named)),
 ) (List._∷_ (
-  10,
-  Mut.msleft
+  8,
+  Mut.mslice
       (KInstanceRow.R)
-      (Syntax.tyRef Syntax.erased Syntax.mut (KInstanceRow.named)),
+      (Syntax.tyRef Syntax.erased Syntax.mut (KInstanceRow.named))
+      3,
+) (List._∷_ (9, KInstanceRow.row) (List._∷_ (
+  10,
+  KDecided.row,
 ) (List._∷_ (
   11,
   Rows'.any-gone
@@ -684,7 +828,10 @@ t5 = List._∷_ (0, Rows'.any-gone Syntax.tyUnit) (List._∷_ (
       (Syntax.tcons
       (Syntax.tyRef Syntax.erased Syntax.mut (KRouteRow.named))
       (Syntax.tcons (Syntax.tyInt Syntax.w64) Syntax.tnil))),
-) List.[]))))))))))))))
+)
+    (List._∷_
+    (15, Rows'.any-gone (KRouteRow.spelled))
+    List.[])))))))))))))))
 
 abbrev pub t6 : List.List Row.Entry
 t6 = List._∷_ (0, Rows'.any-gone Syntax.tyUnit) (List._∷_ (
@@ -693,7 +840,7 @@ t6 = List._∷_ (0, Rows'.any-gone Syntax.tyUnit) (List._∷_ (
       (KInstanceRow.R)
       (Syntax.tyRef (Syntax.named 0) Syntax.mut (KInstanceRow.named))
       0
-      2
+      3
       Row.off,
 ) (List._∷_ (
   2,
@@ -704,21 +851,25 @@ t6 = List._∷_ (0, Rows'.any-gone Syntax.tyUnit) (List._∷_ (
 ) (List._∷_ (3, Rows'.whole (Declared.row Places.the-type)) (List._∷_ (
   4,
   Rows'.sc-here (Row.sInt Syntax.w64),
-) (List._∷_ (5, Rows'.any-gone (KInstanceRow.spelled)) (List._∷_ (
-  6,
-  KInstanceRow.row,
-) (List._∷_ (7, KRouteRow.row) (List._∷_ (
-  8,
-  Rows'.any-gone Syntax.tyUnit,
 ) (List._∷_ (
-  9,
+  5,
+  Rows'.sref
+      (KDecided.R)
+      (Syntax.tyRef (Syntax.named 2) Syntax.imm (KDecided.named))
+      2,
+) (List._∷_ (6, Rows'.any-gone Syntax.tyUnit) (List._∷_ (
+  7,
   Rows'.any-gone
       (Syntax.tyRef Syntax.erased Syntax.mut (KInstanceRow.named)),
 ) (List._∷_ (
-  10,
-  Mut.msleft
+  8,
+  Mut.mslice
       (KInstanceRow.R)
-      (Syntax.tyRef Syntax.erased Syntax.mut (KInstanceRow.named)),
+      (Syntax.tyRef Syntax.erased Syntax.mut (KInstanceRow.named))
+      3,
+) (List._∷_ (9, KInstanceRow.row) (List._∷_ (
+  10,
+  Rows'.any-gone (KDecided.spelled),
 ) (List._∷_ (
   11,
   Rows'.any-gone
@@ -743,15 +894,20 @@ t6 = List._∷_ (0, Rows'.any-gone Syntax.tyUnit) (List._∷_ (
       (Syntax.tcons
       (Syntax.tyRef Syntax.erased Syntax.mut (KRouteRow.named))
       (Syntax.tcons (Syntax.tyInt Syntax.w64) Syntax.tnil))),
-) List.[]))))))))))))))
+)
+    (List._∷_
+    (15, Rows'.any-gone (KRouteRow.spelled))
+    List.[])))))))))))))))
 
 abbrev pub t7 : List.List Row.Entry
 t7 = List._∷_ (0, Rows'.any-gone Syntax.tyUnit) (List._∷_ (
   1,
-  Mut.mslice
+  Relend.mslice-owed
       (KInstanceRow.R)
       (Syntax.tyRef (Syntax.named 0) Syntax.mut (KInstanceRow.named))
-      0,
+      0
+      3
+      Row.off,
 ) (List._∷_ (
   2,
   Mut.mslice
@@ -761,24 +917,24 @@ t7 = List._∷_ (0, Rows'.any-gone Syntax.tyUnit) (List._∷_ (
 ) (List._∷_ (3, Rows'.whole (Declared.row Places.the-type)) (List._∷_ (
   4,
   Rows'.sc-here (Row.sInt Syntax.w64),
-) (List._∷_ (5, Rows'.any-gone (KInstanceRow.spelled)) (List._∷_ (
-  6,
-  KInstanceRow.row,
-) (List._∷_ (7, KRouteRow.row) (List._∷_ (
-  8,
-  Rows'.any-gone Syntax.tyUnit,
 ) (List._∷_ (
-  9,
+  5,
+  Rows'.sref
+      (KDecided.R)
+      (Syntax.tyRef (Syntax.named 2) Syntax.imm (KDecided.named))
+      2,
+) (List._∷_ (6, Rows'.sc-here Row.sUnit) (List._∷_ (
+  7,
   Rows'.any-gone
       (Syntax.tyRef Syntax.erased Syntax.mut (KInstanceRow.named)),
 ) (List._∷_ (
+  8,
+  Mut.msleft
+      (KInstanceRow.R)
+      (Syntax.tyRef Syntax.erased Syntax.mut (KInstanceRow.named)),
+) (List._∷_ (9, KInstanceRow.row) (List._∷_ (
   10,
-  Rows'.any-gone
-      (Syntax.tyStruct
-      (List._∷_ 38 (List._∷_ 91 (List._∷_ 93 List.[])))
-      (Syntax.tcons
-      (Syntax.tyRef Syntax.erased Syntax.mut (KInstanceRow.named))
-      (Syntax.tcons (Syntax.tyInt Syntax.w64) Syntax.tnil))),
+  Rows'.any-gone (KDecided.spelled),
 ) (List._∷_ (
   11,
   Rows'.any-gone
@@ -803,7 +959,10 @@ t7 = List._∷_ (0, Rows'.any-gone Syntax.tyUnit) (List._∷_ (
       (Syntax.tcons
       (Syntax.tyRef Syntax.erased Syntax.mut (KRouteRow.named))
       (Syntax.tcons (Syntax.tyInt Syntax.w64) Syntax.tnil))),
-) List.[]))))))))))))))
+)
+    (List._∷_
+    (15, Rows'.any-gone (KRouteRow.spelled))
+    List.[])))))))))))))))
 
 abbrev pub t8 : List.List Row.Entry
 t8 = List._∷_ (0, Rows'.any-gone Syntax.tyUnit) (List._∷_ (
@@ -823,30 +982,28 @@ t8 = List._∷_ (0, Rows'.any-gone Syntax.tyUnit) (List._∷_ (
 ) (List._∷_ (3, Rows'.whole (Declared.row Places.the-type)) (List._∷_ (
   4,
   Rows'.sc-here (Row.sInt Syntax.w64),
-) (List._∷_ (5, Rows'.any-gone (KInstanceRow.spelled)) (List._∷_ (
-  6,
-  KInstanceRow.row,
-) (List._∷_ (7, KRouteRow.row) (List._∷_ (
-  8,
-  Rows'.any-gone Syntax.tyUnit,
 ) (List._∷_ (
-  9,
+  5,
+  Rows'.sref
+      (KDecided.R)
+      (Syntax.tyRef (Syntax.named 2) Syntax.imm (KDecided.named))
+      2,
+) (List._∷_ (6, Rows'.any-gone Syntax.tyUnit) (List._∷_ (
+  7,
   Rows'.any-gone
       (Syntax.tyRef Syntax.erased Syntax.mut (KInstanceRow.named)),
 ) (List._∷_ (
+  8,
+  Mut.msleft
+      (KInstanceRow.R)
+      (Syntax.tyRef Syntax.erased Syntax.mut (KInstanceRow.named)),
+) (List._∷_ (9, KInstanceRow.row) (List._∷_ (
   10,
-  Rows'.any-gone
-      (Syntax.tyStruct
-      (List._∷_ 38 (List._∷_ 91 (List._∷_ 93 List.[])))
-      (Syntax.tcons
-      (Syntax.tyRef Syntax.erased Syntax.mut (KInstanceRow.named))
-      (Syntax.tcons (Syntax.tyInt Syntax.w64) Syntax.tnil))),
+  Rows'.any-gone (KDecided.spelled),
 ) (List._∷_ (
   11,
-  Relend.msptr
-      (KInstanceRow.R)
-      (Syntax.tyRef Syntax.erased Syntax.mut (KInstanceRow.named))
-      3,
+  Rows'.any-gone
+      (Syntax.tyRef Syntax.erased Syntax.mut (KInstanceRow.named)),
 ) (List._∷_ (
   12,
   Rows'.any-gone
@@ -867,7 +1024,10 @@ t8 = List._∷_ (0, Rows'.any-gone Syntax.tyUnit) (List._∷_ (
       (Syntax.tcons
       (Syntax.tyRef Syntax.erased Syntax.mut (KRouteRow.named))
       (Syntax.tcons (Syntax.tyInt Syntax.w64) Syntax.tnil))),
-) List.[]))))))))))))))
+)
+    (List._∷_
+    (15, Rows'.any-gone (KRouteRow.spelled))
+    List.[])))))))))))))))
 
 abbrev pub t9 : List.List Row.Entry
 t9 = List._∷_ (0, Rows'.any-gone Syntax.tyUnit) (List._∷_ (
@@ -887,34 +1047,36 @@ t9 = List._∷_ (0, Rows'.any-gone Syntax.tyUnit) (List._∷_ (
 ) (List._∷_ (3, Rows'.whole (Declared.row Places.the-type)) (List._∷_ (
   4,
   Rows'.sc-here (Row.sInt Syntax.w64),
-) (List._∷_ (5, Rows'.any-gone (KInstanceRow.spelled)) (List._∷_ (
-  6,
-  KInstanceRow.row,
-) (List._∷_ (7, KRouteRow.row) (List._∷_ (
-  8,
-  Rows'.any-gone Syntax.tyUnit,
 ) (List._∷_ (
-  9,
+  5,
+  Rows'.sref
+      (KDecided.R)
+      (Syntax.tyRef (Syntax.named 2) Syntax.imm (KDecided.named))
+      2,
+) (List._∷_ (6, Rows'.any-gone Syntax.tyUnit) (List._∷_ (
+  7,
   Rows'.any-gone
       (Syntax.tyRef Syntax.erased Syntax.mut (KInstanceRow.named)),
 ) (List._∷_ (
+  8,
+  Mut.msleft
+      (KInstanceRow.R)
+      (Syntax.tyRef Syntax.erased Syntax.mut (KInstanceRow.named)),
+) (List._∷_ (9, Rows'.any-gone (KInstanceRow.spelled)) (List._∷_ (
   10,
-  Rows'.any-gone
-      (Syntax.tyStruct
-      (List._∷_ 38 (List._∷_ 91 (List._∷_ 93 List.[])))
-      (Syntax.tcons
-      (Syntax.tyRef Syntax.erased Syntax.mut (KInstanceRow.named))
-      (Syntax.tcons (Syntax.tyInt Syntax.w64) Syntax.tnil))),
+  Rows'.any-gone (KDecided.spelled),
 ) (List._∷_ (
   11,
   Rows'.any-gone
       (Syntax.tyRef Syntax.erased Syntax.mut (KInstanceRow.named)),
 ) (List._∷_ (
   12,
-  Mut.mslice
-      (KInstanceRow.R)
+  Rows'.any-gone
+      (Syntax.tyStruct
+      (List._∷_ 38 (List._∷_ 91 (List._∷_ 93 List.[])))
+      (Syntax.tcons
       (Syntax.tyRef Syntax.erased Syntax.mut (KInstanceRow.named))
-      3,
+      (Syntax.tcons (Syntax.tyInt Syntax.w64) Syntax.tnil))),
 ) (List._∷_ (
   13,
   Rows'.any-gone
@@ -927,7 +1089,10 @@ t9 = List._∷_ (0, Rows'.any-gone Syntax.tyUnit) (List._∷_ (
       (Syntax.tcons
       (Syntax.tyRef Syntax.erased Syntax.mut (KRouteRow.named))
       (Syntax.tcons (Syntax.tyInt Syntax.w64) Syntax.tnil))),
-) List.[]))))))))))))))
+)
+    (List._∷_
+    (15, Rows'.any-gone (KRouteRow.spelled))
+    List.[])))))))))))))))
 
 abbrev pub t10 : List.List Row.Entry
 t10 = List._∷_ (0, Rows'.any-gone Syntax.tyUnit) (List._∷_ (
@@ -936,7 +1101,7 @@ t10 = List._∷_ (0, Rows'.any-gone Syntax.tyUnit) (List._∷_ (
       (KInstanceRow.R)
       (Syntax.tyRef (Syntax.named 0) Syntax.mut (KInstanceRow.named))
       0
-      3
+      4
       Row.off,
 ) (List._∷_ (
   2,
@@ -947,33 +1112,41 @@ t10 = List._∷_ (0, Rows'.any-gone Syntax.tyUnit) (List._∷_ (
 ) (List._∷_ (3, Rows'.whole (Declared.row Places.the-type)) (List._∷_ (
   4,
   Rows'.sc-here (Row.sInt Syntax.w64),
-) (List._∷_ (5, Rows'.any-gone (KInstanceRow.spelled)) (List._∷_ (
-  6,
-  KInstanceRow.row,
-) (List._∷_ (7, KRouteRow.row) (List._∷_ (
-  8,
-  Rows'.sc-here Row.sUnit,
 ) (List._∷_ (
-  9,
+  5,
+  Rows'.sref
+      (KDecided.R)
+      (Syntax.tyRef (Syntax.named 2) Syntax.imm (KDecided.named))
+      2,
+) (List._∷_ (6, Rows'.any-gone Syntax.tyUnit) (List._∷_ (
+  7,
   Rows'.any-gone
       (Syntax.tyRef Syntax.erased Syntax.mut (KInstanceRow.named)),
 ) (List._∷_ (
-  10,
+  8,
   Rows'.any-gone
       (Syntax.tyStruct
       (List._∷_ 38 (List._∷_ 91 (List._∷_ 93 List.[])))
       (Syntax.tcons
       (Syntax.tyRef Syntax.erased Syntax.mut (KInstanceRow.named))
       (Syntax.tcons (Syntax.tyInt Syntax.w64) Syntax.tnil))),
+) (List._∷_ (9, Rows'.any-gone (KInstanceRow.spelled)) (List._∷_ (
+  10,
+  Rows'.any-gone (KDecided.spelled),
 ) (List._∷_ (
   11,
-  Rows'.any-gone
-      (Syntax.tyRef Syntax.erased Syntax.mut (KInstanceRow.named)),
+  Relend.msptr
+      (KInstanceRow.R)
+      (Syntax.tyRef Syntax.erased Syntax.mut (KInstanceRow.named))
+      4,
 ) (List._∷_ (
   12,
-  Mut.msleft
-      (KInstanceRow.R)
-      (Syntax.tyRef Syntax.erased Syntax.mut (KInstanceRow.named)),
+  Rows'.any-gone
+      (Syntax.tyStruct
+      (List._∷_ 38 (List._∷_ 91 (List._∷_ 93 List.[])))
+      (Syntax.tcons
+      (Syntax.tyRef Syntax.erased Syntax.mut (KInstanceRow.named))
+      (Syntax.tcons (Syntax.tyInt Syntax.w64) Syntax.tnil))),
 ) (List._∷_ (
   13,
   Rows'.any-gone
@@ -986,7 +1159,10 @@ t10 = List._∷_ (0, Rows'.any-gone Syntax.tyUnit) (List._∷_ (
       (Syntax.tcons
       (Syntax.tyRef Syntax.erased Syntax.mut (KRouteRow.named))
       (Syntax.tcons (Syntax.tyInt Syntax.w64) Syntax.tnil))),
-) List.[]))))))))))))))
+)
+    (List._∷_
+    (15, Rows'.any-gone (KRouteRow.spelled))
+    List.[])))))))))))))))
 
 abbrev pub t11 : List.List Row.Entry
 t11 = List._∷_ (0, Rows'.any-gone Syntax.tyUnit) (List._∷_ (
@@ -995,7 +1171,7 @@ t11 = List._∷_ (0, Rows'.any-gone Syntax.tyUnit) (List._∷_ (
       (KInstanceRow.R)
       (Syntax.tyRef (Syntax.named 0) Syntax.mut (KInstanceRow.named))
       0
-      3
+      4
       Row.off,
 ) (List._∷_ (
   2,
@@ -1003,59 +1179,40 @@ t11 = List._∷_ (0, Rows'.any-gone Syntax.tyUnit) (List._∷_ (
       (KRouteRow.R)
       (Syntax.tyRef (Syntax.named 1) Syntax.mut (KRouteRow.named))
       1,
+) (List._∷_ (3, Rows'.whole (Declared.row Places.the-type)) (List._∷_ (
+  4,
+  Rows'.sc-here (Row.sInt Syntax.w64),
 ) (List._∷_ (
-  3,
-  Rows'.any-gone
-      (Syntax.tyStruct
-      (List._∷_
-      112
-      (List._∷_
-      108
-      (List._∷_
-      97
-      (List._∷_
-      99
-      (List._∷_
-      101
-      (List._∷_
-      58
-      (List._∷_
-      58
-      (List._∷_
-      80
-      (List._∷_ 108 (List._∷_ 97 (List._∷_ 99 (List._∷_ 101 (List._∷_ 115 List.[])))))))))))))
-      (Syntax.tcons
-      Syntax.tyBool
-      (Syntax.tcons
-      (Syntax.tyInt Syntax.w64)
-      (Syntax.tcons (Syntax.tyInt Syntax.w64) Syntax.tnil)))),
-) (List._∷_ (4, Rows'.sc-here (Row.sInt Syntax.w64)) (List._∷_ (
   5,
-  Rows'.any-gone (KInstanceRow.spelled),
-) (List._∷_ (6, KInstanceRow.row) (List._∷_ (
+  Rows'.sref
+      (KDecided.R)
+      (Syntax.tyRef (Syntax.named 2) Syntax.imm (KDecided.named))
+      2,
+) (List._∷_ (6, Rows'.any-gone Syntax.tyUnit) (List._∷_ (
   7,
-  KRouteRow.row,
-) (List._∷_ (8, Rows'.sc-here Row.sUnit) (List._∷_ (
-  9,
   Rows'.any-gone
       (Syntax.tyRef Syntax.erased Syntax.mut (KInstanceRow.named)),
 ) (List._∷_ (
-  10,
+  8,
   Rows'.any-gone
       (Syntax.tyStruct
       (List._∷_ 38 (List._∷_ 91 (List._∷_ 93 List.[])))
       (Syntax.tcons
       (Syntax.tyRef Syntax.erased Syntax.mut (KInstanceRow.named))
       (Syntax.tcons (Syntax.tyInt Syntax.w64) Syntax.tnil))),
+) (List._∷_ (9, Rows'.any-gone (KInstanceRow.spelled)) (List._∷_ (
+  10,
+  Rows'.any-gone (KDecided.spelled),
 ) (List._∷_ (
   11,
   Rows'.any-gone
       (Syntax.tyRef Syntax.erased Syntax.mut (KInstanceRow.named)),
 ) (List._∷_ (
   12,
-  Mut.msleft
+  Mut.mslice
       (KInstanceRow.R)
-      (Syntax.tyRef Syntax.erased Syntax.mut (KInstanceRow.named)),
+      (Syntax.tyRef Syntax.erased Syntax.mut (KInstanceRow.named))
+      4,
 ) (List._∷_ (
   13,
   Rows'.any-gone
@@ -1068,7 +1225,10 @@ t11 = List._∷_ (0, Rows'.any-gone Syntax.tyUnit) (List._∷_ (
       (Syntax.tcons
       (Syntax.tyRef Syntax.erased Syntax.mut (KRouteRow.named))
       (Syntax.tcons (Syntax.tyInt Syntax.w64) Syntax.tnil))),
-) List.[]))))))))))))))
+)
+    (List._∷_
+    (15, Rows'.any-gone (KRouteRow.spelled))
+    List.[])))))))))))))))
 
 abbrev pub t12 : List.List Row.Entry
 t12 = List._∷_ (0, Rows'.any-gone Syntax.tyUnit) (List._∷_ (
@@ -1077,7 +1237,7 @@ t12 = List._∷_ (0, Rows'.any-gone Syntax.tyUnit) (List._∷_ (
       (KInstanceRow.R)
       (Syntax.tyRef (Syntax.named 0) Syntax.mut (KInstanceRow.named))
       0
-      3
+      4
       Row.off,
 ) (List._∷_ (
   2,
@@ -1085,59 +1245,40 @@ t12 = List._∷_ (0, Rows'.any-gone Syntax.tyUnit) (List._∷_ (
       (KRouteRow.R)
       (Syntax.tyRef (Syntax.named 1) Syntax.mut (KRouteRow.named))
       1,
+) (List._∷_ (3, Rows'.whole (Declared.row Places.the-type)) (List._∷_ (
+  4,
+  Rows'.sc-here (Row.sInt Syntax.w64),
 ) (List._∷_ (
-  3,
-  Rows'.any-gone
-      (Syntax.tyStruct
-      (List._∷_
-      112
-      (List._∷_
-      108
-      (List._∷_
-      97
-      (List._∷_
-      99
-      (List._∷_
-      101
-      (List._∷_
-      58
-      (List._∷_
-      58
-      (List._∷_
-      80
-      (List._∷_ 108 (List._∷_ 97 (List._∷_ 99 (List._∷_ 101 (List._∷_ 115 List.[])))))))))))))
-      (Syntax.tcons
-      Syntax.tyBool
-      (Syntax.tcons
-      (Syntax.tyInt Syntax.w64)
-      (Syntax.tcons (Syntax.tyInt Syntax.w64) Syntax.tnil)))),
-) (List._∷_ (4, Rows'.sc-here (Row.sInt Syntax.w64)) (List._∷_ (
   5,
-  Rows'.any-gone (KInstanceRow.spelled),
-) (List._∷_ (6, Rows'.any-gone (KInstanceRow.spelled)) (List._∷_ (
+  Rows'.sref
+      (KDecided.R)
+      (Syntax.tyRef (Syntax.named 2) Syntax.imm (KDecided.named))
+      2,
+) (List._∷_ (6, Rows'.any-gone Syntax.tyUnit) (List._∷_ (
   7,
-  KRouteRow.row,
-) (List._∷_ (8, Rows'.sc-here Row.sUnit) (List._∷_ (
-  9,
   Rows'.any-gone
       (Syntax.tyRef Syntax.erased Syntax.mut (KInstanceRow.named)),
 ) (List._∷_ (
-  10,
+  8,
   Rows'.any-gone
       (Syntax.tyStruct
       (List._∷_ 38 (List._∷_ 91 (List._∷_ 93 List.[])))
       (Syntax.tcons
       (Syntax.tyRef Syntax.erased Syntax.mut (KInstanceRow.named))
       (Syntax.tcons (Syntax.tyInt Syntax.w64) Syntax.tnil))),
+) (List._∷_ (9, Rows'.any-gone (KInstanceRow.spelled)) (List._∷_ (
+  10,
+  KDecided.row,
 ) (List._∷_ (
   11,
   Rows'.any-gone
       (Syntax.tyRef Syntax.erased Syntax.mut (KInstanceRow.named)),
 ) (List._∷_ (
   12,
-  Mut.msleft
+  Mut.mslice
       (KInstanceRow.R)
-      (Syntax.tyRef Syntax.erased Syntax.mut (KInstanceRow.named)),
+      (Syntax.tyRef Syntax.erased Syntax.mut (KInstanceRow.named))
+      4,
 ) (List._∷_ (
   13,
   Rows'.any-gone
@@ -1150,7 +1291,10 @@ t12 = List._∷_ (0, Rows'.any-gone Syntax.tyUnit) (List._∷_ (
       (Syntax.tcons
       (Syntax.tyRef Syntax.erased Syntax.mut (KRouteRow.named))
       (Syntax.tcons (Syntax.tyInt Syntax.w64) Syntax.tnil))),
-) List.[]))))))))))))))
+)
+    (List._∷_
+    (15, Rows'.any-gone (KRouteRow.spelled))
+    List.[])))))))))))))))
 
 abbrev pub t13 : List.List Row.Entry
 t13 = List._∷_ (0, Rows'.any-gone Syntax.tyUnit) (List._∷_ (
@@ -1159,7 +1303,204 @@ t13 = List._∷_ (0, Rows'.any-gone Syntax.tyUnit) (List._∷_ (
       (KInstanceRow.R)
       (Syntax.tyRef (Syntax.named 0) Syntax.mut (KInstanceRow.named))
       0
-      3
+      4
+      Row.off,
+) (List._∷_ (
+  2,
+  Mut.mslice
+      (KRouteRow.R)
+      (Syntax.tyRef (Syntax.named 1) Syntax.mut (KRouteRow.named))
+      1,
+) (List._∷_ (3, Rows'.whole (Declared.row Places.the-type)) (List._∷_ (
+  4,
+  Rows'.sc-here (Row.sInt Syntax.w64),
+) (List._∷_ (
+  5,
+  Rows'.sref
+      (KDecided.R)
+      (Syntax.tyRef (Syntax.named 2) Syntax.imm (KDecided.named))
+      2,
+) (List._∷_ (6, Rows'.any-gone Syntax.tyUnit) (List._∷_ (
+  7,
+  Rows'.any-gone
+      (Syntax.tyRef Syntax.erased Syntax.mut (KInstanceRow.named)),
+) (List._∷_ (
+  8,
+  Rows'.any-gone
+      (Syntax.tyStruct
+      (List._∷_ 38 (List._∷_ 91 (List._∷_ 93 List.[])))
+      (Syntax.tcons
+      (Syntax.tyRef Syntax.erased Syntax.mut (KInstanceRow.named))
+      (Syntax.tcons (Syntax.tyInt Syntax.w64) Syntax.tnil))),
+) (List._∷_ (9, KInstanceRow.row) (List._∷_ (
+  10,
+  KDecided.row,
+) (List._∷_ (
+  11,
+  Rows'.any-gone
+      (Syntax.tyRef Syntax.erased Syntax.mut (KInstanceRow.named)),
+) (List._∷_ (
+  12,
+  Mut.mslice
+      (KInstanceRow.R)
+      (Syntax.tyRef Syntax.erased Syntax.mut (KInstanceRow.named))
+      4,
+) (List._∷_ (
+  13,
+  Rows'.any-gone
+      (Syntax.tyRef Syntax.erased Syntax.mut (KRouteRow.named)),
+) (List._∷_ (
+  14,
+  Rows'.any-gone
+      (Syntax.tyStruct
+      (List._∷_ 38 (List._∷_ 91 (List._∷_ 93 List.[])))
+      (Syntax.tcons
+      (Syntax.tyRef Syntax.erased Syntax.mut (KRouteRow.named))
+      (Syntax.tcons (Syntax.tyInt Syntax.w64) Syntax.tnil))),
+)
+    (List._∷_
+    (15, Rows'.any-gone (KRouteRow.spelled))
+    List.[])))))))))))))))
+
+abbrev pub t14 : List.List Row.Entry
+t14 = List._∷_ (0, Rows'.any-gone Syntax.tyUnit) (List._∷_ (
+  1,
+  Relend.mslice-owed
+      (KInstanceRow.R)
+      (Syntax.tyRef (Syntax.named 0) Syntax.mut (KInstanceRow.named))
+      0
+      4
+      Row.off,
+) (List._∷_ (
+  2,
+  Mut.mslice
+      (KRouteRow.R)
+      (Syntax.tyRef (Syntax.named 1) Syntax.mut (KRouteRow.named))
+      1,
+) (List._∷_ (3, Rows'.whole (Declared.row Places.the-type)) (List._∷_ (
+  4,
+  Rows'.sc-here (Row.sInt Syntax.w64),
+) (List._∷_ (
+  5,
+  Rows'.sref
+      (KDecided.R)
+      (Syntax.tyRef (Syntax.named 2) Syntax.imm (KDecided.named))
+      2,
+) (List._∷_ (6, Rows'.any-gone Syntax.tyUnit) (List._∷_ (
+  7,
+  Rows'.any-gone
+      (Syntax.tyRef Syntax.erased Syntax.mut (KInstanceRow.named)),
+) (List._∷_ (
+  8,
+  Rows'.any-gone
+      (Syntax.tyStruct
+      (List._∷_ 38 (List._∷_ 91 (List._∷_ 93 List.[])))
+      (Syntax.tcons
+      (Syntax.tyRef Syntax.erased Syntax.mut (KInstanceRow.named))
+      (Syntax.tcons (Syntax.tyInt Syntax.w64) Syntax.tnil))),
+) (List._∷_ (9, KInstanceRow.row) (List._∷_ (
+  10,
+  Rows'.any-gone (KDecided.spelled),
+) (List._∷_ (
+  11,
+  Rows'.any-gone
+      (Syntax.tyRef Syntax.erased Syntax.mut (KInstanceRow.named)),
+) (List._∷_ (
+  12,
+  Mut.mslice
+      (KInstanceRow.R)
+      (Syntax.tyRef Syntax.erased Syntax.mut (KInstanceRow.named))
+      4,
+) (List._∷_ (
+  13,
+  Rows'.any-gone
+      (Syntax.tyRef Syntax.erased Syntax.mut (KRouteRow.named)),
+) (List._∷_ (
+  14,
+  Rows'.any-gone
+      (Syntax.tyStruct
+      (List._∷_ 38 (List._∷_ 91 (List._∷_ 93 List.[])))
+      (Syntax.tcons
+      (Syntax.tyRef Syntax.erased Syntax.mut (KRouteRow.named))
+      (Syntax.tcons (Syntax.tyInt Syntax.w64) Syntax.tnil))),
+)
+    (List._∷_
+    (15, Rows'.any-gone (KRouteRow.spelled))
+    List.[])))))))))))))))
+
+abbrev pub t15 : List.List Row.Entry
+t15 = List._∷_ (0, Rows'.any-gone Syntax.tyUnit) (List._∷_ (
+  1,
+  Relend.mslice-owed
+      (KInstanceRow.R)
+      (Syntax.tyRef (Syntax.named 0) Syntax.mut (KInstanceRow.named))
+      0
+      4
+      Row.off,
+) (List._∷_ (
+  2,
+  Mut.mslice
+      (KRouteRow.R)
+      (Syntax.tyRef (Syntax.named 1) Syntax.mut (KRouteRow.named))
+      1,
+) (List._∷_ (3, Rows'.whole (Declared.row Places.the-type)) (List._∷_ (
+  4,
+  Rows'.sc-here (Row.sInt Syntax.w64),
+) (List._∷_ (
+  5,
+  Rows'.sref
+      (KDecided.R)
+      (Syntax.tyRef (Syntax.named 2) Syntax.imm (KDecided.named))
+      2,
+) (List._∷_ (6, Rows'.sc-here Row.sUnit) (List._∷_ (
+  7,
+  Rows'.any-gone
+      (Syntax.tyRef Syntax.erased Syntax.mut (KInstanceRow.named)),
+) (List._∷_ (
+  8,
+  Rows'.any-gone
+      (Syntax.tyStruct
+      (List._∷_ 38 (List._∷_ 91 (List._∷_ 93 List.[])))
+      (Syntax.tcons
+      (Syntax.tyRef Syntax.erased Syntax.mut (KInstanceRow.named))
+      (Syntax.tcons (Syntax.tyInt Syntax.w64) Syntax.tnil))),
+) (List._∷_ (9, KInstanceRow.row) (List._∷_ (
+  10,
+  Rows'.any-gone (KDecided.spelled),
+) (List._∷_ (
+  11,
+  Rows'.any-gone
+      (Syntax.tyRef Syntax.erased Syntax.mut (KInstanceRow.named)),
+) (List._∷_ (
+  12,
+  Mut.msleft
+      (KInstanceRow.R)
+      (Syntax.tyRef Syntax.erased Syntax.mut (KInstanceRow.named)),
+) (List._∷_ (
+  13,
+  Rows'.any-gone
+      (Syntax.tyRef Syntax.erased Syntax.mut (KRouteRow.named)),
+) (List._∷_ (
+  14,
+  Rows'.any-gone
+      (Syntax.tyStruct
+      (List._∷_ 38 (List._∷_ 91 (List._∷_ 93 List.[])))
+      (Syntax.tcons
+      (Syntax.tyRef Syntax.erased Syntax.mut (KRouteRow.named))
+      (Syntax.tcons (Syntax.tyInt Syntax.w64) Syntax.tnil))),
+)
+    (List._∷_
+    (15, Rows'.any-gone (KRouteRow.spelled))
+    List.[])))))))))))))))
+
+abbrev pub t16 : List.List Row.Entry
+t16 = List._∷_ (0, Rows'.any-gone Syntax.tyUnit) (List._∷_ (
+  1,
+  Relend.mslice-owed
+      (KInstanceRow.R)
+      (Syntax.tyRef (Syntax.named 0) Syntax.mut (KInstanceRow.named))
+      0
+      4
       Row.off,
 ) (List._∷_ (
   2,
@@ -1195,22 +1536,25 @@ t13 = List._∷_ (0, Rows'.any-gone Syntax.tyUnit) (List._∷_ (
       (Syntax.tcons (Syntax.tyInt Syntax.w64) Syntax.tnil)))),
 ) (List._∷_ (4, Rows'.sc-here (Row.sInt Syntax.w64)) (List._∷_ (
   5,
-  Rows'.any-gone (KInstanceRow.spelled),
-) (List._∷_ (6, Rows'.any-gone (KInstanceRow.spelled)) (List._∷_ (
+  Rows'.sref
+      (KDecided.R)
+      (Syntax.tyRef (Syntax.named 2) Syntax.imm (KDecided.named))
+      2,
+) (List._∷_ (6, Rows'.sc-here Row.sUnit) (List._∷_ (
   7,
-  KRouteRow.row,
-) (List._∷_ (8, Rows'.any-gone Syntax.tyUnit) (List._∷_ (
-  9,
   Rows'.any-gone
       (Syntax.tyRef Syntax.erased Syntax.mut (KInstanceRow.named)),
 ) (List._∷_ (
-  10,
+  8,
   Rows'.any-gone
       (Syntax.tyStruct
       (List._∷_ 38 (List._∷_ 91 (List._∷_ 93 List.[])))
       (Syntax.tcons
       (Syntax.tyRef Syntax.erased Syntax.mut (KInstanceRow.named))
       (Syntax.tcons (Syntax.tyInt Syntax.w64) Syntax.tnil))),
+) (List._∷_ (9, KInstanceRow.row) (List._∷_ (
+  10,
+  Rows'.any-gone (KDecided.spelled),
 ) (List._∷_ (
   11,
   Rows'.any-gone
@@ -1232,10 +1576,189 @@ t13 = List._∷_ (0, Rows'.any-gone Syntax.tyUnit) (List._∷_ (
       (Syntax.tcons
       (Syntax.tyRef Syntax.erased Syntax.mut (KRouteRow.named))
       (Syntax.tcons (Syntax.tyInt Syntax.w64) Syntax.tnil))),
-) List.[]))))))))))))))
+)
+    (List._∷_
+    (15, Rows'.any-gone (KRouteRow.spelled))
+    List.[])))))))))))))))
 
-abbrev pub t14 : List.List Row.Entry
-t14 = List._∷_ (0, Rows'.any-gone Syntax.tyUnit) (List._∷_ (
+abbrev pub t17 : List.List Row.Entry
+t17 = List._∷_ (0, Rows'.any-gone Syntax.tyUnit) (List._∷_ (
+  1,
+  Relend.mslice-owed
+      (KInstanceRow.R)
+      (Syntax.tyRef (Syntax.named 0) Syntax.mut (KInstanceRow.named))
+      0
+      4
+      Row.off,
+) (List._∷_ (
+  2,
+  Mut.mslice
+      (KRouteRow.R)
+      (Syntax.tyRef (Syntax.named 1) Syntax.mut (KRouteRow.named))
+      1,
+) (List._∷_ (
+  3,
+  Rows'.any-gone
+      (Syntax.tyStruct
+      (List._∷_
+      112
+      (List._∷_
+      108
+      (List._∷_
+      97
+      (List._∷_
+      99
+      (List._∷_
+      101
+      (List._∷_
+      58
+      (List._∷_
+      58
+      (List._∷_
+      80
+      (List._∷_ 108 (List._∷_ 97 (List._∷_ 99 (List._∷_ 101 (List._∷_ 115 List.[])))))))))))))
+      (Syntax.tcons
+      Syntax.tyBool
+      (Syntax.tcons
+      (Syntax.tyInt Syntax.w64)
+      (Syntax.tcons (Syntax.tyInt Syntax.w64) Syntax.tnil)))),
+) (List._∷_ (4, Rows'.sc-here (Row.sInt Syntax.w64)) (List._∷_ (
+  5,
+  Rows'.sref
+      (KDecided.R)
+      (Syntax.tyRef (Syntax.named 2) Syntax.imm (KDecided.named))
+      2,
+) (List._∷_ (6, Rows'.any-gone Syntax.tyUnit) (List._∷_ (
+  7,
+  Rows'.any-gone
+      (Syntax.tyRef Syntax.erased Syntax.mut (KInstanceRow.named)),
+) (List._∷_ (
+  8,
+  Rows'.any-gone
+      (Syntax.tyStruct
+      (List._∷_ 38 (List._∷_ 91 (List._∷_ 93 List.[])))
+      (Syntax.tcons
+      (Syntax.tyRef Syntax.erased Syntax.mut (KInstanceRow.named))
+      (Syntax.tcons (Syntax.tyInt Syntax.w64) Syntax.tnil))),
+) (List._∷_ (9, KInstanceRow.row) (List._∷_ (
+  10,
+  Rows'.any-gone (KDecided.spelled),
+) (List._∷_ (
+  11,
+  Rows'.any-gone
+      (Syntax.tyRef Syntax.erased Syntax.mut (KInstanceRow.named)),
+) (List._∷_ (
+  12,
+  Mut.msleft
+      (KInstanceRow.R)
+      (Syntax.tyRef Syntax.erased Syntax.mut (KInstanceRow.named)),
+) (List._∷_ (
+  13,
+  Rows'.any-gone
+      (Syntax.tyRef Syntax.erased Syntax.mut (KRouteRow.named)),
+) (List._∷_ (
+  14,
+  Rows'.any-gone
+      (Syntax.tyStruct
+      (List._∷_ 38 (List._∷_ 91 (List._∷_ 93 List.[])))
+      (Syntax.tcons
+      (Syntax.tyRef Syntax.erased Syntax.mut (KRouteRow.named))
+      (Syntax.tcons (Syntax.tyInt Syntax.w64) Syntax.tnil))),
+)
+    (List._∷_
+    (15, Rows'.any-gone (KRouteRow.spelled))
+    List.[])))))))))))))))
+
+abbrev pub t18 : List.List Row.Entry
+t18 = List._∷_ (0, Rows'.any-gone Syntax.tyUnit) (List._∷_ (
+  1,
+  Relend.mslice-owed
+      (KInstanceRow.R)
+      (Syntax.tyRef (Syntax.named 0) Syntax.mut (KInstanceRow.named))
+      0
+      4
+      Row.off,
+) (List._∷_ (
+  2,
+  Mut.mslice
+      (KRouteRow.R)
+      (Syntax.tyRef (Syntax.named 1) Syntax.mut (KRouteRow.named))
+      1,
+) (List._∷_ (
+  3,
+  Rows'.any-gone
+      (Syntax.tyStruct
+      (List._∷_
+      112
+      (List._∷_
+      108
+      (List._∷_
+      97
+      (List._∷_
+      99
+      (List._∷_
+      101
+      (List._∷_
+      58
+      (List._∷_
+      58
+      (List._∷_
+      80
+      (List._∷_ 108 (List._∷_ 97 (List._∷_ 99 (List._∷_ 101 (List._∷_ 115 List.[])))))))))))))
+      (Syntax.tcons
+      Syntax.tyBool
+      (Syntax.tcons
+      (Syntax.tyInt Syntax.w64)
+      (Syntax.tcons (Syntax.tyInt Syntax.w64) Syntax.tnil)))),
+) (List._∷_ (4, Rows'.sc-here (Row.sInt Syntax.w64)) (List._∷_ (
+  5,
+  Rows'.sref
+      (KDecided.R)
+      (Syntax.tyRef (Syntax.named 2) Syntax.imm (KDecided.named))
+      2,
+) (List._∷_ (6, Rows'.any-gone Syntax.tyUnit) (List._∷_ (
+  7,
+  Rows'.any-gone
+      (Syntax.tyRef Syntax.erased Syntax.mut (KInstanceRow.named)),
+) (List._∷_ (
+  8,
+  Rows'.any-gone
+      (Syntax.tyStruct
+      (List._∷_ 38 (List._∷_ 91 (List._∷_ 93 List.[])))
+      (Syntax.tcons
+      (Syntax.tyRef Syntax.erased Syntax.mut (KInstanceRow.named))
+      (Syntax.tcons (Syntax.tyInt Syntax.w64) Syntax.tnil))),
+) (List._∷_ (9, Rows'.any-gone (KInstanceRow.spelled)) (List._∷_ (
+  10,
+  Rows'.any-gone (KDecided.spelled),
+) (List._∷_ (
+  11,
+  Rows'.any-gone
+      (Syntax.tyRef Syntax.erased Syntax.mut (KInstanceRow.named)),
+) (List._∷_ (
+  12,
+  Mut.msleft
+      (KInstanceRow.R)
+      (Syntax.tyRef Syntax.erased Syntax.mut (KInstanceRow.named)),
+) (List._∷_ (
+  13,
+  Rows'.any-gone
+      (Syntax.tyRef Syntax.erased Syntax.mut (KRouteRow.named)),
+) (List._∷_ (
+  14,
+  Rows'.any-gone
+      (Syntax.tyStruct
+      (List._∷_ 38 (List._∷_ 91 (List._∷_ 93 List.[])))
+      (Syntax.tcons
+      (Syntax.tyRef Syntax.erased Syntax.mut (KRouteRow.named))
+      (Syntax.tcons (Syntax.tyInt Syntax.w64) Syntax.tnil))),
+)
+    (List._∷_
+    (15, Rows'.any-gone (KRouteRow.spelled))
+    List.[])))))))))))))))
+
+abbrev pub t19 : List.List Row.Entry
+t19 = List._∷_ (0, Rows'.any-gone Syntax.tyUnit) (List._∷_ (
   1,
   Mut.mslice
       (KInstanceRow.R)
@@ -1275,22 +1798,25 @@ t14 = List._∷_ (0, Rows'.any-gone Syntax.tyUnit) (List._∷_ (
       (Syntax.tcons (Syntax.tyInt Syntax.w64) Syntax.tnil)))),
 ) (List._∷_ (4, Rows'.sc-here (Row.sInt Syntax.w64)) (List._∷_ (
   5,
-  Rows'.any-gone (KInstanceRow.spelled),
-) (List._∷_ (6, Rows'.any-gone (KInstanceRow.spelled)) (List._∷_ (
+  Rows'.sref
+      (KDecided.R)
+      (Syntax.tyRef (Syntax.named 2) Syntax.imm (KDecided.named))
+      2,
+) (List._∷_ (6, Rows'.any-gone Syntax.tyUnit) (List._∷_ (
   7,
-  KRouteRow.row,
-) (List._∷_ (8, Rows'.any-gone Syntax.tyUnit) (List._∷_ (
-  9,
   Rows'.any-gone
       (Syntax.tyRef Syntax.erased Syntax.mut (KInstanceRow.named)),
 ) (List._∷_ (
-  10,
+  8,
   Rows'.any-gone
       (Syntax.tyStruct
       (List._∷_ 38 (List._∷_ 91 (List._∷_ 93 List.[])))
       (Syntax.tcons
       (Syntax.tyRef Syntax.erased Syntax.mut (KInstanceRow.named))
       (Syntax.tcons (Syntax.tyInt Syntax.w64) Syntax.tnil))),
+) (List._∷_ (9, Rows'.any-gone (KInstanceRow.spelled)) (List._∷_ (
+  10,
+  Rows'.any-gone (KDecided.spelled),
 ) (List._∷_ (
   11,
   Rows'.any-gone
@@ -1315,10 +1841,13 @@ t14 = List._∷_ (0, Rows'.any-gone Syntax.tyUnit) (List._∷_ (
       (Syntax.tcons
       (Syntax.tyRef Syntax.erased Syntax.mut (KRouteRow.named))
       (Syntax.tcons (Syntax.tyInt Syntax.w64) Syntax.tnil))),
-) List.[]))))))))))))))
+)
+    (List._∷_
+    (15, Rows'.any-gone (KRouteRow.spelled))
+    List.[])))))))))))))))
 
-abbrev pub t15 : List.List Row.Entry
-t15 = List._∷_ (0, Rows'.any-gone Syntax.tyUnit) (List._∷_ (
+abbrev pub t20 : List.List Row.Entry
+t20 = List._∷_ (0, Rows'.any-gone Syntax.tyUnit) (List._∷_ (
   1,
   Mut.mslice
       (KInstanceRow.R)
@@ -1330,7 +1859,7 @@ t15 = List._∷_ (0, Rows'.any-gone Syntax.tyUnit) (List._∷_ (
       (KRouteRow.R)
       (Syntax.tyRef (Syntax.named 1) Syntax.mut (KRouteRow.named))
       1
-      4
+      5
       Row.off,
 ) (List._∷_ (
   3,
@@ -1360,22 +1889,25 @@ t15 = List._∷_ (0, Rows'.any-gone Syntax.tyUnit) (List._∷_ (
       (Syntax.tcons (Syntax.tyInt Syntax.w64) Syntax.tnil)))),
 ) (List._∷_ (4, Rows'.sc-here (Row.sInt Syntax.w64)) (List._∷_ (
   5,
-  Rows'.any-gone (KInstanceRow.spelled),
-) (List._∷_ (6, Rows'.any-gone (KInstanceRow.spelled)) (List._∷_ (
+  Rows'.sref
+      (KDecided.R)
+      (Syntax.tyRef (Syntax.named 2) Syntax.imm (KDecided.named))
+      2,
+) (List._∷_ (6, Rows'.any-gone Syntax.tyUnit) (List._∷_ (
   7,
-  KRouteRow.row,
-) (List._∷_ (8, Rows'.any-gone Syntax.tyUnit) (List._∷_ (
-  9,
   Rows'.any-gone
       (Syntax.tyRef Syntax.erased Syntax.mut (KInstanceRow.named)),
 ) (List._∷_ (
-  10,
+  8,
   Rows'.any-gone
       (Syntax.tyStruct
       (List._∷_ 38 (List._∷_ 91 (List._∷_ 93 List.[])))
       (Syntax.tcons
       (Syntax.tyRef Syntax.erased Syntax.mut (KInstanceRow.named))
       (Syntax.tcons (Syntax.tyInt Syntax.w64) Syntax.tnil))),
+) (List._∷_ (9, Rows'.any-gone (KInstanceRow.spelled)) (List._∷_ (
+  10,
+  Rows'.any-gone (KDecided.spelled),
 ) (List._∷_ (
   11,
   Rows'.any-gone
@@ -1393,7 +1925,7 @@ t15 = List._∷_ (0, Rows'.any-gone Syntax.tyUnit) (List._∷_ (
   Relend.msptr
       (KRouteRow.R)
       (Syntax.tyRef Syntax.erased Syntax.mut (KRouteRow.named))
-      4,
+      5,
 ) (List._∷_ (
   14,
   Rows'.any-gone
@@ -1402,422 +1934,621 @@ t15 = List._∷_ (0, Rows'.any-gone Syntax.tyUnit) (List._∷_ (
       (Syntax.tcons
       (Syntax.tyRef Syntax.erased Syntax.mut (KRouteRow.named))
       (Syntax.tcons (Syntax.tyInt Syntax.w64) Syntax.tnil))),
-) List.[]))))))))))))))
-
-abbrev pub t16 : List.List Row.Entry
-t16 = List._∷_ (0, Rows'.any-gone Syntax.tyUnit) (List._∷_ (
-  1,
-  Mut.mslice
-      (KInstanceRow.R)
-      (Syntax.tyRef (Syntax.named 0) Syntax.mut (KInstanceRow.named))
-      0,
-) (List._∷_ (
-  2,
-  Relend.mslice-owed
-      (KRouteRow.R)
-      (Syntax.tyRef (Syntax.named 1) Syntax.mut (KRouteRow.named))
-      1
-      4
-      Row.off,
-) (List._∷_ (
-  3,
-  Rows'.any-gone
-      (Syntax.tyStruct
-      (List._∷_
-      112
-      (List._∷_
-      108
-      (List._∷_
-      97
-      (List._∷_
-      99
-      (List._∷_
-      101
-      (List._∷_
-      58
-      (List._∷_
-      58
-      (List._∷_
-      80
-      (List._∷_ 108 (List._∷_ 97 (List._∷_ 99 (List._∷_ 101 (List._∷_ 115 List.[])))))))))))))
-      (Syntax.tcons
-      Syntax.tyBool
-      (Syntax.tcons
-      (Syntax.tyInt Syntax.w64)
-      (Syntax.tcons (Syntax.tyInt Syntax.w64) Syntax.tnil)))),
-) (List._∷_ (4, Rows'.sc-here (Row.sInt Syntax.w64)) (List._∷_ (
-  5,
-  Rows'.any-gone (KInstanceRow.spelled),
-) (List._∷_ (6, Rows'.any-gone (KInstanceRow.spelled)) (List._∷_ (
-  7,
-  KRouteRow.row,
-) (List._∷_ (8, Rows'.any-gone Syntax.tyUnit) (List._∷_ (
-  9,
-  Rows'.any-gone
-      (Syntax.tyRef Syntax.erased Syntax.mut (KInstanceRow.named)),
-) (List._∷_ (
-  10,
-  Rows'.any-gone
-      (Syntax.tyStruct
-      (List._∷_ 38 (List._∷_ 91 (List._∷_ 93 List.[])))
-      (Syntax.tcons
-      (Syntax.tyRef Syntax.erased Syntax.mut (KInstanceRow.named))
-      (Syntax.tcons (Syntax.tyInt Syntax.w64) Syntax.tnil))),
-) (List._∷_ (
-  11,
-  Rows'.any-gone
-      (Syntax.tyRef Syntax.erased Syntax.mut (KInstanceRow.named)),
-) (List._∷_ (
-  12,
-  Rows'.any-gone
-      (Syntax.tyStruct
-      (List._∷_ 38 (List._∷_ 91 (List._∷_ 93 List.[])))
-      (Syntax.tcons
-      (Syntax.tyRef Syntax.erased Syntax.mut (KInstanceRow.named))
-      (Syntax.tcons (Syntax.tyInt Syntax.w64) Syntax.tnil))),
-) (List._∷_ (
-  13,
-  Rows'.any-gone
-      (Syntax.tyRef Syntax.erased Syntax.mut (KRouteRow.named)),
-) (List._∷_ (
-  14,
-  Mut.mslice
-      (KRouteRow.R)
-      (Syntax.tyRef Syntax.erased Syntax.mut (KRouteRow.named))
-      4,
-) List.[]))))))))))))))
-
-abbrev pub t17 : List.List Row.Entry
-t17 = List._∷_ (0, Rows'.any-gone Syntax.tyUnit) (List._∷_ (
-  1,
-  Mut.mslice
-      (KInstanceRow.R)
-      (Syntax.tyRef (Syntax.named 0) Syntax.mut (KInstanceRow.named))
-      0,
-) (List._∷_ (
-  2,
-  Relend.mslice-owed
-      (KRouteRow.R)
-      (Syntax.tyRef (Syntax.named 1) Syntax.mut (KRouteRow.named))
-      1
-      4
-      Row.off,
-) (List._∷_ (
-  3,
-  Rows'.any-gone
-      (Syntax.tyStruct
-      (List._∷_
-      112
-      (List._∷_
-      108
-      (List._∷_
-      97
-      (List._∷_
-      99
-      (List._∷_
-      101
-      (List._∷_
-      58
-      (List._∷_
-      58
-      (List._∷_
-      80
-      (List._∷_ 108 (List._∷_ 97 (List._∷_ 99 (List._∷_ 101 (List._∷_ 115 List.[])))))))))))))
-      (Syntax.tcons
-      Syntax.tyBool
-      (Syntax.tcons
-      (Syntax.tyInt Syntax.w64)
-      (Syntax.tcons (Syntax.tyInt Syntax.w64) Syntax.tnil)))),
-) (List._∷_ (4, Rows'.sc-here (Row.sInt Syntax.w64)) (List._∷_ (
-  5,
-  Rows'.any-gone (KInstanceRow.spelled),
-) (List._∷_ (6, Rows'.any-gone (KInstanceRow.spelled)) (List._∷_ (
-  7,
-  KRouteRow.row,
-) (List._∷_ (8, Rows'.sc-here Row.sUnit) (List._∷_ (
-  9,
-  Rows'.any-gone
-      (Syntax.tyRef Syntax.erased Syntax.mut (KInstanceRow.named)),
-) (List._∷_ (
-  10,
-  Rows'.any-gone
-      (Syntax.tyStruct
-      (List._∷_ 38 (List._∷_ 91 (List._∷_ 93 List.[])))
-      (Syntax.tcons
-      (Syntax.tyRef Syntax.erased Syntax.mut (KInstanceRow.named))
-      (Syntax.tcons (Syntax.tyInt Syntax.w64) Syntax.tnil))),
-) (List._∷_ (
-  11,
-  Rows'.any-gone
-      (Syntax.tyRef Syntax.erased Syntax.mut (KInstanceRow.named)),
-) (List._∷_ (
-  12,
-  Rows'.any-gone
-      (Syntax.tyStruct
-      (List._∷_ 38 (List._∷_ 91 (List._∷_ 93 List.[])))
-      (Syntax.tcons
-      (Syntax.tyRef Syntax.erased Syntax.mut (KInstanceRow.named))
-      (Syntax.tcons (Syntax.tyInt Syntax.w64) Syntax.tnil))),
-) (List._∷_ (
-  13,
-  Rows'.any-gone
-      (Syntax.tyRef Syntax.erased Syntax.mut (KRouteRow.named)),
-) (List._∷_ (
-  14,
-  Mut.msleft
-      (KRouteRow.R)
-      (Syntax.tyRef Syntax.erased Syntax.mut (KRouteRow.named)),
-) List.[]))))))))))))))
-
-abbrev pub t18 : List.List Row.Entry
-t18 = List._∷_ (0, Rows'.any-gone Syntax.tyUnit) (List._∷_ (
-  1,
-  Mut.mslice
-      (KInstanceRow.R)
-      (Syntax.tyRef (Syntax.named 0) Syntax.mut (KInstanceRow.named))
-      0,
-) (List._∷_ (
-  2,
-  Relend.mslice-owed
-      (KRouteRow.R)
-      (Syntax.tyRef (Syntax.named 1) Syntax.mut (KRouteRow.named))
-      1
-      4
-      Row.off,
-) (List._∷_ (
-  3,
-  Rows'.any-gone
-      (Syntax.tyStruct
-      (List._∷_
-      112
-      (List._∷_
-      108
-      (List._∷_
-      97
-      (List._∷_
-      99
-      (List._∷_
-      101
-      (List._∷_
-      58
-      (List._∷_
-      58
-      (List._∷_
-      80
-      (List._∷_ 108 (List._∷_ 97 (List._∷_ 99 (List._∷_ 101 (List._∷_ 115 List.[])))))))))))))
-      (Syntax.tcons
-      Syntax.tyBool
-      (Syntax.tcons
-      (Syntax.tyInt Syntax.w64)
-      (Syntax.tcons (Syntax.tyInt Syntax.w64) Syntax.tnil)))),
-) (List._∷_ (4, Rows'.sc-here (Row.sInt Syntax.w64)) (List._∷_ (
-  5,
-  Rows'.any-gone (KInstanceRow.spelled),
-) (List._∷_ (6, Rows'.any-gone (KInstanceRow.spelled)) (List._∷_ (
-  7,
-  Rows'.any-gone (KRouteRow.spelled),
-) (List._∷_ (8, Rows'.sc-here Row.sUnit) (List._∷_ (
-  9,
-  Rows'.any-gone
-      (Syntax.tyRef Syntax.erased Syntax.mut (KInstanceRow.named)),
-) (List._∷_ (
-  10,
-  Rows'.any-gone
-      (Syntax.tyStruct
-      (List._∷_ 38 (List._∷_ 91 (List._∷_ 93 List.[])))
-      (Syntax.tcons
-      (Syntax.tyRef Syntax.erased Syntax.mut (KInstanceRow.named))
-      (Syntax.tcons (Syntax.tyInt Syntax.w64) Syntax.tnil))),
-) (List._∷_ (
-  11,
-  Rows'.any-gone
-      (Syntax.tyRef Syntax.erased Syntax.mut (KInstanceRow.named)),
-) (List._∷_ (
-  12,
-  Rows'.any-gone
-      (Syntax.tyStruct
-      (List._∷_ 38 (List._∷_ 91 (List._∷_ 93 List.[])))
-      (Syntax.tcons
-      (Syntax.tyRef Syntax.erased Syntax.mut (KInstanceRow.named))
-      (Syntax.tcons (Syntax.tyInt Syntax.w64) Syntax.tnil))),
-) (List._∷_ (
-  13,
-  Rows'.any-gone
-      (Syntax.tyRef Syntax.erased Syntax.mut (KRouteRow.named)),
-) (List._∷_ (
-  14,
-  Mut.msleft
-      (KRouteRow.R)
-      (Syntax.tyRef Syntax.erased Syntax.mut (KRouteRow.named)),
-) List.[]))))))))))))))
-
-abbrev pub t19 : List.List Row.Entry
-t19 = List._∷_ (0, Rows'.any-gone Syntax.tyUnit) (List._∷_ (
-  1,
-  Mut.mslice
-      (KInstanceRow.R)
-      (Syntax.tyRef (Syntax.named 0) Syntax.mut (KInstanceRow.named))
-      0,
-) (List._∷_ (
-  2,
-  Relend.mslice-owed
-      (KRouteRow.R)
-      (Syntax.tyRef (Syntax.named 1) Syntax.mut (KRouteRow.named))
-      1
-      4
-      Row.off,
-) (List._∷_ (
-  3,
-  Rows'.any-gone
-      (Syntax.tyStruct
-      (List._∷_
-      112
-      (List._∷_
-      108
-      (List._∷_
-      97
-      (List._∷_
-      99
-      (List._∷_
-      101
-      (List._∷_
-      58
-      (List._∷_
-      58
-      (List._∷_
-      80
-      (List._∷_ 108 (List._∷_ 97 (List._∷_ 99 (List._∷_ 101 (List._∷_ 115 List.[])))))))))))))
-      (Syntax.tcons
-      Syntax.tyBool
-      (Syntax.tcons
-      (Syntax.tyInt Syntax.w64)
-      (Syntax.tcons (Syntax.tyInt Syntax.w64) Syntax.tnil)))),
-) (List._∷_ (4, Rows'.sc-here (Row.sInt Syntax.w64)) (List._∷_ (
-  5,
-  Rows'.any-gone (KInstanceRow.spelled),
-) (List._∷_ (6, Rows'.any-gone (KInstanceRow.spelled)) (List._∷_ (
-  7,
-  Rows'.any-gone (KRouteRow.spelled),
-) (List._∷_ (8, Rows'.any-gone Syntax.tyUnit) (List._∷_ (
-  9,
-  Rows'.any-gone
-      (Syntax.tyRef Syntax.erased Syntax.mut (KInstanceRow.named)),
-) (List._∷_ (
-  10,
-  Rows'.any-gone
-      (Syntax.tyStruct
-      (List._∷_ 38 (List._∷_ 91 (List._∷_ 93 List.[])))
-      (Syntax.tcons
-      (Syntax.tyRef Syntax.erased Syntax.mut (KInstanceRow.named))
-      (Syntax.tcons (Syntax.tyInt Syntax.w64) Syntax.tnil))),
-) (List._∷_ (
-  11,
-  Rows'.any-gone
-      (Syntax.tyRef Syntax.erased Syntax.mut (KInstanceRow.named)),
-) (List._∷_ (
-  12,
-  Rows'.any-gone
-      (Syntax.tyStruct
-      (List._∷_ 38 (List._∷_ 91 (List._∷_ 93 List.[])))
-      (Syntax.tcons
-      (Syntax.tyRef Syntax.erased Syntax.mut (KInstanceRow.named))
-      (Syntax.tcons (Syntax.tyInt Syntax.w64) Syntax.tnil))),
-) (List._∷_ (
-  13,
-  Rows'.any-gone
-      (Syntax.tyRef Syntax.erased Syntax.mut (KRouteRow.named)),
-) (List._∷_ (
-  14,
-  Mut.msleft
-      (KRouteRow.R)
-      (Syntax.tyRef Syntax.erased Syntax.mut (KRouteRow.named)),
-) List.[]))))))))))))))
-
-abbrev pub t20 : List.List Row.Entry
-t20 = List._∷_ (0, Rows'.any-gone Syntax.tyUnit) (List._∷_ (
-  1,
-  Mut.mslice
-      (KInstanceRow.R)
-      (Syntax.tyRef (Syntax.named 0) Syntax.mut (KInstanceRow.named))
-      0,
-) (List._∷_ (
-  2,
-  Mut.mslice
-      (KRouteRow.R)
-      (Syntax.tyRef (Syntax.named 1) Syntax.mut (KRouteRow.named))
-      1,
-) (List._∷_ (
-  3,
-  Rows'.any-gone
-      (Syntax.tyStruct
-      (List._∷_
-      112
-      (List._∷_
-      108
-      (List._∷_
-      97
-      (List._∷_
-      99
-      (List._∷_
-      101
-      (List._∷_
-      58
-      (List._∷_
-      58
-      (List._∷_
-      80
-      (List._∷_ 108 (List._∷_ 97 (List._∷_ 99 (List._∷_ 101 (List._∷_ 115 List.[])))))))))))))
-      (Syntax.tcons
-      Syntax.tyBool
-      (Syntax.tcons
-      (Syntax.tyInt Syntax.w64)
-      (Syntax.tcons (Syntax.tyInt Syntax.w64) Syntax.tnil)))),
-) (List._∷_ (4, Rows'.sc-here (Row.sInt Syntax.w64)) (List._∷_ (
-  5,
-  Rows'.any-gone (KInstanceRow.spelled),
-) (List._∷_ (6, Rows'.any-gone (KInstanceRow.spelled)) (List._∷_ (
-  7,
-  Rows'.any-gone (KRouteRow.spelled),
-) (List._∷_ (8, Rows'.any-gone Syntax.tyUnit) (List._∷_ (
-  9,
-  Rows'.any-gone
-      (Syntax.tyRef Syntax.erased Syntax.mut (KInstanceRow.named)),
-) (List._∷_ (
-  10,
-  Rows'.any-gone
-      (Syntax.tyStruct
-      (List._∷_ 38 (List._∷_ 91 (List._∷_ 93 List.[])))
-      (Syntax.tcons
-      (Syntax.tyRef Syntax.erased Syntax.mut (KInstanceRow.named))
-      (Syntax.tcons (Syntax.tyInt Syntax.w64) Syntax.tnil))),
-) (List._∷_ (
-  11,
-  Rows'.any-gone
-      (Syntax.tyRef Syntax.erased Syntax.mut (KInstanceRow.named)),
-) (List._∷_ (
-  12,
-  Rows'.any-gone
-      (Syntax.tyStruct
-      (List._∷_ 38 (List._∷_ 91 (List._∷_ 93 List.[])))
-      (Syntax.tcons
-      (Syntax.tyRef Syntax.erased Syntax.mut (KInstanceRow.named))
-      (Syntax.tcons (Syntax.tyInt Syntax.w64) Syntax.tnil))),
-) (List._∷_ (
-  13,
-  Rows'.any-gone
-      (Syntax.tyRef Syntax.erased Syntax.mut (KRouteRow.named)),
-) (List._∷_ (
-  14,
-  Rows'.any-gone
-      (Syntax.tyStruct
-      (List._∷_ 38 (List._∷_ 91 (List._∷_ 93 List.[])))
-      (Syntax.tcons
-      (Syntax.tyRef Syntax.erased Syntax.mut (KRouteRow.named))
-      (Syntax.tcons (Syntax.tyInt Syntax.w64) Syntax.tnil))),
-) List.[]))))))))))))))
+)
+    (List._∷_
+    (15, Rows'.any-gone (KRouteRow.spelled))
+    List.[])))))))))))))))
 
 abbrev pub t21 : List.List Row.Entry
-t21 = List._∷_ (0, Rows'.sc-here Row.sUnit) (List._∷_ (
+t21 = List._∷_ (0, Rows'.any-gone Syntax.tyUnit) (List._∷_ (
+  1,
+  Mut.mslice
+      (KInstanceRow.R)
+      (Syntax.tyRef (Syntax.named 0) Syntax.mut (KInstanceRow.named))
+      0,
+) (List._∷_ (
+  2,
+  Relend.mslice-owed
+      (KRouteRow.R)
+      (Syntax.tyRef (Syntax.named 1) Syntax.mut (KRouteRow.named))
+      1
+      5
+      Row.off,
+) (List._∷_ (
+  3,
+  Rows'.any-gone
+      (Syntax.tyStruct
+      (List._∷_
+      112
+      (List._∷_
+      108
+      (List._∷_
+      97
+      (List._∷_
+      99
+      (List._∷_
+      101
+      (List._∷_
+      58
+      (List._∷_
+      58
+      (List._∷_
+      80
+      (List._∷_ 108 (List._∷_ 97 (List._∷_ 99 (List._∷_ 101 (List._∷_ 115 List.[])))))))))))))
+      (Syntax.tcons
+      Syntax.tyBool
+      (Syntax.tcons
+      (Syntax.tyInt Syntax.w64)
+      (Syntax.tcons (Syntax.tyInt Syntax.w64) Syntax.tnil)))),
+) (List._∷_ (4, Rows'.sc-here (Row.sInt Syntax.w64)) (List._∷_ (
+  5,
+  Rows'.sref
+      (KDecided.R)
+      (Syntax.tyRef (Syntax.named 2) Syntax.imm (KDecided.named))
+      2,
+) (List._∷_ (6, Rows'.any-gone Syntax.tyUnit) (List._∷_ (
+  7,
+  Rows'.any-gone
+      (Syntax.tyRef Syntax.erased Syntax.mut (KInstanceRow.named)),
+) (List._∷_ (
+  8,
+  Rows'.any-gone
+      (Syntax.tyStruct
+      (List._∷_ 38 (List._∷_ 91 (List._∷_ 93 List.[])))
+      (Syntax.tcons
+      (Syntax.tyRef Syntax.erased Syntax.mut (KInstanceRow.named))
+      (Syntax.tcons (Syntax.tyInt Syntax.w64) Syntax.tnil))),
+) (List._∷_ (9, Rows'.any-gone (KInstanceRow.spelled)) (List._∷_ (
+  10,
+  Rows'.any-gone (KDecided.spelled),
+) (List._∷_ (
+  11,
+  Rows'.any-gone
+      (Syntax.tyRef Syntax.erased Syntax.mut (KInstanceRow.named)),
+) (List._∷_ (
+  12,
+  Rows'.any-gone
+      (Syntax.tyStruct
+      (List._∷_ 38 (List._∷_ 91 (List._∷_ 93 List.[])))
+      (Syntax.tcons
+      (Syntax.tyRef Syntax.erased Syntax.mut (KInstanceRow.named))
+      (Syntax.tcons (Syntax.tyInt Syntax.w64) Syntax.tnil))),
+) (List._∷_ (
+  13,
+  Rows'.any-gone
+      (Syntax.tyRef Syntax.erased Syntax.mut (KRouteRow.named)),
+) (List._∷_ (
+  14,
+  Mut.mslice
+      (KRouteRow.R)
+      (Syntax.tyRef Syntax.erased Syntax.mut (KRouteRow.named))
+      5,
+)
+    (List._∷_
+    (15, Rows'.any-gone (KRouteRow.spelled))
+    List.[])))))))))))))))
+
+abbrev pub t22 : List.List Row.Entry
+t22 = List._∷_ (0, Rows'.any-gone Syntax.tyUnit) (List._∷_ (
+  1,
+  Mut.mslice
+      (KInstanceRow.R)
+      (Syntax.tyRef (Syntax.named 0) Syntax.mut (KInstanceRow.named))
+      0,
+) (List._∷_ (
+  2,
+  Relend.mslice-owed
+      (KRouteRow.R)
+      (Syntax.tyRef (Syntax.named 1) Syntax.mut (KRouteRow.named))
+      1
+      5
+      Row.off,
+) (List._∷_ (
+  3,
+  Rows'.any-gone
+      (Syntax.tyStruct
+      (List._∷_
+      112
+      (List._∷_
+      108
+      (List._∷_
+      97
+      (List._∷_
+      99
+      (List._∷_
+      101
+      (List._∷_
+      58
+      (List._∷_
+      58
+      (List._∷_
+      80
+      (List._∷_ 108 (List._∷_ 97 (List._∷_ 99 (List._∷_ 101 (List._∷_ 115 List.[])))))))))))))
+      (Syntax.tcons
+      Syntax.tyBool
+      (Syntax.tcons
+      (Syntax.tyInt Syntax.w64)
+      (Syntax.tcons (Syntax.tyInt Syntax.w64) Syntax.tnil)))),
+) (List._∷_ (4, Rows'.sc-here (Row.sInt Syntax.w64)) (List._∷_ (
+  5,
+  Rows'.sref
+      (KDecided.R)
+      (Syntax.tyRef (Syntax.named 2) Syntax.imm (KDecided.named))
+      2,
+) (List._∷_ (6, Rows'.any-gone Syntax.tyUnit) (List._∷_ (
+  7,
+  Rows'.any-gone
+      (Syntax.tyRef Syntax.erased Syntax.mut (KInstanceRow.named)),
+) (List._∷_ (
+  8,
+  Rows'.any-gone
+      (Syntax.tyStruct
+      (List._∷_ 38 (List._∷_ 91 (List._∷_ 93 List.[])))
+      (Syntax.tcons
+      (Syntax.tyRef Syntax.erased Syntax.mut (KInstanceRow.named))
+      (Syntax.tcons (Syntax.tyInt Syntax.w64) Syntax.tnil))),
+) (List._∷_ (9, Rows'.any-gone (KInstanceRow.spelled)) (List._∷_ (
+  10,
+  KDecided.row,
+) (List._∷_ (
+  11,
+  Rows'.any-gone
+      (Syntax.tyRef Syntax.erased Syntax.mut (KInstanceRow.named)),
+) (List._∷_ (
+  12,
+  Rows'.any-gone
+      (Syntax.tyStruct
+      (List._∷_ 38 (List._∷_ 91 (List._∷_ 93 List.[])))
+      (Syntax.tcons
+      (Syntax.tyRef Syntax.erased Syntax.mut (KInstanceRow.named))
+      (Syntax.tcons (Syntax.tyInt Syntax.w64) Syntax.tnil))),
+) (List._∷_ (
+  13,
+  Rows'.any-gone
+      (Syntax.tyRef Syntax.erased Syntax.mut (KRouteRow.named)),
+) (List._∷_ (
+  14,
+  Mut.mslice
+      (KRouteRow.R)
+      (Syntax.tyRef Syntax.erased Syntax.mut (KRouteRow.named))
+      5,
+)
+    (List._∷_
+    (15, Rows'.any-gone (KRouteRow.spelled))
+    List.[])))))))))))))))
+
+abbrev pub t23 : List.List Row.Entry
+t23 = List._∷_ (0, Rows'.any-gone Syntax.tyUnit) (List._∷_ (
+  1,
+  Mut.mslice
+      (KInstanceRow.R)
+      (Syntax.tyRef (Syntax.named 0) Syntax.mut (KInstanceRow.named))
+      0,
+) (List._∷_ (
+  2,
+  Relend.mslice-owed
+      (KRouteRow.R)
+      (Syntax.tyRef (Syntax.named 1) Syntax.mut (KRouteRow.named))
+      1
+      5
+      Row.off,
+) (List._∷_ (
+  3,
+  Rows'.any-gone
+      (Syntax.tyStruct
+      (List._∷_
+      112
+      (List._∷_
+      108
+      (List._∷_
+      97
+      (List._∷_
+      99
+      (List._∷_
+      101
+      (List._∷_
+      58
+      (List._∷_
+      58
+      (List._∷_
+      80
+      (List._∷_ 108 (List._∷_ 97 (List._∷_ 99 (List._∷_ 101 (List._∷_ 115 List.[])))))))))))))
+      (Syntax.tcons
+      Syntax.tyBool
+      (Syntax.tcons
+      (Syntax.tyInt Syntax.w64)
+      (Syntax.tcons (Syntax.tyInt Syntax.w64) Syntax.tnil)))),
+) (List._∷_ (4, Rows'.sc-here (Row.sInt Syntax.w64)) (List._∷_ (
+  5,
+  Rows'.sref
+      (KDecided.R)
+      (Syntax.tyRef (Syntax.named 2) Syntax.imm (KDecided.named))
+      2,
+) (List._∷_ (6, Rows'.any-gone Syntax.tyUnit) (List._∷_ (
+  7,
+  Rows'.any-gone
+      (Syntax.tyRef Syntax.erased Syntax.mut (KInstanceRow.named)),
+) (List._∷_ (
+  8,
+  Rows'.any-gone
+      (Syntax.tyStruct
+      (List._∷_ 38 (List._∷_ 91 (List._∷_ 93 List.[])))
+      (Syntax.tcons
+      (Syntax.tyRef Syntax.erased Syntax.mut (KInstanceRow.named))
+      (Syntax.tcons (Syntax.tyInt Syntax.w64) Syntax.tnil))),
+) (List._∷_ (9, Rows'.any-gone (KInstanceRow.spelled)) (List._∷_ (
+  10,
+  KDecided.row,
+) (List._∷_ (
+  11,
+  Rows'.any-gone
+      (Syntax.tyRef Syntax.erased Syntax.mut (KInstanceRow.named)),
+) (List._∷_ (
+  12,
+  Rows'.any-gone
+      (Syntax.tyStruct
+      (List._∷_ 38 (List._∷_ 91 (List._∷_ 93 List.[])))
+      (Syntax.tcons
+      (Syntax.tyRef Syntax.erased Syntax.mut (KInstanceRow.named))
+      (Syntax.tcons (Syntax.tyInt Syntax.w64) Syntax.tnil))),
+) (List._∷_ (
+  13,
+  Rows'.any-gone
+      (Syntax.tyRef Syntax.erased Syntax.mut (KRouteRow.named)),
+) (List._∷_ (
+  14,
+  Mut.mslice
+      (KRouteRow.R)
+      (Syntax.tyRef Syntax.erased Syntax.mut (KRouteRow.named))
+      5,
+) (List._∷_ (15, KRouteRow.row) List.[])))))))))))))))
+
+abbrev pub t24 : List.List Row.Entry
+t24 = List._∷_ (0, Rows'.any-gone Syntax.tyUnit) (List._∷_ (
+  1,
+  Mut.mslice
+      (KInstanceRow.R)
+      (Syntax.tyRef (Syntax.named 0) Syntax.mut (KInstanceRow.named))
+      0,
+) (List._∷_ (
+  2,
+  Relend.mslice-owed
+      (KRouteRow.R)
+      (Syntax.tyRef (Syntax.named 1) Syntax.mut (KRouteRow.named))
+      1
+      5
+      Row.off,
+) (List._∷_ (
+  3,
+  Rows'.any-gone
+      (Syntax.tyStruct
+      (List._∷_
+      112
+      (List._∷_
+      108
+      (List._∷_
+      97
+      (List._∷_
+      99
+      (List._∷_
+      101
+      (List._∷_
+      58
+      (List._∷_
+      58
+      (List._∷_
+      80
+      (List._∷_ 108 (List._∷_ 97 (List._∷_ 99 (List._∷_ 101 (List._∷_ 115 List.[])))))))))))))
+      (Syntax.tcons
+      Syntax.tyBool
+      (Syntax.tcons
+      (Syntax.tyInt Syntax.w64)
+      (Syntax.tcons (Syntax.tyInt Syntax.w64) Syntax.tnil)))),
+) (List._∷_ (4, Rows'.sc-here (Row.sInt Syntax.w64)) (List._∷_ (
+  5,
+  Rows'.sref
+      (KDecided.R)
+      (Syntax.tyRef (Syntax.named 2) Syntax.imm (KDecided.named))
+      2,
+) (List._∷_ (6, Rows'.any-gone Syntax.tyUnit) (List._∷_ (
+  7,
+  Rows'.any-gone
+      (Syntax.tyRef Syntax.erased Syntax.mut (KInstanceRow.named)),
+) (List._∷_ (
+  8,
+  Rows'.any-gone
+      (Syntax.tyStruct
+      (List._∷_ 38 (List._∷_ 91 (List._∷_ 93 List.[])))
+      (Syntax.tcons
+      (Syntax.tyRef Syntax.erased Syntax.mut (KInstanceRow.named))
+      (Syntax.tcons (Syntax.tyInt Syntax.w64) Syntax.tnil))),
+) (List._∷_ (9, Rows'.any-gone (KInstanceRow.spelled)) (List._∷_ (
+  10,
+  Rows'.any-gone (KDecided.spelled),
+) (List._∷_ (
+  11,
+  Rows'.any-gone
+      (Syntax.tyRef Syntax.erased Syntax.mut (KInstanceRow.named)),
+) (List._∷_ (
+  12,
+  Rows'.any-gone
+      (Syntax.tyStruct
+      (List._∷_ 38 (List._∷_ 91 (List._∷_ 93 List.[])))
+      (Syntax.tcons
+      (Syntax.tyRef Syntax.erased Syntax.mut (KInstanceRow.named))
+      (Syntax.tcons (Syntax.tyInt Syntax.w64) Syntax.tnil))),
+) (List._∷_ (
+  13,
+  Rows'.any-gone
+      (Syntax.tyRef Syntax.erased Syntax.mut (KRouteRow.named)),
+) (List._∷_ (
+  14,
+  Mut.mslice
+      (KRouteRow.R)
+      (Syntax.tyRef Syntax.erased Syntax.mut (KRouteRow.named))
+      5,
+) (List._∷_ (15, KRouteRow.row) List.[])))))))))))))))
+
+abbrev pub t25 : List.List Row.Entry
+t25 = List._∷_ (0, Rows'.any-gone Syntax.tyUnit) (List._∷_ (
+  1,
+  Mut.mslice
+      (KInstanceRow.R)
+      (Syntax.tyRef (Syntax.named 0) Syntax.mut (KInstanceRow.named))
+      0,
+) (List._∷_ (
+  2,
+  Relend.mslice-owed
+      (KRouteRow.R)
+      (Syntax.tyRef (Syntax.named 1) Syntax.mut (KRouteRow.named))
+      1
+      5
+      Row.off,
+) (List._∷_ (
+  3,
+  Rows'.any-gone
+      (Syntax.tyStruct
+      (List._∷_
+      112
+      (List._∷_
+      108
+      (List._∷_
+      97
+      (List._∷_
+      99
+      (List._∷_
+      101
+      (List._∷_
+      58
+      (List._∷_
+      58
+      (List._∷_
+      80
+      (List._∷_ 108 (List._∷_ 97 (List._∷_ 99 (List._∷_ 101 (List._∷_ 115 List.[])))))))))))))
+      (Syntax.tcons
+      Syntax.tyBool
+      (Syntax.tcons
+      (Syntax.tyInt Syntax.w64)
+      (Syntax.tcons (Syntax.tyInt Syntax.w64) Syntax.tnil)))),
+) (List._∷_ (4, Rows'.sc-here (Row.sInt Syntax.w64)) (List._∷_ (
+  5,
+  Rows'.sref
+      (KDecided.R)
+      (Syntax.tyRef (Syntax.named 2) Syntax.imm (KDecided.named))
+      2,
+) (List._∷_ (6, Rows'.sc-here Row.sUnit) (List._∷_ (
+  7,
+  Rows'.any-gone
+      (Syntax.tyRef Syntax.erased Syntax.mut (KInstanceRow.named)),
+) (List._∷_ (
+  8,
+  Rows'.any-gone
+      (Syntax.tyStruct
+      (List._∷_ 38 (List._∷_ 91 (List._∷_ 93 List.[])))
+      (Syntax.tcons
+      (Syntax.tyRef Syntax.erased Syntax.mut (KInstanceRow.named))
+      (Syntax.tcons (Syntax.tyInt Syntax.w64) Syntax.tnil))),
+) (List._∷_ (9, Rows'.any-gone (KInstanceRow.spelled)) (List._∷_ (
+  10,
+  Rows'.any-gone (KDecided.spelled),
+) (List._∷_ (
+  11,
+  Rows'.any-gone
+      (Syntax.tyRef Syntax.erased Syntax.mut (KInstanceRow.named)),
+) (List._∷_ (
+  12,
+  Rows'.any-gone
+      (Syntax.tyStruct
+      (List._∷_ 38 (List._∷_ 91 (List._∷_ 93 List.[])))
+      (Syntax.tcons
+      (Syntax.tyRef Syntax.erased Syntax.mut (KInstanceRow.named))
+      (Syntax.tcons (Syntax.tyInt Syntax.w64) Syntax.tnil))),
+) (List._∷_ (
+  13,
+  Rows'.any-gone
+      (Syntax.tyRef Syntax.erased Syntax.mut (KRouteRow.named)),
+) (List._∷_ (
+  14,
+  Mut.msleft
+      (KRouteRow.R)
+      (Syntax.tyRef Syntax.erased Syntax.mut (KRouteRow.named)),
+) (List._∷_ (15, KRouteRow.row) List.[])))))))))))))))
+
+abbrev pub t26 : List.List Row.Entry
+t26 = List._∷_ (0, Rows'.any-gone Syntax.tyUnit) (List._∷_ (
+  1,
+  Mut.mslice
+      (KInstanceRow.R)
+      (Syntax.tyRef (Syntax.named 0) Syntax.mut (KInstanceRow.named))
+      0,
+) (List._∷_ (
+  2,
+  Relend.mslice-owed
+      (KRouteRow.R)
+      (Syntax.tyRef (Syntax.named 1) Syntax.mut (KRouteRow.named))
+      1
+      5
+      Row.off,
+) (List._∷_ (
+  3,
+  Rows'.any-gone
+      (Syntax.tyStruct
+      (List._∷_
+      112
+      (List._∷_
+      108
+      (List._∷_
+      97
+      (List._∷_
+      99
+      (List._∷_
+      101
+      (List._∷_
+      58
+      (List._∷_
+      58
+      (List._∷_
+      80
+      (List._∷_ 108 (List._∷_ 97 (List._∷_ 99 (List._∷_ 101 (List._∷_ 115 List.[])))))))))))))
+      (Syntax.tcons
+      Syntax.tyBool
+      (Syntax.tcons
+      (Syntax.tyInt Syntax.w64)
+      (Syntax.tcons (Syntax.tyInt Syntax.w64) Syntax.tnil)))),
+) (List._∷_ (4, Rows'.sc-here (Row.sInt Syntax.w64)) (List._∷_ (
+  5,
+  Rows'.sref
+      (KDecided.R)
+      (Syntax.tyRef (Syntax.named 2) Syntax.imm (KDecided.named))
+      2,
+) (List._∷_ (6, Rows'.any-gone Syntax.tyUnit) (List._∷_ (
+  7,
+  Rows'.any-gone
+      (Syntax.tyRef Syntax.erased Syntax.mut (KInstanceRow.named)),
+) (List._∷_ (
+  8,
+  Rows'.any-gone
+      (Syntax.tyStruct
+      (List._∷_ 38 (List._∷_ 91 (List._∷_ 93 List.[])))
+      (Syntax.tcons
+      (Syntax.tyRef Syntax.erased Syntax.mut (KInstanceRow.named))
+      (Syntax.tcons (Syntax.tyInt Syntax.w64) Syntax.tnil))),
+) (List._∷_ (9, Rows'.any-gone (KInstanceRow.spelled)) (List._∷_ (
+  10,
+  Rows'.any-gone (KDecided.spelled),
+) (List._∷_ (
+  11,
+  Rows'.any-gone
+      (Syntax.tyRef Syntax.erased Syntax.mut (KInstanceRow.named)),
+) (List._∷_ (
+  12,
+  Rows'.any-gone
+      (Syntax.tyStruct
+      (List._∷_ 38 (List._∷_ 91 (List._∷_ 93 List.[])))
+      (Syntax.tcons
+      (Syntax.tyRef Syntax.erased Syntax.mut (KInstanceRow.named))
+      (Syntax.tcons (Syntax.tyInt Syntax.w64) Syntax.tnil))),
+) (List._∷_ (
+  13,
+  Rows'.any-gone
+      (Syntax.tyRef Syntax.erased Syntax.mut (KRouteRow.named)),
+) (List._∷_ (
+  14,
+  Mut.msleft
+      (KRouteRow.R)
+      (Syntax.tyRef Syntax.erased Syntax.mut (KRouteRow.named)),
+) (List._∷_ (15, KRouteRow.row) List.[])))))))))))))))
+
+abbrev pub t27 : List.List Row.Entry
+t27 = List._∷_ (0, Rows'.any-gone Syntax.tyUnit) (List._∷_ (
+  1,
+  Mut.mslice
+      (KInstanceRow.R)
+      (Syntax.tyRef (Syntax.named 0) Syntax.mut (KInstanceRow.named))
+      0,
+) (List._∷_ (
+  2,
+  Relend.mslice-owed
+      (KRouteRow.R)
+      (Syntax.tyRef (Syntax.named 1) Syntax.mut (KRouteRow.named))
+      1
+      5
+      Row.off,
+) (List._∷_ (
+  3,
+  Rows'.any-gone
+      (Syntax.tyStruct
+      (List._∷_
+      112
+      (List._∷_
+      108
+      (List._∷_
+      97
+      (List._∷_
+      99
+      (List._∷_
+      101
+      (List._∷_
+      58
+      (List._∷_
+      58
+      (List._∷_
+      80
+      (List._∷_ 108 (List._∷_ 97 (List._∷_ 99 (List._∷_ 101 (List._∷_ 115 List.[])))))))))))))
+      (Syntax.tcons
+      Syntax.tyBool
+      (Syntax.tcons
+      (Syntax.tyInt Syntax.w64)
+      (Syntax.tcons (Syntax.tyInt Syntax.w64) Syntax.tnil)))),
+) (List._∷_ (4, Rows'.sc-here (Row.sInt Syntax.w64)) (List._∷_ (
+  5,
+  Rows'.sref
+      (KDecided.R)
+      (Syntax.tyRef (Syntax.named 2) Syntax.imm (KDecided.named))
+      2,
+) (List._∷_ (6, Rows'.any-gone Syntax.tyUnit) (List._∷_ (
+  7,
+  Rows'.any-gone
+      (Syntax.tyRef Syntax.erased Syntax.mut (KInstanceRow.named)),
+) (List._∷_ (
+  8,
+  Rows'.any-gone
+      (Syntax.tyStruct
+      (List._∷_ 38 (List._∷_ 91 (List._∷_ 93 List.[])))
+      (Syntax.tcons
+      (Syntax.tyRef Syntax.erased Syntax.mut (KInstanceRow.named))
+      (Syntax.tcons (Syntax.tyInt Syntax.w64) Syntax.tnil))),
+) (List._∷_ (9, Rows'.any-gone (KInstanceRow.spelled)) (List._∷_ (
+  10,
+  Rows'.any-gone (KDecided.spelled),
+) (List._∷_ (
+  11,
+  Rows'.any-gone
+      (Syntax.tyRef Syntax.erased Syntax.mut (KInstanceRow.named)),
+) (List._∷_ (
+  12,
+  Rows'.any-gone
+      (Syntax.tyStruct
+      (List._∷_ 38 (List._∷_ 91 (List._∷_ 93 List.[])))
+      (Syntax.tcons
+      (Syntax.tyRef Syntax.erased Syntax.mut (KInstanceRow.named))
+      (Syntax.tcons (Syntax.tyInt Syntax.w64) Syntax.tnil))),
+) (List._∷_ (
+  13,
+  Rows'.any-gone
+      (Syntax.tyRef Syntax.erased Syntax.mut (KRouteRow.named)),
+) (List._∷_ (
+  14,
+  Mut.msleft
+      (KRouteRow.R)
+      (Syntax.tyRef Syntax.erased Syntax.mut (KRouteRow.named)),
+)
+    (List._∷_
+    (15, Rows'.any-gone (KRouteRow.spelled))
+    List.[])))))))))))))))
+
+abbrev pub t28 : List.List Row.Entry
+t28 = List._∷_ (0, Rows'.sc-here Row.sUnit) (List._∷_ (
   1,
   Mut.mslice
       (KInstanceRow.R)
@@ -1857,22 +2588,25 @@ t21 = List._∷_ (0, Rows'.sc-here Row.sUnit) (List._∷_ (
       (Syntax.tcons (Syntax.tyInt Syntax.w64) Syntax.tnil)))),
 ) (List._∷_ (4, Rows'.sc-here (Row.sInt Syntax.w64)) (List._∷_ (
   5,
-  Rows'.any-gone (KInstanceRow.spelled),
-) (List._∷_ (6, Rows'.any-gone (KInstanceRow.spelled)) (List._∷_ (
+  Rows'.sref
+      (KDecided.R)
+      (Syntax.tyRef (Syntax.named 2) Syntax.imm (KDecided.named))
+      2,
+) (List._∷_ (6, Rows'.any-gone Syntax.tyUnit) (List._∷_ (
   7,
-  Rows'.any-gone (KRouteRow.spelled),
-) (List._∷_ (8, Rows'.any-gone Syntax.tyUnit) (List._∷_ (
-  9,
   Rows'.any-gone
       (Syntax.tyRef Syntax.erased Syntax.mut (KInstanceRow.named)),
 ) (List._∷_ (
-  10,
+  8,
   Rows'.any-gone
       (Syntax.tyStruct
       (List._∷_ 38 (List._∷_ 91 (List._∷_ 93 List.[])))
       (Syntax.tcons
       (Syntax.tyRef Syntax.erased Syntax.mut (KInstanceRow.named))
       (Syntax.tcons (Syntax.tyInt Syntax.w64) Syntax.tnil))),
+) (List._∷_ (9, Rows'.any-gone (KInstanceRow.spelled)) (List._∷_ (
+  10,
+  Rows'.any-gone (KDecided.spelled),
 ) (List._∷_ (
   11,
   Rows'.any-gone
@@ -1897,7 +2631,10 @@ t21 = List._∷_ (0, Rows'.sc-here Row.sUnit) (List._∷_ (
       (Syntax.tcons
       (Syntax.tyRef Syntax.erased Syntax.mut (KRouteRow.named))
       (Syntax.tcons (Syntax.tyInt Syntax.w64) Syntax.tnil))),
-) List.[]))))))))))))))
+)
+    (List._∷_
+    (15, Rows'.any-gone (KRouteRow.spelled))
+    List.[])))))))))))))))
 
 abbrev pub T0 : Row.Cx
 T0 = record { locals = t0; slots = List.[] }
@@ -1920,53 +2657,80 @@ T6 = record { locals = t5; slots = List.[] }
 abbrev pub T7 : Row.Cx
 T7 = record { locals = t6; slots = List.[] }
 
+abbrev pub T8 : Row.Cx
+T8 = record { locals = t7; slots = List.[] }
+
 abbrev pub T9 : Row.Cx
-T9 = record { locals = t7; slots = List.[] }
+T9 = record { locals = t8; slots = List.[] }
+
+abbrev pub T10 : Row.Cx
+T10 = record { locals = t9; slots = List.[] }
 
 abbrev pub T12 : Row.Cx
-T12 = record { locals = t8; slots = List.[] }
-
-abbrev pub T13 : Row.Cx
-T13 = record { locals = t9; slots = List.[] }
-
-abbrev pub T14 : Row.Cx
-T14 = record { locals = t10; slots = List.[] }
+T12 = record { locals = t0; slots = List.[] }
 
 abbrev pub T15 : Row.Cx
-T15 = record { locals = t11; slots = List.[] }
+T15 = record { locals = t10; slots = List.[] }
 
 abbrev pub T16 : Row.Cx
-T16 = record { locals = t12; slots = List.[] }
+T16 = record { locals = t11; slots = List.[] }
 
 abbrev pub T17 : Row.Cx
-T17 = record { locals = t13; slots = List.[] }
+T17 = record { locals = t12; slots = List.[] }
+
+abbrev pub T18 : Row.Cx
+T18 = record { locals = t13; slots = List.[] }
 
 abbrev pub T19 : Row.Cx
 T19 = record { locals = t14; slots = List.[] }
 
+abbrev pub T20 : Row.Cx
+T20 = record { locals = t15; slots = List.[] }
+
+abbrev pub T21 : Row.Cx
+T21 = record { locals = t16; slots = List.[] }
+
 abbrev pub T22 : Row.Cx
-T22 = record { locals = t15; slots = List.[] }
+T22 = record { locals = t17; slots = List.[] }
 
 abbrev pub T23 : Row.Cx
-T23 = record { locals = t16; slots = List.[] }
-
-abbrev pub T24 : Row.Cx
-T24 = record { locals = t17; slots = List.[] }
+T23 = record { locals = t18; slots = List.[] }
 
 abbrev pub T25 : Row.Cx
-T25 = record { locals = t18; slots = List.[] }
-
-abbrev pub T26 : Row.Cx
-T26 = record { locals = t19; slots = List.[] }
+T25 = record { locals = t19; slots = List.[] }
 
 abbrev pub T28 : Row.Cx
 T28 = record { locals = t20; slots = List.[] }
 
+abbrev pub T29 : Row.Cx
+T29 = record { locals = t21; slots = List.[] }
+
 abbrev pub T30 : Row.Cx
-T30 = record { locals = t21; slots = List.[] }
+T30 = record { locals = t22; slots = List.[] }
 
 abbrev pub T31 : Row.Cx
-T31 = record { locals = t1; slots = List.[] }
+T31 = record { locals = t23; slots = List.[] }
+
+abbrev pub T32 : Row.Cx
+T32 = record { locals = t24; slots = List.[] }
+
+abbrev pub T33 : Row.Cx
+T33 = record { locals = t25; slots = List.[] }
+
+abbrev pub T34 : Row.Cx
+T34 = record { locals = t26; slots = List.[] }
+
+abbrev pub T35 : Row.Cx
+T35 = record { locals = t27; slots = List.[] }
+
+abbrev pub T37 : Row.Cx
+T37 = record { locals = t19; slots = List.[] }
+
+abbrev pub T39 : Row.Cx
+T39 = record { locals = t28; slots = List.[] }
+
+abbrev pub T40 : Row.Cx
+T40 = record { locals = t1; slots = List.[] }
 
 abbrev pub O0 : Typed.Outs
 O0 = record { next = Option.none; exits = List.[]; returns = Option.some T1 }
@@ -1978,9 +2742,9 @@ module _ (claims· : Claims) where
       (KInstanceRow.R)
       T0
       1
-      9
+      7
       0
-      2
+      3
       (Syntax.tyRef (Syntax.named 0) Syntax.mut (KInstanceRow.named))
       (Syntax.tyRef Syntax.erased Syntax.mut (KInstanceRow.named))
       Row.off
@@ -1992,9 +2756,9 @@ module _ (claims· : Claims) where
       (KInstanceRow.R)
       (Relend.asMut (KInstanceRow.R))
       T3
-      9
-      10
-      2
+      7
+      8
+      3
       (Syntax.tyRef Syntax.erased Syntax.mut (KInstanceRow.named))
       (Syntax.tyRef Syntax.erased Syntax.mut (KInstanceRow.named))
       (λ x. x)
@@ -2006,63 +2770,91 @@ module _ (claims· : Claims) where
       λ v. Shared.lenV
       (v .0))
 
-  abbrev s3 : Typed.Both T4 T5
-  s3 = Call.callB ps·0 r·0 (claims· .0) (claims· .1) T4 (
+  abbrev s3 : Typed.Gives T4 T5
+  s3 =
+      DerefMove.k-ref-read-copy
+      T4
+      5
+      10
+      2
+      (KDecided.R)
+      (Rows'.sref
+      (KDecided.R)
+      (Syntax.tyRef (Syntax.named 2) Syntax.imm (KDecided.named))
+      2)
+      Row.off
+      (KDecided.row)
+      (λ x. x)
+      (λ x. x)
+      (λ x. x)
+      λ x. Unit
+
+  abbrev s4 : Typed.Both T5 T6
+  s4 = Call.callB ps·0 r·0 (claims· .0) (claims· .1) T5 (
+    record { pos = 10; st = List.[]; d = 0; at = λ x. x },
+    tt,
+  ) 9 List.[] (KInstanceRow.spelled)
+
+  abbrev s5 : Typed.Mo T6 → Typed.Mo T7
+  s5 = Scalar.n-room T6 10 (KDecided.spelled)
+
+  abbrev s6 : Typed.Both T7 T8
+  s6 = Call.callB ps·1 r·1 (claims· .2) (claims· .3) T7 (
     record {
-      pos = 10;
+      pos = 8;
       ty = Syntax.tyRef Syntax.erased Syntax.mut (KInstanceRow.named);
       ref = λ x. x;
     },
     (
       Num.vFld 3 (List._∷_ (Syntax.field 1) List.[]) 8 λ x. Places.struct .as-values x .1 .0,
-      (record { pos = 5; st = List.[]; d = 0; at = λ x. x }, tt),
+      (record { pos = 9; st = List.[]; d = 0; at = λ x. x }, tt),
     ),
-  ) 8 (List._∷_ 2 List.[]) Syntax.tyUnit
+  ) 6 (List._∷_ 3 List.[]) Syntax.tyUnit
 
-  abbrev s4 : Typed.Mo T5 → Typed.Mo T6
-  s4 = Scalar.n-room T5 5 (KInstanceRow.spelled)
+  abbrev s7 : Typed.Mo T8 → Typed.Mo T9
+  s7 = Scalar.n-room T8 6 Syntax.tyUnit
 
-  abbrev s5 : Typed.Mo T6 → Typed.Mo T7
-  s5 = Scalar.n-room T6 8 Syntax.tyUnit
+  abbrev s8 : Typed.Mo T9 → Typed.Mo T10
+  s8 = Scalar.n-room T9 9 (KInstanceRow.spelled)
 
-  abbrev s7 : Typed.Both T7 T9
-  s7 =
+  abbrev s10 : Typed.Both T10 T12
+  s10 =
       Relend.k-back-sl
       (KInstanceRow.R)
-      T7
-      10
+      T10
+      8
       1
       0
-      2
+      3
       (Syntax.tyRef (Syntax.named 0) Syntax.mut (KInstanceRow.named))
       (Syntax.tyRef Syntax.erased Syntax.mut (KInstanceRow.named))
       Row.off
       (λ x. x)
       λ x. x
 
-  abbrev s10 : Typed.Gives T9 T12
-  s10 =
+  abbrev s13 : Typed.Gives T12 T15
+  s13 =
       Relend.k-sl-relend
       (KInstanceRow.R)
-      T9
+      T12
       1
       11
       0
-      3
+      4
       (Syntax.tyRef (Syntax.named 0) Syntax.mut (KInstanceRow.named))
       (Syntax.tyRef Syntax.erased Syntax.mut (KInstanceRow.named))
       Row.off
       λ x. x
 
-  abbrev s11 : Typed.Asks T12 T13
-  s11 =
+  abbrev s14 : Typed.Asks T15 T16
+  s14 =
       Relend.k-sl-aggregate
       (KInstanceRow.R)
       (Relend.asMut (KInstanceRow.R))
-      T12
+      T15
       11
       12
-      3
+      4
       (Syntax.tyRef Syntax.erased Syntax.mut (KInstanceRow.named))
       (Syntax.tyRef Syntax.erased Syntax.mut (KInstanceRow.named))
       (λ x. x)
@@ -2074,8 +2866,36 @@ module _ (claims· : Claims) where
       λ v. Shared.lenV
       (v .0))
 
-  abbrev s12 : Typed.Both T13 T14
-  s12 = Call.callB ps·0 r·0 (claims· .0) (claims· .1) T13 (
+  abbrev s15 : Typed.Gives T16 T17
+  s15 =
+      DerefMove.k-ref-read-copy
+      T16
+      5
+      10
+      2
+      (KDecided.R)
+      (Rows'.sref
+      (KDecided.R)
+      (Syntax.tyRef (Syntax.named 2) Syntax.imm (KDecided.named))
+      2)
+      Row.off
+      (KDecided.row)
+      (λ x. x)
+      (λ x. x)
+      (λ x. x)
+      λ x. Unit
+
+  abbrev s16 : Typed.Both T17 T18
+  s16 = Call.callB ps·2 r·2 (claims· .4) (claims· .5) T17 (
+    record { pos = 10; st = List.[]; d = 0; at = λ x. x },
+    tt,
+  ) 9 List.[] (KInstanceRow.spelled)
+
+  abbrev s17 : Typed.Mo T18 → Typed.Mo T19
+  s17 = Scalar.n-room T18 10 (KDecided.spelled)
+
+  abbrev s18 : Typed.Both T19 T20
+  s18 = Call.callB ps·1 r·1 (claims· .2) (claims· .3) T19 (
     record {
       pos = 12;
       ty = Syntax.tyRef Syntax.erased Syntax.mut (KInstanceRow.named);
@@ -2083,14 +2903,14 @@ module _ (claims· : Claims) where
     },
     (
       Num.vFld 3 (List._∷_ (Syntax.field 2) List.[]) 16 λ x. Places.struct .as-values x .1 .1 .0,
-      (record { pos = 6; st = List.[]; d = 0; at = λ x. x }, tt),
+      (record { pos = 9; st = List.[]; d = 0; at = λ x. x }, tt),
     ),
-  ) 8 (List._∷_ 3 List.[]) Syntax.tyUnit
+  ) 6 (List._∷_ 4 List.[]) Syntax.tyUnit
 
-  abbrev s13 : Typed.Mo T14 → Typed.Mo T15
-  s13 =
+  abbrev s19 : Typed.Mo T20 → Typed.Mo T21
+  s19 =
       Scalar.n-room
-      T14
+      T20
       3
       (Syntax.tyStruct
       (List._∷_
@@ -2116,50 +2936,50 @@ module _ (claims· : Claims) where
       (Syntax.tyInt Syntax.w64)
       (Syntax.tcons (Syntax.tyInt Syntax.w64) Syntax.tnil))))
 
-  abbrev s14 : Typed.Mo T15 → Typed.Mo T16
-  s14 = Scalar.n-room T15 6 (KInstanceRow.spelled)
+  abbrev s20 : Typed.Mo T21 → Typed.Mo T22
+  s20 = Scalar.n-room T21 6 Syntax.tyUnit
 
-  abbrev s15 : Typed.Mo T16 → Typed.Mo T17
-  s15 = Scalar.n-room T16 8 Syntax.tyUnit
+  abbrev s21 : Typed.Mo T22 → Typed.Mo T23
+  s21 = Scalar.n-room T22 9 (KInstanceRow.spelled)
 
-  abbrev s17 : Typed.Both T17 T19
-  s17 =
+  abbrev s23 : Typed.Both T23 T25
+  s23 =
       Relend.k-back-sl
       (KInstanceRow.R)
-      T17
+      T23
       12
       1
       0
-      3
+      4
       (Syntax.tyRef (Syntax.named 0) Syntax.mut (KInstanceRow.named))
       (Syntax.tyRef Syntax.erased Syntax.mut (KInstanceRow.named))
       Row.off
       (λ x. x)
       λ x. x
 
-  abbrev s20 : Typed.Gives T19 T22
-  s20 =
+  abbrev s26 : Typed.Gives T25 T28
+  s26 =
       Relend.k-sl-relend
       (KRouteRow.R)
-      T19
+      T25
       2
       13
       1
-      4
+      5
       (Syntax.tyRef (Syntax.named 1) Syntax.mut (KRouteRow.named))
       (Syntax.tyRef Syntax.erased Syntax.mut (KRouteRow.named))
       Row.off
       λ x. x
 
-  abbrev s21 : Typed.Asks T22 T23
-  s21 =
+  abbrev s27 : Typed.Asks T28 T29
+  s27 =
       Relend.k-sl-aggregate
       (KRouteRow.R)
       (Relend.asMut (KRouteRow.R))
-      T22
+      T28
       13
       14
-      4
+      5
       (Syntax.tyRef Syntax.erased Syntax.mut (KRouteRow.named))
       (Syntax.tyRef Syntax.erased Syntax.mut (KRouteRow.named))
       (λ x. x)
@@ -2171,159 +2991,220 @@ module _ (claims· : Claims) where
       λ v. Shared.lenV
       (v .0))
 
-  abbrev s22 : Typed.Both T23 T24
-  s22 = Call.callB ps·1 r·1 (claims· .2) (claims· .3) T23 (
+  abbrev s28 : Typed.Gives T29 T30
+  s28 =
+      DerefMove.k-ref-read-copy
+      T29
+      5
+      10
+      2
+      (KDecided.R)
+      (Rows'.sref
+      (KDecided.R)
+      (Syntax.tyRef (Syntax.named 2) Syntax.imm (KDecided.named))
+      2)
+      Row.off
+      (KDecided.row)
+      (λ x. x)
+      (λ x. x)
+      (λ x. x)
+      λ x. Unit
+
+  abbrev s29 : Typed.Both T30 T31
+  s29 = Call.callB ps·3 r·3 (claims· .6) (claims· .7) T30 (
+    record { pos = 10; st = List.[]; d = 0; at = λ x. x },
+    tt,
+  ) 15 List.[] (KRouteRow.spelled)
+
+  abbrev s30 : Typed.Mo T31 → Typed.Mo T32
+  s30 = Scalar.n-room T31 10 (KDecided.spelled)
+
+  abbrev s31 : Typed.Both T32 T33
+  s31 = Call.callB ps·4 r·4 (claims· .8) (claims· .9) T32 (
     record {
       pos = 14;
       ty = Syntax.tyRef Syntax.erased Syntax.mut (KRouteRow.named);
       ref = λ x. x;
     },
-    (Num.vAt 4 λ x. x, (record { pos = 7; st = List.[]; d = 0; at = λ x. x }, tt)),
-  ) 8 (List._∷_ 4 List.[]) Syntax.tyUnit
+    (Num.vAt 4 λ x. x, (record { pos = 15; st = List.[]; d = 0; at = λ x. x }, tt)),
+  ) 6 (List._∷_ 5 List.[]) Syntax.tyUnit
 
-  abbrev s23 : Typed.Mo T24 → Typed.Mo T25
-  s23 = Scalar.n-room T24 7 (KRouteRow.spelled)
+  abbrev s32 : Typed.Mo T33 → Typed.Mo T34
+  s32 = Scalar.n-room T33 6 Syntax.tyUnit
 
-  abbrev s24 : Typed.Mo T25 → Typed.Mo T26
-  s24 = Scalar.n-room T25 8 Syntax.tyUnit
+  abbrev s33 : Typed.Mo T34 → Typed.Mo T35
+  s33 = Scalar.n-room T34 15 (KRouteRow.spelled)
 
-  abbrev s26 : Typed.Both T26 T28
-  s26 =
+  abbrev s35 : Typed.Both T35 T37
+  s35 =
       Relend.k-back-sl
       (KRouteRow.R)
-      T26
+      T35
       14
       2
       1
-      4
+      5
       (Syntax.tyRef (Syntax.named 1) Syntax.mut (KRouteRow.named))
       (Syntax.tyRef Syntax.erased Syntax.mut (KRouteRow.named))
       Row.off
       (λ x. x)
       λ x. x
 
-  abbrev s28 : Typed.Mo T28 → Typed.Mo T30
-  s28 = Scalar.n-use T28 Scalar.oUnit 0 (Rows'.sc-here Row.sUnit) (Row.sUnit .of)
+  abbrev s37 : Typed.Mo T37 → Typed.Mo T39
+  s37 = Scalar.n-use T37 Scalar.oUnit 0 (Rows'.sc-here Row.sUnit) (Row.sUnit .of)
 
-  abbrev s29 : Typed.Mo T30 → Typed.Mo T31
-  s29 = Scalar.n-room T30 4 (Syntax.tyInt Syntax.w64)
+  abbrev s38 : Typed.Mo T39 → Typed.Mo T40
+  s38 = Scalar.n-room T39 4 (Syntax.tyInt Syntax.w64)
 
-  module _ (Pre· : (κs : Lifetimes.Lfts 2) → Kinds.Dens κs ps → Type 0)
-      (Post· : (κs : Lifetimes.Lfts 2) → (a : Kinds.Dens κs ps) → Kinds.Plain 2 ps r κs) where
+  module _ (Pre· : (κs : Lifetimes.Lfts 3) → Kinds.Dens κs ps → Type 0)
+      (Post· : (κs : Lifetimes.Lfts 3) → (a : Kinds.Dens κs ps) → Kinds.Plain 3 ps r κs) where
     module _ (M : Type 1) where
       abbrev pub Closed : Type 2
       Closed =
           (𝓤 : URA.URA M) (H : Wp.Heap 𝓤) (A : Atoms.Atoms 𝓤) (W : Kit.Given 𝓤 H A) (𝓣 : Wp.Tables
-          𝓤 H) (known0 : Plain.Known 𝓤 H A W 𝓣 1 ps·0 r·0 (claims· .0) (claims· .1)
-          "table::put_row") (known1 : Plain.Known 𝓤 H A W 𝓣 1 ps·1 r·1 (claims· .2) (claims· .3)
-          "table::put_route") → Statement.Triple 𝓤 (Wp.WpFn 𝓤 H (𝓣 .C) (𝓣 .Λ) (Function.fnOf 2 ps r
-          xs m hs body)) (Function.plainOf 𝓤 H A 2 ps r Pre· Post·)
+          𝓤 H) (known0 : Plain.Known 𝓤 H A W 𝓣 0 ps·0 r·0 (claims· .0) (claims· .1)
+          "finish::row_of") (known1 : Plain.Known 𝓤 H A W 𝓣 1 ps·1 r·1 (claims· .2) (claims· .3)
+          "table::put_row") (known2 : Plain.Known 𝓤 H A W 𝓣 0 ps·2 r·2 (claims· .4) (claims· .5)
+          "finish::second_of") (known3 : Plain.Known 𝓤 H A W 𝓣 0 ps·3 r·3 (claims· .6) (claims· .7)
+          "finish::route_of") (known4 : Plain.Known 𝓤 H A W 𝓣 1 ps·4 r·4 (claims· .8) (claims· .9)
+          "table::put_route") → Statement.Triple 𝓤 (Wp.WpFn 𝓤 H (𝓣 .C) (𝓣 .Λ) (Function.fnOf 3 ps r
+          xs m hs body)) (Function.plainOf 𝓤 H A 3 ps r Pre· Post·)
 
     module _ where
-      abbrev at0 : Typed.TF T31 O0
+      abbrev at0 : Typed.TF T40 O0
       at0 = Typed.atRet O0
 
-      abbrev at1 : Typed.TF T30 O0
-      at1 = λ Ψ. Typed.pass T30 T31 s29 (at0 Ψ)
+      abbrev at1 : Typed.TF T39 O0
+      at1 = λ Ψ. Typed.pass T39 T40 s38 (at0 Ψ)
 
-      abbrev at2 : Typed.TF T28 O0
-      at2 = λ Ψ. Typed.pass T28 T30 s28 (at1 Ψ)
+      abbrev at2 : Typed.TF T37 O0
+      at2 = λ Ψ. Typed.pass T37 T39 s37 (at1 Ψ)
 
-      abbrev at3 : Typed.TF T28 O0
+      abbrev at3 : Typed.TF T37 O0
       at3 = λ Ψ. at2 Ψ
 
-      abbrev at4 : Typed.TF T26 O0
-      at4 = λ Ψ. Typed.both s26 (at3 Ψ)
+      abbrev at4 : Typed.TF T35 O0
+      at4 = λ Ψ. Typed.both s35 (at3 Ψ)
 
-      abbrev at5 : Typed.TF T26 O0
+      abbrev at5 : Typed.TF T35 O0
       at5 = λ Ψ. at4 Ψ
 
-      abbrev at6 : Typed.TF T25 O0
-      at6 = λ Ψ. Typed.pass T25 T26 s24 (at5 Ψ)
+      abbrev at6 : Typed.TF T34 O0
+      at6 = λ Ψ. Typed.pass T34 T35 s33 (at5 Ψ)
 
-      abbrev at7 : Typed.TF T24 O0
-      at7 = λ Ψ. Typed.pass T24 T25 s23 (at6 Ψ)
+      abbrev at7 : Typed.TF T33 O0
+      at7 = λ Ψ. Typed.pass T33 T34 s32 (at6 Ψ)
 
-      abbrev at8 : Typed.TF T23 O0
-      at8 = λ Ψ. Typed.both s22 (at7 Ψ)
+      abbrev at8 : Typed.TF T32 O0
+      at8 = λ Ψ. Typed.both s31 (at7 Ψ)
 
-      abbrev at9 : Typed.TF T22 O0
-      at9 = λ Ψ. Typed.ask s21 (at8 Ψ)
+      abbrev at9 : Typed.TF T31 O0
+      at9 = λ Ψ. Typed.pass T31 T32 s30 (at8 Ψ)
 
-      abbrev at10 : Typed.TF T19 O0
-      at10 = λ Ψ. Typed.give s20 (at9 Ψ)
+      abbrev at10 : Typed.TF T30 O0
+      at10 = λ Ψ. Typed.both s29 (at9 Ψ)
 
-      abbrev at11 : Typed.TF T19 O0
-      at11 = λ Ψ. at10 Ψ
+      abbrev at11 : Typed.TF T29 O0
+      at11 = λ Ψ. Typed.give s28 (at10 Ψ)
 
-      abbrev at12 : Typed.TF T19 O0
-      at12 = λ Ψ. at11 Ψ
+      abbrev at12 : Typed.TF T28 O0
+      at12 = λ Ψ. Typed.ask s27 (at11 Ψ)
 
-      abbrev at13 : Typed.TF T17 O0
-      at13 = λ Ψ. Typed.both s17 (at12 Ψ)
+      abbrev at13 : Typed.TF T25 O0
+      at13 = λ Ψ. Typed.give s26 (at12 Ψ)
 
-      abbrev at14 : Typed.TF T17 O0
+      abbrev at14 : Typed.TF T25 O0
       at14 = λ Ψ. at13 Ψ
 
-      abbrev at15 : Typed.TF T16 O0
-      at15 = λ Ψ. Typed.pass T16 T17 s15 (at14 Ψ)
+      abbrev at15 : Typed.TF T25 O0
+      at15 = λ Ψ. at14 Ψ
 
-      abbrev at16 : Typed.TF T15 O0
-      at16 = λ Ψ. Typed.pass T15 T16 s14 (at15 Ψ)
+      abbrev at16 : Typed.TF T23 O0
+      at16 = λ Ψ. Typed.both s23 (at15 Ψ)
 
-      abbrev at17 : Typed.TF T14 O0
-      at17 = λ Ψ. Typed.pass T14 T15 s13 (at16 Ψ)
+      abbrev at17 : Typed.TF T23 O0
+      at17 = λ Ψ. at16 Ψ
 
-      abbrev at18 : Typed.TF T13 O0
-      at18 = λ Ψ. Typed.both s12 (at17 Ψ)
+      abbrev at18 : Typed.TF T22 O0
+      at18 = λ Ψ. Typed.pass T22 T23 s21 (at17 Ψ)
 
-      abbrev at19 : Typed.TF T12 O0
-      at19 = λ Ψ. Typed.ask s11 (at18 Ψ)
+      abbrev at19 : Typed.TF T21 O0
+      at19 = λ Ψ. Typed.pass T21 T22 s20 (at18 Ψ)
 
-      abbrev at20 : Typed.TF T9 O0
-      at20 = λ Ψ. Typed.give s10 (at19 Ψ)
+      abbrev at20 : Typed.TF T20 O0
+      at20 = λ Ψ. Typed.pass T20 T21 s19 (at19 Ψ)
 
-      abbrev at21 : Typed.TF T9 O0
-      at21 = λ Ψ. at20 Ψ
+      abbrev at21 : Typed.TF T19 O0
+      at21 = λ Ψ. Typed.both s18 (at20 Ψ)
 
-      abbrev at22 : Typed.TF T9 O0
-      at22 = λ Ψ. at21 Ψ
+      abbrev at22 : Typed.TF T18 O0
+      at22 = λ Ψ. Typed.pass T18 T19 s17 (at21 Ψ)
 
-      abbrev at23 : Typed.TF T7 O0
-      at23 = λ Ψ. Typed.both s7 (at22 Ψ)
+      abbrev at23 : Typed.TF T17 O0
+      at23 = λ Ψ. Typed.both s16 (at22 Ψ)
 
-      abbrev at24 : Typed.TF T7 O0
-      at24 = λ Ψ. at23 Ψ
+      abbrev at24 : Typed.TF T16 O0
+      at24 = λ Ψ. Typed.give s15 (at23 Ψ)
 
-      abbrev at25 : Typed.TF T6 O0
-      at25 = λ Ψ. Typed.pass T6 T7 s5 (at24 Ψ)
+      abbrev at25 : Typed.TF T15 O0
+      at25 = λ Ψ. Typed.ask s14 (at24 Ψ)
 
-      abbrev at26 : Typed.TF T5 O0
-      at26 = λ Ψ. Typed.pass T5 T6 s4 (at25 Ψ)
+      abbrev at26 : Typed.TF T12 O0
+      at26 = λ Ψ. Typed.give s13 (at25 Ψ)
 
-      abbrev at27 : Typed.TF T4 O0
-      at27 = λ Ψ. Typed.both s3 (at26 Ψ)
+      abbrev at27 : Typed.TF T12 O0
+      at27 = λ Ψ. at26 Ψ
 
-      abbrev at28 : Typed.TF T3 O0
-      at28 = λ Ψ. Typed.ask s2 (at27 Ψ)
+      abbrev at28 : Typed.TF T12 O0
+      at28 = λ Ψ. at27 Ψ
 
-      abbrev at29 : Typed.TF T0 O0
-      at29 = λ Ψ. Typed.give s1 (at28 Ψ)
+      abbrev at29 : Typed.TF T10 O0
+      at29 = λ Ψ. Typed.both s10 (at28 Ψ)
 
-      abbrev at30 : Typed.TF T0 O0
+      abbrev at30 : Typed.TF T10 O0
       at30 = λ Ψ. at29 Ψ
 
+      abbrev at31 : Typed.TF T9 O0
+      at31 = λ Ψ. Typed.pass T9 T10 s8 (at30 Ψ)
+
+      abbrev at32 : Typed.TF T8 O0
+      at32 = λ Ψ. Typed.pass T8 T9 s7 (at31 Ψ)
+
+      abbrev at33 : Typed.TF T7 O0
+      at33 = λ Ψ. Typed.both s6 (at32 Ψ)
+
+      abbrev at34 : Typed.TF T6 O0
+      at34 = λ Ψ. Typed.pass T6 T7 s5 (at33 Ψ)
+
+      abbrev at35 : Typed.TF T5 O0
+      at35 = λ Ψ. Typed.both s4 (at34 Ψ)
+
+      abbrev at36 : Typed.TF T4 O0
+      at36 = λ Ψ. Typed.give s3 (at35 Ψ)
+
+      abbrev at37 : Typed.TF T3 O0
+      at37 = λ Ψ. Typed.ask s2 (at36 Ψ)
+
+      abbrev at38 : Typed.TF T0 O0
+      at38 = λ Ψ. Typed.give s1 (at37 Ψ)
+
+      abbrev at39 : Typed.TF T0 O0
+      at39 = λ Ψ. at38 Ψ
+
       abbrev pub Φ : Typed.TF T0 O0
-      Φ = at30
+      Φ = at39
 
       module _ {M : Type 1} (𝓤 : URA.URA M) (H : Wp.Heap 𝓤) (A : Atoms.Atoms 𝓤)
           (W : Kit.Given 𝓤 H A) (𝓣 : Wp.Tables 𝓤 H) where
         abbrev Knowns : Type 1
         Knowns =
-            Plain.Known 𝓤 H A W 𝓣 1 ps·0 r·0 (claims· .0) (claims· .1) "table::put_row" ×
-            Plain.Known 𝓤 H A W 𝓣 1 ps·1 r·1 (claims· .2) (claims· .3) "table::put_route"
+            Plain.Known 𝓤 H A W 𝓣 0 ps·0 r·0 (claims· .0) (claims· .1) "finish::row_of" ×
+            Plain.Known 𝓤 H A W 𝓣 1 ps·1 r·1 (claims· .2) (claims· .3) "table::put_row" ×
+            Plain.Known 𝓤 H A W 𝓣 0 ps·2 r·2 (claims· .4) (claims· .5) "finish::second_of" ×
+            Plain.Known 𝓤 H A W 𝓣 0 ps·3 r·3 (claims· .6) (claims· .7) "finish::route_of" ×
+            Plain.Known 𝓤 H A W 𝓣 1 ps·4 r·4 (claims· .8) (claims· .9) "table::put_route"
 
-      module _ (κs : Lifetimes.Lfts 2) (qs : Lifetimes.Shares 2) where
+      module _ (κs : Lifetimes.Lfts 3) (qs : Lifetimes.Shares 3) where
         abbrev g2 : List.List Row.Entry
         g2 = List._∷_ (0, Rows'.any-gone Syntax.tyUnit) (List._∷_ (
           1,
@@ -2334,7 +3215,7 @@ module _ (claims· : Claims) where
               Syntax.mut
               (KInstanceRow.named))
               0
-              2
+              3
               (Row.lease (κs .0) (qs .0)),
         ) (List._∷_ (
           2,
@@ -2348,26 +3229,32 @@ module _ (claims· : Claims) where
         ) (List._∷_ (3, Rows'.whole (Declared.row Places.the-type)) (List._∷_ (
           4,
           Rows'.sc-here (Row.sInt Syntax.w64),
-        ) (List._∷_ (5, KInstanceRow.row) (List._∷_ (
-          6,
-          KInstanceRow.row,
-        ) (List._∷_ (7, KRouteRow.row) (List._∷_ (
-          8,
-          Rows'.any-gone Syntax.tyUnit,
         ) (List._∷_ (
-          9,
+          5,
+          Rows'.sref
+              (KDecided.R)
+              (Syntax.tyRef
+              (Syntax.named 2)
+              Syntax.imm
+              (KDecided.named))
+              2,
+        ) (List._∷_ (6, Rows'.any-gone Syntax.tyUnit) (List._∷_ (
+          7,
           Relend.msptr
               (KInstanceRow.R)
               (Syntax.tyRef Syntax.erased Syntax.mut (KInstanceRow.named))
-              2,
+              3,
         ) (List._∷_ (
-          10,
+          8,
           Rows'.any-gone
               (Syntax.tyStruct
               (List._∷_ 38 (List._∷_ 91 (List._∷_ 93 List.[])))
               (Syntax.tcons
               (Syntax.tyRef Syntax.erased Syntax.mut (KInstanceRow.named))
               (Syntax.tcons (Syntax.tyInt Syntax.w64) Syntax.tnil))),
+        ) (List._∷_ (9, Rows'.any-gone (KInstanceRow.spelled)) (List._∷_ (
+          10,
+          Rows'.any-gone (KDecided.spelled),
         ) (List._∷_ (
           11,
           Rows'.any-gone
@@ -2392,7 +3279,10 @@ module _ (claims· : Claims) where
               (Syntax.tcons
               (Syntax.tyRef Syntax.erased Syntax.mut (KRouteRow.named))
               (Syntax.tcons (Syntax.tyInt Syntax.w64) Syntax.tnil))),
-        ) List.[]))))))))))))))
+        )
+            (List._∷_
+            (15, Rows'.any-gone (KRouteRow.spelled))
+            List.[])))))))))))))))
 
         abbrev g3 : List.List Row.Entry
         g3 = List._∷_ (0, Rows'.any-gone Syntax.tyUnit) (List._∷_ (
@@ -2404,7 +3294,7 @@ module _ (claims· : Claims) where
               Syntax.mut
               (KInstanceRow.named))
               0
-              2
+              3
               (Row.lease (κs .0) (qs .0)),
         ) (List._∷_ (
           2,
@@ -2418,22 +3308,28 @@ module _ (claims· : Claims) where
         ) (List._∷_ (3, Rows'.whole (Declared.row Places.the-type)) (List._∷_ (
           4,
           Rows'.sc-here (Row.sInt Syntax.w64),
-        ) (List._∷_ (5, KInstanceRow.row) (List._∷_ (
-          6,
-          KInstanceRow.row,
-        ) (List._∷_ (7, KRouteRow.row) (List._∷_ (
-          8,
-          Rows'.any-gone Syntax.tyUnit,
         ) (List._∷_ (
-          9,
+          5,
+          Rows'.sref
+              (KDecided.R)
+              (Syntax.tyRef
+              (Syntax.named 2)
+              Syntax.imm
+              (KDecided.named))
+              2,
+        ) (List._∷_ (6, Rows'.any-gone Syntax.tyUnit) (List._∷_ (
+          7,
           Rows'.any-gone
               (Syntax.tyRef Syntax.erased Syntax.mut (KInstanceRow.named)),
         ) (List._∷_ (
-          10,
+          8,
           Mut.mslice
               (KInstanceRow.R)
               (Syntax.tyRef Syntax.erased Syntax.mut (KInstanceRow.named))
-              2,
+              3,
+        ) (List._∷_ (9, Rows'.any-gone (KInstanceRow.spelled)) (List._∷_ (
+          10,
+          Rows'.any-gone (KDecided.spelled),
         ) (List._∷_ (
           11,
           Rows'.any-gone
@@ -2458,7 +3354,10 @@ module _ (claims· : Claims) where
               (Syntax.tcons
               (Syntax.tyRef Syntax.erased Syntax.mut (KRouteRow.named))
               (Syntax.tcons (Syntax.tyInt Syntax.w64) Syntax.tnil))),
-        ) List.[]))))))))))))))
+        )
+            (List._∷_
+            (15, Rows'.any-gone (KRouteRow.spelled))
+            List.[])))))))))))))))
 
         abbrev g4 : List.List Row.Entry
         g4 = List._∷_ (0, Rows'.any-gone Syntax.tyUnit) (List._∷_ (
@@ -2470,7 +3369,7 @@ module _ (claims· : Claims) where
               Syntax.mut
               (KInstanceRow.named))
               0
-              2
+              3
               (Row.lease (κs .0) (qs .0)),
         ) (List._∷_ (
           2,
@@ -2484,21 +3383,28 @@ module _ (claims· : Claims) where
         ) (List._∷_ (3, Rows'.whole (Declared.row Places.the-type)) (List._∷_ (
           4,
           Rows'.sc-here (Row.sInt Syntax.w64),
-        ) (List._∷_ (5, KInstanceRow.row) (List._∷_ (
-          6,
-          KInstanceRow.row,
-        ) (List._∷_ (7, KRouteRow.row) (List._∷_ (
-          8,
-          Rows'.sc-here Row.sUnit,
         ) (List._∷_ (
-          9,
+          5,
+          Rows'.sref
+              (KDecided.R)
+              (Syntax.tyRef
+              (Syntax.named 2)
+              Syntax.imm
+              (KDecided.named))
+              2,
+        ) (List._∷_ (6, Rows'.any-gone Syntax.tyUnit) (List._∷_ (
+          7,
           Rows'.any-gone
               (Syntax.tyRef Syntax.erased Syntax.mut (KInstanceRow.named)),
         ) (List._∷_ (
-          10,
-          Mut.msleft
+          8,
+          Mut.mslice
               (KInstanceRow.R)
-              (Syntax.tyRef Syntax.erased Syntax.mut (KInstanceRow.named)),
+              (Syntax.tyRef Syntax.erased Syntax.mut (KInstanceRow.named))
+              3,
+        ) (List._∷_ (9, Rows'.any-gone (KInstanceRow.spelled)) (List._∷_ (
+          10,
+          KDecided.row,
         ) (List._∷_ (
           11,
           Rows'.any-gone
@@ -2523,7 +3429,10 @@ module _ (claims· : Claims) where
               (Syntax.tcons
               (Syntax.tyRef Syntax.erased Syntax.mut (KRouteRow.named))
               (Syntax.tcons (Syntax.tyInt Syntax.w64) Syntax.tnil))),
-        ) List.[]))))))))))))))
+        )
+            (List._∷_
+            (15, Rows'.any-gone (KRouteRow.spelled))
+            List.[])))))))))))))))
 
         abbrev g5 : List.List Row.Entry
         g5 = List._∷_ (0, Rows'.any-gone Syntax.tyUnit) (List._∷_ (
@@ -2535,7 +3444,7 @@ module _ (claims· : Claims) where
               Syntax.mut
               (KInstanceRow.named))
               0
-              2
+              3
               (Row.lease (κs .0) (qs .0)),
         ) (List._∷_ (
           2,
@@ -2549,21 +3458,28 @@ module _ (claims· : Claims) where
         ) (List._∷_ (3, Rows'.whole (Declared.row Places.the-type)) (List._∷_ (
           4,
           Rows'.sc-here (Row.sInt Syntax.w64),
-        ) (List._∷_ (5, Rows'.any-gone (KInstanceRow.spelled)) (List._∷_ (
-          6,
-          KInstanceRow.row,
-        ) (List._∷_ (7, KRouteRow.row) (List._∷_ (
-          8,
-          Rows'.sc-here Row.sUnit,
         ) (List._∷_ (
-          9,
+          5,
+          Rows'.sref
+              (KDecided.R)
+              (Syntax.tyRef
+              (Syntax.named 2)
+              Syntax.imm
+              (KDecided.named))
+              2,
+        ) (List._∷_ (6, Rows'.any-gone Syntax.tyUnit) (List._∷_ (
+          7,
           Rows'.any-gone
               (Syntax.tyRef Syntax.erased Syntax.mut (KInstanceRow.named)),
         ) (List._∷_ (
-          10,
-          Mut.msleft
+          8,
+          Mut.mslice
               (KInstanceRow.R)
-              (Syntax.tyRef Syntax.erased Syntax.mut (KInstanceRow.named)),
+              (Syntax.tyRef Syntax.erased Syntax.mut (KInstanceRow.named))
+              3,
+        ) (List._∷_ (9, KInstanceRow.row) (List._∷_ (
+          10,
+          KDecided.row,
         ) (List._∷_ (
           11,
           Rows'.any-gone
@@ -2588,7 +3504,10 @@ module _ (claims· : Claims) where
               (Syntax.tcons
               (Syntax.tyRef Syntax.erased Syntax.mut (KRouteRow.named))
               (Syntax.tcons (Syntax.tyInt Syntax.w64) Syntax.tnil))),
-        ) List.[]))))))))))))))
+        )
+            (List._∷_
+            (15, Rows'.any-gone (KRouteRow.spelled))
+            List.[])))))))))))))))
 
         abbrev g6 : List.List Row.Entry
         g6 = List._∷_ (0, Rows'.any-gone Syntax.tyUnit) (List._∷_ (
@@ -2600,7 +3519,7 @@ module _ (claims· : Claims) where
               Syntax.mut
               (KInstanceRow.named))
               0
-              2
+              3
               (Row.lease (κs .0) (qs .0)),
         ) (List._∷_ (
           2,
@@ -2614,21 +3533,28 @@ module _ (claims· : Claims) where
         ) (List._∷_ (3, Rows'.whole (Declared.row Places.the-type)) (List._∷_ (
           4,
           Rows'.sc-here (Row.sInt Syntax.w64),
-        ) (List._∷_ (5, Rows'.any-gone (KInstanceRow.spelled)) (List._∷_ (
-          6,
-          KInstanceRow.row,
-        ) (List._∷_ (7, KRouteRow.row) (List._∷_ (
-          8,
-          Rows'.any-gone Syntax.tyUnit,
         ) (List._∷_ (
-          9,
+          5,
+          Rows'.sref
+              (KDecided.R)
+              (Syntax.tyRef
+              (Syntax.named 2)
+              Syntax.imm
+              (KDecided.named))
+              2,
+        ) (List._∷_ (6, Rows'.any-gone Syntax.tyUnit) (List._∷_ (
+          7,
           Rows'.any-gone
               (Syntax.tyRef Syntax.erased Syntax.mut (KInstanceRow.named)),
         ) (List._∷_ (
-          10,
-          Mut.msleft
+          8,
+          Mut.mslice
               (KInstanceRow.R)
-              (Syntax.tyRef Syntax.erased Syntax.mut (KInstanceRow.named)),
+              (Syntax.tyRef Syntax.erased Syntax.mut (KInstanceRow.named))
+              3,
+        ) (List._∷_ (9, KInstanceRow.row) (List._∷_ (
+          10,
+          Rows'.any-gone (KDecided.spelled),
         ) (List._∷_ (
           11,
           Rows'.any-gone
@@ -2653,7 +3579,84 @@ module _ (claims· : Claims) where
               (Syntax.tcons
               (Syntax.tyRef Syntax.erased Syntax.mut (KRouteRow.named))
               (Syntax.tcons (Syntax.tyInt Syntax.w64) Syntax.tnil))),
-        ) List.[]))))))))))))))
+        )
+            (List._∷_
+            (15, Rows'.any-gone (KRouteRow.spelled))
+            List.[])))))))))))))))
+
+        abbrev g7 : List.List Row.Entry
+        g7 = List._∷_ (0, Rows'.any-gone Syntax.tyUnit) (List._∷_ (
+          1,
+          Relend.mslice-owed
+              (KInstanceRow.R)
+              (Syntax.tyRef
+              (Syntax.named 0)
+              Syntax.mut
+              (KInstanceRow.named))
+              0
+              3
+              (Row.lease (κs .0) (qs .0)),
+        ) (List._∷_ (
+          2,
+          Mut.mslice
+              (KRouteRow.R)
+              (Syntax.tyRef
+              (Syntax.named 1)
+              Syntax.mut
+              (KRouteRow.named))
+              1,
+        ) (List._∷_ (3, Rows'.whole (Declared.row Places.the-type)) (List._∷_ (
+          4,
+          Rows'.sc-here (Row.sInt Syntax.w64),
+        ) (List._∷_ (
+          5,
+          Rows'.sref
+              (KDecided.R)
+              (Syntax.tyRef
+              (Syntax.named 2)
+              Syntax.imm
+              (KDecided.named))
+              2,
+        ) (List._∷_ (6, Rows'.sc-here Row.sUnit) (List._∷_ (
+          7,
+          Rows'.any-gone
+              (Syntax.tyRef Syntax.erased Syntax.mut (KInstanceRow.named)),
+        ) (List._∷_ (
+          8,
+          Mut.msleft
+              (KInstanceRow.R)
+              (Syntax.tyRef Syntax.erased Syntax.mut (KInstanceRow.named)),
+        ) (List._∷_ (9, KInstanceRow.row) (List._∷_ (
+          10,
+          Rows'.any-gone (KDecided.spelled),
+        ) (List._∷_ (
+          11,
+          Rows'.any-gone
+              (Syntax.tyRef Syntax.erased Syntax.mut (KInstanceRow.named)),
+        ) (List._∷_ (
+          12,
+          Rows'.any-gone
+              (Syntax.tyStruct
+              (List._∷_ 38 (List._∷_ 91 (List._∷_ 93 List.[])))
+              (Syntax.tcons
+              (Syntax.tyRef Syntax.erased Syntax.mut (KInstanceRow.named))
+              (Syntax.tcons (Syntax.tyInt Syntax.w64) Syntax.tnil))),
+        ) (List._∷_ (
+          13,
+          Rows'.any-gone
+              (Syntax.tyRef Syntax.erased Syntax.mut (KRouteRow.named)),
+        ) (List._∷_ (
+          14,
+          Rows'.any-gone
+              (Syntax.tyStruct
+              (List._∷_ 38 (List._∷_ 91 (List._∷_ 93 List.[])))
+              (Syntax.tcons
+              (Syntax.tyRef Syntax.erased Syntax.mut (KRouteRow.named))
+              (Syntax.tcons (Syntax.tyInt Syntax.w64) Syntax.tnil))),
+        )
+            (List._∷_
+            (15, Rows'.any-gone (KRouteRow.spelled))
+            List.[])))))))))))))))
 
         abbrev g8 : List.List Row.Entry
         g8 = List._∷_ (0, Rows'.any-gone Syntax.tyUnit) (List._∷_ (
@@ -2679,30 +3682,31 @@ module _ (claims· : Claims) where
         ) (List._∷_ (3, Rows'.whole (Declared.row Places.the-type)) (List._∷_ (
           4,
           Rows'.sc-here (Row.sInt Syntax.w64),
-        ) (List._∷_ (5, Rows'.any-gone (KInstanceRow.spelled)) (List._∷_ (
-          6,
-          KInstanceRow.row,
-        ) (List._∷_ (7, KRouteRow.row) (List._∷_ (
-          8,
-          Rows'.any-gone Syntax.tyUnit,
         ) (List._∷_ (
-          9,
+          5,
+          Rows'.sref
+              (KDecided.R)
+              (Syntax.tyRef
+              (Syntax.named 2)
+              Syntax.imm
+              (KDecided.named))
+              2,
+        ) (List._∷_ (6, Rows'.any-gone Syntax.tyUnit) (List._∷_ (
+          7,
           Rows'.any-gone
               (Syntax.tyRef Syntax.erased Syntax.mut (KInstanceRow.named)),
         ) (List._∷_ (
+          8,
+          Mut.msleft
+              (KInstanceRow.R)
+              (Syntax.tyRef Syntax.erased Syntax.mut (KInstanceRow.named)),
+        ) (List._∷_ (9, KInstanceRow.row) (List._∷_ (
           10,
-          Rows'.any-gone
-              (Syntax.tyStruct
-              (List._∷_ 38 (List._∷_ 91 (List._∷_ 93 List.[])))
-              (Syntax.tcons
-              (Syntax.tyRef Syntax.erased Syntax.mut (KInstanceRow.named))
-              (Syntax.tcons (Syntax.tyInt Syntax.w64) Syntax.tnil))),
+          Rows'.any-gone (KDecided.spelled),
         ) (List._∷_ (
           11,
-          Relend.msptr
-              (KInstanceRow.R)
-              (Syntax.tyRef Syntax.erased Syntax.mut (KInstanceRow.named))
-              3,
+          Rows'.any-gone
+              (Syntax.tyRef Syntax.erased Syntax.mut (KInstanceRow.named)),
         ) (List._∷_ (
           12,
           Rows'.any-gone
@@ -2723,7 +3727,10 @@ module _ (claims· : Claims) where
               (Syntax.tcons
               (Syntax.tyRef Syntax.erased Syntax.mut (KRouteRow.named))
               (Syntax.tcons (Syntax.tyInt Syntax.w64) Syntax.tnil))),
-        ) List.[]))))))))))))))
+        )
+            (List._∷_
+            (15, Rows'.any-gone (KRouteRow.spelled))
+            List.[])))))))))))))))
 
         abbrev g9 : List.List Row.Entry
         g9 = List._∷_ (0, Rows'.any-gone Syntax.tyUnit) (List._∷_ (
@@ -2749,34 +3756,39 @@ module _ (claims· : Claims) where
         ) (List._∷_ (3, Rows'.whole (Declared.row Places.the-type)) (List._∷_ (
           4,
           Rows'.sc-here (Row.sInt Syntax.w64),
-        ) (List._∷_ (5, Rows'.any-gone (KInstanceRow.spelled)) (List._∷_ (
-          6,
-          KInstanceRow.row,
-        ) (List._∷_ (7, KRouteRow.row) (List._∷_ (
-          8,
-          Rows'.any-gone Syntax.tyUnit,
         ) (List._∷_ (
-          9,
+          5,
+          Rows'.sref
+              (KDecided.R)
+              (Syntax.tyRef
+              (Syntax.named 2)
+              Syntax.imm
+              (KDecided.named))
+              2,
+        ) (List._∷_ (6, Rows'.any-gone Syntax.tyUnit) (List._∷_ (
+          7,
           Rows'.any-gone
               (Syntax.tyRef Syntax.erased Syntax.mut (KInstanceRow.named)),
         ) (List._∷_ (
+          8,
+          Mut.msleft
+              (KInstanceRow.R)
+              (Syntax.tyRef Syntax.erased Syntax.mut (KInstanceRow.named)),
+        ) (List._∷_ (9, Rows'.any-gone (KInstanceRow.spelled)) (List._∷_ (
           10,
-          Rows'.any-gone
-              (Syntax.tyStruct
-              (List._∷_ 38 (List._∷_ 91 (List._∷_ 93 List.[])))
-              (Syntax.tcons
-              (Syntax.tyRef Syntax.erased Syntax.mut (KInstanceRow.named))
-              (Syntax.tcons (Syntax.tyInt Syntax.w64) Syntax.tnil))),
+          Rows'.any-gone (KDecided.spelled),
         ) (List._∷_ (
           11,
           Rows'.any-gone
               (Syntax.tyRef Syntax.erased Syntax.mut (KInstanceRow.named)),
         ) (List._∷_ (
           12,
-          Mut.mslice
-              (KInstanceRow.R)
+          Rows'.any-gone
+              (Syntax.tyStruct
+              (List._∷_ 38 (List._∷_ 91 (List._∷_ 93 List.[])))
+              (Syntax.tcons
               (Syntax.tyRef Syntax.erased Syntax.mut (KInstanceRow.named))
-              3,
+              (Syntax.tcons (Syntax.tyInt Syntax.w64) Syntax.tnil))),
         ) (List._∷_ (
           13,
           Rows'.any-gone
@@ -2789,7 +3801,10 @@ module _ (claims· : Claims) where
               (Syntax.tcons
               (Syntax.tyRef Syntax.erased Syntax.mut (KRouteRow.named))
               (Syntax.tcons (Syntax.tyInt Syntax.w64) Syntax.tnil))),
-        ) List.[]))))))))))))))
+        )
+            (List._∷_
+            (15, Rows'.any-gone (KRouteRow.spelled))
+            List.[])))))))))))))))
 
         abbrev g10 : List.List Row.Entry
         g10 = List._∷_ (0, Rows'.any-gone Syntax.tyUnit) (List._∷_ (
@@ -2801,7 +3816,7 @@ module _ (claims· : Claims) where
               Syntax.mut
               (KInstanceRow.named))
               0
-              3
+              4
               (Row.lease (κs .0) (qs .0)),
         ) (List._∷_ (
           2,
@@ -2815,33 +3830,44 @@ module _ (claims· : Claims) where
         ) (List._∷_ (3, Rows'.whole (Declared.row Places.the-type)) (List._∷_ (
           4,
           Rows'.sc-here (Row.sInt Syntax.w64),
-        ) (List._∷_ (5, Rows'.any-gone (KInstanceRow.spelled)) (List._∷_ (
-          6,
-          KInstanceRow.row,
-        ) (List._∷_ (7, KRouteRow.row) (List._∷_ (
-          8,
-          Rows'.sc-here Row.sUnit,
         ) (List._∷_ (
-          9,
+          5,
+          Rows'.sref
+              (KDecided.R)
+              (Syntax.tyRef
+              (Syntax.named 2)
+              Syntax.imm
+              (KDecided.named))
+              2,
+        ) (List._∷_ (6, Rows'.any-gone Syntax.tyUnit) (List._∷_ (
+          7,
           Rows'.any-gone
               (Syntax.tyRef Syntax.erased Syntax.mut (KInstanceRow.named)),
         ) (List._∷_ (
-          10,
+          8,
           Rows'.any-gone
               (Syntax.tyStruct
               (List._∷_ 38 (List._∷_ 91 (List._∷_ 93 List.[])))
               (Syntax.tcons
               (Syntax.tyRef Syntax.erased Syntax.mut (KInstanceRow.named))
               (Syntax.tcons (Syntax.tyInt Syntax.w64) Syntax.tnil))),
+        ) (List._∷_ (9, Rows'.any-gone (KInstanceRow.spelled)) (List._∷_ (
+          10,
+          Rows'.any-gone (KDecided.spelled),
         ) (List._∷_ (
           11,
-          Rows'.any-gone
-              (Syntax.tyRef Syntax.erased Syntax.mut (KInstanceRow.named)),
+          Relend.msptr
+              (KInstanceRow.R)
+              (Syntax.tyRef Syntax.erased Syntax.mut (KInstanceRow.named))
+              4,
         ) (List._∷_ (
           12,
-          Mut.msleft
-              (KInstanceRow.R)
-              (Syntax.tyRef Syntax.erased Syntax.mut (KInstanceRow.named)),
+          Rows'.any-gone
+              (Syntax.tyStruct
+              (List._∷_ 38 (List._∷_ 91 (List._∷_ 93 List.[])))
+              (Syntax.tcons
+              (Syntax.tyRef Syntax.erased Syntax.mut (KInstanceRow.named))
+              (Syntax.tcons (Syntax.tyInt Syntax.w64) Syntax.tnil))),
         ) (List._∷_ (
           13,
           Rows'.any-gone
@@ -2854,7 +3880,10 @@ module _ (claims· : Claims) where
               (Syntax.tcons
               (Syntax.tyRef Syntax.erased Syntax.mut (KRouteRow.named))
               (Syntax.tcons (Syntax.tyInt Syntax.w64) Syntax.tnil))),
-        ) List.[]))))))))))))))
+        )
+            (List._∷_
+            (15, Rows'.any-gone (KRouteRow.spelled))
+            List.[])))))))))))))))
 
         abbrev g11 : List.List Row.Entry
         g11 = List._∷_ (0, Rows'.any-gone Syntax.tyUnit) (List._∷_ (
@@ -2866,7 +3895,7 @@ module _ (claims· : Claims) where
               Syntax.mut
               (KInstanceRow.named))
               0
-              3
+              4
               (Row.lease (κs .0) (qs .0)),
         ) (List._∷_ (
           2,
@@ -2877,61 +3906,43 @@ module _ (claims· : Claims) where
               Syntax.mut
               (KRouteRow.named))
               1,
+        ) (List._∷_ (3, Rows'.whole (Declared.row Places.the-type)) (List._∷_ (
+          4,
+          Rows'.sc-here (Row.sInt Syntax.w64),
         ) (List._∷_ (
-          3,
-          Rows'.any-gone
-              (Syntax.tyStruct
-              (List._∷_
-              112
-              (List._∷_
-              108
-              (List._∷_
-              97
-              (List._∷_
-              99
-              (List._∷_
-              101
-              (List._∷_
-              58
-              (List._∷_
-              58
-              (List._∷_
-              80
-              (List._∷_
-              108
-              (List._∷_ 97 (List._∷_ 99 (List._∷_ 101 (List._∷_ 115 List.[])))))))))))))
-              (Syntax.tcons
-              Syntax.tyBool
-              (Syntax.tcons
-              (Syntax.tyInt Syntax.w64)
-              (Syntax.tcons (Syntax.tyInt Syntax.w64) Syntax.tnil)))),
-        ) (List._∷_ (4, Rows'.sc-here (Row.sInt Syntax.w64)) (List._∷_ (
           5,
-          Rows'.any-gone (KInstanceRow.spelled),
-        ) (List._∷_ (6, KInstanceRow.row) (List._∷_ (
+          Rows'.sref
+              (KDecided.R)
+              (Syntax.tyRef
+              (Syntax.named 2)
+              Syntax.imm
+              (KDecided.named))
+              2,
+        ) (List._∷_ (6, Rows'.any-gone Syntax.tyUnit) (List._∷_ (
           7,
-          KRouteRow.row,
-        ) (List._∷_ (8, Rows'.sc-here Row.sUnit) (List._∷_ (
-          9,
           Rows'.any-gone
               (Syntax.tyRef Syntax.erased Syntax.mut (KInstanceRow.named)),
         ) (List._∷_ (
-          10,
+          8,
           Rows'.any-gone
               (Syntax.tyStruct
               (List._∷_ 38 (List._∷_ 91 (List._∷_ 93 List.[])))
               (Syntax.tcons
               (Syntax.tyRef Syntax.erased Syntax.mut (KInstanceRow.named))
               (Syntax.tcons (Syntax.tyInt Syntax.w64) Syntax.tnil))),
+        ) (List._∷_ (9, Rows'.any-gone (KInstanceRow.spelled)) (List._∷_ (
+          10,
+          Rows'.any-gone (KDecided.spelled),
         ) (List._∷_ (
           11,
           Rows'.any-gone
               (Syntax.tyRef Syntax.erased Syntax.mut (KInstanceRow.named)),
         ) (List._∷_ (
           12,
-          Mut.msleft
+          Mut.mslice
               (KInstanceRow.R)
-              (Syntax.tyRef Syntax.erased Syntax.mut (KInstanceRow.named)),
+              (Syntax.tyRef Syntax.erased Syntax.mut (KInstanceRow.named))
+              4,
         ) (List._∷_ (
           13,
           Rows'.any-gone
@@ -2944,7 +3955,10 @@ module _ (claims· : Claims) where
               (Syntax.tcons
               (Syntax.tyRef Syntax.erased Syntax.mut (KRouteRow.named))
               (Syntax.tcons (Syntax.tyInt Syntax.w64) Syntax.tnil))),
-        ) List.[]))))))))))))))
+        )
+            (List._∷_
+            (15, Rows'.any-gone (KRouteRow.spelled))
+            List.[])))))))))))))))
 
         abbrev g12 : List.List Row.Entry
         g12 = List._∷_ (0, Rows'.any-gone Syntax.tyUnit) (List._∷_ (
@@ -2956,7 +3970,7 @@ module _ (claims· : Claims) where
               Syntax.mut
               (KInstanceRow.named))
               0
-              3
+              4
               (Row.lease (κs .0) (qs .0)),
         ) (List._∷_ (
           2,
@@ -2967,61 +3981,43 @@ module _ (claims· : Claims) where
               Syntax.mut
               (KRouteRow.named))
               1,
+        ) (List._∷_ (3, Rows'.whole (Declared.row Places.the-type)) (List._∷_ (
+          4,
+          Rows'.sc-here (Row.sInt Syntax.w64),
         ) (List._∷_ (
-          3,
-          Rows'.any-gone
-              (Syntax.tyStruct
-              (List._∷_
-              112
-              (List._∷_
-              108
-              (List._∷_
-              97
-              (List._∷_
-              99
-              (List._∷_
-              101
-              (List._∷_
-              58
-              (List._∷_
-              58
-              (List._∷_
-              80
-              (List._∷_
-              108
-              (List._∷_ 97 (List._∷_ 99 (List._∷_ 101 (List._∷_ 115 List.[])))))))))))))
-              (Syntax.tcons
-              Syntax.tyBool
-              (Syntax.tcons
-              (Syntax.tyInt Syntax.w64)
-              (Syntax.tcons (Syntax.tyInt Syntax.w64) Syntax.tnil)))),
-        ) (List._∷_ (4, Rows'.sc-here (Row.sInt Syntax.w64)) (List._∷_ (
           5,
-          Rows'.any-gone (KInstanceRow.spelled),
-        ) (List._∷_ (6, Rows'.any-gone (KInstanceRow.spelled)) (List._∷_ (
+          Rows'.sref
+              (KDecided.R)
+              (Syntax.tyRef
+              (Syntax.named 2)
+              Syntax.imm
+              (KDecided.named))
+              2,
+        ) (List._∷_ (6, Rows'.any-gone Syntax.tyUnit) (List._∷_ (
           7,
-          KRouteRow.row,
-        ) (List._∷_ (8, Rows'.sc-here Row.sUnit) (List._∷_ (
-          9,
           Rows'.any-gone
               (Syntax.tyRef Syntax.erased Syntax.mut (KInstanceRow.named)),
         ) (List._∷_ (
-          10,
+          8,
           Rows'.any-gone
               (Syntax.tyStruct
               (List._∷_ 38 (List._∷_ 91 (List._∷_ 93 List.[])))
               (Syntax.tcons
               (Syntax.tyRef Syntax.erased Syntax.mut (KInstanceRow.named))
               (Syntax.tcons (Syntax.tyInt Syntax.w64) Syntax.tnil))),
+        ) (List._∷_ (9, Rows'.any-gone (KInstanceRow.spelled)) (List._∷_ (
+          10,
+          KDecided.row,
         ) (List._∷_ (
           11,
           Rows'.any-gone
               (Syntax.tyRef Syntax.erased Syntax.mut (KInstanceRow.named)),
         ) (List._∷_ (
           12,
-          Mut.msleft
+          Mut.mslice
               (KInstanceRow.R)
-              (Syntax.tyRef Syntax.erased Syntax.mut (KInstanceRow.named)),
+              (Syntax.tyRef Syntax.erased Syntax.mut (KInstanceRow.named))
+              4,
         ) (List._∷_ (
           13,
           Rows'.any-gone
@@ -3034,7 +4030,10 @@ module _ (claims· : Claims) where
               (Syntax.tcons
               (Syntax.tyRef Syntax.erased Syntax.mut (KRouteRow.named))
               (Syntax.tcons (Syntax.tyInt Syntax.w64) Syntax.tnil))),
-        ) List.[]))))))))))))))
+        )
+            (List._∷_
+            (15, Rows'.any-gone (KRouteRow.spelled))
+            List.[])))))))))))))))
 
         abbrev g13 : List.List Row.Entry
         g13 = List._∷_ (0, Rows'.any-gone Syntax.tyUnit) (List._∷_ (
@@ -3046,7 +4045,231 @@ module _ (claims· : Claims) where
               Syntax.mut
               (KInstanceRow.named))
               0
-              3
+              4
+              (Row.lease (κs .0) (qs .0)),
+        ) (List._∷_ (
+          2,
+          Mut.mslice
+              (KRouteRow.R)
+              (Syntax.tyRef
+              (Syntax.named 1)
+              Syntax.mut
+              (KRouteRow.named))
+              1,
+        ) (List._∷_ (3, Rows'.whole (Declared.row Places.the-type)) (List._∷_ (
+          4,
+          Rows'.sc-here (Row.sInt Syntax.w64),
+        ) (List._∷_ (
+          5,
+          Rows'.sref
+              (KDecided.R)
+              (Syntax.tyRef
+              (Syntax.named 2)
+              Syntax.imm
+              (KDecided.named))
+              2,
+        ) (List._∷_ (6, Rows'.any-gone Syntax.tyUnit) (List._∷_ (
+          7,
+          Rows'.any-gone
+              (Syntax.tyRef Syntax.erased Syntax.mut (KInstanceRow.named)),
+        ) (List._∷_ (
+          8,
+          Rows'.any-gone
+              (Syntax.tyStruct
+              (List._∷_ 38 (List._∷_ 91 (List._∷_ 93 List.[])))
+              (Syntax.tcons
+              (Syntax.tyRef Syntax.erased Syntax.mut (KInstanceRow.named))
+              (Syntax.tcons (Syntax.tyInt Syntax.w64) Syntax.tnil))),
+        ) (List._∷_ (9, KInstanceRow.row) (List._∷_ (
+          10,
+          KDecided.row,
+        ) (List._∷_ (
+          11,
+          Rows'.any-gone
+              (Syntax.tyRef Syntax.erased Syntax.mut (KInstanceRow.named)),
+        ) (List._∷_ (
+          12,
+          Mut.mslice
+              (KInstanceRow.R)
+              (Syntax.tyRef Syntax.erased Syntax.mut (KInstanceRow.named))
+              4,
+        ) (List._∷_ (
+          13,
+          Rows'.any-gone
+              (Syntax.tyRef Syntax.erased Syntax.mut (KRouteRow.named)),
+        ) (List._∷_ (
+          14,
+          Rows'.any-gone
+              (Syntax.tyStruct
+              (List._∷_ 38 (List._∷_ 91 (List._∷_ 93 List.[])))
+              (Syntax.tcons
+              (Syntax.tyRef Syntax.erased Syntax.mut (KRouteRow.named))
+              (Syntax.tcons (Syntax.tyInt Syntax.w64) Syntax.tnil))),
+        )
+            (List._∷_
+            (15, Rows'.any-gone (KRouteRow.spelled))
+            List.[])))))))))))))))
+
+        abbrev g14 : List.List Row.Entry
+        g14 = List._∷_ (0, Rows'.any-gone Syntax.tyUnit) (List._∷_ (
+          1,
+          Relend.mslice-owed
+              (KInstanceRow.R)
+              (Syntax.tyRef
+              (Syntax.named 0)
+              Syntax.mut
+              (KInstanceRow.named))
+              0
+              4
+              (Row.lease (κs .0) (qs .0)),
+        ) (List._∷_ (
+          2,
+          Mut.mslice
+              (KRouteRow.R)
+              (Syntax.tyRef
+              (Syntax.named 1)
+              Syntax.mut
+              (KRouteRow.named))
+              1,
+        ) (List._∷_ (3, Rows'.whole (Declared.row Places.the-type)) (List._∷_ (
+          4,
+          Rows'.sc-here (Row.sInt Syntax.w64),
+        ) (List._∷_ (
+          5,
+          Rows'.sref
+              (KDecided.R)
+              (Syntax.tyRef
+              (Syntax.named 2)
+              Syntax.imm
+              (KDecided.named))
+              2,
+        ) (List._∷_ (6, Rows'.any-gone Syntax.tyUnit) (List._∷_ (
+          7,
+          Rows'.any-gone
+              (Syntax.tyRef Syntax.erased Syntax.mut (KInstanceRow.named)),
+        ) (List._∷_ (
+          8,
+          Rows'.any-gone
+              (Syntax.tyStruct
+              (List._∷_ 38 (List._∷_ 91 (List._∷_ 93 List.[])))
+              (Syntax.tcons
+              (Syntax.tyRef Syntax.erased Syntax.mut (KInstanceRow.named))
+              (Syntax.tcons (Syntax.tyInt Syntax.w64) Syntax.tnil))),
+        ) (List._∷_ (9, KInstanceRow.row) (List._∷_ (
+          10,
+          Rows'.any-gone (KDecided.spelled),
+        ) (List._∷_ (
+          11,
+          Rows'.any-gone
+              (Syntax.tyRef Syntax.erased Syntax.mut (KInstanceRow.named)),
+        ) (List._∷_ (
+          12,
+          Mut.mslice
+              (KInstanceRow.R)
+              (Syntax.tyRef Syntax.erased Syntax.mut (KInstanceRow.named))
+              4,
+        ) (List._∷_ (
+          13,
+          Rows'.any-gone
+              (Syntax.tyRef Syntax.erased Syntax.mut (KRouteRow.named)),
+        ) (List._∷_ (
+          14,
+          Rows'.any-gone
+              (Syntax.tyStruct
+              (List._∷_ 38 (List._∷_ 91 (List._∷_ 93 List.[])))
+              (Syntax.tcons
+              (Syntax.tyRef Syntax.erased Syntax.mut (KRouteRow.named))
+              (Syntax.tcons (Syntax.tyInt Syntax.w64) Syntax.tnil))),
+        )
+            (List._∷_
+            (15, Rows'.any-gone (KRouteRow.spelled))
+            List.[])))))))))))))))
+
+        abbrev g15 : List.List Row.Entry
+        g15 = List._∷_ (0, Rows'.any-gone Syntax.tyUnit) (List._∷_ (
+          1,
+          Relend.mslice-owed
+              (KInstanceRow.R)
+              (Syntax.tyRef
+              (Syntax.named 0)
+              Syntax.mut
+              (KInstanceRow.named))
+              0
+              4
+              (Row.lease (κs .0) (qs .0)),
+        ) (List._∷_ (
+          2,
+          Mut.mslice
+              (KRouteRow.R)
+              (Syntax.tyRef
+              (Syntax.named 1)
+              Syntax.mut
+              (KRouteRow.named))
+              1,
+        ) (List._∷_ (3, Rows'.whole (Declared.row Places.the-type)) (List._∷_ (
+          4,
+          Rows'.sc-here (Row.sInt Syntax.w64),
+        ) (List._∷_ (
+          5,
+          Rows'.sref
+              (KDecided.R)
+              (Syntax.tyRef
+              (Syntax.named 2)
+              Syntax.imm
+              (KDecided.named))
+              2,
+        ) (List._∷_ (6, Rows'.sc-here Row.sUnit) (List._∷_ (
+          7,
+          Rows'.any-gone
+              (Syntax.tyRef Syntax.erased Syntax.mut (KInstanceRow.named)),
+        ) (List._∷_ (
+          8,
+          Rows'.any-gone
+              (Syntax.tyStruct
+              (List._∷_ 38 (List._∷_ 91 (List._∷_ 93 List.[])))
+              (Syntax.tcons
+              (Syntax.tyRef Syntax.erased Syntax.mut (KInstanceRow.named))
+              (Syntax.tcons (Syntax.tyInt Syntax.w64) Syntax.tnil))),
+        ) (List._∷_ (9, KInstanceRow.row) (List._∷_ (
+          10,
+          Rows'.any-gone (KDecided.spelled),
+        ) (List._∷_ (
+          11,
+          Rows'.any-gone
+              (Syntax.tyRef Syntax.erased Syntax.mut (KInstanceRow.named)),
+        ) (List._∷_ (
+          12,
+          Mut.msleft
+              (KInstanceRow.R)
+              (Syntax.tyRef Syntax.erased Syntax.mut (KInstanceRow.named)),
+        ) (List._∷_ (
+          13,
+          Rows'.any-gone
+              (Syntax.tyRef Syntax.erased Syntax.mut (KRouteRow.named)),
+        ) (List._∷_ (
+          14,
+          Rows'.any-gone
+              (Syntax.tyStruct
+              (List._∷_ 38 (List._∷_ 91 (List._∷_ 93 List.[])))
+              (Syntax.tcons
+              (Syntax.tyRef Syntax.erased Syntax.mut (KRouteRow.named))
+              (Syntax.tcons (Syntax.tyInt Syntax.w64) Syntax.tnil))),
+        )
+            (List._∷_
+            (15, Rows'.any-gone (KRouteRow.spelled))
+            List.[])))))))))))))))
+
+        abbrev g16 : List.List Row.Entry
+        g16 = List._∷_ (0, Rows'.any-gone Syntax.tyUnit) (List._∷_ (
+          1,
+          Relend.mslice-owed
+              (KInstanceRow.R)
+              (Syntax.tyRef
+              (Syntax.named 0)
+              Syntax.mut
+              (KInstanceRow.named))
+              0
+              4
               (Row.lease (κs .0) (qs .0)),
         ) (List._∷_ (
           2,
@@ -3087,22 +4310,28 @@ module _ (claims· : Claims) where
               (Syntax.tcons (Syntax.tyInt Syntax.w64) Syntax.tnil)))),
         ) (List._∷_ (4, Rows'.sc-here (Row.sInt Syntax.w64)) (List._∷_ (
           5,
-          Rows'.any-gone (KInstanceRow.spelled),
-        ) (List._∷_ (6, Rows'.any-gone (KInstanceRow.spelled)) (List._∷_ (
+          Rows'.sref
+              (KDecided.R)
+              (Syntax.tyRef
+              (Syntax.named 2)
+              Syntax.imm
+              (KDecided.named))
+              2,
+        ) (List._∷_ (6, Rows'.sc-here Row.sUnit) (List._∷_ (
           7,
-          KRouteRow.row,
-        ) (List._∷_ (8, Rows'.any-gone Syntax.tyUnit) (List._∷_ (
-          9,
           Rows'.any-gone
               (Syntax.tyRef Syntax.erased Syntax.mut (KInstanceRow.named)),
         ) (List._∷_ (
-          10,
+          8,
           Rows'.any-gone
               (Syntax.tyStruct
               (List._∷_ 38 (List._∷_ 91 (List._∷_ 93 List.[])))
               (Syntax.tcons
               (Syntax.tyRef Syntax.erased Syntax.mut (KInstanceRow.named))
               (Syntax.tcons (Syntax.tyInt Syntax.w64) Syntax.tnil))),
+        ) (List._∷_ (9, KInstanceRow.row) (List._∷_ (
+          10,
+          Rows'.any-gone (KDecided.spelled),
         ) (List._∷_ (
           11,
           Rows'.any-gone
@@ -3124,10 +4353,211 @@ module _ (claims· : Claims) where
               (Syntax.tcons
               (Syntax.tyRef Syntax.erased Syntax.mut (KRouteRow.named))
               (Syntax.tcons (Syntax.tyInt Syntax.w64) Syntax.tnil))),
-        ) List.[]))))))))))))))
+        )
+            (List._∷_
+            (15, Rows'.any-gone (KRouteRow.spelled))
+            List.[])))))))))))))))
 
-        abbrev g15 : List.List Row.Entry
-        g15 = List._∷_ (0, Rows'.any-gone Syntax.tyUnit) (List._∷_ (
+        abbrev g17 : List.List Row.Entry
+        g17 = List._∷_ (0, Rows'.any-gone Syntax.tyUnit) (List._∷_ (
+          1,
+          Relend.mslice-owed
+              (KInstanceRow.R)
+              (Syntax.tyRef
+              (Syntax.named 0)
+              Syntax.mut
+              (KInstanceRow.named))
+              0
+              4
+              (Row.lease (κs .0) (qs .0)),
+        ) (List._∷_ (
+          2,
+          Mut.mslice
+              (KRouteRow.R)
+              (Syntax.tyRef
+              (Syntax.named 1)
+              Syntax.mut
+              (KRouteRow.named))
+              1,
+        ) (List._∷_ (
+          3,
+          Rows'.any-gone
+              (Syntax.tyStruct
+              (List._∷_
+              112
+              (List._∷_
+              108
+              (List._∷_
+              97
+              (List._∷_
+              99
+              (List._∷_
+              101
+              (List._∷_
+              58
+              (List._∷_
+              58
+              (List._∷_
+              80
+              (List._∷_
+              108
+              (List._∷_ 97 (List._∷_ 99 (List._∷_ 101 (List._∷_ 115 List.[])))))))))))))
+              (Syntax.tcons
+              Syntax.tyBool
+              (Syntax.tcons
+              (Syntax.tyInt Syntax.w64)
+              (Syntax.tcons (Syntax.tyInt Syntax.w64) Syntax.tnil)))),
+        ) (List._∷_ (4, Rows'.sc-here (Row.sInt Syntax.w64)) (List._∷_ (
+          5,
+          Rows'.sref
+              (KDecided.R)
+              (Syntax.tyRef
+              (Syntax.named 2)
+              Syntax.imm
+              (KDecided.named))
+              2,
+        ) (List._∷_ (6, Rows'.any-gone Syntax.tyUnit) (List._∷_ (
+          7,
+          Rows'.any-gone
+              (Syntax.tyRef Syntax.erased Syntax.mut (KInstanceRow.named)),
+        ) (List._∷_ (
+          8,
+          Rows'.any-gone
+              (Syntax.tyStruct
+              (List._∷_ 38 (List._∷_ 91 (List._∷_ 93 List.[])))
+              (Syntax.tcons
+              (Syntax.tyRef Syntax.erased Syntax.mut (KInstanceRow.named))
+              (Syntax.tcons (Syntax.tyInt Syntax.w64) Syntax.tnil))),
+        ) (List._∷_ (9, KInstanceRow.row) (List._∷_ (
+          10,
+          Rows'.any-gone (KDecided.spelled),
+        ) (List._∷_ (
+          11,
+          Rows'.any-gone
+              (Syntax.tyRef Syntax.erased Syntax.mut (KInstanceRow.named)),
+        ) (List._∷_ (
+          12,
+          Mut.msleft
+              (KInstanceRow.R)
+              (Syntax.tyRef Syntax.erased Syntax.mut (KInstanceRow.named)),
+        ) (List._∷_ (
+          13,
+          Rows'.any-gone
+              (Syntax.tyRef Syntax.erased Syntax.mut (KRouteRow.named)),
+        ) (List._∷_ (
+          14,
+          Rows'.any-gone
+              (Syntax.tyStruct
+              (List._∷_ 38 (List._∷_ 91 (List._∷_ 93 List.[])))
+              (Syntax.tcons
+              (Syntax.tyRef Syntax.erased Syntax.mut (KRouteRow.named))
+              (Syntax.tcons (Syntax.tyInt Syntax.w64) Syntax.tnil))),
+        )
+            (List._∷_
+            (15, Rows'.any-gone (KRouteRow.spelled))
+            List.[])))))))))))))))
+
+        abbrev g18 : List.List Row.Entry
+        g18 = List._∷_ (0, Rows'.any-gone Syntax.tyUnit) (List._∷_ (
+          1,
+          Relend.mslice-owed
+              (KInstanceRow.R)
+              (Syntax.tyRef
+              (Syntax.named 0)
+              Syntax.mut
+              (KInstanceRow.named))
+              0
+              4
+              (Row.lease (κs .0) (qs .0)),
+        ) (List._∷_ (
+          2,
+          Mut.mslice
+              (KRouteRow.R)
+              (Syntax.tyRef
+              (Syntax.named 1)
+              Syntax.mut
+              (KRouteRow.named))
+              1,
+        ) (List._∷_ (
+          3,
+          Rows'.any-gone
+              (Syntax.tyStruct
+              (List._∷_
+              112
+              (List._∷_
+              108
+              (List._∷_
+              97
+              (List._∷_
+              99
+              (List._∷_
+              101
+              (List._∷_
+              58
+              (List._∷_
+              58
+              (List._∷_
+              80
+              (List._∷_
+              108
+              (List._∷_ 97 (List._∷_ 99 (List._∷_ 101 (List._∷_ 115 List.[])))))))))))))
+              (Syntax.tcons
+              Syntax.tyBool
+              (Syntax.tcons
+              (Syntax.tyInt Syntax.w64)
+              (Syntax.tcons (Syntax.tyInt Syntax.w64) Syntax.tnil)))),
+        ) (List._∷_ (4, Rows'.sc-here (Row.sInt Syntax.w64)) (List._∷_ (
+          5,
+          Rows'.sref
+              (KDecided.R)
+              (Syntax.tyRef
+              (Syntax.named 2)
+              Syntax.imm
+              (KDecided.named))
+              2,
+        ) (List._∷_ (6, Rows'.any-gone Syntax.tyUnit) (List._∷_ (
+          7,
+          Rows'.any-gone
+              (Syntax.tyRef Syntax.erased Syntax.mut (KInstanceRow.named)),
+        ) (List._∷_ (
+          8,
+          Rows'.any-gone
+              (Syntax.tyStruct
+              (List._∷_ 38 (List._∷_ 91 (List._∷_ 93 List.[])))
+              (Syntax.tcons
+              (Syntax.tyRef Syntax.erased Syntax.mut (KInstanceRow.named))
+              (Syntax.tcons (Syntax.tyInt Syntax.w64) Syntax.tnil))),
+        ) (List._∷_ (9, Rows'.any-gone (KInstanceRow.spelled)) (List._∷_ (
+          10,
+          Rows'.any-gone (KDecided.spelled),
+        ) (List._∷_ (
+          11,
+          Rows'.any-gone
+              (Syntax.tyRef Syntax.erased Syntax.mut (KInstanceRow.named)),
+        ) (List._∷_ (
+          12,
+          Mut.msleft
+              (KInstanceRow.R)
+              (Syntax.tyRef Syntax.erased Syntax.mut (KInstanceRow.named)),
+        ) (List._∷_ (
+          13,
+          Rows'.any-gone
+              (Syntax.tyRef Syntax.erased Syntax.mut (KRouteRow.named)),
+        ) (List._∷_ (
+          14,
+          Rows'.any-gone
+              (Syntax.tyStruct
+              (List._∷_ 38 (List._∷_ 91 (List._∷_ 93 List.[])))
+              (Syntax.tcons
+              (Syntax.tyRef Syntax.erased Syntax.mut (KRouteRow.named))
+              (Syntax.tcons (Syntax.tyInt Syntax.w64) Syntax.tnil))),
+        )
+            (List._∷_
+            (15, Rows'.any-gone (KRouteRow.spelled))
+            List.[])))))))))))))))
+
+        abbrev g20 : List.List Row.Entry
+        g20 = List._∷_ (0, Rows'.any-gone Syntax.tyUnit) (List._∷_ (
           1,
           Mut.mslice
               (KInstanceRow.R)
@@ -3145,7 +4575,7 @@ module _ (claims· : Claims) where
               Syntax.mut
               (KRouteRow.named))
               1
-              4
+              5
               (Row.lease (κs .1 .0) (qs .1 .0)),
         ) (List._∷_ (
           3,
@@ -3177,22 +4607,28 @@ module _ (claims· : Claims) where
               (Syntax.tcons (Syntax.tyInt Syntax.w64) Syntax.tnil)))),
         ) (List._∷_ (4, Rows'.sc-here (Row.sInt Syntax.w64)) (List._∷_ (
           5,
-          Rows'.any-gone (KInstanceRow.spelled),
-        ) (List._∷_ (6, Rows'.any-gone (KInstanceRow.spelled)) (List._∷_ (
+          Rows'.sref
+              (KDecided.R)
+              (Syntax.tyRef
+              (Syntax.named 2)
+              Syntax.imm
+              (KDecided.named))
+              2,
+        ) (List._∷_ (6, Rows'.any-gone Syntax.tyUnit) (List._∷_ (
           7,
-          KRouteRow.row,
-        ) (List._∷_ (8, Rows'.any-gone Syntax.tyUnit) (List._∷_ (
-          9,
           Rows'.any-gone
               (Syntax.tyRef Syntax.erased Syntax.mut (KInstanceRow.named)),
         ) (List._∷_ (
-          10,
+          8,
           Rows'.any-gone
               (Syntax.tyStruct
               (List._∷_ 38 (List._∷_ 91 (List._∷_ 93 List.[])))
               (Syntax.tcons
               (Syntax.tyRef Syntax.erased Syntax.mut (KInstanceRow.named))
               (Syntax.tcons (Syntax.tyInt Syntax.w64) Syntax.tnil))),
+        ) (List._∷_ (9, Rows'.any-gone (KInstanceRow.spelled)) (List._∷_ (
+          10,
+          Rows'.any-gone (KDecided.spelled),
         ) (List._∷_ (
           11,
           Rows'.any-gone
@@ -3210,7 +4646,7 @@ module _ (claims· : Claims) where
           Relend.msptr
               (KRouteRow.R)
               (Syntax.tyRef Syntax.erased Syntax.mut (KRouteRow.named))
-              4,
+              5,
         ) (List._∷_ (
           14,
           Rows'.any-gone
@@ -3219,10 +4655,13 @@ module _ (claims· : Claims) where
               (Syntax.tcons
               (Syntax.tyRef Syntax.erased Syntax.mut (KRouteRow.named))
               (Syntax.tcons (Syntax.tyInt Syntax.w64) Syntax.tnil))),
-        ) List.[]))))))))))))))
+        )
+            (List._∷_
+            (15, Rows'.any-gone (KRouteRow.spelled))
+            List.[])))))))))))))))
 
-        abbrev g16 : List.List Row.Entry
-        g16 = List._∷_ (0, Rows'.any-gone Syntax.tyUnit) (List._∷_ (
+        abbrev g21 : List.List Row.Entry
+        g21 = List._∷_ (0, Rows'.any-gone Syntax.tyUnit) (List._∷_ (
           1,
           Mut.mslice
               (KInstanceRow.R)
@@ -3240,7 +4679,7 @@ module _ (claims· : Claims) where
               Syntax.mut
               (KRouteRow.named))
               1
-              4
+              5
               (Row.lease (κs .1 .0) (qs .1 .0)),
         ) (List._∷_ (
           3,
@@ -3272,22 +4711,28 @@ module _ (claims· : Claims) where
               (Syntax.tcons (Syntax.tyInt Syntax.w64) Syntax.tnil)))),
         ) (List._∷_ (4, Rows'.sc-here (Row.sInt Syntax.w64)) (List._∷_ (
           5,
-          Rows'.any-gone (KInstanceRow.spelled),
-        ) (List._∷_ (6, Rows'.any-gone (KInstanceRow.spelled)) (List._∷_ (
+          Rows'.sref
+              (KDecided.R)
+              (Syntax.tyRef
+              (Syntax.named 2)
+              Syntax.imm
+              (KDecided.named))
+              2,
+        ) (List._∷_ (6, Rows'.any-gone Syntax.tyUnit) (List._∷_ (
           7,
-          KRouteRow.row,
-        ) (List._∷_ (8, Rows'.any-gone Syntax.tyUnit) (List._∷_ (
-          9,
           Rows'.any-gone
               (Syntax.tyRef Syntax.erased Syntax.mut (KInstanceRow.named)),
         ) (List._∷_ (
-          10,
+          8,
           Rows'.any-gone
               (Syntax.tyStruct
               (List._∷_ 38 (List._∷_ 91 (List._∷_ 93 List.[])))
               (Syntax.tcons
               (Syntax.tyRef Syntax.erased Syntax.mut (KInstanceRow.named))
               (Syntax.tcons (Syntax.tyInt Syntax.w64) Syntax.tnil))),
+        ) (List._∷_ (9, Rows'.any-gone (KInstanceRow.spelled)) (List._∷_ (
+          10,
+          Rows'.any-gone (KDecided.spelled),
         ) (List._∷_ (
           11,
           Rows'.any-gone
@@ -3309,11 +4754,14 @@ module _ (claims· : Claims) where
           Mut.mslice
               (KRouteRow.R)
               (Syntax.tyRef Syntax.erased Syntax.mut (KRouteRow.named))
-              4,
-        ) List.[]))))))))))))))
+              5,
+        )
+            (List._∷_
+            (15, Rows'.any-gone (KRouteRow.spelled))
+            List.[])))))))))))))))
 
-        abbrev g17 : List.List Row.Entry
-        g17 = List._∷_ (0, Rows'.any-gone Syntax.tyUnit) (List._∷_ (
+        abbrev g22 : List.List Row.Entry
+        g22 = List._∷_ (0, Rows'.any-gone Syntax.tyUnit) (List._∷_ (
           1,
           Mut.mslice
               (KInstanceRow.R)
@@ -3331,7 +4779,7 @@ module _ (claims· : Claims) where
               Syntax.mut
               (KRouteRow.named))
               1
-              4
+              5
               (Row.lease (κs .1 .0) (qs .1 .0)),
         ) (List._∷_ (
           3,
@@ -3363,22 +4811,28 @@ module _ (claims· : Claims) where
               (Syntax.tcons (Syntax.tyInt Syntax.w64) Syntax.tnil)))),
         ) (List._∷_ (4, Rows'.sc-here (Row.sInt Syntax.w64)) (List._∷_ (
           5,
-          Rows'.any-gone (KInstanceRow.spelled),
-        ) (List._∷_ (6, Rows'.any-gone (KInstanceRow.spelled)) (List._∷_ (
+          Rows'.sref
+              (KDecided.R)
+              (Syntax.tyRef
+              (Syntax.named 2)
+              Syntax.imm
+              (KDecided.named))
+              2,
+        ) (List._∷_ (6, Rows'.any-gone Syntax.tyUnit) (List._∷_ (
           7,
-          KRouteRow.row,
-        ) (List._∷_ (8, Rows'.sc-here Row.sUnit) (List._∷_ (
-          9,
           Rows'.any-gone
               (Syntax.tyRef Syntax.erased Syntax.mut (KInstanceRow.named)),
         ) (List._∷_ (
-          10,
+          8,
           Rows'.any-gone
               (Syntax.tyStruct
               (List._∷_ 38 (List._∷_ 91 (List._∷_ 93 List.[])))
               (Syntax.tcons
               (Syntax.tyRef Syntax.erased Syntax.mut (KInstanceRow.named))
               (Syntax.tcons (Syntax.tyInt Syntax.w64) Syntax.tnil))),
+        ) (List._∷_ (9, Rows'.any-gone (KInstanceRow.spelled)) (List._∷_ (
+          10,
+          KDecided.row,
         ) (List._∷_ (
           11,
           Rows'.any-gone
@@ -3397,13 +4851,17 @@ module _ (claims· : Claims) where
               (Syntax.tyRef Syntax.erased Syntax.mut (KRouteRow.named)),
         ) (List._∷_ (
           14,
-          Mut.msleft
+          Mut.mslice
               (KRouteRow.R)
-              (Syntax.tyRef Syntax.erased Syntax.mut (KRouteRow.named)),
-        ) List.[]))))))))))))))
+              (Syntax.tyRef Syntax.erased Syntax.mut (KRouteRow.named))
+              5,
+        )
+            (List._∷_
+            (15, Rows'.any-gone (KRouteRow.spelled))
+            List.[])))))))))))))))
 
-        abbrev g18 : List.List Row.Entry
-        g18 = List._∷_ (0, Rows'.any-gone Syntax.tyUnit) (List._∷_ (
+        abbrev g23 : List.List Row.Entry
+        g23 = List._∷_ (0, Rows'.any-gone Syntax.tyUnit) (List._∷_ (
           1,
           Mut.mslice
               (KInstanceRow.R)
@@ -3421,7 +4879,7 @@ module _ (claims· : Claims) where
               Syntax.mut
               (KRouteRow.named))
               1
-              4
+              5
               (Row.lease (κs .1 .0) (qs .1 .0)),
         ) (List._∷_ (
           3,
@@ -3453,22 +4911,28 @@ module _ (claims· : Claims) where
               (Syntax.tcons (Syntax.tyInt Syntax.w64) Syntax.tnil)))),
         ) (List._∷_ (4, Rows'.sc-here (Row.sInt Syntax.w64)) (List._∷_ (
           5,
-          Rows'.any-gone (KInstanceRow.spelled),
-        ) (List._∷_ (6, Rows'.any-gone (KInstanceRow.spelled)) (List._∷_ (
+          Rows'.sref
+              (KDecided.R)
+              (Syntax.tyRef
+              (Syntax.named 2)
+              Syntax.imm
+              (KDecided.named))
+              2,
+        ) (List._∷_ (6, Rows'.any-gone Syntax.tyUnit) (List._∷_ (
           7,
-          Rows'.any-gone (KRouteRow.spelled),
-        ) (List._∷_ (8, Rows'.sc-here Row.sUnit) (List._∷_ (
-          9,
           Rows'.any-gone
               (Syntax.tyRef Syntax.erased Syntax.mut (KInstanceRow.named)),
         ) (List._∷_ (
-          10,
+          8,
           Rows'.any-gone
               (Syntax.tyStruct
               (List._∷_ 38 (List._∷_ 91 (List._∷_ 93 List.[])))
               (Syntax.tcons
               (Syntax.tyRef Syntax.erased Syntax.mut (KInstanceRow.named))
               (Syntax.tcons (Syntax.tyInt Syntax.w64) Syntax.tnil))),
+        ) (List._∷_ (9, Rows'.any-gone (KInstanceRow.spelled)) (List._∷_ (
+          10,
+          KDecided.row,
         ) (List._∷_ (
           11,
           Rows'.any-gone
@@ -3487,13 +4951,17 @@ module _ (claims· : Claims) where
               (Syntax.tyRef Syntax.erased Syntax.mut (KRouteRow.named)),
         ) (List._∷_ (
           14,
-          Mut.msleft
+          Mut.mslice
               (KRouteRow.R)
-              (Syntax.tyRef Syntax.erased Syntax.mut (KRouteRow.named)),
-        ) List.[]))))))))))))))
+              (Syntax.tyRef Syntax.erased Syntax.mut (KRouteRow.named))
+              5,
+        )
+            (List._∷_
+            (15, KRouteRow.row)
+            List.[])))))))))))))))
 
-        abbrev g19 : List.List Row.Entry
-        g19 = List._∷_ (0, Rows'.any-gone Syntax.tyUnit) (List._∷_ (
+        abbrev g24 : List.List Row.Entry
+        g24 = List._∷_ (0, Rows'.any-gone Syntax.tyUnit) (List._∷_ (
           1,
           Mut.mslice
               (KInstanceRow.R)
@@ -3511,7 +4979,7 @@ module _ (claims· : Claims) where
               Syntax.mut
               (KRouteRow.named))
               1
-              4
+              5
               (Row.lease (κs .1 .0) (qs .1 .0)),
         ) (List._∷_ (
           3,
@@ -3543,22 +5011,128 @@ module _ (claims· : Claims) where
               (Syntax.tcons (Syntax.tyInt Syntax.w64) Syntax.tnil)))),
         ) (List._∷_ (4, Rows'.sc-here (Row.sInt Syntax.w64)) (List._∷_ (
           5,
-          Rows'.any-gone (KInstanceRow.spelled),
-        ) (List._∷_ (6, Rows'.any-gone (KInstanceRow.spelled)) (List._∷_ (
+          Rows'.sref
+              (KDecided.R)
+              (Syntax.tyRef
+              (Syntax.named 2)
+              Syntax.imm
+              (KDecided.named))
+              2,
+        ) (List._∷_ (6, Rows'.any-gone Syntax.tyUnit) (List._∷_ (
           7,
-          Rows'.any-gone (KRouteRow.spelled),
-        ) (List._∷_ (8, Rows'.any-gone Syntax.tyUnit) (List._∷_ (
-          9,
           Rows'.any-gone
               (Syntax.tyRef Syntax.erased Syntax.mut (KInstanceRow.named)),
         ) (List._∷_ (
-          10,
+          8,
           Rows'.any-gone
               (Syntax.tyStruct
               (List._∷_ 38 (List._∷_ 91 (List._∷_ 93 List.[])))
               (Syntax.tcons
               (Syntax.tyRef Syntax.erased Syntax.mut (KInstanceRow.named))
               (Syntax.tcons (Syntax.tyInt Syntax.w64) Syntax.tnil))),
+        ) (List._∷_ (9, Rows'.any-gone (KInstanceRow.spelled)) (List._∷_ (
+          10,
+          Rows'.any-gone (KDecided.spelled),
+        ) (List._∷_ (
+          11,
+          Rows'.any-gone
+              (Syntax.tyRef Syntax.erased Syntax.mut (KInstanceRow.named)),
+        ) (List._∷_ (
+          12,
+          Rows'.any-gone
+              (Syntax.tyStruct
+              (List._∷_ 38 (List._∷_ 91 (List._∷_ 93 List.[])))
+              (Syntax.tcons
+              (Syntax.tyRef Syntax.erased Syntax.mut (KInstanceRow.named))
+              (Syntax.tcons (Syntax.tyInt Syntax.w64) Syntax.tnil))),
+        ) (List._∷_ (
+          13,
+          Rows'.any-gone
+              (Syntax.tyRef Syntax.erased Syntax.mut (KRouteRow.named)),
+        ) (List._∷_ (
+          14,
+          Mut.mslice
+              (KRouteRow.R)
+              (Syntax.tyRef Syntax.erased Syntax.mut (KRouteRow.named))
+              5,
+        )
+            (List._∷_
+            (15, KRouteRow.row)
+            List.[])))))))))))))))
+
+        abbrev g25 : List.List Row.Entry
+        g25 = List._∷_ (0, Rows'.any-gone Syntax.tyUnit) (List._∷_ (
+          1,
+          Mut.mslice
+              (KInstanceRow.R)
+              (Syntax.tyRef
+              (Syntax.named 0)
+              Syntax.mut
+              (KInstanceRow.named))
+              0,
+        ) (List._∷_ (
+          2,
+          Relend.mslice-owed
+              (KRouteRow.R)
+              (Syntax.tyRef
+              (Syntax.named 1)
+              Syntax.mut
+              (KRouteRow.named))
+              1
+              5
+              (Row.lease (κs .1 .0) (qs .1 .0)),
+        ) (List._∷_ (
+          3,
+          Rows'.any-gone
+              (Syntax.tyStruct
+              (List._∷_
+              112
+              (List._∷_
+              108
+              (List._∷_
+              97
+              (List._∷_
+              99
+              (List._∷_
+              101
+              (List._∷_
+              58
+              (List._∷_
+              58
+              (List._∷_
+              80
+              (List._∷_
+              108
+              (List._∷_ 97 (List._∷_ 99 (List._∷_ 101 (List._∷_ 115 List.[])))))))))))))
+              (Syntax.tcons
+              Syntax.tyBool
+              (Syntax.tcons
+              (Syntax.tyInt Syntax.w64)
+              (Syntax.tcons (Syntax.tyInt Syntax.w64) Syntax.tnil)))),
+        ) (List._∷_ (4, Rows'.sc-here (Row.sInt Syntax.w64)) (List._∷_ (
+          5,
+          Rows'.sref
+              (KDecided.R)
+              (Syntax.tyRef
+              (Syntax.named 2)
+              Syntax.imm
+              (KDecided.named))
+              2,
+        ) (List._∷_ (6, Rows'.sc-here Row.sUnit) (List._∷_ (
+          7,
+          Rows'.any-gone
+              (Syntax.tyRef Syntax.erased Syntax.mut (KInstanceRow.named)),
+        ) (List._∷_ (
+          8,
+          Rows'.any-gone
+              (Syntax.tyStruct
+              (List._∷_ 38 (List._∷_ 91 (List._∷_ 93 List.[])))
+              (Syntax.tcons
+              (Syntax.tyRef Syntax.erased Syntax.mut (KInstanceRow.named))
+              (Syntax.tcons (Syntax.tyInt Syntax.w64) Syntax.tnil))),
+        ) (List._∷_ (9, Rows'.any-gone (KInstanceRow.spelled)) (List._∷_ (
+          10,
+          Rows'.any-gone (KDecided.spelled),
         ) (List._∷_ (
           11,
           Rows'.any-gone
@@ -3580,7 +5154,208 @@ module _ (claims· : Claims) where
           Mut.msleft
               (KRouteRow.R)
               (Syntax.tyRef Syntax.erased Syntax.mut (KRouteRow.named)),
-        ) List.[]))))))))))))))
+        )
+            (List._∷_
+            (15, KRouteRow.row)
+            List.[])))))))))))))))
+
+        abbrev g26 : List.List Row.Entry
+        g26 = List._∷_ (0, Rows'.any-gone Syntax.tyUnit) (List._∷_ (
+          1,
+          Mut.mslice
+              (KInstanceRow.R)
+              (Syntax.tyRef
+              (Syntax.named 0)
+              Syntax.mut
+              (KInstanceRow.named))
+              0,
+        ) (List._∷_ (
+          2,
+          Relend.mslice-owed
+              (KRouteRow.R)
+              (Syntax.tyRef
+              (Syntax.named 1)
+              Syntax.mut
+              (KRouteRow.named))
+              1
+              5
+              (Row.lease (κs .1 .0) (qs .1 .0)),
+        ) (List._∷_ (
+          3,
+          Rows'.any-gone
+              (Syntax.tyStruct
+              (List._∷_
+              112
+              (List._∷_
+              108
+              (List._∷_
+              97
+              (List._∷_
+              99
+              (List._∷_
+              101
+              (List._∷_
+              58
+              (List._∷_
+              58
+              (List._∷_
+              80
+              (List._∷_
+              108
+              (List._∷_ 97 (List._∷_ 99 (List._∷_ 101 (List._∷_ 115 List.[])))))))))))))
+              (Syntax.tcons
+              Syntax.tyBool
+              (Syntax.tcons
+              (Syntax.tyInt Syntax.w64)
+              (Syntax.tcons (Syntax.tyInt Syntax.w64) Syntax.tnil)))),
+        ) (List._∷_ (4, Rows'.sc-here (Row.sInt Syntax.w64)) (List._∷_ (
+          5,
+          Rows'.sref
+              (KDecided.R)
+              (Syntax.tyRef
+              (Syntax.named 2)
+              Syntax.imm
+              (KDecided.named))
+              2,
+        ) (List._∷_ (6, Rows'.any-gone Syntax.tyUnit) (List._∷_ (
+          7,
+          Rows'.any-gone
+              (Syntax.tyRef Syntax.erased Syntax.mut (KInstanceRow.named)),
+        ) (List._∷_ (
+          8,
+          Rows'.any-gone
+              (Syntax.tyStruct
+              (List._∷_ 38 (List._∷_ 91 (List._∷_ 93 List.[])))
+              (Syntax.tcons
+              (Syntax.tyRef Syntax.erased Syntax.mut (KInstanceRow.named))
+              (Syntax.tcons (Syntax.tyInt Syntax.w64) Syntax.tnil))),
+        ) (List._∷_ (9, Rows'.any-gone (KInstanceRow.spelled)) (List._∷_ (
+          10,
+          Rows'.any-gone (KDecided.spelled),
+        ) (List._∷_ (
+          11,
+          Rows'.any-gone
+              (Syntax.tyRef Syntax.erased Syntax.mut (KInstanceRow.named)),
+        ) (List._∷_ (
+          12,
+          Rows'.any-gone
+              (Syntax.tyStruct
+              (List._∷_ 38 (List._∷_ 91 (List._∷_ 93 List.[])))
+              (Syntax.tcons
+              (Syntax.tyRef Syntax.erased Syntax.mut (KInstanceRow.named))
+              (Syntax.tcons (Syntax.tyInt Syntax.w64) Syntax.tnil))),
+        ) (List._∷_ (
+          13,
+          Rows'.any-gone
+              (Syntax.tyRef Syntax.erased Syntax.mut (KRouteRow.named)),
+        ) (List._∷_ (
+          14,
+          Mut.msleft
+              (KRouteRow.R)
+              (Syntax.tyRef Syntax.erased Syntax.mut (KRouteRow.named)),
+        )
+            (List._∷_
+            (15, KRouteRow.row)
+            List.[])))))))))))))))
+
+        abbrev g27 : List.List Row.Entry
+        g27 = List._∷_ (0, Rows'.any-gone Syntax.tyUnit) (List._∷_ (
+          1,
+          Mut.mslice
+              (KInstanceRow.R)
+              (Syntax.tyRef
+              (Syntax.named 0)
+              Syntax.mut
+              (KInstanceRow.named))
+              0,
+        ) (List._∷_ (
+          2,
+          Relend.mslice-owed
+              (KRouteRow.R)
+              (Syntax.tyRef
+              (Syntax.named 1)
+              Syntax.mut
+              (KRouteRow.named))
+              1
+              5
+              (Row.lease (κs .1 .0) (qs .1 .0)),
+        ) (List._∷_ (
+          3,
+          Rows'.any-gone
+              (Syntax.tyStruct
+              (List._∷_
+              112
+              (List._∷_
+              108
+              (List._∷_
+              97
+              (List._∷_
+              99
+              (List._∷_
+              101
+              (List._∷_
+              58
+              (List._∷_
+              58
+              (List._∷_
+              80
+              (List._∷_
+              108
+              (List._∷_ 97 (List._∷_ 99 (List._∷_ 101 (List._∷_ 115 List.[])))))))))))))
+              (Syntax.tcons
+              Syntax.tyBool
+              (Syntax.tcons
+              (Syntax.tyInt Syntax.w64)
+              (Syntax.tcons (Syntax.tyInt Syntax.w64) Syntax.tnil)))),
+        ) (List._∷_ (4, Rows'.sc-here (Row.sInt Syntax.w64)) (List._∷_ (
+          5,
+          Rows'.sref
+              (KDecided.R)
+              (Syntax.tyRef
+              (Syntax.named 2)
+              Syntax.imm
+              (KDecided.named))
+              2,
+        ) (List._∷_ (6, Rows'.any-gone Syntax.tyUnit) (List._∷_ (
+          7,
+          Rows'.any-gone
+              (Syntax.tyRef Syntax.erased Syntax.mut (KInstanceRow.named)),
+        ) (List._∷_ (
+          8,
+          Rows'.any-gone
+              (Syntax.tyStruct
+              (List._∷_ 38 (List._∷_ 91 (List._∷_ 93 List.[])))
+              (Syntax.tcons
+              (Syntax.tyRef Syntax.erased Syntax.mut (KInstanceRow.named))
+              (Syntax.tcons (Syntax.tyInt Syntax.w64) Syntax.tnil))),
+        ) (List._∷_ (9, Rows'.any-gone (KInstanceRow.spelled)) (List._∷_ (
+          10,
+          Rows'.any-gone (KDecided.spelled),
+        ) (List._∷_ (
+          11,
+          Rows'.any-gone
+              (Syntax.tyRef Syntax.erased Syntax.mut (KInstanceRow.named)),
+        ) (List._∷_ (
+          12,
+          Rows'.any-gone
+              (Syntax.tyStruct
+              (List._∷_ 38 (List._∷_ 91 (List._∷_ 93 List.[])))
+              (Syntax.tcons
+              (Syntax.tyRef Syntax.erased Syntax.mut (KInstanceRow.named))
+              (Syntax.tcons (Syntax.tyInt Syntax.w64) Syntax.tnil))),
+        ) (List._∷_ (
+          13,
+          Rows'.any-gone
+              (Syntax.tyRef Syntax.erased Syntax.mut (KRouteRow.named)),
+        ) (List._∷_ (
+          14,
+          Mut.msleft
+              (KRouteRow.R)
+              (Syntax.tyRef Syntax.erased Syntax.mut (KRouteRow.named)),
+        )
+            (List._∷_
+            (15, Rows'.any-gone (KRouteRow.spelled))
+            List.[])))))))))))))))
 
         abbrev G0 : Row.Cx
         G0 = record {
@@ -3589,7 +5364,9 @@ module _ (claims· : Claims) where
               (Row.lease (κs .0) (qs .0))
               (List._∷_
               (Row.lease (κs .1 .0) (qs .1 .0))
-              (List._∷_ Row.off (List._∷_ Row.off (List._∷_ Row.off List.[]))));
+              (List._∷_
+              (Row.lease (κs .1 .1 .0) (qs .1 .1 .0))
+              (List._∷_ Row.off (List._∷_ Row.off (List._∷_ Row.off List.[])))));
         }
 
         abbrev G1 : Row.Cx
@@ -3599,7 +5376,9 @@ module _ (claims· : Claims) where
               (Row.lease (κs .0) (qs .0))
               (List._∷_
               (Row.lease (κs .1 .0) (qs .1 .0))
-              (List._∷_ Row.off (List._∷_ Row.off (List._∷_ Row.off List.[]))));
+              (List._∷_
+              (Row.lease (κs .1 .1 .0) (qs .1 .1 .0))
+              (List._∷_ Row.off (List._∷_ Row.off (List._∷_ Row.off List.[])))));
         }
 
         abbrev G2 : Row.Cx
@@ -3609,7 +5388,9 @@ module _ (claims· : Claims) where
               (Row.lease (κs .0) (qs .0))
               (List._∷_
               (Row.lease (κs .1 .0) (qs .1 .0))
-              (List._∷_ Row.alive (List._∷_ Row.off (List._∷_ Row.off List.[]))));
+              (List._∷_
+              (Row.lease (κs .1 .1 .0) (qs .1 .1 .0))
+              (List._∷_ Row.alive (List._∷_ Row.off (List._∷_ Row.off List.[])))));
         }
 
         abbrev G3 : Row.Cx
@@ -3619,7 +5400,9 @@ module _ (claims· : Claims) where
               Row.off
               (List._∷_
               (Row.lease (κs .1 .0) (qs .1 .0))
-              (List._∷_ Row.alive (List._∷_ Row.off (List._∷_ Row.off List.[]))));
+              (List._∷_
+              (Row.lease (κs .1 .1 .0) (qs .1 .1 .0))
+              (List._∷_ Row.alive (List._∷_ Row.off (List._∷_ Row.off List.[])))));
         }
 
         abbrev G4 : Row.Cx
@@ -3629,7 +5412,9 @@ module _ (claims· : Claims) where
               Row.off
               (List._∷_
               (Row.lease (κs .1 .0) (qs .1 .0))
-              (List._∷_ Row.alive (List._∷_ Row.off (List._∷_ Row.off List.[]))));
+              (List._∷_
+              (Row.lease (κs .1 .1 .0) (qs .1 .1 .0))
+              (List._∷_ Row.alive (List._∷_ Row.off (List._∷_ Row.off List.[])))));
         }
 
         abbrev G5 : Row.Cx
@@ -3639,7 +5424,9 @@ module _ (claims· : Claims) where
               Row.off
               (List._∷_
               (Row.lease (κs .1 .0) (qs .1 .0))
-              (List._∷_ Row.alive (List._∷_ Row.off (List._∷_ Row.off List.[]))));
+              (List._∷_
+              (Row.lease (κs .1 .1 .0) (qs .1 .1 .0))
+              (List._∷_ Row.alive (List._∷_ Row.off (List._∷_ Row.off List.[])))));
         }
 
         abbrev G6 : Row.Cx
@@ -3649,7 +5436,9 @@ module _ (claims· : Claims) where
               Row.off
               (List._∷_
               (Row.lease (κs .1 .0) (qs .1 .0))
-              (List._∷_ Row.alive (List._∷_ Row.off (List._∷_ Row.off List.[]))));
+              (List._∷_
+              (Row.lease (κs .1 .1 .0) (qs .1 .1 .0))
+              (List._∷_ Row.alive (List._∷_ Row.off (List._∷_ Row.off List.[])))));
         }
 
         abbrev G7 : Row.Cx
@@ -3659,107 +5448,129 @@ module _ (claims· : Claims) where
               Row.off
               (List._∷_
               (Row.lease (κs .1 .0) (qs .1 .0))
-              (List._∷_ Row.alive (List._∷_ Row.off (List._∷_ Row.off List.[]))));
+              (List._∷_
+              (Row.lease (κs .1 .1 .0) (qs .1 .1 .0))
+              (List._∷_ Row.alive (List._∷_ Row.off (List._∷_ Row.off List.[])))));
         }
 
         abbrev G8 : Row.Cx
         G8 = record {
-          locals = g6;
+          locals = g7;
           slots = List._∷_
               Row.off
               (List._∷_
               (Row.lease (κs .1 .0) (qs .1 .0))
-              (List._∷_ Row.dead (List._∷_ Row.off (List._∷_ Row.off List.[]))));
+              (List._∷_
+              (Row.lease (κs .1 .1 .0) (qs .1 .1 .0))
+              (List._∷_ Row.alive (List._∷_ Row.off (List._∷_ Row.off List.[])))));
         }
 
         abbrev G9 : Row.Cx
         G9 = record {
-          locals = t7;
-          slots = List._∷_
-              (Row.lease (κs .0) (qs .0))
-              (List._∷_
-              (Row.lease (κs .1 .0) (qs .1 .0))
-              (List._∷_ Row.dead (List._∷_ Row.off (List._∷_ Row.off List.[]))));
-        }
-
-        abbrev G10 : Row.Cx
-        G10 = record {
-          locals = t7;
-          slots = List._∷_
-              (Row.lease (κs .0) (qs .0))
-              (List._∷_
-              (Row.lease (κs .1 .0) (qs .1 .0))
-              (List._∷_ Row.off (List._∷_ Row.off (List._∷_ Row.off List.[]))));
-        }
-
-        abbrev G11 : Row.Cx
-        G11 = record {
-          locals = t7;
-          slots = List._∷_
-              (Row.lease (κs .0) (qs .0))
-              (List._∷_
-              (Row.lease (κs .1 .0) (qs .1 .0))
-              (List._∷_ Row.off (List._∷_ Row.alive (List._∷_ Row.off List.[]))));
-        }
-
-        abbrev G12 : Row.Cx
-        G12 = record {
           locals = g8;
           slots = List._∷_
               Row.off
               (List._∷_
               (Row.lease (κs .1 .0) (qs .1 .0))
-              (List._∷_ Row.off (List._∷_ Row.alive (List._∷_ Row.off List.[]))));
+              (List._∷_
+              (Row.lease (κs .1 .1 .0) (qs .1 .1 .0))
+              (List._∷_ Row.alive (List._∷_ Row.off (List._∷_ Row.off List.[])))));
         }
 
-        abbrev G13 : Row.Cx
-        G13 = record {
+        abbrev G10 : Row.Cx
+        G10 = record {
           locals = g9;
           slots = List._∷_
               Row.off
               (List._∷_
               (Row.lease (κs .1 .0) (qs .1 .0))
-              (List._∷_ Row.off (List._∷_ Row.alive (List._∷_ Row.off List.[]))));
+              (List._∷_
+              (Row.lease (κs .1 .1 .0) (qs .1 .1 .0))
+              (List._∷_ Row.alive (List._∷_ Row.off (List._∷_ Row.off List.[])))));
+        }
+
+        abbrev G11 : Row.Cx
+        G11 = record {
+          locals = g9;
+          slots = List._∷_
+              Row.off
+              (List._∷_
+              (Row.lease (κs .1 .0) (qs .1 .0))
+              (List._∷_
+              (Row.lease (κs .1 .1 .0) (qs .1 .1 .0))
+              (List._∷_ Row.dead (List._∷_ Row.off (List._∷_ Row.off List.[])))));
+        }
+
+        abbrev G12 : Row.Cx
+        G12 = record {
+          locals = t0;
+          slots = List._∷_
+              (Row.lease (κs .0) (qs .0))
+              (List._∷_
+              (Row.lease (κs .1 .0) (qs .1 .0))
+              (List._∷_
+              (Row.lease (κs .1 .1 .0) (qs .1 .1 .0))
+              (List._∷_ Row.dead (List._∷_ Row.off (List._∷_ Row.off List.[])))));
+        }
+
+        abbrev G13 : Row.Cx
+        G13 = record {
+          locals = t0;
+          slots = List._∷_
+              (Row.lease (κs .0) (qs .0))
+              (List._∷_
+              (Row.lease (κs .1 .0) (qs .1 .0))
+              (List._∷_
+              (Row.lease (κs .1 .1 .0) (qs .1 .1 .0))
+              (List._∷_ Row.off (List._∷_ Row.off (List._∷_ Row.off List.[])))));
         }
 
         abbrev G14 : Row.Cx
         G14 = record {
+          locals = t0;
+          slots = List._∷_
+              (Row.lease (κs .0) (qs .0))
+              (List._∷_
+              (Row.lease (κs .1 .0) (qs .1 .0))
+              (List._∷_
+              (Row.lease (κs .1 .1 .0) (qs .1 .1 .0))
+              (List._∷_ Row.off (List._∷_ Row.alive (List._∷_ Row.off List.[])))));
+        }
+
+        abbrev G15 : Row.Cx
+        G15 = record {
           locals = g10;
           slots = List._∷_
               Row.off
               (List._∷_
               (Row.lease (κs .1 .0) (qs .1 .0))
-              (List._∷_ Row.off (List._∷_ Row.alive (List._∷_ Row.off List.[]))));
+              (List._∷_
+              (Row.lease (κs .1 .1 .0) (qs .1 .1 .0))
+              (List._∷_ Row.off (List._∷_ Row.alive (List._∷_ Row.off List.[])))));
         }
 
-        abbrev G15 : Row.Cx
-        G15 = record {
+        abbrev G16 : Row.Cx
+        G16 = record {
           locals = g11;
           slots = List._∷_
               Row.off
               (List._∷_
               (Row.lease (κs .1 .0) (qs .1 .0))
-              (List._∷_ Row.off (List._∷_ Row.alive (List._∷_ Row.off List.[]))));
+              (List._∷_
+              (Row.lease (κs .1 .1 .0) (qs .1 .1 .0))
+              (List._∷_ Row.off (List._∷_ Row.alive (List._∷_ Row.off List.[])))));
         }
 
-        abbrev G16 : Row.Cx
-        G16 = record {
+        abbrev G17 : Row.Cx
+        G17 = record {
           locals = g12;
           slots = List._∷_
               Row.off
               (List._∷_
               (Row.lease (κs .1 .0) (qs .1 .0))
-              (List._∷_ Row.off (List._∷_ Row.alive (List._∷_ Row.off List.[]))));
-        }
-
-        abbrev G17 : Row.Cx
-        G17 = record {
-          locals = g13;
-          slots = List._∷_
-              Row.off
               (List._∷_
-              (Row.lease (κs .1 .0) (qs .1 .0))
-              (List._∷_ Row.off (List._∷_ Row.alive (List._∷_ Row.off List.[]))));
+              (Row.lease (κs .1 .1 .0) (qs .1 .1 .0))
+              (List._∷_ Row.off (List._∷_ Row.alive (List._∷_ Row.off List.[])))));
         }
 
         abbrev G18 : Row.Cx
@@ -3769,135 +5580,273 @@ module _ (claims· : Claims) where
               Row.off
               (List._∷_
               (Row.lease (κs .1 .0) (qs .1 .0))
-              (List._∷_ Row.off (List._∷_ Row.dead (List._∷_ Row.off List.[]))));
+              (List._∷_
+              (Row.lease (κs .1 .1 .0) (qs .1 .1 .0))
+              (List._∷_ Row.off (List._∷_ Row.alive (List._∷_ Row.off List.[])))));
         }
 
         abbrev G19 : Row.Cx
         G19 = record {
-          locals = t14;
+          locals = g14;
           slots = List._∷_
-              (Row.lease (κs .0) (qs .0))
+              Row.off
               (List._∷_
               (Row.lease (κs .1 .0) (qs .1 .0))
-              (List._∷_ Row.off (List._∷_ Row.dead (List._∷_ Row.off List.[]))));
+              (List._∷_
+              (Row.lease (κs .1 .1 .0) (qs .1 .1 .0))
+              (List._∷_ Row.off (List._∷_ Row.alive (List._∷_ Row.off List.[])))));
         }
 
         abbrev G20 : Row.Cx
         G20 = record {
-          locals = t14;
+          locals = g15;
           slots = List._∷_
-              (Row.lease (κs .0) (qs .0))
+              Row.off
               (List._∷_
               (Row.lease (κs .1 .0) (qs .1 .0))
-              (List._∷_ Row.off (List._∷_ Row.off (List._∷_ Row.off List.[]))));
+              (List._∷_
+              (Row.lease (κs .1 .1 .0) (qs .1 .1 .0))
+              (List._∷_ Row.off (List._∷_ Row.alive (List._∷_ Row.off List.[])))));
         }
 
         abbrev G21 : Row.Cx
         G21 = record {
-          locals = t14;
+          locals = g16;
           slots = List._∷_
-              (Row.lease (κs .0) (qs .0))
+              Row.off
               (List._∷_
               (Row.lease (κs .1 .0) (qs .1 .0))
-              (List._∷_ Row.off (List._∷_ Row.off (List._∷_ Row.alive List.[]))));
+              (List._∷_
+              (Row.lease (κs .1 .1 .0) (qs .1 .1 .0))
+              (List._∷_ Row.off (List._∷_ Row.alive (List._∷_ Row.off List.[])))));
         }
 
         abbrev G22 : Row.Cx
         G22 = record {
-          locals = g15;
+          locals = g17;
           slots = List._∷_
-              (Row.lease (κs .0) (qs .0))
-              (List._∷_
               Row.off
-              (List._∷_ Row.off (List._∷_ Row.off (List._∷_ Row.alive List.[]))));
+              (List._∷_
+              (Row.lease (κs .1 .0) (qs .1 .0))
+              (List._∷_
+              (Row.lease (κs .1 .1 .0) (qs .1 .1 .0))
+              (List._∷_ Row.off (List._∷_ Row.alive (List._∷_ Row.off List.[])))));
         }
 
         abbrev G23 : Row.Cx
         G23 = record {
-          locals = g16;
+          locals = g18;
           slots = List._∷_
-              (Row.lease (κs .0) (qs .0))
-              (List._∷_
               Row.off
-              (List._∷_ Row.off (List._∷_ Row.off (List._∷_ Row.alive List.[]))));
+              (List._∷_
+              (Row.lease (κs .1 .0) (qs .1 .0))
+              (List._∷_
+              (Row.lease (κs .1 .1 .0) (qs .1 .1 .0))
+              (List._∷_ Row.off (List._∷_ Row.alive (List._∷_ Row.off List.[])))));
         }
 
         abbrev G24 : Row.Cx
         G24 = record {
-          locals = g17;
+          locals = g18;
           slots = List._∷_
-              (Row.lease (κs .0) (qs .0))
-              (List._∷_
               Row.off
-              (List._∷_ Row.off (List._∷_ Row.off (List._∷_ Row.alive List.[]))));
+              (List._∷_
+              (Row.lease (κs .1 .0) (qs .1 .0))
+              (List._∷_
+              (Row.lease (κs .1 .1 .0) (qs .1 .1 .0))
+              (List._∷_ Row.off (List._∷_ Row.dead (List._∷_ Row.off List.[])))));
         }
 
         abbrev G25 : Row.Cx
         G25 = record {
-          locals = g18;
+          locals = t19;
           slots = List._∷_
               (Row.lease (κs .0) (qs .0))
               (List._∷_
-              Row.off
-              (List._∷_ Row.off (List._∷_ Row.off (List._∷_ Row.alive List.[]))));
+              (Row.lease (κs .1 .0) (qs .1 .0))
+              (List._∷_
+              (Row.lease (κs .1 .1 .0) (qs .1 .1 .0))
+              (List._∷_ Row.off (List._∷_ Row.dead (List._∷_ Row.off List.[])))));
         }
 
         abbrev G26 : Row.Cx
         G26 = record {
-          locals = g19;
+          locals = t19;
           slots = List._∷_
               (Row.lease (κs .0) (qs .0))
               (List._∷_
-              Row.off
-              (List._∷_ Row.off (List._∷_ Row.off (List._∷_ Row.alive List.[]))));
+              (Row.lease (κs .1 .0) (qs .1 .0))
+              (List._∷_
+              (Row.lease (κs .1 .1 .0) (qs .1 .1 .0))
+              (List._∷_ Row.off (List._∷_ Row.off (List._∷_ Row.off List.[])))));
         }
 
         abbrev G27 : Row.Cx
         G27 = record {
-          locals = g19;
+          locals = t19;
           slots = List._∷_
               (Row.lease (κs .0) (qs .0))
-              (List._∷_ Row.off (List._∷_ Row.off (List._∷_ Row.off (List._∷_ Row.dead List.[]))));
+              (List._∷_
+              (Row.lease (κs .1 .0) (qs .1 .0))
+              (List._∷_
+              (Row.lease (κs .1 .1 .0) (qs .1 .1 .0))
+              (List._∷_ Row.off (List._∷_ Row.off (List._∷_ Row.alive List.[])))));
         }
 
         abbrev G28 : Row.Cx
         G28 = record {
-          locals = t20;
+          locals = g20;
           slots = List._∷_
               (Row.lease (κs .0) (qs .0))
               (List._∷_
-              (Row.lease (κs .1 .0) (qs .1 .0))
-              (List._∷_ Row.off (List._∷_ Row.off (List._∷_ Row.dead List.[]))));
+              Row.off
+              (List._∷_
+              (Row.lease (κs .1 .1 .0) (qs .1 .1 .0))
+              (List._∷_ Row.off (List._∷_ Row.off (List._∷_ Row.alive List.[])))));
         }
 
         abbrev G29 : Row.Cx
         G29 = record {
-          locals = t20;
+          locals = g21;
           slots = List._∷_
               (Row.lease (κs .0) (qs .0))
               (List._∷_
-              (Row.lease (κs .1 .0) (qs .1 .0))
-              (List._∷_ Row.off (List._∷_ Row.off (List._∷_ Row.off List.[]))));
+              Row.off
+              (List._∷_
+              (Row.lease (κs .1 .1 .0) (qs .1 .1 .0))
+              (List._∷_ Row.off (List._∷_ Row.off (List._∷_ Row.alive List.[])))));
         }
 
         abbrev G30 : Row.Cx
         G30 = record {
-          locals = t21;
+          locals = g22;
           slots = List._∷_
               (Row.lease (κs .0) (qs .0))
               (List._∷_
-              (Row.lease (κs .1 .0) (qs .1 .0))
-              (List._∷_ Row.off (List._∷_ Row.off (List._∷_ Row.off List.[]))));
+              Row.off
+              (List._∷_
+              (Row.lease (κs .1 .1 .0) (qs .1 .1 .0))
+              (List._∷_ Row.off (List._∷_ Row.off (List._∷_ Row.alive List.[])))));
         }
 
         abbrev G31 : Row.Cx
         G31 = record {
+          locals = g23;
+          slots = List._∷_
+              (Row.lease (κs .0) (qs .0))
+              (List._∷_
+              Row.off
+              (List._∷_
+              (Row.lease (κs .1 .1 .0) (qs .1 .1 .0))
+              (List._∷_ Row.off (List._∷_ Row.off (List._∷_ Row.alive List.[])))));
+        }
+
+        abbrev G32 : Row.Cx
+        G32 = record {
+          locals = g24;
+          slots = List._∷_
+              (Row.lease (κs .0) (qs .0))
+              (List._∷_
+              Row.off
+              (List._∷_
+              (Row.lease (κs .1 .1 .0) (qs .1 .1 .0))
+              (List._∷_ Row.off (List._∷_ Row.off (List._∷_ Row.alive List.[])))));
+        }
+
+        abbrev G33 : Row.Cx
+        G33 = record {
+          locals = g25;
+          slots = List._∷_
+              (Row.lease (κs .0) (qs .0))
+              (List._∷_
+              Row.off
+              (List._∷_
+              (Row.lease (κs .1 .1 .0) (qs .1 .1 .0))
+              (List._∷_ Row.off (List._∷_ Row.off (List._∷_ Row.alive List.[])))));
+        }
+
+        abbrev G34 : Row.Cx
+        G34 = record {
+          locals = g26;
+          slots = List._∷_
+              (Row.lease (κs .0) (qs .0))
+              (List._∷_
+              Row.off
+              (List._∷_
+              (Row.lease (κs .1 .1 .0) (qs .1 .1 .0))
+              (List._∷_ Row.off (List._∷_ Row.off (List._∷_ Row.alive List.[])))));
+        }
+
+        abbrev G35 : Row.Cx
+        G35 = record {
+          locals = g27;
+          slots = List._∷_
+              (Row.lease (κs .0) (qs .0))
+              (List._∷_
+              Row.off
+              (List._∷_
+              (Row.lease (κs .1 .1 .0) (qs .1 .1 .0))
+              (List._∷_ Row.off (List._∷_ Row.off (List._∷_ Row.alive List.[])))));
+        }
+
+        abbrev G36 : Row.Cx
+        G36 = record {
+          locals = g27;
+          slots = List._∷_
+              (Row.lease (κs .0) (qs .0))
+              (List._∷_
+              Row.off
+              (List._∷_
+              (Row.lease (κs .1 .1 .0) (qs .1 .1 .0))
+              (List._∷_ Row.off (List._∷_ Row.off (List._∷_ Row.dead List.[])))));
+        }
+
+        abbrev G37 : Row.Cx
+        G37 = record {
+          locals = t19;
+          slots = List._∷_
+              (Row.lease (κs .0) (qs .0))
+              (List._∷_
+              (Row.lease (κs .1 .0) (qs .1 .0))
+              (List._∷_
+              (Row.lease (κs .1 .1 .0) (qs .1 .1 .0))
+              (List._∷_ Row.off (List._∷_ Row.off (List._∷_ Row.dead List.[])))));
+        }
+
+        abbrev G38 : Row.Cx
+        G38 = record {
+          locals = t19;
+          slots = List._∷_
+              (Row.lease (κs .0) (qs .0))
+              (List._∷_
+              (Row.lease (κs .1 .0) (qs .1 .0))
+              (List._∷_
+              (Row.lease (κs .1 .1 .0) (qs .1 .1 .0))
+              (List._∷_ Row.off (List._∷_ Row.off (List._∷_ Row.off List.[])))));
+        }
+
+        abbrev G39 : Row.Cx
+        G39 = record {
+          locals = t28;
+          slots = List._∷_
+              (Row.lease (κs .0) (qs .0))
+              (List._∷_
+              (Row.lease (κs .1 .0) (qs .1 .0))
+              (List._∷_
+              (Row.lease (κs .1 .1 .0) (qs .1 .1 .0))
+              (List._∷_ Row.off (List._∷_ Row.off (List._∷_ Row.off List.[])))));
+        }
+
+        abbrev G40 : Row.Cx
+        G40 = record {
           locals = t1;
           slots = List._∷_
               (Row.lease (κs .0) (qs .0))
               (List._∷_
               (Row.lease (κs .1 .0) (qs .1 .0))
-              (List._∷_ Row.off (List._∷_ Row.off (List._∷_ Row.off List.[]))));
+              (List._∷_
+              (Row.lease (κs .1 .1 .0) (qs .1 .1 .0))
+              (List._∷_ Row.off (List._∷_ Row.off (List._∷_ Row.off List.[])))));
         }
 
         abbrev Δ0 : Typed.Outs
@@ -3905,14 +5854,14 @@ module _ (claims· : Claims) where
 
         module _ {M : Type 1} (𝓤 : URA.URA M) (H : Wp.Heap 𝓤) (A : Atoms.Atoms 𝓤)
             (W : Kit.Given 𝓤 H A) (𝓣 : Wp.Tables 𝓤 H) (known : Knowns 𝓤 H A W 𝓣)
-            (bs : List.List Nat.ℕ) (bd : Lifetimes.AllOutlive 2 (Kinds.osR r) κs) where
+            (bs : List.List Nat.ℕ) (bd : Lifetimes.AllOutlive 3 (Kinds.osR r) κs) where
           abbrev E : Wp.Env 𝓤 H
           E = Frame.EnvOf 𝓤 H (List._∷_ (Kinds.tyR r) (Enter.tysP ps xs)) bs
 
-          d0 : Typed.Typed 𝓤 H A 𝓣 E G31 b10 Δ0 at0
+          d0 : Typed.Typed 𝓤 H A 𝓣 E G40 b16 Δ0 at0
           d0 = Typed.t-return 𝓤 H A W 𝓣 E Δ0 tt
 
-          d1 : Typed.Typed 𝓤 H A 𝓣 E G30 b10 Δ0 at1
+          d1 : Typed.Typed 𝓤 H A 𝓣 E G39 b16 Δ0 at1
           d1 =
               Typed.g-pre
               𝓤
@@ -3921,11 +5870,11 @@ module _ (claims· : Claims) where
               W
               𝓣
               E
-              G30
-              G31
-              b10
+              G39
+              G40
+              b16
               Δ0
-              (Typed.pass T30 T31 s29)
+              (Typed.pass T39 T40 s38)
               at0
               (Scalar.g-room
               𝓤
@@ -3933,13 +5882,13 @@ module _ (claims· : Claims) where
               A
               W
               E
-              G30
+              G39
               4
               (Syntax.tyInt Syntax.w64)
               (Scalar.room-sc 𝓤 H A W (Row.sInt Syntax.w64)))
               d0
 
-          d2 : Typed.Typed 𝓤 H A 𝓣 E G29 b11 Δ0 at2
+          d2 : Typed.Typed 𝓤 H A 𝓣 E G38 b17 Δ0 at2
           d2 =
               Typed.s-seq
               𝓤
@@ -3948,12 +5897,12 @@ module _ (claims· : Claims) where
               W
               𝓣
               E
-              G29
-              G30
-              b9
-              b10
+              G38
+              G39
+              b15
+              b16
               Δ0
-              (Typed.pass T28 T30 s28)
+              (Typed.pass T37 T39 s37)
               at1
               (Scalar.t-use
               𝓤
@@ -3962,7 +5911,7 @@ module _ (claims· : Claims) where
               W
               E
               𝓣
-              G29
+              G38
               Scalar.oUnit
               0
               (Rows'.sc-here Row.sUnit)
@@ -3977,7 +5926,7 @@ module _ (claims· : Claims) where
               λ u. tt)
               d1
 
-          d3 : Typed.Typed 𝓤 H A 𝓣 E G28 b11 Δ0 at3
+          d3 : Typed.Typed 𝓤 H A 𝓣 E G37 b17 Δ0 at3
           d3 =
               Typed.g-pre
               𝓤
@@ -3986,16 +5935,16 @@ module _ (claims· : Claims) where
               W
               𝓣
               E
-              G28
-              G29
-              b11
+              G37
+              G38
+              b17
               Δ0
               (λ Ψ. Ψ)
               at2
-              (Lifetime.g-forget 𝓤 H A W E G28 4 Row.dead Path'.refl)
+              (Lifetime.g-forget 𝓤 H A W E G37 5 Row.dead Path'.refl)
               d2
 
-          d4 : Typed.Typed 𝓤 H A 𝓣 E G27 b11 Δ0 at4
+          d4 : Typed.Typed 𝓤 H A 𝓣 E G36 b17 Δ0 at4
           d4 =
               Typed.g-pre
               𝓤
@@ -4004,11 +5953,11 @@ module _ (claims· : Claims) where
               W
               𝓣
               E
-              G27
-              G28
-              b11
+              G36
+              G37
+              b17
               Δ0
-              (Typed.both s26)
+              (Typed.both s35)
               at3
               (Relend.g-back-sl
               𝓤
@@ -4017,11 +5966,11 @@ module _ (claims· : Claims) where
               W
               E
               (KRouteRow.R)
-              G27
+              G36
               14
               2
               1
-              4
+              5
               (Syntax.tyRef
               (Syntax.named 1)
               Syntax.mut
@@ -4051,13 +6000,13 @@ module _ (claims· : Claims) where
               Syntax.mut
               (KRouteRow.named))
               1
-              4
+              5
               (Row.lease (κs .1 .0) (qs .1 .0))))
               Path'.refl
               Path'.refl)
               d3
 
-          d5 : Typed.Typed 𝓤 H A 𝓣 E G26 b11 Δ0 at5
+          d5 : Typed.Typed 𝓤 H A 𝓣 E G35 b17 Δ0 at5
           d5 =
               Typed.g-pre
               𝓤
@@ -4066,16 +6015,16 @@ module _ (claims· : Claims) where
               W
               𝓣
               E
-              G26
-              G27
-              b11
+              G35
+              G36
+              b17
               Δ0
               (λ Ψ. Ψ)
               at4
-              (Lifetime.g-end 𝓤 H A W E G26 4 Path'.refl)
+              (Lifetime.g-end 𝓤 H A W E G35 5 Path'.refl)
               d4
 
-          d6 : Typed.Typed 𝓤 H A 𝓣 E G25 b11 Δ0 at6
+          d6 : Typed.Typed 𝓤 H A 𝓣 E G34 b17 Δ0 at6
           d6 =
               Typed.g-pre
               𝓤
@@ -4084,16 +6033,25 @@ module _ (claims· : Claims) where
               W
               𝓣
               E
-              G25
-              G26
-              b11
+              G34
+              G35
+              b17
               Δ0
-              (Typed.pass T25 T26 s24)
+              (Typed.pass T34 T35 s33)
               at5
-              (Scalar.g-room 𝓤 H A W E G25 8 Syntax.tyUnit (Scalar.room-sc 𝓤 H A W Row.sUnit))
+              (Scalar.g-room
+              𝓤
+              H
+              A
+              W
+              E
+              G34
+              15
+              (KRouteRow.spelled)
+              (KRouteRow.room 𝓤 H A W))
               d5
 
-          d7 : Typed.Typed 𝓤 H A 𝓣 E G24 b11 Δ0 at7
+          d7 : Typed.Typed 𝓤 H A 𝓣 E G33 b17 Δ0 at7
           d7 =
               Typed.g-pre
               𝓤
@@ -4102,25 +6060,16 @@ module _ (claims· : Claims) where
               W
               𝓣
               E
-              G24
-              G25
-              b11
+              G33
+              G34
+              b17
               Δ0
-              (Typed.pass T24 T25 s23)
+              (Typed.pass T33 T34 s32)
               at6
-              (Scalar.g-room
-              𝓤
-              H
-              A
-              W
-              E
-              G24
-              7
-              (KRouteRow.spelled)
-              (KRouteRow.room 𝓤 H A W))
+              (Scalar.g-room 𝓤 H A W E G33 6 Syntax.tyUnit (Scalar.room-sc 𝓤 H A W Row.sUnit))
               d6
 
-          d8 : Typed.Typed 𝓤 H A 𝓣 E G23 b12 Δ0 at8
+          d8 : Typed.Typed 𝓤 H A 𝓣 E G32 b18 Δ0 at8
           d8 =
               Typed.s-seq
               𝓤
@@ -4129,12 +6078,12 @@ module _ (claims· : Claims) where
               W
               𝓣
               E
-              G23
-              G24
-              b8
-              b11
+              G32
+              G33
+              b14
+              b17
               Δ0
-              (Typed.both s22)
+              (Typed.both s31)
               at7
               (Plain.t-call-plain
               𝓤
@@ -4143,15 +6092,15 @@ module _ (claims· : Claims) where
               W
               𝓣
               1
-              ps·1
-              r·1
-              (claims· .2)
-              (claims· .3)
+              ps·4
+              r·4
+              (claims· .8)
+              (claims· .9)
               "table::put_route"
-              (known .1)
+              (known .4)
               E
               (λ pos β. β)
-              G23 (
+              G32 (
                 record {
                   pos = 14;
                   ty = Syntax.tyRef
@@ -4160,11 +6109,11 @@ module _ (claims· : Claims) where
                       (KRouteRow.named);
                   ref = λ x. x;
                 },
-                (Num.vAt 4 λ x. x, (record { pos = 7; st = List.[]; d = 0; at = λ x. x }, tt)),
+                (Num.vAt 4 λ x. x, (record { pos = 15; st = List.[]; d = 0; at = λ x. x }, tt)),
               )
-              8
-              (List._∷_ 4 List.[])
-              (Call.sub-id 𝓤 H A W (G23 .slots)) (
+              6
+              (List._∷_ 5 List.[])
+              (Call.sub-id 𝓤 H A W (G32 .slots)) (
                 Reads'.as-is
                     𝓤
                     H
@@ -4175,7 +6124,7 @@ module _ (claims· : Claims) where
                     Syntax.erased
                     Syntax.mut
                     (KRouteRow.named))
-                    4),
+                    5),
                 Mut.reads-mslice
                     𝓤
                     H
@@ -4186,7 +6135,7 @@ module _ (claims· : Claims) where
                     Syntax.erased
                     Syntax.mut
                     (KRouteRow.named))
-                    4,
+                    5,
                 Path'.refl,
                 (
                   (Scalar.reads-sc 𝓤 H A W (Row.sInt Syntax.w64), Path'.refl),
@@ -4204,8 +6153,35 @@ module _ (claims· : Claims) where
               Path'.refl)
               d7
 
-          d9 : Typed.Typed 𝓤 H A 𝓣 E G22 b13 Δ0 at9
+          d9 : Typed.Typed 𝓤 H A 𝓣 E G31 b18 Δ0 at9
           d9 =
+              Typed.g-pre
+              𝓤
+              H
+              A
+              W
+              𝓣
+              E
+              G31
+              G32
+              b18
+              Δ0
+              (Typed.pass T31 T32 s30)
+              at8
+              (Scalar.g-room
+              𝓤
+              H
+              A
+              W
+              E
+              G31
+              10
+              (KDecided.spelled)
+              (KDecided.room 𝓤 H A W))
+              d8
+
+          d10 : Typed.Typed 𝓤 H A 𝓣 E G30 b19 Δ0 at10
+          d10 =
               Typed.s-seq
               𝓤
               H
@@ -4213,13 +6189,150 @@ module _ (claims· : Claims) where
               W
               𝓣
               E
-              G22
-              G23
-              b7
-              b12
+              G30
+              G31
+              b13
+              b18
               Δ0
-              (Typed.ask s21)
-              at8
+              (Typed.both s29)
+              at9
+              (Plain.t-call-plain
+              𝓤
+              H
+              A
+              W
+              𝓣
+              0
+              ps·3
+              r·3
+              (claims· .6)
+              (claims· .7)
+              "finish::route_of"
+              (known .3)
+              E
+              (λ pos β. β)
+              G30
+              (record { pos = 10; st = List.[]; d = 0; at = λ x. x }, tt)
+              15
+              List.[]
+              (Call.sub-id 𝓤 H A W (G30 .slots)) (
+                (
+                  KDecided.yields 𝓤 H A W,
+                  Path'.refl,
+                ),
+                tt,
+              )
+              (Reads'.room-gone 𝓤 H A (KRouteRow.spelled))
+              tt
+              Path'.refl)
+              d9
+
+          d11 : Typed.Typed 𝓤 H A 𝓣 E G29 b20 Δ0 at11
+          d11 =
+              Typed.s-seq
+              𝓤
+              H
+              A
+              W
+              𝓣
+              E
+              G29
+              G30
+              b12
+              b19
+              Δ0
+              (Typed.give s28)
+              at10
+              (DerefMove.t-sref-read-copy
+              𝓤
+              H
+              A
+              W
+              E
+              𝓣
+              (λ ρ. Unit)
+              G29
+              5
+              10
+              2
+              (KDecided.R)
+              (Syntax.tyRef
+              (Syntax.named 2)
+              Syntax.imm
+              (KDecided.named))
+              (KDecided.spelled)
+              (KDecided.spelled)
+              (Row.lease (κs .1 .1 .0) (qs .1 .1 .0))
+              (λ x. x)
+              (KDecided.row)
+              (λ x. x)
+              (λ x. Unit)
+              Path'.refl
+              Path'.refl
+              Path'.refl
+              (KDecided.cp .copy
+              𝓤
+              H
+              A
+              W)
+              (DerefMove.learns-nothing
+              𝓤
+              H
+              A
+              (KDecided.R))
+              (Own.told-none 𝓤 H A (G29 .slots))
+              (Copies.halves
+              𝓤
+              H
+              A
+              W
+              (KDecided.cp))
+              (Reads'.as-is
+              𝓤
+              H
+              A
+              (Rows'.sref
+              (KDecided.R)
+              (Syntax.tyRef
+              (Syntax.named 2)
+              Syntax.imm
+              (KDecided.named))
+              2))
+              (Reads'.room-gone 𝓤 H A (KDecided.spelled))
+              (Yields.makes-mem
+              𝓤
+              H
+              A
+              W
+              (λ ρ. Unit)
+              (KDecided.R)
+              Path'.refl
+              (KDecided.row)
+              (λ x. x)
+              λ ρ told. KDecided.of-mem 𝓤 H A W
+              ρ)
+              Path'.refl
+              tt
+              Path'.refl
+              Path'.refl)
+              d10
+
+          d12 : Typed.Typed 𝓤 H A 𝓣 E G28 b21 Δ0 at12
+          d12 =
+              Typed.s-seq
+              𝓤
+              H
+              A
+              W
+              𝓣
+              E
+              G28
+              G29
+              b11
+              b20
+              Δ0
+              (Typed.ask s27)
+              at11
               (Relend.t-sl-aggregate
               𝓤
               H
@@ -4229,10 +6342,10 @@ module _ (claims· : Claims) where
               (KRouteRow.R)
               𝓣
               (Relend.asMut (KRouteRow.R))
-              G22
+              G28
               13
               14
-              4
+              5
               (Syntax.tyRef Syntax.erased Syntax.mut (KRouteRow.named))
               (Syntax.tyRef Syntax.erased Syntax.mut (KRouteRow.named))
               (λ x. x)
@@ -4250,7 +6363,7 @@ module _ (claims· : Claims) where
               (Relend.msptr
               (KRouteRow.R)
               (Syntax.tyRef Syntax.erased Syntax.mut (KRouteRow.named))
-              4))
+              5))
               (Reads'.room-gone
               𝓤
               H
@@ -4271,7 +6384,7 @@ module _ (claims· : Claims) where
                     Syntax.mut
                     (KRouteRow.named))
                     1
-                    4
+                    5
                     (Row.lease (κs .1 .0) (qs .1 .0))
                     8
                     Path'.refl,
@@ -4280,10 +6393,10 @@ module _ (claims· : Claims) where
               Path'.refl
               Path'.refl
               λ b o k. tt)
-              d8
+              d11
 
-          d10 : Typed.Typed 𝓤 H A 𝓣 E G21 b14 Δ0 at10
-          d10 =
+          d13 : Typed.Typed 𝓤 H A 𝓣 E G27 b22 Δ0 at13
+          d13 =
               Typed.s-seq
               𝓤
               H
@@ -4291,13 +6404,13 @@ module _ (claims· : Claims) where
               W
               𝓣
               E
-              G21
-              G22
-              b6
-              b13
+              G27
+              G28
+              b10
+              b21
               Δ0
-              (Typed.give s20)
-              at9
+              (Typed.give s26)
+              at12
               (Relend.t-sl-relend
               𝓤
               H
@@ -4306,11 +6419,11 @@ module _ (claims· : Claims) where
               E
               (KRouteRow.R)
               𝓣
-              G21
+              G27
               2
               13
               1
-              4
+              5
               (Syntax.tyRef
               (Syntax.named 1)
               Syntax.mut
@@ -4341,10 +6454,10 @@ module _ (claims· : Claims) where
               Path'.refl
               Path'.refl
               λ b o. tt)
-              d9
+              d12
 
-          d11 : Typed.Typed 𝓤 H A 𝓣 E G20 b14 Δ0 at11
-          d11 =
+          d14 : Typed.Typed 𝓤 H A 𝓣 E G26 b22 Δ0 at14
+          d14 =
               Typed.g-pre
               𝓤
               H
@@ -4352,13 +6465,13 @@ module _ (claims· : Claims) where
               W
               𝓣
               E
-              G20
-              G21
-              b14
+              G26
+              G27
+              b22
               Δ0
               (λ Ψ. Ψ)
-              at10
-              (Lifetime.g-begin 𝓤 H A W E G20 4 (
+              at13
+              (Lifetime.g-begin 𝓤 H A W E G26 5 (
                 tt,
                 (
                   tt,
@@ -4368,16 +6481,19 @@ module _ (claims· : Claims) where
                       tt,
                       (
                         tt,
-                        (tt, (tt, (tt, (tt, (tt, (tt, (tt, (tt, (tt, (tt, tt)))))))))),
+                        (
+                          tt,
+                          (tt, (tt, (tt, (tt, (tt, (tt, (tt, (tt, (tt, (tt, tt)))))))))),
+                        ),
                       ),
                     ),
                   ),
                 ),
               ))
-              d10
+              d13
 
-          d12 : Typed.Typed 𝓤 H A 𝓣 E G19 b14 Δ0 at12
-          d12 =
+          d15 : Typed.Typed 𝓤 H A 𝓣 E G25 b22 Δ0 at15
+          d15 =
               Typed.g-pre
               𝓤
               H
@@ -4385,17 +6501,17 @@ module _ (claims· : Claims) where
               W
               𝓣
               E
-              G19
-              G20
-              b14
+              G25
+              G26
+              b22
               Δ0
               (λ Ψ. Ψ)
-              at11
-              (Lifetime.g-forget 𝓤 H A W E G19 3 Row.dead Path'.refl)
-              d11
+              at14
+              (Lifetime.g-forget 𝓤 H A W E G25 4 Row.dead Path'.refl)
+              d14
 
-          d13 : Typed.Typed 𝓤 H A 𝓣 E G18 b14 Δ0 at13
-          d13 =
+          d16 : Typed.Typed 𝓤 H A 𝓣 E G24 b22 Δ0 at16
+          d16 =
               Typed.g-pre
               𝓤
               H
@@ -4403,12 +6519,12 @@ module _ (claims· : Claims) where
               W
               𝓣
               E
-              G18
-              G19
-              b14
+              G24
+              G25
+              b22
               Δ0
-              (Typed.both s17)
-              at12
+              (Typed.both s23)
+              at15
               (Relend.g-back-sl
               𝓤
               H
@@ -4416,11 +6532,11 @@ module _ (claims· : Claims) where
               W
               E
               (KInstanceRow.R)
-              G18
+              G24
               12
               1
               0
-              3
+              4
               (Syntax.tyRef
               (Syntax.named 0)
               Syntax.mut
@@ -4450,76 +6566,13 @@ module _ (claims· : Claims) where
               Syntax.mut
               (KInstanceRow.named))
               0
-              3
+              4
               (Row.lease (κs .0) (qs .0))))
               Path'.refl
               Path'.refl)
-              d12
-
-          d14 : Typed.Typed 𝓤 H A 𝓣 E G17 b14 Δ0 at14
-          d14 =
-              Typed.g-pre
-              𝓤
-              H
-              A
-              W
-              𝓣
-              E
-              G17
-              G18
-              b14
-              Δ0
-              (λ Ψ. Ψ)
-              at13
-              (Lifetime.g-end 𝓤 H A W E G17 3 Path'.refl)
-              d13
-
-          d15 : Typed.Typed 𝓤 H A 𝓣 E G16 b14 Δ0 at15
-          d15 =
-              Typed.g-pre
-              𝓤
-              H
-              A
-              W
-              𝓣
-              E
-              G16
-              G17
-              b14
-              Δ0
-              (Typed.pass T16 T17 s15)
-              at14
-              (Scalar.g-room 𝓤 H A W E G16 8 Syntax.tyUnit (Scalar.room-sc 𝓤 H A W Row.sUnit))
-              d14
-
-          d16 : Typed.Typed 𝓤 H A 𝓣 E G15 b14 Δ0 at16
-          d16 =
-              Typed.g-pre
-              𝓤
-              H
-              A
-              W
-              𝓣
-              E
-              G15
-              G16
-              b14
-              Δ0
-              (Typed.pass T15 T16 s14)
-              at15
-              (Scalar.g-room
-              𝓤
-              H
-              A
-              W
-              E
-              G15
-              6
-              (KInstanceRow.spelled)
-              (KInstanceRow.room 𝓤 H A W))
               d15
 
-          d17 : Typed.Typed 𝓤 H A 𝓣 E G14 b14 Δ0 at17
+          d17 : Typed.Typed 𝓤 H A 𝓣 E G23 b22 Δ0 at17
           d17 =
               Typed.g-pre
               𝓤
@@ -4528,19 +6581,82 @@ module _ (claims· : Claims) where
               W
               𝓣
               E
-              G14
-              G15
-              b14
+              G23
+              G24
+              b22
               Δ0
-              (Typed.pass T14 T15 s13)
+              (λ Ψ. Ψ)
               at16
+              (Lifetime.g-end 𝓤 H A W E G23 4 Path'.refl)
+              d16
+
+          d18 : Typed.Typed 𝓤 H A 𝓣 E G22 b22 Δ0 at18
+          d18 =
+              Typed.g-pre
+              𝓤
+              H
+              A
+              W
+              𝓣
+              E
+              G22
+              G23
+              b22
+              Δ0
+              (Typed.pass T22 T23 s21)
+              at17
               (Scalar.g-room
               𝓤
               H
               A
               W
               E
-              G14
+              G22
+              9
+              (KInstanceRow.spelled)
+              (KInstanceRow.room 𝓤 H A W))
+              d17
+
+          d19 : Typed.Typed 𝓤 H A 𝓣 E G21 b22 Δ0 at19
+          d19 =
+              Typed.g-pre
+              𝓤
+              H
+              A
+              W
+              𝓣
+              E
+              G21
+              G22
+              b22
+              Δ0
+              (Typed.pass T21 T22 s20)
+              at18
+              (Scalar.g-room 𝓤 H A W E G21 6 Syntax.tyUnit (Scalar.room-sc 𝓤 H A W Row.sUnit))
+              d18
+
+          d20 : Typed.Typed 𝓤 H A 𝓣 E G20 b22 Δ0 at20
+          d20 =
+              Typed.g-pre
+              𝓤
+              H
+              A
+              W
+              𝓣
+              E
+              G20
+              G21
+              b22
+              Δ0
+              (Typed.pass T20 T21 s19)
+              at19
+              (Scalar.g-room
+              𝓤
+              H
+              A
+              W
+              E
+              G20
               3
               (Syntax.tyStruct
               (List._∷_
@@ -4599,10 +6715,10 @@ module _ (claims· : Claims) where
               (Syntax.tyInt Syntax.w64)
               (Syntax.tcons (Syntax.tyInt Syntax.w64) Syntax.tnil))))
               Path'.refl))
-              d16
+              d19
 
-          d18 : Typed.Typed 𝓤 H A 𝓣 E G13 b15 Δ0 at18
-          d18 =
+          d21 : Typed.Typed 𝓤 H A 𝓣 E G19 b23 Δ0 at21
+          d21 =
               Typed.s-seq
               𝓤
               H
@@ -4610,13 +6726,13 @@ module _ (claims· : Claims) where
               W
               𝓣
               E
-              G13
-              G14
-              b5
-              b14
+              G19
+              G20
+              b9
+              b22
               Δ0
-              (Typed.both s12)
-              at17
+              (Typed.both s18)
+              at20
               (Plain.t-call-plain
               𝓤
               H
@@ -4624,15 +6740,15 @@ module _ (claims· : Claims) where
               W
               𝓣
               1
-              ps·0
-              r·0
-              (claims· .0)
-              (claims· .1)
+              ps·1
+              r·1
+              (claims· .2)
+              (claims· .3)
               "table::put_row"
-              (known .0)
+              (known .1)
               E
               (λ pos β. β)
-              G13 (
+              G19 (
                 record {
                   pos = 12;
                   ty = Syntax.tyRef
@@ -4648,12 +6764,602 @@ module _ (claims· : Claims) where
                       16
                       λ x. Places.struct .as-values
                       x .1 .1 .0,
-                  (record { pos = 6; st = List.[]; d = 0; at = λ x. x }, tt),
+                  (record { pos = 9; st = List.[]; d = 0; at = λ x. x }, tt),
                 ),
               )
+              6
+              (List._∷_ 4 List.[])
+              (Call.sub-id 𝓤 H A W (G19 .slots)) (
+                Reads'.as-is
+                    𝓤
+                    H
+                    A
+                    (Mut.mslice
+                    (KInstanceRow.R)
+                    (Syntax.tyRef
+                    Syntax.erased
+                    Syntax.mut
+                    (KInstanceRow.named))
+                    4),
+                Mut.reads-mslice
+                    𝓤
+                    H
+                    A
+                    W
+                    (KInstanceRow.R)
+                    (Syntax.tyRef
+                    Syntax.erased
+                    Syntax.mut
+                    (KInstanceRow.named))
+                    4,
+                Path'.refl,
+                (
+                  (
+                    Reads.reads-field
+                        𝓤
+                        H
+                        A
+                        W
+                        Places.the-type
+                        Laws.the-laws
+                        2
+                        (Syntax.tyInt Syntax.w64)
+                        16
+                        Path'.refl,
+                    Path'.refl,
+                  ),
+                  (
+                    (
+                      KInstanceRow.yields 𝓤 H A W,
+                      Path'.refl,
+                    ),
+                    tt,
+                  ),
+                ),
+              )
+              (Reads'.room-gone 𝓤 H A Syntax.tyUnit)
+              (tt, tt)
+              Path'.refl)
+              d20
+
+          d22 : Typed.Typed 𝓤 H A 𝓣 E G18 b23 Δ0 at22
+          d22 =
+              Typed.g-pre
+              𝓤
+              H
+              A
+              W
+              𝓣
+              E
+              G18
+              G19
+              b23
+              Δ0
+              (Typed.pass T18 T19 s17)
+              at21
+              (Scalar.g-room
+              𝓤
+              H
+              A
+              W
+              E
+              G18
+              10
+              (KDecided.spelled)
+              (KDecided.room 𝓤 H A W))
+              d21
+
+          d23 : Typed.Typed 𝓤 H A 𝓣 E G17 b24 Δ0 at23
+          d23 =
+              Typed.s-seq
+              𝓤
+              H
+              A
+              W
+              𝓣
+              E
+              G17
+              G18
+              b8
+              b23
+              Δ0
+              (Typed.both s16)
+              at22
+              (Plain.t-call-plain
+              𝓤
+              H
+              A
+              W
+              𝓣
+              0
+              ps·2
+              r·2
+              (claims· .4)
+              (claims· .5)
+              "finish::second_of"
+              (known .2)
+              E
+              (λ pos β. β)
+              G17
+              (record { pos = 10; st = List.[]; d = 0; at = λ x. x }, tt)
+              9
+              List.[]
+              (Call.sub-id 𝓤 H A W (G17 .slots)) (
+                (
+                  KDecided.yields 𝓤 H A W,
+                  Path'.refl,
+                ),
+                tt,
+              )
+              (Reads'.room-gone 𝓤 H A (KInstanceRow.spelled))
+              tt
+              Path'.refl)
+              d22
+
+          d24 : Typed.Typed 𝓤 H A 𝓣 E G16 b25 Δ0 at24
+          d24 =
+              Typed.s-seq
+              𝓤
+              H
+              A
+              W
+              𝓣
+              E
+              G16
+              G17
+              b7
+              b24
+              Δ0
+              (Typed.give s15)
+              at23
+              (DerefMove.t-sref-read-copy
+              𝓤
+              H
+              A
+              W
+              E
+              𝓣
+              (λ ρ. Unit)
+              G16
+              5
+              10
+              2
+              (KDecided.R)
+              (Syntax.tyRef
+              (Syntax.named 2)
+              Syntax.imm
+              (KDecided.named))
+              (KDecided.spelled)
+              (KDecided.spelled)
+              (Row.lease (κs .1 .1 .0) (qs .1 .1 .0))
+              (λ x. x)
+              (KDecided.row)
+              (λ x. x)
+              (λ x. Unit)
+              Path'.refl
+              Path'.refl
+              Path'.refl
+              (KDecided.cp .copy
+              𝓤
+              H
+              A
+              W)
+              (DerefMove.learns-nothing
+              𝓤
+              H
+              A
+              (KDecided.R))
+              (Own.told-none 𝓤 H A (G16 .slots))
+              (Copies.halves
+              𝓤
+              H
+              A
+              W
+              (KDecided.cp))
+              (Reads'.as-is
+              𝓤
+              H
+              A
+              (Rows'.sref
+              (KDecided.R)
+              (Syntax.tyRef
+              (Syntax.named 2)
+              Syntax.imm
+              (KDecided.named))
+              2))
+              (Reads'.room-gone 𝓤 H A (KDecided.spelled))
+              (Yields.makes-mem
+              𝓤
+              H
+              A
+              W
+              (λ ρ. Unit)
+              (KDecided.R)
+              Path'.refl
+              (KDecided.row)
+              (λ x. x)
+              λ ρ told. KDecided.of-mem 𝓤 H A W
+              ρ)
+              Path'.refl
+              tt
+              Path'.refl
+              Path'.refl)
+              d23
+
+          d25 : Typed.Typed 𝓤 H A 𝓣 E G15 b26 Δ0 at25
+          d25 =
+              Typed.s-seq
+              𝓤
+              H
+              A
+              W
+              𝓣
+              E
+              G15
+              G16
+              b6
+              b25
+              Δ0
+              (Typed.ask s14)
+              at24
+              (Relend.t-sl-aggregate
+              𝓤
+              H
+              A
+              W
+              E
+              (KInstanceRow.R)
+              𝓣
+              (Relend.asMut (KInstanceRow.R))
+              G15
+              11
+              12
+              4
+              (Syntax.tyRef Syntax.erased Syntax.mut (KInstanceRow.named))
+              (Syntax.tyRef Syntax.erased Syntax.mut (KInstanceRow.named))
+              (λ x. x)
+              (Scalar.oFld
+              1
+              (List._∷_ (Syntax.field 1) List.[])
+              (Syntax.tyInt Syntax.w64)
               8
+              λ v. Shared.lenV
+              (v .0))
+              (Reads'.as-is
+              𝓤
+              H
+              A
+              (Relend.msptr
+              (KInstanceRow.R)
+              (Syntax.tyRef Syntax.erased Syntax.mut (KInstanceRow.named))
+              4))
+              (Reads'.room-gone
+              𝓤
+              H
+              A
+              (Syntax.tyStruct
+              (List._∷_ 38 (List._∷_ 91 (List._∷_ 93 List.[])))
+              (Syntax.tcons
+              (Syntax.tyRef Syntax.erased Syntax.mut (KInstanceRow.named))
+              (Syntax.tcons (Syntax.tyInt Syntax.w64) Syntax.tnil)))) (
+                Relend.reads-owed-len
+                    𝓤
+                    H
+                    A
+                    W
+                    (KInstanceRow.R)
+                    (Syntax.tyRef
+                    (Syntax.named 0)
+                    Syntax.mut
+                    (KInstanceRow.named))
+                    0
+                    4
+                    (Row.lease (κs .0) (qs .0))
+                    8
+                    Path'.refl,
+                Path'.refl,
+              )
+              Path'.refl
+              Path'.refl
+              λ b o k. tt)
+              d24
+
+          d26 : Typed.Typed 𝓤 H A 𝓣 E G14 b27 Δ0 at26
+          d26 =
+              Typed.s-seq
+              𝓤
+              H
+              A
+              W
+              𝓣
+              E
+              G14
+              G15
+              b5
+              b26
+              Δ0
+              (Typed.give s13)
+              at25
+              (Relend.t-sl-relend
+              𝓤
+              H
+              A
+              W
+              E
+              (KInstanceRow.R)
+              𝓣
+              G14
+              1
+              11
+              0
+              4
+              (Syntax.tyRef
+              (Syntax.named 0)
+              Syntax.mut
+              (KInstanceRow.named))
+              (Syntax.tyRef Syntax.erased Syntax.mut (KInstanceRow.named))
+              (Row.lease (κs .0) (qs .0))
+              0
+              (λ x. x)
+              (Reads'.as-is
+              𝓤
+              H
+              A
+              (Mut.mslice
+              (KInstanceRow.R)
+              (Syntax.tyRef
+              (Syntax.named 0)
+              Syntax.mut
+              (KInstanceRow.named))
+              0))
+              (Reads'.room-gone
+              𝓤
+              H
+              A
+              (Syntax.tyRef
+              Syntax.erased
+              Syntax.mut
+              (KInstanceRow.named)))
+              Path'.refl
+              tt
+              Path'.refl
+              Path'.refl
+              Path'.refl
+              λ b o. tt)
+              d25
+
+          d27 : Typed.Typed 𝓤 H A 𝓣 E G13 b27 Δ0 at27
+          d27 =
+              Typed.g-pre
+              𝓤
+              H
+              A
+              W
+              𝓣
+              E
+              G13
+              G14
+              b27
+              Δ0
+              (λ Ψ. Ψ)
+              at26
+              (Lifetime.g-begin 𝓤 H A W E G13 4 (
+                tt,
+                (
+                  tt,
+                  (
+                    tt,
+                    (
+                      tt,
+                      (
+                        tt,
+                        (
+                          tt,
+                          (tt, (tt, (tt, (tt, (tt, (tt, (tt, (tt, (tt, (tt, tt)))))))))),
+                        ),
+                      ),
+                    ),
+                  ),
+                ),
+              ))
+              d26
+
+          d28 : Typed.Typed 𝓤 H A 𝓣 E G12 b27 Δ0 at28
+          d28 =
+              Typed.g-pre
+              𝓤
+              H
+              A
+              W
+              𝓣
+              E
+              G12
+              G13
+              b27
+              Δ0
+              (λ Ψ. Ψ)
+              at27
+              (Lifetime.g-forget 𝓤 H A W E G12 3 Row.dead Path'.refl)
+              d27
+
+          d29 : Typed.Typed 𝓤 H A 𝓣 E G11 b27 Δ0 at29
+          d29 =
+              Typed.g-pre
+              𝓤
+              H
+              A
+              W
+              𝓣
+              E
+              G11
+              G12
+              b27
+              Δ0
+              (Typed.both s10)
+              at28
+              (Relend.g-back-sl
+              𝓤
+              H
+              A
+              W
+              E
+              (KInstanceRow.R)
+              G11
+              8
+              1
+              0
+              3
+              (Syntax.tyRef
+              (Syntax.named 0)
+              Syntax.mut
+              (KInstanceRow.named))
+              (Syntax.tyRef Syntax.erased Syntax.mut (KInstanceRow.named))
+              (Row.lease (κs .0) (qs .0))
+              (λ x. x)
+              (λ x. x)
+              (Reads'.as-is
+              𝓤
+              H
+              A
+              (Mut.msleft
+              (KInstanceRow.R)
+              (Syntax.tyRef
+              Syntax.erased
+              Syntax.mut
+              (KInstanceRow.named))))
+              (Reads'.as-is
+              𝓤
+              H
+              A
+              (Relend.mslice-owed
+              (KInstanceRow.R)
+              (Syntax.tyRef
+              (Syntax.named 0)
+              Syntax.mut
+              (KInstanceRow.named))
+              0
+              3
+              (Row.lease (κs .0) (qs .0))))
+              Path'.refl
+              Path'.refl)
+              d28
+
+          d30 : Typed.Typed 𝓤 H A 𝓣 E G10 b27 Δ0 at30
+          d30 =
+              Typed.g-pre
+              𝓤
+              H
+              A
+              W
+              𝓣
+              E
+              G10
+              G11
+              b27
+              Δ0
+              (λ Ψ. Ψ)
+              at29
+              (Lifetime.g-end 𝓤 H A W E G10 3 Path'.refl)
+              d29
+
+          d31 : Typed.Typed 𝓤 H A 𝓣 E G9 b27 Δ0 at31
+          d31 =
+              Typed.g-pre
+              𝓤
+              H
+              A
+              W
+              𝓣
+              E
+              G9
+              G10
+              b27
+              Δ0
+              (Typed.pass T9 T10 s8)
+              at30
+              (Scalar.g-room
+              𝓤
+              H
+              A
+              W
+              E
+              G9
+              9
+              (KInstanceRow.spelled)
+              (KInstanceRow.room 𝓤 H A W))
+              d30
+
+          d32 : Typed.Typed 𝓤 H A 𝓣 E G8 b27 Δ0 at32
+          d32 =
+              Typed.g-pre
+              𝓤
+              H
+              A
+              W
+              𝓣
+              E
+              G8
+              G9
+              b27
+              Δ0
+              (Typed.pass T8 T9 s7)
+              at31
+              (Scalar.g-room 𝓤 H A W E G8 6 Syntax.tyUnit (Scalar.room-sc 𝓤 H A W Row.sUnit))
+              d31
+
+          d33 : Typed.Typed 𝓤 H A 𝓣 E G7 b28 Δ0 at33
+          d33 =
+              Typed.s-seq
+              𝓤
+              H
+              A
+              W
+              𝓣
+              E
+              G7
+              G8
+              b4
+              b27
+              Δ0
+              (Typed.both s6)
+              at32
+              (Plain.t-call-plain
+              𝓤
+              H
+              A
+              W
+              𝓣
+              1
+              ps·1
+              r·1
+              (claims· .2)
+              (claims· .3)
+              "table::put_row"
+              (known .1)
+              E
+              (λ pos β. β)
+              G7 (
+                record {
+                  pos = 8;
+                  ty = Syntax.tyRef
+                      Syntax.erased
+                      Syntax.mut
+                      (KInstanceRow.named);
+                  ref = λ x. x;
+                },
+                (
+                  Num.vFld
+                      3
+                      (List._∷_ (Syntax.field 1) List.[])
+                      8
+                      λ x. Places.struct .as-values
+                      x .1 .0,
+                  (record { pos = 9; st = List.[]; d = 0; at = λ x. x }, tt),
+                ),
+              )
+              6
               (List._∷_ 3 List.[])
-              (Call.sub-id 𝓤 H A W (G13 .slots)) (
+              (Call.sub-id 𝓤 H A W (G7 .slots)) (
                 Reads'.as-is
                     𝓤
                     H
@@ -4686,9 +7392,9 @@ module _ (claims· : Claims) where
                         W
                         Places.the-type
                         Laws.the-laws
-                        2
+                        1
                         (Syntax.tyInt Syntax.w64)
-                        16
+                        8
                         Path'.refl,
                     Path'.refl,
                   ),
@@ -4704,10 +7410,37 @@ module _ (claims· : Claims) where
               (Reads'.room-gone 𝓤 H A Syntax.tyUnit)
               (tt, tt)
               Path'.refl)
-              d17
+              d32
 
-          d19 : Typed.Typed 𝓤 H A 𝓣 E G12 b16 Δ0 at19
-          d19 =
+          d34 : Typed.Typed 𝓤 H A 𝓣 E G6 b28 Δ0 at34
+          d34 =
+              Typed.g-pre
+              𝓤
+              H
+              A
+              W
+              𝓣
+              E
+              G6
+              G7
+              b28
+              Δ0
+              (Typed.pass T6 T7 s5)
+              at33
+              (Scalar.g-room
+              𝓤
+              H
+              A
+              W
+              E
+              G6
+              10
+              (KDecided.spelled)
+              (KDecided.room 𝓤 H A W))
+              d33
+
+          d35 : Typed.Typed 𝓤 H A 𝓣 E G5 b29 Δ0 at35
+          d35 =
               Typed.s-seq
               𝓤
               H
@@ -4715,13 +7448,150 @@ module _ (claims· : Claims) where
               W
               𝓣
               E
-              G12
-              G13
-              b4
-              b15
+              G5
+              G6
+              b3
+              b28
               Δ0
-              (Typed.ask s11)
-              at18
+              (Typed.both s4)
+              at34
+              (Plain.t-call-plain
+              𝓤
+              H
+              A
+              W
+              𝓣
+              0
+              ps·0
+              r·0
+              (claims· .0)
+              (claims· .1)
+              "finish::row_of"
+              (known .0)
+              E
+              (λ pos β. β)
+              G5
+              (record { pos = 10; st = List.[]; d = 0; at = λ x. x }, tt)
+              9
+              List.[]
+              (Call.sub-id 𝓤 H A W (G5 .slots)) (
+                (
+                  KDecided.yields 𝓤 H A W,
+                  Path'.refl,
+                ),
+                tt,
+              )
+              (Reads'.room-gone 𝓤 H A (KInstanceRow.spelled))
+              tt
+              Path'.refl)
+              d34
+
+          d36 : Typed.Typed 𝓤 H A 𝓣 E G4 b30 Δ0 at36
+          d36 =
+              Typed.s-seq
+              𝓤
+              H
+              A
+              W
+              𝓣
+              E
+              G4
+              G5
+              b2
+              b29
+              Δ0
+              (Typed.give s3)
+              at35
+              (DerefMove.t-sref-read-copy
+              𝓤
+              H
+              A
+              W
+              E
+              𝓣
+              (λ ρ. Unit)
+              G4
+              5
+              10
+              2
+              (KDecided.R)
+              (Syntax.tyRef
+              (Syntax.named 2)
+              Syntax.imm
+              (KDecided.named))
+              (KDecided.spelled)
+              (KDecided.spelled)
+              (Row.lease (κs .1 .1 .0) (qs .1 .1 .0))
+              (λ x. x)
+              (KDecided.row)
+              (λ x. x)
+              (λ x. Unit)
+              Path'.refl
+              Path'.refl
+              Path'.refl
+              (KDecided.cp .copy
+              𝓤
+              H
+              A
+              W)
+              (DerefMove.learns-nothing
+              𝓤
+              H
+              A
+              (KDecided.R))
+              (Own.told-none 𝓤 H A (G4 .slots))
+              (Copies.halves
+              𝓤
+              H
+              A
+              W
+              (KDecided.cp))
+              (Reads'.as-is
+              𝓤
+              H
+              A
+              (Rows'.sref
+              (KDecided.R)
+              (Syntax.tyRef
+              (Syntax.named 2)
+              Syntax.imm
+              (KDecided.named))
+              2))
+              (Reads'.room-gone 𝓤 H A (KDecided.spelled))
+              (Yields.makes-mem
+              𝓤
+              H
+              A
+              W
+              (λ ρ. Unit)
+              (KDecided.R)
+              Path'.refl
+              (KDecided.row)
+              (λ x. x)
+              λ ρ told. KDecided.of-mem 𝓤 H A W
+              ρ)
+              Path'.refl
+              tt
+              Path'.refl
+              Path'.refl)
+              d35
+
+          d37 : Typed.Typed 𝓤 H A 𝓣 E G3 b31 Δ0 at37
+          d37 =
+              Typed.s-seq
+              𝓤
+              H
+              A
+              W
+              𝓣
+              E
+              G3
+              G4
+              b1
+              b30
+              Δ0
+              (Typed.ask s2)
+              at36
               (Relend.t-sl-aggregate
               𝓤
               H
@@ -4731,9 +7601,9 @@ module _ (claims· : Claims) where
               (KInstanceRow.R)
               𝓣
               (Relend.asMut (KInstanceRow.R))
-              G12
-              11
-              12
+              G3
+              7
+              8
               3
               (Syntax.tyRef Syntax.erased Syntax.mut (KInstanceRow.named))
               (Syntax.tyRef Syntax.erased Syntax.mut (KInstanceRow.named))
@@ -4782,10 +7652,10 @@ module _ (claims· : Claims) where
               Path'.refl
               Path'.refl
               λ b o k. tt)
-              d18
+              d36
 
-          d20 : Typed.Typed 𝓤 H A 𝓣 E G11 b17 Δ0 at20
-          d20 =
+          d38 : Typed.Typed 𝓤 H A 𝓣 E G2 b32 Δ0 at38
+          d38 =
               Typed.s-seq
               𝓤
               H
@@ -4793,13 +7663,13 @@ module _ (claims· : Claims) where
               W
               𝓣
               E
-              G11
-              G12
-              b3
-              b16
+              G2
+              G3
+              b0
+              b31
               Δ0
-              (Typed.give s10)
-              at19
+              (Typed.give s1)
+              at37
               (Relend.t-sl-relend
               𝓤
               H
@@ -4808,9 +7678,9 @@ module _ (claims· : Claims) where
               E
               (KInstanceRow.R)
               𝓣
-              G11
+              G2
               1
-              11
+              7
               0
               3
               (Syntax.tyRef
@@ -4846,24 +7716,11 @@ module _ (claims· : Claims) where
               Path'.refl
               Path'.refl
               λ b o. tt)
-              d19
+              d37
 
-          d21 : Typed.Typed 𝓤 H A 𝓣 E G10 b17 Δ0 at21
-          d21 =
-              Typed.g-pre
-              𝓤
-              H
-              A
-              W
-              𝓣
-              E
-              G10
-              G11
-              b17
-              Δ0
-              (λ Ψ. Ψ)
-              at20
-              (Lifetime.g-begin 𝓤 H A W E G10 3 (
+          d39 : Typed.Typed 𝓤 H A 𝓣 E G0 b32 Δ0 at39
+          d39 =
+              Typed.g-pre 𝓤 H A W 𝓣 E G0 G2 b32 Δ0 (λ Ψ. Ψ) at38 (Lifetime.g-begin 𝓤 H A W E G0 3 (
                 tt,
                 (
                   tt,
@@ -4873,422 +7730,15 @@ module _ (claims· : Claims) where
                       tt,
                       (
                         tt,
-                        (tt, (tt, (tt, (tt, (tt, (tt, (tt, (tt, (tt, (tt, tt)))))))))),
+                        (
+                          tt,
+                          (tt, (tt, (tt, (tt, (tt, (tt, (tt, (tt, (tt, (tt, tt)))))))))),
+                        ),
                       ),
                     ),
                   ),
                 ),
-              ))
-              d20
-
-          d22 : Typed.Typed 𝓤 H A 𝓣 E G9 b17 Δ0 at22
-          d22 =
-              Typed.g-pre
-              𝓤
-              H
-              A
-              W
-              𝓣
-              E
-              G9
-              G10
-              b17
-              Δ0
-              (λ Ψ. Ψ)
-              at21
-              (Lifetime.g-forget 𝓤 H A W E G9 2 Row.dead Path'.refl)
-              d21
-
-          d23 : Typed.Typed 𝓤 H A 𝓣 E G8 b17 Δ0 at23
-          d23 =
-              Typed.g-pre
-              𝓤
-              H
-              A
-              W
-              𝓣
-              E
-              G8
-              G9
-              b17
-              Δ0
-              (Typed.both s7)
-              at22
-              (Relend.g-back-sl
-              𝓤
-              H
-              A
-              W
-              E
-              (KInstanceRow.R)
-              G8
-              10
-              1
-              0
-              2
-              (Syntax.tyRef
-              (Syntax.named 0)
-              Syntax.mut
-              (KInstanceRow.named))
-              (Syntax.tyRef Syntax.erased Syntax.mut (KInstanceRow.named))
-              (Row.lease (κs .0) (qs .0))
-              (λ x. x)
-              (λ x. x)
-              (Reads'.as-is
-              𝓤
-              H
-              A
-              (Mut.msleft
-              (KInstanceRow.R)
-              (Syntax.tyRef
-              Syntax.erased
-              Syntax.mut
-              (KInstanceRow.named))))
-              (Reads'.as-is
-              𝓤
-              H
-              A
-              (Relend.mslice-owed
-              (KInstanceRow.R)
-              (Syntax.tyRef
-              (Syntax.named 0)
-              Syntax.mut
-              (KInstanceRow.named))
-              0
-              2
-              (Row.lease (κs .0) (qs .0))))
-              Path'.refl
-              Path'.refl)
-              d22
-
-          d24 : Typed.Typed 𝓤 H A 𝓣 E G7 b17 Δ0 at24
-          d24 =
-              Typed.g-pre
-              𝓤
-              H
-              A
-              W
-              𝓣
-              E
-              G7
-              G8
-              b17
-              Δ0
-              (λ Ψ. Ψ)
-              at23
-              (Lifetime.g-end 𝓤 H A W E G7 2 Path'.refl)
-              d23
-
-          d25 : Typed.Typed 𝓤 H A 𝓣 E G6 b17 Δ0 at25
-          d25 =
-              Typed.g-pre
-              𝓤
-              H
-              A
-              W
-              𝓣
-              E
-              G6
-              G7
-              b17
-              Δ0
-              (Typed.pass T6 T7 s5)
-              at24
-              (Scalar.g-room 𝓤 H A W E G6 8 Syntax.tyUnit (Scalar.room-sc 𝓤 H A W Row.sUnit))
-              d24
-
-          d26 : Typed.Typed 𝓤 H A 𝓣 E G5 b17 Δ0 at26
-          d26 =
-              Typed.g-pre
-              𝓤
-              H
-              A
-              W
-              𝓣
-              E
-              G5
-              G6
-              b17
-              Δ0
-              (Typed.pass T5 T6 s4)
-              at25
-              (Scalar.g-room
-              𝓤
-              H
-              A
-              W
-              E
-              G5
-              5
-              (KInstanceRow.spelled)
-              (KInstanceRow.room 𝓤 H A W))
-              d25
-
-          d27 : Typed.Typed 𝓤 H A 𝓣 E G4 b18 Δ0 at27
-          d27 =
-              Typed.s-seq
-              𝓤
-              H
-              A
-              W
-              𝓣
-              E
-              G4
-              G5
-              b2
-              b17
-              Δ0
-              (Typed.both s3)
-              at26
-              (Plain.t-call-plain
-              𝓤
-              H
-              A
-              W
-              𝓣
-              1
-              ps·0
-              r·0
-              (claims· .0)
-              (claims· .1)
-              "table::put_row"
-              (known .0)
-              E
-              (λ pos β. β)
-              G4 (
-                record {
-                  pos = 10;
-                  ty = Syntax.tyRef
-                      Syntax.erased
-                      Syntax.mut
-                      (KInstanceRow.named);
-                  ref = λ x. x;
-                },
-                (
-                  Num.vFld
-                      3
-                      (List._∷_ (Syntax.field 1) List.[])
-                      8
-                      λ x. Places.struct .as-values
-                      x .1 .0,
-                  (record { pos = 5; st = List.[]; d = 0; at = λ x. x }, tt),
-                ),
-              )
-              8
-              (List._∷_ 2 List.[])
-              (Call.sub-id 𝓤 H A W (G4 .slots)) (
-                Reads'.as-is
-                    𝓤
-                    H
-                    A
-                    (Mut.mslice
-                    (KInstanceRow.R)
-                    (Syntax.tyRef
-                    Syntax.erased
-                    Syntax.mut
-                    (KInstanceRow.named))
-                    2),
-                Mut.reads-mslice
-                    𝓤
-                    H
-                    A
-                    W
-                    (KInstanceRow.R)
-                    (Syntax.tyRef
-                    Syntax.erased
-                    Syntax.mut
-                    (KInstanceRow.named))
-                    2,
-                Path'.refl,
-                (
-                  (
-                    Reads.reads-field
-                        𝓤
-                        H
-                        A
-                        W
-                        Places.the-type
-                        Laws.the-laws
-                        1
-                        (Syntax.tyInt Syntax.w64)
-                        8
-                        Path'.refl,
-                    Path'.refl,
-                  ),
-                  (
-                    (
-                      KInstanceRow.yields 𝓤 H A W,
-                      Path'.refl,
-                    ),
-                    tt,
-                  ),
-                ),
-              )
-              (Reads'.room-gone 𝓤 H A Syntax.tyUnit)
-              (tt, tt)
-              Path'.refl)
-              d26
-
-          d28 : Typed.Typed 𝓤 H A 𝓣 E G3 b19 Δ0 at28
-          d28 =
-              Typed.s-seq
-              𝓤
-              H
-              A
-              W
-              𝓣
-              E
-              G3
-              G4
-              b1
-              b18
-              Δ0
-              (Typed.ask s2)
-              at27
-              (Relend.t-sl-aggregate
-              𝓤
-              H
-              A
-              W
-              E
-              (KInstanceRow.R)
-              𝓣
-              (Relend.asMut (KInstanceRow.R))
-              G3
-              9
-              10
-              2
-              (Syntax.tyRef Syntax.erased Syntax.mut (KInstanceRow.named))
-              (Syntax.tyRef Syntax.erased Syntax.mut (KInstanceRow.named))
-              (λ x. x)
-              (Scalar.oFld
-              1
-              (List._∷_ (Syntax.field 1) List.[])
-              (Syntax.tyInt Syntax.w64)
-              8
-              λ v. Shared.lenV
-              (v .0))
-              (Reads'.as-is
-              𝓤
-              H
-              A
-              (Relend.msptr
-              (KInstanceRow.R)
-              (Syntax.tyRef Syntax.erased Syntax.mut (KInstanceRow.named))
-              2))
-              (Reads'.room-gone
-              𝓤
-              H
-              A
-              (Syntax.tyStruct
-              (List._∷_ 38 (List._∷_ 91 (List._∷_ 93 List.[])))
-              (Syntax.tcons
-              (Syntax.tyRef Syntax.erased Syntax.mut (KInstanceRow.named))
-              (Syntax.tcons (Syntax.tyInt Syntax.w64) Syntax.tnil)))) (
-                Relend.reads-owed-len
-                    𝓤
-                    H
-                    A
-                    W
-                    (KInstanceRow.R)
-                    (Syntax.tyRef
-                    (Syntax.named 0)
-                    Syntax.mut
-                    (KInstanceRow.named))
-                    0
-                    2
-                    (Row.lease (κs .0) (qs .0))
-                    8
-                    Path'.refl,
-                Path'.refl,
-              )
-              Path'.refl
-              Path'.refl
-              λ b o k. tt)
-              d27
-
-          d29 : Typed.Typed 𝓤 H A 𝓣 E G2 b20 Δ0 at29
-          d29 =
-              Typed.s-seq
-              𝓤
-              H
-              A
-              W
-              𝓣
-              E
-              G2
-              G3
-              b0
-              b19
-              Δ0
-              (Typed.give s1)
-              at28
-              (Relend.t-sl-relend
-              𝓤
-              H
-              A
-              W
-              E
-              (KInstanceRow.R)
-              𝓣
-              G2
-              1
-              9
-              0
-              2
-              (Syntax.tyRef
-              (Syntax.named 0)
-              Syntax.mut
-              (KInstanceRow.named))
-              (Syntax.tyRef Syntax.erased Syntax.mut (KInstanceRow.named))
-              (Row.lease (κs .0) (qs .0))
-              0
-              (λ x. x)
-              (Reads'.as-is
-              𝓤
-              H
-              A
-              (Mut.mslice
-              (KInstanceRow.R)
-              (Syntax.tyRef
-              (Syntax.named 0)
-              Syntax.mut
-              (KInstanceRow.named))
-              0))
-              (Reads'.room-gone
-              𝓤
-              H
-              A
-              (Syntax.tyRef
-              Syntax.erased
-              Syntax.mut
-              (KInstanceRow.named)))
-              Path'.refl
-              tt
-              Path'.refl
-              Path'.refl
-              Path'.refl
-              λ b o. tt)
-              d28
-
-          d30 : Typed.Typed 𝓤 H A 𝓣 E G0 b20 Δ0 at30
-          d30 =
-              Typed.g-pre 𝓤 H A W 𝓣 E G0 G2 b20 Δ0 (λ Ψ. Ψ) at29 (Lifetime.g-begin 𝓤 H A W E G0 2 (
-                tt,
-                (
-                  tt,
-                  (
-                    tt,
-                    (
-                      tt,
-                      (
-                        tt,
-                        (tt, (tt, (tt, (tt, (tt, (tt, (tt, (tt, (tt, (tt, tt)))))))))),
-                      ),
-                    ),
-                  ),
-                ),
-              )) d29
+              )) d38
 
           pub typed :
               Typed.Typed
@@ -5297,21 +7747,21 @@ module _ (claims· : Claims) where
               A
               𝓣
               E
-              (Function.Γin 2 ps r xs m κs qs)
-              b20
-              (Function.Δret 2 ps r xs m κs qs)
+              (Function.Γin 3 ps r xs m κs qs)
+              b32
+              (Function.Δret 3 ps r xs m κs qs)
               Φ
-          typed = d30
+          typed = d39
 
-      module _ (κs : Lifetimes.Lfts 2) where
+      module _ (κs : Lifetimes.Lfts 3) where
         pub record Args : Type 0 where
-          pub instances : Kinds.Den {n = 2}
+          pub instances : Kinds.Den {n = 3}
               κs
               (MutSlice.pMutS (KInstanceRow.R) 0 tt)
-          pub routes : Kinds.Den {n = 2}
+          pub routes : Kinds.Den {n = 3}
               κs
               (MutSlice.pMutS (KRouteRow.R) 1 tt)
-          pub p : Kinds.Den {n = 2} κs (Value.pVal record {
+          pub p : Kinds.Den {n = 3} κs (Value.pVal record {
             ty = Declared.row Places.the-type;
             one = Path'.refl;
             val = Laws'.val Places.the-type Laws.the-laws;
@@ -5327,31 +7777,22 @@ module _ (claims· : Claims) where
             in-mem = Local.mem-whole 𝓤 H A W (Declared.row Places.the-type);
             of-mem = Local.whole-mem 𝓤 H A W (Declared.row Places.the-type);
           })
-          pub hop : Kinds.Den {n = 2} κs (Num.pNum Syntax.w64)
-          pub row : Kinds.Den {n = 2}
+          pub hop : Kinds.Den {n = 3} κs (Num.pNum Syntax.w64)
+          pub d : Kinds.Den {n = 3}
               κs
-              (KInstanceRow.pk)
-          pub second : Kinds.Den {n = 2}
-              κs
-              (KInstanceRow.pk)
-          pub route : Kinds.Den {n = 2}
-              κs
-              (KRouteRow.pk)
+              (ShrRef.pShr (KDecided.R) 2 tt)
 
         abbrev pub dens : (a : Args) → Kinds.Dens κs ps
-        dens = λ a. (
-          a .instances,
-          (a .routes, (a .p, (a .hop, (a .row, (a .second, (a .route, tt)))))),
-        )
+        dens = λ a. (a .instances, (a .routes, (a .p, (a .hop, (a .d, tt)))))
 
         module _ (args· : Args) where
           pub record Ranges : Type 0 where
             pub hop : Val.Fits Syntax.w64 (args· .hop)
 
-      abbrev pub m0 : (κs : Lifetimes.Lfts 2) → (args : Args κs) → Typed.Mo T0
+      abbrev pub m0 : (κs : Lifetimes.Lfts 3) → (args : Args κs) → Typed.Mo T0
       m0 = λ κs args. (tt, Enter.partsP κs 1 ps xs (dens κs args))
 
-      abbrev W0 : (κs : Lifetimes.Lfts 2) → (args : Args κs) → Typed.Want O0
+      abbrev W0 : (κs : Lifetimes.Lfts 3) → (args : Args κs) → Typed.Want O0
       W0 = λ κs args. (
         λ u. ⊥,
         tt,
@@ -5361,14 +7802,14 @@ module _ (claims· : Claims) where
             (dens κs args)
             (Function.resV r κs (u .0))
             (Clauses.atExit
-            (Kinds.endedOf 2 ps r)
+            (Kinds.endedOf 3 ps r)
             κs
             (dens κs args)
             (Enter.lastsP κs 1 ps xs (dens κs args) (u .1))),
       )
 
       pub record Start : Type 0 where
-        pub κs : Lifetimes.Lfts 2
+        pub κs : Lifetimes.Lfts 3
         pub args : Args κs
         pub good : Kinds.GoodsP κs ps (dens κs args)
         pub fits : Ranges κs args
@@ -5390,10 +7831,6 @@ module _ (claims· : Claims) where
         pub before : Start
         pub put-row-arg : After-put-row-arg·own before
 
-      abbrev pub Need-put-row-requires : Type 0
-      Need-put-row-requires =
-          (c : After-put-row-arg) → s3 .asks (m2 (c .before) (c .put-row-arg .given))
-
       abbrev pub m3 :
           (before : After-put-row-arg) →
           (given : s3 .gives (m2 (before .before) (before .put-row-arg .given))) →
@@ -5401,10 +7838,61 @@ module _ (claims· : Claims) where
       m3 = λ before given. s3 .next (m2 (before .before) (before .put-row-arg .given)) given
 
       module _ (before· : After-put-row-arg) where
+        pub record After-row-of-arg·own : Type 0 where
+          pub given : s3 .gives (m2 (before· .before) (before· .put-row-arg .given))
+
+      pub record After-row-of-arg : Type 0 where
+        pub before : After-put-row-arg
+        pub row-of-arg : After-row-of-arg·own before
+
+      abbrev pub Need-row-of-requires : Type 0
+      Need-row-of-requires =
+          (c : After-row-of-arg) → s4 .asks (m3 (c .before) (c .row-of-arg .given))
+
+      abbrev pub m4 :
+          (before : After-row-of-arg) →
+          (given : s4 .gives (m3 (before .before) (before .row-of-arg .given))) →
+          Typed.Mo T6
+      m4 = λ before given. s4 .next (m3 (before .before) (before .row-of-arg .given)) given
+
+      module _ (before· : After-row-of-arg) where
+        abbrev pub After-row-of·own : Type 0
+        After-row-of·own = Called.Called ps·0 r·0 (claims· .1) T5 (
+          record { pos = 10; st = List.[]; d = 0; at = λ x. x },
+          tt,
+        ) (m3 (before· .before) (before· .row-of-arg .given))
+
+      pub record After-row-of : Type 0 where
+        pub before : After-row-of-arg
+        pub row-of : After-row-of·own before
+
+      abbrev pub After-row-of·gave :
+          (c : After-row-of) → s4 .gives (m3 (c .before .before) (c .before .row-of-arg .given))
+      After-row-of·gave = λ c. Called.given ps·0 r·0 (claims· .1) T5 (
+        record { pos = 10; st = List.[]; d = 0; at = λ x. x },
+        tt,
+      ) (m3 (c .before .before) (c .before .row-of-arg .given)) (c .row-of)
+
+      abbrev pub m5 :
+          (before : After-row-of-arg) →
+          (given : s4 .gives (m3 (before .before) (before .row-of-arg .given))) →
+          Typed.Mo T7
+      m5 = λ before given. s5 (m4 before given)
+
+      abbrev pub Need-put-row-requires : Type 0
+      Need-put-row-requires = (c : After-row-of) → s6 .asks (m5 (c .before) (After-row-of·gave c))
+
+      abbrev pub m6 :
+          (before : After-row-of) →
+          (given : s6 .gives (m5 (before .before) (After-row-of·gave before))) →
+          Typed.Mo T8
+      m6 = λ before given. s6 .next (m5 (before .before) (After-row-of·gave before)) given
+
+      module _ (before· : After-row-of) where
         abbrev pub After-put-row·own : Type 0
-        After-put-row·own = Called.Called ps·0 r·0 (claims· .1) T4 (
+        After-put-row·own = Called.Called ps·1 r·1 (claims· .3) T7 (
           record {
-            pos = 10;
+            pos = 8;
             ty = Syntax.tyRef
                 Syntax.erased
                 Syntax.mut
@@ -5413,87 +7901,136 @@ module _ (claims· : Claims) where
           },
           (
             Num.vFld 3 (List._∷_ (Syntax.field 1) List.[]) 8 λ x. Places.struct .as-values x .1 .0,
-            (record { pos = 5; st = List.[]; d = 0; at = λ x. x }, tt),
+            (record { pos = 9; st = List.[]; d = 0; at = λ x. x }, tt),
           ),
-        ) (m2 (before· .before) (before· .put-row-arg .given))
+        ) (m5 (before· .before) (After-row-of·gave before·))
 
       pub record After-put-row : Type 0 where
-        pub before : After-put-row-arg
+        pub before : After-row-of
         pub put-row : After-put-row·own before
 
       abbrev pub After-put-row·gave :
-          (c : After-put-row) → s3 .gives (m2 (c .before .before) (c .before .put-row-arg .given))
-      After-put-row·gave = λ c. Called.given ps·0 r·0 (claims· .1) T4 (
+          (c : After-put-row) → s6 .gives (m5 (c .before .before) (After-row-of·gave (c .before)))
+      After-put-row·gave = λ c. Called.given ps·1 r·1 (claims· .3) T7 (
         record {
-          pos = 10;
+          pos = 8;
           ty = Syntax.tyRef Syntax.erased Syntax.mut (KInstanceRow.named);
           ref = λ x. x;
         },
         (
           Num.vFld 3 (List._∷_ (Syntax.field 1) List.[]) 8 λ x. Places.struct .as-values x .1 .0,
-          (record { pos = 5; st = List.[]; d = 0; at = λ x. x }, tt),
+          (record { pos = 9; st = List.[]; d = 0; at = λ x. x }, tt),
         ),
-      ) (m2 (c .before .before) (c .before .put-row-arg .given)) (c .put-row)
+      ) (m5 (c .before .before) (After-row-of·gave (c .before))) (c .put-row)
 
-      abbrev pub m4 :
-          (before : After-put-row-arg) →
-          (given : s3 .gives (m2 (before .before) (before .put-row-arg .given))) →
-          Typed.Mo T6
-      m4 = λ before given. s4 (m3 before given)
-
-      abbrev pub m5 :
-          (before : After-put-row-arg) →
-          (given : s3 .gives (m2 (before .before) (before .put-row-arg .given))) →
-          Typed.Mo T7
-      m5 = λ before given. s5 (m4 before given)
-
-      abbrev pub m6 :
-          (before : After-put-row) →
-          (given : s7 .gives (m5 (before .before) (After-put-row·gave before))) →
+      abbrev pub m7 :
+          (before : After-row-of) →
+          (given : s6 .gives (m5 (before .before) (After-row-of·gave before))) →
           Typed.Mo T9
-      m6 = λ before given. s7 .next (m5 (before .before) (After-put-row·gave before)) given
+      m7 = λ before given. s7 (m6 before given)
+
+      abbrev pub m8 :
+          (before : After-row-of) →
+          (given : s6 .gives (m5 (before .before) (After-row-of·gave before))) →
+          Typed.Mo T10
+      m8 = λ before given. s8 (m7 before given)
+
+      abbrev pub m9 :
+          (before : After-put-row) →
+          (given : s10 .gives (m8 (before .before) (After-put-row·gave before))) →
+          Typed.Mo T12
+      m9 = λ before given. s10 .next (m8 (before .before) (After-put-row·gave before)) given
 
       module _ (before· : After-put-row) where
         pub record After-instances·own : Type 0 where
-          pub given : s7 .gives (m5 (before· .before) (After-put-row·gave before·))
+          pub given : s10 .gives (m8 (before· .before) (After-put-row·gave before·))
 
       pub record After-instances : Type 0 where
         pub before : After-put-row
         pub instances : After-instances·own before
 
-      abbrev pub m7 :
+      abbrev pub m10 :
           (before : After-instances) →
-          (given : s10 .gives (m6 (before .before) (before .instances .given))) →
-          Typed.Mo T12
-      m7 = λ before given. s10 .next (m6 (before .before) (before .instances .given)) given
+          (given : s13 .gives (m9 (before .before) (before .instances .given))) →
+          Typed.Mo T15
+      m10 = λ before given. s13 .next (m9 (before .before) (before .instances .given)) given
 
-      abbrev pub m8 :
+      abbrev pub m11 :
           (before : After-instances) →
-          (given : s10 .gives (m6 (before .before) (before .instances .given))) →
-          Typed.Mo T13
-      m8 = λ before given. s11 .next (m7 before given)
+          (given : s13 .gives (m9 (before .before) (before .instances .given))) →
+          Typed.Mo T16
+      m11 = λ before given. s14 .next (m10 before given)
 
       module _ (before· : After-instances) where
         pub record After-put-row-arg2·own : Type 0 where
-          pub given : s10 .gives (m6 (before· .before) (before· .instances .given))
+          pub given : s13 .gives (m9 (before· .before) (before· .instances .given))
 
       pub record After-put-row-arg2 : Type 0 where
         pub before : After-instances
         pub put-row-arg2 : After-put-row-arg2·own before
 
-      abbrev pub Need-put-row-requires-2 : Type 0
-      Need-put-row-requires-2 =
-          (c : After-put-row-arg2) → s12 .asks (m8 (c .before) (c .put-row-arg2 .given))
-
-      abbrev pub m9 :
+      abbrev pub m12 :
           (before : After-put-row-arg2) →
-          (given : s12 .gives (m8 (before .before) (before .put-row-arg2 .given))) →
-          Typed.Mo T14
-      m9 = λ before given. s12 .next (m8 (before .before) (before .put-row-arg2 .given)) given
+          (given : s15 .gives (m11 (before .before) (before .put-row-arg2 .given))) →
+          Typed.Mo T17
+      m12 = λ before given. s15 .next (m11 (before .before) (before .put-row-arg2 .given)) given
 
       module _ (before· : After-put-row-arg2) where
+        pub record After-second-of-arg·own : Type 0 where
+          pub given : s15 .gives (m11 (before· .before) (before· .put-row-arg2 .given))
+
+      pub record After-second-of-arg : Type 0 where
+        pub before : After-put-row-arg2
+        pub second-of-arg : After-second-of-arg·own before
+
+      abbrev pub Need-second-of-requires : Type 0
+      Need-second-of-requires =
+          (c : After-second-of-arg) → s16 .asks (m12 (c .before) (c .second-of-arg .given))
+
+      abbrev pub m13 :
+          (before : After-second-of-arg) →
+          (given : s16 .gives (m12 (before .before) (before .second-of-arg .given))) →
+          Typed.Mo T18
+      m13 = λ before given. s16 .next (m12 (before .before) (before .second-of-arg .given)) given
+
+      module _ (before· : After-second-of-arg) where
+        abbrev pub After-second-of·own : Type 0
+        After-second-of·own = Called.Called ps·2 r·2 (claims· .5) T17 (
+          record { pos = 10; st = List.[]; d = 0; at = λ x. x },
+          tt,
+        ) (m12 (before· .before) (before· .second-of-arg .given))
+
+      pub record After-second-of : Type 0 where
+        pub before : After-second-of-arg
+        pub second-of : After-second-of·own before
+
+      abbrev pub After-second-of·gave :
+          (c : After-second-of) →
+          s16 .gives (m12 (c .before .before) (c .before .second-of-arg .given))
+      After-second-of·gave = λ c. Called.given ps·2 r·2 (claims· .5) T17 (
+        record { pos = 10; st = List.[]; d = 0; at = λ x. x },
+        tt,
+      ) (m12 (c .before .before) (c .before .second-of-arg .given)) (c .second-of)
+
+      abbrev pub m14 :
+          (before : After-second-of-arg) →
+          (given : s16 .gives (m12 (before .before) (before .second-of-arg .given))) →
+          Typed.Mo T19
+      m14 = λ before given. s17 (m13 before given)
+
+      abbrev pub Need-put-row-requires-2 : Type 0
+      Need-put-row-requires-2 =
+          (c : After-second-of) → s18 .asks (m14 (c .before) (After-second-of·gave c))
+
+      abbrev pub m15 :
+          (before : After-second-of) →
+          (given : s18 .gives (m14 (before .before) (After-second-of·gave before))) →
+          Typed.Mo T20
+      m15 = λ before given. s18 .next (m14 (before .before) (After-second-of·gave before)) given
+
+      module _ (before· : After-second-of) where
         abbrev pub After-put-row2·own : Type 0
-        After-put-row2·own = Called.Called ps·0 r·0 (claims· .1) T13 (
+        After-put-row2·own = Called.Called ps·1 r·1 (claims· .3) T19 (
           record {
             pos = 12;
             ty = Syntax.tyRef
@@ -5509,18 +8046,18 @@ module _ (claims· : Claims) where
                 16
                 λ x. Places.struct .as-values
                 x .1 .1 .0,
-            (record { pos = 6; st = List.[]; d = 0; at = λ x. x }, tt),
+            (record { pos = 9; st = List.[]; d = 0; at = λ x. x }, tt),
           ),
-        ) (m8 (before· .before) (before· .put-row-arg2 .given))
+        ) (m14 (before· .before) (After-second-of·gave before·))
 
       pub record After-put-row2 : Type 0 where
-        pub before : After-put-row-arg2
+        pub before : After-second-of
         pub put-row2 : After-put-row2·own before
 
       abbrev pub After-put-row2·gave :
           (c : After-put-row2) →
-          s12 .gives (m8 (c .before .before) (c .before .put-row-arg2 .given))
-      After-put-row2·gave = λ c. Called.given ps·0 r·0 (claims· .1) T13 (
+          s18 .gives (m14 (c .before .before) (After-second-of·gave (c .before)))
+      After-put-row2·gave = λ c. Called.given ps·1 r·1 (claims· .3) T19 (
         record {
           pos = 12;
           ty = Syntax.tyRef Syntax.erased Syntax.mut (KInstanceRow.named);
@@ -5533,75 +8070,124 @@ module _ (claims· : Claims) where
               16
               λ x. Places.struct .as-values
               x .1 .1 .0,
-          (record { pos = 6; st = List.[]; d = 0; at = λ x. x }, tt),
+          (record { pos = 9; st = List.[]; d = 0; at = λ x. x }, tt),
         ),
-      ) (m8 (c .before .before) (c .before .put-row-arg2 .given)) (c .put-row2)
+      ) (m14 (c .before .before) (After-second-of·gave (c .before))) (c .put-row2)
 
-      abbrev pub m10 :
-          (before : After-put-row-arg2) →
-          (given : s12 .gives (m8 (before .before) (before .put-row-arg2 .given))) →
-          Typed.Mo T15
-      m10 = λ before given. s13 (m9 before given)
+      abbrev pub m16 :
+          (before : After-second-of) →
+          (given : s18 .gives (m14 (before .before) (After-second-of·gave before))) →
+          Typed.Mo T21
+      m16 = λ before given. s19 (m15 before given)
 
-      abbrev pub m11 :
-          (before : After-put-row-arg2) →
-          (given : s12 .gives (m8 (before .before) (before .put-row-arg2 .given))) →
-          Typed.Mo T16
-      m11 = λ before given. s14 (m10 before given)
+      abbrev pub m17 :
+          (before : After-second-of) →
+          (given : s18 .gives (m14 (before .before) (After-second-of·gave before))) →
+          Typed.Mo T22
+      m17 = λ before given. s20 (m16 before given)
 
-      abbrev pub m12 :
-          (before : After-put-row-arg2) →
-          (given : s12 .gives (m8 (before .before) (before .put-row-arg2 .given))) →
-          Typed.Mo T17
-      m12 = λ before given. s15 (m11 before given)
+      abbrev pub m18 :
+          (before : After-second-of) →
+          (given : s18 .gives (m14 (before .before) (After-second-of·gave before))) →
+          Typed.Mo T23
+      m18 = λ before given. s21 (m17 before given)
 
-      abbrev pub m13 :
+      abbrev pub m19 :
           (before : After-put-row2) →
-          (given : s17 .gives (m12 (before .before) (After-put-row2·gave before))) →
-          Typed.Mo T19
-      m13 = λ before given. s17 .next (m12 (before .before) (After-put-row2·gave before)) given
+          (given : s23 .gives (m18 (before .before) (After-put-row2·gave before))) →
+          Typed.Mo T25
+      m19 = λ before given. s23 .next (m18 (before .before) (After-put-row2·gave before)) given
 
       module _ (before· : After-put-row2) where
         pub record After-instances2·own : Type 0 where
-          pub given : s17 .gives (m12 (before· .before) (After-put-row2·gave before·))
+          pub given : s23 .gives (m18 (before· .before) (After-put-row2·gave before·))
 
       pub record After-instances2 : Type 0 where
         pub before : After-put-row2
         pub instances2 : After-instances2·own before
 
-      abbrev pub m14 :
+      abbrev pub m20 :
           (before : After-instances2) →
-          (given : s20 .gives (m13 (before .before) (before .instances2 .given))) →
-          Typed.Mo T22
-      m14 = λ before given. s20 .next (m13 (before .before) (before .instances2 .given)) given
+          (given : s26 .gives (m19 (before .before) (before .instances2 .given))) →
+          Typed.Mo T28
+      m20 = λ before given. s26 .next (m19 (before .before) (before .instances2 .given)) given
 
-      abbrev pub m15 :
+      abbrev pub m21 :
           (before : After-instances2) →
-          (given : s20 .gives (m13 (before .before) (before .instances2 .given))) →
-          Typed.Mo T23
-      m15 = λ before given. s21 .next (m14 before given)
+          (given : s26 .gives (m19 (before .before) (before .instances2 .given))) →
+          Typed.Mo T29
+      m21 = λ before given. s27 .next (m20 before given)
 
       module _ (before· : After-instances2) where
         pub record After-put-route-arg·own : Type 0 where
-          pub given : s20 .gives (m13 (before· .before) (before· .instances2 .given))
+          pub given : s26 .gives (m19 (before· .before) (before· .instances2 .given))
 
       pub record After-put-route-arg : Type 0 where
         pub before : After-instances2
         pub put-route-arg : After-put-route-arg·own before
 
-      abbrev pub Need-put-route-requires : Type 0
-      Need-put-route-requires =
-          (c : After-put-route-arg) → s22 .asks (m15 (c .before) (c .put-route-arg .given))
-
-      abbrev pub m16 :
+      abbrev pub m22 :
           (before : After-put-route-arg) →
-          (given : s22 .gives (m15 (before .before) (before .put-route-arg .given))) →
-          Typed.Mo T24
-      m16 = λ before given. s22 .next (m15 (before .before) (before .put-route-arg .given)) given
+          (given : s28 .gives (m21 (before .before) (before .put-route-arg .given))) →
+          Typed.Mo T30
+      m22 = λ before given. s28 .next (m21 (before .before) (before .put-route-arg .given)) given
 
       module _ (before· : After-put-route-arg) where
+        pub record After-route-of-arg·own : Type 0 where
+          pub given : s28 .gives (m21 (before· .before) (before· .put-route-arg .given))
+
+      pub record After-route-of-arg : Type 0 where
+        pub before : After-put-route-arg
+        pub route-of-arg : After-route-of-arg·own before
+
+      abbrev pub Need-route-of-requires : Type 0
+      Need-route-of-requires =
+          (c : After-route-of-arg) → s29 .asks (m22 (c .before) (c .route-of-arg .given))
+
+      abbrev pub m23 :
+          (before : After-route-of-arg) →
+          (given : s29 .gives (m22 (before .before) (before .route-of-arg .given))) →
+          Typed.Mo T31
+      m23 = λ before given. s29 .next (m22 (before .before) (before .route-of-arg .given)) given
+
+      module _ (before· : After-route-of-arg) where
+        abbrev pub After-route-of·own : Type 0
+        After-route-of·own = Called.Called ps·3 r·3 (claims· .7) T30 (
+          record { pos = 10; st = List.[]; d = 0; at = λ x. x },
+          tt,
+        ) (m22 (before· .before) (before· .route-of-arg .given))
+
+      pub record After-route-of : Type 0 where
+        pub before : After-route-of-arg
+        pub route-of : After-route-of·own before
+
+      abbrev pub After-route-of·gave :
+          (c : After-route-of) →
+          s29 .gives (m22 (c .before .before) (c .before .route-of-arg .given))
+      After-route-of·gave = λ c. Called.given ps·3 r·3 (claims· .7) T30 (
+        record { pos = 10; st = List.[]; d = 0; at = λ x. x },
+        tt,
+      ) (m22 (c .before .before) (c .before .route-of-arg .given)) (c .route-of)
+
+      abbrev pub m24 :
+          (before : After-route-of-arg) →
+          (given : s29 .gives (m22 (before .before) (before .route-of-arg .given))) →
+          Typed.Mo T32
+      m24 = λ before given. s30 (m23 before given)
+
+      abbrev pub Need-put-route-requires : Type 0
+      Need-put-route-requires =
+          (c : After-route-of) → s31 .asks (m24 (c .before) (After-route-of·gave c))
+
+      abbrev pub m25 :
+          (before : After-route-of) →
+          (given : s31 .gives (m24 (before .before) (After-route-of·gave before))) →
+          Typed.Mo T33
+      m25 = λ before given. s31 .next (m24 (before .before) (After-route-of·gave before)) given
+
+      module _ (before· : After-route-of) where
         abbrev pub After-put-route·own : Type 0
-        After-put-route·own = Called.Called ps·1 r·1 (claims· .3) T23 (
+        After-put-route·own = Called.Called ps·4 r·4 (claims· .9) T32 (
           record {
             pos = 14;
             ty = Syntax.tyRef
@@ -5610,58 +8196,58 @@ module _ (claims· : Claims) where
                 (KRouteRow.named);
             ref = λ x. x;
           },
-          (Num.vAt 4 λ x. x, (record { pos = 7; st = List.[]; d = 0; at = λ x. x }, tt)),
-        ) (m15 (before· .before) (before· .put-route-arg .given))
+          (Num.vAt 4 λ x. x, (record { pos = 15; st = List.[]; d = 0; at = λ x. x }, tt)),
+        ) (m24 (before· .before) (After-route-of·gave before·))
 
       pub record After-put-route : Type 0 where
-        pub before : After-put-route-arg
+        pub before : After-route-of
         pub put-route : After-put-route·own before
 
       abbrev pub After-put-route·gave :
           (c : After-put-route) →
-          s22 .gives (m15 (c .before .before) (c .before .put-route-arg .given))
-      After-put-route·gave = λ c. Called.given ps·1 r·1 (claims· .3) T23 (
+          s31 .gives (m24 (c .before .before) (After-route-of·gave (c .before)))
+      After-put-route·gave = λ c. Called.given ps·4 r·4 (claims· .9) T32 (
         record {
           pos = 14;
           ty = Syntax.tyRef Syntax.erased Syntax.mut (KRouteRow.named);
           ref = λ x. x;
         },
-        (Num.vAt 4 λ x. x, (record { pos = 7; st = List.[]; d = 0; at = λ x. x }, tt)),
-      ) (m15 (c .before .before) (c .before .put-route-arg .given)) (c .put-route)
+        (Num.vAt 4 λ x. x, (record { pos = 15; st = List.[]; d = 0; at = λ x. x }, tt)),
+      ) (m24 (c .before .before) (After-route-of·gave (c .before))) (c .put-route)
 
-      abbrev pub m17 :
-          (before : After-put-route-arg) →
-          (given : s22 .gives (m15 (before .before) (before .put-route-arg .given))) →
-          Typed.Mo T25
-      m17 = λ before given. s23 (m16 before given)
+      abbrev pub m26 :
+          (before : After-route-of) →
+          (given : s31 .gives (m24 (before .before) (After-route-of·gave before))) →
+          Typed.Mo T34
+      m26 = λ before given. s32 (m25 before given)
 
-      abbrev pub m18 :
-          (before : After-put-route-arg) →
-          (given : s22 .gives (m15 (before .before) (before .put-route-arg .given))) →
-          Typed.Mo T26
-      m18 = λ before given. s24 (m17 before given)
+      abbrev pub m27 :
+          (before : After-route-of) →
+          (given : s31 .gives (m24 (before .before) (After-route-of·gave before))) →
+          Typed.Mo T35
+      m27 = λ before given. s33 (m26 before given)
 
-      abbrev pub m19 :
+      abbrev pub m28 :
           (before : After-put-route) →
-          (given : s26 .gives (m18 (before .before) (After-put-route·gave before))) →
-          Typed.Mo T28
-      m19 = λ before given. s26 .next (m18 (before .before) (After-put-route·gave before)) given
+          (given : s35 .gives (m27 (before .before) (After-put-route·gave before))) →
+          Typed.Mo T37
+      m28 = λ before given. s35 .next (m27 (before .before) (After-put-route·gave before)) given
 
-      abbrev pub m20 :
+      abbrev pub m29 :
           (before : After-put-route) →
-          (given : s26 .gives (m18 (before .before) (After-put-route·gave before))) →
-          Typed.Mo T30
-      m20 = λ before given. s28 (m19 before given)
+          (given : s35 .gives (m27 (before .before) (After-put-route·gave before))) →
+          Typed.Mo T39
+      m29 = λ before given. s37 (m28 before given)
 
-      abbrev pub m21 :
+      abbrev pub m30 :
           (before : After-put-route) →
-          (given : s26 .gives (m18 (before .before) (After-put-route·gave before))) →
-          Typed.Mo T31
-      m21 = λ before given. s29 (m20 before given)
+          (given : s35 .gives (m27 (before .before) (After-put-route·gave before))) →
+          Typed.Mo T40
+      m30 = λ before given. s38 (m29 before given)
 
       module _ (before· : After-put-route) where
         pub record After-routes·own : Type 0 where
-          pub given : s26 .gives (m18 (before· .before) (After-put-route·gave before·))
+          pub given : s35 .gives (m27 (before· .before) (After-put-route·gave before·))
 
       pub record After-routes : Type 0 where
         pub before : After-put-route
@@ -5669,101 +8255,103 @@ module _ (claims· : Claims) where
 
       abbrev pub Need-same-length : Type 0
       Need-same-length =
-          (c : After-routes) →
-          MutSlice.SameLen
-          (Row.get 1 (T31 .locals) (m21 (c .before) (c .routes .given)))
-          (dens
-          (c .before .before .before .before .before .before .before .before .before .κs)
-          (c .before .before .before .before .before .before .before .before .before .args) .0)
+          (c : After-routes) → MutSlice.SameLen (Row.get 1 (T40 .locals) (m30 (c .before)
+          (c .routes .given))) (dens
+          (c .before .before .before .before .before .before .before .before .before .before
+          .before .before .before .before .before .κs)
+          (c .before .before .before .before .before .before .before .before .before .before
+          .before .before .before .before .before .args) .0)
 
       abbrev pub Need-same-length-2 : Type 0
       Need-same-length-2 =
-          (c : After-routes) →
-          MutSlice.SameLen
-          (Row.get 2 (T31 .locals) (m21 (c .before) (c .routes .given)))
-          (dens
-          (c .before .before .before .before .before .before .before .before .before .κs)
-          (c .before .before .before .before .before .before .before .before .before .args) .1 .0)
+          (c : After-routes) → MutSlice.SameLen (Row.get 2 (T40 .locals) (m30 (c .before)
+          (c .routes .given))) (dens
+          (c .before .before .before .before .before .before .before .before .before .before
+          .before .before .before .before .before .κs)
+          (c .before .before .before .before .before .before .before .before .before .before
+          .before .before .before .before .before .args) .1 .0)
 
       abbrev pub Need-returns : Type 0
       Need-returns =
-          (c : After-routes) →
-          Post·
-          (c .before .before .before .before .before .before .before .before .before .κs)
-          (dens
-          (c .before .before .before .before .before .before .before .before .before .κs)
-          (c .before .before .before .before .before .before .before .before .before .args))
-          (Function.resV
-          r
-          (c .before .before .before .before .before .before .before .before .before .κs)
-          (m21 (c .before) (c .routes .given) .0))
-          (Clauses.atExit
-          (Kinds.endedOf 2 ps r)
-          (c .before .before .before .before .before .before .before .before .before .κs)
-          (dens
-          (c .before .before .before .before .before .before .before .before .before .κs)
-          (c .before .before .before .before .before .before .before .before .before .args))
-          (Enter.lastsP
-          (c .before .before .before .before .before .before .before .before .before .κs)
-          1
-          ps
-          xs
-          (dens
-          (c .before .before .before .before .before .before .before .before .before .κs)
-          (c .before .before .before .before .before .before .before .before .before .args))
-          (m21 (c .before) (c .routes .given) .1)))
+          (c : After-routes) → Post·
+          (c .before .before .before .before .before .before .before .before .before .before
+          .before .before .before .before .before .κs) (dens
+          (c .before .before .before .before .before .before .before .before .before .before
+          .before .before .before .before .before .κs)
+          (c .before .before .before .before .before .before .before .before .before .before
+          .before .before .before .before .before .args)) (Function.resV r
+          (c .before .before .before .before .before .before .before .before .before .before
+          .before .before .before .before .before .κs) (m30 (c .before) (c .routes .given) .0))
+          (Clauses.atExit (Kinds.endedOf 3 ps r)
+          (c .before .before .before .before .before .before .before .before .before .before
+          .before .before .before .before .before .κs) (dens
+          (c .before .before .before .before .before .before .before .before .before .before
+          .before .before .before .before .before .κs)
+          (c .before .before .before .before .before .before .before .before .before .before
+          .before .before .before .before .before .args)) (Enter.lastsP
+          (c .before .before .before .before .before .before .before .before .before .before
+          .before .before .before .before .before .κs) 1 ps xs (dens
+          (c .before .before .before .before .before .before .before .before .before .before
+          .before .before .before .before .before .κs)
+          (c .before .before .before .before .before .before .before .before .before .before
+          .before .before .before .before .before .args)) (m30 (c .before) (c .routes .given) .1)))
 
-      module _ (put-row-requires : Need-put-row-requires)
+      module _ (row-of-requires : Need-row-of-requires) (put-row-requires : Need-put-row-requires)
+          (second-of-requires : Need-second-of-requires)
           (put-row-requires-2 : Need-put-row-requires-2)
+          (route-of-requires : Need-route-of-requires)
           (put-route-requires : Need-put-route-requires) (same-length : Need-same-length)
           (same-length-2 : Need-same-length-2) (returns : Need-returns) where
-        lay3 :
-            (c : After-put-route) →
-            at7
-            (W0
-            (c .before .before .before .before .before .before .before .before .κs)
-            (c .before .before .before .before .before .before .before .before .args))
-            (m16 (c .before) (After-put-route·gave c))
-        lay3 = λ c. (
+        lay6 :
+            (c : After-put-route) → at7 (W0
+            (c .before .before .before .before .before .before .before .before .before .before
+            .before .before .before .before .κs)
+            (c .before .before .before .before .before .before .before .before .before .before
+            .before .before .before .before .args)) (m25 (c .before) (After-put-route·gave c))
+        lay6 = λ c. (
           Path'.refl,
           λ g. (
             (
-              MutSlice.fix-len (Row.get 1 (T31 .locals) (m21 record {
+              MutSlice.fix-len (Row.get 1 (T40 .locals) (m30 record {
                 before = c .before;
                 put-route = c .put-route;
-              } g) .ptr) (Row.get 1 (T31 .locals) (m21 record {
+              } g) .ptr) (Row.get 1 (T40 .locals) (m30 record {
                 before = c .before;
                 put-route = c .put-route;
-              } g) .name) (Row.get 1 (T31 .locals) (m21 record {
+              } g) .name) (Row.get 1 (T40 .locals) (m30 record {
                 before = c .before;
                 put-route = c .put-route;
               } g) .now)
-                  (dens (c .before .before .before .before .before .before .before .before .κs)
-                  (c .before .before .before .before .before .before .before .before .args) .0
-                  .now)
+                  (dens
+                  (c .before .before .before .before .before .before .before .before .before
+                  .before .before .before .before .before .κs)
+                  (c .before .before .before .before .before .before .before .before .before
+                  .before .before .before .before .before .args) .0 .now)
                   (same-length record {
                     before = record { before = c .before; put-route = c .put-route };
                     routes = record { given = g };
                   }),
               (
-                MutSlice.fix-len (Row.get 2 (T31 .locals) (m21 record {
+                MutSlice.fix-len (Row.get 2 (T40 .locals) (m30 record {
                   before = c .before;
                   put-route = c .put-route;
-                } g) .ptr) (Row.get 2 (T31 .locals) (m21 record {
+                } g) .ptr) (Row.get 2 (T40 .locals) (m30 record {
                   before = c .before;
                   put-route = c .put-route;
-                } g) .name) (Row.get 2 (T31 .locals) (m21 record {
+                } g) .name) (Row.get 2 (T40 .locals) (m30 record {
                   before = c .before;
                   put-route = c .put-route;
                 } g) .now)
-                    (dens (c .before .before .before .before .before .before .before .before .κs)
-                    (c .before .before .before .before .before .before .before .before .args) .1 .0
-                    .now)
+                    (dens
+                    (c .before .before .before .before .before .before .before .before .before
+                    .before .before .before .before .before .κs)
+                    (c .before .before .before .before .before .before .before .before .before
+                    .before .before .before .before .before .args) .1 .0 .now)
                     (same-length-2 record {
                       before = record { before = c .before; put-route = c .put-route };
                       routes = record { given = g };
                     }),
-                (tt, (tt, (tt, (tt, (tt, tt))))),
+                (tt, (tt, (Path'.refl, tt))),
               ),
             ),
             returns record {
@@ -5773,26 +8361,43 @@ module _ (claims· : Claims) where
           ),
         )
 
-        lay2 :
+        lay5 :
+            (c : After-route-of) → at9 (W0
+            (c .before .before .before .before .before .before .before .before .before .before
+            .before .before .before .κs)
+            (c .before .before .before .before .before .before .before .before .before .before
+            .before .before .before .args)) (m23 (c .before) (After-route-of·gave c))
+        lay5 = λ c. (
+          put-route-requires record { before = c .before; route-of = c .route-of },
+          λ g. lay6 record {
+            before = record { before = c .before; route-of = c .route-of };
+            put-route = Called.called ps·4 r·4 (claims· .9) T32 (
+              record {
+                pos = 14;
+                ty = Syntax.tyRef
+                    Syntax.erased
+                    Syntax.mut
+                    (KRouteRow.named);
+                ref = λ x. x;
+              },
+              (Num.vAt 4 λ x. x, (record { pos = 15; st = List.[]; d = 0; at = λ x. x }, tt)),
+            ) (m24 (c .before) (After-route-of·gave c)) g;
+          },
+        )
+
+        lay4 :
             (c : After-put-row2) →
-            at17
+            at20
             (W0
-            (c .before .before .before .before .before .κs)
-            (c .before .before .before .before .before .args))
-            (m9 (c .before) (After-put-row2·gave c))
-        lay2 = λ c. (
+            (c .before .before .before .before .before .before .before .before .before .κs)
+            (c .before .before .before .before .before .before .before .before .before .args))
+            (m15 (c .before) (After-put-row2·gave c))
+        lay4 = λ c. (
           Path'.refl,
           λ g. λ g'. (
             Path'.refl,
-            (
-              put-route-requires record {
-                before = record {
-                  before = record { before = c .before; put-row2 = c .put-row2 };
-                  instances2 = record { given = g };
-                };
-                put-route-arg = record { given = g' };
-              },
-              λ g''. lay3 record {
+            λ g''. (
+              route-of-requires record {
                 before = record {
                   before = record {
                     before = record { before = c .before; put-row2 = c .put-row2 };
@@ -5800,43 +8405,78 @@ module _ (claims· : Claims) where
                   };
                   put-route-arg = record { given = g' };
                 };
-                put-route = Called.called ps·1 r·1 (claims· .3) T23 (
-                  record {
-                    pos = 14;
-                    ty = Syntax.tyRef
-                        Syntax.erased
-                        Syntax.mut
-                        (KRouteRow.named);
-                    ref = λ x. x;
-                  },
-                  (Num.vAt 4 λ x. x, (record { pos = 7; st = List.[]; d = 0; at = λ x. x }, tt)),
-                ) (m15 record {
-                  before = record { before = c .before; put-row2 = c .put-row2 };
-                  instances2 = record { given = g };
-                } g') g'';
+                route-of-arg = record { given = g'' };
+              },
+              λ g'3. lay5 record {
+                before = record {
+                  before = record {
+                    before = record {
+                      before = record { before = c .before; put-row2 = c .put-row2 };
+                      instances2 = record { given = g };
+                    };
+                    put-route-arg = record { given = g' };
+                  };
+                  route-of-arg = record { given = g'' };
+                };
+                route-of = Called.called ps·3 r·3 (claims· .7) T30 (
+                  record { pos = 10; st = List.[]; d = 0; at = λ x. x },
+                  tt,
+                ) (m22 record {
+                  before = record {
+                    before = record { before = c .before; put-row2 = c .put-row2 };
+                    instances2 = record { given = g };
+                  };
+                  put-route-arg = record { given = g' };
+                } g'') g'3;
               },
             ),
           ),
         )
 
-        lay1 :
+        lay3 :
+            (c : After-second-of) →
+            at22
+            (W0
+            (c .before .before .before .before .before .before .before .before .κs)
+            (c .before .before .before .before .before .before .before .before .args))
+            (m13 (c .before) (After-second-of·gave c))
+        lay3 = λ c. (
+          put-row-requires-2 record { before = c .before; second-of = c .second-of },
+          λ g. lay4 record {
+            before = record { before = c .before; second-of = c .second-of };
+            put-row2 = Called.called ps·1 r·1 (claims· .3) T19 (
+              record {
+                pos = 12;
+                ty = Syntax.tyRef
+                    Syntax.erased
+                    Syntax.mut
+                    (KInstanceRow.named);
+                ref = λ x. x;
+              },
+              (
+                Num.vFld
+                    3
+                    (List._∷_ (Syntax.field 2) List.[])
+                    16
+                    λ x. Places.struct .as-values
+                    x .1 .1 .0,
+                (record { pos = 9; st = List.[]; d = 0; at = λ x. x }, tt),
+              ),
+            ) (m14 (c .before) (After-second-of·gave c)) g;
+          },
+        )
+
+        lay2 :
             (c : After-put-row) →
-            at26
-            (W0 (c .before .before .κs) (c .before .before .args))
-            (m3 (c .before) (After-put-row·gave c))
-        lay1 = λ c. (
+            at32
+            (W0 (c .before .before .before .before .κs) (c .before .before .before .before .args))
+            (m6 (c .before) (After-put-row·gave c))
+        lay2 = λ c. (
           Path'.refl,
           λ g. λ g'. (
             Path'.refl,
-            (
-              put-row-requires-2 record {
-                before = record {
-                  before = record { before = c .before; put-row = c .put-row };
-                  instances = record { given = g };
-                };
-                put-row-arg2 = record { given = g' };
-              },
-              λ g''. lay2 record {
+            λ g''. (
+              second-of-requires record {
                 before = record {
                   before = record {
                     before = record { before = c .before; put-row = c .put-row };
@@ -5844,70 +8484,93 @@ module _ (claims· : Claims) where
                   };
                   put-row-arg2 = record { given = g' };
                 };
-                put-row2 = Called.called ps·0 r·0 (claims· .1) T13 (
-                  record {
-                    pos = 12;
-                    ty = Syntax.tyRef
-                        Syntax.erased
-                        Syntax.mut
-                        (KInstanceRow.named);
-                    ref = λ x. x;
-                  },
-                  (
-                    Num.vFld
-                        3
-                        (List._∷_ (Syntax.field 2) List.[])
-                        16
-                        λ x. Places.struct .as-values
-                        x .1 .1 .0,
-                    (record { pos = 6; st = List.[]; d = 0; at = λ x. x }, tt),
-                  ),
-                ) (m8 record {
-                  before = record { before = c .before; put-row = c .put-row };
-                  instances = record { given = g };
-                } g') g'';
+                second-of-arg = record { given = g'' };
+              },
+              λ g'3. lay3 record {
+                before = record {
+                  before = record {
+                    before = record {
+                      before = record { before = c .before; put-row = c .put-row };
+                      instances = record { given = g };
+                    };
+                    put-row-arg2 = record { given = g' };
+                  };
+                  second-of-arg = record { given = g'' };
+                };
+                second-of = Called.called ps·2 r·2 (claims· .5) T17 (
+                  record { pos = 10; st = List.[]; d = 0; at = λ x. x },
+                  tt,
+                ) (m12 record {
+                  before = record {
+                    before = record { before = c .before; put-row = c .put-row };
+                    instances = record { given = g };
+                  };
+                  put-row-arg2 = record { given = g' };
+                } g'') g'3;
               },
             ),
           ),
         )
 
-        pub laid : (c : Start) → at30 (W0 (c .κs) (c .args)) (m0 (c .κs) (c .args))
+        lay1 :
+            (c : After-row-of) →
+            at34
+            (W0 (c .before .before .before .κs) (c .before .before .before .args))
+            (m4 (c .before) (After-row-of·gave c))
+        lay1 = λ c. (
+          put-row-requires record { before = c .before; row-of = c .row-of },
+          λ g. lay2 record {
+            before = record { before = c .before; row-of = c .row-of };
+            put-row = Called.called ps·1 r·1 (claims· .3) T7 (
+              record {
+                pos = 8;
+                ty = Syntax.tyRef
+                    Syntax.erased
+                    Syntax.mut
+                    (KInstanceRow.named);
+                ref = λ x. x;
+              },
+              (
+                Num.vFld
+                    3
+                    (List._∷_ (Syntax.field 1) List.[])
+                    8
+                    λ x. Places.struct .as-values
+                    x .1 .0,
+                (record { pos = 9; st = List.[]; d = 0; at = λ x. x }, tt),
+              ),
+            ) (m5 (c .before) (After-row-of·gave c)) g;
+          },
+        )
+
+        pub laid : (c : Start) → at39 (W0 (c .κs) (c .args)) (m0 (c .κs) (c .args))
         laid = λ c. λ g. (
           Path'.refl,
-          (
-            put-row-requires record { before = c; put-row-arg = record { given = g } },
-            λ g'. lay1 record {
+          λ g'. (
+            row-of-requires record {
               before = record { before = c; put-row-arg = record { given = g } };
-              put-row = Called.called ps·0 r·0 (claims· .1) T4 (
-                record {
-                  pos = 10;
-                  ty = Syntax.tyRef
-                      Syntax.erased
-                      Syntax.mut
-                      (KInstanceRow.named);
-                  ref = λ x. x;
-                },
-                (
-                  Num.vFld
-                      3
-                      (List._∷_ (Syntax.field 1) List.[])
-                      8
-                      λ x. Places.struct .as-values
-                      x .1 .0,
-                  (record { pos = 5; st = List.[]; d = 0; at = λ x. x }, tt),
-                ),
-              ) (m2 c g) g';
+              row-of-arg = record { given = g' };
+            },
+            λ g''. lay1 record {
+              before = record {
+                before = record { before = c; put-row-arg = record { given = g } };
+                row-of-arg = record { given = g' };
+              };
+              row-of = Called.called ps·0 r·0 (claims· .1) T5 (
+                record { pos = 10; st = List.[]; d = 0; at = λ x. x },
+                tt,
+              ) (m3 record { before = c; put-row-arg = record { given = g } } g') g'';
             },
           ),
         )
 
-        module _ (κs : Lifetimes.Lfts 2) (qs : Lifetimes.Shares 2) where
+        module _ (κs : Lifetimes.Lfts 3) (qs : Lifetimes.Shares 3) where
           pub asked :
               (a : Kinds.Dens κs ps) →
               (good : Kinds.GoodsP κs ps a) →
               (pre : Pre· κs a) →
               (bs : List.List Nat.ℕ) →
-              Φ (Any.wantQ 2 ps r xs m κs qs a (Post· κs a)) (Function.init 2 ps r xs m κs qs a)
+              Φ (Any.wantQ 3 ps r xs m κs qs a (Post· κs a)) (Function.init 3 ps r xs m κs qs a)
           asked = λ a good pre bs. laid record {
             κs = κs;
             args = record {
@@ -5915,9 +8578,7 @@ module _ (claims· : Claims) where
               routes = a .1 .0;
               p = a .1 .1 .0;
               hop = a .1 .1 .1 .0;
-              row = a .1 .1 .1 .1 .0;
-              second = a .1 .1 .1 .1 .1 .0;
-              route = a .1 .1 .1 .1 .1 .1 .0;
+              d = a .1 .1 .1 .1 .0;
             };
             good = good;
             fits = record { hop = record { fits = good .1 .1 .1 .0 .1 } };
@@ -5926,24 +8587,49 @@ module _ (claims· : Claims) where
 
         module _ {M : Type 1} (𝓤 : URA.URA M) (H : Wp.Heap 𝓤) (A : Atoms.Atoms 𝓤)
             (W : Kit.Given 𝓤 H A) (𝓣 : Wp.Tables 𝓤 H)
-            (known0 : Plain.Known 𝓤 H A W 𝓣 1 ps·0 r·0 (claims· .0) (claims· .1) "table::put_row")
-            (known1 : Plain.Known
+            (known0 : Plain.Known 𝓤 H A W 𝓣 0 ps·0 r·0 (claims· .0) (claims· .1) "finish::row_of")
+            (known1 : Plain.Known 𝓤 H A W 𝓣 1 ps·1 r·1 (claims· .2) (claims· .3) "table::put_row")
+            (known2 : Plain.Known
+            𝓤
+            H
+            A
+            W
+            𝓣
+            0
+            ps·2
+            r·2
+            (claims· .4)
+            (claims· .5)
+            "finish::second_of")
+            (known3 : Plain.Known
+            𝓤
+            H
+            A
+            W
+            𝓣
+            0
+            ps·3
+            r·3
+            (claims· .6)
+            (claims· .7)
+            "finish::route_of")
+            (known4 : Plain.Known
             𝓤
             H
             A
             W
             𝓣
             1
-            ps·1
-            r·1
-            (claims· .2)
-            (claims· .3)
+            ps·4
+            r·4
+            (claims· .8)
+            (claims· .9)
             "table::put_route") where
           pub spec :
               Statement.Triple
               𝓤
-              (Wp.WpFn 𝓤 H (𝓣 .C) (𝓣 .Λ) (Function.fnOf 2 ps r xs m hs body))
-              (Function.plainOf 𝓤 H A 2 ps r Pre· Post·)
+              (Wp.WpFn 𝓤 H (𝓣 .C) (𝓣 .Λ) (Function.fnOf 3 ps r xs m hs body))
+              (Function.plainOf 𝓤 H A 3 ps r Pre· Post·)
           spec =
               Plain.t-fn-plain
               𝓤
@@ -5951,7 +8637,7 @@ module _ (claims· : Claims) where
               A
               W
               𝓣
-              2
+              3
               ps
               r
               xs
@@ -5959,7 +8645,17 @@ module _ (claims· : Claims) where
               hs
               body
               (λ κs qs bs. Φ)
-              (λ κs qs bs bd. typed κs qs 𝓤 H A W 𝓣 (known0, known1) bs bd)
+              (λ κs qs bs bd. typed
+              κs
+              qs
+              𝓤
+              H
+              A
+              W
+              𝓣
+              (known0, known1, known2, known3, known4)
+              bs
+              bd)
               Pre·
               Post·
               asked

@@ -1,6 +1,9 @@
 -- Made by tools/lend.py of the twin of `take_start`: do not edit.
 use Rattle.row.proofs.Elem.InstanceRow as KInstanceRow
 use Rattle.row.proofs.Elem.RouteRow as KRouteRow
+use Rattle.message.proofs.Elem.Parsed as KParsed
+use Rattle.decision.proofs.Elem.Decided as KDecided
+use Rattle.decision.proofs.Elem.Post as KPost
 use Rattle.art.proofs.Targets
 use Rattle.art.proofs.Targets.Laws
 use Rattle.finish.proofs.Outcome

@@ -1,6 +1,9 @@
 -- Made by tools/lend.py of the twin of `is_wrong`: do not edit.
 use Rattle.row.proofs.Elem.InstanceRow as KInstanceRow
 use Rattle.row.proofs.Elem.RouteRow as KRouteRow
+use Rattle.message.proofs.Elem.Parsed as KParsed
+use Rattle.decision.proofs.Elem.Decided as KDecided
+use Rattle.decision.proofs.Elem.Post as KPost
 use Prim.Native.Nat
 use borrow.Author.Called
 use borrow.Author.Tests

@@ -684,6 +684,160 @@ t0 = List._∷_ (
       117
       (List._∷_ 116 (List._∷_ 99 (List._∷_ 111 (List._∷_ 109 (List._∷_ 101 List.[])))))))))))))))
       (Syntax.tcons
+      (Syntax.tyStruct
+      (List._∷_
+      102
+      (List._∷_
+      105
+      (List._∷_
+      110
+      (List._∷_
+      105
+      (List._∷_
+      115
+      (List._∷_
+      104
+      (List._∷_
+      58
+      (List._∷_ 58 (List._∷_ 83 (List._∷_ 101 (List._∷_ 110 (List._∷_ 116 List.[]))))))))))))
+      (Syntax.tcons
+      (Syntax.tyInt Syntax.w64)
+      (Syntax.tcons
+      (Syntax.tyStruct
+      (List._∷_
+      97
+      (List._∷_
+      110
+      (List._∷_
+      115
+      (List._∷_
+      119
+      (List._∷_
+      101
+      (List._∷_
+      114
+      (List._∷_
+      58
+      (List._∷_
+      58
+      (List._∷_
+      68
+      (List._∷_
+      101
+      (List._∷_
+      115
+      (List._∷_
+      116
+      (List._∷_
+      105
+      (List._∷_
+      110
+      (List._∷_
+      97
+      (List._∷_ 116 (List._∷_ 105 (List._∷_ 111 (List._∷_ 110 List.[])))))))))))))))))))
+      (Syntax.tcons
+      (Syntax.tyArray (Syntax.tyInt Syntax.w8) 16)
+      (Syntax.tcons
+      (Syntax.tyEnum
+      (List._∷_
+      97
+      (List._∷_
+      110
+      (List._∷_
+      115
+      (List._∷_
+      119
+      (List._∷_
+      101
+      (List._∷_
+      114
+      (List._∷_ 58 (List._∷_ 58 (List._∷_ 87 (List._∷_ 97 (List._∷_ 121 List.[])))))))))))
+      (Syntax.ttcons
+      Syntax.tnil
+      (Syntax.ttcons
+      Syntax.tnil
+      (Syntax.ttcons Syntax.tnil (Syntax.ttcons Syntax.tnil Syntax.ttnil)))))
+      Syntax.tnil)))
+      Syntax.tnil)))
+      (Syntax.tcons
+      (Syntax.tyStruct
+      (List._∷_
+      102
+      (List._∷_
+      105
+      (List._∷_
+      110
+      (List._∷_
+      105
+      (List._∷_
+      115
+      (List._∷_
+      104
+      (List._∷_
+      58
+      (List._∷_ 58 (List._∷_ 83 (List._∷_ 101 (List._∷_ 110 (List._∷_ 116 List.[]))))))))))))
+      (Syntax.tcons
+      (Syntax.tyInt Syntax.w64)
+      (Syntax.tcons
+      (Syntax.tyStruct
+      (List._∷_
+      97
+      (List._∷_
+      110
+      (List._∷_
+      115
+      (List._∷_
+      119
+      (List._∷_
+      101
+      (List._∷_
+      114
+      (List._∷_
+      58
+      (List._∷_
+      58
+      (List._∷_
+      68
+      (List._∷_
+      101
+      (List._∷_
+      115
+      (List._∷_
+      116
+      (List._∷_
+      105
+      (List._∷_
+      110
+      (List._∷_
+      97
+      (List._∷_ 116 (List._∷_ 105 (List._∷_ 111 (List._∷_ 110 List.[])))))))))))))))))))
+      (Syntax.tcons
+      (Syntax.tyArray (Syntax.tyInt Syntax.w8) 16)
+      (Syntax.tcons
+      (Syntax.tyEnum
+      (List._∷_
+      97
+      (List._∷_
+      110
+      (List._∷_
+      115
+      (List._∷_
+      119
+      (List._∷_
+      101
+      (List._∷_
+      114
+      (List._∷_ 58 (List._∷_ 58 (List._∷_ 87 (List._∷_ 97 (List._∷_ 121 List.[])))))))))))
+      (Syntax.ttcons
+      Syntax.tnil
+      (Syntax.ttcons
+      Syntax.tnil
+      (Syntax.ttcons Syntax.tnil (Syntax.ttcons Syntax.tnil Syntax.ttnil)))))
+      Syntax.tnil)))
+      Syntax.tnil)))
+      (Syntax.tcons
+      (Syntax.tyInt Syntax.w64)
+      (Syntax.tcons
       (Syntax.tyEnum
       (List._∷_
       97
@@ -737,156 +891,6 @@ t0 = List._∷_ (
       (Syntax.ttcons
       Syntax.tnil
       (Syntax.ttcons Syntax.tnil (Syntax.ttcons Syntax.tnil Syntax.ttnil)))))))))))))))))))
-      (Syntax.tcons
-      (Syntax.tyStruct
-      (List._∷_
-      102
-      (List._∷_
-      105
-      (List._∷_
-      110
-      (List._∷_
-      105
-      (List._∷_
-      115
-      (List._∷_
-      104
-      (List._∷_
-      58
-      (List._∷_ 58 (List._∷_ 83 (List._∷_ 101 (List._∷_ 110 (List._∷_ 116 List.[]))))))))))))
-      (Syntax.tcons
-      (Syntax.tyInt Syntax.w64)
-      (Syntax.tcons
-      (Syntax.tyStruct
-      (List._∷_
-      97
-      (List._∷_
-      110
-      (List._∷_
-      115
-      (List._∷_
-      119
-      (List._∷_
-      101
-      (List._∷_
-      114
-      (List._∷_
-      58
-      (List._∷_
-      58
-      (List._∷_
-      68
-      (List._∷_
-      101
-      (List._∷_
-      115
-      (List._∷_
-      116
-      (List._∷_
-      105
-      (List._∷_
-      110
-      (List._∷_
-      97
-      (List._∷_ 116 (List._∷_ 105 (List._∷_ 111 (List._∷_ 110 List.[])))))))))))))))))))
-      (Syntax.tcons
-      (Syntax.tyEnum
-      (List._∷_
-      97
-      (List._∷_
-      110
-      (List._∷_
-      115
-      (List._∷_
-      119
-      (List._∷_
-      101
-      (List._∷_
-      114
-      (List._∷_ 58 (List._∷_ 58 (List._∷_ 87 (List._∷_ 97 (List._∷_ 121 List.[])))))))))))
-      (Syntax.ttcons
-      Syntax.tnil
-      (Syntax.ttcons
-      Syntax.tnil
-      (Syntax.ttcons Syntax.tnil (Syntax.ttcons Syntax.tnil Syntax.ttnil)))))
-      (Syntax.tcons (Syntax.tyArray (Syntax.tyInt Syntax.w8) 16) Syntax.tnil)))
-      Syntax.tnil)))
-      (Syntax.tcons
-      (Syntax.tyStruct
-      (List._∷_
-      102
-      (List._∷_
-      105
-      (List._∷_
-      110
-      (List._∷_
-      105
-      (List._∷_
-      115
-      (List._∷_
-      104
-      (List._∷_
-      58
-      (List._∷_ 58 (List._∷_ 83 (List._∷_ 101 (List._∷_ 110 (List._∷_ 116 List.[]))))))))))))
-      (Syntax.tcons
-      (Syntax.tyInt Syntax.w64)
-      (Syntax.tcons
-      (Syntax.tyStruct
-      (List._∷_
-      97
-      (List._∷_
-      110
-      (List._∷_
-      115
-      (List._∷_
-      119
-      (List._∷_
-      101
-      (List._∷_
-      114
-      (List._∷_
-      58
-      (List._∷_
-      58
-      (List._∷_
-      68
-      (List._∷_
-      101
-      (List._∷_
-      115
-      (List._∷_
-      116
-      (List._∷_
-      105
-      (List._∷_
-      110
-      (List._∷_
-      97
-      (List._∷_ 116 (List._∷_ 105 (List._∷_ 111 (List._∷_ 110 List.[])))))))))))))))))))
-      (Syntax.tcons
-      (Syntax.tyEnum
-      (List._∷_
-      97
-      (List._∷_
-      110
-      (List._∷_
-      115
-      (List._∷_
-      119
-      (List._∷_
-      101
-      (List._∷_
-      114
-      (List._∷_ 58 (List._∷_ 58 (List._∷_ 87 (List._∷_ 97 (List._∷_ 121 List.[])))))))))))
-      (Syntax.ttcons
-      Syntax.tnil
-      (Syntax.ttcons
-      Syntax.tnil
-      (Syntax.ttcons Syntax.tnil (Syntax.ttcons Syntax.tnil Syntax.ttnil)))))
-      (Syntax.tcons (Syntax.tyArray (Syntax.tyInt Syntax.w8) 16) Syntax.tnil)))
-      Syntax.tnil)))
-      (Syntax.tcons
-      (Syntax.tyInt Syntax.w64)
       (Syntax.tcons (Syntax.tyInt Syntax.w8) Syntax.tnil)))))),
 ) (List._∷_ (
   1,
@@ -1161,6 +1165,160 @@ t3 = List._∷_ (
       117
       (List._∷_ 116 (List._∷_ 99 (List._∷_ 111 (List._∷_ 109 (List._∷_ 101 List.[])))))))))))))))
       (Syntax.tcons
+      (Syntax.tyStruct
+      (List._∷_
+      102
+      (List._∷_
+      105
+      (List._∷_
+      110
+      (List._∷_
+      105
+      (List._∷_
+      115
+      (List._∷_
+      104
+      (List._∷_
+      58
+      (List._∷_ 58 (List._∷_ 83 (List._∷_ 101 (List._∷_ 110 (List._∷_ 116 List.[]))))))))))))
+      (Syntax.tcons
+      (Syntax.tyInt Syntax.w64)
+      (Syntax.tcons
+      (Syntax.tyStruct
+      (List._∷_
+      97
+      (List._∷_
+      110
+      (List._∷_
+      115
+      (List._∷_
+      119
+      (List._∷_
+      101
+      (List._∷_
+      114
+      (List._∷_
+      58
+      (List._∷_
+      58
+      (List._∷_
+      68
+      (List._∷_
+      101
+      (List._∷_
+      115
+      (List._∷_
+      116
+      (List._∷_
+      105
+      (List._∷_
+      110
+      (List._∷_
+      97
+      (List._∷_ 116 (List._∷_ 105 (List._∷_ 111 (List._∷_ 110 List.[])))))))))))))))))))
+      (Syntax.tcons
+      (Syntax.tyArray (Syntax.tyInt Syntax.w8) 16)
+      (Syntax.tcons
+      (Syntax.tyEnum
+      (List._∷_
+      97
+      (List._∷_
+      110
+      (List._∷_
+      115
+      (List._∷_
+      119
+      (List._∷_
+      101
+      (List._∷_
+      114
+      (List._∷_ 58 (List._∷_ 58 (List._∷_ 87 (List._∷_ 97 (List._∷_ 121 List.[])))))))))))
+      (Syntax.ttcons
+      Syntax.tnil
+      (Syntax.ttcons
+      Syntax.tnil
+      (Syntax.ttcons Syntax.tnil (Syntax.ttcons Syntax.tnil Syntax.ttnil)))))
+      Syntax.tnil)))
+      Syntax.tnil)))
+      (Syntax.tcons
+      (Syntax.tyStruct
+      (List._∷_
+      102
+      (List._∷_
+      105
+      (List._∷_
+      110
+      (List._∷_
+      105
+      (List._∷_
+      115
+      (List._∷_
+      104
+      (List._∷_
+      58
+      (List._∷_ 58 (List._∷_ 83 (List._∷_ 101 (List._∷_ 110 (List._∷_ 116 List.[]))))))))))))
+      (Syntax.tcons
+      (Syntax.tyInt Syntax.w64)
+      (Syntax.tcons
+      (Syntax.tyStruct
+      (List._∷_
+      97
+      (List._∷_
+      110
+      (List._∷_
+      115
+      (List._∷_
+      119
+      (List._∷_
+      101
+      (List._∷_
+      114
+      (List._∷_
+      58
+      (List._∷_
+      58
+      (List._∷_
+      68
+      (List._∷_
+      101
+      (List._∷_
+      115
+      (List._∷_
+      116
+      (List._∷_
+      105
+      (List._∷_
+      110
+      (List._∷_
+      97
+      (List._∷_ 116 (List._∷_ 105 (List._∷_ 111 (List._∷_ 110 List.[])))))))))))))))))))
+      (Syntax.tcons
+      (Syntax.tyArray (Syntax.tyInt Syntax.w8) 16)
+      (Syntax.tcons
+      (Syntax.tyEnum
+      (List._∷_
+      97
+      (List._∷_
+      110
+      (List._∷_
+      115
+      (List._∷_
+      119
+      (List._∷_
+      101
+      (List._∷_
+      114
+      (List._∷_ 58 (List._∷_ 58 (List._∷_ 87 (List._∷_ 97 (List._∷_ 121 List.[])))))))))))
+      (Syntax.ttcons
+      Syntax.tnil
+      (Syntax.ttcons
+      Syntax.tnil
+      (Syntax.ttcons Syntax.tnil (Syntax.ttcons Syntax.tnil Syntax.ttnil)))))
+      Syntax.tnil)))
+      Syntax.tnil)))
+      (Syntax.tcons
+      (Syntax.tyInt Syntax.w64)
+      (Syntax.tcons
       (Syntax.tyEnum
       (List._∷_
       97
@@ -1214,156 +1372,6 @@ t3 = List._∷_ (
       (Syntax.ttcons
       Syntax.tnil
       (Syntax.ttcons Syntax.tnil (Syntax.ttcons Syntax.tnil Syntax.ttnil)))))))))))))))))))
-      (Syntax.tcons
-      (Syntax.tyStruct
-      (List._∷_
-      102
-      (List._∷_
-      105
-      (List._∷_
-      110
-      (List._∷_
-      105
-      (List._∷_
-      115
-      (List._∷_
-      104
-      (List._∷_
-      58
-      (List._∷_ 58 (List._∷_ 83 (List._∷_ 101 (List._∷_ 110 (List._∷_ 116 List.[]))))))))))))
-      (Syntax.tcons
-      (Syntax.tyInt Syntax.w64)
-      (Syntax.tcons
-      (Syntax.tyStruct
-      (List._∷_
-      97
-      (List._∷_
-      110
-      (List._∷_
-      115
-      (List._∷_
-      119
-      (List._∷_
-      101
-      (List._∷_
-      114
-      (List._∷_
-      58
-      (List._∷_
-      58
-      (List._∷_
-      68
-      (List._∷_
-      101
-      (List._∷_
-      115
-      (List._∷_
-      116
-      (List._∷_
-      105
-      (List._∷_
-      110
-      (List._∷_
-      97
-      (List._∷_ 116 (List._∷_ 105 (List._∷_ 111 (List._∷_ 110 List.[])))))))))))))))))))
-      (Syntax.tcons
-      (Syntax.tyEnum
-      (List._∷_
-      97
-      (List._∷_
-      110
-      (List._∷_
-      115
-      (List._∷_
-      119
-      (List._∷_
-      101
-      (List._∷_
-      114
-      (List._∷_ 58 (List._∷_ 58 (List._∷_ 87 (List._∷_ 97 (List._∷_ 121 List.[])))))))))))
-      (Syntax.ttcons
-      Syntax.tnil
-      (Syntax.ttcons
-      Syntax.tnil
-      (Syntax.ttcons Syntax.tnil (Syntax.ttcons Syntax.tnil Syntax.ttnil)))))
-      (Syntax.tcons (Syntax.tyArray (Syntax.tyInt Syntax.w8) 16) Syntax.tnil)))
-      Syntax.tnil)))
-      (Syntax.tcons
-      (Syntax.tyStruct
-      (List._∷_
-      102
-      (List._∷_
-      105
-      (List._∷_
-      110
-      (List._∷_
-      105
-      (List._∷_
-      115
-      (List._∷_
-      104
-      (List._∷_
-      58
-      (List._∷_ 58 (List._∷_ 83 (List._∷_ 101 (List._∷_ 110 (List._∷_ 116 List.[]))))))))))))
-      (Syntax.tcons
-      (Syntax.tyInt Syntax.w64)
-      (Syntax.tcons
-      (Syntax.tyStruct
-      (List._∷_
-      97
-      (List._∷_
-      110
-      (List._∷_
-      115
-      (List._∷_
-      119
-      (List._∷_
-      101
-      (List._∷_
-      114
-      (List._∷_
-      58
-      (List._∷_
-      58
-      (List._∷_
-      68
-      (List._∷_
-      101
-      (List._∷_
-      115
-      (List._∷_
-      116
-      (List._∷_
-      105
-      (List._∷_
-      110
-      (List._∷_
-      97
-      (List._∷_ 116 (List._∷_ 105 (List._∷_ 111 (List._∷_ 110 List.[])))))))))))))))))))
-      (Syntax.tcons
-      (Syntax.tyEnum
-      (List._∷_
-      97
-      (List._∷_
-      110
-      (List._∷_
-      115
-      (List._∷_
-      119
-      (List._∷_
-      101
-      (List._∷_
-      114
-      (List._∷_ 58 (List._∷_ 58 (List._∷_ 87 (List._∷_ 97 (List._∷_ 121 List.[])))))))))))
-      (Syntax.ttcons
-      Syntax.tnil
-      (Syntax.ttcons
-      Syntax.tnil
-      (Syntax.ttcons Syntax.tnil (Syntax.ttcons Syntax.tnil Syntax.ttnil)))))
-      (Syntax.tcons (Syntax.tyArray (Syntax.tyInt Syntax.w8) 16) Syntax.tnil)))
-      Syntax.tnil)))
-      (Syntax.tcons
-      (Syntax.tyInt Syntax.w64)
       (Syntax.tcons (Syntax.tyInt Syntax.w8) Syntax.tnil)))))),
 ) (List._∷_ (
   1,
@@ -1454,6 +1462,160 @@ t4 = List._∷_ (
       117
       (List._∷_ 116 (List._∷_ 99 (List._∷_ 111 (List._∷_ 109 (List._∷_ 101 List.[])))))))))))))))
       (Syntax.tcons
+      (Syntax.tyStruct
+      (List._∷_
+      102
+      (List._∷_
+      105
+      (List._∷_
+      110
+      (List._∷_
+      105
+      (List._∷_
+      115
+      (List._∷_
+      104
+      (List._∷_
+      58
+      (List._∷_ 58 (List._∷_ 83 (List._∷_ 101 (List._∷_ 110 (List._∷_ 116 List.[]))))))))))))
+      (Syntax.tcons
+      (Syntax.tyInt Syntax.w64)
+      (Syntax.tcons
+      (Syntax.tyStruct
+      (List._∷_
+      97
+      (List._∷_
+      110
+      (List._∷_
+      115
+      (List._∷_
+      119
+      (List._∷_
+      101
+      (List._∷_
+      114
+      (List._∷_
+      58
+      (List._∷_
+      58
+      (List._∷_
+      68
+      (List._∷_
+      101
+      (List._∷_
+      115
+      (List._∷_
+      116
+      (List._∷_
+      105
+      (List._∷_
+      110
+      (List._∷_
+      97
+      (List._∷_ 116 (List._∷_ 105 (List._∷_ 111 (List._∷_ 110 List.[])))))))))))))))))))
+      (Syntax.tcons
+      (Syntax.tyArray (Syntax.tyInt Syntax.w8) 16)
+      (Syntax.tcons
+      (Syntax.tyEnum
+      (List._∷_
+      97
+      (List._∷_
+      110
+      (List._∷_
+      115
+      (List._∷_
+      119
+      (List._∷_
+      101
+      (List._∷_
+      114
+      (List._∷_ 58 (List._∷_ 58 (List._∷_ 87 (List._∷_ 97 (List._∷_ 121 List.[])))))))))))
+      (Syntax.ttcons
+      Syntax.tnil
+      (Syntax.ttcons
+      Syntax.tnil
+      (Syntax.ttcons Syntax.tnil (Syntax.ttcons Syntax.tnil Syntax.ttnil)))))
+      Syntax.tnil)))
+      Syntax.tnil)))
+      (Syntax.tcons
+      (Syntax.tyStruct
+      (List._∷_
+      102
+      (List._∷_
+      105
+      (List._∷_
+      110
+      (List._∷_
+      105
+      (List._∷_
+      115
+      (List._∷_
+      104
+      (List._∷_
+      58
+      (List._∷_ 58 (List._∷_ 83 (List._∷_ 101 (List._∷_ 110 (List._∷_ 116 List.[]))))))))))))
+      (Syntax.tcons
+      (Syntax.tyInt Syntax.w64)
+      (Syntax.tcons
+      (Syntax.tyStruct
+      (List._∷_
+      97
+      (List._∷_
+      110
+      (List._∷_
+      115
+      (List._∷_
+      119
+      (List._∷_
+      101
+      (List._∷_
+      114
+      (List._∷_
+      58
+      (List._∷_
+      58
+      (List._∷_
+      68
+      (List._∷_
+      101
+      (List._∷_
+      115
+      (List._∷_
+      116
+      (List._∷_
+      105
+      (List._∷_
+      110
+      (List._∷_
+      97
+      (List._∷_ 116 (List._∷_ 105 (List._∷_ 111 (List._∷_ 110 List.[])))))))))))))))))))
+      (Syntax.tcons
+      (Syntax.tyArray (Syntax.tyInt Syntax.w8) 16)
+      (Syntax.tcons
+      (Syntax.tyEnum
+      (List._∷_
+      97
+      (List._∷_
+      110
+      (List._∷_
+      115
+      (List._∷_
+      119
+      (List._∷_
+      101
+      (List._∷_
+      114
+      (List._∷_ 58 (List._∷_ 58 (List._∷_ 87 (List._∷_ 97 (List._∷_ 121 List.[])))))))))))
+      (Syntax.ttcons
+      Syntax.tnil
+      (Syntax.ttcons
+      Syntax.tnil
+      (Syntax.ttcons Syntax.tnil (Syntax.ttcons Syntax.tnil Syntax.ttnil)))))
+      Syntax.tnil)))
+      Syntax.tnil)))
+      (Syntax.tcons
+      (Syntax.tyInt Syntax.w64)
+      (Syntax.tcons
       (Syntax.tyEnum
       (List._∷_
       97
@@ -1507,156 +1669,6 @@ t4 = List._∷_ (
       (Syntax.ttcons
       Syntax.tnil
       (Syntax.ttcons Syntax.tnil (Syntax.ttcons Syntax.tnil Syntax.ttnil)))))))))))))))))))
-      (Syntax.tcons
-      (Syntax.tyStruct
-      (List._∷_
-      102
-      (List._∷_
-      105
-      (List._∷_
-      110
-      (List._∷_
-      105
-      (List._∷_
-      115
-      (List._∷_
-      104
-      (List._∷_
-      58
-      (List._∷_ 58 (List._∷_ 83 (List._∷_ 101 (List._∷_ 110 (List._∷_ 116 List.[]))))))))))))
-      (Syntax.tcons
-      (Syntax.tyInt Syntax.w64)
-      (Syntax.tcons
-      (Syntax.tyStruct
-      (List._∷_
-      97
-      (List._∷_
-      110
-      (List._∷_
-      115
-      (List._∷_
-      119
-      (List._∷_
-      101
-      (List._∷_
-      114
-      (List._∷_
-      58
-      (List._∷_
-      58
-      (List._∷_
-      68
-      (List._∷_
-      101
-      (List._∷_
-      115
-      (List._∷_
-      116
-      (List._∷_
-      105
-      (List._∷_
-      110
-      (List._∷_
-      97
-      (List._∷_ 116 (List._∷_ 105 (List._∷_ 111 (List._∷_ 110 List.[])))))))))))))))))))
-      (Syntax.tcons
-      (Syntax.tyEnum
-      (List._∷_
-      97
-      (List._∷_
-      110
-      (List._∷_
-      115
-      (List._∷_
-      119
-      (List._∷_
-      101
-      (List._∷_
-      114
-      (List._∷_ 58 (List._∷_ 58 (List._∷_ 87 (List._∷_ 97 (List._∷_ 121 List.[])))))))))))
-      (Syntax.ttcons
-      Syntax.tnil
-      (Syntax.ttcons
-      Syntax.tnil
-      (Syntax.ttcons Syntax.tnil (Syntax.ttcons Syntax.tnil Syntax.ttnil)))))
-      (Syntax.tcons (Syntax.tyArray (Syntax.tyInt Syntax.w8) 16) Syntax.tnil)))
-      Syntax.tnil)))
-      (Syntax.tcons
-      (Syntax.tyStruct
-      (List._∷_
-      102
-      (List._∷_
-      105
-      (List._∷_
-      110
-      (List._∷_
-      105
-      (List._∷_
-      115
-      (List._∷_
-      104
-      (List._∷_
-      58
-      (List._∷_ 58 (List._∷_ 83 (List._∷_ 101 (List._∷_ 110 (List._∷_ 116 List.[]))))))))))))
-      (Syntax.tcons
-      (Syntax.tyInt Syntax.w64)
-      (Syntax.tcons
-      (Syntax.tyStruct
-      (List._∷_
-      97
-      (List._∷_
-      110
-      (List._∷_
-      115
-      (List._∷_
-      119
-      (List._∷_
-      101
-      (List._∷_
-      114
-      (List._∷_
-      58
-      (List._∷_
-      58
-      (List._∷_
-      68
-      (List._∷_
-      101
-      (List._∷_
-      115
-      (List._∷_
-      116
-      (List._∷_
-      105
-      (List._∷_
-      110
-      (List._∷_
-      97
-      (List._∷_ 116 (List._∷_ 105 (List._∷_ 111 (List._∷_ 110 List.[])))))))))))))))))))
-      (Syntax.tcons
-      (Syntax.tyEnum
-      (List._∷_
-      97
-      (List._∷_
-      110
-      (List._∷_
-      115
-      (List._∷_
-      119
-      (List._∷_
-      101
-      (List._∷_
-      114
-      (List._∷_ 58 (List._∷_ 58 (List._∷_ 87 (List._∷_ 97 (List._∷_ 121 List.[])))))))))))
-      (Syntax.ttcons
-      Syntax.tnil
-      (Syntax.ttcons
-      Syntax.tnil
-      (Syntax.ttcons Syntax.tnil (Syntax.ttcons Syntax.tnil Syntax.ttnil)))))
-      (Syntax.tcons (Syntax.tyArray (Syntax.tyInt Syntax.w8) 16) Syntax.tnil)))
-      Syntax.tnil)))
-      (Syntax.tcons
-      (Syntax.tyInt Syntax.w64)
       (Syntax.tcons (Syntax.tyInt Syntax.w8) Syntax.tnil)))))),
 ) (List._∷_ (
   1,
@@ -1747,6 +1759,160 @@ t5 = List._∷_ (
       117
       (List._∷_ 116 (List._∷_ 99 (List._∷_ 111 (List._∷_ 109 (List._∷_ 101 List.[])))))))))))))))
       (Syntax.tcons
+      (Syntax.tyStruct
+      (List._∷_
+      102
+      (List._∷_
+      105
+      (List._∷_
+      110
+      (List._∷_
+      105
+      (List._∷_
+      115
+      (List._∷_
+      104
+      (List._∷_
+      58
+      (List._∷_ 58 (List._∷_ 83 (List._∷_ 101 (List._∷_ 110 (List._∷_ 116 List.[]))))))))))))
+      (Syntax.tcons
+      (Syntax.tyInt Syntax.w64)
+      (Syntax.tcons
+      (Syntax.tyStruct
+      (List._∷_
+      97
+      (List._∷_
+      110
+      (List._∷_
+      115
+      (List._∷_
+      119
+      (List._∷_
+      101
+      (List._∷_
+      114
+      (List._∷_
+      58
+      (List._∷_
+      58
+      (List._∷_
+      68
+      (List._∷_
+      101
+      (List._∷_
+      115
+      (List._∷_
+      116
+      (List._∷_
+      105
+      (List._∷_
+      110
+      (List._∷_
+      97
+      (List._∷_ 116 (List._∷_ 105 (List._∷_ 111 (List._∷_ 110 List.[])))))))))))))))))))
+      (Syntax.tcons
+      (Syntax.tyArray (Syntax.tyInt Syntax.w8) 16)
+      (Syntax.tcons
+      (Syntax.tyEnum
+      (List._∷_
+      97
+      (List._∷_
+      110
+      (List._∷_
+      115
+      (List._∷_
+      119
+      (List._∷_
+      101
+      (List._∷_
+      114
+      (List._∷_ 58 (List._∷_ 58 (List._∷_ 87 (List._∷_ 97 (List._∷_ 121 List.[])))))))))))
+      (Syntax.ttcons
+      Syntax.tnil
+      (Syntax.ttcons
+      Syntax.tnil
+      (Syntax.ttcons Syntax.tnil (Syntax.ttcons Syntax.tnil Syntax.ttnil)))))
+      Syntax.tnil)))
+      Syntax.tnil)))
+      (Syntax.tcons
+      (Syntax.tyStruct
+      (List._∷_
+      102
+      (List._∷_
+      105
+      (List._∷_
+      110
+      (List._∷_
+      105
+      (List._∷_
+      115
+      (List._∷_
+      104
+      (List._∷_
+      58
+      (List._∷_ 58 (List._∷_ 83 (List._∷_ 101 (List._∷_ 110 (List._∷_ 116 List.[]))))))))))))
+      (Syntax.tcons
+      (Syntax.tyInt Syntax.w64)
+      (Syntax.tcons
+      (Syntax.tyStruct
+      (List._∷_
+      97
+      (List._∷_
+      110
+      (List._∷_
+      115
+      (List._∷_
+      119
+      (List._∷_
+      101
+      (List._∷_
+      114
+      (List._∷_
+      58
+      (List._∷_
+      58
+      (List._∷_
+      68
+      (List._∷_
+      101
+      (List._∷_
+      115
+      (List._∷_
+      116
+      (List._∷_
+      105
+      (List._∷_
+      110
+      (List._∷_
+      97
+      (List._∷_ 116 (List._∷_ 105 (List._∷_ 111 (List._∷_ 110 List.[])))))))))))))))))))
+      (Syntax.tcons
+      (Syntax.tyArray (Syntax.tyInt Syntax.w8) 16)
+      (Syntax.tcons
+      (Syntax.tyEnum
+      (List._∷_
+      97
+      (List._∷_
+      110
+      (List._∷_
+      115
+      (List._∷_
+      119
+      (List._∷_
+      101
+      (List._∷_
+      114
+      (List._∷_ 58 (List._∷_ 58 (List._∷_ 87 (List._∷_ 97 (List._∷_ 121 List.[])))))))))))
+      (Syntax.ttcons
+      Syntax.tnil
+      (Syntax.ttcons
+      Syntax.tnil
+      (Syntax.ttcons Syntax.tnil (Syntax.ttcons Syntax.tnil Syntax.ttnil)))))
+      Syntax.tnil)))
+      Syntax.tnil)))
+      (Syntax.tcons
+      (Syntax.tyInt Syntax.w64)
+      (Syntax.tcons
       (Syntax.tyEnum
       (List._∷_
       97
@@ -1800,156 +1966,6 @@ t5 = List._∷_ (
       (Syntax.ttcons
       Syntax.tnil
       (Syntax.ttcons Syntax.tnil (Syntax.ttcons Syntax.tnil Syntax.ttnil)))))))))))))))))))
-      (Syntax.tcons
-      (Syntax.tyStruct
-      (List._∷_
-      102
-      (List._∷_
-      105
-      (List._∷_
-      110
-      (List._∷_
-      105
-      (List._∷_
-      115
-      (List._∷_
-      104
-      (List._∷_
-      58
-      (List._∷_ 58 (List._∷_ 83 (List._∷_ 101 (List._∷_ 110 (List._∷_ 116 List.[]))))))))))))
-      (Syntax.tcons
-      (Syntax.tyInt Syntax.w64)
-      (Syntax.tcons
-      (Syntax.tyStruct
-      (List._∷_
-      97
-      (List._∷_
-      110
-      (List._∷_
-      115
-      (List._∷_
-      119
-      (List._∷_
-      101
-      (List._∷_
-      114
-      (List._∷_
-      58
-      (List._∷_
-      58
-      (List._∷_
-      68
-      (List._∷_
-      101
-      (List._∷_
-      115
-      (List._∷_
-      116
-      (List._∷_
-      105
-      (List._∷_
-      110
-      (List._∷_
-      97
-      (List._∷_ 116 (List._∷_ 105 (List._∷_ 111 (List._∷_ 110 List.[])))))))))))))))))))
-      (Syntax.tcons
-      (Syntax.tyEnum
-      (List._∷_
-      97
-      (List._∷_
-      110
-      (List._∷_
-      115
-      (List._∷_
-      119
-      (List._∷_
-      101
-      (List._∷_
-      114
-      (List._∷_ 58 (List._∷_ 58 (List._∷_ 87 (List._∷_ 97 (List._∷_ 121 List.[])))))))))))
-      (Syntax.ttcons
-      Syntax.tnil
-      (Syntax.ttcons
-      Syntax.tnil
-      (Syntax.ttcons Syntax.tnil (Syntax.ttcons Syntax.tnil Syntax.ttnil)))))
-      (Syntax.tcons (Syntax.tyArray (Syntax.tyInt Syntax.w8) 16) Syntax.tnil)))
-      Syntax.tnil)))
-      (Syntax.tcons
-      (Syntax.tyStruct
-      (List._∷_
-      102
-      (List._∷_
-      105
-      (List._∷_
-      110
-      (List._∷_
-      105
-      (List._∷_
-      115
-      (List._∷_
-      104
-      (List._∷_
-      58
-      (List._∷_ 58 (List._∷_ 83 (List._∷_ 101 (List._∷_ 110 (List._∷_ 116 List.[]))))))))))))
-      (Syntax.tcons
-      (Syntax.tyInt Syntax.w64)
-      (Syntax.tcons
-      (Syntax.tyStruct
-      (List._∷_
-      97
-      (List._∷_
-      110
-      (List._∷_
-      115
-      (List._∷_
-      119
-      (List._∷_
-      101
-      (List._∷_
-      114
-      (List._∷_
-      58
-      (List._∷_
-      58
-      (List._∷_
-      68
-      (List._∷_
-      101
-      (List._∷_
-      115
-      (List._∷_
-      116
-      (List._∷_
-      105
-      (List._∷_
-      110
-      (List._∷_
-      97
-      (List._∷_ 116 (List._∷_ 105 (List._∷_ 111 (List._∷_ 110 List.[])))))))))))))))))))
-      (Syntax.tcons
-      (Syntax.tyEnum
-      (List._∷_
-      97
-      (List._∷_
-      110
-      (List._∷_
-      115
-      (List._∷_
-      119
-      (List._∷_
-      101
-      (List._∷_
-      114
-      (List._∷_ 58 (List._∷_ 58 (List._∷_ 87 (List._∷_ 97 (List._∷_ 121 List.[])))))))))))
-      (Syntax.ttcons
-      Syntax.tnil
-      (Syntax.ttcons
-      Syntax.tnil
-      (Syntax.ttcons Syntax.tnil (Syntax.ttcons Syntax.tnil Syntax.ttnil)))))
-      (Syntax.tcons (Syntax.tyArray (Syntax.tyInt Syntax.w8) 16) Syntax.tnil)))
-      Syntax.tnil)))
-      (Syntax.tcons
-      (Syntax.tyInt Syntax.w64)
       (Syntax.tcons (Syntax.tyInt Syntax.w8) Syntax.tnil)))))),
 ) (List._∷_ (
   1,
@@ -2040,6 +2056,160 @@ t6 = List._∷_ (
       117
       (List._∷_ 116 (List._∷_ 99 (List._∷_ 111 (List._∷_ 109 (List._∷_ 101 List.[])))))))))))))))
       (Syntax.tcons
+      (Syntax.tyStruct
+      (List._∷_
+      102
+      (List._∷_
+      105
+      (List._∷_
+      110
+      (List._∷_
+      105
+      (List._∷_
+      115
+      (List._∷_
+      104
+      (List._∷_
+      58
+      (List._∷_ 58 (List._∷_ 83 (List._∷_ 101 (List._∷_ 110 (List._∷_ 116 List.[]))))))))))))
+      (Syntax.tcons
+      (Syntax.tyInt Syntax.w64)
+      (Syntax.tcons
+      (Syntax.tyStruct
+      (List._∷_
+      97
+      (List._∷_
+      110
+      (List._∷_
+      115
+      (List._∷_
+      119
+      (List._∷_
+      101
+      (List._∷_
+      114
+      (List._∷_
+      58
+      (List._∷_
+      58
+      (List._∷_
+      68
+      (List._∷_
+      101
+      (List._∷_
+      115
+      (List._∷_
+      116
+      (List._∷_
+      105
+      (List._∷_
+      110
+      (List._∷_
+      97
+      (List._∷_ 116 (List._∷_ 105 (List._∷_ 111 (List._∷_ 110 List.[])))))))))))))))))))
+      (Syntax.tcons
+      (Syntax.tyArray (Syntax.tyInt Syntax.w8) 16)
+      (Syntax.tcons
+      (Syntax.tyEnum
+      (List._∷_
+      97
+      (List._∷_
+      110
+      (List._∷_
+      115
+      (List._∷_
+      119
+      (List._∷_
+      101
+      (List._∷_
+      114
+      (List._∷_ 58 (List._∷_ 58 (List._∷_ 87 (List._∷_ 97 (List._∷_ 121 List.[])))))))))))
+      (Syntax.ttcons
+      Syntax.tnil
+      (Syntax.ttcons
+      Syntax.tnil
+      (Syntax.ttcons Syntax.tnil (Syntax.ttcons Syntax.tnil Syntax.ttnil)))))
+      Syntax.tnil)))
+      Syntax.tnil)))
+      (Syntax.tcons
+      (Syntax.tyStruct
+      (List._∷_
+      102
+      (List._∷_
+      105
+      (List._∷_
+      110
+      (List._∷_
+      105
+      (List._∷_
+      115
+      (List._∷_
+      104
+      (List._∷_
+      58
+      (List._∷_ 58 (List._∷_ 83 (List._∷_ 101 (List._∷_ 110 (List._∷_ 116 List.[]))))))))))))
+      (Syntax.tcons
+      (Syntax.tyInt Syntax.w64)
+      (Syntax.tcons
+      (Syntax.tyStruct
+      (List._∷_
+      97
+      (List._∷_
+      110
+      (List._∷_
+      115
+      (List._∷_
+      119
+      (List._∷_
+      101
+      (List._∷_
+      114
+      (List._∷_
+      58
+      (List._∷_
+      58
+      (List._∷_
+      68
+      (List._∷_
+      101
+      (List._∷_
+      115
+      (List._∷_
+      116
+      (List._∷_
+      105
+      (List._∷_
+      110
+      (List._∷_
+      97
+      (List._∷_ 116 (List._∷_ 105 (List._∷_ 111 (List._∷_ 110 List.[])))))))))))))))))))
+      (Syntax.tcons
+      (Syntax.tyArray (Syntax.tyInt Syntax.w8) 16)
+      (Syntax.tcons
+      (Syntax.tyEnum
+      (List._∷_
+      97
+      (List._∷_
+      110
+      (List._∷_
+      115
+      (List._∷_
+      119
+      (List._∷_
+      101
+      (List._∷_
+      114
+      (List._∷_ 58 (List._∷_ 58 (List._∷_ 87 (List._∷_ 97 (List._∷_ 121 List.[])))))))))))
+      (Syntax.ttcons
+      Syntax.tnil
+      (Syntax.ttcons
+      Syntax.tnil
+      (Syntax.ttcons Syntax.tnil (Syntax.ttcons Syntax.tnil Syntax.ttnil)))))
+      Syntax.tnil)))
+      Syntax.tnil)))
+      (Syntax.tcons
+      (Syntax.tyInt Syntax.w64)
+      (Syntax.tcons
       (Syntax.tyEnum
       (List._∷_
       97
@@ -2093,156 +2263,6 @@ t6 = List._∷_ (
       (Syntax.ttcons
       Syntax.tnil
       (Syntax.ttcons Syntax.tnil (Syntax.ttcons Syntax.tnil Syntax.ttnil)))))))))))))))))))
-      (Syntax.tcons
-      (Syntax.tyStruct
-      (List._∷_
-      102
-      (List._∷_
-      105
-      (List._∷_
-      110
-      (List._∷_
-      105
-      (List._∷_
-      115
-      (List._∷_
-      104
-      (List._∷_
-      58
-      (List._∷_ 58 (List._∷_ 83 (List._∷_ 101 (List._∷_ 110 (List._∷_ 116 List.[]))))))))))))
-      (Syntax.tcons
-      (Syntax.tyInt Syntax.w64)
-      (Syntax.tcons
-      (Syntax.tyStruct
-      (List._∷_
-      97
-      (List._∷_
-      110
-      (List._∷_
-      115
-      (List._∷_
-      119
-      (List._∷_
-      101
-      (List._∷_
-      114
-      (List._∷_
-      58
-      (List._∷_
-      58
-      (List._∷_
-      68
-      (List._∷_
-      101
-      (List._∷_
-      115
-      (List._∷_
-      116
-      (List._∷_
-      105
-      (List._∷_
-      110
-      (List._∷_
-      97
-      (List._∷_ 116 (List._∷_ 105 (List._∷_ 111 (List._∷_ 110 List.[])))))))))))))))))))
-      (Syntax.tcons
-      (Syntax.tyEnum
-      (List._∷_
-      97
-      (List._∷_
-      110
-      (List._∷_
-      115
-      (List._∷_
-      119
-      (List._∷_
-      101
-      (List._∷_
-      114
-      (List._∷_ 58 (List._∷_ 58 (List._∷_ 87 (List._∷_ 97 (List._∷_ 121 List.[])))))))))))
-      (Syntax.ttcons
-      Syntax.tnil
-      (Syntax.ttcons
-      Syntax.tnil
-      (Syntax.ttcons Syntax.tnil (Syntax.ttcons Syntax.tnil Syntax.ttnil)))))
-      (Syntax.tcons (Syntax.tyArray (Syntax.tyInt Syntax.w8) 16) Syntax.tnil)))
-      Syntax.tnil)))
-      (Syntax.tcons
-      (Syntax.tyStruct
-      (List._∷_
-      102
-      (List._∷_
-      105
-      (List._∷_
-      110
-      (List._∷_
-      105
-      (List._∷_
-      115
-      (List._∷_
-      104
-      (List._∷_
-      58
-      (List._∷_ 58 (List._∷_ 83 (List._∷_ 101 (List._∷_ 110 (List._∷_ 116 List.[]))))))))))))
-      (Syntax.tcons
-      (Syntax.tyInt Syntax.w64)
-      (Syntax.tcons
-      (Syntax.tyStruct
-      (List._∷_
-      97
-      (List._∷_
-      110
-      (List._∷_
-      115
-      (List._∷_
-      119
-      (List._∷_
-      101
-      (List._∷_
-      114
-      (List._∷_
-      58
-      (List._∷_
-      58
-      (List._∷_
-      68
-      (List._∷_
-      101
-      (List._∷_
-      115
-      (List._∷_
-      116
-      (List._∷_
-      105
-      (List._∷_
-      110
-      (List._∷_
-      97
-      (List._∷_ 116 (List._∷_ 105 (List._∷_ 111 (List._∷_ 110 List.[])))))))))))))))))))
-      (Syntax.tcons
-      (Syntax.tyEnum
-      (List._∷_
-      97
-      (List._∷_
-      110
-      (List._∷_
-      115
-      (List._∷_
-      119
-      (List._∷_
-      101
-      (List._∷_
-      114
-      (List._∷_ 58 (List._∷_ 58 (List._∷_ 87 (List._∷_ 97 (List._∷_ 121 List.[])))))))))))
-      (Syntax.ttcons
-      Syntax.tnil
-      (Syntax.ttcons
-      Syntax.tnil
-      (Syntax.ttcons Syntax.tnil (Syntax.ttcons Syntax.tnil Syntax.ttnil)))))
-      (Syntax.tcons (Syntax.tyArray (Syntax.tyInt Syntax.w8) 16) Syntax.tnil)))
-      Syntax.tnil)))
-      (Syntax.tcons
-      (Syntax.tyInt Syntax.w64)
       (Syntax.tcons (Syntax.tyInt Syntax.w8) Syntax.tnil)))))),
 ) (List._∷_ (
   1,
@@ -2333,6 +2353,160 @@ t7 = List._∷_ (
       117
       (List._∷_ 116 (List._∷_ 99 (List._∷_ 111 (List._∷_ 109 (List._∷_ 101 List.[])))))))))))))))
       (Syntax.tcons
+      (Syntax.tyStruct
+      (List._∷_
+      102
+      (List._∷_
+      105
+      (List._∷_
+      110
+      (List._∷_
+      105
+      (List._∷_
+      115
+      (List._∷_
+      104
+      (List._∷_
+      58
+      (List._∷_ 58 (List._∷_ 83 (List._∷_ 101 (List._∷_ 110 (List._∷_ 116 List.[]))))))))))))
+      (Syntax.tcons
+      (Syntax.tyInt Syntax.w64)
+      (Syntax.tcons
+      (Syntax.tyStruct
+      (List._∷_
+      97
+      (List._∷_
+      110
+      (List._∷_
+      115
+      (List._∷_
+      119
+      (List._∷_
+      101
+      (List._∷_
+      114
+      (List._∷_
+      58
+      (List._∷_
+      58
+      (List._∷_
+      68
+      (List._∷_
+      101
+      (List._∷_
+      115
+      (List._∷_
+      116
+      (List._∷_
+      105
+      (List._∷_
+      110
+      (List._∷_
+      97
+      (List._∷_ 116 (List._∷_ 105 (List._∷_ 111 (List._∷_ 110 List.[])))))))))))))))))))
+      (Syntax.tcons
+      (Syntax.tyArray (Syntax.tyInt Syntax.w8) 16)
+      (Syntax.tcons
+      (Syntax.tyEnum
+      (List._∷_
+      97
+      (List._∷_
+      110
+      (List._∷_
+      115
+      (List._∷_
+      119
+      (List._∷_
+      101
+      (List._∷_
+      114
+      (List._∷_ 58 (List._∷_ 58 (List._∷_ 87 (List._∷_ 97 (List._∷_ 121 List.[])))))))))))
+      (Syntax.ttcons
+      Syntax.tnil
+      (Syntax.ttcons
+      Syntax.tnil
+      (Syntax.ttcons Syntax.tnil (Syntax.ttcons Syntax.tnil Syntax.ttnil)))))
+      Syntax.tnil)))
+      Syntax.tnil)))
+      (Syntax.tcons
+      (Syntax.tyStruct
+      (List._∷_
+      102
+      (List._∷_
+      105
+      (List._∷_
+      110
+      (List._∷_
+      105
+      (List._∷_
+      115
+      (List._∷_
+      104
+      (List._∷_
+      58
+      (List._∷_ 58 (List._∷_ 83 (List._∷_ 101 (List._∷_ 110 (List._∷_ 116 List.[]))))))))))))
+      (Syntax.tcons
+      (Syntax.tyInt Syntax.w64)
+      (Syntax.tcons
+      (Syntax.tyStruct
+      (List._∷_
+      97
+      (List._∷_
+      110
+      (List._∷_
+      115
+      (List._∷_
+      119
+      (List._∷_
+      101
+      (List._∷_
+      114
+      (List._∷_
+      58
+      (List._∷_
+      58
+      (List._∷_
+      68
+      (List._∷_
+      101
+      (List._∷_
+      115
+      (List._∷_
+      116
+      (List._∷_
+      105
+      (List._∷_
+      110
+      (List._∷_
+      97
+      (List._∷_ 116 (List._∷_ 105 (List._∷_ 111 (List._∷_ 110 List.[])))))))))))))))))))
+      (Syntax.tcons
+      (Syntax.tyArray (Syntax.tyInt Syntax.w8) 16)
+      (Syntax.tcons
+      (Syntax.tyEnum
+      (List._∷_
+      97
+      (List._∷_
+      110
+      (List._∷_
+      115
+      (List._∷_
+      119
+      (List._∷_
+      101
+      (List._∷_
+      114
+      (List._∷_ 58 (List._∷_ 58 (List._∷_ 87 (List._∷_ 97 (List._∷_ 121 List.[])))))))))))
+      (Syntax.ttcons
+      Syntax.tnil
+      (Syntax.ttcons
+      Syntax.tnil
+      (Syntax.ttcons Syntax.tnil (Syntax.ttcons Syntax.tnil Syntax.ttnil)))))
+      Syntax.tnil)))
+      Syntax.tnil)))
+      (Syntax.tcons
+      (Syntax.tyInt Syntax.w64)
+      (Syntax.tcons
       (Syntax.tyEnum
       (List._∷_
       97
@@ -2386,156 +2560,6 @@ t7 = List._∷_ (
       (Syntax.ttcons
       Syntax.tnil
       (Syntax.ttcons Syntax.tnil (Syntax.ttcons Syntax.tnil Syntax.ttnil)))))))))))))))))))
-      (Syntax.tcons
-      (Syntax.tyStruct
-      (List._∷_
-      102
-      (List._∷_
-      105
-      (List._∷_
-      110
-      (List._∷_
-      105
-      (List._∷_
-      115
-      (List._∷_
-      104
-      (List._∷_
-      58
-      (List._∷_ 58 (List._∷_ 83 (List._∷_ 101 (List._∷_ 110 (List._∷_ 116 List.[]))))))))))))
-      (Syntax.tcons
-      (Syntax.tyInt Syntax.w64)
-      (Syntax.tcons
-      (Syntax.tyStruct
-      (List._∷_
-      97
-      (List._∷_
-      110
-      (List._∷_
-      115
-      (List._∷_
-      119
-      (List._∷_
-      101
-      (List._∷_
-      114
-      (List._∷_
-      58
-      (List._∷_
-      58
-      (List._∷_
-      68
-      (List._∷_
-      101
-      (List._∷_
-      115
-      (List._∷_
-      116
-      (List._∷_
-      105
-      (List._∷_
-      110
-      (List._∷_
-      97
-      (List._∷_ 116 (List._∷_ 105 (List._∷_ 111 (List._∷_ 110 List.[])))))))))))))))))))
-      (Syntax.tcons
-      (Syntax.tyEnum
-      (List._∷_
-      97
-      (List._∷_
-      110
-      (List._∷_
-      115
-      (List._∷_
-      119
-      (List._∷_
-      101
-      (List._∷_
-      114
-      (List._∷_ 58 (List._∷_ 58 (List._∷_ 87 (List._∷_ 97 (List._∷_ 121 List.[])))))))))))
-      (Syntax.ttcons
-      Syntax.tnil
-      (Syntax.ttcons
-      Syntax.tnil
-      (Syntax.ttcons Syntax.tnil (Syntax.ttcons Syntax.tnil Syntax.ttnil)))))
-      (Syntax.tcons (Syntax.tyArray (Syntax.tyInt Syntax.w8) 16) Syntax.tnil)))
-      Syntax.tnil)))
-      (Syntax.tcons
-      (Syntax.tyStruct
-      (List._∷_
-      102
-      (List._∷_
-      105
-      (List._∷_
-      110
-      (List._∷_
-      105
-      (List._∷_
-      115
-      (List._∷_
-      104
-      (List._∷_
-      58
-      (List._∷_ 58 (List._∷_ 83 (List._∷_ 101 (List._∷_ 110 (List._∷_ 116 List.[]))))))))))))
-      (Syntax.tcons
-      (Syntax.tyInt Syntax.w64)
-      (Syntax.tcons
-      (Syntax.tyStruct
-      (List._∷_
-      97
-      (List._∷_
-      110
-      (List._∷_
-      115
-      (List._∷_
-      119
-      (List._∷_
-      101
-      (List._∷_
-      114
-      (List._∷_
-      58
-      (List._∷_
-      58
-      (List._∷_
-      68
-      (List._∷_
-      101
-      (List._∷_
-      115
-      (List._∷_
-      116
-      (List._∷_
-      105
-      (List._∷_
-      110
-      (List._∷_
-      97
-      (List._∷_ 116 (List._∷_ 105 (List._∷_ 111 (List._∷_ 110 List.[])))))))))))))))))))
-      (Syntax.tcons
-      (Syntax.tyEnum
-      (List._∷_
-      97
-      (List._∷_
-      110
-      (List._∷_
-      115
-      (List._∷_
-      119
-      (List._∷_
-      101
-      (List._∷_
-      114
-      (List._∷_ 58 (List._∷_ 58 (List._∷_ 87 (List._∷_ 97 (List._∷_ 121 List.[])))))))))))
-      (Syntax.ttcons
-      Syntax.tnil
-      (Syntax.ttcons
-      Syntax.tnil
-      (Syntax.ttcons Syntax.tnil (Syntax.ttcons Syntax.tnil Syntax.ttnil)))))
-      (Syntax.tcons (Syntax.tyArray (Syntax.tyInt Syntax.w8) 16) Syntax.tnil)))
-      Syntax.tnil)))
-      (Syntax.tcons
-      (Syntax.tyInt Syntax.w64)
       (Syntax.tcons (Syntax.tyInt Syntax.w8) Syntax.tnil)))))),
 ) (List._∷_ (
   1,
@@ -2626,6 +2650,160 @@ t8 = List._∷_ (
       117
       (List._∷_ 116 (List._∷_ 99 (List._∷_ 111 (List._∷_ 109 (List._∷_ 101 List.[])))))))))))))))
       (Syntax.tcons
+      (Syntax.tyStruct
+      (List._∷_
+      102
+      (List._∷_
+      105
+      (List._∷_
+      110
+      (List._∷_
+      105
+      (List._∷_
+      115
+      (List._∷_
+      104
+      (List._∷_
+      58
+      (List._∷_ 58 (List._∷_ 83 (List._∷_ 101 (List._∷_ 110 (List._∷_ 116 List.[]))))))))))))
+      (Syntax.tcons
+      (Syntax.tyInt Syntax.w64)
+      (Syntax.tcons
+      (Syntax.tyStruct
+      (List._∷_
+      97
+      (List._∷_
+      110
+      (List._∷_
+      115
+      (List._∷_
+      119
+      (List._∷_
+      101
+      (List._∷_
+      114
+      (List._∷_
+      58
+      (List._∷_
+      58
+      (List._∷_
+      68
+      (List._∷_
+      101
+      (List._∷_
+      115
+      (List._∷_
+      116
+      (List._∷_
+      105
+      (List._∷_
+      110
+      (List._∷_
+      97
+      (List._∷_ 116 (List._∷_ 105 (List._∷_ 111 (List._∷_ 110 List.[])))))))))))))))))))
+      (Syntax.tcons
+      (Syntax.tyArray (Syntax.tyInt Syntax.w8) 16)
+      (Syntax.tcons
+      (Syntax.tyEnum
+      (List._∷_
+      97
+      (List._∷_
+      110
+      (List._∷_
+      115
+      (List._∷_
+      119
+      (List._∷_
+      101
+      (List._∷_
+      114
+      (List._∷_ 58 (List._∷_ 58 (List._∷_ 87 (List._∷_ 97 (List._∷_ 121 List.[])))))))))))
+      (Syntax.ttcons
+      Syntax.tnil
+      (Syntax.ttcons
+      Syntax.tnil
+      (Syntax.ttcons Syntax.tnil (Syntax.ttcons Syntax.tnil Syntax.ttnil)))))
+      Syntax.tnil)))
+      Syntax.tnil)))
+      (Syntax.tcons
+      (Syntax.tyStruct
+      (List._∷_
+      102
+      (List._∷_
+      105
+      (List._∷_
+      110
+      (List._∷_
+      105
+      (List._∷_
+      115
+      (List._∷_
+      104
+      (List._∷_
+      58
+      (List._∷_ 58 (List._∷_ 83 (List._∷_ 101 (List._∷_ 110 (List._∷_ 116 List.[]))))))))))))
+      (Syntax.tcons
+      (Syntax.tyInt Syntax.w64)
+      (Syntax.tcons
+      (Syntax.tyStruct
+      (List._∷_
+      97
+      (List._∷_
+      110
+      (List._∷_
+      115
+      (List._∷_
+      119
+      (List._∷_
+      101
+      (List._∷_
+      114
+      (List._∷_
+      58
+      (List._∷_
+      58
+      (List._∷_
+      68
+      (List._∷_
+      101
+      (List._∷_
+      115
+      (List._∷_
+      116
+      (List._∷_
+      105
+      (List._∷_
+      110
+      (List._∷_
+      97
+      (List._∷_ 116 (List._∷_ 105 (List._∷_ 111 (List._∷_ 110 List.[])))))))))))))))))))
+      (Syntax.tcons
+      (Syntax.tyArray (Syntax.tyInt Syntax.w8) 16)
+      (Syntax.tcons
+      (Syntax.tyEnum
+      (List._∷_
+      97
+      (List._∷_
+      110
+      (List._∷_
+      115
+      (List._∷_
+      119
+      (List._∷_
+      101
+      (List._∷_
+      114
+      (List._∷_ 58 (List._∷_ 58 (List._∷_ 87 (List._∷_ 97 (List._∷_ 121 List.[])))))))))))
+      (Syntax.ttcons
+      Syntax.tnil
+      (Syntax.ttcons
+      Syntax.tnil
+      (Syntax.ttcons Syntax.tnil (Syntax.ttcons Syntax.tnil Syntax.ttnil)))))
+      Syntax.tnil)))
+      Syntax.tnil)))
+      (Syntax.tcons
+      (Syntax.tyInt Syntax.w64)
+      (Syntax.tcons
       (Syntax.tyEnum
       (List._∷_
       97
@@ -2679,156 +2857,6 @@ t8 = List._∷_ (
       (Syntax.ttcons
       Syntax.tnil
       (Syntax.ttcons Syntax.tnil (Syntax.ttcons Syntax.tnil Syntax.ttnil)))))))))))))))))))
-      (Syntax.tcons
-      (Syntax.tyStruct
-      (List._∷_
-      102
-      (List._∷_
-      105
-      (List._∷_
-      110
-      (List._∷_
-      105
-      (List._∷_
-      115
-      (List._∷_
-      104
-      (List._∷_
-      58
-      (List._∷_ 58 (List._∷_ 83 (List._∷_ 101 (List._∷_ 110 (List._∷_ 116 List.[]))))))))))))
-      (Syntax.tcons
-      (Syntax.tyInt Syntax.w64)
-      (Syntax.tcons
-      (Syntax.tyStruct
-      (List._∷_
-      97
-      (List._∷_
-      110
-      (List._∷_
-      115
-      (List._∷_
-      119
-      (List._∷_
-      101
-      (List._∷_
-      114
-      (List._∷_
-      58
-      (List._∷_
-      58
-      (List._∷_
-      68
-      (List._∷_
-      101
-      (List._∷_
-      115
-      (List._∷_
-      116
-      (List._∷_
-      105
-      (List._∷_
-      110
-      (List._∷_
-      97
-      (List._∷_ 116 (List._∷_ 105 (List._∷_ 111 (List._∷_ 110 List.[])))))))))))))))))))
-      (Syntax.tcons
-      (Syntax.tyEnum
-      (List._∷_
-      97
-      (List._∷_
-      110
-      (List._∷_
-      115
-      (List._∷_
-      119
-      (List._∷_
-      101
-      (List._∷_
-      114
-      (List._∷_ 58 (List._∷_ 58 (List._∷_ 87 (List._∷_ 97 (List._∷_ 121 List.[])))))))))))
-      (Syntax.ttcons
-      Syntax.tnil
-      (Syntax.ttcons
-      Syntax.tnil
-      (Syntax.ttcons Syntax.tnil (Syntax.ttcons Syntax.tnil Syntax.ttnil)))))
-      (Syntax.tcons (Syntax.tyArray (Syntax.tyInt Syntax.w8) 16) Syntax.tnil)))
-      Syntax.tnil)))
-      (Syntax.tcons
-      (Syntax.tyStruct
-      (List._∷_
-      102
-      (List._∷_
-      105
-      (List._∷_
-      110
-      (List._∷_
-      105
-      (List._∷_
-      115
-      (List._∷_
-      104
-      (List._∷_
-      58
-      (List._∷_ 58 (List._∷_ 83 (List._∷_ 101 (List._∷_ 110 (List._∷_ 116 List.[]))))))))))))
-      (Syntax.tcons
-      (Syntax.tyInt Syntax.w64)
-      (Syntax.tcons
-      (Syntax.tyStruct
-      (List._∷_
-      97
-      (List._∷_
-      110
-      (List._∷_
-      115
-      (List._∷_
-      119
-      (List._∷_
-      101
-      (List._∷_
-      114
-      (List._∷_
-      58
-      (List._∷_
-      58
-      (List._∷_
-      68
-      (List._∷_
-      101
-      (List._∷_
-      115
-      (List._∷_
-      116
-      (List._∷_
-      105
-      (List._∷_
-      110
-      (List._∷_
-      97
-      (List._∷_ 116 (List._∷_ 105 (List._∷_ 111 (List._∷_ 110 List.[])))))))))))))))))))
-      (Syntax.tcons
-      (Syntax.tyEnum
-      (List._∷_
-      97
-      (List._∷_
-      110
-      (List._∷_
-      115
-      (List._∷_
-      119
-      (List._∷_
-      101
-      (List._∷_
-      114
-      (List._∷_ 58 (List._∷_ 58 (List._∷_ 87 (List._∷_ 97 (List._∷_ 121 List.[])))))))))))
-      (Syntax.ttcons
-      Syntax.tnil
-      (Syntax.ttcons
-      Syntax.tnil
-      (Syntax.ttcons Syntax.tnil (Syntax.ttcons Syntax.tnil Syntax.ttnil)))))
-      (Syntax.tcons (Syntax.tyArray (Syntax.tyInt Syntax.w8) 16) Syntax.tnil)))
-      Syntax.tnil)))
-      (Syntax.tcons
-      (Syntax.tyInt Syntax.w64)
       (Syntax.tcons (Syntax.tyInt Syntax.w8) Syntax.tnil)))))),
 ) (List._∷_ (
   1,
@@ -2919,6 +2947,160 @@ t9 = List._∷_ (
       117
       (List._∷_ 116 (List._∷_ 99 (List._∷_ 111 (List._∷_ 109 (List._∷_ 101 List.[])))))))))))))))
       (Syntax.tcons
+      (Syntax.tyStruct
+      (List._∷_
+      102
+      (List._∷_
+      105
+      (List._∷_
+      110
+      (List._∷_
+      105
+      (List._∷_
+      115
+      (List._∷_
+      104
+      (List._∷_
+      58
+      (List._∷_ 58 (List._∷_ 83 (List._∷_ 101 (List._∷_ 110 (List._∷_ 116 List.[]))))))))))))
+      (Syntax.tcons
+      (Syntax.tyInt Syntax.w64)
+      (Syntax.tcons
+      (Syntax.tyStruct
+      (List._∷_
+      97
+      (List._∷_
+      110
+      (List._∷_
+      115
+      (List._∷_
+      119
+      (List._∷_
+      101
+      (List._∷_
+      114
+      (List._∷_
+      58
+      (List._∷_
+      58
+      (List._∷_
+      68
+      (List._∷_
+      101
+      (List._∷_
+      115
+      (List._∷_
+      116
+      (List._∷_
+      105
+      (List._∷_
+      110
+      (List._∷_
+      97
+      (List._∷_ 116 (List._∷_ 105 (List._∷_ 111 (List._∷_ 110 List.[])))))))))))))))))))
+      (Syntax.tcons
+      (Syntax.tyArray (Syntax.tyInt Syntax.w8) 16)
+      (Syntax.tcons
+      (Syntax.tyEnum
+      (List._∷_
+      97
+      (List._∷_
+      110
+      (List._∷_
+      115
+      (List._∷_
+      119
+      (List._∷_
+      101
+      (List._∷_
+      114
+      (List._∷_ 58 (List._∷_ 58 (List._∷_ 87 (List._∷_ 97 (List._∷_ 121 List.[])))))))))))
+      (Syntax.ttcons
+      Syntax.tnil
+      (Syntax.ttcons
+      Syntax.tnil
+      (Syntax.ttcons Syntax.tnil (Syntax.ttcons Syntax.tnil Syntax.ttnil)))))
+      Syntax.tnil)))
+      Syntax.tnil)))
+      (Syntax.tcons
+      (Syntax.tyStruct
+      (List._∷_
+      102
+      (List._∷_
+      105
+      (List._∷_
+      110
+      (List._∷_
+      105
+      (List._∷_
+      115
+      (List._∷_
+      104
+      (List._∷_
+      58
+      (List._∷_ 58 (List._∷_ 83 (List._∷_ 101 (List._∷_ 110 (List._∷_ 116 List.[]))))))))))))
+      (Syntax.tcons
+      (Syntax.tyInt Syntax.w64)
+      (Syntax.tcons
+      (Syntax.tyStruct
+      (List._∷_
+      97
+      (List._∷_
+      110
+      (List._∷_
+      115
+      (List._∷_
+      119
+      (List._∷_
+      101
+      (List._∷_
+      114
+      (List._∷_
+      58
+      (List._∷_
+      58
+      (List._∷_
+      68
+      (List._∷_
+      101
+      (List._∷_
+      115
+      (List._∷_
+      116
+      (List._∷_
+      105
+      (List._∷_
+      110
+      (List._∷_
+      97
+      (List._∷_ 116 (List._∷_ 105 (List._∷_ 111 (List._∷_ 110 List.[])))))))))))))))))))
+      (Syntax.tcons
+      (Syntax.tyArray (Syntax.tyInt Syntax.w8) 16)
+      (Syntax.tcons
+      (Syntax.tyEnum
+      (List._∷_
+      97
+      (List._∷_
+      110
+      (List._∷_
+      115
+      (List._∷_
+      119
+      (List._∷_
+      101
+      (List._∷_
+      114
+      (List._∷_ 58 (List._∷_ 58 (List._∷_ 87 (List._∷_ 97 (List._∷_ 121 List.[])))))))))))
+      (Syntax.ttcons
+      Syntax.tnil
+      (Syntax.ttcons
+      Syntax.tnil
+      (Syntax.ttcons Syntax.tnil (Syntax.ttcons Syntax.tnil Syntax.ttnil)))))
+      Syntax.tnil)))
+      Syntax.tnil)))
+      (Syntax.tcons
+      (Syntax.tyInt Syntax.w64)
+      (Syntax.tcons
       (Syntax.tyEnum
       (List._∷_
       97
@@ -2972,156 +3154,6 @@ t9 = List._∷_ (
       (Syntax.ttcons
       Syntax.tnil
       (Syntax.ttcons Syntax.tnil (Syntax.ttcons Syntax.tnil Syntax.ttnil)))))))))))))))))))
-      (Syntax.tcons
-      (Syntax.tyStruct
-      (List._∷_
-      102
-      (List._∷_
-      105
-      (List._∷_
-      110
-      (List._∷_
-      105
-      (List._∷_
-      115
-      (List._∷_
-      104
-      (List._∷_
-      58
-      (List._∷_ 58 (List._∷_ 83 (List._∷_ 101 (List._∷_ 110 (List._∷_ 116 List.[]))))))))))))
-      (Syntax.tcons
-      (Syntax.tyInt Syntax.w64)
-      (Syntax.tcons
-      (Syntax.tyStruct
-      (List._∷_
-      97
-      (List._∷_
-      110
-      (List._∷_
-      115
-      (List._∷_
-      119
-      (List._∷_
-      101
-      (List._∷_
-      114
-      (List._∷_
-      58
-      (List._∷_
-      58
-      (List._∷_
-      68
-      (List._∷_
-      101
-      (List._∷_
-      115
-      (List._∷_
-      116
-      (List._∷_
-      105
-      (List._∷_
-      110
-      (List._∷_
-      97
-      (List._∷_ 116 (List._∷_ 105 (List._∷_ 111 (List._∷_ 110 List.[])))))))))))))))))))
-      (Syntax.tcons
-      (Syntax.tyEnum
-      (List._∷_
-      97
-      (List._∷_
-      110
-      (List._∷_
-      115
-      (List._∷_
-      119
-      (List._∷_
-      101
-      (List._∷_
-      114
-      (List._∷_ 58 (List._∷_ 58 (List._∷_ 87 (List._∷_ 97 (List._∷_ 121 List.[])))))))))))
-      (Syntax.ttcons
-      Syntax.tnil
-      (Syntax.ttcons
-      Syntax.tnil
-      (Syntax.ttcons Syntax.tnil (Syntax.ttcons Syntax.tnil Syntax.ttnil)))))
-      (Syntax.tcons (Syntax.tyArray (Syntax.tyInt Syntax.w8) 16) Syntax.tnil)))
-      Syntax.tnil)))
-      (Syntax.tcons
-      (Syntax.tyStruct
-      (List._∷_
-      102
-      (List._∷_
-      105
-      (List._∷_
-      110
-      (List._∷_
-      105
-      (List._∷_
-      115
-      (List._∷_
-      104
-      (List._∷_
-      58
-      (List._∷_ 58 (List._∷_ 83 (List._∷_ 101 (List._∷_ 110 (List._∷_ 116 List.[]))))))))))))
-      (Syntax.tcons
-      (Syntax.tyInt Syntax.w64)
-      (Syntax.tcons
-      (Syntax.tyStruct
-      (List._∷_
-      97
-      (List._∷_
-      110
-      (List._∷_
-      115
-      (List._∷_
-      119
-      (List._∷_
-      101
-      (List._∷_
-      114
-      (List._∷_
-      58
-      (List._∷_
-      58
-      (List._∷_
-      68
-      (List._∷_
-      101
-      (List._∷_
-      115
-      (List._∷_
-      116
-      (List._∷_
-      105
-      (List._∷_
-      110
-      (List._∷_
-      97
-      (List._∷_ 116 (List._∷_ 105 (List._∷_ 111 (List._∷_ 110 List.[])))))))))))))))))))
-      (Syntax.tcons
-      (Syntax.tyEnum
-      (List._∷_
-      97
-      (List._∷_
-      110
-      (List._∷_
-      115
-      (List._∷_
-      119
-      (List._∷_
-      101
-      (List._∷_
-      114
-      (List._∷_ 58 (List._∷_ 58 (List._∷_ 87 (List._∷_ 97 (List._∷_ 121 List.[])))))))))))
-      (Syntax.ttcons
-      Syntax.tnil
-      (Syntax.ttcons
-      Syntax.tnil
-      (Syntax.ttcons Syntax.tnil (Syntax.ttcons Syntax.tnil Syntax.ttnil)))))
-      (Syntax.tcons (Syntax.tyArray (Syntax.tyInt Syntax.w8) 16) Syntax.tnil)))
-      Syntax.tnil)))
-      (Syntax.tcons
-      (Syntax.tyInt Syntax.w64)
       (Syntax.tcons (Syntax.tyInt Syntax.w8) Syntax.tnil)))))),
 ) (List._∷_ (
   1,
@@ -3216,6 +3248,160 @@ t10 = List._∷_ (
       117
       (List._∷_ 116 (List._∷_ 99 (List._∷_ 111 (List._∷_ 109 (List._∷_ 101 List.[])))))))))))))))
       (Syntax.tcons
+      (Syntax.tyStruct
+      (List._∷_
+      102
+      (List._∷_
+      105
+      (List._∷_
+      110
+      (List._∷_
+      105
+      (List._∷_
+      115
+      (List._∷_
+      104
+      (List._∷_
+      58
+      (List._∷_ 58 (List._∷_ 83 (List._∷_ 101 (List._∷_ 110 (List._∷_ 116 List.[]))))))))))))
+      (Syntax.tcons
+      (Syntax.tyInt Syntax.w64)
+      (Syntax.tcons
+      (Syntax.tyStruct
+      (List._∷_
+      97
+      (List._∷_
+      110
+      (List._∷_
+      115
+      (List._∷_
+      119
+      (List._∷_
+      101
+      (List._∷_
+      114
+      (List._∷_
+      58
+      (List._∷_
+      58
+      (List._∷_
+      68
+      (List._∷_
+      101
+      (List._∷_
+      115
+      (List._∷_
+      116
+      (List._∷_
+      105
+      (List._∷_
+      110
+      (List._∷_
+      97
+      (List._∷_ 116 (List._∷_ 105 (List._∷_ 111 (List._∷_ 110 List.[])))))))))))))))))))
+      (Syntax.tcons
+      (Syntax.tyArray (Syntax.tyInt Syntax.w8) 16)
+      (Syntax.tcons
+      (Syntax.tyEnum
+      (List._∷_
+      97
+      (List._∷_
+      110
+      (List._∷_
+      115
+      (List._∷_
+      119
+      (List._∷_
+      101
+      (List._∷_
+      114
+      (List._∷_ 58 (List._∷_ 58 (List._∷_ 87 (List._∷_ 97 (List._∷_ 121 List.[])))))))))))
+      (Syntax.ttcons
+      Syntax.tnil
+      (Syntax.ttcons
+      Syntax.tnil
+      (Syntax.ttcons Syntax.tnil (Syntax.ttcons Syntax.tnil Syntax.ttnil)))))
+      Syntax.tnil)))
+      Syntax.tnil)))
+      (Syntax.tcons
+      (Syntax.tyStruct
+      (List._∷_
+      102
+      (List._∷_
+      105
+      (List._∷_
+      110
+      (List._∷_
+      105
+      (List._∷_
+      115
+      (List._∷_
+      104
+      (List._∷_
+      58
+      (List._∷_ 58 (List._∷_ 83 (List._∷_ 101 (List._∷_ 110 (List._∷_ 116 List.[]))))))))))))
+      (Syntax.tcons
+      (Syntax.tyInt Syntax.w64)
+      (Syntax.tcons
+      (Syntax.tyStruct
+      (List._∷_
+      97
+      (List._∷_
+      110
+      (List._∷_
+      115
+      (List._∷_
+      119
+      (List._∷_
+      101
+      (List._∷_
+      114
+      (List._∷_
+      58
+      (List._∷_
+      58
+      (List._∷_
+      68
+      (List._∷_
+      101
+      (List._∷_
+      115
+      (List._∷_
+      116
+      (List._∷_
+      105
+      (List._∷_
+      110
+      (List._∷_
+      97
+      (List._∷_ 116 (List._∷_ 105 (List._∷_ 111 (List._∷_ 110 List.[])))))))))))))))))))
+      (Syntax.tcons
+      (Syntax.tyArray (Syntax.tyInt Syntax.w8) 16)
+      (Syntax.tcons
+      (Syntax.tyEnum
+      (List._∷_
+      97
+      (List._∷_
+      110
+      (List._∷_
+      115
+      (List._∷_
+      119
+      (List._∷_
+      101
+      (List._∷_
+      114
+      (List._∷_ 58 (List._∷_ 58 (List._∷_ 87 (List._∷_ 97 (List._∷_ 121 List.[])))))))))))
+      (Syntax.ttcons
+      Syntax.tnil
+      (Syntax.ttcons
+      Syntax.tnil
+      (Syntax.ttcons Syntax.tnil (Syntax.ttcons Syntax.tnil Syntax.ttnil)))))
+      Syntax.tnil)))
+      Syntax.tnil)))
+      (Syntax.tcons
+      (Syntax.tyInt Syntax.w64)
+      (Syntax.tcons
       (Syntax.tyEnum
       (List._∷_
       97
@@ -3269,156 +3455,6 @@ t10 = List._∷_ (
       (Syntax.ttcons
       Syntax.tnil
       (Syntax.ttcons Syntax.tnil (Syntax.ttcons Syntax.tnil Syntax.ttnil)))))))))))))))))))
-      (Syntax.tcons
-      (Syntax.tyStruct
-      (List._∷_
-      102
-      (List._∷_
-      105
-      (List._∷_
-      110
-      (List._∷_
-      105
-      (List._∷_
-      115
-      (List._∷_
-      104
-      (List._∷_
-      58
-      (List._∷_ 58 (List._∷_ 83 (List._∷_ 101 (List._∷_ 110 (List._∷_ 116 List.[]))))))))))))
-      (Syntax.tcons
-      (Syntax.tyInt Syntax.w64)
-      (Syntax.tcons
-      (Syntax.tyStruct
-      (List._∷_
-      97
-      (List._∷_
-      110
-      (List._∷_
-      115
-      (List._∷_
-      119
-      (List._∷_
-      101
-      (List._∷_
-      114
-      (List._∷_
-      58
-      (List._∷_
-      58
-      (List._∷_
-      68
-      (List._∷_
-      101
-      (List._∷_
-      115
-      (List._∷_
-      116
-      (List._∷_
-      105
-      (List._∷_
-      110
-      (List._∷_
-      97
-      (List._∷_ 116 (List._∷_ 105 (List._∷_ 111 (List._∷_ 110 List.[])))))))))))))))))))
-      (Syntax.tcons
-      (Syntax.tyEnum
-      (List._∷_
-      97
-      (List._∷_
-      110
-      (List._∷_
-      115
-      (List._∷_
-      119
-      (List._∷_
-      101
-      (List._∷_
-      114
-      (List._∷_ 58 (List._∷_ 58 (List._∷_ 87 (List._∷_ 97 (List._∷_ 121 List.[])))))))))))
-      (Syntax.ttcons
-      Syntax.tnil
-      (Syntax.ttcons
-      Syntax.tnil
-      (Syntax.ttcons Syntax.tnil (Syntax.ttcons Syntax.tnil Syntax.ttnil)))))
-      (Syntax.tcons (Syntax.tyArray (Syntax.tyInt Syntax.w8) 16) Syntax.tnil)))
-      Syntax.tnil)))
-      (Syntax.tcons
-      (Syntax.tyStruct
-      (List._∷_
-      102
-      (List._∷_
-      105
-      (List._∷_
-      110
-      (List._∷_
-      105
-      (List._∷_
-      115
-      (List._∷_
-      104
-      (List._∷_
-      58
-      (List._∷_ 58 (List._∷_ 83 (List._∷_ 101 (List._∷_ 110 (List._∷_ 116 List.[]))))))))))))
-      (Syntax.tcons
-      (Syntax.tyInt Syntax.w64)
-      (Syntax.tcons
-      (Syntax.tyStruct
-      (List._∷_
-      97
-      (List._∷_
-      110
-      (List._∷_
-      115
-      (List._∷_
-      119
-      (List._∷_
-      101
-      (List._∷_
-      114
-      (List._∷_
-      58
-      (List._∷_
-      58
-      (List._∷_
-      68
-      (List._∷_
-      101
-      (List._∷_
-      115
-      (List._∷_
-      116
-      (List._∷_
-      105
-      (List._∷_
-      110
-      (List._∷_
-      97
-      (List._∷_ 116 (List._∷_ 105 (List._∷_ 111 (List._∷_ 110 List.[])))))))))))))))))))
-      (Syntax.tcons
-      (Syntax.tyEnum
-      (List._∷_
-      97
-      (List._∷_
-      110
-      (List._∷_
-      115
-      (List._∷_
-      119
-      (List._∷_
-      101
-      (List._∷_
-      114
-      (List._∷_ 58 (List._∷_ 58 (List._∷_ 87 (List._∷_ 97 (List._∷_ 121 List.[])))))))))))
-      (Syntax.ttcons
-      Syntax.tnil
-      (Syntax.ttcons
-      Syntax.tnil
-      (Syntax.ttcons Syntax.tnil (Syntax.ttcons Syntax.tnil Syntax.ttnil)))))
-      (Syntax.tcons (Syntax.tyArray (Syntax.tyInt Syntax.w8) 16) Syntax.tnil)))
-      Syntax.tnil)))
-      (Syntax.tcons
-      (Syntax.tyInt Syntax.w64)
       (Syntax.tcons (Syntax.tyInt Syntax.w8) Syntax.tnil)))))),
 ) (List._∷_ (
   1,
@@ -3509,6 +3545,160 @@ t11 = List._∷_ (
       117
       (List._∷_ 116 (List._∷_ 99 (List._∷_ 111 (List._∷_ 109 (List._∷_ 101 List.[])))))))))))))))
       (Syntax.tcons
+      (Syntax.tyStruct
+      (List._∷_
+      102
+      (List._∷_
+      105
+      (List._∷_
+      110
+      (List._∷_
+      105
+      (List._∷_
+      115
+      (List._∷_
+      104
+      (List._∷_
+      58
+      (List._∷_ 58 (List._∷_ 83 (List._∷_ 101 (List._∷_ 110 (List._∷_ 116 List.[]))))))))))))
+      (Syntax.tcons
+      (Syntax.tyInt Syntax.w64)
+      (Syntax.tcons
+      (Syntax.tyStruct
+      (List._∷_
+      97
+      (List._∷_
+      110
+      (List._∷_
+      115
+      (List._∷_
+      119
+      (List._∷_
+      101
+      (List._∷_
+      114
+      (List._∷_
+      58
+      (List._∷_
+      58
+      (List._∷_
+      68
+      (List._∷_
+      101
+      (List._∷_
+      115
+      (List._∷_
+      116
+      (List._∷_
+      105
+      (List._∷_
+      110
+      (List._∷_
+      97
+      (List._∷_ 116 (List._∷_ 105 (List._∷_ 111 (List._∷_ 110 List.[])))))))))))))))))))
+      (Syntax.tcons
+      (Syntax.tyArray (Syntax.tyInt Syntax.w8) 16)
+      (Syntax.tcons
+      (Syntax.tyEnum
+      (List._∷_
+      97
+      (List._∷_
+      110
+      (List._∷_
+      115
+      (List._∷_
+      119
+      (List._∷_
+      101
+      (List._∷_
+      114
+      (List._∷_ 58 (List._∷_ 58 (List._∷_ 87 (List._∷_ 97 (List._∷_ 121 List.[])))))))))))
+      (Syntax.ttcons
+      Syntax.tnil
+      (Syntax.ttcons
+      Syntax.tnil
+      (Syntax.ttcons Syntax.tnil (Syntax.ttcons Syntax.tnil Syntax.ttnil)))))
+      Syntax.tnil)))
+      Syntax.tnil)))
+      (Syntax.tcons
+      (Syntax.tyStruct
+      (List._∷_
+      102
+      (List._∷_
+      105
+      (List._∷_
+      110
+      (List._∷_
+      105
+      (List._∷_
+      115
+      (List._∷_
+      104
+      (List._∷_
+      58
+      (List._∷_ 58 (List._∷_ 83 (List._∷_ 101 (List._∷_ 110 (List._∷_ 116 List.[]))))))))))))
+      (Syntax.tcons
+      (Syntax.tyInt Syntax.w64)
+      (Syntax.tcons
+      (Syntax.tyStruct
+      (List._∷_
+      97
+      (List._∷_
+      110
+      (List._∷_
+      115
+      (List._∷_
+      119
+      (List._∷_
+      101
+      (List._∷_
+      114
+      (List._∷_
+      58
+      (List._∷_
+      58
+      (List._∷_
+      68
+      (List._∷_
+      101
+      (List._∷_
+      115
+      (List._∷_
+      116
+      (List._∷_
+      105
+      (List._∷_
+      110
+      (List._∷_
+      97
+      (List._∷_ 116 (List._∷_ 105 (List._∷_ 111 (List._∷_ 110 List.[])))))))))))))))))))
+      (Syntax.tcons
+      (Syntax.tyArray (Syntax.tyInt Syntax.w8) 16)
+      (Syntax.tcons
+      (Syntax.tyEnum
+      (List._∷_
+      97
+      (List._∷_
+      110
+      (List._∷_
+      115
+      (List._∷_
+      119
+      (List._∷_
+      101
+      (List._∷_
+      114
+      (List._∷_ 58 (List._∷_ 58 (List._∷_ 87 (List._∷_ 97 (List._∷_ 121 List.[])))))))))))
+      (Syntax.ttcons
+      Syntax.tnil
+      (Syntax.ttcons
+      Syntax.tnil
+      (Syntax.ttcons Syntax.tnil (Syntax.ttcons Syntax.tnil Syntax.ttnil)))))
+      Syntax.tnil)))
+      Syntax.tnil)))
+      (Syntax.tcons
+      (Syntax.tyInt Syntax.w64)
+      (Syntax.tcons
       (Syntax.tyEnum
       (List._∷_
       97
@@ -3562,156 +3752,6 @@ t11 = List._∷_ (
       (Syntax.ttcons
       Syntax.tnil
       (Syntax.ttcons Syntax.tnil (Syntax.ttcons Syntax.tnil Syntax.ttnil)))))))))))))))))))
-      (Syntax.tcons
-      (Syntax.tyStruct
-      (List._∷_
-      102
-      (List._∷_
-      105
-      (List._∷_
-      110
-      (List._∷_
-      105
-      (List._∷_
-      115
-      (List._∷_
-      104
-      (List._∷_
-      58
-      (List._∷_ 58 (List._∷_ 83 (List._∷_ 101 (List._∷_ 110 (List._∷_ 116 List.[]))))))))))))
-      (Syntax.tcons
-      (Syntax.tyInt Syntax.w64)
-      (Syntax.tcons
-      (Syntax.tyStruct
-      (List._∷_
-      97
-      (List._∷_
-      110
-      (List._∷_
-      115
-      (List._∷_
-      119
-      (List._∷_
-      101
-      (List._∷_
-      114
-      (List._∷_
-      58
-      (List._∷_
-      58
-      (List._∷_
-      68
-      (List._∷_
-      101
-      (List._∷_
-      115
-      (List._∷_
-      116
-      (List._∷_
-      105
-      (List._∷_
-      110
-      (List._∷_
-      97
-      (List._∷_ 116 (List._∷_ 105 (List._∷_ 111 (List._∷_ 110 List.[])))))))))))))))))))
-      (Syntax.tcons
-      (Syntax.tyEnum
-      (List._∷_
-      97
-      (List._∷_
-      110
-      (List._∷_
-      115
-      (List._∷_
-      119
-      (List._∷_
-      101
-      (List._∷_
-      114
-      (List._∷_ 58 (List._∷_ 58 (List._∷_ 87 (List._∷_ 97 (List._∷_ 121 List.[])))))))))))
-      (Syntax.ttcons
-      Syntax.tnil
-      (Syntax.ttcons
-      Syntax.tnil
-      (Syntax.ttcons Syntax.tnil (Syntax.ttcons Syntax.tnil Syntax.ttnil)))))
-      (Syntax.tcons (Syntax.tyArray (Syntax.tyInt Syntax.w8) 16) Syntax.tnil)))
-      Syntax.tnil)))
-      (Syntax.tcons
-      (Syntax.tyStruct
-      (List._∷_
-      102
-      (List._∷_
-      105
-      (List._∷_
-      110
-      (List._∷_
-      105
-      (List._∷_
-      115
-      (List._∷_
-      104
-      (List._∷_
-      58
-      (List._∷_ 58 (List._∷_ 83 (List._∷_ 101 (List._∷_ 110 (List._∷_ 116 List.[]))))))))))))
-      (Syntax.tcons
-      (Syntax.tyInt Syntax.w64)
-      (Syntax.tcons
-      (Syntax.tyStruct
-      (List._∷_
-      97
-      (List._∷_
-      110
-      (List._∷_
-      115
-      (List._∷_
-      119
-      (List._∷_
-      101
-      (List._∷_
-      114
-      (List._∷_
-      58
-      (List._∷_
-      58
-      (List._∷_
-      68
-      (List._∷_
-      101
-      (List._∷_
-      115
-      (List._∷_
-      116
-      (List._∷_
-      105
-      (List._∷_
-      110
-      (List._∷_
-      97
-      (List._∷_ 116 (List._∷_ 105 (List._∷_ 111 (List._∷_ 110 List.[])))))))))))))))))))
-      (Syntax.tcons
-      (Syntax.tyEnum
-      (List._∷_
-      97
-      (List._∷_
-      110
-      (List._∷_
-      115
-      (List._∷_
-      119
-      (List._∷_
-      101
-      (List._∷_
-      114
-      (List._∷_ 58 (List._∷_ 58 (List._∷_ 87 (List._∷_ 97 (List._∷_ 121 List.[])))))))))))
-      (Syntax.ttcons
-      Syntax.tnil
-      (Syntax.ttcons
-      Syntax.tnil
-      (Syntax.ttcons Syntax.tnil (Syntax.ttcons Syntax.tnil Syntax.ttnil)))))
-      (Syntax.tcons (Syntax.tyArray (Syntax.tyInt Syntax.w8) 16) Syntax.tnil)))
-      Syntax.tnil)))
-      (Syntax.tcons
-      (Syntax.tyInt Syntax.w64)
       (Syntax.tcons (Syntax.tyInt Syntax.w8) Syntax.tnil)))))),
 ) (List._∷_ (
   1,
@@ -3806,6 +3846,160 @@ t12 = List._∷_ (
       117
       (List._∷_ 116 (List._∷_ 99 (List._∷_ 111 (List._∷_ 109 (List._∷_ 101 List.[])))))))))))))))
       (Syntax.tcons
+      (Syntax.tyStruct
+      (List._∷_
+      102
+      (List._∷_
+      105
+      (List._∷_
+      110
+      (List._∷_
+      105
+      (List._∷_
+      115
+      (List._∷_
+      104
+      (List._∷_
+      58
+      (List._∷_ 58 (List._∷_ 83 (List._∷_ 101 (List._∷_ 110 (List._∷_ 116 List.[]))))))))))))
+      (Syntax.tcons
+      (Syntax.tyInt Syntax.w64)
+      (Syntax.tcons
+      (Syntax.tyStruct
+      (List._∷_
+      97
+      (List._∷_
+      110
+      (List._∷_
+      115
+      (List._∷_
+      119
+      (List._∷_
+      101
+      (List._∷_
+      114
+      (List._∷_
+      58
+      (List._∷_
+      58
+      (List._∷_
+      68
+      (List._∷_
+      101
+      (List._∷_
+      115
+      (List._∷_
+      116
+      (List._∷_
+      105
+      (List._∷_
+      110
+      (List._∷_
+      97
+      (List._∷_ 116 (List._∷_ 105 (List._∷_ 111 (List._∷_ 110 List.[])))))))))))))))))))
+      (Syntax.tcons
+      (Syntax.tyArray (Syntax.tyInt Syntax.w8) 16)
+      (Syntax.tcons
+      (Syntax.tyEnum
+      (List._∷_
+      97
+      (List._∷_
+      110
+      (List._∷_
+      115
+      (List._∷_
+      119
+      (List._∷_
+      101
+      (List._∷_
+      114
+      (List._∷_ 58 (List._∷_ 58 (List._∷_ 87 (List._∷_ 97 (List._∷_ 121 List.[])))))))))))
+      (Syntax.ttcons
+      Syntax.tnil
+      (Syntax.ttcons
+      Syntax.tnil
+      (Syntax.ttcons Syntax.tnil (Syntax.ttcons Syntax.tnil Syntax.ttnil)))))
+      Syntax.tnil)))
+      Syntax.tnil)))
+      (Syntax.tcons
+      (Syntax.tyStruct
+      (List._∷_
+      102
+      (List._∷_
+      105
+      (List._∷_
+      110
+      (List._∷_
+      105
+      (List._∷_
+      115
+      (List._∷_
+      104
+      (List._∷_
+      58
+      (List._∷_ 58 (List._∷_ 83 (List._∷_ 101 (List._∷_ 110 (List._∷_ 116 List.[]))))))))))))
+      (Syntax.tcons
+      (Syntax.tyInt Syntax.w64)
+      (Syntax.tcons
+      (Syntax.tyStruct
+      (List._∷_
+      97
+      (List._∷_
+      110
+      (List._∷_
+      115
+      (List._∷_
+      119
+      (List._∷_
+      101
+      (List._∷_
+      114
+      (List._∷_
+      58
+      (List._∷_
+      58
+      (List._∷_
+      68
+      (List._∷_
+      101
+      (List._∷_
+      115
+      (List._∷_
+      116
+      (List._∷_
+      105
+      (List._∷_
+      110
+      (List._∷_
+      97
+      (List._∷_ 116 (List._∷_ 105 (List._∷_ 111 (List._∷_ 110 List.[])))))))))))))))))))
+      (Syntax.tcons
+      (Syntax.tyArray (Syntax.tyInt Syntax.w8) 16)
+      (Syntax.tcons
+      (Syntax.tyEnum
+      (List._∷_
+      97
+      (List._∷_
+      110
+      (List._∷_
+      115
+      (List._∷_
+      119
+      (List._∷_
+      101
+      (List._∷_
+      114
+      (List._∷_ 58 (List._∷_ 58 (List._∷_ 87 (List._∷_ 97 (List._∷_ 121 List.[])))))))))))
+      (Syntax.ttcons
+      Syntax.tnil
+      (Syntax.ttcons
+      Syntax.tnil
+      (Syntax.ttcons Syntax.tnil (Syntax.ttcons Syntax.tnil Syntax.ttnil)))))
+      Syntax.tnil)))
+      Syntax.tnil)))
+      (Syntax.tcons
+      (Syntax.tyInt Syntax.w64)
+      (Syntax.tcons
       (Syntax.tyEnum
       (List._∷_
       97
@@ -3859,156 +4053,6 @@ t12 = List._∷_ (
       (Syntax.ttcons
       Syntax.tnil
       (Syntax.ttcons Syntax.tnil (Syntax.ttcons Syntax.tnil Syntax.ttnil)))))))))))))))))))
-      (Syntax.tcons
-      (Syntax.tyStruct
-      (List._∷_
-      102
-      (List._∷_
-      105
-      (List._∷_
-      110
-      (List._∷_
-      105
-      (List._∷_
-      115
-      (List._∷_
-      104
-      (List._∷_
-      58
-      (List._∷_ 58 (List._∷_ 83 (List._∷_ 101 (List._∷_ 110 (List._∷_ 116 List.[]))))))))))))
-      (Syntax.tcons
-      (Syntax.tyInt Syntax.w64)
-      (Syntax.tcons
-      (Syntax.tyStruct
-      (List._∷_
-      97
-      (List._∷_
-      110
-      (List._∷_
-      115
-      (List._∷_
-      119
-      (List._∷_
-      101
-      (List._∷_
-      114
-      (List._∷_
-      58
-      (List._∷_
-      58
-      (List._∷_
-      68
-      (List._∷_
-      101
-      (List._∷_
-      115
-      (List._∷_
-      116
-      (List._∷_
-      105
-      (List._∷_
-      110
-      (List._∷_
-      97
-      (List._∷_ 116 (List._∷_ 105 (List._∷_ 111 (List._∷_ 110 List.[])))))))))))))))))))
-      (Syntax.tcons
-      (Syntax.tyEnum
-      (List._∷_
-      97
-      (List._∷_
-      110
-      (List._∷_
-      115
-      (List._∷_
-      119
-      (List._∷_
-      101
-      (List._∷_
-      114
-      (List._∷_ 58 (List._∷_ 58 (List._∷_ 87 (List._∷_ 97 (List._∷_ 121 List.[])))))))))))
-      (Syntax.ttcons
-      Syntax.tnil
-      (Syntax.ttcons
-      Syntax.tnil
-      (Syntax.ttcons Syntax.tnil (Syntax.ttcons Syntax.tnil Syntax.ttnil)))))
-      (Syntax.tcons (Syntax.tyArray (Syntax.tyInt Syntax.w8) 16) Syntax.tnil)))
-      Syntax.tnil)))
-      (Syntax.tcons
-      (Syntax.tyStruct
-      (List._∷_
-      102
-      (List._∷_
-      105
-      (List._∷_
-      110
-      (List._∷_
-      105
-      (List._∷_
-      115
-      (List._∷_
-      104
-      (List._∷_
-      58
-      (List._∷_ 58 (List._∷_ 83 (List._∷_ 101 (List._∷_ 110 (List._∷_ 116 List.[]))))))))))))
-      (Syntax.tcons
-      (Syntax.tyInt Syntax.w64)
-      (Syntax.tcons
-      (Syntax.tyStruct
-      (List._∷_
-      97
-      (List._∷_
-      110
-      (List._∷_
-      115
-      (List._∷_
-      119
-      (List._∷_
-      101
-      (List._∷_
-      114
-      (List._∷_
-      58
-      (List._∷_
-      58
-      (List._∷_
-      68
-      (List._∷_
-      101
-      (List._∷_
-      115
-      (List._∷_
-      116
-      (List._∷_
-      105
-      (List._∷_
-      110
-      (List._∷_
-      97
-      (List._∷_ 116 (List._∷_ 105 (List._∷_ 111 (List._∷_ 110 List.[])))))))))))))))))))
-      (Syntax.tcons
-      (Syntax.tyEnum
-      (List._∷_
-      97
-      (List._∷_
-      110
-      (List._∷_
-      115
-      (List._∷_
-      119
-      (List._∷_
-      101
-      (List._∷_
-      114
-      (List._∷_ 58 (List._∷_ 58 (List._∷_ 87 (List._∷_ 97 (List._∷_ 121 List.[])))))))))))
-      (Syntax.ttcons
-      Syntax.tnil
-      (Syntax.ttcons
-      Syntax.tnil
-      (Syntax.ttcons Syntax.tnil (Syntax.ttcons Syntax.tnil Syntax.ttnil)))))
-      (Syntax.tcons (Syntax.tyArray (Syntax.tyInt Syntax.w8) 16) Syntax.tnil)))
-      Syntax.tnil)))
-      (Syntax.tcons
-      (Syntax.tyInt Syntax.w64)
       (Syntax.tcons (Syntax.tyInt Syntax.w8) Syntax.tnil)))))),
 ) (List._∷_ (
   1,
@@ -4099,6 +4143,160 @@ t13 = List._∷_ (
       117
       (List._∷_ 116 (List._∷_ 99 (List._∷_ 111 (List._∷_ 109 (List._∷_ 101 List.[])))))))))))))))
       (Syntax.tcons
+      (Syntax.tyStruct
+      (List._∷_
+      102
+      (List._∷_
+      105
+      (List._∷_
+      110
+      (List._∷_
+      105
+      (List._∷_
+      115
+      (List._∷_
+      104
+      (List._∷_
+      58
+      (List._∷_ 58 (List._∷_ 83 (List._∷_ 101 (List._∷_ 110 (List._∷_ 116 List.[]))))))))))))
+      (Syntax.tcons
+      (Syntax.tyInt Syntax.w64)
+      (Syntax.tcons
+      (Syntax.tyStruct
+      (List._∷_
+      97
+      (List._∷_
+      110
+      (List._∷_
+      115
+      (List._∷_
+      119
+      (List._∷_
+      101
+      (List._∷_
+      114
+      (List._∷_
+      58
+      (List._∷_
+      58
+      (List._∷_
+      68
+      (List._∷_
+      101
+      (List._∷_
+      115
+      (List._∷_
+      116
+      (List._∷_
+      105
+      (List._∷_
+      110
+      (List._∷_
+      97
+      (List._∷_ 116 (List._∷_ 105 (List._∷_ 111 (List._∷_ 110 List.[])))))))))))))))))))
+      (Syntax.tcons
+      (Syntax.tyArray (Syntax.tyInt Syntax.w8) 16)
+      (Syntax.tcons
+      (Syntax.tyEnum
+      (List._∷_
+      97
+      (List._∷_
+      110
+      (List._∷_
+      115
+      (List._∷_
+      119
+      (List._∷_
+      101
+      (List._∷_
+      114
+      (List._∷_ 58 (List._∷_ 58 (List._∷_ 87 (List._∷_ 97 (List._∷_ 121 List.[])))))))))))
+      (Syntax.ttcons
+      Syntax.tnil
+      (Syntax.ttcons
+      Syntax.tnil
+      (Syntax.ttcons Syntax.tnil (Syntax.ttcons Syntax.tnil Syntax.ttnil)))))
+      Syntax.tnil)))
+      Syntax.tnil)))
+      (Syntax.tcons
+      (Syntax.tyStruct
+      (List._∷_
+      102
+      (List._∷_
+      105
+      (List._∷_
+      110
+      (List._∷_
+      105
+      (List._∷_
+      115
+      (List._∷_
+      104
+      (List._∷_
+      58
+      (List._∷_ 58 (List._∷_ 83 (List._∷_ 101 (List._∷_ 110 (List._∷_ 116 List.[]))))))))))))
+      (Syntax.tcons
+      (Syntax.tyInt Syntax.w64)
+      (Syntax.tcons
+      (Syntax.tyStruct
+      (List._∷_
+      97
+      (List._∷_
+      110
+      (List._∷_
+      115
+      (List._∷_
+      119
+      (List._∷_
+      101
+      (List._∷_
+      114
+      (List._∷_
+      58
+      (List._∷_
+      58
+      (List._∷_
+      68
+      (List._∷_
+      101
+      (List._∷_
+      115
+      (List._∷_
+      116
+      (List._∷_
+      105
+      (List._∷_
+      110
+      (List._∷_
+      97
+      (List._∷_ 116 (List._∷_ 105 (List._∷_ 111 (List._∷_ 110 List.[])))))))))))))))))))
+      (Syntax.tcons
+      (Syntax.tyArray (Syntax.tyInt Syntax.w8) 16)
+      (Syntax.tcons
+      (Syntax.tyEnum
+      (List._∷_
+      97
+      (List._∷_
+      110
+      (List._∷_
+      115
+      (List._∷_
+      119
+      (List._∷_
+      101
+      (List._∷_
+      114
+      (List._∷_ 58 (List._∷_ 58 (List._∷_ 87 (List._∷_ 97 (List._∷_ 121 List.[])))))))))))
+      (Syntax.ttcons
+      Syntax.tnil
+      (Syntax.ttcons
+      Syntax.tnil
+      (Syntax.ttcons Syntax.tnil (Syntax.ttcons Syntax.tnil Syntax.ttnil)))))
+      Syntax.tnil)))
+      Syntax.tnil)))
+      (Syntax.tcons
+      (Syntax.tyInt Syntax.w64)
+      (Syntax.tcons
       (Syntax.tyEnum
       (List._∷_
       97
@@ -4152,156 +4350,6 @@ t13 = List._∷_ (
       (Syntax.ttcons
       Syntax.tnil
       (Syntax.ttcons Syntax.tnil (Syntax.ttcons Syntax.tnil Syntax.ttnil)))))))))))))))))))
-      (Syntax.tcons
-      (Syntax.tyStruct
-      (List._∷_
-      102
-      (List._∷_
-      105
-      (List._∷_
-      110
-      (List._∷_
-      105
-      (List._∷_
-      115
-      (List._∷_
-      104
-      (List._∷_
-      58
-      (List._∷_ 58 (List._∷_ 83 (List._∷_ 101 (List._∷_ 110 (List._∷_ 116 List.[]))))))))))))
-      (Syntax.tcons
-      (Syntax.tyInt Syntax.w64)
-      (Syntax.tcons
-      (Syntax.tyStruct
-      (List._∷_
-      97
-      (List._∷_
-      110
-      (List._∷_
-      115
-      (List._∷_
-      119
-      (List._∷_
-      101
-      (List._∷_
-      114
-      (List._∷_
-      58
-      (List._∷_
-      58
-      (List._∷_
-      68
-      (List._∷_
-      101
-      (List._∷_
-      115
-      (List._∷_
-      116
-      (List._∷_
-      105
-      (List._∷_
-      110
-      (List._∷_
-      97
-      (List._∷_ 116 (List._∷_ 105 (List._∷_ 111 (List._∷_ 110 List.[])))))))))))))))))))
-      (Syntax.tcons
-      (Syntax.tyEnum
-      (List._∷_
-      97
-      (List._∷_
-      110
-      (List._∷_
-      115
-      (List._∷_
-      119
-      (List._∷_
-      101
-      (List._∷_
-      114
-      (List._∷_ 58 (List._∷_ 58 (List._∷_ 87 (List._∷_ 97 (List._∷_ 121 List.[])))))))))))
-      (Syntax.ttcons
-      Syntax.tnil
-      (Syntax.ttcons
-      Syntax.tnil
-      (Syntax.ttcons Syntax.tnil (Syntax.ttcons Syntax.tnil Syntax.ttnil)))))
-      (Syntax.tcons (Syntax.tyArray (Syntax.tyInt Syntax.w8) 16) Syntax.tnil)))
-      Syntax.tnil)))
-      (Syntax.tcons
-      (Syntax.tyStruct
-      (List._∷_
-      102
-      (List._∷_
-      105
-      (List._∷_
-      110
-      (List._∷_
-      105
-      (List._∷_
-      115
-      (List._∷_
-      104
-      (List._∷_
-      58
-      (List._∷_ 58 (List._∷_ 83 (List._∷_ 101 (List._∷_ 110 (List._∷_ 116 List.[]))))))))))))
-      (Syntax.tcons
-      (Syntax.tyInt Syntax.w64)
-      (Syntax.tcons
-      (Syntax.tyStruct
-      (List._∷_
-      97
-      (List._∷_
-      110
-      (List._∷_
-      115
-      (List._∷_
-      119
-      (List._∷_
-      101
-      (List._∷_
-      114
-      (List._∷_
-      58
-      (List._∷_
-      58
-      (List._∷_
-      68
-      (List._∷_
-      101
-      (List._∷_
-      115
-      (List._∷_
-      116
-      (List._∷_
-      105
-      (List._∷_
-      110
-      (List._∷_
-      97
-      (List._∷_ 116 (List._∷_ 105 (List._∷_ 111 (List._∷_ 110 List.[])))))))))))))))))))
-      (Syntax.tcons
-      (Syntax.tyEnum
-      (List._∷_
-      97
-      (List._∷_
-      110
-      (List._∷_
-      115
-      (List._∷_
-      119
-      (List._∷_
-      101
-      (List._∷_
-      114
-      (List._∷_ 58 (List._∷_ 58 (List._∷_ 87 (List._∷_ 97 (List._∷_ 121 List.[])))))))))))
-      (Syntax.ttcons
-      Syntax.tnil
-      (Syntax.ttcons
-      Syntax.tnil
-      (Syntax.ttcons Syntax.tnil (Syntax.ttcons Syntax.tnil Syntax.ttnil)))))
-      (Syntax.tcons (Syntax.tyArray (Syntax.tyInt Syntax.w8) 16) Syntax.tnil)))
-      Syntax.tnil)))
-      (Syntax.tcons
-      (Syntax.tyInt Syntax.w64)
       (Syntax.tcons (Syntax.tyInt Syntax.w8) Syntax.tnil)))))),
 ) (List._∷_ (
   1,
@@ -4537,6 +4585,160 @@ t16 = List._∷_ (
       117
       (List._∷_ 116 (List._∷_ 99 (List._∷_ 111 (List._∷_ 109 (List._∷_ 101 List.[])))))))))))))))
       (Syntax.tcons
+      (Syntax.tyStruct
+      (List._∷_
+      102
+      (List._∷_
+      105
+      (List._∷_
+      110
+      (List._∷_
+      105
+      (List._∷_
+      115
+      (List._∷_
+      104
+      (List._∷_
+      58
+      (List._∷_ 58 (List._∷_ 83 (List._∷_ 101 (List._∷_ 110 (List._∷_ 116 List.[]))))))))))))
+      (Syntax.tcons
+      (Syntax.tyInt Syntax.w64)
+      (Syntax.tcons
+      (Syntax.tyStruct
+      (List._∷_
+      97
+      (List._∷_
+      110
+      (List._∷_
+      115
+      (List._∷_
+      119
+      (List._∷_
+      101
+      (List._∷_
+      114
+      (List._∷_
+      58
+      (List._∷_
+      58
+      (List._∷_
+      68
+      (List._∷_
+      101
+      (List._∷_
+      115
+      (List._∷_
+      116
+      (List._∷_
+      105
+      (List._∷_
+      110
+      (List._∷_
+      97
+      (List._∷_ 116 (List._∷_ 105 (List._∷_ 111 (List._∷_ 110 List.[])))))))))))))))))))
+      (Syntax.tcons
+      (Syntax.tyArray (Syntax.tyInt Syntax.w8) 16)
+      (Syntax.tcons
+      (Syntax.tyEnum
+      (List._∷_
+      97
+      (List._∷_
+      110
+      (List._∷_
+      115
+      (List._∷_
+      119
+      (List._∷_
+      101
+      (List._∷_
+      114
+      (List._∷_ 58 (List._∷_ 58 (List._∷_ 87 (List._∷_ 97 (List._∷_ 121 List.[])))))))))))
+      (Syntax.ttcons
+      Syntax.tnil
+      (Syntax.ttcons
+      Syntax.tnil
+      (Syntax.ttcons Syntax.tnil (Syntax.ttcons Syntax.tnil Syntax.ttnil)))))
+      Syntax.tnil)))
+      Syntax.tnil)))
+      (Syntax.tcons
+      (Syntax.tyStruct
+      (List._∷_
+      102
+      (List._∷_
+      105
+      (List._∷_
+      110
+      (List._∷_
+      105
+      (List._∷_
+      115
+      (List._∷_
+      104
+      (List._∷_
+      58
+      (List._∷_ 58 (List._∷_ 83 (List._∷_ 101 (List._∷_ 110 (List._∷_ 116 List.[]))))))))))))
+      (Syntax.tcons
+      (Syntax.tyInt Syntax.w64)
+      (Syntax.tcons
+      (Syntax.tyStruct
+      (List._∷_
+      97
+      (List._∷_
+      110
+      (List._∷_
+      115
+      (List._∷_
+      119
+      (List._∷_
+      101
+      (List._∷_
+      114
+      (List._∷_
+      58
+      (List._∷_
+      58
+      (List._∷_
+      68
+      (List._∷_
+      101
+      (List._∷_
+      115
+      (List._∷_
+      116
+      (List._∷_
+      105
+      (List._∷_
+      110
+      (List._∷_
+      97
+      (List._∷_ 116 (List._∷_ 105 (List._∷_ 111 (List._∷_ 110 List.[])))))))))))))))))))
+      (Syntax.tcons
+      (Syntax.tyArray (Syntax.tyInt Syntax.w8) 16)
+      (Syntax.tcons
+      (Syntax.tyEnum
+      (List._∷_
+      97
+      (List._∷_
+      110
+      (List._∷_
+      115
+      (List._∷_
+      119
+      (List._∷_
+      101
+      (List._∷_
+      114
+      (List._∷_ 58 (List._∷_ 58 (List._∷_ 87 (List._∷_ 97 (List._∷_ 121 List.[])))))))))))
+      (Syntax.ttcons
+      Syntax.tnil
+      (Syntax.ttcons
+      Syntax.tnil
+      (Syntax.ttcons Syntax.tnil (Syntax.ttcons Syntax.tnil Syntax.ttnil)))))
+      Syntax.tnil)))
+      Syntax.tnil)))
+      (Syntax.tcons
+      (Syntax.tyInt Syntax.w64)
+      (Syntax.tcons
       (Syntax.tyEnum
       (List._∷_
       97
@@ -4590,156 +4792,6 @@ t16 = List._∷_ (
       (Syntax.ttcons
       Syntax.tnil
       (Syntax.ttcons Syntax.tnil (Syntax.ttcons Syntax.tnil Syntax.ttnil)))))))))))))))))))
-      (Syntax.tcons
-      (Syntax.tyStruct
-      (List._∷_
-      102
-      (List._∷_
-      105
-      (List._∷_
-      110
-      (List._∷_
-      105
-      (List._∷_
-      115
-      (List._∷_
-      104
-      (List._∷_
-      58
-      (List._∷_ 58 (List._∷_ 83 (List._∷_ 101 (List._∷_ 110 (List._∷_ 116 List.[]))))))))))))
-      (Syntax.tcons
-      (Syntax.tyInt Syntax.w64)
-      (Syntax.tcons
-      (Syntax.tyStruct
-      (List._∷_
-      97
-      (List._∷_
-      110
-      (List._∷_
-      115
-      (List._∷_
-      119
-      (List._∷_
-      101
-      (List._∷_
-      114
-      (List._∷_
-      58
-      (List._∷_
-      58
-      (List._∷_
-      68
-      (List._∷_
-      101
-      (List._∷_
-      115
-      (List._∷_
-      116
-      (List._∷_
-      105
-      (List._∷_
-      110
-      (List._∷_
-      97
-      (List._∷_ 116 (List._∷_ 105 (List._∷_ 111 (List._∷_ 110 List.[])))))))))))))))))))
-      (Syntax.tcons
-      (Syntax.tyEnum
-      (List._∷_
-      97
-      (List._∷_
-      110
-      (List._∷_
-      115
-      (List._∷_
-      119
-      (List._∷_
-      101
-      (List._∷_
-      114
-      (List._∷_ 58 (List._∷_ 58 (List._∷_ 87 (List._∷_ 97 (List._∷_ 121 List.[])))))))))))
-      (Syntax.ttcons
-      Syntax.tnil
-      (Syntax.ttcons
-      Syntax.tnil
-      (Syntax.ttcons Syntax.tnil (Syntax.ttcons Syntax.tnil Syntax.ttnil)))))
-      (Syntax.tcons (Syntax.tyArray (Syntax.tyInt Syntax.w8) 16) Syntax.tnil)))
-      Syntax.tnil)))
-      (Syntax.tcons
-      (Syntax.tyStruct
-      (List._∷_
-      102
-      (List._∷_
-      105
-      (List._∷_
-      110
-      (List._∷_
-      105
-      (List._∷_
-      115
-      (List._∷_
-      104
-      (List._∷_
-      58
-      (List._∷_ 58 (List._∷_ 83 (List._∷_ 101 (List._∷_ 110 (List._∷_ 116 List.[]))))))))))))
-      (Syntax.tcons
-      (Syntax.tyInt Syntax.w64)
-      (Syntax.tcons
-      (Syntax.tyStruct
-      (List._∷_
-      97
-      (List._∷_
-      110
-      (List._∷_
-      115
-      (List._∷_
-      119
-      (List._∷_
-      101
-      (List._∷_
-      114
-      (List._∷_
-      58
-      (List._∷_
-      58
-      (List._∷_
-      68
-      (List._∷_
-      101
-      (List._∷_
-      115
-      (List._∷_
-      116
-      (List._∷_
-      105
-      (List._∷_
-      110
-      (List._∷_
-      97
-      (List._∷_ 116 (List._∷_ 105 (List._∷_ 111 (List._∷_ 110 List.[])))))))))))))))))))
-      (Syntax.tcons
-      (Syntax.tyEnum
-      (List._∷_
-      97
-      (List._∷_
-      110
-      (List._∷_
-      115
-      (List._∷_
-      119
-      (List._∷_
-      101
-      (List._∷_
-      114
-      (List._∷_ 58 (List._∷_ 58 (List._∷_ 87 (List._∷_ 97 (List._∷_ 121 List.[])))))))))))
-      (Syntax.ttcons
-      Syntax.tnil
-      (Syntax.ttcons
-      Syntax.tnil
-      (Syntax.ttcons Syntax.tnil (Syntax.ttcons Syntax.tnil Syntax.ttnil)))))
-      (Syntax.tcons (Syntax.tyArray (Syntax.tyInt Syntax.w8) 16) Syntax.tnil)))
-      Syntax.tnil)))
-      (Syntax.tcons
-      (Syntax.tyInt Syntax.w64)
       (Syntax.tcons (Syntax.tyInt Syntax.w8) Syntax.tnil)))))),
 ) (List._∷_ (
   1,
@@ -5973,6 +6025,160 @@ t29 = List._∷_ (
       117
       (List._∷_ 116 (List._∷_ 99 (List._∷_ 111 (List._∷_ 109 (List._∷_ 101 List.[])))))))))))))))
       (Syntax.tcons
+      (Syntax.tyStruct
+      (List._∷_
+      102
+      (List._∷_
+      105
+      (List._∷_
+      110
+      (List._∷_
+      105
+      (List._∷_
+      115
+      (List._∷_
+      104
+      (List._∷_
+      58
+      (List._∷_ 58 (List._∷_ 83 (List._∷_ 101 (List._∷_ 110 (List._∷_ 116 List.[]))))))))))))
+      (Syntax.tcons
+      (Syntax.tyInt Syntax.w64)
+      (Syntax.tcons
+      (Syntax.tyStruct
+      (List._∷_
+      97
+      (List._∷_
+      110
+      (List._∷_
+      115
+      (List._∷_
+      119
+      (List._∷_
+      101
+      (List._∷_
+      114
+      (List._∷_
+      58
+      (List._∷_
+      58
+      (List._∷_
+      68
+      (List._∷_
+      101
+      (List._∷_
+      115
+      (List._∷_
+      116
+      (List._∷_
+      105
+      (List._∷_
+      110
+      (List._∷_
+      97
+      (List._∷_ 116 (List._∷_ 105 (List._∷_ 111 (List._∷_ 110 List.[])))))))))))))))))))
+      (Syntax.tcons
+      (Syntax.tyArray (Syntax.tyInt Syntax.w8) 16)
+      (Syntax.tcons
+      (Syntax.tyEnum
+      (List._∷_
+      97
+      (List._∷_
+      110
+      (List._∷_
+      115
+      (List._∷_
+      119
+      (List._∷_
+      101
+      (List._∷_
+      114
+      (List._∷_ 58 (List._∷_ 58 (List._∷_ 87 (List._∷_ 97 (List._∷_ 121 List.[])))))))))))
+      (Syntax.ttcons
+      Syntax.tnil
+      (Syntax.ttcons
+      Syntax.tnil
+      (Syntax.ttcons Syntax.tnil (Syntax.ttcons Syntax.tnil Syntax.ttnil)))))
+      Syntax.tnil)))
+      Syntax.tnil)))
+      (Syntax.tcons
+      (Syntax.tyStruct
+      (List._∷_
+      102
+      (List._∷_
+      105
+      (List._∷_
+      110
+      (List._∷_
+      105
+      (List._∷_
+      115
+      (List._∷_
+      104
+      (List._∷_
+      58
+      (List._∷_ 58 (List._∷_ 83 (List._∷_ 101 (List._∷_ 110 (List._∷_ 116 List.[]))))))))))))
+      (Syntax.tcons
+      (Syntax.tyInt Syntax.w64)
+      (Syntax.tcons
+      (Syntax.tyStruct
+      (List._∷_
+      97
+      (List._∷_
+      110
+      (List._∷_
+      115
+      (List._∷_
+      119
+      (List._∷_
+      101
+      (List._∷_
+      114
+      (List._∷_
+      58
+      (List._∷_
+      58
+      (List._∷_
+      68
+      (List._∷_
+      101
+      (List._∷_
+      115
+      (List._∷_
+      116
+      (List._∷_
+      105
+      (List._∷_
+      110
+      (List._∷_
+      97
+      (List._∷_ 116 (List._∷_ 105 (List._∷_ 111 (List._∷_ 110 List.[])))))))))))))))))))
+      (Syntax.tcons
+      (Syntax.tyArray (Syntax.tyInt Syntax.w8) 16)
+      (Syntax.tcons
+      (Syntax.tyEnum
+      (List._∷_
+      97
+      (List._∷_
+      110
+      (List._∷_
+      115
+      (List._∷_
+      119
+      (List._∷_
+      101
+      (List._∷_
+      114
+      (List._∷_ 58 (List._∷_ 58 (List._∷_ 87 (List._∷_ 97 (List._∷_ 121 List.[])))))))))))
+      (Syntax.ttcons
+      Syntax.tnil
+      (Syntax.ttcons
+      Syntax.tnil
+      (Syntax.ttcons Syntax.tnil (Syntax.ttcons Syntax.tnil Syntax.ttnil)))))
+      Syntax.tnil)))
+      Syntax.tnil)))
+      (Syntax.tcons
+      (Syntax.tyInt Syntax.w64)
+      (Syntax.tcons
       (Syntax.tyEnum
       (List._∷_
       97
@@ -6026,156 +6232,6 @@ t29 = List._∷_ (
       (Syntax.ttcons
       Syntax.tnil
       (Syntax.ttcons Syntax.tnil (Syntax.ttcons Syntax.tnil Syntax.ttnil)))))))))))))))))))
-      (Syntax.tcons
-      (Syntax.tyStruct
-      (List._∷_
-      102
-      (List._∷_
-      105
-      (List._∷_
-      110
-      (List._∷_
-      105
-      (List._∷_
-      115
-      (List._∷_
-      104
-      (List._∷_
-      58
-      (List._∷_ 58 (List._∷_ 83 (List._∷_ 101 (List._∷_ 110 (List._∷_ 116 List.[]))))))))))))
-      (Syntax.tcons
-      (Syntax.tyInt Syntax.w64)
-      (Syntax.tcons
-      (Syntax.tyStruct
-      (List._∷_
-      97
-      (List._∷_
-      110
-      (List._∷_
-      115
-      (List._∷_
-      119
-      (List._∷_
-      101
-      (List._∷_
-      114
-      (List._∷_
-      58
-      (List._∷_
-      58
-      (List._∷_
-      68
-      (List._∷_
-      101
-      (List._∷_
-      115
-      (List._∷_
-      116
-      (List._∷_
-      105
-      (List._∷_
-      110
-      (List._∷_
-      97
-      (List._∷_ 116 (List._∷_ 105 (List._∷_ 111 (List._∷_ 110 List.[])))))))))))))))))))
-      (Syntax.tcons
-      (Syntax.tyEnum
-      (List._∷_
-      97
-      (List._∷_
-      110
-      (List._∷_
-      115
-      (List._∷_
-      119
-      (List._∷_
-      101
-      (List._∷_
-      114
-      (List._∷_ 58 (List._∷_ 58 (List._∷_ 87 (List._∷_ 97 (List._∷_ 121 List.[])))))))))))
-      (Syntax.ttcons
-      Syntax.tnil
-      (Syntax.ttcons
-      Syntax.tnil
-      (Syntax.ttcons Syntax.tnil (Syntax.ttcons Syntax.tnil Syntax.ttnil)))))
-      (Syntax.tcons (Syntax.tyArray (Syntax.tyInt Syntax.w8) 16) Syntax.tnil)))
-      Syntax.tnil)))
-      (Syntax.tcons
-      (Syntax.tyStruct
-      (List._∷_
-      102
-      (List._∷_
-      105
-      (List._∷_
-      110
-      (List._∷_
-      105
-      (List._∷_
-      115
-      (List._∷_
-      104
-      (List._∷_
-      58
-      (List._∷_ 58 (List._∷_ 83 (List._∷_ 101 (List._∷_ 110 (List._∷_ 116 List.[]))))))))))))
-      (Syntax.tcons
-      (Syntax.tyInt Syntax.w64)
-      (Syntax.tcons
-      (Syntax.tyStruct
-      (List._∷_
-      97
-      (List._∷_
-      110
-      (List._∷_
-      115
-      (List._∷_
-      119
-      (List._∷_
-      101
-      (List._∷_
-      114
-      (List._∷_
-      58
-      (List._∷_
-      58
-      (List._∷_
-      68
-      (List._∷_
-      101
-      (List._∷_
-      115
-      (List._∷_
-      116
-      (List._∷_
-      105
-      (List._∷_
-      110
-      (List._∷_
-      97
-      (List._∷_ 116 (List._∷_ 105 (List._∷_ 111 (List._∷_ 110 List.[])))))))))))))))))))
-      (Syntax.tcons
-      (Syntax.tyEnum
-      (List._∷_
-      97
-      (List._∷_
-      110
-      (List._∷_
-      115
-      (List._∷_
-      119
-      (List._∷_
-      101
-      (List._∷_
-      114
-      (List._∷_ 58 (List._∷_ 58 (List._∷_ 87 (List._∷_ 97 (List._∷_ 121 List.[])))))))))))
-      (Syntax.ttcons
-      Syntax.tnil
-      (Syntax.ttcons
-      Syntax.tnil
-      (Syntax.ttcons Syntax.tnil (Syntax.ttcons Syntax.tnil Syntax.ttnil)))))
-      (Syntax.tcons (Syntax.tyArray (Syntax.tyInt Syntax.w8) 16) Syntax.tnil)))
-      Syntax.tnil)))
-      (Syntax.tcons
-      (Syntax.tyInt Syntax.w64)
       (Syntax.tcons (Syntax.tyInt Syntax.w8) Syntax.tnil)))))),
 ) (List._∷_ (
   1,
@@ -6410,6 +6466,160 @@ t32 = List._∷_ (
       117
       (List._∷_ 116 (List._∷_ 99 (List._∷_ 111 (List._∷_ 109 (List._∷_ 101 List.[])))))))))))))))
       (Syntax.tcons
+      (Syntax.tyStruct
+      (List._∷_
+      102
+      (List._∷_
+      105
+      (List._∷_
+      110
+      (List._∷_
+      105
+      (List._∷_
+      115
+      (List._∷_
+      104
+      (List._∷_
+      58
+      (List._∷_ 58 (List._∷_ 83 (List._∷_ 101 (List._∷_ 110 (List._∷_ 116 List.[]))))))))))))
+      (Syntax.tcons
+      (Syntax.tyInt Syntax.w64)
+      (Syntax.tcons
+      (Syntax.tyStruct
+      (List._∷_
+      97
+      (List._∷_
+      110
+      (List._∷_
+      115
+      (List._∷_
+      119
+      (List._∷_
+      101
+      (List._∷_
+      114
+      (List._∷_
+      58
+      (List._∷_
+      58
+      (List._∷_
+      68
+      (List._∷_
+      101
+      (List._∷_
+      115
+      (List._∷_
+      116
+      (List._∷_
+      105
+      (List._∷_
+      110
+      (List._∷_
+      97
+      (List._∷_ 116 (List._∷_ 105 (List._∷_ 111 (List._∷_ 110 List.[])))))))))))))))))))
+      (Syntax.tcons
+      (Syntax.tyArray (Syntax.tyInt Syntax.w8) 16)
+      (Syntax.tcons
+      (Syntax.tyEnum
+      (List._∷_
+      97
+      (List._∷_
+      110
+      (List._∷_
+      115
+      (List._∷_
+      119
+      (List._∷_
+      101
+      (List._∷_
+      114
+      (List._∷_ 58 (List._∷_ 58 (List._∷_ 87 (List._∷_ 97 (List._∷_ 121 List.[])))))))))))
+      (Syntax.ttcons
+      Syntax.tnil
+      (Syntax.ttcons
+      Syntax.tnil
+      (Syntax.ttcons Syntax.tnil (Syntax.ttcons Syntax.tnil Syntax.ttnil)))))
+      Syntax.tnil)))
+      Syntax.tnil)))
+      (Syntax.tcons
+      (Syntax.tyStruct
+      (List._∷_
+      102
+      (List._∷_
+      105
+      (List._∷_
+      110
+      (List._∷_
+      105
+      (List._∷_
+      115
+      (List._∷_
+      104
+      (List._∷_
+      58
+      (List._∷_ 58 (List._∷_ 83 (List._∷_ 101 (List._∷_ 110 (List._∷_ 116 List.[]))))))))))))
+      (Syntax.tcons
+      (Syntax.tyInt Syntax.w64)
+      (Syntax.tcons
+      (Syntax.tyStruct
+      (List._∷_
+      97
+      (List._∷_
+      110
+      (List._∷_
+      115
+      (List._∷_
+      119
+      (List._∷_
+      101
+      (List._∷_
+      114
+      (List._∷_
+      58
+      (List._∷_
+      58
+      (List._∷_
+      68
+      (List._∷_
+      101
+      (List._∷_
+      115
+      (List._∷_
+      116
+      (List._∷_
+      105
+      (List._∷_
+      110
+      (List._∷_
+      97
+      (List._∷_ 116 (List._∷_ 105 (List._∷_ 111 (List._∷_ 110 List.[])))))))))))))))))))
+      (Syntax.tcons
+      (Syntax.tyArray (Syntax.tyInt Syntax.w8) 16)
+      (Syntax.tcons
+      (Syntax.tyEnum
+      (List._∷_
+      97
+      (List._∷_
+      110
+      (List._∷_
+      115
+      (List._∷_
+      119
+      (List._∷_
+      101
+      (List._∷_
+      114
+      (List._∷_ 58 (List._∷_ 58 (List._∷_ 87 (List._∷_ 97 (List._∷_ 121 List.[])))))))))))
+      (Syntax.ttcons
+      Syntax.tnil
+      (Syntax.ttcons
+      Syntax.tnil
+      (Syntax.ttcons Syntax.tnil (Syntax.ttcons Syntax.tnil Syntax.ttnil)))))
+      Syntax.tnil)))
+      Syntax.tnil)))
+      (Syntax.tcons
+      (Syntax.tyInt Syntax.w64)
+      (Syntax.tcons
       (Syntax.tyEnum
       (List._∷_
       97
@@ -6463,156 +6673,6 @@ t32 = List._∷_ (
       (Syntax.ttcons
       Syntax.tnil
       (Syntax.ttcons Syntax.tnil (Syntax.ttcons Syntax.tnil Syntax.ttnil)))))))))))))))))))
-      (Syntax.tcons
-      (Syntax.tyStruct
-      (List._∷_
-      102
-      (List._∷_
-      105
-      (List._∷_
-      110
-      (List._∷_
-      105
-      (List._∷_
-      115
-      (List._∷_
-      104
-      (List._∷_
-      58
-      (List._∷_ 58 (List._∷_ 83 (List._∷_ 101 (List._∷_ 110 (List._∷_ 116 List.[]))))))))))))
-      (Syntax.tcons
-      (Syntax.tyInt Syntax.w64)
-      (Syntax.tcons
-      (Syntax.tyStruct
-      (List._∷_
-      97
-      (List._∷_
-      110
-      (List._∷_
-      115
-      (List._∷_
-      119
-      (List._∷_
-      101
-      (List._∷_
-      114
-      (List._∷_
-      58
-      (List._∷_
-      58
-      (List._∷_
-      68
-      (List._∷_
-      101
-      (List._∷_
-      115
-      (List._∷_
-      116
-      (List._∷_
-      105
-      (List._∷_
-      110
-      (List._∷_
-      97
-      (List._∷_ 116 (List._∷_ 105 (List._∷_ 111 (List._∷_ 110 List.[])))))))))))))))))))
-      (Syntax.tcons
-      (Syntax.tyEnum
-      (List._∷_
-      97
-      (List._∷_
-      110
-      (List._∷_
-      115
-      (List._∷_
-      119
-      (List._∷_
-      101
-      (List._∷_
-      114
-      (List._∷_ 58 (List._∷_ 58 (List._∷_ 87 (List._∷_ 97 (List._∷_ 121 List.[])))))))))))
-      (Syntax.ttcons
-      Syntax.tnil
-      (Syntax.ttcons
-      Syntax.tnil
-      (Syntax.ttcons Syntax.tnil (Syntax.ttcons Syntax.tnil Syntax.ttnil)))))
-      (Syntax.tcons (Syntax.tyArray (Syntax.tyInt Syntax.w8) 16) Syntax.tnil)))
-      Syntax.tnil)))
-      (Syntax.tcons
-      (Syntax.tyStruct
-      (List._∷_
-      102
-      (List._∷_
-      105
-      (List._∷_
-      110
-      (List._∷_
-      105
-      (List._∷_
-      115
-      (List._∷_
-      104
-      (List._∷_
-      58
-      (List._∷_ 58 (List._∷_ 83 (List._∷_ 101 (List._∷_ 110 (List._∷_ 116 List.[]))))))))))))
-      (Syntax.tcons
-      (Syntax.tyInt Syntax.w64)
-      (Syntax.tcons
-      (Syntax.tyStruct
-      (List._∷_
-      97
-      (List._∷_
-      110
-      (List._∷_
-      115
-      (List._∷_
-      119
-      (List._∷_
-      101
-      (List._∷_
-      114
-      (List._∷_
-      58
-      (List._∷_
-      58
-      (List._∷_
-      68
-      (List._∷_
-      101
-      (List._∷_
-      115
-      (List._∷_
-      116
-      (List._∷_
-      105
-      (List._∷_
-      110
-      (List._∷_
-      97
-      (List._∷_ 116 (List._∷_ 105 (List._∷_ 111 (List._∷_ 110 List.[])))))))))))))))))))
-      (Syntax.tcons
-      (Syntax.tyEnum
-      (List._∷_
-      97
-      (List._∷_
-      110
-      (List._∷_
-      115
-      (List._∷_
-      119
-      (List._∷_
-      101
-      (List._∷_
-      114
-      (List._∷_ 58 (List._∷_ 58 (List._∷_ 87 (List._∷_ 97 (List._∷_ 121 List.[])))))))))))
-      (Syntax.ttcons
-      Syntax.tnil
-      (Syntax.ttcons
-      Syntax.tnil
-      (Syntax.ttcons Syntax.tnil (Syntax.ttcons Syntax.tnil Syntax.ttnil)))))
-      (Syntax.tcons (Syntax.tyArray (Syntax.tyInt Syntax.w8) 16) Syntax.tnil)))
-      Syntax.tnil)))
-      (Syntax.tcons
-      (Syntax.tyInt Syntax.w64)
       (Syntax.tcons (Syntax.tyInt Syntax.w8) Syntax.tnil)))))),
 ) (List._∷_ (
   1,
@@ -6845,6 +6905,160 @@ t35 = List._∷_ (
       117
       (List._∷_ 116 (List._∷_ 99 (List._∷_ 111 (List._∷_ 109 (List._∷_ 101 List.[])))))))))))))))
       (Syntax.tcons
+      (Syntax.tyStruct
+      (List._∷_
+      102
+      (List._∷_
+      105
+      (List._∷_
+      110
+      (List._∷_
+      105
+      (List._∷_
+      115
+      (List._∷_
+      104
+      (List._∷_
+      58
+      (List._∷_ 58 (List._∷_ 83 (List._∷_ 101 (List._∷_ 110 (List._∷_ 116 List.[]))))))))))))
+      (Syntax.tcons
+      (Syntax.tyInt Syntax.w64)
+      (Syntax.tcons
+      (Syntax.tyStruct
+      (List._∷_
+      97
+      (List._∷_
+      110
+      (List._∷_
+      115
+      (List._∷_
+      119
+      (List._∷_
+      101
+      (List._∷_
+      114
+      (List._∷_
+      58
+      (List._∷_
+      58
+      (List._∷_
+      68
+      (List._∷_
+      101
+      (List._∷_
+      115
+      (List._∷_
+      116
+      (List._∷_
+      105
+      (List._∷_
+      110
+      (List._∷_
+      97
+      (List._∷_ 116 (List._∷_ 105 (List._∷_ 111 (List._∷_ 110 List.[])))))))))))))))))))
+      (Syntax.tcons
+      (Syntax.tyArray (Syntax.tyInt Syntax.w8) 16)
+      (Syntax.tcons
+      (Syntax.tyEnum
+      (List._∷_
+      97
+      (List._∷_
+      110
+      (List._∷_
+      115
+      (List._∷_
+      119
+      (List._∷_
+      101
+      (List._∷_
+      114
+      (List._∷_ 58 (List._∷_ 58 (List._∷_ 87 (List._∷_ 97 (List._∷_ 121 List.[])))))))))))
+      (Syntax.ttcons
+      Syntax.tnil
+      (Syntax.ttcons
+      Syntax.tnil
+      (Syntax.ttcons Syntax.tnil (Syntax.ttcons Syntax.tnil Syntax.ttnil)))))
+      Syntax.tnil)))
+      Syntax.tnil)))
+      (Syntax.tcons
+      (Syntax.tyStruct
+      (List._∷_
+      102
+      (List._∷_
+      105
+      (List._∷_
+      110
+      (List._∷_
+      105
+      (List._∷_
+      115
+      (List._∷_
+      104
+      (List._∷_
+      58
+      (List._∷_ 58 (List._∷_ 83 (List._∷_ 101 (List._∷_ 110 (List._∷_ 116 List.[]))))))))))))
+      (Syntax.tcons
+      (Syntax.tyInt Syntax.w64)
+      (Syntax.tcons
+      (Syntax.tyStruct
+      (List._∷_
+      97
+      (List._∷_
+      110
+      (List._∷_
+      115
+      (List._∷_
+      119
+      (List._∷_
+      101
+      (List._∷_
+      114
+      (List._∷_
+      58
+      (List._∷_
+      58
+      (List._∷_
+      68
+      (List._∷_
+      101
+      (List._∷_
+      115
+      (List._∷_
+      116
+      (List._∷_
+      105
+      (List._∷_
+      110
+      (List._∷_
+      97
+      (List._∷_ 116 (List._∷_ 105 (List._∷_ 111 (List._∷_ 110 List.[])))))))))))))))))))
+      (Syntax.tcons
+      (Syntax.tyArray (Syntax.tyInt Syntax.w8) 16)
+      (Syntax.tcons
+      (Syntax.tyEnum
+      (List._∷_
+      97
+      (List._∷_
+      110
+      (List._∷_
+      115
+      (List._∷_
+      119
+      (List._∷_
+      101
+      (List._∷_
+      114
+      (List._∷_ 58 (List._∷_ 58 (List._∷_ 87 (List._∷_ 97 (List._∷_ 121 List.[])))))))))))
+      (Syntax.ttcons
+      Syntax.tnil
+      (Syntax.ttcons
+      Syntax.tnil
+      (Syntax.ttcons Syntax.tnil (Syntax.ttcons Syntax.tnil Syntax.ttnil)))))
+      Syntax.tnil)))
+      Syntax.tnil)))
+      (Syntax.tcons
+      (Syntax.tyInt Syntax.w64)
+      (Syntax.tcons
       (Syntax.tyEnum
       (List._∷_
       97
@@ -6898,156 +7112,6 @@ t35 = List._∷_ (
       (Syntax.ttcons
       Syntax.tnil
       (Syntax.ttcons Syntax.tnil (Syntax.ttcons Syntax.tnil Syntax.ttnil)))))))))))))))))))
-      (Syntax.tcons
-      (Syntax.tyStruct
-      (List._∷_
-      102
-      (List._∷_
-      105
-      (List._∷_
-      110
-      (List._∷_
-      105
-      (List._∷_
-      115
-      (List._∷_
-      104
-      (List._∷_
-      58
-      (List._∷_ 58 (List._∷_ 83 (List._∷_ 101 (List._∷_ 110 (List._∷_ 116 List.[]))))))))))))
-      (Syntax.tcons
-      (Syntax.tyInt Syntax.w64)
-      (Syntax.tcons
-      (Syntax.tyStruct
-      (List._∷_
-      97
-      (List._∷_
-      110
-      (List._∷_
-      115
-      (List._∷_
-      119
-      (List._∷_
-      101
-      (List._∷_
-      114
-      (List._∷_
-      58
-      (List._∷_
-      58
-      (List._∷_
-      68
-      (List._∷_
-      101
-      (List._∷_
-      115
-      (List._∷_
-      116
-      (List._∷_
-      105
-      (List._∷_
-      110
-      (List._∷_
-      97
-      (List._∷_ 116 (List._∷_ 105 (List._∷_ 111 (List._∷_ 110 List.[])))))))))))))))))))
-      (Syntax.tcons
-      (Syntax.tyEnum
-      (List._∷_
-      97
-      (List._∷_
-      110
-      (List._∷_
-      115
-      (List._∷_
-      119
-      (List._∷_
-      101
-      (List._∷_
-      114
-      (List._∷_ 58 (List._∷_ 58 (List._∷_ 87 (List._∷_ 97 (List._∷_ 121 List.[])))))))))))
-      (Syntax.ttcons
-      Syntax.tnil
-      (Syntax.ttcons
-      Syntax.tnil
-      (Syntax.ttcons Syntax.tnil (Syntax.ttcons Syntax.tnil Syntax.ttnil)))))
-      (Syntax.tcons (Syntax.tyArray (Syntax.tyInt Syntax.w8) 16) Syntax.tnil)))
-      Syntax.tnil)))
-      (Syntax.tcons
-      (Syntax.tyStruct
-      (List._∷_
-      102
-      (List._∷_
-      105
-      (List._∷_
-      110
-      (List._∷_
-      105
-      (List._∷_
-      115
-      (List._∷_
-      104
-      (List._∷_
-      58
-      (List._∷_ 58 (List._∷_ 83 (List._∷_ 101 (List._∷_ 110 (List._∷_ 116 List.[]))))))))))))
-      (Syntax.tcons
-      (Syntax.tyInt Syntax.w64)
-      (Syntax.tcons
-      (Syntax.tyStruct
-      (List._∷_
-      97
-      (List._∷_
-      110
-      (List._∷_
-      115
-      (List._∷_
-      119
-      (List._∷_
-      101
-      (List._∷_
-      114
-      (List._∷_
-      58
-      (List._∷_
-      58
-      (List._∷_
-      68
-      (List._∷_
-      101
-      (List._∷_
-      115
-      (List._∷_
-      116
-      (List._∷_
-      105
-      (List._∷_
-      110
-      (List._∷_
-      97
-      (List._∷_ 116 (List._∷_ 105 (List._∷_ 111 (List._∷_ 110 List.[])))))))))))))))))))
-      (Syntax.tcons
-      (Syntax.tyEnum
-      (List._∷_
-      97
-      (List._∷_
-      110
-      (List._∷_
-      115
-      (List._∷_
-      119
-      (List._∷_
-      101
-      (List._∷_
-      114
-      (List._∷_ 58 (List._∷_ 58 (List._∷_ 87 (List._∷_ 97 (List._∷_ 121 List.[])))))))))))
-      (Syntax.ttcons
-      Syntax.tnil
-      (Syntax.ttcons
-      Syntax.tnil
-      (Syntax.ttcons Syntax.tnil (Syntax.ttcons Syntax.tnil Syntax.ttnil)))))
-      (Syntax.tcons (Syntax.tyArray (Syntax.tyInt Syntax.w8) 16) Syntax.tnil)))
-      Syntax.tnil)))
-      (Syntax.tcons
-      (Syntax.tyInt Syntax.w64)
       (Syntax.tcons (Syntax.tyInt Syntax.w8) Syntax.tnil)))))),
 ) (List._∷_ (
   1,
@@ -7279,6 +7343,160 @@ t38 = List._∷_ (
       117
       (List._∷_ 116 (List._∷_ 99 (List._∷_ 111 (List._∷_ 109 (List._∷_ 101 List.[])))))))))))))))
       (Syntax.tcons
+      (Syntax.tyStruct
+      (List._∷_
+      102
+      (List._∷_
+      105
+      (List._∷_
+      110
+      (List._∷_
+      105
+      (List._∷_
+      115
+      (List._∷_
+      104
+      (List._∷_
+      58
+      (List._∷_ 58 (List._∷_ 83 (List._∷_ 101 (List._∷_ 110 (List._∷_ 116 List.[]))))))))))))
+      (Syntax.tcons
+      (Syntax.tyInt Syntax.w64)
+      (Syntax.tcons
+      (Syntax.tyStruct
+      (List._∷_
+      97
+      (List._∷_
+      110
+      (List._∷_
+      115
+      (List._∷_
+      119
+      (List._∷_
+      101
+      (List._∷_
+      114
+      (List._∷_
+      58
+      (List._∷_
+      58
+      (List._∷_
+      68
+      (List._∷_
+      101
+      (List._∷_
+      115
+      (List._∷_
+      116
+      (List._∷_
+      105
+      (List._∷_
+      110
+      (List._∷_
+      97
+      (List._∷_ 116 (List._∷_ 105 (List._∷_ 111 (List._∷_ 110 List.[])))))))))))))))))))
+      (Syntax.tcons
+      (Syntax.tyArray (Syntax.tyInt Syntax.w8) 16)
+      (Syntax.tcons
+      (Syntax.tyEnum
+      (List._∷_
+      97
+      (List._∷_
+      110
+      (List._∷_
+      115
+      (List._∷_
+      119
+      (List._∷_
+      101
+      (List._∷_
+      114
+      (List._∷_ 58 (List._∷_ 58 (List._∷_ 87 (List._∷_ 97 (List._∷_ 121 List.[])))))))))))
+      (Syntax.ttcons
+      Syntax.tnil
+      (Syntax.ttcons
+      Syntax.tnil
+      (Syntax.ttcons Syntax.tnil (Syntax.ttcons Syntax.tnil Syntax.ttnil)))))
+      Syntax.tnil)))
+      Syntax.tnil)))
+      (Syntax.tcons
+      (Syntax.tyStruct
+      (List._∷_
+      102
+      (List._∷_
+      105
+      (List._∷_
+      110
+      (List._∷_
+      105
+      (List._∷_
+      115
+      (List._∷_
+      104
+      (List._∷_
+      58
+      (List._∷_ 58 (List._∷_ 83 (List._∷_ 101 (List._∷_ 110 (List._∷_ 116 List.[]))))))))))))
+      (Syntax.tcons
+      (Syntax.tyInt Syntax.w64)
+      (Syntax.tcons
+      (Syntax.tyStruct
+      (List._∷_
+      97
+      (List._∷_
+      110
+      (List._∷_
+      115
+      (List._∷_
+      119
+      (List._∷_
+      101
+      (List._∷_
+      114
+      (List._∷_
+      58
+      (List._∷_
+      58
+      (List._∷_
+      68
+      (List._∷_
+      101
+      (List._∷_
+      115
+      (List._∷_
+      116
+      (List._∷_
+      105
+      (List._∷_
+      110
+      (List._∷_
+      97
+      (List._∷_ 116 (List._∷_ 105 (List._∷_ 111 (List._∷_ 110 List.[])))))))))))))))))))
+      (Syntax.tcons
+      (Syntax.tyArray (Syntax.tyInt Syntax.w8) 16)
+      (Syntax.tcons
+      (Syntax.tyEnum
+      (List._∷_
+      97
+      (List._∷_
+      110
+      (List._∷_
+      115
+      (List._∷_
+      119
+      (List._∷_
+      101
+      (List._∷_
+      114
+      (List._∷_ 58 (List._∷_ 58 (List._∷_ 87 (List._∷_ 97 (List._∷_ 121 List.[])))))))))))
+      (Syntax.ttcons
+      Syntax.tnil
+      (Syntax.ttcons
+      Syntax.tnil
+      (Syntax.ttcons Syntax.tnil (Syntax.ttcons Syntax.tnil Syntax.ttnil)))))
+      Syntax.tnil)))
+      Syntax.tnil)))
+      (Syntax.tcons
+      (Syntax.tyInt Syntax.w64)
+      (Syntax.tcons
       (Syntax.tyEnum
       (List._∷_
       97
@@ -7332,156 +7550,6 @@ t38 = List._∷_ (
       (Syntax.ttcons
       Syntax.tnil
       (Syntax.ttcons Syntax.tnil (Syntax.ttcons Syntax.tnil Syntax.ttnil)))))))))))))))))))
-      (Syntax.tcons
-      (Syntax.tyStruct
-      (List._∷_
-      102
-      (List._∷_
-      105
-      (List._∷_
-      110
-      (List._∷_
-      105
-      (List._∷_
-      115
-      (List._∷_
-      104
-      (List._∷_
-      58
-      (List._∷_ 58 (List._∷_ 83 (List._∷_ 101 (List._∷_ 110 (List._∷_ 116 List.[]))))))))))))
-      (Syntax.tcons
-      (Syntax.tyInt Syntax.w64)
-      (Syntax.tcons
-      (Syntax.tyStruct
-      (List._∷_
-      97
-      (List._∷_
-      110
-      (List._∷_
-      115
-      (List._∷_
-      119
-      (List._∷_
-      101
-      (List._∷_
-      114
-      (List._∷_
-      58
-      (List._∷_
-      58
-      (List._∷_
-      68
-      (List._∷_
-      101
-      (List._∷_
-      115
-      (List._∷_
-      116
-      (List._∷_
-      105
-      (List._∷_
-      110
-      (List._∷_
-      97
-      (List._∷_ 116 (List._∷_ 105 (List._∷_ 111 (List._∷_ 110 List.[])))))))))))))))))))
-      (Syntax.tcons
-      (Syntax.tyEnum
-      (List._∷_
-      97
-      (List._∷_
-      110
-      (List._∷_
-      115
-      (List._∷_
-      119
-      (List._∷_
-      101
-      (List._∷_
-      114
-      (List._∷_ 58 (List._∷_ 58 (List._∷_ 87 (List._∷_ 97 (List._∷_ 121 List.[])))))))))))
-      (Syntax.ttcons
-      Syntax.tnil
-      (Syntax.ttcons
-      Syntax.tnil
-      (Syntax.ttcons Syntax.tnil (Syntax.ttcons Syntax.tnil Syntax.ttnil)))))
-      (Syntax.tcons (Syntax.tyArray (Syntax.tyInt Syntax.w8) 16) Syntax.tnil)))
-      Syntax.tnil)))
-      (Syntax.tcons
-      (Syntax.tyStruct
-      (List._∷_
-      102
-      (List._∷_
-      105
-      (List._∷_
-      110
-      (List._∷_
-      105
-      (List._∷_
-      115
-      (List._∷_
-      104
-      (List._∷_
-      58
-      (List._∷_ 58 (List._∷_ 83 (List._∷_ 101 (List._∷_ 110 (List._∷_ 116 List.[]))))))))))))
-      (Syntax.tcons
-      (Syntax.tyInt Syntax.w64)
-      (Syntax.tcons
-      (Syntax.tyStruct
-      (List._∷_
-      97
-      (List._∷_
-      110
-      (List._∷_
-      115
-      (List._∷_
-      119
-      (List._∷_
-      101
-      (List._∷_
-      114
-      (List._∷_
-      58
-      (List._∷_
-      58
-      (List._∷_
-      68
-      (List._∷_
-      101
-      (List._∷_
-      115
-      (List._∷_
-      116
-      (List._∷_
-      105
-      (List._∷_
-      110
-      (List._∷_
-      97
-      (List._∷_ 116 (List._∷_ 105 (List._∷_ 111 (List._∷_ 110 List.[])))))))))))))))))))
-      (Syntax.tcons
-      (Syntax.tyEnum
-      (List._∷_
-      97
-      (List._∷_
-      110
-      (List._∷_
-      115
-      (List._∷_
-      119
-      (List._∷_
-      101
-      (List._∷_
-      114
-      (List._∷_ 58 (List._∷_ 58 (List._∷_ 87 (List._∷_ 97 (List._∷_ 121 List.[])))))))))))
-      (Syntax.ttcons
-      Syntax.tnil
-      (Syntax.ttcons
-      Syntax.tnil
-      (Syntax.ttcons Syntax.tnil (Syntax.ttcons Syntax.tnil Syntax.ttnil)))))
-      (Syntax.tcons (Syntax.tyArray (Syntax.tyInt Syntax.w8) 16) Syntax.tnil)))
-      Syntax.tnil)))
-      (Syntax.tcons
-      (Syntax.tyInt Syntax.w64)
       (Syntax.tcons (Syntax.tyInt Syntax.w8) Syntax.tnil)))))),
 ) (List._∷_ (
   1,
@@ -9276,6 +9344,160 @@ module _ (claims· : Claims) where
       117
       (List._∷_ 116 (List._∷_ 99 (List._∷_ 111 (List._∷_ 109 (List._∷_ 101 List.[])))))))))))))))
       (Syntax.tcons
+      (Syntax.tyStruct
+      (List._∷_
+      102
+      (List._∷_
+      105
+      (List._∷_
+      110
+      (List._∷_
+      105
+      (List._∷_
+      115
+      (List._∷_
+      104
+      (List._∷_
+      58
+      (List._∷_ 58 (List._∷_ 83 (List._∷_ 101 (List._∷_ 110 (List._∷_ 116 List.[]))))))))))))
+      (Syntax.tcons
+      (Syntax.tyInt Syntax.w64)
+      (Syntax.tcons
+      (Syntax.tyStruct
+      (List._∷_
+      97
+      (List._∷_
+      110
+      (List._∷_
+      115
+      (List._∷_
+      119
+      (List._∷_
+      101
+      (List._∷_
+      114
+      (List._∷_
+      58
+      (List._∷_
+      58
+      (List._∷_
+      68
+      (List._∷_
+      101
+      (List._∷_
+      115
+      (List._∷_
+      116
+      (List._∷_
+      105
+      (List._∷_
+      110
+      (List._∷_
+      97
+      (List._∷_ 116 (List._∷_ 105 (List._∷_ 111 (List._∷_ 110 List.[])))))))))))))))))))
+      (Syntax.tcons
+      (Syntax.tyArray (Syntax.tyInt Syntax.w8) 16)
+      (Syntax.tcons
+      (Syntax.tyEnum
+      (List._∷_
+      97
+      (List._∷_
+      110
+      (List._∷_
+      115
+      (List._∷_
+      119
+      (List._∷_
+      101
+      (List._∷_
+      114
+      (List._∷_ 58 (List._∷_ 58 (List._∷_ 87 (List._∷_ 97 (List._∷_ 121 List.[])))))))))))
+      (Syntax.ttcons
+      Syntax.tnil
+      (Syntax.ttcons
+      Syntax.tnil
+      (Syntax.ttcons Syntax.tnil (Syntax.ttcons Syntax.tnil Syntax.ttnil)))))
+      Syntax.tnil)))
+      Syntax.tnil)))
+      (Syntax.tcons
+      (Syntax.tyStruct
+      (List._∷_
+      102
+      (List._∷_
+      105
+      (List._∷_
+      110
+      (List._∷_
+      105
+      (List._∷_
+      115
+      (List._∷_
+      104
+      (List._∷_
+      58
+      (List._∷_ 58 (List._∷_ 83 (List._∷_ 101 (List._∷_ 110 (List._∷_ 116 List.[]))))))))))))
+      (Syntax.tcons
+      (Syntax.tyInt Syntax.w64)
+      (Syntax.tcons
+      (Syntax.tyStruct
+      (List._∷_
+      97
+      (List._∷_
+      110
+      (List._∷_
+      115
+      (List._∷_
+      119
+      (List._∷_
+      101
+      (List._∷_
+      114
+      (List._∷_
+      58
+      (List._∷_
+      58
+      (List._∷_
+      68
+      (List._∷_
+      101
+      (List._∷_
+      115
+      (List._∷_
+      116
+      (List._∷_
+      105
+      (List._∷_
+      110
+      (List._∷_
+      97
+      (List._∷_ 116 (List._∷_ 105 (List._∷_ 111 (List._∷_ 110 List.[])))))))))))))))))))
+      (Syntax.tcons
+      (Syntax.tyArray (Syntax.tyInt Syntax.w8) 16)
+      (Syntax.tcons
+      (Syntax.tyEnum
+      (List._∷_
+      97
+      (List._∷_
+      110
+      (List._∷_
+      115
+      (List._∷_
+      119
+      (List._∷_
+      101
+      (List._∷_
+      114
+      (List._∷_ 58 (List._∷_ 58 (List._∷_ 87 (List._∷_ 97 (List._∷_ 121 List.[])))))))))))
+      (Syntax.ttcons
+      Syntax.tnil
+      (Syntax.ttcons
+      Syntax.tnil
+      (Syntax.ttcons Syntax.tnil (Syntax.ttcons Syntax.tnil Syntax.ttnil)))))
+      Syntax.tnil)))
+      Syntax.tnil)))
+      (Syntax.tcons
+      (Syntax.tyInt Syntax.w64)
+      (Syntax.tcons
       (Syntax.tyEnum
       (List._∷_
       97
@@ -9329,156 +9551,6 @@ module _ (claims· : Claims) where
       (Syntax.ttcons
       Syntax.tnil
       (Syntax.ttcons Syntax.tnil (Syntax.ttcons Syntax.tnil Syntax.ttnil)))))))))))))))))))
-      (Syntax.tcons
-      (Syntax.tyStruct
-      (List._∷_
-      102
-      (List._∷_
-      105
-      (List._∷_
-      110
-      (List._∷_
-      105
-      (List._∷_
-      115
-      (List._∷_
-      104
-      (List._∷_
-      58
-      (List._∷_ 58 (List._∷_ 83 (List._∷_ 101 (List._∷_ 110 (List._∷_ 116 List.[]))))))))))))
-      (Syntax.tcons
-      (Syntax.tyInt Syntax.w64)
-      (Syntax.tcons
-      (Syntax.tyStruct
-      (List._∷_
-      97
-      (List._∷_
-      110
-      (List._∷_
-      115
-      (List._∷_
-      119
-      (List._∷_
-      101
-      (List._∷_
-      114
-      (List._∷_
-      58
-      (List._∷_
-      58
-      (List._∷_
-      68
-      (List._∷_
-      101
-      (List._∷_
-      115
-      (List._∷_
-      116
-      (List._∷_
-      105
-      (List._∷_
-      110
-      (List._∷_
-      97
-      (List._∷_ 116 (List._∷_ 105 (List._∷_ 111 (List._∷_ 110 List.[])))))))))))))))))))
-      (Syntax.tcons
-      (Syntax.tyEnum
-      (List._∷_
-      97
-      (List._∷_
-      110
-      (List._∷_
-      115
-      (List._∷_
-      119
-      (List._∷_
-      101
-      (List._∷_
-      114
-      (List._∷_ 58 (List._∷_ 58 (List._∷_ 87 (List._∷_ 97 (List._∷_ 121 List.[])))))))))))
-      (Syntax.ttcons
-      Syntax.tnil
-      (Syntax.ttcons
-      Syntax.tnil
-      (Syntax.ttcons Syntax.tnil (Syntax.ttcons Syntax.tnil Syntax.ttnil)))))
-      (Syntax.tcons (Syntax.tyArray (Syntax.tyInt Syntax.w8) 16) Syntax.tnil)))
-      Syntax.tnil)))
-      (Syntax.tcons
-      (Syntax.tyStruct
-      (List._∷_
-      102
-      (List._∷_
-      105
-      (List._∷_
-      110
-      (List._∷_
-      105
-      (List._∷_
-      115
-      (List._∷_
-      104
-      (List._∷_
-      58
-      (List._∷_ 58 (List._∷_ 83 (List._∷_ 101 (List._∷_ 110 (List._∷_ 116 List.[]))))))))))))
-      (Syntax.tcons
-      (Syntax.tyInt Syntax.w64)
-      (Syntax.tcons
-      (Syntax.tyStruct
-      (List._∷_
-      97
-      (List._∷_
-      110
-      (List._∷_
-      115
-      (List._∷_
-      119
-      (List._∷_
-      101
-      (List._∷_
-      114
-      (List._∷_
-      58
-      (List._∷_
-      58
-      (List._∷_
-      68
-      (List._∷_
-      101
-      (List._∷_
-      115
-      (List._∷_
-      116
-      (List._∷_
-      105
-      (List._∷_
-      110
-      (List._∷_
-      97
-      (List._∷_ 116 (List._∷_ 105 (List._∷_ 111 (List._∷_ 110 List.[])))))))))))))))))))
-      (Syntax.tcons
-      (Syntax.tyEnum
-      (List._∷_
-      97
-      (List._∷_
-      110
-      (List._∷_
-      115
-      (List._∷_
-      119
-      (List._∷_
-      101
-      (List._∷_
-      114
-      (List._∷_ 58 (List._∷_ 58 (List._∷_ 87 (List._∷_ 97 (List._∷_ 121 List.[])))))))))))
-      (Syntax.ttcons
-      Syntax.tnil
-      (Syntax.ttcons
-      Syntax.tnil
-      (Syntax.ttcons Syntax.tnil (Syntax.ttcons Syntax.tnil Syntax.ttnil)))))
-      (Syntax.tcons (Syntax.tyArray (Syntax.tyInt Syntax.w8) 16) Syntax.tnil)))
-      Syntax.tnil)))
-      (Syntax.tcons
-      (Syntax.tyInt Syntax.w64)
       (Syntax.tcons (Syntax.tyInt Syntax.w8) Syntax.tnil))))))
 
   abbrev s24 : Typed.Mo T26 → Typed.Mo T27
@@ -9818,6 +9890,160 @@ module _ (claims· : Claims) where
       117
       (List._∷_ 116 (List._∷_ 99 (List._∷_ 111 (List._∷_ 109 (List._∷_ 101 List.[])))))))))))))))
       (Syntax.tcons
+      (Syntax.tyStruct
+      (List._∷_
+      102
+      (List._∷_
+      105
+      (List._∷_
+      110
+      (List._∷_
+      105
+      (List._∷_
+      115
+      (List._∷_
+      104
+      (List._∷_
+      58
+      (List._∷_ 58 (List._∷_ 83 (List._∷_ 101 (List._∷_ 110 (List._∷_ 116 List.[]))))))))))))
+      (Syntax.tcons
+      (Syntax.tyInt Syntax.w64)
+      (Syntax.tcons
+      (Syntax.tyStruct
+      (List._∷_
+      97
+      (List._∷_
+      110
+      (List._∷_
+      115
+      (List._∷_
+      119
+      (List._∷_
+      101
+      (List._∷_
+      114
+      (List._∷_
+      58
+      (List._∷_
+      58
+      (List._∷_
+      68
+      (List._∷_
+      101
+      (List._∷_
+      115
+      (List._∷_
+      116
+      (List._∷_
+      105
+      (List._∷_
+      110
+      (List._∷_
+      97
+      (List._∷_ 116 (List._∷_ 105 (List._∷_ 111 (List._∷_ 110 List.[])))))))))))))))))))
+      (Syntax.tcons
+      (Syntax.tyArray (Syntax.tyInt Syntax.w8) 16)
+      (Syntax.tcons
+      (Syntax.tyEnum
+      (List._∷_
+      97
+      (List._∷_
+      110
+      (List._∷_
+      115
+      (List._∷_
+      119
+      (List._∷_
+      101
+      (List._∷_
+      114
+      (List._∷_ 58 (List._∷_ 58 (List._∷_ 87 (List._∷_ 97 (List._∷_ 121 List.[])))))))))))
+      (Syntax.ttcons
+      Syntax.tnil
+      (Syntax.ttcons
+      Syntax.tnil
+      (Syntax.ttcons Syntax.tnil (Syntax.ttcons Syntax.tnil Syntax.ttnil)))))
+      Syntax.tnil)))
+      Syntax.tnil)))
+      (Syntax.tcons
+      (Syntax.tyStruct
+      (List._∷_
+      102
+      (List._∷_
+      105
+      (List._∷_
+      110
+      (List._∷_
+      105
+      (List._∷_
+      115
+      (List._∷_
+      104
+      (List._∷_
+      58
+      (List._∷_ 58 (List._∷_ 83 (List._∷_ 101 (List._∷_ 110 (List._∷_ 116 List.[]))))))))))))
+      (Syntax.tcons
+      (Syntax.tyInt Syntax.w64)
+      (Syntax.tcons
+      (Syntax.tyStruct
+      (List._∷_
+      97
+      (List._∷_
+      110
+      (List._∷_
+      115
+      (List._∷_
+      119
+      (List._∷_
+      101
+      (List._∷_
+      114
+      (List._∷_
+      58
+      (List._∷_
+      58
+      (List._∷_
+      68
+      (List._∷_
+      101
+      (List._∷_
+      115
+      (List._∷_
+      116
+      (List._∷_
+      105
+      (List._∷_
+      110
+      (List._∷_
+      97
+      (List._∷_ 116 (List._∷_ 105 (List._∷_ 111 (List._∷_ 110 List.[])))))))))))))))))))
+      (Syntax.tcons
+      (Syntax.tyArray (Syntax.tyInt Syntax.w8) 16)
+      (Syntax.tcons
+      (Syntax.tyEnum
+      (List._∷_
+      97
+      (List._∷_
+      110
+      (List._∷_
+      115
+      (List._∷_
+      119
+      (List._∷_
+      101
+      (List._∷_
+      114
+      (List._∷_ 58 (List._∷_ 58 (List._∷_ 87 (List._∷_ 97 (List._∷_ 121 List.[])))))))))))
+      (Syntax.ttcons
+      Syntax.tnil
+      (Syntax.ttcons
+      Syntax.tnil
+      (Syntax.ttcons Syntax.tnil (Syntax.ttcons Syntax.tnil Syntax.ttnil)))))
+      Syntax.tnil)))
+      Syntax.tnil)))
+      (Syntax.tcons
+      (Syntax.tyInt Syntax.w64)
+      (Syntax.tcons
       (Syntax.tyEnum
       (List._∷_
       97
@@ -9871,156 +10097,6 @@ module _ (claims· : Claims) where
       (Syntax.ttcons
       Syntax.tnil
       (Syntax.ttcons Syntax.tnil (Syntax.ttcons Syntax.tnil Syntax.ttnil)))))))))))))))))))
-      (Syntax.tcons
-      (Syntax.tyStruct
-      (List._∷_
-      102
-      (List._∷_
-      105
-      (List._∷_
-      110
-      (List._∷_
-      105
-      (List._∷_
-      115
-      (List._∷_
-      104
-      (List._∷_
-      58
-      (List._∷_ 58 (List._∷_ 83 (List._∷_ 101 (List._∷_ 110 (List._∷_ 116 List.[]))))))))))))
-      (Syntax.tcons
-      (Syntax.tyInt Syntax.w64)
-      (Syntax.tcons
-      (Syntax.tyStruct
-      (List._∷_
-      97
-      (List._∷_
-      110
-      (List._∷_
-      115
-      (List._∷_
-      119
-      (List._∷_
-      101
-      (List._∷_
-      114
-      (List._∷_
-      58
-      (List._∷_
-      58
-      (List._∷_
-      68
-      (List._∷_
-      101
-      (List._∷_
-      115
-      (List._∷_
-      116
-      (List._∷_
-      105
-      (List._∷_
-      110
-      (List._∷_
-      97
-      (List._∷_ 116 (List._∷_ 105 (List._∷_ 111 (List._∷_ 110 List.[])))))))))))))))))))
-      (Syntax.tcons
-      (Syntax.tyEnum
-      (List._∷_
-      97
-      (List._∷_
-      110
-      (List._∷_
-      115
-      (List._∷_
-      119
-      (List._∷_
-      101
-      (List._∷_
-      114
-      (List._∷_ 58 (List._∷_ 58 (List._∷_ 87 (List._∷_ 97 (List._∷_ 121 List.[])))))))))))
-      (Syntax.ttcons
-      Syntax.tnil
-      (Syntax.ttcons
-      Syntax.tnil
-      (Syntax.ttcons Syntax.tnil (Syntax.ttcons Syntax.tnil Syntax.ttnil)))))
-      (Syntax.tcons (Syntax.tyArray (Syntax.tyInt Syntax.w8) 16) Syntax.tnil)))
-      Syntax.tnil)))
-      (Syntax.tcons
-      (Syntax.tyStruct
-      (List._∷_
-      102
-      (List._∷_
-      105
-      (List._∷_
-      110
-      (List._∷_
-      105
-      (List._∷_
-      115
-      (List._∷_
-      104
-      (List._∷_
-      58
-      (List._∷_ 58 (List._∷_ 83 (List._∷_ 101 (List._∷_ 110 (List._∷_ 116 List.[]))))))))))))
-      (Syntax.tcons
-      (Syntax.tyInt Syntax.w64)
-      (Syntax.tcons
-      (Syntax.tyStruct
-      (List._∷_
-      97
-      (List._∷_
-      110
-      (List._∷_
-      115
-      (List._∷_
-      119
-      (List._∷_
-      101
-      (List._∷_
-      114
-      (List._∷_
-      58
-      (List._∷_
-      58
-      (List._∷_
-      68
-      (List._∷_
-      101
-      (List._∷_
-      115
-      (List._∷_
-      116
-      (List._∷_
-      105
-      (List._∷_
-      110
-      (List._∷_
-      97
-      (List._∷_ 116 (List._∷_ 105 (List._∷_ 111 (List._∷_ 110 List.[])))))))))))))))))))
-      (Syntax.tcons
-      (Syntax.tyEnum
-      (List._∷_
-      97
-      (List._∷_
-      110
-      (List._∷_
-      115
-      (List._∷_
-      119
-      (List._∷_
-      101
-      (List._∷_
-      114
-      (List._∷_ 58 (List._∷_ 58 (List._∷_ 87 (List._∷_ 97 (List._∷_ 121 List.[])))))))))))
-      (Syntax.ttcons
-      Syntax.tnil
-      (Syntax.ttcons
-      Syntax.tnil
-      (Syntax.ttcons Syntax.tnil (Syntax.ttcons Syntax.tnil Syntax.ttnil)))))
-      (Syntax.tcons (Syntax.tyArray (Syntax.tyInt Syntax.w8) 16) Syntax.tnil)))
-      Syntax.tnil)))
-      (Syntax.tcons
-      (Syntax.tyInt Syntax.w64)
       (Syntax.tcons (Syntax.tyInt Syntax.w8) Syntax.tnil))))))
 
   abbrev s56 : Typed.Mo T58 → Typed.Mo T59
@@ -10460,6 +10536,164 @@ module _ (claims· : Claims) where
               116
               (List._∷_ 99 (List._∷_ 111 (List._∷_ 109 (List._∷_ 101 List.[])))))))))))))))
               (Syntax.tcons
+              (Syntax.tyStruct
+              (List._∷_
+              102
+              (List._∷_
+              105
+              (List._∷_
+              110
+              (List._∷_
+              105
+              (List._∷_
+              115
+              (List._∷_
+              104
+              (List._∷_
+              58
+              (List._∷_
+              58
+              (List._∷_ 83 (List._∷_ 101 (List._∷_ 110 (List._∷_ 116 List.[]))))))))))))
+              (Syntax.tcons
+              (Syntax.tyInt Syntax.w64)
+              (Syntax.tcons
+              (Syntax.tyStruct
+              (List._∷_
+              97
+              (List._∷_
+              110
+              (List._∷_
+              115
+              (List._∷_
+              119
+              (List._∷_
+              101
+              (List._∷_
+              114
+              (List._∷_
+              58
+              (List._∷_
+              58
+              (List._∷_
+              68
+              (List._∷_
+              101
+              (List._∷_
+              115
+              (List._∷_
+              116
+              (List._∷_
+              105
+              (List._∷_
+              110
+              (List._∷_
+              97
+              (List._∷_ 116 (List._∷_ 105 (List._∷_ 111 (List._∷_ 110 List.[])))))))))))))))))))
+              (Syntax.tcons
+              (Syntax.tyArray (Syntax.tyInt Syntax.w8) 16)
+              (Syntax.tcons
+              (Syntax.tyEnum
+              (List._∷_
+              97
+              (List._∷_
+              110
+              (List._∷_
+              115
+              (List._∷_
+              119
+              (List._∷_
+              101
+              (List._∷_
+              114
+              (List._∷_ 58 (List._∷_ 58 (List._∷_ 87 (List._∷_ 97 (List._∷_ 121 List.[])))))))))))
+              (Syntax.ttcons
+              Syntax.tnil
+              (Syntax.ttcons
+              Syntax.tnil
+              (Syntax.ttcons Syntax.tnil (Syntax.ttcons Syntax.tnil Syntax.ttnil)))))
+              Syntax.tnil)))
+              Syntax.tnil)))
+              (Syntax.tcons
+              (Syntax.tyStruct
+              (List._∷_
+              102
+              (List._∷_
+              105
+              (List._∷_
+              110
+              (List._∷_
+              105
+              (List._∷_
+              115
+              (List._∷_
+              104
+              (List._∷_
+              58
+              (List._∷_
+              58
+              (List._∷_ 83 (List._∷_ 101 (List._∷_ 110 (List._∷_ 116 List.[]))))))))))))
+              (Syntax.tcons
+              (Syntax.tyInt Syntax.w64)
+              (Syntax.tcons
+              (Syntax.tyStruct
+              (List._∷_
+              97
+              (List._∷_
+              110
+              (List._∷_
+              115
+              (List._∷_
+              119
+              (List._∷_
+              101
+              (List._∷_
+              114
+              (List._∷_
+              58
+              (List._∷_
+              58
+              (List._∷_
+              68
+              (List._∷_
+              101
+              (List._∷_
+              115
+              (List._∷_
+              116
+              (List._∷_
+              105
+              (List._∷_
+              110
+              (List._∷_
+              97
+              (List._∷_ 116 (List._∷_ 105 (List._∷_ 111 (List._∷_ 110 List.[])))))))))))))))))))
+              (Syntax.tcons
+              (Syntax.tyArray (Syntax.tyInt Syntax.w8) 16)
+              (Syntax.tcons
+              (Syntax.tyEnum
+              (List._∷_
+              97
+              (List._∷_
+              110
+              (List._∷_
+              115
+              (List._∷_
+              119
+              (List._∷_
+              101
+              (List._∷_
+              114
+              (List._∷_ 58 (List._∷_ 58 (List._∷_ 87 (List._∷_ 97 (List._∷_ 121 List.[])))))))))))
+              (Syntax.ttcons
+              Syntax.tnil
+              (Syntax.ttcons
+              Syntax.tnil
+              (Syntax.ttcons Syntax.tnil (Syntax.ttcons Syntax.tnil Syntax.ttnil)))))
+              Syntax.tnil)))
+              Syntax.tnil)))
+              (Syntax.tcons
+              (Syntax.tyInt Syntax.w64)
+              (Syntax.tcons
               (Syntax.tyEnum
               (List._∷_
               97
@@ -10515,160 +10749,6 @@ module _ (claims· : Claims) where
               (Syntax.ttcons
               Syntax.tnil
               (Syntax.ttcons Syntax.tnil (Syntax.ttcons Syntax.tnil Syntax.ttnil)))))))))))))))))))
-              (Syntax.tcons
-              (Syntax.tyStruct
-              (List._∷_
-              102
-              (List._∷_
-              105
-              (List._∷_
-              110
-              (List._∷_
-              105
-              (List._∷_
-              115
-              (List._∷_
-              104
-              (List._∷_
-              58
-              (List._∷_
-              58
-              (List._∷_ 83 (List._∷_ 101 (List._∷_ 110 (List._∷_ 116 List.[]))))))))))))
-              (Syntax.tcons
-              (Syntax.tyInt Syntax.w64)
-              (Syntax.tcons
-              (Syntax.tyStruct
-              (List._∷_
-              97
-              (List._∷_
-              110
-              (List._∷_
-              115
-              (List._∷_
-              119
-              (List._∷_
-              101
-              (List._∷_
-              114
-              (List._∷_
-              58
-              (List._∷_
-              58
-              (List._∷_
-              68
-              (List._∷_
-              101
-              (List._∷_
-              115
-              (List._∷_
-              116
-              (List._∷_
-              105
-              (List._∷_
-              110
-              (List._∷_
-              97
-              (List._∷_ 116 (List._∷_ 105 (List._∷_ 111 (List._∷_ 110 List.[])))))))))))))))))))
-              (Syntax.tcons
-              (Syntax.tyEnum
-              (List._∷_
-              97
-              (List._∷_
-              110
-              (List._∷_
-              115
-              (List._∷_
-              119
-              (List._∷_
-              101
-              (List._∷_
-              114
-              (List._∷_ 58 (List._∷_ 58 (List._∷_ 87 (List._∷_ 97 (List._∷_ 121 List.[])))))))))))
-              (Syntax.ttcons
-              Syntax.tnil
-              (Syntax.ttcons
-              Syntax.tnil
-              (Syntax.ttcons Syntax.tnil (Syntax.ttcons Syntax.tnil Syntax.ttnil)))))
-              (Syntax.tcons (Syntax.tyArray (Syntax.tyInt Syntax.w8) 16) Syntax.tnil)))
-              Syntax.tnil)))
-              (Syntax.tcons
-              (Syntax.tyStruct
-              (List._∷_
-              102
-              (List._∷_
-              105
-              (List._∷_
-              110
-              (List._∷_
-              105
-              (List._∷_
-              115
-              (List._∷_
-              104
-              (List._∷_
-              58
-              (List._∷_
-              58
-              (List._∷_ 83 (List._∷_ 101 (List._∷_ 110 (List._∷_ 116 List.[]))))))))))))
-              (Syntax.tcons
-              (Syntax.tyInt Syntax.w64)
-              (Syntax.tcons
-              (Syntax.tyStruct
-              (List._∷_
-              97
-              (List._∷_
-              110
-              (List._∷_
-              115
-              (List._∷_
-              119
-              (List._∷_
-              101
-              (List._∷_
-              114
-              (List._∷_
-              58
-              (List._∷_
-              58
-              (List._∷_
-              68
-              (List._∷_
-              101
-              (List._∷_
-              115
-              (List._∷_
-              116
-              (List._∷_
-              105
-              (List._∷_
-              110
-              (List._∷_
-              97
-              (List._∷_ 116 (List._∷_ 105 (List._∷_ 111 (List._∷_ 110 List.[])))))))))))))))))))
-              (Syntax.tcons
-              (Syntax.tyEnum
-              (List._∷_
-              97
-              (List._∷_
-              110
-              (List._∷_
-              115
-              (List._∷_
-              119
-              (List._∷_
-              101
-              (List._∷_
-              114
-              (List._∷_ 58 (List._∷_ 58 (List._∷_ 87 (List._∷_ 97 (List._∷_ 121 List.[])))))))))))
-              (Syntax.ttcons
-              Syntax.tnil
-              (Syntax.ttcons
-              Syntax.tnil
-              (Syntax.ttcons Syntax.tnil (Syntax.ttcons Syntax.tnil Syntax.ttnil)))))
-              (Syntax.tcons (Syntax.tyArray (Syntax.tyInt Syntax.w8) 16) Syntax.tnil)))
-              Syntax.tnil)))
-              (Syntax.tcons
-              (Syntax.tyInt Syntax.w64)
               (Syntax.tcons (Syntax.tyInt Syntax.w8) Syntax.tnil)))))),
         ) (List._∷_ (
           1,
@@ -10771,6 +10851,164 @@ module _ (claims· : Claims) where
               116
               (List._∷_ 99 (List._∷_ 111 (List._∷_ 109 (List._∷_ 101 List.[])))))))))))))))
               (Syntax.tcons
+              (Syntax.tyStruct
+              (List._∷_
+              102
+              (List._∷_
+              105
+              (List._∷_
+              110
+              (List._∷_
+              105
+              (List._∷_
+              115
+              (List._∷_
+              104
+              (List._∷_
+              58
+              (List._∷_
+              58
+              (List._∷_ 83 (List._∷_ 101 (List._∷_ 110 (List._∷_ 116 List.[]))))))))))))
+              (Syntax.tcons
+              (Syntax.tyInt Syntax.w64)
+              (Syntax.tcons
+              (Syntax.tyStruct
+              (List._∷_
+              97
+              (List._∷_
+              110
+              (List._∷_
+              115
+              (List._∷_
+              119
+              (List._∷_
+              101
+              (List._∷_
+              114
+              (List._∷_
+              58
+              (List._∷_
+              58
+              (List._∷_
+              68
+              (List._∷_
+              101
+              (List._∷_
+              115
+              (List._∷_
+              116
+              (List._∷_
+              105
+              (List._∷_
+              110
+              (List._∷_
+              97
+              (List._∷_ 116 (List._∷_ 105 (List._∷_ 111 (List._∷_ 110 List.[])))))))))))))))))))
+              (Syntax.tcons
+              (Syntax.tyArray (Syntax.tyInt Syntax.w8) 16)
+              (Syntax.tcons
+              (Syntax.tyEnum
+              (List._∷_
+              97
+              (List._∷_
+              110
+              (List._∷_
+              115
+              (List._∷_
+              119
+              (List._∷_
+              101
+              (List._∷_
+              114
+              (List._∷_ 58 (List._∷_ 58 (List._∷_ 87 (List._∷_ 97 (List._∷_ 121 List.[])))))))))))
+              (Syntax.ttcons
+              Syntax.tnil
+              (Syntax.ttcons
+              Syntax.tnil
+              (Syntax.ttcons Syntax.tnil (Syntax.ttcons Syntax.tnil Syntax.ttnil)))))
+              Syntax.tnil)))
+              Syntax.tnil)))
+              (Syntax.tcons
+              (Syntax.tyStruct
+              (List._∷_
+              102
+              (List._∷_
+              105
+              (List._∷_
+              110
+              (List._∷_
+              105
+              (List._∷_
+              115
+              (List._∷_
+              104
+              (List._∷_
+              58
+              (List._∷_
+              58
+              (List._∷_ 83 (List._∷_ 101 (List._∷_ 110 (List._∷_ 116 List.[]))))))))))))
+              (Syntax.tcons
+              (Syntax.tyInt Syntax.w64)
+              (Syntax.tcons
+              (Syntax.tyStruct
+              (List._∷_
+              97
+              (List._∷_
+              110
+              (List._∷_
+              115
+              (List._∷_
+              119
+              (List._∷_
+              101
+              (List._∷_
+              114
+              (List._∷_
+              58
+              (List._∷_
+              58
+              (List._∷_
+              68
+              (List._∷_
+              101
+              (List._∷_
+              115
+              (List._∷_
+              116
+              (List._∷_
+              105
+              (List._∷_
+              110
+              (List._∷_
+              97
+              (List._∷_ 116 (List._∷_ 105 (List._∷_ 111 (List._∷_ 110 List.[])))))))))))))))))))
+              (Syntax.tcons
+              (Syntax.tyArray (Syntax.tyInt Syntax.w8) 16)
+              (Syntax.tcons
+              (Syntax.tyEnum
+              (List._∷_
+              97
+              (List._∷_
+              110
+              (List._∷_
+              115
+              (List._∷_
+              119
+              (List._∷_
+              101
+              (List._∷_
+              114
+              (List._∷_ 58 (List._∷_ 58 (List._∷_ 87 (List._∷_ 97 (List._∷_ 121 List.[])))))))))))
+              (Syntax.ttcons
+              Syntax.tnil
+              (Syntax.ttcons
+              Syntax.tnil
+              (Syntax.ttcons Syntax.tnil (Syntax.ttcons Syntax.tnil Syntax.ttnil)))))
+              Syntax.tnil)))
+              Syntax.tnil)))
+              (Syntax.tcons
+              (Syntax.tyInt Syntax.w64)
+              (Syntax.tcons
               (Syntax.tyEnum
               (List._∷_
               97
@@ -10826,160 +11064,6 @@ module _ (claims· : Claims) where
               (Syntax.ttcons
               Syntax.tnil
               (Syntax.ttcons Syntax.tnil (Syntax.ttcons Syntax.tnil Syntax.ttnil)))))))))))))))))))
-              (Syntax.tcons
-              (Syntax.tyStruct
-              (List._∷_
-              102
-              (List._∷_
-              105
-              (List._∷_
-              110
-              (List._∷_
-              105
-              (List._∷_
-              115
-              (List._∷_
-              104
-              (List._∷_
-              58
-              (List._∷_
-              58
-              (List._∷_ 83 (List._∷_ 101 (List._∷_ 110 (List._∷_ 116 List.[]))))))))))))
-              (Syntax.tcons
-              (Syntax.tyInt Syntax.w64)
-              (Syntax.tcons
-              (Syntax.tyStruct
-              (List._∷_
-              97
-              (List._∷_
-              110
-              (List._∷_
-              115
-              (List._∷_
-              119
-              (List._∷_
-              101
-              (List._∷_
-              114
-              (List._∷_
-              58
-              (List._∷_
-              58
-              (List._∷_
-              68
-              (List._∷_
-              101
-              (List._∷_
-              115
-              (List._∷_
-              116
-              (List._∷_
-              105
-              (List._∷_
-              110
-              (List._∷_
-              97
-              (List._∷_ 116 (List._∷_ 105 (List._∷_ 111 (List._∷_ 110 List.[])))))))))))))))))))
-              (Syntax.tcons
-              (Syntax.tyEnum
-              (List._∷_
-              97
-              (List._∷_
-              110
-              (List._∷_
-              115
-              (List._∷_
-              119
-              (List._∷_
-              101
-              (List._∷_
-              114
-              (List._∷_ 58 (List._∷_ 58 (List._∷_ 87 (List._∷_ 97 (List._∷_ 121 List.[])))))))))))
-              (Syntax.ttcons
-              Syntax.tnil
-              (Syntax.ttcons
-              Syntax.tnil
-              (Syntax.ttcons Syntax.tnil (Syntax.ttcons Syntax.tnil Syntax.ttnil)))))
-              (Syntax.tcons (Syntax.tyArray (Syntax.tyInt Syntax.w8) 16) Syntax.tnil)))
-              Syntax.tnil)))
-              (Syntax.tcons
-              (Syntax.tyStruct
-              (List._∷_
-              102
-              (List._∷_
-              105
-              (List._∷_
-              110
-              (List._∷_
-              105
-              (List._∷_
-              115
-              (List._∷_
-              104
-              (List._∷_
-              58
-              (List._∷_
-              58
-              (List._∷_ 83 (List._∷_ 101 (List._∷_ 110 (List._∷_ 116 List.[]))))))))))))
-              (Syntax.tcons
-              (Syntax.tyInt Syntax.w64)
-              (Syntax.tcons
-              (Syntax.tyStruct
-              (List._∷_
-              97
-              (List._∷_
-              110
-              (List._∷_
-              115
-              (List._∷_
-              119
-              (List._∷_
-              101
-              (List._∷_
-              114
-              (List._∷_
-              58
-              (List._∷_
-              58
-              (List._∷_
-              68
-              (List._∷_
-              101
-              (List._∷_
-              115
-              (List._∷_
-              116
-              (List._∷_
-              105
-              (List._∷_
-              110
-              (List._∷_
-              97
-              (List._∷_ 116 (List._∷_ 105 (List._∷_ 111 (List._∷_ 110 List.[])))))))))))))))))))
-              (Syntax.tcons
-              (Syntax.tyEnum
-              (List._∷_
-              97
-              (List._∷_
-              110
-              (List._∷_
-              115
-              (List._∷_
-              119
-              (List._∷_
-              101
-              (List._∷_
-              114
-              (List._∷_ 58 (List._∷_ 58 (List._∷_ 87 (List._∷_ 97 (List._∷_ 121 List.[])))))))))))
-              (Syntax.ttcons
-              Syntax.tnil
-              (Syntax.ttcons
-              Syntax.tnil
-              (Syntax.ttcons Syntax.tnil (Syntax.ttcons Syntax.tnil Syntax.ttnil)))))
-              (Syntax.tcons (Syntax.tyArray (Syntax.tyInt Syntax.w8) 16) Syntax.tnil)))
-              Syntax.tnil)))
-              (Syntax.tcons
-              (Syntax.tyInt Syntax.w64)
               (Syntax.tcons (Syntax.tyInt Syntax.w8) Syntax.tnil)))))),
         ) (List._∷_ (
           1,
@@ -11078,6 +11162,164 @@ module _ (claims· : Claims) where
               116
               (List._∷_ 99 (List._∷_ 111 (List._∷_ 109 (List._∷_ 101 List.[])))))))))))))))
               (Syntax.tcons
+              (Syntax.tyStruct
+              (List._∷_
+              102
+              (List._∷_
+              105
+              (List._∷_
+              110
+              (List._∷_
+              105
+              (List._∷_
+              115
+              (List._∷_
+              104
+              (List._∷_
+              58
+              (List._∷_
+              58
+              (List._∷_ 83 (List._∷_ 101 (List._∷_ 110 (List._∷_ 116 List.[]))))))))))))
+              (Syntax.tcons
+              (Syntax.tyInt Syntax.w64)
+              (Syntax.tcons
+              (Syntax.tyStruct
+              (List._∷_
+              97
+              (List._∷_
+              110
+              (List._∷_
+              115
+              (List._∷_
+              119
+              (List._∷_
+              101
+              (List._∷_
+              114
+              (List._∷_
+              58
+              (List._∷_
+              58
+              (List._∷_
+              68
+              (List._∷_
+              101
+              (List._∷_
+              115
+              (List._∷_
+              116
+              (List._∷_
+              105
+              (List._∷_
+              110
+              (List._∷_
+              97
+              (List._∷_ 116 (List._∷_ 105 (List._∷_ 111 (List._∷_ 110 List.[])))))))))))))))))))
+              (Syntax.tcons
+              (Syntax.tyArray (Syntax.tyInt Syntax.w8) 16)
+              (Syntax.tcons
+              (Syntax.tyEnum
+              (List._∷_
+              97
+              (List._∷_
+              110
+              (List._∷_
+              115
+              (List._∷_
+              119
+              (List._∷_
+              101
+              (List._∷_
+              114
+              (List._∷_ 58 (List._∷_ 58 (List._∷_ 87 (List._∷_ 97 (List._∷_ 121 List.[])))))))))))
+              (Syntax.ttcons
+              Syntax.tnil
+              (Syntax.ttcons
+              Syntax.tnil
+              (Syntax.ttcons Syntax.tnil (Syntax.ttcons Syntax.tnil Syntax.ttnil)))))
+              Syntax.tnil)))
+              Syntax.tnil)))
+              (Syntax.tcons
+              (Syntax.tyStruct
+              (List._∷_
+              102
+              (List._∷_
+              105
+              (List._∷_
+              110
+              (List._∷_
+              105
+              (List._∷_
+              115
+              (List._∷_
+              104
+              (List._∷_
+              58
+              (List._∷_
+              58
+              (List._∷_ 83 (List._∷_ 101 (List._∷_ 110 (List._∷_ 116 List.[]))))))))))))
+              (Syntax.tcons
+              (Syntax.tyInt Syntax.w64)
+              (Syntax.tcons
+              (Syntax.tyStruct
+              (List._∷_
+              97
+              (List._∷_
+              110
+              (List._∷_
+              115
+              (List._∷_
+              119
+              (List._∷_
+              101
+              (List._∷_
+              114
+              (List._∷_
+              58
+              (List._∷_
+              58
+              (List._∷_
+              68
+              (List._∷_
+              101
+              (List._∷_
+              115
+              (List._∷_
+              116
+              (List._∷_
+              105
+              (List._∷_
+              110
+              (List._∷_
+              97
+              (List._∷_ 116 (List._∷_ 105 (List._∷_ 111 (List._∷_ 110 List.[])))))))))))))))))))
+              (Syntax.tcons
+              (Syntax.tyArray (Syntax.tyInt Syntax.w8) 16)
+              (Syntax.tcons
+              (Syntax.tyEnum
+              (List._∷_
+              97
+              (List._∷_
+              110
+              (List._∷_
+              115
+              (List._∷_
+              119
+              (List._∷_
+              101
+              (List._∷_
+              114
+              (List._∷_ 58 (List._∷_ 58 (List._∷_ 87 (List._∷_ 97 (List._∷_ 121 List.[])))))))))))
+              (Syntax.ttcons
+              Syntax.tnil
+              (Syntax.ttcons
+              Syntax.tnil
+              (Syntax.ttcons Syntax.tnil (Syntax.ttcons Syntax.tnil Syntax.ttnil)))))
+              Syntax.tnil)))
+              Syntax.tnil)))
+              (Syntax.tcons
+              (Syntax.tyInt Syntax.w64)
+              (Syntax.tcons
               (Syntax.tyEnum
               (List._∷_
               97
@@ -11133,160 +11375,6 @@ module _ (claims· : Claims) where
               (Syntax.ttcons
               Syntax.tnil
               (Syntax.ttcons Syntax.tnil (Syntax.ttcons Syntax.tnil Syntax.ttnil)))))))))))))))))))
-              (Syntax.tcons
-              (Syntax.tyStruct
-              (List._∷_
-              102
-              (List._∷_
-              105
-              (List._∷_
-              110
-              (List._∷_
-              105
-              (List._∷_
-              115
-              (List._∷_
-              104
-              (List._∷_
-              58
-              (List._∷_
-              58
-              (List._∷_ 83 (List._∷_ 101 (List._∷_ 110 (List._∷_ 116 List.[]))))))))))))
-              (Syntax.tcons
-              (Syntax.tyInt Syntax.w64)
-              (Syntax.tcons
-              (Syntax.tyStruct
-              (List._∷_
-              97
-              (List._∷_
-              110
-              (List._∷_
-              115
-              (List._∷_
-              119
-              (List._∷_
-              101
-              (List._∷_
-              114
-              (List._∷_
-              58
-              (List._∷_
-              58
-              (List._∷_
-              68
-              (List._∷_
-              101
-              (List._∷_
-              115
-              (List._∷_
-              116
-              (List._∷_
-              105
-              (List._∷_
-              110
-              (List._∷_
-              97
-              (List._∷_ 116 (List._∷_ 105 (List._∷_ 111 (List._∷_ 110 List.[])))))))))))))))))))
-              (Syntax.tcons
-              (Syntax.tyEnum
-              (List._∷_
-              97
-              (List._∷_
-              110
-              (List._∷_
-              115
-              (List._∷_
-              119
-              (List._∷_
-              101
-              (List._∷_
-              114
-              (List._∷_ 58 (List._∷_ 58 (List._∷_ 87 (List._∷_ 97 (List._∷_ 121 List.[])))))))))))
-              (Syntax.ttcons
-              Syntax.tnil
-              (Syntax.ttcons
-              Syntax.tnil
-              (Syntax.ttcons Syntax.tnil (Syntax.ttcons Syntax.tnil Syntax.ttnil)))))
-              (Syntax.tcons (Syntax.tyArray (Syntax.tyInt Syntax.w8) 16) Syntax.tnil)))
-              Syntax.tnil)))
-              (Syntax.tcons
-              (Syntax.tyStruct
-              (List._∷_
-              102
-              (List._∷_
-              105
-              (List._∷_
-              110
-              (List._∷_
-              105
-              (List._∷_
-              115
-              (List._∷_
-              104
-              (List._∷_
-              58
-              (List._∷_
-              58
-              (List._∷_ 83 (List._∷_ 101 (List._∷_ 110 (List._∷_ 116 List.[]))))))))))))
-              (Syntax.tcons
-              (Syntax.tyInt Syntax.w64)
-              (Syntax.tcons
-              (Syntax.tyStruct
-              (List._∷_
-              97
-              (List._∷_
-              110
-              (List._∷_
-              115
-              (List._∷_
-              119
-              (List._∷_
-              101
-              (List._∷_
-              114
-              (List._∷_
-              58
-              (List._∷_
-              58
-              (List._∷_
-              68
-              (List._∷_
-              101
-              (List._∷_
-              115
-              (List._∷_
-              116
-              (List._∷_
-              105
-              (List._∷_
-              110
-              (List._∷_
-              97
-              (List._∷_ 116 (List._∷_ 105 (List._∷_ 111 (List._∷_ 110 List.[])))))))))))))))))))
-              (Syntax.tcons
-              (Syntax.tyEnum
-              (List._∷_
-              97
-              (List._∷_
-              110
-              (List._∷_
-              115
-              (List._∷_
-              119
-              (List._∷_
-              101
-              (List._∷_
-              114
-              (List._∷_ 58 (List._∷_ 58 (List._∷_ 87 (List._∷_ 97 (List._∷_ 121 List.[])))))))))))
-              (Syntax.ttcons
-              Syntax.tnil
-              (Syntax.ttcons
-              Syntax.tnil
-              (Syntax.ttcons Syntax.tnil (Syntax.ttcons Syntax.tnil Syntax.ttnil)))))
-              (Syntax.tcons (Syntax.tyArray (Syntax.tyInt Syntax.w8) 16) Syntax.tnil)))
-              Syntax.tnil)))
-              (Syntax.tcons
-              (Syntax.tyInt Syntax.w64)
               (Syntax.tcons (Syntax.tyInt Syntax.w8) Syntax.tnil)))))),
         ) (List._∷_ (
           1,
@@ -11389,6 +11477,164 @@ module _ (claims· : Claims) where
               116
               (List._∷_ 99 (List._∷_ 111 (List._∷_ 109 (List._∷_ 101 List.[])))))))))))))))
               (Syntax.tcons
+              (Syntax.tyStruct
+              (List._∷_
+              102
+              (List._∷_
+              105
+              (List._∷_
+              110
+              (List._∷_
+              105
+              (List._∷_
+              115
+              (List._∷_
+              104
+              (List._∷_
+              58
+              (List._∷_
+              58
+              (List._∷_ 83 (List._∷_ 101 (List._∷_ 110 (List._∷_ 116 List.[]))))))))))))
+              (Syntax.tcons
+              (Syntax.tyInt Syntax.w64)
+              (Syntax.tcons
+              (Syntax.tyStruct
+              (List._∷_
+              97
+              (List._∷_
+              110
+              (List._∷_
+              115
+              (List._∷_
+              119
+              (List._∷_
+              101
+              (List._∷_
+              114
+              (List._∷_
+              58
+              (List._∷_
+              58
+              (List._∷_
+              68
+              (List._∷_
+              101
+              (List._∷_
+              115
+              (List._∷_
+              116
+              (List._∷_
+              105
+              (List._∷_
+              110
+              (List._∷_
+              97
+              (List._∷_ 116 (List._∷_ 105 (List._∷_ 111 (List._∷_ 110 List.[])))))))))))))))))))
+              (Syntax.tcons
+              (Syntax.tyArray (Syntax.tyInt Syntax.w8) 16)
+              (Syntax.tcons
+              (Syntax.tyEnum
+              (List._∷_
+              97
+              (List._∷_
+              110
+              (List._∷_
+              115
+              (List._∷_
+              119
+              (List._∷_
+              101
+              (List._∷_
+              114
+              (List._∷_ 58 (List._∷_ 58 (List._∷_ 87 (List._∷_ 97 (List._∷_ 121 List.[])))))))))))
+              (Syntax.ttcons
+              Syntax.tnil
+              (Syntax.ttcons
+              Syntax.tnil
+              (Syntax.ttcons Syntax.tnil (Syntax.ttcons Syntax.tnil Syntax.ttnil)))))
+              Syntax.tnil)))
+              Syntax.tnil)))
+              (Syntax.tcons
+              (Syntax.tyStruct
+              (List._∷_
+              102
+              (List._∷_
+              105
+              (List._∷_
+              110
+              (List._∷_
+              105
+              (List._∷_
+              115
+              (List._∷_
+              104
+              (List._∷_
+              58
+              (List._∷_
+              58
+              (List._∷_ 83 (List._∷_ 101 (List._∷_ 110 (List._∷_ 116 List.[]))))))))))))
+              (Syntax.tcons
+              (Syntax.tyInt Syntax.w64)
+              (Syntax.tcons
+              (Syntax.tyStruct
+              (List._∷_
+              97
+              (List._∷_
+              110
+              (List._∷_
+              115
+              (List._∷_
+              119
+              (List._∷_
+              101
+              (List._∷_
+              114
+              (List._∷_
+              58
+              (List._∷_
+              58
+              (List._∷_
+              68
+              (List._∷_
+              101
+              (List._∷_
+              115
+              (List._∷_
+              116
+              (List._∷_
+              105
+              (List._∷_
+              110
+              (List._∷_
+              97
+              (List._∷_ 116 (List._∷_ 105 (List._∷_ 111 (List._∷_ 110 List.[])))))))))))))))))))
+              (Syntax.tcons
+              (Syntax.tyArray (Syntax.tyInt Syntax.w8) 16)
+              (Syntax.tcons
+              (Syntax.tyEnum
+              (List._∷_
+              97
+              (List._∷_
+              110
+              (List._∷_
+              115
+              (List._∷_
+              119
+              (List._∷_
+              101
+              (List._∷_
+              114
+              (List._∷_ 58 (List._∷_ 58 (List._∷_ 87 (List._∷_ 97 (List._∷_ 121 List.[])))))))))))
+              (Syntax.ttcons
+              Syntax.tnil
+              (Syntax.ttcons
+              Syntax.tnil
+              (Syntax.ttcons Syntax.tnil (Syntax.ttcons Syntax.tnil Syntax.ttnil)))))
+              Syntax.tnil)))
+              Syntax.tnil)))
+              (Syntax.tcons
+              (Syntax.tyInt Syntax.w64)
+              (Syntax.tcons
               (Syntax.tyEnum
               (List._∷_
               97
@@ -11444,160 +11690,6 @@ module _ (claims· : Claims) where
               (Syntax.ttcons
               Syntax.tnil
               (Syntax.ttcons Syntax.tnil (Syntax.ttcons Syntax.tnil Syntax.ttnil)))))))))))))))))))
-              (Syntax.tcons
-              (Syntax.tyStruct
-              (List._∷_
-              102
-              (List._∷_
-              105
-              (List._∷_
-              110
-              (List._∷_
-              105
-              (List._∷_
-              115
-              (List._∷_
-              104
-              (List._∷_
-              58
-              (List._∷_
-              58
-              (List._∷_ 83 (List._∷_ 101 (List._∷_ 110 (List._∷_ 116 List.[]))))))))))))
-              (Syntax.tcons
-              (Syntax.tyInt Syntax.w64)
-              (Syntax.tcons
-              (Syntax.tyStruct
-              (List._∷_
-              97
-              (List._∷_
-              110
-              (List._∷_
-              115
-              (List._∷_
-              119
-              (List._∷_
-              101
-              (List._∷_
-              114
-              (List._∷_
-              58
-              (List._∷_
-              58
-              (List._∷_
-              68
-              (List._∷_
-              101
-              (List._∷_
-              115
-              (List._∷_
-              116
-              (List._∷_
-              105
-              (List._∷_
-              110
-              (List._∷_
-              97
-              (List._∷_ 116 (List._∷_ 105 (List._∷_ 111 (List._∷_ 110 List.[])))))))))))))))))))
-              (Syntax.tcons
-              (Syntax.tyEnum
-              (List._∷_
-              97
-              (List._∷_
-              110
-              (List._∷_
-              115
-              (List._∷_
-              119
-              (List._∷_
-              101
-              (List._∷_
-              114
-              (List._∷_ 58 (List._∷_ 58 (List._∷_ 87 (List._∷_ 97 (List._∷_ 121 List.[])))))))))))
-              (Syntax.ttcons
-              Syntax.tnil
-              (Syntax.ttcons
-              Syntax.tnil
-              (Syntax.ttcons Syntax.tnil (Syntax.ttcons Syntax.tnil Syntax.ttnil)))))
-              (Syntax.tcons (Syntax.tyArray (Syntax.tyInt Syntax.w8) 16) Syntax.tnil)))
-              Syntax.tnil)))
-              (Syntax.tcons
-              (Syntax.tyStruct
-              (List._∷_
-              102
-              (List._∷_
-              105
-              (List._∷_
-              110
-              (List._∷_
-              105
-              (List._∷_
-              115
-              (List._∷_
-              104
-              (List._∷_
-              58
-              (List._∷_
-              58
-              (List._∷_ 83 (List._∷_ 101 (List._∷_ 110 (List._∷_ 116 List.[]))))))))))))
-              (Syntax.tcons
-              (Syntax.tyInt Syntax.w64)
-              (Syntax.tcons
-              (Syntax.tyStruct
-              (List._∷_
-              97
-              (List._∷_
-              110
-              (List._∷_
-              115
-              (List._∷_
-              119
-              (List._∷_
-              101
-              (List._∷_
-              114
-              (List._∷_
-              58
-              (List._∷_
-              58
-              (List._∷_
-              68
-              (List._∷_
-              101
-              (List._∷_
-              115
-              (List._∷_
-              116
-              (List._∷_
-              105
-              (List._∷_
-              110
-              (List._∷_
-              97
-              (List._∷_ 116 (List._∷_ 105 (List._∷_ 111 (List._∷_ 110 List.[])))))))))))))))))))
-              (Syntax.tcons
-              (Syntax.tyEnum
-              (List._∷_
-              97
-              (List._∷_
-              110
-              (List._∷_
-              115
-              (List._∷_
-              119
-              (List._∷_
-              101
-              (List._∷_
-              114
-              (List._∷_ 58 (List._∷_ 58 (List._∷_ 87 (List._∷_ 97 (List._∷_ 121 List.[])))))))))))
-              (Syntax.ttcons
-              Syntax.tnil
-              (Syntax.ttcons
-              Syntax.tnil
-              (Syntax.ttcons Syntax.tnil (Syntax.ttcons Syntax.tnil Syntax.ttnil)))))
-              (Syntax.tcons (Syntax.tyArray (Syntax.tyInt Syntax.w8) 16) Syntax.tnil)))
-              Syntax.tnil)))
-              (Syntax.tcons
-              (Syntax.tyInt Syntax.w64)
               (Syntax.tcons (Syntax.tyInt Syntax.w8) Syntax.tnil)))))),
         ) (List._∷_ (
           1,
@@ -11696,6 +11788,164 @@ module _ (claims· : Claims) where
               116
               (List._∷_ 99 (List._∷_ 111 (List._∷_ 109 (List._∷_ 101 List.[])))))))))))))))
               (Syntax.tcons
+              (Syntax.tyStruct
+              (List._∷_
+              102
+              (List._∷_
+              105
+              (List._∷_
+              110
+              (List._∷_
+              105
+              (List._∷_
+              115
+              (List._∷_
+              104
+              (List._∷_
+              58
+              (List._∷_
+              58
+              (List._∷_ 83 (List._∷_ 101 (List._∷_ 110 (List._∷_ 116 List.[]))))))))))))
+              (Syntax.tcons
+              (Syntax.tyInt Syntax.w64)
+              (Syntax.tcons
+              (Syntax.tyStruct
+              (List._∷_
+              97
+              (List._∷_
+              110
+              (List._∷_
+              115
+              (List._∷_
+              119
+              (List._∷_
+              101
+              (List._∷_
+              114
+              (List._∷_
+              58
+              (List._∷_
+              58
+              (List._∷_
+              68
+              (List._∷_
+              101
+              (List._∷_
+              115
+              (List._∷_
+              116
+              (List._∷_
+              105
+              (List._∷_
+              110
+              (List._∷_
+              97
+              (List._∷_ 116 (List._∷_ 105 (List._∷_ 111 (List._∷_ 110 List.[])))))))))))))))))))
+              (Syntax.tcons
+              (Syntax.tyArray (Syntax.tyInt Syntax.w8) 16)
+              (Syntax.tcons
+              (Syntax.tyEnum
+              (List._∷_
+              97
+              (List._∷_
+              110
+              (List._∷_
+              115
+              (List._∷_
+              119
+              (List._∷_
+              101
+              (List._∷_
+              114
+              (List._∷_ 58 (List._∷_ 58 (List._∷_ 87 (List._∷_ 97 (List._∷_ 121 List.[])))))))))))
+              (Syntax.ttcons
+              Syntax.tnil
+              (Syntax.ttcons
+              Syntax.tnil
+              (Syntax.ttcons Syntax.tnil (Syntax.ttcons Syntax.tnil Syntax.ttnil)))))
+              Syntax.tnil)))
+              Syntax.tnil)))
+              (Syntax.tcons
+              (Syntax.tyStruct
+              (List._∷_
+              102
+              (List._∷_
+              105
+              (List._∷_
+              110
+              (List._∷_
+              105
+              (List._∷_
+              115
+              (List._∷_
+              104
+              (List._∷_
+              58
+              (List._∷_
+              58
+              (List._∷_ 83 (List._∷_ 101 (List._∷_ 110 (List._∷_ 116 List.[]))))))))))))
+              (Syntax.tcons
+              (Syntax.tyInt Syntax.w64)
+              (Syntax.tcons
+              (Syntax.tyStruct
+              (List._∷_
+              97
+              (List._∷_
+              110
+              (List._∷_
+              115
+              (List._∷_
+              119
+              (List._∷_
+              101
+              (List._∷_
+              114
+              (List._∷_
+              58
+              (List._∷_
+              58
+              (List._∷_
+              68
+              (List._∷_
+              101
+              (List._∷_
+              115
+              (List._∷_
+              116
+              (List._∷_
+              105
+              (List._∷_
+              110
+              (List._∷_
+              97
+              (List._∷_ 116 (List._∷_ 105 (List._∷_ 111 (List._∷_ 110 List.[])))))))))))))))))))
+              (Syntax.tcons
+              (Syntax.tyArray (Syntax.tyInt Syntax.w8) 16)
+              (Syntax.tcons
+              (Syntax.tyEnum
+              (List._∷_
+              97
+              (List._∷_
+              110
+              (List._∷_
+              115
+              (List._∷_
+              119
+              (List._∷_
+              101
+              (List._∷_
+              114
+              (List._∷_ 58 (List._∷_ 58 (List._∷_ 87 (List._∷_ 97 (List._∷_ 121 List.[])))))))))))
+              (Syntax.ttcons
+              Syntax.tnil
+              (Syntax.ttcons
+              Syntax.tnil
+              (Syntax.ttcons Syntax.tnil (Syntax.ttcons Syntax.tnil Syntax.ttnil)))))
+              Syntax.tnil)))
+              Syntax.tnil)))
+              (Syntax.tcons
+              (Syntax.tyInt Syntax.w64)
+              (Syntax.tcons
               (Syntax.tyEnum
               (List._∷_
               97
@@ -11751,160 +12001,6 @@ module _ (claims· : Claims) where
               (Syntax.ttcons
               Syntax.tnil
               (Syntax.ttcons Syntax.tnil (Syntax.ttcons Syntax.tnil Syntax.ttnil)))))))))))))))))))
-              (Syntax.tcons
-              (Syntax.tyStruct
-              (List._∷_
-              102
-              (List._∷_
-              105
-              (List._∷_
-              110
-              (List._∷_
-              105
-              (List._∷_
-              115
-              (List._∷_
-              104
-              (List._∷_
-              58
-              (List._∷_
-              58
-              (List._∷_ 83 (List._∷_ 101 (List._∷_ 110 (List._∷_ 116 List.[]))))))))))))
-              (Syntax.tcons
-              (Syntax.tyInt Syntax.w64)
-              (Syntax.tcons
-              (Syntax.tyStruct
-              (List._∷_
-              97
-              (List._∷_
-              110
-              (List._∷_
-              115
-              (List._∷_
-              119
-              (List._∷_
-              101
-              (List._∷_
-              114
-              (List._∷_
-              58
-              (List._∷_
-              58
-              (List._∷_
-              68
-              (List._∷_
-              101
-              (List._∷_
-              115
-              (List._∷_
-              116
-              (List._∷_
-              105
-              (List._∷_
-              110
-              (List._∷_
-              97
-              (List._∷_ 116 (List._∷_ 105 (List._∷_ 111 (List._∷_ 110 List.[])))))))))))))))))))
-              (Syntax.tcons
-              (Syntax.tyEnum
-              (List._∷_
-              97
-              (List._∷_
-              110
-              (List._∷_
-              115
-              (List._∷_
-              119
-              (List._∷_
-              101
-              (List._∷_
-              114
-              (List._∷_ 58 (List._∷_ 58 (List._∷_ 87 (List._∷_ 97 (List._∷_ 121 List.[])))))))))))
-              (Syntax.ttcons
-              Syntax.tnil
-              (Syntax.ttcons
-              Syntax.tnil
-              (Syntax.ttcons Syntax.tnil (Syntax.ttcons Syntax.tnil Syntax.ttnil)))))
-              (Syntax.tcons (Syntax.tyArray (Syntax.tyInt Syntax.w8) 16) Syntax.tnil)))
-              Syntax.tnil)))
-              (Syntax.tcons
-              (Syntax.tyStruct
-              (List._∷_
-              102
-              (List._∷_
-              105
-              (List._∷_
-              110
-              (List._∷_
-              105
-              (List._∷_
-              115
-              (List._∷_
-              104
-              (List._∷_
-              58
-              (List._∷_
-              58
-              (List._∷_ 83 (List._∷_ 101 (List._∷_ 110 (List._∷_ 116 List.[]))))))))))))
-              (Syntax.tcons
-              (Syntax.tyInt Syntax.w64)
-              (Syntax.tcons
-              (Syntax.tyStruct
-              (List._∷_
-              97
-              (List._∷_
-              110
-              (List._∷_
-              115
-              (List._∷_
-              119
-              (List._∷_
-              101
-              (List._∷_
-              114
-              (List._∷_
-              58
-              (List._∷_
-              58
-              (List._∷_
-              68
-              (List._∷_
-              101
-              (List._∷_
-              115
-              (List._∷_
-              116
-              (List._∷_
-              105
-              (List._∷_
-              110
-              (List._∷_
-              97
-              (List._∷_ 116 (List._∷_ 105 (List._∷_ 111 (List._∷_ 110 List.[])))))))))))))))))))
-              (Syntax.tcons
-              (Syntax.tyEnum
-              (List._∷_
-              97
-              (List._∷_
-              110
-              (List._∷_
-              115
-              (List._∷_
-              119
-              (List._∷_
-              101
-              (List._∷_
-              114
-              (List._∷_ 58 (List._∷_ 58 (List._∷_ 87 (List._∷_ 97 (List._∷_ 121 List.[])))))))))))
-              (Syntax.ttcons
-              Syntax.tnil
-              (Syntax.ttcons
-              Syntax.tnil
-              (Syntax.ttcons Syntax.tnil (Syntax.ttcons Syntax.tnil Syntax.ttnil)))))
-              (Syntax.tcons (Syntax.tyArray (Syntax.tyInt Syntax.w8) 16) Syntax.tnil)))
-              Syntax.tnil)))
-              (Syntax.tcons
-              (Syntax.tyInt Syntax.w64)
               (Syntax.tcons (Syntax.tyInt Syntax.w8) Syntax.tnil)))))),
         ) (List._∷_ (
           1,
@@ -12005,6 +12101,164 @@ module _ (claims· : Claims) where
               116
               (List._∷_ 99 (List._∷_ 111 (List._∷_ 109 (List._∷_ 101 List.[])))))))))))))))
               (Syntax.tcons
+              (Syntax.tyStruct
+              (List._∷_
+              102
+              (List._∷_
+              105
+              (List._∷_
+              110
+              (List._∷_
+              105
+              (List._∷_
+              115
+              (List._∷_
+              104
+              (List._∷_
+              58
+              (List._∷_
+              58
+              (List._∷_ 83 (List._∷_ 101 (List._∷_ 110 (List._∷_ 116 List.[]))))))))))))
+              (Syntax.tcons
+              (Syntax.tyInt Syntax.w64)
+              (Syntax.tcons
+              (Syntax.tyStruct
+              (List._∷_
+              97
+              (List._∷_
+              110
+              (List._∷_
+              115
+              (List._∷_
+              119
+              (List._∷_
+              101
+              (List._∷_
+              114
+              (List._∷_
+              58
+              (List._∷_
+              58
+              (List._∷_
+              68
+              (List._∷_
+              101
+              (List._∷_
+              115
+              (List._∷_
+              116
+              (List._∷_
+              105
+              (List._∷_
+              110
+              (List._∷_
+              97
+              (List._∷_ 116 (List._∷_ 105 (List._∷_ 111 (List._∷_ 110 List.[])))))))))))))))))))
+              (Syntax.tcons
+              (Syntax.tyArray (Syntax.tyInt Syntax.w8) 16)
+              (Syntax.tcons
+              (Syntax.tyEnum
+              (List._∷_
+              97
+              (List._∷_
+              110
+              (List._∷_
+              115
+              (List._∷_
+              119
+              (List._∷_
+              101
+              (List._∷_
+              114
+              (List._∷_ 58 (List._∷_ 58 (List._∷_ 87 (List._∷_ 97 (List._∷_ 121 List.[])))))))))))
+              (Syntax.ttcons
+              Syntax.tnil
+              (Syntax.ttcons
+              Syntax.tnil
+              (Syntax.ttcons Syntax.tnil (Syntax.ttcons Syntax.tnil Syntax.ttnil)))))
+              Syntax.tnil)))
+              Syntax.tnil)))
+              (Syntax.tcons
+              (Syntax.tyStruct
+              (List._∷_
+              102
+              (List._∷_
+              105
+              (List._∷_
+              110
+              (List._∷_
+              105
+              (List._∷_
+              115
+              (List._∷_
+              104
+              (List._∷_
+              58
+              (List._∷_
+              58
+              (List._∷_ 83 (List._∷_ 101 (List._∷_ 110 (List._∷_ 116 List.[]))))))))))))
+              (Syntax.tcons
+              (Syntax.tyInt Syntax.w64)
+              (Syntax.tcons
+              (Syntax.tyStruct
+              (List._∷_
+              97
+              (List._∷_
+              110
+              (List._∷_
+              115
+              (List._∷_
+              119
+              (List._∷_
+              101
+              (List._∷_
+              114
+              (List._∷_
+              58
+              (List._∷_
+              58
+              (List._∷_
+              68
+              (List._∷_
+              101
+              (List._∷_
+              115
+              (List._∷_
+              116
+              (List._∷_
+              105
+              (List._∷_
+              110
+              (List._∷_
+              97
+              (List._∷_ 116 (List._∷_ 105 (List._∷_ 111 (List._∷_ 110 List.[])))))))))))))))))))
+              (Syntax.tcons
+              (Syntax.tyArray (Syntax.tyInt Syntax.w8) 16)
+              (Syntax.tcons
+              (Syntax.tyEnum
+              (List._∷_
+              97
+              (List._∷_
+              110
+              (List._∷_
+              115
+              (List._∷_
+              119
+              (List._∷_
+              101
+              (List._∷_
+              114
+              (List._∷_ 58 (List._∷_ 58 (List._∷_ 87 (List._∷_ 97 (List._∷_ 121 List.[])))))))))))
+              (Syntax.ttcons
+              Syntax.tnil
+              (Syntax.ttcons
+              Syntax.tnil
+              (Syntax.ttcons Syntax.tnil (Syntax.ttcons Syntax.tnil Syntax.ttnil)))))
+              Syntax.tnil)))
+              Syntax.tnil)))
+              (Syntax.tcons
+              (Syntax.tyInt Syntax.w64)
+              (Syntax.tcons
               (Syntax.tyEnum
               (List._∷_
               97
@@ -12060,160 +12314,6 @@ module _ (claims· : Claims) where
               (Syntax.ttcons
               Syntax.tnil
               (Syntax.ttcons Syntax.tnil (Syntax.ttcons Syntax.tnil Syntax.ttnil)))))))))))))))))))
-              (Syntax.tcons
-              (Syntax.tyStruct
-              (List._∷_
-              102
-              (List._∷_
-              105
-              (List._∷_
-              110
-              (List._∷_
-              105
-              (List._∷_
-              115
-              (List._∷_
-              104
-              (List._∷_
-              58
-              (List._∷_
-              58
-              (List._∷_ 83 (List._∷_ 101 (List._∷_ 110 (List._∷_ 116 List.[]))))))))))))
-              (Syntax.tcons
-              (Syntax.tyInt Syntax.w64)
-              (Syntax.tcons
-              (Syntax.tyStruct
-              (List._∷_
-              97
-              (List._∷_
-              110
-              (List._∷_
-              115
-              (List._∷_
-              119
-              (List._∷_
-              101
-              (List._∷_
-              114
-              (List._∷_
-              58
-              (List._∷_
-              58
-              (List._∷_
-              68
-              (List._∷_
-              101
-              (List._∷_
-              115
-              (List._∷_
-              116
-              (List._∷_
-              105
-              (List._∷_
-              110
-              (List._∷_
-              97
-              (List._∷_ 116 (List._∷_ 105 (List._∷_ 111 (List._∷_ 110 List.[])))))))))))))))))))
-              (Syntax.tcons
-              (Syntax.tyEnum
-              (List._∷_
-              97
-              (List._∷_
-              110
-              (List._∷_
-              115
-              (List._∷_
-              119
-              (List._∷_
-              101
-              (List._∷_
-              114
-              (List._∷_ 58 (List._∷_ 58 (List._∷_ 87 (List._∷_ 97 (List._∷_ 121 List.[])))))))))))
-              (Syntax.ttcons
-              Syntax.tnil
-              (Syntax.ttcons
-              Syntax.tnil
-              (Syntax.ttcons Syntax.tnil (Syntax.ttcons Syntax.tnil Syntax.ttnil)))))
-              (Syntax.tcons (Syntax.tyArray (Syntax.tyInt Syntax.w8) 16) Syntax.tnil)))
-              Syntax.tnil)))
-              (Syntax.tcons
-              (Syntax.tyStruct
-              (List._∷_
-              102
-              (List._∷_
-              105
-              (List._∷_
-              110
-              (List._∷_
-              105
-              (List._∷_
-              115
-              (List._∷_
-              104
-              (List._∷_
-              58
-              (List._∷_
-              58
-              (List._∷_ 83 (List._∷_ 101 (List._∷_ 110 (List._∷_ 116 List.[]))))))))))))
-              (Syntax.tcons
-              (Syntax.tyInt Syntax.w64)
-              (Syntax.tcons
-              (Syntax.tyStruct
-              (List._∷_
-              97
-              (List._∷_
-              110
-              (List._∷_
-              115
-              (List._∷_
-              119
-              (List._∷_
-              101
-              (List._∷_
-              114
-              (List._∷_
-              58
-              (List._∷_
-              58
-              (List._∷_
-              68
-              (List._∷_
-              101
-              (List._∷_
-              115
-              (List._∷_
-              116
-              (List._∷_
-              105
-              (List._∷_
-              110
-              (List._∷_
-              97
-              (List._∷_ 116 (List._∷_ 105 (List._∷_ 111 (List._∷_ 110 List.[])))))))))))))))))))
-              (Syntax.tcons
-              (Syntax.tyEnum
-              (List._∷_
-              97
-              (List._∷_
-              110
-              (List._∷_
-              115
-              (List._∷_
-              119
-              (List._∷_
-              101
-              (List._∷_
-              114
-              (List._∷_ 58 (List._∷_ 58 (List._∷_ 87 (List._∷_ 97 (List._∷_ 121 List.[])))))))))))
-              (Syntax.ttcons
-              Syntax.tnil
-              (Syntax.ttcons
-              Syntax.tnil
-              (Syntax.ttcons Syntax.tnil (Syntax.ttcons Syntax.tnil Syntax.ttnil)))))
-              (Syntax.tcons (Syntax.tyArray (Syntax.tyInt Syntax.w8) 16) Syntax.tnil)))
-              Syntax.tnil)))
-              (Syntax.tcons
-              (Syntax.tyInt Syntax.w64)
               (Syntax.tcons (Syntax.tyInt Syntax.w8) Syntax.tnil)))))),
         ) (List._∷_ (
           1,
@@ -12882,6 +12982,164 @@ module _ (claims· : Claims) where
               116
               (List._∷_ 99 (List._∷_ 111 (List._∷_ 109 (List._∷_ 101 List.[])))))))))))))))
               (Syntax.tcons
+              (Syntax.tyStruct
+              (List._∷_
+              102
+              (List._∷_
+              105
+              (List._∷_
+              110
+              (List._∷_
+              105
+              (List._∷_
+              115
+              (List._∷_
+              104
+              (List._∷_
+              58
+              (List._∷_
+              58
+              (List._∷_ 83 (List._∷_ 101 (List._∷_ 110 (List._∷_ 116 List.[]))))))))))))
+              (Syntax.tcons
+              (Syntax.tyInt Syntax.w64)
+              (Syntax.tcons
+              (Syntax.tyStruct
+              (List._∷_
+              97
+              (List._∷_
+              110
+              (List._∷_
+              115
+              (List._∷_
+              119
+              (List._∷_
+              101
+              (List._∷_
+              114
+              (List._∷_
+              58
+              (List._∷_
+              58
+              (List._∷_
+              68
+              (List._∷_
+              101
+              (List._∷_
+              115
+              (List._∷_
+              116
+              (List._∷_
+              105
+              (List._∷_
+              110
+              (List._∷_
+              97
+              (List._∷_ 116 (List._∷_ 105 (List._∷_ 111 (List._∷_ 110 List.[])))))))))))))))))))
+              (Syntax.tcons
+              (Syntax.tyArray (Syntax.tyInt Syntax.w8) 16)
+              (Syntax.tcons
+              (Syntax.tyEnum
+              (List._∷_
+              97
+              (List._∷_
+              110
+              (List._∷_
+              115
+              (List._∷_
+              119
+              (List._∷_
+              101
+              (List._∷_
+              114
+              (List._∷_ 58 (List._∷_ 58 (List._∷_ 87 (List._∷_ 97 (List._∷_ 121 List.[])))))))))))
+              (Syntax.ttcons
+              Syntax.tnil
+              (Syntax.ttcons
+              Syntax.tnil
+              (Syntax.ttcons Syntax.tnil (Syntax.ttcons Syntax.tnil Syntax.ttnil)))))
+              Syntax.tnil)))
+              Syntax.tnil)))
+              (Syntax.tcons
+              (Syntax.tyStruct
+              (List._∷_
+              102
+              (List._∷_
+              105
+              (List._∷_
+              110
+              (List._∷_
+              105
+              (List._∷_
+              115
+              (List._∷_
+              104
+              (List._∷_
+              58
+              (List._∷_
+              58
+              (List._∷_ 83 (List._∷_ 101 (List._∷_ 110 (List._∷_ 116 List.[]))))))))))))
+              (Syntax.tcons
+              (Syntax.tyInt Syntax.w64)
+              (Syntax.tcons
+              (Syntax.tyStruct
+              (List._∷_
+              97
+              (List._∷_
+              110
+              (List._∷_
+              115
+              (List._∷_
+              119
+              (List._∷_
+              101
+              (List._∷_
+              114
+              (List._∷_
+              58
+              (List._∷_
+              58
+              (List._∷_
+              68
+              (List._∷_
+              101
+              (List._∷_
+              115
+              (List._∷_
+              116
+              (List._∷_
+              105
+              (List._∷_
+              110
+              (List._∷_
+              97
+              (List._∷_ 116 (List._∷_ 105 (List._∷_ 111 (List._∷_ 110 List.[])))))))))))))))))))
+              (Syntax.tcons
+              (Syntax.tyArray (Syntax.tyInt Syntax.w8) 16)
+              (Syntax.tcons
+              (Syntax.tyEnum
+              (List._∷_
+              97
+              (List._∷_
+              110
+              (List._∷_
+              115
+              (List._∷_
+              119
+              (List._∷_
+              101
+              (List._∷_
+              114
+              (List._∷_ 58 (List._∷_ 58 (List._∷_ 87 (List._∷_ 97 (List._∷_ 121 List.[])))))))))))
+              (Syntax.ttcons
+              Syntax.tnil
+              (Syntax.ttcons
+              Syntax.tnil
+              (Syntax.ttcons Syntax.tnil (Syntax.ttcons Syntax.tnil Syntax.ttnil)))))
+              Syntax.tnil)))
+              Syntax.tnil)))
+              (Syntax.tcons
+              (Syntax.tyInt Syntax.w64)
+              (Syntax.tcons
               (Syntax.tyEnum
               (List._∷_
               97
@@ -12937,160 +13195,6 @@ module _ (claims· : Claims) where
               (Syntax.ttcons
               Syntax.tnil
               (Syntax.ttcons Syntax.tnil (Syntax.ttcons Syntax.tnil Syntax.ttnil)))))))))))))))))))
-              (Syntax.tcons
-              (Syntax.tyStruct
-              (List._∷_
-              102
-              (List._∷_
-              105
-              (List._∷_
-              110
-              (List._∷_
-              105
-              (List._∷_
-              115
-              (List._∷_
-              104
-              (List._∷_
-              58
-              (List._∷_
-              58
-              (List._∷_ 83 (List._∷_ 101 (List._∷_ 110 (List._∷_ 116 List.[]))))))))))))
-              (Syntax.tcons
-              (Syntax.tyInt Syntax.w64)
-              (Syntax.tcons
-              (Syntax.tyStruct
-              (List._∷_
-              97
-              (List._∷_
-              110
-              (List._∷_
-              115
-              (List._∷_
-              119
-              (List._∷_
-              101
-              (List._∷_
-              114
-              (List._∷_
-              58
-              (List._∷_
-              58
-              (List._∷_
-              68
-              (List._∷_
-              101
-              (List._∷_
-              115
-              (List._∷_
-              116
-              (List._∷_
-              105
-              (List._∷_
-              110
-              (List._∷_
-              97
-              (List._∷_ 116 (List._∷_ 105 (List._∷_ 111 (List._∷_ 110 List.[])))))))))))))))))))
-              (Syntax.tcons
-              (Syntax.tyEnum
-              (List._∷_
-              97
-              (List._∷_
-              110
-              (List._∷_
-              115
-              (List._∷_
-              119
-              (List._∷_
-              101
-              (List._∷_
-              114
-              (List._∷_ 58 (List._∷_ 58 (List._∷_ 87 (List._∷_ 97 (List._∷_ 121 List.[])))))))))))
-              (Syntax.ttcons
-              Syntax.tnil
-              (Syntax.ttcons
-              Syntax.tnil
-              (Syntax.ttcons Syntax.tnil (Syntax.ttcons Syntax.tnil Syntax.ttnil)))))
-              (Syntax.tcons (Syntax.tyArray (Syntax.tyInt Syntax.w8) 16) Syntax.tnil)))
-              Syntax.tnil)))
-              (Syntax.tcons
-              (Syntax.tyStruct
-              (List._∷_
-              102
-              (List._∷_
-              105
-              (List._∷_
-              110
-              (List._∷_
-              105
-              (List._∷_
-              115
-              (List._∷_
-              104
-              (List._∷_
-              58
-              (List._∷_
-              58
-              (List._∷_ 83 (List._∷_ 101 (List._∷_ 110 (List._∷_ 116 List.[]))))))))))))
-              (Syntax.tcons
-              (Syntax.tyInt Syntax.w64)
-              (Syntax.tcons
-              (Syntax.tyStruct
-              (List._∷_
-              97
-              (List._∷_
-              110
-              (List._∷_
-              115
-              (List._∷_
-              119
-              (List._∷_
-              101
-              (List._∷_
-              114
-              (List._∷_
-              58
-              (List._∷_
-              58
-              (List._∷_
-              68
-              (List._∷_
-              101
-              (List._∷_
-              115
-              (List._∷_
-              116
-              (List._∷_
-              105
-              (List._∷_
-              110
-              (List._∷_
-              97
-              (List._∷_ 116 (List._∷_ 105 (List._∷_ 111 (List._∷_ 110 List.[])))))))))))))))))))
-              (Syntax.tcons
-              (Syntax.tyEnum
-              (List._∷_
-              97
-              (List._∷_
-              110
-              (List._∷_
-              115
-              (List._∷_
-              119
-              (List._∷_
-              101
-              (List._∷_
-              114
-              (List._∷_ 58 (List._∷_ 58 (List._∷_ 87 (List._∷_ 97 (List._∷_ 121 List.[])))))))))))
-              (Syntax.ttcons
-              Syntax.tnil
-              (Syntax.ttcons
-              Syntax.tnil
-              (Syntax.ttcons Syntax.tnil (Syntax.ttcons Syntax.tnil Syntax.ttnil)))))
-              (Syntax.tcons (Syntax.tyArray (Syntax.tyInt Syntax.w8) 16) Syntax.tnil)))
-              Syntax.tnil)))
-              (Syntax.tcons
-              (Syntax.tyInt Syntax.w64)
               (Syntax.tcons (Syntax.tyInt Syntax.w8) Syntax.tnil)))))),
         ) (List._∷_ (
           1,
@@ -13191,6 +13295,164 @@ module _ (claims· : Claims) where
               116
               (List._∷_ 99 (List._∷_ 111 (List._∷_ 109 (List._∷_ 101 List.[])))))))))))))))
               (Syntax.tcons
+              (Syntax.tyStruct
+              (List._∷_
+              102
+              (List._∷_
+              105
+              (List._∷_
+              110
+              (List._∷_
+              105
+              (List._∷_
+              115
+              (List._∷_
+              104
+              (List._∷_
+              58
+              (List._∷_
+              58
+              (List._∷_ 83 (List._∷_ 101 (List._∷_ 110 (List._∷_ 116 List.[]))))))))))))
+              (Syntax.tcons
+              (Syntax.tyInt Syntax.w64)
+              (Syntax.tcons
+              (Syntax.tyStruct
+              (List._∷_
+              97
+              (List._∷_
+              110
+              (List._∷_
+              115
+              (List._∷_
+              119
+              (List._∷_
+              101
+              (List._∷_
+              114
+              (List._∷_
+              58
+              (List._∷_
+              58
+              (List._∷_
+              68
+              (List._∷_
+              101
+              (List._∷_
+              115
+              (List._∷_
+              116
+              (List._∷_
+              105
+              (List._∷_
+              110
+              (List._∷_
+              97
+              (List._∷_ 116 (List._∷_ 105 (List._∷_ 111 (List._∷_ 110 List.[])))))))))))))))))))
+              (Syntax.tcons
+              (Syntax.tyArray (Syntax.tyInt Syntax.w8) 16)
+              (Syntax.tcons
+              (Syntax.tyEnum
+              (List._∷_
+              97
+              (List._∷_
+              110
+              (List._∷_
+              115
+              (List._∷_
+              119
+              (List._∷_
+              101
+              (List._∷_
+              114
+              (List._∷_ 58 (List._∷_ 58 (List._∷_ 87 (List._∷_ 97 (List._∷_ 121 List.[])))))))))))
+              (Syntax.ttcons
+              Syntax.tnil
+              (Syntax.ttcons
+              Syntax.tnil
+              (Syntax.ttcons Syntax.tnil (Syntax.ttcons Syntax.tnil Syntax.ttnil)))))
+              Syntax.tnil)))
+              Syntax.tnil)))
+              (Syntax.tcons
+              (Syntax.tyStruct
+              (List._∷_
+              102
+              (List._∷_
+              105
+              (List._∷_
+              110
+              (List._∷_
+              105
+              (List._∷_
+              115
+              (List._∷_
+              104
+              (List._∷_
+              58
+              (List._∷_
+              58
+              (List._∷_ 83 (List._∷_ 101 (List._∷_ 110 (List._∷_ 116 List.[]))))))))))))
+              (Syntax.tcons
+              (Syntax.tyInt Syntax.w64)
+              (Syntax.tcons
+              (Syntax.tyStruct
+              (List._∷_
+              97
+              (List._∷_
+              110
+              (List._∷_
+              115
+              (List._∷_
+              119
+              (List._∷_
+              101
+              (List._∷_
+              114
+              (List._∷_
+              58
+              (List._∷_
+              58
+              (List._∷_
+              68
+              (List._∷_
+              101
+              (List._∷_
+              115
+              (List._∷_
+              116
+              (List._∷_
+              105
+              (List._∷_
+              110
+              (List._∷_
+              97
+              (List._∷_ 116 (List._∷_ 105 (List._∷_ 111 (List._∷_ 110 List.[])))))))))))))))))))
+              (Syntax.tcons
+              (Syntax.tyArray (Syntax.tyInt Syntax.w8) 16)
+              (Syntax.tcons
+              (Syntax.tyEnum
+              (List._∷_
+              97
+              (List._∷_
+              110
+              (List._∷_
+              115
+              (List._∷_
+              119
+              (List._∷_
+              101
+              (List._∷_
+              114
+              (List._∷_ 58 (List._∷_ 58 (List._∷_ 87 (List._∷_ 97 (List._∷_ 121 List.[])))))))))))
+              (Syntax.ttcons
+              Syntax.tnil
+              (Syntax.ttcons
+              Syntax.tnil
+              (Syntax.ttcons Syntax.tnil (Syntax.ttcons Syntax.tnil Syntax.ttnil)))))
+              Syntax.tnil)))
+              Syntax.tnil)))
+              (Syntax.tcons
+              (Syntax.tyInt Syntax.w64)
+              (Syntax.tcons
               (Syntax.tyEnum
               (List._∷_
               97
@@ -13246,160 +13508,6 @@ module _ (claims· : Claims) where
               (Syntax.ttcons
               Syntax.tnil
               (Syntax.ttcons Syntax.tnil (Syntax.ttcons Syntax.tnil Syntax.ttnil)))))))))))))))))))
-              (Syntax.tcons
-              (Syntax.tyStruct
-              (List._∷_
-              102
-              (List._∷_
-              105
-              (List._∷_
-              110
-              (List._∷_
-              105
-              (List._∷_
-              115
-              (List._∷_
-              104
-              (List._∷_
-              58
-              (List._∷_
-              58
-              (List._∷_ 83 (List._∷_ 101 (List._∷_ 110 (List._∷_ 116 List.[]))))))))))))
-              (Syntax.tcons
-              (Syntax.tyInt Syntax.w64)
-              (Syntax.tcons
-              (Syntax.tyStruct
-              (List._∷_
-              97
-              (List._∷_
-              110
-              (List._∷_
-              115
-              (List._∷_
-              119
-              (List._∷_
-              101
-              (List._∷_
-              114
-              (List._∷_
-              58
-              (List._∷_
-              58
-              (List._∷_
-              68
-              (List._∷_
-              101
-              (List._∷_
-              115
-              (List._∷_
-              116
-              (List._∷_
-              105
-              (List._∷_
-              110
-              (List._∷_
-              97
-              (List._∷_ 116 (List._∷_ 105 (List._∷_ 111 (List._∷_ 110 List.[])))))))))))))))))))
-              (Syntax.tcons
-              (Syntax.tyEnum
-              (List._∷_
-              97
-              (List._∷_
-              110
-              (List._∷_
-              115
-              (List._∷_
-              119
-              (List._∷_
-              101
-              (List._∷_
-              114
-              (List._∷_ 58 (List._∷_ 58 (List._∷_ 87 (List._∷_ 97 (List._∷_ 121 List.[])))))))))))
-              (Syntax.ttcons
-              Syntax.tnil
-              (Syntax.ttcons
-              Syntax.tnil
-              (Syntax.ttcons Syntax.tnil (Syntax.ttcons Syntax.tnil Syntax.ttnil)))))
-              (Syntax.tcons (Syntax.tyArray (Syntax.tyInt Syntax.w8) 16) Syntax.tnil)))
-              Syntax.tnil)))
-              (Syntax.tcons
-              (Syntax.tyStruct
-              (List._∷_
-              102
-              (List._∷_
-              105
-              (List._∷_
-              110
-              (List._∷_
-              105
-              (List._∷_
-              115
-              (List._∷_
-              104
-              (List._∷_
-              58
-              (List._∷_
-              58
-              (List._∷_ 83 (List._∷_ 101 (List._∷_ 110 (List._∷_ 116 List.[]))))))))))))
-              (Syntax.tcons
-              (Syntax.tyInt Syntax.w64)
-              (Syntax.tcons
-              (Syntax.tyStruct
-              (List._∷_
-              97
-              (List._∷_
-              110
-              (List._∷_
-              115
-              (List._∷_
-              119
-              (List._∷_
-              101
-              (List._∷_
-              114
-              (List._∷_
-              58
-              (List._∷_
-              58
-              (List._∷_
-              68
-              (List._∷_
-              101
-              (List._∷_
-              115
-              (List._∷_
-              116
-              (List._∷_
-              105
-              (List._∷_
-              110
-              (List._∷_
-              97
-              (List._∷_ 116 (List._∷_ 105 (List._∷_ 111 (List._∷_ 110 List.[])))))))))))))))))))
-              (Syntax.tcons
-              (Syntax.tyEnum
-              (List._∷_
-              97
-              (List._∷_
-              110
-              (List._∷_
-              115
-              (List._∷_
-              119
-              (List._∷_
-              101
-              (List._∷_
-              114
-              (List._∷_ 58 (List._∷_ 58 (List._∷_ 87 (List._∷_ 97 (List._∷_ 121 List.[])))))))))))
-              (Syntax.ttcons
-              Syntax.tnil
-              (Syntax.ttcons
-              Syntax.tnil
-              (Syntax.ttcons Syntax.tnil (Syntax.ttcons Syntax.tnil Syntax.ttnil)))))
-              (Syntax.tcons (Syntax.tyArray (Syntax.tyInt Syntax.w8) 16) Syntax.tnil)))
-              Syntax.tnil)))
-              (Syntax.tcons
-              (Syntax.tyInt Syntax.w64)
               (Syntax.tcons (Syntax.tyInt Syntax.w8) Syntax.tnil)))))),
         ) (List._∷_ (
           1,
@@ -13502,6 +13610,164 @@ module _ (claims· : Claims) where
               116
               (List._∷_ 99 (List._∷_ 111 (List._∷_ 109 (List._∷_ 101 List.[])))))))))))))))
               (Syntax.tcons
+              (Syntax.tyStruct
+              (List._∷_
+              102
+              (List._∷_
+              105
+              (List._∷_
+              110
+              (List._∷_
+              105
+              (List._∷_
+              115
+              (List._∷_
+              104
+              (List._∷_
+              58
+              (List._∷_
+              58
+              (List._∷_ 83 (List._∷_ 101 (List._∷_ 110 (List._∷_ 116 List.[]))))))))))))
+              (Syntax.tcons
+              (Syntax.tyInt Syntax.w64)
+              (Syntax.tcons
+              (Syntax.tyStruct
+              (List._∷_
+              97
+              (List._∷_
+              110
+              (List._∷_
+              115
+              (List._∷_
+              119
+              (List._∷_
+              101
+              (List._∷_
+              114
+              (List._∷_
+              58
+              (List._∷_
+              58
+              (List._∷_
+              68
+              (List._∷_
+              101
+              (List._∷_
+              115
+              (List._∷_
+              116
+              (List._∷_
+              105
+              (List._∷_
+              110
+              (List._∷_
+              97
+              (List._∷_ 116 (List._∷_ 105 (List._∷_ 111 (List._∷_ 110 List.[])))))))))))))))))))
+              (Syntax.tcons
+              (Syntax.tyArray (Syntax.tyInt Syntax.w8) 16)
+              (Syntax.tcons
+              (Syntax.tyEnum
+              (List._∷_
+              97
+              (List._∷_
+              110
+              (List._∷_
+              115
+              (List._∷_
+              119
+              (List._∷_
+              101
+              (List._∷_
+              114
+              (List._∷_ 58 (List._∷_ 58 (List._∷_ 87 (List._∷_ 97 (List._∷_ 121 List.[])))))))))))
+              (Syntax.ttcons
+              Syntax.tnil
+              (Syntax.ttcons
+              Syntax.tnil
+              (Syntax.ttcons Syntax.tnil (Syntax.ttcons Syntax.tnil Syntax.ttnil)))))
+              Syntax.tnil)))
+              Syntax.tnil)))
+              (Syntax.tcons
+              (Syntax.tyStruct
+              (List._∷_
+              102
+              (List._∷_
+              105
+              (List._∷_
+              110
+              (List._∷_
+              105
+              (List._∷_
+              115
+              (List._∷_
+              104
+              (List._∷_
+              58
+              (List._∷_
+              58
+              (List._∷_ 83 (List._∷_ 101 (List._∷_ 110 (List._∷_ 116 List.[]))))))))))))
+              (Syntax.tcons
+              (Syntax.tyInt Syntax.w64)
+              (Syntax.tcons
+              (Syntax.tyStruct
+              (List._∷_
+              97
+              (List._∷_
+              110
+              (List._∷_
+              115
+              (List._∷_
+              119
+              (List._∷_
+              101
+              (List._∷_
+              114
+              (List._∷_
+              58
+              (List._∷_
+              58
+              (List._∷_
+              68
+              (List._∷_
+              101
+              (List._∷_
+              115
+              (List._∷_
+              116
+              (List._∷_
+              105
+              (List._∷_
+              110
+              (List._∷_
+              97
+              (List._∷_ 116 (List._∷_ 105 (List._∷_ 111 (List._∷_ 110 List.[])))))))))))))))))))
+              (Syntax.tcons
+              (Syntax.tyArray (Syntax.tyInt Syntax.w8) 16)
+              (Syntax.tcons
+              (Syntax.tyEnum
+              (List._∷_
+              97
+              (List._∷_
+              110
+              (List._∷_
+              115
+              (List._∷_
+              119
+              (List._∷_
+              101
+              (List._∷_
+              114
+              (List._∷_ 58 (List._∷_ 58 (List._∷_ 87 (List._∷_ 97 (List._∷_ 121 List.[])))))))))))
+              (Syntax.ttcons
+              Syntax.tnil
+              (Syntax.ttcons
+              Syntax.tnil
+              (Syntax.ttcons Syntax.tnil (Syntax.ttcons Syntax.tnil Syntax.ttnil)))))
+              Syntax.tnil)))
+              Syntax.tnil)))
+              (Syntax.tcons
+              (Syntax.tyInt Syntax.w64)
+              (Syntax.tcons
               (Syntax.tyEnum
               (List._∷_
               97
@@ -13557,160 +13823,6 @@ module _ (claims· : Claims) where
               (Syntax.ttcons
               Syntax.tnil
               (Syntax.ttcons Syntax.tnil (Syntax.ttcons Syntax.tnil Syntax.ttnil)))))))))))))))))))
-              (Syntax.tcons
-              (Syntax.tyStruct
-              (List._∷_
-              102
-              (List._∷_
-              105
-              (List._∷_
-              110
-              (List._∷_
-              105
-              (List._∷_
-              115
-              (List._∷_
-              104
-              (List._∷_
-              58
-              (List._∷_
-              58
-              (List._∷_ 83 (List._∷_ 101 (List._∷_ 110 (List._∷_ 116 List.[]))))))))))))
-              (Syntax.tcons
-              (Syntax.tyInt Syntax.w64)
-              (Syntax.tcons
-              (Syntax.tyStruct
-              (List._∷_
-              97
-              (List._∷_
-              110
-              (List._∷_
-              115
-              (List._∷_
-              119
-              (List._∷_
-              101
-              (List._∷_
-              114
-              (List._∷_
-              58
-              (List._∷_
-              58
-              (List._∷_
-              68
-              (List._∷_
-              101
-              (List._∷_
-              115
-              (List._∷_
-              116
-              (List._∷_
-              105
-              (List._∷_
-              110
-              (List._∷_
-              97
-              (List._∷_ 116 (List._∷_ 105 (List._∷_ 111 (List._∷_ 110 List.[])))))))))))))))))))
-              (Syntax.tcons
-              (Syntax.tyEnum
-              (List._∷_
-              97
-              (List._∷_
-              110
-              (List._∷_
-              115
-              (List._∷_
-              119
-              (List._∷_
-              101
-              (List._∷_
-              114
-              (List._∷_ 58 (List._∷_ 58 (List._∷_ 87 (List._∷_ 97 (List._∷_ 121 List.[])))))))))))
-              (Syntax.ttcons
-              Syntax.tnil
-              (Syntax.ttcons
-              Syntax.tnil
-              (Syntax.ttcons Syntax.tnil (Syntax.ttcons Syntax.tnil Syntax.ttnil)))))
-              (Syntax.tcons (Syntax.tyArray (Syntax.tyInt Syntax.w8) 16) Syntax.tnil)))
-              Syntax.tnil)))
-              (Syntax.tcons
-              (Syntax.tyStruct
-              (List._∷_
-              102
-              (List._∷_
-              105
-              (List._∷_
-              110
-              (List._∷_
-              105
-              (List._∷_
-              115
-              (List._∷_
-              104
-              (List._∷_
-              58
-              (List._∷_
-              58
-              (List._∷_ 83 (List._∷_ 101 (List._∷_ 110 (List._∷_ 116 List.[]))))))))))))
-              (Syntax.tcons
-              (Syntax.tyInt Syntax.w64)
-              (Syntax.tcons
-              (Syntax.tyStruct
-              (List._∷_
-              97
-              (List._∷_
-              110
-              (List._∷_
-              115
-              (List._∷_
-              119
-              (List._∷_
-              101
-              (List._∷_
-              114
-              (List._∷_
-              58
-              (List._∷_
-              58
-              (List._∷_
-              68
-              (List._∷_
-              101
-              (List._∷_
-              115
-              (List._∷_
-              116
-              (List._∷_
-              105
-              (List._∷_
-              110
-              (List._∷_
-              97
-              (List._∷_ 116 (List._∷_ 105 (List._∷_ 111 (List._∷_ 110 List.[])))))))))))))))))))
-              (Syntax.tcons
-              (Syntax.tyEnum
-              (List._∷_
-              97
-              (List._∷_
-              110
-              (List._∷_
-              115
-              (List._∷_
-              119
-              (List._∷_
-              101
-              (List._∷_
-              114
-              (List._∷_ 58 (List._∷_ 58 (List._∷_ 87 (List._∷_ 97 (List._∷_ 121 List.[])))))))))))
-              (Syntax.ttcons
-              Syntax.tnil
-              (Syntax.ttcons
-              Syntax.tnil
-              (Syntax.ttcons Syntax.tnil (Syntax.ttcons Syntax.tnil Syntax.ttnil)))))
-              (Syntax.tcons (Syntax.tyArray (Syntax.tyInt Syntax.w8) 16) Syntax.tnil)))
-              Syntax.tnil)))
-              (Syntax.tcons
-              (Syntax.tyInt Syntax.w64)
               (Syntax.tcons (Syntax.tyInt Syntax.w8) Syntax.tnil)))))),
         ) (List._∷_ (
           1,
@@ -13815,6 +13927,164 @@ module _ (claims· : Claims) where
               116
               (List._∷_ 99 (List._∷_ 111 (List._∷_ 109 (List._∷_ 101 List.[])))))))))))))))
               (Syntax.tcons
+              (Syntax.tyStruct
+              (List._∷_
+              102
+              (List._∷_
+              105
+              (List._∷_
+              110
+              (List._∷_
+              105
+              (List._∷_
+              115
+              (List._∷_
+              104
+              (List._∷_
+              58
+              (List._∷_
+              58
+              (List._∷_ 83 (List._∷_ 101 (List._∷_ 110 (List._∷_ 116 List.[]))))))))))))
+              (Syntax.tcons
+              (Syntax.tyInt Syntax.w64)
+              (Syntax.tcons
+              (Syntax.tyStruct
+              (List._∷_
+              97
+              (List._∷_
+              110
+              (List._∷_
+              115
+              (List._∷_
+              119
+              (List._∷_
+              101
+              (List._∷_
+              114
+              (List._∷_
+              58
+              (List._∷_
+              58
+              (List._∷_
+              68
+              (List._∷_
+              101
+              (List._∷_
+              115
+              (List._∷_
+              116
+              (List._∷_
+              105
+              (List._∷_
+              110
+              (List._∷_
+              97
+              (List._∷_ 116 (List._∷_ 105 (List._∷_ 111 (List._∷_ 110 List.[])))))))))))))))))))
+              (Syntax.tcons
+              (Syntax.tyArray (Syntax.tyInt Syntax.w8) 16)
+              (Syntax.tcons
+              (Syntax.tyEnum
+              (List._∷_
+              97
+              (List._∷_
+              110
+              (List._∷_
+              115
+              (List._∷_
+              119
+              (List._∷_
+              101
+              (List._∷_
+              114
+              (List._∷_ 58 (List._∷_ 58 (List._∷_ 87 (List._∷_ 97 (List._∷_ 121 List.[])))))))))))
+              (Syntax.ttcons
+              Syntax.tnil
+              (Syntax.ttcons
+              Syntax.tnil
+              (Syntax.ttcons Syntax.tnil (Syntax.ttcons Syntax.tnil Syntax.ttnil)))))
+              Syntax.tnil)))
+              Syntax.tnil)))
+              (Syntax.tcons
+              (Syntax.tyStruct
+              (List._∷_
+              102
+              (List._∷_
+              105
+              (List._∷_
+              110
+              (List._∷_
+              105
+              (List._∷_
+              115
+              (List._∷_
+              104
+              (List._∷_
+              58
+              (List._∷_
+              58
+              (List._∷_ 83 (List._∷_ 101 (List._∷_ 110 (List._∷_ 116 List.[]))))))))))))
+              (Syntax.tcons
+              (Syntax.tyInt Syntax.w64)
+              (Syntax.tcons
+              (Syntax.tyStruct
+              (List._∷_
+              97
+              (List._∷_
+              110
+              (List._∷_
+              115
+              (List._∷_
+              119
+              (List._∷_
+              101
+              (List._∷_
+              114
+              (List._∷_
+              58
+              (List._∷_
+              58
+              (List._∷_
+              68
+              (List._∷_
+              101
+              (List._∷_
+              115
+              (List._∷_
+              116
+              (List._∷_
+              105
+              (List._∷_
+              110
+              (List._∷_
+              97
+              (List._∷_ 116 (List._∷_ 105 (List._∷_ 111 (List._∷_ 110 List.[])))))))))))))))))))
+              (Syntax.tcons
+              (Syntax.tyArray (Syntax.tyInt Syntax.w8) 16)
+              (Syntax.tcons
+              (Syntax.tyEnum
+              (List._∷_
+              97
+              (List._∷_
+              110
+              (List._∷_
+              115
+              (List._∷_
+              119
+              (List._∷_
+              101
+              (List._∷_
+              114
+              (List._∷_ 58 (List._∷_ 58 (List._∷_ 87 (List._∷_ 97 (List._∷_ 121 List.[])))))))))))
+              (Syntax.ttcons
+              Syntax.tnil
+              (Syntax.ttcons
+              Syntax.tnil
+              (Syntax.ttcons Syntax.tnil (Syntax.ttcons Syntax.tnil Syntax.ttnil)))))
+              Syntax.tnil)))
+              Syntax.tnil)))
+              (Syntax.tcons
+              (Syntax.tyInt Syntax.w64)
+              (Syntax.tcons
               (Syntax.tyEnum
               (List._∷_
               97
@@ -13870,160 +14140,6 @@ module _ (claims· : Claims) where
               (Syntax.ttcons
               Syntax.tnil
               (Syntax.ttcons Syntax.tnil (Syntax.ttcons Syntax.tnil Syntax.ttnil)))))))))))))))))))
-              (Syntax.tcons
-              (Syntax.tyStruct
-              (List._∷_
-              102
-              (List._∷_
-              105
-              (List._∷_
-              110
-              (List._∷_
-              105
-              (List._∷_
-              115
-              (List._∷_
-              104
-              (List._∷_
-              58
-              (List._∷_
-              58
-              (List._∷_ 83 (List._∷_ 101 (List._∷_ 110 (List._∷_ 116 List.[]))))))))))))
-              (Syntax.tcons
-              (Syntax.tyInt Syntax.w64)
-              (Syntax.tcons
-              (Syntax.tyStruct
-              (List._∷_
-              97
-              (List._∷_
-              110
-              (List._∷_
-              115
-              (List._∷_
-              119
-              (List._∷_
-              101
-              (List._∷_
-              114
-              (List._∷_
-              58
-              (List._∷_
-              58
-              (List._∷_
-              68
-              (List._∷_
-              101
-              (List._∷_
-              115
-              (List._∷_
-              116
-              (List._∷_
-              105
-              (List._∷_
-              110
-              (List._∷_
-              97
-              (List._∷_ 116 (List._∷_ 105 (List._∷_ 111 (List._∷_ 110 List.[])))))))))))))))))))
-              (Syntax.tcons
-              (Syntax.tyEnum
-              (List._∷_
-              97
-              (List._∷_
-              110
-              (List._∷_
-              115
-              (List._∷_
-              119
-              (List._∷_
-              101
-              (List._∷_
-              114
-              (List._∷_ 58 (List._∷_ 58 (List._∷_ 87 (List._∷_ 97 (List._∷_ 121 List.[])))))))))))
-              (Syntax.ttcons
-              Syntax.tnil
-              (Syntax.ttcons
-              Syntax.tnil
-              (Syntax.ttcons Syntax.tnil (Syntax.ttcons Syntax.tnil Syntax.ttnil)))))
-              (Syntax.tcons (Syntax.tyArray (Syntax.tyInt Syntax.w8) 16) Syntax.tnil)))
-              Syntax.tnil)))
-              (Syntax.tcons
-              (Syntax.tyStruct
-              (List._∷_
-              102
-              (List._∷_
-              105
-              (List._∷_
-              110
-              (List._∷_
-              105
-              (List._∷_
-              115
-              (List._∷_
-              104
-              (List._∷_
-              58
-              (List._∷_
-              58
-              (List._∷_ 83 (List._∷_ 101 (List._∷_ 110 (List._∷_ 116 List.[]))))))))))))
-              (Syntax.tcons
-              (Syntax.tyInt Syntax.w64)
-              (Syntax.tcons
-              (Syntax.tyStruct
-              (List._∷_
-              97
-              (List._∷_
-              110
-              (List._∷_
-              115
-              (List._∷_
-              119
-              (List._∷_
-              101
-              (List._∷_
-              114
-              (List._∷_
-              58
-              (List._∷_
-              58
-              (List._∷_
-              68
-              (List._∷_
-              101
-              (List._∷_
-              115
-              (List._∷_
-              116
-              (List._∷_
-              105
-              (List._∷_
-              110
-              (List._∷_
-              97
-              (List._∷_ 116 (List._∷_ 105 (List._∷_ 111 (List._∷_ 110 List.[])))))))))))))))))))
-              (Syntax.tcons
-              (Syntax.tyEnum
-              (List._∷_
-              97
-              (List._∷_
-              110
-              (List._∷_
-              115
-              (List._∷_
-              119
-              (List._∷_
-              101
-              (List._∷_
-              114
-              (List._∷_ 58 (List._∷_ 58 (List._∷_ 87 (List._∷_ 97 (List._∷_ 121 List.[])))))))))))
-              (Syntax.ttcons
-              Syntax.tnil
-              (Syntax.ttcons
-              Syntax.tnil
-              (Syntax.ttcons Syntax.tnil (Syntax.ttcons Syntax.tnil Syntax.ttnil)))))
-              (Syntax.tcons (Syntax.tyArray (Syntax.tyInt Syntax.w8) 16) Syntax.tnil)))
-              Syntax.tnil)))
-              (Syntax.tcons
-              (Syntax.tyInt Syntax.w64)
               (Syntax.tcons (Syntax.tyInt Syntax.w8) Syntax.tnil)))))),
         ) (List._∷_ (
           1,
@@ -17870,6 +17986,164 @@ module _ (claims· : Claims) where
               116
               (List._∷_ 99 (List._∷_ 111 (List._∷_ 109 (List._∷_ 101 List.[])))))))))))))))
               (Syntax.tcons
+              (Syntax.tyStruct
+              (List._∷_
+              102
+              (List._∷_
+              105
+              (List._∷_
+              110
+              (List._∷_
+              105
+              (List._∷_
+              115
+              (List._∷_
+              104
+              (List._∷_
+              58
+              (List._∷_
+              58
+              (List._∷_ 83 (List._∷_ 101 (List._∷_ 110 (List._∷_ 116 List.[]))))))))))))
+              (Syntax.tcons
+              (Syntax.tyInt Syntax.w64)
+              (Syntax.tcons
+              (Syntax.tyStruct
+              (List._∷_
+              97
+              (List._∷_
+              110
+              (List._∷_
+              115
+              (List._∷_
+              119
+              (List._∷_
+              101
+              (List._∷_
+              114
+              (List._∷_
+              58
+              (List._∷_
+              58
+              (List._∷_
+              68
+              (List._∷_
+              101
+              (List._∷_
+              115
+              (List._∷_
+              116
+              (List._∷_
+              105
+              (List._∷_
+              110
+              (List._∷_
+              97
+              (List._∷_ 116 (List._∷_ 105 (List._∷_ 111 (List._∷_ 110 List.[])))))))))))))))))))
+              (Syntax.tcons
+              (Syntax.tyArray (Syntax.tyInt Syntax.w8) 16)
+              (Syntax.tcons
+              (Syntax.tyEnum
+              (List._∷_
+              97
+              (List._∷_
+              110
+              (List._∷_
+              115
+              (List._∷_
+              119
+              (List._∷_
+              101
+              (List._∷_
+              114
+              (List._∷_ 58 (List._∷_ 58 (List._∷_ 87 (List._∷_ 97 (List._∷_ 121 List.[])))))))))))
+              (Syntax.ttcons
+              Syntax.tnil
+              (Syntax.ttcons
+              Syntax.tnil
+              (Syntax.ttcons Syntax.tnil (Syntax.ttcons Syntax.tnil Syntax.ttnil)))))
+              Syntax.tnil)))
+              Syntax.tnil)))
+              (Syntax.tcons
+              (Syntax.tyStruct
+              (List._∷_
+              102
+              (List._∷_
+              105
+              (List._∷_
+              110
+              (List._∷_
+              105
+              (List._∷_
+              115
+              (List._∷_
+              104
+              (List._∷_
+              58
+              (List._∷_
+              58
+              (List._∷_ 83 (List._∷_ 101 (List._∷_ 110 (List._∷_ 116 List.[]))))))))))))
+              (Syntax.tcons
+              (Syntax.tyInt Syntax.w64)
+              (Syntax.tcons
+              (Syntax.tyStruct
+              (List._∷_
+              97
+              (List._∷_
+              110
+              (List._∷_
+              115
+              (List._∷_
+              119
+              (List._∷_
+              101
+              (List._∷_
+              114
+              (List._∷_
+              58
+              (List._∷_
+              58
+              (List._∷_
+              68
+              (List._∷_
+              101
+              (List._∷_
+              115
+              (List._∷_
+              116
+              (List._∷_
+              105
+              (List._∷_
+              110
+              (List._∷_
+              97
+              (List._∷_ 116 (List._∷_ 105 (List._∷_ 111 (List._∷_ 110 List.[])))))))))))))))))))
+              (Syntax.tcons
+              (Syntax.tyArray (Syntax.tyInt Syntax.w8) 16)
+              (Syntax.tcons
+              (Syntax.tyEnum
+              (List._∷_
+              97
+              (List._∷_
+              110
+              (List._∷_
+              115
+              (List._∷_
+              119
+              (List._∷_
+              101
+              (List._∷_
+              114
+              (List._∷_ 58 (List._∷_ 58 (List._∷_ 87 (List._∷_ 97 (List._∷_ 121 List.[])))))))))))
+              (Syntax.ttcons
+              Syntax.tnil
+              (Syntax.ttcons
+              Syntax.tnil
+              (Syntax.ttcons Syntax.tnil (Syntax.ttcons Syntax.tnil Syntax.ttnil)))))
+              Syntax.tnil)))
+              Syntax.tnil)))
+              (Syntax.tcons
+              (Syntax.tyInt Syntax.w64)
+              (Syntax.tcons
               (Syntax.tyEnum
               (List._∷_
               97
@@ -17925,160 +18199,6 @@ module _ (claims· : Claims) where
               (Syntax.ttcons
               Syntax.tnil
               (Syntax.ttcons Syntax.tnil (Syntax.ttcons Syntax.tnil Syntax.ttnil)))))))))))))))))))
-              (Syntax.tcons
-              (Syntax.tyStruct
-              (List._∷_
-              102
-              (List._∷_
-              105
-              (List._∷_
-              110
-              (List._∷_
-              105
-              (List._∷_
-              115
-              (List._∷_
-              104
-              (List._∷_
-              58
-              (List._∷_
-              58
-              (List._∷_ 83 (List._∷_ 101 (List._∷_ 110 (List._∷_ 116 List.[]))))))))))))
-              (Syntax.tcons
-              (Syntax.tyInt Syntax.w64)
-              (Syntax.tcons
-              (Syntax.tyStruct
-              (List._∷_
-              97
-              (List._∷_
-              110
-              (List._∷_
-              115
-              (List._∷_
-              119
-              (List._∷_
-              101
-              (List._∷_
-              114
-              (List._∷_
-              58
-              (List._∷_
-              58
-              (List._∷_
-              68
-              (List._∷_
-              101
-              (List._∷_
-              115
-              (List._∷_
-              116
-              (List._∷_
-              105
-              (List._∷_
-              110
-              (List._∷_
-              97
-              (List._∷_ 116 (List._∷_ 105 (List._∷_ 111 (List._∷_ 110 List.[])))))))))))))))))))
-              (Syntax.tcons
-              (Syntax.tyEnum
-              (List._∷_
-              97
-              (List._∷_
-              110
-              (List._∷_
-              115
-              (List._∷_
-              119
-              (List._∷_
-              101
-              (List._∷_
-              114
-              (List._∷_ 58 (List._∷_ 58 (List._∷_ 87 (List._∷_ 97 (List._∷_ 121 List.[])))))))))))
-              (Syntax.ttcons
-              Syntax.tnil
-              (Syntax.ttcons
-              Syntax.tnil
-              (Syntax.ttcons Syntax.tnil (Syntax.ttcons Syntax.tnil Syntax.ttnil)))))
-              (Syntax.tcons (Syntax.tyArray (Syntax.tyInt Syntax.w8) 16) Syntax.tnil)))
-              Syntax.tnil)))
-              (Syntax.tcons
-              (Syntax.tyStruct
-              (List._∷_
-              102
-              (List._∷_
-              105
-              (List._∷_
-              110
-              (List._∷_
-              105
-              (List._∷_
-              115
-              (List._∷_
-              104
-              (List._∷_
-              58
-              (List._∷_
-              58
-              (List._∷_ 83 (List._∷_ 101 (List._∷_ 110 (List._∷_ 116 List.[]))))))))))))
-              (Syntax.tcons
-              (Syntax.tyInt Syntax.w64)
-              (Syntax.tcons
-              (Syntax.tyStruct
-              (List._∷_
-              97
-              (List._∷_
-              110
-              (List._∷_
-              115
-              (List._∷_
-              119
-              (List._∷_
-              101
-              (List._∷_
-              114
-              (List._∷_
-              58
-              (List._∷_
-              58
-              (List._∷_
-              68
-              (List._∷_
-              101
-              (List._∷_
-              115
-              (List._∷_
-              116
-              (List._∷_
-              105
-              (List._∷_
-              110
-              (List._∷_
-              97
-              (List._∷_ 116 (List._∷_ 105 (List._∷_ 111 (List._∷_ 110 List.[])))))))))))))))))))
-              (Syntax.tcons
-              (Syntax.tyEnum
-              (List._∷_
-              97
-              (List._∷_
-              110
-              (List._∷_
-              115
-              (List._∷_
-              119
-              (List._∷_
-              101
-              (List._∷_
-              114
-              (List._∷_ 58 (List._∷_ 58 (List._∷_ 87 (List._∷_ 97 (List._∷_ 121 List.[])))))))))))
-              (Syntax.ttcons
-              Syntax.tnil
-              (Syntax.ttcons
-              Syntax.tnil
-              (Syntax.ttcons Syntax.tnil (Syntax.ttcons Syntax.tnil Syntax.ttnil)))))
-              (Syntax.tcons (Syntax.tyArray (Syntax.tyInt Syntax.w8) 16) Syntax.tnil)))
-              Syntax.tnil)))
-              (Syntax.tcons
-              (Syntax.tyInt Syntax.w64)
               (Syntax.tcons (Syntax.tyInt Syntax.w8) Syntax.tnil)))))))
               (tt, (tt, (tt, (tt, (tt, tt)))))
               Path'.refl)
@@ -19914,6 +20034,164 @@ module _ (claims· : Claims) where
               116
               (List._∷_ 99 (List._∷_ 111 (List._∷_ 109 (List._∷_ 101 List.[])))))))))))))))
               (Syntax.tcons
+              (Syntax.tyStruct
+              (List._∷_
+              102
+              (List._∷_
+              105
+              (List._∷_
+              110
+              (List._∷_
+              105
+              (List._∷_
+              115
+              (List._∷_
+              104
+              (List._∷_
+              58
+              (List._∷_
+              58
+              (List._∷_ 83 (List._∷_ 101 (List._∷_ 110 (List._∷_ 116 List.[]))))))))))))
+              (Syntax.tcons
+              (Syntax.tyInt Syntax.w64)
+              (Syntax.tcons
+              (Syntax.tyStruct
+              (List._∷_
+              97
+              (List._∷_
+              110
+              (List._∷_
+              115
+              (List._∷_
+              119
+              (List._∷_
+              101
+              (List._∷_
+              114
+              (List._∷_
+              58
+              (List._∷_
+              58
+              (List._∷_
+              68
+              (List._∷_
+              101
+              (List._∷_
+              115
+              (List._∷_
+              116
+              (List._∷_
+              105
+              (List._∷_
+              110
+              (List._∷_
+              97
+              (List._∷_ 116 (List._∷_ 105 (List._∷_ 111 (List._∷_ 110 List.[])))))))))))))))))))
+              (Syntax.tcons
+              (Syntax.tyArray (Syntax.tyInt Syntax.w8) 16)
+              (Syntax.tcons
+              (Syntax.tyEnum
+              (List._∷_
+              97
+              (List._∷_
+              110
+              (List._∷_
+              115
+              (List._∷_
+              119
+              (List._∷_
+              101
+              (List._∷_
+              114
+              (List._∷_ 58 (List._∷_ 58 (List._∷_ 87 (List._∷_ 97 (List._∷_ 121 List.[])))))))))))
+              (Syntax.ttcons
+              Syntax.tnil
+              (Syntax.ttcons
+              Syntax.tnil
+              (Syntax.ttcons Syntax.tnil (Syntax.ttcons Syntax.tnil Syntax.ttnil)))))
+              Syntax.tnil)))
+              Syntax.tnil)))
+              (Syntax.tcons
+              (Syntax.tyStruct
+              (List._∷_
+              102
+              (List._∷_
+              105
+              (List._∷_
+              110
+              (List._∷_
+              105
+              (List._∷_
+              115
+              (List._∷_
+              104
+              (List._∷_
+              58
+              (List._∷_
+              58
+              (List._∷_ 83 (List._∷_ 101 (List._∷_ 110 (List._∷_ 116 List.[]))))))))))))
+              (Syntax.tcons
+              (Syntax.tyInt Syntax.w64)
+              (Syntax.tcons
+              (Syntax.tyStruct
+              (List._∷_
+              97
+              (List._∷_
+              110
+              (List._∷_
+              115
+              (List._∷_
+              119
+              (List._∷_
+              101
+              (List._∷_
+              114
+              (List._∷_
+              58
+              (List._∷_
+              58
+              (List._∷_
+              68
+              (List._∷_
+              101
+              (List._∷_
+              115
+              (List._∷_
+              116
+              (List._∷_
+              105
+              (List._∷_
+              110
+              (List._∷_
+              97
+              (List._∷_ 116 (List._∷_ 105 (List._∷_ 111 (List._∷_ 110 List.[])))))))))))))))))))
+              (Syntax.tcons
+              (Syntax.tyArray (Syntax.tyInt Syntax.w8) 16)
+              (Syntax.tcons
+              (Syntax.tyEnum
+              (List._∷_
+              97
+              (List._∷_
+              110
+              (List._∷_
+              115
+              (List._∷_
+              119
+              (List._∷_
+              101
+              (List._∷_
+              114
+              (List._∷_ 58 (List._∷_ 58 (List._∷_ 87 (List._∷_ 97 (List._∷_ 121 List.[])))))))))))
+              (Syntax.ttcons
+              Syntax.tnil
+              (Syntax.ttcons
+              Syntax.tnil
+              (Syntax.ttcons Syntax.tnil (Syntax.ttcons Syntax.tnil Syntax.ttnil)))))
+              Syntax.tnil)))
+              Syntax.tnil)))
+              (Syntax.tcons
+              (Syntax.tyInt Syntax.w64)
+              (Syntax.tcons
               (Syntax.tyEnum
               (List._∷_
               97
@@ -19969,160 +20247,6 @@ module _ (claims· : Claims) where
               (Syntax.ttcons
               Syntax.tnil
               (Syntax.ttcons Syntax.tnil (Syntax.ttcons Syntax.tnil Syntax.ttnil)))))))))))))))))))
-              (Syntax.tcons
-              (Syntax.tyStruct
-              (List._∷_
-              102
-              (List._∷_
-              105
-              (List._∷_
-              110
-              (List._∷_
-              105
-              (List._∷_
-              115
-              (List._∷_
-              104
-              (List._∷_
-              58
-              (List._∷_
-              58
-              (List._∷_ 83 (List._∷_ 101 (List._∷_ 110 (List._∷_ 116 List.[]))))))))))))
-              (Syntax.tcons
-              (Syntax.tyInt Syntax.w64)
-              (Syntax.tcons
-              (Syntax.tyStruct
-              (List._∷_
-              97
-              (List._∷_
-              110
-              (List._∷_
-              115
-              (List._∷_
-              119
-              (List._∷_
-              101
-              (List._∷_
-              114
-              (List._∷_
-              58
-              (List._∷_
-              58
-              (List._∷_
-              68
-              (List._∷_
-              101
-              (List._∷_
-              115
-              (List._∷_
-              116
-              (List._∷_
-              105
-              (List._∷_
-              110
-              (List._∷_
-              97
-              (List._∷_ 116 (List._∷_ 105 (List._∷_ 111 (List._∷_ 110 List.[])))))))))))))))))))
-              (Syntax.tcons
-              (Syntax.tyEnum
-              (List._∷_
-              97
-              (List._∷_
-              110
-              (List._∷_
-              115
-              (List._∷_
-              119
-              (List._∷_
-              101
-              (List._∷_
-              114
-              (List._∷_ 58 (List._∷_ 58 (List._∷_ 87 (List._∷_ 97 (List._∷_ 121 List.[])))))))))))
-              (Syntax.ttcons
-              Syntax.tnil
-              (Syntax.ttcons
-              Syntax.tnil
-              (Syntax.ttcons Syntax.tnil (Syntax.ttcons Syntax.tnil Syntax.ttnil)))))
-              (Syntax.tcons (Syntax.tyArray (Syntax.tyInt Syntax.w8) 16) Syntax.tnil)))
-              Syntax.tnil)))
-              (Syntax.tcons
-              (Syntax.tyStruct
-              (List._∷_
-              102
-              (List._∷_
-              105
-              (List._∷_
-              110
-              (List._∷_
-              105
-              (List._∷_
-              115
-              (List._∷_
-              104
-              (List._∷_
-              58
-              (List._∷_
-              58
-              (List._∷_ 83 (List._∷_ 101 (List._∷_ 110 (List._∷_ 116 List.[]))))))))))))
-              (Syntax.tcons
-              (Syntax.tyInt Syntax.w64)
-              (Syntax.tcons
-              (Syntax.tyStruct
-              (List._∷_
-              97
-              (List._∷_
-              110
-              (List._∷_
-              115
-              (List._∷_
-              119
-              (List._∷_
-              101
-              (List._∷_
-              114
-              (List._∷_
-              58
-              (List._∷_
-              58
-              (List._∷_
-              68
-              (List._∷_
-              101
-              (List._∷_
-              115
-              (List._∷_
-              116
-              (List._∷_
-              105
-              (List._∷_
-              110
-              (List._∷_
-              97
-              (List._∷_ 116 (List._∷_ 105 (List._∷_ 111 (List._∷_ 110 List.[])))))))))))))))))))
-              (Syntax.tcons
-              (Syntax.tyEnum
-              (List._∷_
-              97
-              (List._∷_
-              110
-              (List._∷_
-              115
-              (List._∷_
-              119
-              (List._∷_
-              101
-              (List._∷_
-              114
-              (List._∷_ 58 (List._∷_ 58 (List._∷_ 87 (List._∷_ 97 (List._∷_ 121 List.[])))))))))))
-              (Syntax.ttcons
-              Syntax.tnil
-              (Syntax.ttcons
-              Syntax.tnil
-              (Syntax.ttcons Syntax.tnil (Syntax.ttcons Syntax.tnil Syntax.ttnil)))))
-              (Syntax.tcons (Syntax.tyArray (Syntax.tyInt Syntax.w8) 16) Syntax.tnil)))
-              Syntax.tnil)))
-              (Syntax.tcons
-              (Syntax.tyInt Syntax.w64)
               (Syntax.tcons (Syntax.tyInt Syntax.w8) Syntax.tnil)))))))
               (tt, (tt, (tt, (tt, (tt, tt)))))
               Path'.refl)

@@ -108,6 +108,156 @@ xs =
     117
     (List._∷_ 116 (List._∷_ 99 (List._∷_ 111 (List._∷_ 109 (List._∷_ 101 List.[])))))))))))))))
     (Syntax.tcons
+    (Syntax.tyStruct
+    (List._∷_
+    102
+    (List._∷_
+    105
+    (List._∷_
+    110
+    (List._∷_
+    105
+    (List._∷_
+    115
+    (List._∷_
+    104
+    (List._∷_
+    58
+    (List._∷_ 58 (List._∷_ 83 (List._∷_ 101 (List._∷_ 110 (List._∷_ 116 List.[]))))))))))))
+    (Syntax.tcons
+    (Syntax.tyInt Syntax.w64)
+    (Syntax.tcons
+    (Syntax.tyStruct
+    (List._∷_
+    97
+    (List._∷_
+    110
+    (List._∷_
+    115
+    (List._∷_
+    119
+    (List._∷_
+    101
+    (List._∷_
+    114
+    (List._∷_
+    58
+    (List._∷_
+    58
+    (List._∷_
+    68
+    (List._∷_
+    101
+    (List._∷_
+    115
+    (List._∷_
+    116
+    (List._∷_
+    105
+    (List._∷_
+    110
+    (List._∷_ 97 (List._∷_ 116 (List._∷_ 105 (List._∷_ 111 (List._∷_ 110 List.[])))))))))))))))))))
+    (Syntax.tcons
+    (Syntax.tyArray (Syntax.tyInt Syntax.w8) 16)
+    (Syntax.tcons
+    (Syntax.tyEnum
+    (List._∷_
+    97
+    (List._∷_
+    110
+    (List._∷_
+    115
+    (List._∷_
+    119
+    (List._∷_
+    101
+    (List._∷_
+    114
+    (List._∷_ 58 (List._∷_ 58 (List._∷_ 87 (List._∷_ 97 (List._∷_ 121 List.[])))))))))))
+    (Syntax.ttcons
+    Syntax.tnil
+    (Syntax.ttcons
+    Syntax.tnil
+    (Syntax.ttcons Syntax.tnil (Syntax.ttcons Syntax.tnil Syntax.ttnil)))))
+    Syntax.tnil)))
+    Syntax.tnil)))
+    (Syntax.tcons
+    (Syntax.tyStruct
+    (List._∷_
+    102
+    (List._∷_
+    105
+    (List._∷_
+    110
+    (List._∷_
+    105
+    (List._∷_
+    115
+    (List._∷_
+    104
+    (List._∷_
+    58
+    (List._∷_ 58 (List._∷_ 83 (List._∷_ 101 (List._∷_ 110 (List._∷_ 116 List.[]))))))))))))
+    (Syntax.tcons
+    (Syntax.tyInt Syntax.w64)
+    (Syntax.tcons
+    (Syntax.tyStruct
+    (List._∷_
+    97
+    (List._∷_
+    110
+    (List._∷_
+    115
+    (List._∷_
+    119
+    (List._∷_
+    101
+    (List._∷_
+    114
+    (List._∷_
+    58
+    (List._∷_
+    58
+    (List._∷_
+    68
+    (List._∷_
+    101
+    (List._∷_
+    115
+    (List._∷_
+    116
+    (List._∷_
+    105
+    (List._∷_
+    110
+    (List._∷_ 97 (List._∷_ 116 (List._∷_ 105 (List._∷_ 111 (List._∷_ 110 List.[])))))))))))))))))))
+    (Syntax.tcons
+    (Syntax.tyArray (Syntax.tyInt Syntax.w8) 16)
+    (Syntax.tcons
+    (Syntax.tyEnum
+    (List._∷_
+    97
+    (List._∷_
+    110
+    (List._∷_
+    115
+    (List._∷_
+    119
+    (List._∷_
+    101
+    (List._∷_
+    114
+    (List._∷_ 58 (List._∷_ 58 (List._∷_ 87 (List._∷_ 97 (List._∷_ 121 List.[])))))))))))
+    (Syntax.ttcons
+    Syntax.tnil
+    (Syntax.ttcons
+    Syntax.tnil
+    (Syntax.ttcons Syntax.tnil (Syntax.ttcons Syntax.tnil Syntax.ttnil)))))
+    Syntax.tnil)))
+    Syntax.tnil)))
+    (Syntax.tcons
+    (Syntax.tyInt Syntax.w64)
+    (Syntax.tcons
     (Syntax.tyEnum
     (List._∷_
     97
@@ -161,152 +311,6 @@ xs =
     (Syntax.ttcons
     Syntax.tnil
     (Syntax.ttcons Syntax.tnil (Syntax.ttcons Syntax.tnil Syntax.ttnil)))))))))))))))))))
-    (Syntax.tcons
-    (Syntax.tyStruct
-    (List._∷_
-    102
-    (List._∷_
-    105
-    (List._∷_
-    110
-    (List._∷_
-    105
-    (List._∷_
-    115
-    (List._∷_
-    104
-    (List._∷_
-    58
-    (List._∷_ 58 (List._∷_ 83 (List._∷_ 101 (List._∷_ 110 (List._∷_ 116 List.[]))))))))))))
-    (Syntax.tcons
-    (Syntax.tyInt Syntax.w64)
-    (Syntax.tcons
-    (Syntax.tyStruct
-    (List._∷_
-    97
-    (List._∷_
-    110
-    (List._∷_
-    115
-    (List._∷_
-    119
-    (List._∷_
-    101
-    (List._∷_
-    114
-    (List._∷_
-    58
-    (List._∷_
-    58
-    (List._∷_
-    68
-    (List._∷_
-    101
-    (List._∷_
-    115
-    (List._∷_
-    116
-    (List._∷_
-    105
-    (List._∷_
-    110
-    (List._∷_ 97 (List._∷_ 116 (List._∷_ 105 (List._∷_ 111 (List._∷_ 110 List.[])))))))))))))))))))
-    (Syntax.tcons
-    (Syntax.tyEnum
-    (List._∷_
-    97
-    (List._∷_
-    110
-    (List._∷_
-    115
-    (List._∷_
-    119
-    (List._∷_
-    101
-    (List._∷_
-    114
-    (List._∷_ 58 (List._∷_ 58 (List._∷_ 87 (List._∷_ 97 (List._∷_ 121 List.[])))))))))))
-    (Syntax.ttcons
-    Syntax.tnil
-    (Syntax.ttcons
-    Syntax.tnil
-    (Syntax.ttcons Syntax.tnil (Syntax.ttcons Syntax.tnil Syntax.ttnil)))))
-    (Syntax.tcons (Syntax.tyArray (Syntax.tyInt Syntax.w8) 16) Syntax.tnil)))
-    Syntax.tnil)))
-    (Syntax.tcons
-    (Syntax.tyStruct
-    (List._∷_
-    102
-    (List._∷_
-    105
-    (List._∷_
-    110
-    (List._∷_
-    105
-    (List._∷_
-    115
-    (List._∷_
-    104
-    (List._∷_
-    58
-    (List._∷_ 58 (List._∷_ 83 (List._∷_ 101 (List._∷_ 110 (List._∷_ 116 List.[]))))))))))))
-    (Syntax.tcons
-    (Syntax.tyInt Syntax.w64)
-    (Syntax.tcons
-    (Syntax.tyStruct
-    (List._∷_
-    97
-    (List._∷_
-    110
-    (List._∷_
-    115
-    (List._∷_
-    119
-    (List._∷_
-    101
-    (List._∷_
-    114
-    (List._∷_
-    58
-    (List._∷_
-    58
-    (List._∷_
-    68
-    (List._∷_
-    101
-    (List._∷_
-    115
-    (List._∷_
-    116
-    (List._∷_
-    105
-    (List._∷_
-    110
-    (List._∷_ 97 (List._∷_ 116 (List._∷_ 105 (List._∷_ 111 (List._∷_ 110 List.[])))))))))))))))))))
-    (Syntax.tcons
-    (Syntax.tyEnum
-    (List._∷_
-    97
-    (List._∷_
-    110
-    (List._∷_
-    115
-    (List._∷_
-    119
-    (List._∷_
-    101
-    (List._∷_
-    114
-    (List._∷_ 58 (List._∷_ 58 (List._∷_ 87 (List._∷_ 97 (List._∷_ 121 List.[])))))))))))
-    (Syntax.ttcons
-    Syntax.tnil
-    (Syntax.ttcons
-    Syntax.tnil
-    (Syntax.ttcons Syntax.tnil (Syntax.ttcons Syntax.tnil Syntax.ttnil)))))
-    (Syntax.tcons (Syntax.tyArray (Syntax.tyInt Syntax.w8) 16) Syntax.tnil)))
-    Syntax.tnil)))
-    (Syntax.tcons
-    (Syntax.tyInt Syntax.w64)
     (Syntax.tcons (Syntax.tyInt Syntax.w8) Syntax.tnil))))))
     (List._∷_
     (KInstanceRow.spelled)
@@ -879,6 +883,160 @@ t0 = List._∷_ (0, Rows'.any-gone Syntax.tyUnit) (List._∷_ (
           116
           (List._∷_ 99 (List._∷_ 111 (List._∷_ 109 (List._∷_ 101 List.[])))))))))))))))
           (Syntax.tcons
+          (Syntax.tyStruct
+          (List._∷_
+          102
+          (List._∷_
+          105
+          (List._∷_
+          110
+          (List._∷_
+          105
+          (List._∷_
+          115
+          (List._∷_
+          104
+          (List._∷_
+          58
+          (List._∷_ 58 (List._∷_ 83 (List._∷_ 101 (List._∷_ 110 (List._∷_ 116 List.[]))))))))))))
+          (Syntax.tcons
+          (Syntax.tyInt Syntax.w64)
+          (Syntax.tcons
+          (Syntax.tyStruct
+          (List._∷_
+          97
+          (List._∷_
+          110
+          (List._∷_
+          115
+          (List._∷_
+          119
+          (List._∷_
+          101
+          (List._∷_
+          114
+          (List._∷_
+          58
+          (List._∷_
+          58
+          (List._∷_
+          68
+          (List._∷_
+          101
+          (List._∷_
+          115
+          (List._∷_
+          116
+          (List._∷_
+          105
+          (List._∷_
+          110
+          (List._∷_
+          97
+          (List._∷_ 116 (List._∷_ 105 (List._∷_ 111 (List._∷_ 110 List.[])))))))))))))))))))
+          (Syntax.tcons
+          (Syntax.tyArray (Syntax.tyInt Syntax.w8) 16)
+          (Syntax.tcons
+          (Syntax.tyEnum
+          (List._∷_
+          97
+          (List._∷_
+          110
+          (List._∷_
+          115
+          (List._∷_
+          119
+          (List._∷_
+          101
+          (List._∷_
+          114
+          (List._∷_ 58 (List._∷_ 58 (List._∷_ 87 (List._∷_ 97 (List._∷_ 121 List.[])))))))))))
+          (Syntax.ttcons
+          Syntax.tnil
+          (Syntax.ttcons
+          Syntax.tnil
+          (Syntax.ttcons Syntax.tnil (Syntax.ttcons Syntax.tnil Syntax.ttnil)))))
+          Syntax.tnil)))
+          Syntax.tnil)))
+          (Syntax.tcons
+          (Syntax.tyStruct
+          (List._∷_
+          102
+          (List._∷_
+          105
+          (List._∷_
+          110
+          (List._∷_
+          105
+          (List._∷_
+          115
+          (List._∷_
+          104
+          (List._∷_
+          58
+          (List._∷_ 58 (List._∷_ 83 (List._∷_ 101 (List._∷_ 110 (List._∷_ 116 List.[]))))))))))))
+          (Syntax.tcons
+          (Syntax.tyInt Syntax.w64)
+          (Syntax.tcons
+          (Syntax.tyStruct
+          (List._∷_
+          97
+          (List._∷_
+          110
+          (List._∷_
+          115
+          (List._∷_
+          119
+          (List._∷_
+          101
+          (List._∷_
+          114
+          (List._∷_
+          58
+          (List._∷_
+          58
+          (List._∷_
+          68
+          (List._∷_
+          101
+          (List._∷_
+          115
+          (List._∷_
+          116
+          (List._∷_
+          105
+          (List._∷_
+          110
+          (List._∷_
+          97
+          (List._∷_ 116 (List._∷_ 105 (List._∷_ 111 (List._∷_ 110 List.[])))))))))))))))))))
+          (Syntax.tcons
+          (Syntax.tyArray (Syntax.tyInt Syntax.w8) 16)
+          (Syntax.tcons
+          (Syntax.tyEnum
+          (List._∷_
+          97
+          (List._∷_
+          110
+          (List._∷_
+          115
+          (List._∷_
+          119
+          (List._∷_
+          101
+          (List._∷_
+          114
+          (List._∷_ 58 (List._∷_ 58 (List._∷_ 87 (List._∷_ 97 (List._∷_ 121 List.[])))))))))))
+          (Syntax.ttcons
+          Syntax.tnil
+          (Syntax.ttcons
+          Syntax.tnil
+          (Syntax.ttcons Syntax.tnil (Syntax.ttcons Syntax.tnil Syntax.ttnil)))))
+          Syntax.tnil)))
+          Syntax.tnil)))
+          (Syntax.tcons
+          (Syntax.tyInt Syntax.w64)
+          (Syntax.tcons
           (Syntax.tyEnum
           (List._∷_
           97
@@ -934,156 +1092,6 @@ t0 = List._∷_ (0, Rows'.any-gone Syntax.tyUnit) (List._∷_ (
           (Syntax.ttcons
           Syntax.tnil
           (Syntax.ttcons Syntax.tnil (Syntax.ttcons Syntax.tnil Syntax.ttnil)))))))))))))))))))
-          (Syntax.tcons
-          (Syntax.tyStruct
-          (List._∷_
-          102
-          (List._∷_
-          105
-          (List._∷_
-          110
-          (List._∷_
-          105
-          (List._∷_
-          115
-          (List._∷_
-          104
-          (List._∷_
-          58
-          (List._∷_ 58 (List._∷_ 83 (List._∷_ 101 (List._∷_ 110 (List._∷_ 116 List.[]))))))))))))
-          (Syntax.tcons
-          (Syntax.tyInt Syntax.w64)
-          (Syntax.tcons
-          (Syntax.tyStruct
-          (List._∷_
-          97
-          (List._∷_
-          110
-          (List._∷_
-          115
-          (List._∷_
-          119
-          (List._∷_
-          101
-          (List._∷_
-          114
-          (List._∷_
-          58
-          (List._∷_
-          58
-          (List._∷_
-          68
-          (List._∷_
-          101
-          (List._∷_
-          115
-          (List._∷_
-          116
-          (List._∷_
-          105
-          (List._∷_
-          110
-          (List._∷_
-          97
-          (List._∷_ 116 (List._∷_ 105 (List._∷_ 111 (List._∷_ 110 List.[])))))))))))))))))))
-          (Syntax.tcons
-          (Syntax.tyEnum
-          (List._∷_
-          97
-          (List._∷_
-          110
-          (List._∷_
-          115
-          (List._∷_
-          119
-          (List._∷_
-          101
-          (List._∷_
-          114
-          (List._∷_ 58 (List._∷_ 58 (List._∷_ 87 (List._∷_ 97 (List._∷_ 121 List.[])))))))))))
-          (Syntax.ttcons
-          Syntax.tnil
-          (Syntax.ttcons
-          Syntax.tnil
-          (Syntax.ttcons Syntax.tnil (Syntax.ttcons Syntax.tnil Syntax.ttnil)))))
-          (Syntax.tcons (Syntax.tyArray (Syntax.tyInt Syntax.w8) 16) Syntax.tnil)))
-          Syntax.tnil)))
-          (Syntax.tcons
-          (Syntax.tyStruct
-          (List._∷_
-          102
-          (List._∷_
-          105
-          (List._∷_
-          110
-          (List._∷_
-          105
-          (List._∷_
-          115
-          (List._∷_
-          104
-          (List._∷_
-          58
-          (List._∷_ 58 (List._∷_ 83 (List._∷_ 101 (List._∷_ 110 (List._∷_ 116 List.[]))))))))))))
-          (Syntax.tcons
-          (Syntax.tyInt Syntax.w64)
-          (Syntax.tcons
-          (Syntax.tyStruct
-          (List._∷_
-          97
-          (List._∷_
-          110
-          (List._∷_
-          115
-          (List._∷_
-          119
-          (List._∷_
-          101
-          (List._∷_
-          114
-          (List._∷_
-          58
-          (List._∷_
-          58
-          (List._∷_
-          68
-          (List._∷_
-          101
-          (List._∷_
-          115
-          (List._∷_
-          116
-          (List._∷_
-          105
-          (List._∷_
-          110
-          (List._∷_
-          97
-          (List._∷_ 116 (List._∷_ 105 (List._∷_ 111 (List._∷_ 110 List.[])))))))))))))))))))
-          (Syntax.tcons
-          (Syntax.tyEnum
-          (List._∷_
-          97
-          (List._∷_
-          110
-          (List._∷_
-          115
-          (List._∷_
-          119
-          (List._∷_
-          101
-          (List._∷_
-          114
-          (List._∷_ 58 (List._∷_ 58 (List._∷_ 87 (List._∷_ 97 (List._∷_ 121 List.[])))))))))))
-          (Syntax.ttcons
-          Syntax.tnil
-          (Syntax.ttcons
-          Syntax.tnil
-          (Syntax.ttcons Syntax.tnil (Syntax.ttcons Syntax.tnil Syntax.ttnil)))))
-          (Syntax.tcons (Syntax.tyArray (Syntax.tyInt Syntax.w8) 16) Syntax.tnil)))
-          Syntax.tnil)))
-          (Syntax.tcons
-          (Syntax.tyInt Syntax.w64)
           (Syntax.tcons (Syntax.tyInt Syntax.w8) Syntax.tnil)))))),
     ) (List._∷_ (8, Rows'.any-gone (KInstanceRow.spelled)) (List._∷_ (
       9,
@@ -1257,6 +1265,160 @@ t2 = List._∷_ (0, Rows'.sc-here Row.sUnit) (List._∷_ (
           116
           (List._∷_ 99 (List._∷_ 111 (List._∷_ 109 (List._∷_ 101 List.[])))))))))))))))
           (Syntax.tcons
+          (Syntax.tyStruct
+          (List._∷_
+          102
+          (List._∷_
+          105
+          (List._∷_
+          110
+          (List._∷_
+          105
+          (List._∷_
+          115
+          (List._∷_
+          104
+          (List._∷_
+          58
+          (List._∷_ 58 (List._∷_ 83 (List._∷_ 101 (List._∷_ 110 (List._∷_ 116 List.[]))))))))))))
+          (Syntax.tcons
+          (Syntax.tyInt Syntax.w64)
+          (Syntax.tcons
+          (Syntax.tyStruct
+          (List._∷_
+          97
+          (List._∷_
+          110
+          (List._∷_
+          115
+          (List._∷_
+          119
+          (List._∷_
+          101
+          (List._∷_
+          114
+          (List._∷_
+          58
+          (List._∷_
+          58
+          (List._∷_
+          68
+          (List._∷_
+          101
+          (List._∷_
+          115
+          (List._∷_
+          116
+          (List._∷_
+          105
+          (List._∷_
+          110
+          (List._∷_
+          97
+          (List._∷_ 116 (List._∷_ 105 (List._∷_ 111 (List._∷_ 110 List.[])))))))))))))))))))
+          (Syntax.tcons
+          (Syntax.tyArray (Syntax.tyInt Syntax.w8) 16)
+          (Syntax.tcons
+          (Syntax.tyEnum
+          (List._∷_
+          97
+          (List._∷_
+          110
+          (List._∷_
+          115
+          (List._∷_
+          119
+          (List._∷_
+          101
+          (List._∷_
+          114
+          (List._∷_ 58 (List._∷_ 58 (List._∷_ 87 (List._∷_ 97 (List._∷_ 121 List.[])))))))))))
+          (Syntax.ttcons
+          Syntax.tnil
+          (Syntax.ttcons
+          Syntax.tnil
+          (Syntax.ttcons Syntax.tnil (Syntax.ttcons Syntax.tnil Syntax.ttnil)))))
+          Syntax.tnil)))
+          Syntax.tnil)))
+          (Syntax.tcons
+          (Syntax.tyStruct
+          (List._∷_
+          102
+          (List._∷_
+          105
+          (List._∷_
+          110
+          (List._∷_
+          105
+          (List._∷_
+          115
+          (List._∷_
+          104
+          (List._∷_
+          58
+          (List._∷_ 58 (List._∷_ 83 (List._∷_ 101 (List._∷_ 110 (List._∷_ 116 List.[]))))))))))))
+          (Syntax.tcons
+          (Syntax.tyInt Syntax.w64)
+          (Syntax.tcons
+          (Syntax.tyStruct
+          (List._∷_
+          97
+          (List._∷_
+          110
+          (List._∷_
+          115
+          (List._∷_
+          119
+          (List._∷_
+          101
+          (List._∷_
+          114
+          (List._∷_
+          58
+          (List._∷_
+          58
+          (List._∷_
+          68
+          (List._∷_
+          101
+          (List._∷_
+          115
+          (List._∷_
+          116
+          (List._∷_
+          105
+          (List._∷_
+          110
+          (List._∷_
+          97
+          (List._∷_ 116 (List._∷_ 105 (List._∷_ 111 (List._∷_ 110 List.[])))))))))))))))))))
+          (Syntax.tcons
+          (Syntax.tyArray (Syntax.tyInt Syntax.w8) 16)
+          (Syntax.tcons
+          (Syntax.tyEnum
+          (List._∷_
+          97
+          (List._∷_
+          110
+          (List._∷_
+          115
+          (List._∷_
+          119
+          (List._∷_
+          101
+          (List._∷_
+          114
+          (List._∷_ 58 (List._∷_ 58 (List._∷_ 87 (List._∷_ 97 (List._∷_ 121 List.[])))))))))))
+          (Syntax.ttcons
+          Syntax.tnil
+          (Syntax.ttcons
+          Syntax.tnil
+          (Syntax.ttcons Syntax.tnil (Syntax.ttcons Syntax.tnil Syntax.ttnil)))))
+          Syntax.tnil)))
+          Syntax.tnil)))
+          (Syntax.tcons
+          (Syntax.tyInt Syntax.w64)
+          (Syntax.tcons
           (Syntax.tyEnum
           (List._∷_
           97
@@ -1312,156 +1474,6 @@ t2 = List._∷_ (0, Rows'.sc-here Row.sUnit) (List._∷_ (
           (Syntax.ttcons
           Syntax.tnil
           (Syntax.ttcons Syntax.tnil (Syntax.ttcons Syntax.tnil Syntax.ttnil)))))))))))))))))))
-          (Syntax.tcons
-          (Syntax.tyStruct
-          (List._∷_
-          102
-          (List._∷_
-          105
-          (List._∷_
-          110
-          (List._∷_
-          105
-          (List._∷_
-          115
-          (List._∷_
-          104
-          (List._∷_
-          58
-          (List._∷_ 58 (List._∷_ 83 (List._∷_ 101 (List._∷_ 110 (List._∷_ 116 List.[]))))))))))))
-          (Syntax.tcons
-          (Syntax.tyInt Syntax.w64)
-          (Syntax.tcons
-          (Syntax.tyStruct
-          (List._∷_
-          97
-          (List._∷_
-          110
-          (List._∷_
-          115
-          (List._∷_
-          119
-          (List._∷_
-          101
-          (List._∷_
-          114
-          (List._∷_
-          58
-          (List._∷_
-          58
-          (List._∷_
-          68
-          (List._∷_
-          101
-          (List._∷_
-          115
-          (List._∷_
-          116
-          (List._∷_
-          105
-          (List._∷_
-          110
-          (List._∷_
-          97
-          (List._∷_ 116 (List._∷_ 105 (List._∷_ 111 (List._∷_ 110 List.[])))))))))))))))))))
-          (Syntax.tcons
-          (Syntax.tyEnum
-          (List._∷_
-          97
-          (List._∷_
-          110
-          (List._∷_
-          115
-          (List._∷_
-          119
-          (List._∷_
-          101
-          (List._∷_
-          114
-          (List._∷_ 58 (List._∷_ 58 (List._∷_ 87 (List._∷_ 97 (List._∷_ 121 List.[])))))))))))
-          (Syntax.ttcons
-          Syntax.tnil
-          (Syntax.ttcons
-          Syntax.tnil
-          (Syntax.ttcons Syntax.tnil (Syntax.ttcons Syntax.tnil Syntax.ttnil)))))
-          (Syntax.tcons (Syntax.tyArray (Syntax.tyInt Syntax.w8) 16) Syntax.tnil)))
-          Syntax.tnil)))
-          (Syntax.tcons
-          (Syntax.tyStruct
-          (List._∷_
-          102
-          (List._∷_
-          105
-          (List._∷_
-          110
-          (List._∷_
-          105
-          (List._∷_
-          115
-          (List._∷_
-          104
-          (List._∷_
-          58
-          (List._∷_ 58 (List._∷_ 83 (List._∷_ 101 (List._∷_ 110 (List._∷_ 116 List.[]))))))))))))
-          (Syntax.tcons
-          (Syntax.tyInt Syntax.w64)
-          (Syntax.tcons
-          (Syntax.tyStruct
-          (List._∷_
-          97
-          (List._∷_
-          110
-          (List._∷_
-          115
-          (List._∷_
-          119
-          (List._∷_
-          101
-          (List._∷_
-          114
-          (List._∷_
-          58
-          (List._∷_
-          58
-          (List._∷_
-          68
-          (List._∷_
-          101
-          (List._∷_
-          115
-          (List._∷_
-          116
-          (List._∷_
-          105
-          (List._∷_
-          110
-          (List._∷_
-          97
-          (List._∷_ 116 (List._∷_ 105 (List._∷_ 111 (List._∷_ 110 List.[])))))))))))))))))))
-          (Syntax.tcons
-          (Syntax.tyEnum
-          (List._∷_
-          97
-          (List._∷_
-          110
-          (List._∷_
-          115
-          (List._∷_
-          119
-          (List._∷_
-          101
-          (List._∷_
-          114
-          (List._∷_ 58 (List._∷_ 58 (List._∷_ 87 (List._∷_ 97 (List._∷_ 121 List.[])))))))))))
-          (Syntax.ttcons
-          Syntax.tnil
-          (Syntax.ttcons
-          Syntax.tnil
-          (Syntax.ttcons Syntax.tnil (Syntax.ttcons Syntax.tnil Syntax.ttnil)))))
-          (Syntax.tcons (Syntax.tyArray (Syntax.tyInt Syntax.w8) 16) Syntax.tnil)))
-          Syntax.tnil)))
-          (Syntax.tcons
-          (Syntax.tyInt Syntax.w64)
           (Syntax.tcons (Syntax.tyInt Syntax.w8) Syntax.tnil)))))),
     ) (List._∷_ (8, Rows'.any-gone (KInstanceRow.spelled)) (List._∷_ (
       9,
@@ -1554,6 +1566,160 @@ t3 = List._∷_ (0, Rows'.any-gone Syntax.tyUnit) (List._∷_ (
           116
           (List._∷_ 99 (List._∷_ 111 (List._∷_ 109 (List._∷_ 101 List.[])))))))))))))))
           (Syntax.tcons
+          (Syntax.tyStruct
+          (List._∷_
+          102
+          (List._∷_
+          105
+          (List._∷_
+          110
+          (List._∷_
+          105
+          (List._∷_
+          115
+          (List._∷_
+          104
+          (List._∷_
+          58
+          (List._∷_ 58 (List._∷_ 83 (List._∷_ 101 (List._∷_ 110 (List._∷_ 116 List.[]))))))))))))
+          (Syntax.tcons
+          (Syntax.tyInt Syntax.w64)
+          (Syntax.tcons
+          (Syntax.tyStruct
+          (List._∷_
+          97
+          (List._∷_
+          110
+          (List._∷_
+          115
+          (List._∷_
+          119
+          (List._∷_
+          101
+          (List._∷_
+          114
+          (List._∷_
+          58
+          (List._∷_
+          58
+          (List._∷_
+          68
+          (List._∷_
+          101
+          (List._∷_
+          115
+          (List._∷_
+          116
+          (List._∷_
+          105
+          (List._∷_
+          110
+          (List._∷_
+          97
+          (List._∷_ 116 (List._∷_ 105 (List._∷_ 111 (List._∷_ 110 List.[])))))))))))))))))))
+          (Syntax.tcons
+          (Syntax.tyArray (Syntax.tyInt Syntax.w8) 16)
+          (Syntax.tcons
+          (Syntax.tyEnum
+          (List._∷_
+          97
+          (List._∷_
+          110
+          (List._∷_
+          115
+          (List._∷_
+          119
+          (List._∷_
+          101
+          (List._∷_
+          114
+          (List._∷_ 58 (List._∷_ 58 (List._∷_ 87 (List._∷_ 97 (List._∷_ 121 List.[])))))))))))
+          (Syntax.ttcons
+          Syntax.tnil
+          (Syntax.ttcons
+          Syntax.tnil
+          (Syntax.ttcons Syntax.tnil (Syntax.ttcons Syntax.tnil Syntax.ttnil)))))
+          Syntax.tnil)))
+          Syntax.tnil)))
+          (Syntax.tcons
+          (Syntax.tyStruct
+          (List._∷_
+          102
+          (List._∷_
+          105
+          (List._∷_
+          110
+          (List._∷_
+          105
+          (List._∷_
+          115
+          (List._∷_
+          104
+          (List._∷_
+          58
+          (List._∷_ 58 (List._∷_ 83 (List._∷_ 101 (List._∷_ 110 (List._∷_ 116 List.[]))))))))))))
+          (Syntax.tcons
+          (Syntax.tyInt Syntax.w64)
+          (Syntax.tcons
+          (Syntax.tyStruct
+          (List._∷_
+          97
+          (List._∷_
+          110
+          (List._∷_
+          115
+          (List._∷_
+          119
+          (List._∷_
+          101
+          (List._∷_
+          114
+          (List._∷_
+          58
+          (List._∷_
+          58
+          (List._∷_
+          68
+          (List._∷_
+          101
+          (List._∷_
+          115
+          (List._∷_
+          116
+          (List._∷_
+          105
+          (List._∷_
+          110
+          (List._∷_
+          97
+          (List._∷_ 116 (List._∷_ 105 (List._∷_ 111 (List._∷_ 110 List.[])))))))))))))))))))
+          (Syntax.tcons
+          (Syntax.tyArray (Syntax.tyInt Syntax.w8) 16)
+          (Syntax.tcons
+          (Syntax.tyEnum
+          (List._∷_
+          97
+          (List._∷_
+          110
+          (List._∷_
+          115
+          (List._∷_
+          119
+          (List._∷_
+          101
+          (List._∷_
+          114
+          (List._∷_ 58 (List._∷_ 58 (List._∷_ 87 (List._∷_ 97 (List._∷_ 121 List.[])))))))))))
+          (Syntax.ttcons
+          Syntax.tnil
+          (Syntax.ttcons
+          Syntax.tnil
+          (Syntax.ttcons Syntax.tnil (Syntax.ttcons Syntax.tnil Syntax.ttnil)))))
+          Syntax.tnil)))
+          Syntax.tnil)))
+          (Syntax.tcons
+          (Syntax.tyInt Syntax.w64)
+          (Syntax.tcons
           (Syntax.tyEnum
           (List._∷_
           97
@@ -1609,156 +1775,6 @@ t3 = List._∷_ (0, Rows'.any-gone Syntax.tyUnit) (List._∷_ (
           (Syntax.ttcons
           Syntax.tnil
           (Syntax.ttcons Syntax.tnil (Syntax.ttcons Syntax.tnil Syntax.ttnil)))))))))))))))))))
-          (Syntax.tcons
-          (Syntax.tyStruct
-          (List._∷_
-          102
-          (List._∷_
-          105
-          (List._∷_
-          110
-          (List._∷_
-          105
-          (List._∷_
-          115
-          (List._∷_
-          104
-          (List._∷_
-          58
-          (List._∷_ 58 (List._∷_ 83 (List._∷_ 101 (List._∷_ 110 (List._∷_ 116 List.[]))))))))))))
-          (Syntax.tcons
-          (Syntax.tyInt Syntax.w64)
-          (Syntax.tcons
-          (Syntax.tyStruct
-          (List._∷_
-          97
-          (List._∷_
-          110
-          (List._∷_
-          115
-          (List._∷_
-          119
-          (List._∷_
-          101
-          (List._∷_
-          114
-          (List._∷_
-          58
-          (List._∷_
-          58
-          (List._∷_
-          68
-          (List._∷_
-          101
-          (List._∷_
-          115
-          (List._∷_
-          116
-          (List._∷_
-          105
-          (List._∷_
-          110
-          (List._∷_
-          97
-          (List._∷_ 116 (List._∷_ 105 (List._∷_ 111 (List._∷_ 110 List.[])))))))))))))))))))
-          (Syntax.tcons
-          (Syntax.tyEnum
-          (List._∷_
-          97
-          (List._∷_
-          110
-          (List._∷_
-          115
-          (List._∷_
-          119
-          (List._∷_
-          101
-          (List._∷_
-          114
-          (List._∷_ 58 (List._∷_ 58 (List._∷_ 87 (List._∷_ 97 (List._∷_ 121 List.[])))))))))))
-          (Syntax.ttcons
-          Syntax.tnil
-          (Syntax.ttcons
-          Syntax.tnil
-          (Syntax.ttcons Syntax.tnil (Syntax.ttcons Syntax.tnil Syntax.ttnil)))))
-          (Syntax.tcons (Syntax.tyArray (Syntax.tyInt Syntax.w8) 16) Syntax.tnil)))
-          Syntax.tnil)))
-          (Syntax.tcons
-          (Syntax.tyStruct
-          (List._∷_
-          102
-          (List._∷_
-          105
-          (List._∷_
-          110
-          (List._∷_
-          105
-          (List._∷_
-          115
-          (List._∷_
-          104
-          (List._∷_
-          58
-          (List._∷_ 58 (List._∷_ 83 (List._∷_ 101 (List._∷_ 110 (List._∷_ 116 List.[]))))))))))))
-          (Syntax.tcons
-          (Syntax.tyInt Syntax.w64)
-          (Syntax.tcons
-          (Syntax.tyStruct
-          (List._∷_
-          97
-          (List._∷_
-          110
-          (List._∷_
-          115
-          (List._∷_
-          119
-          (List._∷_
-          101
-          (List._∷_
-          114
-          (List._∷_
-          58
-          (List._∷_
-          58
-          (List._∷_
-          68
-          (List._∷_
-          101
-          (List._∷_
-          115
-          (List._∷_
-          116
-          (List._∷_
-          105
-          (List._∷_
-          110
-          (List._∷_
-          97
-          (List._∷_ 116 (List._∷_ 105 (List._∷_ 111 (List._∷_ 110 List.[])))))))))))))))))))
-          (Syntax.tcons
-          (Syntax.tyEnum
-          (List._∷_
-          97
-          (List._∷_
-          110
-          (List._∷_
-          115
-          (List._∷_
-          119
-          (List._∷_
-          101
-          (List._∷_
-          114
-          (List._∷_ 58 (List._∷_ 58 (List._∷_ 87 (List._∷_ 97 (List._∷_ 121 List.[])))))))))))
-          (Syntax.ttcons
-          Syntax.tnil
-          (Syntax.ttcons
-          Syntax.tnil
-          (Syntax.ttcons Syntax.tnil (Syntax.ttcons Syntax.tnil Syntax.ttnil)))))
-          (Syntax.tcons (Syntax.tyArray (Syntax.tyInt Syntax.w8) 16) Syntax.tnil)))
-          Syntax.tnil)))
-          (Syntax.tcons
-          (Syntax.tyInt Syntax.w64)
           (Syntax.tcons (Syntax.tyInt Syntax.w8) Syntax.tnil)))))),
     ) (List._∷_ (8, KInstanceRow.row) (List._∷_ (
       9,
@@ -1851,6 +1867,160 @@ t4 = List._∷_ (0, Rows'.any-gone Syntax.tyUnit) (List._∷_ (
           116
           (List._∷_ 99 (List._∷_ 111 (List._∷_ 109 (List._∷_ 101 List.[])))))))))))))))
           (Syntax.tcons
+          (Syntax.tyStruct
+          (List._∷_
+          102
+          (List._∷_
+          105
+          (List._∷_
+          110
+          (List._∷_
+          105
+          (List._∷_
+          115
+          (List._∷_
+          104
+          (List._∷_
+          58
+          (List._∷_ 58 (List._∷_ 83 (List._∷_ 101 (List._∷_ 110 (List._∷_ 116 List.[]))))))))))))
+          (Syntax.tcons
+          (Syntax.tyInt Syntax.w64)
+          (Syntax.tcons
+          (Syntax.tyStruct
+          (List._∷_
+          97
+          (List._∷_
+          110
+          (List._∷_
+          115
+          (List._∷_
+          119
+          (List._∷_
+          101
+          (List._∷_
+          114
+          (List._∷_
+          58
+          (List._∷_
+          58
+          (List._∷_
+          68
+          (List._∷_
+          101
+          (List._∷_
+          115
+          (List._∷_
+          116
+          (List._∷_
+          105
+          (List._∷_
+          110
+          (List._∷_
+          97
+          (List._∷_ 116 (List._∷_ 105 (List._∷_ 111 (List._∷_ 110 List.[])))))))))))))))))))
+          (Syntax.tcons
+          (Syntax.tyArray (Syntax.tyInt Syntax.w8) 16)
+          (Syntax.tcons
+          (Syntax.tyEnum
+          (List._∷_
+          97
+          (List._∷_
+          110
+          (List._∷_
+          115
+          (List._∷_
+          119
+          (List._∷_
+          101
+          (List._∷_
+          114
+          (List._∷_ 58 (List._∷_ 58 (List._∷_ 87 (List._∷_ 97 (List._∷_ 121 List.[])))))))))))
+          (Syntax.ttcons
+          Syntax.tnil
+          (Syntax.ttcons
+          Syntax.tnil
+          (Syntax.ttcons Syntax.tnil (Syntax.ttcons Syntax.tnil Syntax.ttnil)))))
+          Syntax.tnil)))
+          Syntax.tnil)))
+          (Syntax.tcons
+          (Syntax.tyStruct
+          (List._∷_
+          102
+          (List._∷_
+          105
+          (List._∷_
+          110
+          (List._∷_
+          105
+          (List._∷_
+          115
+          (List._∷_
+          104
+          (List._∷_
+          58
+          (List._∷_ 58 (List._∷_ 83 (List._∷_ 101 (List._∷_ 110 (List._∷_ 116 List.[]))))))))))))
+          (Syntax.tcons
+          (Syntax.tyInt Syntax.w64)
+          (Syntax.tcons
+          (Syntax.tyStruct
+          (List._∷_
+          97
+          (List._∷_
+          110
+          (List._∷_
+          115
+          (List._∷_
+          119
+          (List._∷_
+          101
+          (List._∷_
+          114
+          (List._∷_
+          58
+          (List._∷_
+          58
+          (List._∷_
+          68
+          (List._∷_
+          101
+          (List._∷_
+          115
+          (List._∷_
+          116
+          (List._∷_
+          105
+          (List._∷_
+          110
+          (List._∷_
+          97
+          (List._∷_ 116 (List._∷_ 105 (List._∷_ 111 (List._∷_ 110 List.[])))))))))))))))))))
+          (Syntax.tcons
+          (Syntax.tyArray (Syntax.tyInt Syntax.w8) 16)
+          (Syntax.tcons
+          (Syntax.tyEnum
+          (List._∷_
+          97
+          (List._∷_
+          110
+          (List._∷_
+          115
+          (List._∷_
+          119
+          (List._∷_
+          101
+          (List._∷_
+          114
+          (List._∷_ 58 (List._∷_ 58 (List._∷_ 87 (List._∷_ 97 (List._∷_ 121 List.[])))))))))))
+          (Syntax.ttcons
+          Syntax.tnil
+          (Syntax.ttcons
+          Syntax.tnil
+          (Syntax.ttcons Syntax.tnil (Syntax.ttcons Syntax.tnil Syntax.ttnil)))))
+          Syntax.tnil)))
+          Syntax.tnil)))
+          (Syntax.tcons
+          (Syntax.tyInt Syntax.w64)
+          (Syntax.tcons
           (Syntax.tyEnum
           (List._∷_
           97
@@ -1906,156 +2076,6 @@ t4 = List._∷_ (0, Rows'.any-gone Syntax.tyUnit) (List._∷_ (
           (Syntax.ttcons
           Syntax.tnil
           (Syntax.ttcons Syntax.tnil (Syntax.ttcons Syntax.tnil Syntax.ttnil)))))))))))))))))))
-          (Syntax.tcons
-          (Syntax.tyStruct
-          (List._∷_
-          102
-          (List._∷_
-          105
-          (List._∷_
-          110
-          (List._∷_
-          105
-          (List._∷_
-          115
-          (List._∷_
-          104
-          (List._∷_
-          58
-          (List._∷_ 58 (List._∷_ 83 (List._∷_ 101 (List._∷_ 110 (List._∷_ 116 List.[]))))))))))))
-          (Syntax.tcons
-          (Syntax.tyInt Syntax.w64)
-          (Syntax.tcons
-          (Syntax.tyStruct
-          (List._∷_
-          97
-          (List._∷_
-          110
-          (List._∷_
-          115
-          (List._∷_
-          119
-          (List._∷_
-          101
-          (List._∷_
-          114
-          (List._∷_
-          58
-          (List._∷_
-          58
-          (List._∷_
-          68
-          (List._∷_
-          101
-          (List._∷_
-          115
-          (List._∷_
-          116
-          (List._∷_
-          105
-          (List._∷_
-          110
-          (List._∷_
-          97
-          (List._∷_ 116 (List._∷_ 105 (List._∷_ 111 (List._∷_ 110 List.[])))))))))))))))))))
-          (Syntax.tcons
-          (Syntax.tyEnum
-          (List._∷_
-          97
-          (List._∷_
-          110
-          (List._∷_
-          115
-          (List._∷_
-          119
-          (List._∷_
-          101
-          (List._∷_
-          114
-          (List._∷_ 58 (List._∷_ 58 (List._∷_ 87 (List._∷_ 97 (List._∷_ 121 List.[])))))))))))
-          (Syntax.ttcons
-          Syntax.tnil
-          (Syntax.ttcons
-          Syntax.tnil
-          (Syntax.ttcons Syntax.tnil (Syntax.ttcons Syntax.tnil Syntax.ttnil)))))
-          (Syntax.tcons (Syntax.tyArray (Syntax.tyInt Syntax.w8) 16) Syntax.tnil)))
-          Syntax.tnil)))
-          (Syntax.tcons
-          (Syntax.tyStruct
-          (List._∷_
-          102
-          (List._∷_
-          105
-          (List._∷_
-          110
-          (List._∷_
-          105
-          (List._∷_
-          115
-          (List._∷_
-          104
-          (List._∷_
-          58
-          (List._∷_ 58 (List._∷_ 83 (List._∷_ 101 (List._∷_ 110 (List._∷_ 116 List.[]))))))))))))
-          (Syntax.tcons
-          (Syntax.tyInt Syntax.w64)
-          (Syntax.tcons
-          (Syntax.tyStruct
-          (List._∷_
-          97
-          (List._∷_
-          110
-          (List._∷_
-          115
-          (List._∷_
-          119
-          (List._∷_
-          101
-          (List._∷_
-          114
-          (List._∷_
-          58
-          (List._∷_
-          58
-          (List._∷_
-          68
-          (List._∷_
-          101
-          (List._∷_
-          115
-          (List._∷_
-          116
-          (List._∷_
-          105
-          (List._∷_
-          110
-          (List._∷_
-          97
-          (List._∷_ 116 (List._∷_ 105 (List._∷_ 111 (List._∷_ 110 List.[])))))))))))))))))))
-          (Syntax.tcons
-          (Syntax.tyEnum
-          (List._∷_
-          97
-          (List._∷_
-          110
-          (List._∷_
-          115
-          (List._∷_
-          119
-          (List._∷_
-          101
-          (List._∷_
-          114
-          (List._∷_ 58 (List._∷_ 58 (List._∷_ 87 (List._∷_ 97 (List._∷_ 121 List.[])))))))))))
-          (Syntax.ttcons
-          Syntax.tnil
-          (Syntax.ttcons
-          Syntax.tnil
-          (Syntax.ttcons Syntax.tnil (Syntax.ttcons Syntax.tnil Syntax.ttnil)))))
-          (Syntax.tcons (Syntax.tyArray (Syntax.tyInt Syntax.w8) 16) Syntax.tnil)))
-          Syntax.tnil)))
-          (Syntax.tcons
-          (Syntax.tyInt Syntax.w64)
           (Syntax.tcons (Syntax.tyInt Syntax.w8) Syntax.tnil)))))),
     ) (List._∷_ (8, KInstanceRow.row) (List._∷_ (
       9,
@@ -2148,6 +2168,160 @@ t5 = List._∷_ (0, Rows'.any-gone Syntax.tyUnit) (List._∷_ (
           116
           (List._∷_ 99 (List._∷_ 111 (List._∷_ 109 (List._∷_ 101 List.[])))))))))))))))
           (Syntax.tcons
+          (Syntax.tyStruct
+          (List._∷_
+          102
+          (List._∷_
+          105
+          (List._∷_
+          110
+          (List._∷_
+          105
+          (List._∷_
+          115
+          (List._∷_
+          104
+          (List._∷_
+          58
+          (List._∷_ 58 (List._∷_ 83 (List._∷_ 101 (List._∷_ 110 (List._∷_ 116 List.[]))))))))))))
+          (Syntax.tcons
+          (Syntax.tyInt Syntax.w64)
+          (Syntax.tcons
+          (Syntax.tyStruct
+          (List._∷_
+          97
+          (List._∷_
+          110
+          (List._∷_
+          115
+          (List._∷_
+          119
+          (List._∷_
+          101
+          (List._∷_
+          114
+          (List._∷_
+          58
+          (List._∷_
+          58
+          (List._∷_
+          68
+          (List._∷_
+          101
+          (List._∷_
+          115
+          (List._∷_
+          116
+          (List._∷_
+          105
+          (List._∷_
+          110
+          (List._∷_
+          97
+          (List._∷_ 116 (List._∷_ 105 (List._∷_ 111 (List._∷_ 110 List.[])))))))))))))))))))
+          (Syntax.tcons
+          (Syntax.tyArray (Syntax.tyInt Syntax.w8) 16)
+          (Syntax.tcons
+          (Syntax.tyEnum
+          (List._∷_
+          97
+          (List._∷_
+          110
+          (List._∷_
+          115
+          (List._∷_
+          119
+          (List._∷_
+          101
+          (List._∷_
+          114
+          (List._∷_ 58 (List._∷_ 58 (List._∷_ 87 (List._∷_ 97 (List._∷_ 121 List.[])))))))))))
+          (Syntax.ttcons
+          Syntax.tnil
+          (Syntax.ttcons
+          Syntax.tnil
+          (Syntax.ttcons Syntax.tnil (Syntax.ttcons Syntax.tnil Syntax.ttnil)))))
+          Syntax.tnil)))
+          Syntax.tnil)))
+          (Syntax.tcons
+          (Syntax.tyStruct
+          (List._∷_
+          102
+          (List._∷_
+          105
+          (List._∷_
+          110
+          (List._∷_
+          105
+          (List._∷_
+          115
+          (List._∷_
+          104
+          (List._∷_
+          58
+          (List._∷_ 58 (List._∷_ 83 (List._∷_ 101 (List._∷_ 110 (List._∷_ 116 List.[]))))))))))))
+          (Syntax.tcons
+          (Syntax.tyInt Syntax.w64)
+          (Syntax.tcons
+          (Syntax.tyStruct
+          (List._∷_
+          97
+          (List._∷_
+          110
+          (List._∷_
+          115
+          (List._∷_
+          119
+          (List._∷_
+          101
+          (List._∷_
+          114
+          (List._∷_
+          58
+          (List._∷_
+          58
+          (List._∷_
+          68
+          (List._∷_
+          101
+          (List._∷_
+          115
+          (List._∷_
+          116
+          (List._∷_
+          105
+          (List._∷_
+          110
+          (List._∷_
+          97
+          (List._∷_ 116 (List._∷_ 105 (List._∷_ 111 (List._∷_ 110 List.[])))))))))))))))))))
+          (Syntax.tcons
+          (Syntax.tyArray (Syntax.tyInt Syntax.w8) 16)
+          (Syntax.tcons
+          (Syntax.tyEnum
+          (List._∷_
+          97
+          (List._∷_
+          110
+          (List._∷_
+          115
+          (List._∷_
+          119
+          (List._∷_
+          101
+          (List._∷_
+          114
+          (List._∷_ 58 (List._∷_ 58 (List._∷_ 87 (List._∷_ 97 (List._∷_ 121 List.[])))))))))))
+          (Syntax.ttcons
+          Syntax.tnil
+          (Syntax.ttcons
+          Syntax.tnil
+          (Syntax.ttcons Syntax.tnil (Syntax.ttcons Syntax.tnil Syntax.ttnil)))))
+          Syntax.tnil)))
+          Syntax.tnil)))
+          (Syntax.tcons
+          (Syntax.tyInt Syntax.w64)
+          (Syntax.tcons
           (Syntax.tyEnum
           (List._∷_
           97
@@ -2203,156 +2377,6 @@ t5 = List._∷_ (0, Rows'.any-gone Syntax.tyUnit) (List._∷_ (
           (Syntax.ttcons
           Syntax.tnil
           (Syntax.ttcons Syntax.tnil (Syntax.ttcons Syntax.tnil Syntax.ttnil)))))))))))))))))))
-          (Syntax.tcons
-          (Syntax.tyStruct
-          (List._∷_
-          102
-          (List._∷_
-          105
-          (List._∷_
-          110
-          (List._∷_
-          105
-          (List._∷_
-          115
-          (List._∷_
-          104
-          (List._∷_
-          58
-          (List._∷_ 58 (List._∷_ 83 (List._∷_ 101 (List._∷_ 110 (List._∷_ 116 List.[]))))))))))))
-          (Syntax.tcons
-          (Syntax.tyInt Syntax.w64)
-          (Syntax.tcons
-          (Syntax.tyStruct
-          (List._∷_
-          97
-          (List._∷_
-          110
-          (List._∷_
-          115
-          (List._∷_
-          119
-          (List._∷_
-          101
-          (List._∷_
-          114
-          (List._∷_
-          58
-          (List._∷_
-          58
-          (List._∷_
-          68
-          (List._∷_
-          101
-          (List._∷_
-          115
-          (List._∷_
-          116
-          (List._∷_
-          105
-          (List._∷_
-          110
-          (List._∷_
-          97
-          (List._∷_ 116 (List._∷_ 105 (List._∷_ 111 (List._∷_ 110 List.[])))))))))))))))))))
-          (Syntax.tcons
-          (Syntax.tyEnum
-          (List._∷_
-          97
-          (List._∷_
-          110
-          (List._∷_
-          115
-          (List._∷_
-          119
-          (List._∷_
-          101
-          (List._∷_
-          114
-          (List._∷_ 58 (List._∷_ 58 (List._∷_ 87 (List._∷_ 97 (List._∷_ 121 List.[])))))))))))
-          (Syntax.ttcons
-          Syntax.tnil
-          (Syntax.ttcons
-          Syntax.tnil
-          (Syntax.ttcons Syntax.tnil (Syntax.ttcons Syntax.tnil Syntax.ttnil)))))
-          (Syntax.tcons (Syntax.tyArray (Syntax.tyInt Syntax.w8) 16) Syntax.tnil)))
-          Syntax.tnil)))
-          (Syntax.tcons
-          (Syntax.tyStruct
-          (List._∷_
-          102
-          (List._∷_
-          105
-          (List._∷_
-          110
-          (List._∷_
-          105
-          (List._∷_
-          115
-          (List._∷_
-          104
-          (List._∷_
-          58
-          (List._∷_ 58 (List._∷_ 83 (List._∷_ 101 (List._∷_ 110 (List._∷_ 116 List.[]))))))))))))
-          (Syntax.tcons
-          (Syntax.tyInt Syntax.w64)
-          (Syntax.tcons
-          (Syntax.tyStruct
-          (List._∷_
-          97
-          (List._∷_
-          110
-          (List._∷_
-          115
-          (List._∷_
-          119
-          (List._∷_
-          101
-          (List._∷_
-          114
-          (List._∷_
-          58
-          (List._∷_
-          58
-          (List._∷_
-          68
-          (List._∷_
-          101
-          (List._∷_
-          115
-          (List._∷_
-          116
-          (List._∷_
-          105
-          (List._∷_
-          110
-          (List._∷_
-          97
-          (List._∷_ 116 (List._∷_ 105 (List._∷_ 111 (List._∷_ 110 List.[])))))))))))))))))))
-          (Syntax.tcons
-          (Syntax.tyEnum
-          (List._∷_
-          97
-          (List._∷_
-          110
-          (List._∷_
-          115
-          (List._∷_
-          119
-          (List._∷_
-          101
-          (List._∷_
-          114
-          (List._∷_ 58 (List._∷_ 58 (List._∷_ 87 (List._∷_ 97 (List._∷_ 121 List.[])))))))))))
-          (Syntax.ttcons
-          Syntax.tnil
-          (Syntax.ttcons
-          Syntax.tnil
-          (Syntax.ttcons Syntax.tnil (Syntax.ttcons Syntax.tnil Syntax.ttnil)))))
-          (Syntax.tcons (Syntax.tyArray (Syntax.tyInt Syntax.w8) 16) Syntax.tnil)))
-          Syntax.tnil)))
-          (Syntax.tcons
-          (Syntax.tyInt Syntax.w64)
           (Syntax.tcons (Syntax.tyInt Syntax.w8) Syntax.tnil)))))),
     ) (List._∷_ (8, KInstanceRow.row) (List._∷_ (
       9,
@@ -2445,6 +2469,160 @@ t6 = List._∷_ (0, Rows'.any-gone Syntax.tyUnit) (List._∷_ (
           116
           (List._∷_ 99 (List._∷_ 111 (List._∷_ 109 (List._∷_ 101 List.[])))))))))))))))
           (Syntax.tcons
+          (Syntax.tyStruct
+          (List._∷_
+          102
+          (List._∷_
+          105
+          (List._∷_
+          110
+          (List._∷_
+          105
+          (List._∷_
+          115
+          (List._∷_
+          104
+          (List._∷_
+          58
+          (List._∷_ 58 (List._∷_ 83 (List._∷_ 101 (List._∷_ 110 (List._∷_ 116 List.[]))))))))))))
+          (Syntax.tcons
+          (Syntax.tyInt Syntax.w64)
+          (Syntax.tcons
+          (Syntax.tyStruct
+          (List._∷_
+          97
+          (List._∷_
+          110
+          (List._∷_
+          115
+          (List._∷_
+          119
+          (List._∷_
+          101
+          (List._∷_
+          114
+          (List._∷_
+          58
+          (List._∷_
+          58
+          (List._∷_
+          68
+          (List._∷_
+          101
+          (List._∷_
+          115
+          (List._∷_
+          116
+          (List._∷_
+          105
+          (List._∷_
+          110
+          (List._∷_
+          97
+          (List._∷_ 116 (List._∷_ 105 (List._∷_ 111 (List._∷_ 110 List.[])))))))))))))))))))
+          (Syntax.tcons
+          (Syntax.tyArray (Syntax.tyInt Syntax.w8) 16)
+          (Syntax.tcons
+          (Syntax.tyEnum
+          (List._∷_
+          97
+          (List._∷_
+          110
+          (List._∷_
+          115
+          (List._∷_
+          119
+          (List._∷_
+          101
+          (List._∷_
+          114
+          (List._∷_ 58 (List._∷_ 58 (List._∷_ 87 (List._∷_ 97 (List._∷_ 121 List.[])))))))))))
+          (Syntax.ttcons
+          Syntax.tnil
+          (Syntax.ttcons
+          Syntax.tnil
+          (Syntax.ttcons Syntax.tnil (Syntax.ttcons Syntax.tnil Syntax.ttnil)))))
+          Syntax.tnil)))
+          Syntax.tnil)))
+          (Syntax.tcons
+          (Syntax.tyStruct
+          (List._∷_
+          102
+          (List._∷_
+          105
+          (List._∷_
+          110
+          (List._∷_
+          105
+          (List._∷_
+          115
+          (List._∷_
+          104
+          (List._∷_
+          58
+          (List._∷_ 58 (List._∷_ 83 (List._∷_ 101 (List._∷_ 110 (List._∷_ 116 List.[]))))))))))))
+          (Syntax.tcons
+          (Syntax.tyInt Syntax.w64)
+          (Syntax.tcons
+          (Syntax.tyStruct
+          (List._∷_
+          97
+          (List._∷_
+          110
+          (List._∷_
+          115
+          (List._∷_
+          119
+          (List._∷_
+          101
+          (List._∷_
+          114
+          (List._∷_
+          58
+          (List._∷_
+          58
+          (List._∷_
+          68
+          (List._∷_
+          101
+          (List._∷_
+          115
+          (List._∷_
+          116
+          (List._∷_
+          105
+          (List._∷_
+          110
+          (List._∷_
+          97
+          (List._∷_ 116 (List._∷_ 105 (List._∷_ 111 (List._∷_ 110 List.[])))))))))))))))))))
+          (Syntax.tcons
+          (Syntax.tyArray (Syntax.tyInt Syntax.w8) 16)
+          (Syntax.tcons
+          (Syntax.tyEnum
+          (List._∷_
+          97
+          (List._∷_
+          110
+          (List._∷_
+          115
+          (List._∷_
+          119
+          (List._∷_
+          101
+          (List._∷_
+          114
+          (List._∷_ 58 (List._∷_ 58 (List._∷_ 87 (List._∷_ 97 (List._∷_ 121 List.[])))))))))))
+          (Syntax.ttcons
+          Syntax.tnil
+          (Syntax.ttcons
+          Syntax.tnil
+          (Syntax.ttcons Syntax.tnil (Syntax.ttcons Syntax.tnil Syntax.ttnil)))))
+          Syntax.tnil)))
+          Syntax.tnil)))
+          (Syntax.tcons
+          (Syntax.tyInt Syntax.w64)
+          (Syntax.tcons
           (Syntax.tyEnum
           (List._∷_
           97
@@ -2500,156 +2678,6 @@ t6 = List._∷_ (0, Rows'.any-gone Syntax.tyUnit) (List._∷_ (
           (Syntax.ttcons
           Syntax.tnil
           (Syntax.ttcons Syntax.tnil (Syntax.ttcons Syntax.tnil Syntax.ttnil)))))))))))))))))))
-          (Syntax.tcons
-          (Syntax.tyStruct
-          (List._∷_
-          102
-          (List._∷_
-          105
-          (List._∷_
-          110
-          (List._∷_
-          105
-          (List._∷_
-          115
-          (List._∷_
-          104
-          (List._∷_
-          58
-          (List._∷_ 58 (List._∷_ 83 (List._∷_ 101 (List._∷_ 110 (List._∷_ 116 List.[]))))))))))))
-          (Syntax.tcons
-          (Syntax.tyInt Syntax.w64)
-          (Syntax.tcons
-          (Syntax.tyStruct
-          (List._∷_
-          97
-          (List._∷_
-          110
-          (List._∷_
-          115
-          (List._∷_
-          119
-          (List._∷_
-          101
-          (List._∷_
-          114
-          (List._∷_
-          58
-          (List._∷_
-          58
-          (List._∷_
-          68
-          (List._∷_
-          101
-          (List._∷_
-          115
-          (List._∷_
-          116
-          (List._∷_
-          105
-          (List._∷_
-          110
-          (List._∷_
-          97
-          (List._∷_ 116 (List._∷_ 105 (List._∷_ 111 (List._∷_ 110 List.[])))))))))))))))))))
-          (Syntax.tcons
-          (Syntax.tyEnum
-          (List._∷_
-          97
-          (List._∷_
-          110
-          (List._∷_
-          115
-          (List._∷_
-          119
-          (List._∷_
-          101
-          (List._∷_
-          114
-          (List._∷_ 58 (List._∷_ 58 (List._∷_ 87 (List._∷_ 97 (List._∷_ 121 List.[])))))))))))
-          (Syntax.ttcons
-          Syntax.tnil
-          (Syntax.ttcons
-          Syntax.tnil
-          (Syntax.ttcons Syntax.tnil (Syntax.ttcons Syntax.tnil Syntax.ttnil)))))
-          (Syntax.tcons (Syntax.tyArray (Syntax.tyInt Syntax.w8) 16) Syntax.tnil)))
-          Syntax.tnil)))
-          (Syntax.tcons
-          (Syntax.tyStruct
-          (List._∷_
-          102
-          (List._∷_
-          105
-          (List._∷_
-          110
-          (List._∷_
-          105
-          (List._∷_
-          115
-          (List._∷_
-          104
-          (List._∷_
-          58
-          (List._∷_ 58 (List._∷_ 83 (List._∷_ 101 (List._∷_ 110 (List._∷_ 116 List.[]))))))))))))
-          (Syntax.tcons
-          (Syntax.tyInt Syntax.w64)
-          (Syntax.tcons
-          (Syntax.tyStruct
-          (List._∷_
-          97
-          (List._∷_
-          110
-          (List._∷_
-          115
-          (List._∷_
-          119
-          (List._∷_
-          101
-          (List._∷_
-          114
-          (List._∷_
-          58
-          (List._∷_
-          58
-          (List._∷_
-          68
-          (List._∷_
-          101
-          (List._∷_
-          115
-          (List._∷_
-          116
-          (List._∷_
-          105
-          (List._∷_
-          110
-          (List._∷_
-          97
-          (List._∷_ 116 (List._∷_ 105 (List._∷_ 111 (List._∷_ 110 List.[])))))))))))))))))))
-          (Syntax.tcons
-          (Syntax.tyEnum
-          (List._∷_
-          97
-          (List._∷_
-          110
-          (List._∷_
-          115
-          (List._∷_
-          119
-          (List._∷_
-          101
-          (List._∷_
-          114
-          (List._∷_ 58 (List._∷_ 58 (List._∷_ 87 (List._∷_ 97 (List._∷_ 121 List.[])))))))))))
-          (Syntax.ttcons
-          Syntax.tnil
-          (Syntax.ttcons
-          Syntax.tnil
-          (Syntax.ttcons Syntax.tnil (Syntax.ttcons Syntax.tnil Syntax.ttnil)))))
-          (Syntax.tcons (Syntax.tyArray (Syntax.tyInt Syntax.w8) 16) Syntax.tnil)))
-          Syntax.tnil)))
-          (Syntax.tcons
-          (Syntax.tyInt Syntax.w64)
           (Syntax.tcons (Syntax.tyInt Syntax.w8) Syntax.tnil)))))),
     ) (List._∷_ (8, Rows'.any-gone (KInstanceRow.spelled)) (List._∷_ (
       9,
@@ -2742,6 +2770,160 @@ t7 = List._∷_ (0, Rows'.any-gone Syntax.tyUnit) (List._∷_ (
           116
           (List._∷_ 99 (List._∷_ 111 (List._∷_ 109 (List._∷_ 101 List.[])))))))))))))))
           (Syntax.tcons
+          (Syntax.tyStruct
+          (List._∷_
+          102
+          (List._∷_
+          105
+          (List._∷_
+          110
+          (List._∷_
+          105
+          (List._∷_
+          115
+          (List._∷_
+          104
+          (List._∷_
+          58
+          (List._∷_ 58 (List._∷_ 83 (List._∷_ 101 (List._∷_ 110 (List._∷_ 116 List.[]))))))))))))
+          (Syntax.tcons
+          (Syntax.tyInt Syntax.w64)
+          (Syntax.tcons
+          (Syntax.tyStruct
+          (List._∷_
+          97
+          (List._∷_
+          110
+          (List._∷_
+          115
+          (List._∷_
+          119
+          (List._∷_
+          101
+          (List._∷_
+          114
+          (List._∷_
+          58
+          (List._∷_
+          58
+          (List._∷_
+          68
+          (List._∷_
+          101
+          (List._∷_
+          115
+          (List._∷_
+          116
+          (List._∷_
+          105
+          (List._∷_
+          110
+          (List._∷_
+          97
+          (List._∷_ 116 (List._∷_ 105 (List._∷_ 111 (List._∷_ 110 List.[])))))))))))))))))))
+          (Syntax.tcons
+          (Syntax.tyArray (Syntax.tyInt Syntax.w8) 16)
+          (Syntax.tcons
+          (Syntax.tyEnum
+          (List._∷_
+          97
+          (List._∷_
+          110
+          (List._∷_
+          115
+          (List._∷_
+          119
+          (List._∷_
+          101
+          (List._∷_
+          114
+          (List._∷_ 58 (List._∷_ 58 (List._∷_ 87 (List._∷_ 97 (List._∷_ 121 List.[])))))))))))
+          (Syntax.ttcons
+          Syntax.tnil
+          (Syntax.ttcons
+          Syntax.tnil
+          (Syntax.ttcons Syntax.tnil (Syntax.ttcons Syntax.tnil Syntax.ttnil)))))
+          Syntax.tnil)))
+          Syntax.tnil)))
+          (Syntax.tcons
+          (Syntax.tyStruct
+          (List._∷_
+          102
+          (List._∷_
+          105
+          (List._∷_
+          110
+          (List._∷_
+          105
+          (List._∷_
+          115
+          (List._∷_
+          104
+          (List._∷_
+          58
+          (List._∷_ 58 (List._∷_ 83 (List._∷_ 101 (List._∷_ 110 (List._∷_ 116 List.[]))))))))))))
+          (Syntax.tcons
+          (Syntax.tyInt Syntax.w64)
+          (Syntax.tcons
+          (Syntax.tyStruct
+          (List._∷_
+          97
+          (List._∷_
+          110
+          (List._∷_
+          115
+          (List._∷_
+          119
+          (List._∷_
+          101
+          (List._∷_
+          114
+          (List._∷_
+          58
+          (List._∷_
+          58
+          (List._∷_
+          68
+          (List._∷_
+          101
+          (List._∷_
+          115
+          (List._∷_
+          116
+          (List._∷_
+          105
+          (List._∷_
+          110
+          (List._∷_
+          97
+          (List._∷_ 116 (List._∷_ 105 (List._∷_ 111 (List._∷_ 110 List.[])))))))))))))))))))
+          (Syntax.tcons
+          (Syntax.tyArray (Syntax.tyInt Syntax.w8) 16)
+          (Syntax.tcons
+          (Syntax.tyEnum
+          (List._∷_
+          97
+          (List._∷_
+          110
+          (List._∷_
+          115
+          (List._∷_
+          119
+          (List._∷_
+          101
+          (List._∷_
+          114
+          (List._∷_ 58 (List._∷_ 58 (List._∷_ 87 (List._∷_ 97 (List._∷_ 121 List.[])))))))))))
+          (Syntax.ttcons
+          Syntax.tnil
+          (Syntax.ttcons
+          Syntax.tnil
+          (Syntax.ttcons Syntax.tnil (Syntax.ttcons Syntax.tnil Syntax.ttnil)))))
+          Syntax.tnil)))
+          Syntax.tnil)))
+          (Syntax.tcons
+          (Syntax.tyInt Syntax.w64)
+          (Syntax.tcons
           (Syntax.tyEnum
           (List._∷_
           97
@@ -2797,156 +2979,6 @@ t7 = List._∷_ (0, Rows'.any-gone Syntax.tyUnit) (List._∷_ (
           (Syntax.ttcons
           Syntax.tnil
           (Syntax.ttcons Syntax.tnil (Syntax.ttcons Syntax.tnil Syntax.ttnil)))))))))))))))))))
-          (Syntax.tcons
-          (Syntax.tyStruct
-          (List._∷_
-          102
-          (List._∷_
-          105
-          (List._∷_
-          110
-          (List._∷_
-          105
-          (List._∷_
-          115
-          (List._∷_
-          104
-          (List._∷_
-          58
-          (List._∷_ 58 (List._∷_ 83 (List._∷_ 101 (List._∷_ 110 (List._∷_ 116 List.[]))))))))))))
-          (Syntax.tcons
-          (Syntax.tyInt Syntax.w64)
-          (Syntax.tcons
-          (Syntax.tyStruct
-          (List._∷_
-          97
-          (List._∷_
-          110
-          (List._∷_
-          115
-          (List._∷_
-          119
-          (List._∷_
-          101
-          (List._∷_
-          114
-          (List._∷_
-          58
-          (List._∷_
-          58
-          (List._∷_
-          68
-          (List._∷_
-          101
-          (List._∷_
-          115
-          (List._∷_
-          116
-          (List._∷_
-          105
-          (List._∷_
-          110
-          (List._∷_
-          97
-          (List._∷_ 116 (List._∷_ 105 (List._∷_ 111 (List._∷_ 110 List.[])))))))))))))))))))
-          (Syntax.tcons
-          (Syntax.tyEnum
-          (List._∷_
-          97
-          (List._∷_
-          110
-          (List._∷_
-          115
-          (List._∷_
-          119
-          (List._∷_
-          101
-          (List._∷_
-          114
-          (List._∷_ 58 (List._∷_ 58 (List._∷_ 87 (List._∷_ 97 (List._∷_ 121 List.[])))))))))))
-          (Syntax.ttcons
-          Syntax.tnil
-          (Syntax.ttcons
-          Syntax.tnil
-          (Syntax.ttcons Syntax.tnil (Syntax.ttcons Syntax.tnil Syntax.ttnil)))))
-          (Syntax.tcons (Syntax.tyArray (Syntax.tyInt Syntax.w8) 16) Syntax.tnil)))
-          Syntax.tnil)))
-          (Syntax.tcons
-          (Syntax.tyStruct
-          (List._∷_
-          102
-          (List._∷_
-          105
-          (List._∷_
-          110
-          (List._∷_
-          105
-          (List._∷_
-          115
-          (List._∷_
-          104
-          (List._∷_
-          58
-          (List._∷_ 58 (List._∷_ 83 (List._∷_ 101 (List._∷_ 110 (List._∷_ 116 List.[]))))))))))))
-          (Syntax.tcons
-          (Syntax.tyInt Syntax.w64)
-          (Syntax.tcons
-          (Syntax.tyStruct
-          (List._∷_
-          97
-          (List._∷_
-          110
-          (List._∷_
-          115
-          (List._∷_
-          119
-          (List._∷_
-          101
-          (List._∷_
-          114
-          (List._∷_
-          58
-          (List._∷_
-          58
-          (List._∷_
-          68
-          (List._∷_
-          101
-          (List._∷_
-          115
-          (List._∷_
-          116
-          (List._∷_
-          105
-          (List._∷_
-          110
-          (List._∷_
-          97
-          (List._∷_ 116 (List._∷_ 105 (List._∷_ 111 (List._∷_ 110 List.[])))))))))))))))))))
-          (Syntax.tcons
-          (Syntax.tyEnum
-          (List._∷_
-          97
-          (List._∷_
-          110
-          (List._∷_
-          115
-          (List._∷_
-          119
-          (List._∷_
-          101
-          (List._∷_
-          114
-          (List._∷_ 58 (List._∷_ 58 (List._∷_ 87 (List._∷_ 97 (List._∷_ 121 List.[])))))))))))
-          (Syntax.ttcons
-          Syntax.tnil
-          (Syntax.ttcons
-          Syntax.tnil
-          (Syntax.ttcons Syntax.tnil (Syntax.ttcons Syntax.tnil Syntax.ttnil)))))
-          (Syntax.tcons (Syntax.tyArray (Syntax.tyInt Syntax.w8) 16) Syntax.tnil)))
-          Syntax.tnil)))
-          (Syntax.tcons
-          (Syntax.tyInt Syntax.w64)
           (Syntax.tcons (Syntax.tyInt Syntax.w8) Syntax.tnil)))))),
     ) (List._∷_ (8, Rows'.any-gone (KInstanceRow.spelled)) (List._∷_ (
       9,
@@ -3037,6 +3069,160 @@ t8 = List._∷_ (0, Rows'.any-gone Syntax.tyUnit) (List._∷_ (
       117
       (List._∷_ 116 (List._∷_ 99 (List._∷_ 111 (List._∷_ 109 (List._∷_ 101 List.[])))))))))))))))
       (Syntax.tcons
+      (Syntax.tyStruct
+      (List._∷_
+      102
+      (List._∷_
+      105
+      (List._∷_
+      110
+      (List._∷_
+      105
+      (List._∷_
+      115
+      (List._∷_
+      104
+      (List._∷_
+      58
+      (List._∷_ 58 (List._∷_ 83 (List._∷_ 101 (List._∷_ 110 (List._∷_ 116 List.[]))))))))))))
+      (Syntax.tcons
+      (Syntax.tyInt Syntax.w64)
+      (Syntax.tcons
+      (Syntax.tyStruct
+      (List._∷_
+      97
+      (List._∷_
+      110
+      (List._∷_
+      115
+      (List._∷_
+      119
+      (List._∷_
+      101
+      (List._∷_
+      114
+      (List._∷_
+      58
+      (List._∷_
+      58
+      (List._∷_
+      68
+      (List._∷_
+      101
+      (List._∷_
+      115
+      (List._∷_
+      116
+      (List._∷_
+      105
+      (List._∷_
+      110
+      (List._∷_
+      97
+      (List._∷_ 116 (List._∷_ 105 (List._∷_ 111 (List._∷_ 110 List.[])))))))))))))))))))
+      (Syntax.tcons
+      (Syntax.tyArray (Syntax.tyInt Syntax.w8) 16)
+      (Syntax.tcons
+      (Syntax.tyEnum
+      (List._∷_
+      97
+      (List._∷_
+      110
+      (List._∷_
+      115
+      (List._∷_
+      119
+      (List._∷_
+      101
+      (List._∷_
+      114
+      (List._∷_ 58 (List._∷_ 58 (List._∷_ 87 (List._∷_ 97 (List._∷_ 121 List.[])))))))))))
+      (Syntax.ttcons
+      Syntax.tnil
+      (Syntax.ttcons
+      Syntax.tnil
+      (Syntax.ttcons Syntax.tnil (Syntax.ttcons Syntax.tnil Syntax.ttnil)))))
+      Syntax.tnil)))
+      Syntax.tnil)))
+      (Syntax.tcons
+      (Syntax.tyStruct
+      (List._∷_
+      102
+      (List._∷_
+      105
+      (List._∷_
+      110
+      (List._∷_
+      105
+      (List._∷_
+      115
+      (List._∷_
+      104
+      (List._∷_
+      58
+      (List._∷_ 58 (List._∷_ 83 (List._∷_ 101 (List._∷_ 110 (List._∷_ 116 List.[]))))))))))))
+      (Syntax.tcons
+      (Syntax.tyInt Syntax.w64)
+      (Syntax.tcons
+      (Syntax.tyStruct
+      (List._∷_
+      97
+      (List._∷_
+      110
+      (List._∷_
+      115
+      (List._∷_
+      119
+      (List._∷_
+      101
+      (List._∷_
+      114
+      (List._∷_
+      58
+      (List._∷_
+      58
+      (List._∷_
+      68
+      (List._∷_
+      101
+      (List._∷_
+      115
+      (List._∷_
+      116
+      (List._∷_
+      105
+      (List._∷_
+      110
+      (List._∷_
+      97
+      (List._∷_ 116 (List._∷_ 105 (List._∷_ 111 (List._∷_ 110 List.[])))))))))))))))))))
+      (Syntax.tcons
+      (Syntax.tyArray (Syntax.tyInt Syntax.w8) 16)
+      (Syntax.tcons
+      (Syntax.tyEnum
+      (List._∷_
+      97
+      (List._∷_
+      110
+      (List._∷_
+      115
+      (List._∷_
+      119
+      (List._∷_
+      101
+      (List._∷_
+      114
+      (List._∷_ 58 (List._∷_ 58 (List._∷_ 87 (List._∷_ 97 (List._∷_ 121 List.[])))))))))))
+      (Syntax.ttcons
+      Syntax.tnil
+      (Syntax.ttcons
+      Syntax.tnil
+      (Syntax.ttcons Syntax.tnil (Syntax.ttcons Syntax.tnil Syntax.ttnil)))))
+      Syntax.tnil)))
+      Syntax.tnil)))
+      (Syntax.tcons
+      (Syntax.tyInt Syntax.w64)
+      (Syntax.tcons
       (Syntax.tyEnum
       (List._∷_
       97
@@ -3090,156 +3276,6 @@ t8 = List._∷_ (0, Rows'.any-gone Syntax.tyUnit) (List._∷_ (
       (Syntax.ttcons
       Syntax.tnil
       (Syntax.ttcons Syntax.tnil (Syntax.ttcons Syntax.tnil Syntax.ttnil)))))))))))))))))))
-      (Syntax.tcons
-      (Syntax.tyStruct
-      (List._∷_
-      102
-      (List._∷_
-      105
-      (List._∷_
-      110
-      (List._∷_
-      105
-      (List._∷_
-      115
-      (List._∷_
-      104
-      (List._∷_
-      58
-      (List._∷_ 58 (List._∷_ 83 (List._∷_ 101 (List._∷_ 110 (List._∷_ 116 List.[]))))))))))))
-      (Syntax.tcons
-      (Syntax.tyInt Syntax.w64)
-      (Syntax.tcons
-      (Syntax.tyStruct
-      (List._∷_
-      97
-      (List._∷_
-      110
-      (List._∷_
-      115
-      (List._∷_
-      119
-      (List._∷_
-      101
-      (List._∷_
-      114
-      (List._∷_
-      58
-      (List._∷_
-      58
-      (List._∷_
-      68
-      (List._∷_
-      101
-      (List._∷_
-      115
-      (List._∷_
-      116
-      (List._∷_
-      105
-      (List._∷_
-      110
-      (List._∷_
-      97
-      (List._∷_ 116 (List._∷_ 105 (List._∷_ 111 (List._∷_ 110 List.[])))))))))))))))))))
-      (Syntax.tcons
-      (Syntax.tyEnum
-      (List._∷_
-      97
-      (List._∷_
-      110
-      (List._∷_
-      115
-      (List._∷_
-      119
-      (List._∷_
-      101
-      (List._∷_
-      114
-      (List._∷_ 58 (List._∷_ 58 (List._∷_ 87 (List._∷_ 97 (List._∷_ 121 List.[])))))))))))
-      (Syntax.ttcons
-      Syntax.tnil
-      (Syntax.ttcons
-      Syntax.tnil
-      (Syntax.ttcons Syntax.tnil (Syntax.ttcons Syntax.tnil Syntax.ttnil)))))
-      (Syntax.tcons (Syntax.tyArray (Syntax.tyInt Syntax.w8) 16) Syntax.tnil)))
-      Syntax.tnil)))
-      (Syntax.tcons
-      (Syntax.tyStruct
-      (List._∷_
-      102
-      (List._∷_
-      105
-      (List._∷_
-      110
-      (List._∷_
-      105
-      (List._∷_
-      115
-      (List._∷_
-      104
-      (List._∷_
-      58
-      (List._∷_ 58 (List._∷_ 83 (List._∷_ 101 (List._∷_ 110 (List._∷_ 116 List.[]))))))))))))
-      (Syntax.tcons
-      (Syntax.tyInt Syntax.w64)
-      (Syntax.tcons
-      (Syntax.tyStruct
-      (List._∷_
-      97
-      (List._∷_
-      110
-      (List._∷_
-      115
-      (List._∷_
-      119
-      (List._∷_
-      101
-      (List._∷_
-      114
-      (List._∷_
-      58
-      (List._∷_
-      58
-      (List._∷_
-      68
-      (List._∷_
-      101
-      (List._∷_
-      115
-      (List._∷_
-      116
-      (List._∷_
-      105
-      (List._∷_
-      110
-      (List._∷_
-      97
-      (List._∷_ 116 (List._∷_ 105 (List._∷_ 111 (List._∷_ 110 List.[])))))))))))))))))))
-      (Syntax.tcons
-      (Syntax.tyEnum
-      (List._∷_
-      97
-      (List._∷_
-      110
-      (List._∷_
-      115
-      (List._∷_
-      119
-      (List._∷_
-      101
-      (List._∷_
-      114
-      (List._∷_ 58 (List._∷_ 58 (List._∷_ 87 (List._∷_ 97 (List._∷_ 121 List.[])))))))))))
-      (Syntax.ttcons
-      Syntax.tnil
-      (Syntax.ttcons
-      Syntax.tnil
-      (Syntax.ttcons Syntax.tnil (Syntax.ttcons Syntax.tnil Syntax.ttnil)))))
-      (Syntax.tcons (Syntax.tyArray (Syntax.tyInt Syntax.w8) 16) Syntax.tnil)))
-      Syntax.tnil)))
-      (Syntax.tcons
-      (Syntax.tyInt Syntax.w64)
       (Syntax.tcons (Syntax.tyInt Syntax.w8) Syntax.tnil)))))),
 ) (List._∷_ (8, Rows'.any-gone (KInstanceRow.spelled)) (List._∷_ (
   9,
@@ -3332,6 +3368,160 @@ t9 = List._∷_ (0, Rows'.any-gone Syntax.tyUnit) (List._∷_ (
           116
           (List._∷_ 99 (List._∷_ 111 (List._∷_ 109 (List._∷_ 101 List.[])))))))))))))))
           (Syntax.tcons
+          (Syntax.tyStruct
+          (List._∷_
+          102
+          (List._∷_
+          105
+          (List._∷_
+          110
+          (List._∷_
+          105
+          (List._∷_
+          115
+          (List._∷_
+          104
+          (List._∷_
+          58
+          (List._∷_ 58 (List._∷_ 83 (List._∷_ 101 (List._∷_ 110 (List._∷_ 116 List.[]))))))))))))
+          (Syntax.tcons
+          (Syntax.tyInt Syntax.w64)
+          (Syntax.tcons
+          (Syntax.tyStruct
+          (List._∷_
+          97
+          (List._∷_
+          110
+          (List._∷_
+          115
+          (List._∷_
+          119
+          (List._∷_
+          101
+          (List._∷_
+          114
+          (List._∷_
+          58
+          (List._∷_
+          58
+          (List._∷_
+          68
+          (List._∷_
+          101
+          (List._∷_
+          115
+          (List._∷_
+          116
+          (List._∷_
+          105
+          (List._∷_
+          110
+          (List._∷_
+          97
+          (List._∷_ 116 (List._∷_ 105 (List._∷_ 111 (List._∷_ 110 List.[])))))))))))))))))))
+          (Syntax.tcons
+          (Syntax.tyArray (Syntax.tyInt Syntax.w8) 16)
+          (Syntax.tcons
+          (Syntax.tyEnum
+          (List._∷_
+          97
+          (List._∷_
+          110
+          (List._∷_
+          115
+          (List._∷_
+          119
+          (List._∷_
+          101
+          (List._∷_
+          114
+          (List._∷_ 58 (List._∷_ 58 (List._∷_ 87 (List._∷_ 97 (List._∷_ 121 List.[])))))))))))
+          (Syntax.ttcons
+          Syntax.tnil
+          (Syntax.ttcons
+          Syntax.tnil
+          (Syntax.ttcons Syntax.tnil (Syntax.ttcons Syntax.tnil Syntax.ttnil)))))
+          Syntax.tnil)))
+          Syntax.tnil)))
+          (Syntax.tcons
+          (Syntax.tyStruct
+          (List._∷_
+          102
+          (List._∷_
+          105
+          (List._∷_
+          110
+          (List._∷_
+          105
+          (List._∷_
+          115
+          (List._∷_
+          104
+          (List._∷_
+          58
+          (List._∷_ 58 (List._∷_ 83 (List._∷_ 101 (List._∷_ 110 (List._∷_ 116 List.[]))))))))))))
+          (Syntax.tcons
+          (Syntax.tyInt Syntax.w64)
+          (Syntax.tcons
+          (Syntax.tyStruct
+          (List._∷_
+          97
+          (List._∷_
+          110
+          (List._∷_
+          115
+          (List._∷_
+          119
+          (List._∷_
+          101
+          (List._∷_
+          114
+          (List._∷_
+          58
+          (List._∷_
+          58
+          (List._∷_
+          68
+          (List._∷_
+          101
+          (List._∷_
+          115
+          (List._∷_
+          116
+          (List._∷_
+          105
+          (List._∷_
+          110
+          (List._∷_
+          97
+          (List._∷_ 116 (List._∷_ 105 (List._∷_ 111 (List._∷_ 110 List.[])))))))))))))))))))
+          (Syntax.tcons
+          (Syntax.tyArray (Syntax.tyInt Syntax.w8) 16)
+          (Syntax.tcons
+          (Syntax.tyEnum
+          (List._∷_
+          97
+          (List._∷_
+          110
+          (List._∷_
+          115
+          (List._∷_
+          119
+          (List._∷_
+          101
+          (List._∷_
+          114
+          (List._∷_ 58 (List._∷_ 58 (List._∷_ 87 (List._∷_ 97 (List._∷_ 121 List.[])))))))))))
+          (Syntax.ttcons
+          Syntax.tnil
+          (Syntax.ttcons
+          Syntax.tnil
+          (Syntax.ttcons Syntax.tnil (Syntax.ttcons Syntax.tnil Syntax.ttnil)))))
+          Syntax.tnil)))
+          Syntax.tnil)))
+          (Syntax.tcons
+          (Syntax.tyInt Syntax.w64)
+          (Syntax.tcons
           (Syntax.tyEnum
           (List._∷_
           97
@@ -3387,156 +3577,6 @@ t9 = List._∷_ (0, Rows'.any-gone Syntax.tyUnit) (List._∷_ (
           (Syntax.ttcons
           Syntax.tnil
           (Syntax.ttcons Syntax.tnil (Syntax.ttcons Syntax.tnil Syntax.ttnil)))))))))))))))))))
-          (Syntax.tcons
-          (Syntax.tyStruct
-          (List._∷_
-          102
-          (List._∷_
-          105
-          (List._∷_
-          110
-          (List._∷_
-          105
-          (List._∷_
-          115
-          (List._∷_
-          104
-          (List._∷_
-          58
-          (List._∷_ 58 (List._∷_ 83 (List._∷_ 101 (List._∷_ 110 (List._∷_ 116 List.[]))))))))))))
-          (Syntax.tcons
-          (Syntax.tyInt Syntax.w64)
-          (Syntax.tcons
-          (Syntax.tyStruct
-          (List._∷_
-          97
-          (List._∷_
-          110
-          (List._∷_
-          115
-          (List._∷_
-          119
-          (List._∷_
-          101
-          (List._∷_
-          114
-          (List._∷_
-          58
-          (List._∷_
-          58
-          (List._∷_
-          68
-          (List._∷_
-          101
-          (List._∷_
-          115
-          (List._∷_
-          116
-          (List._∷_
-          105
-          (List._∷_
-          110
-          (List._∷_
-          97
-          (List._∷_ 116 (List._∷_ 105 (List._∷_ 111 (List._∷_ 110 List.[])))))))))))))))))))
-          (Syntax.tcons
-          (Syntax.tyEnum
-          (List._∷_
-          97
-          (List._∷_
-          110
-          (List._∷_
-          115
-          (List._∷_
-          119
-          (List._∷_
-          101
-          (List._∷_
-          114
-          (List._∷_ 58 (List._∷_ 58 (List._∷_ 87 (List._∷_ 97 (List._∷_ 121 List.[])))))))))))
-          (Syntax.ttcons
-          Syntax.tnil
-          (Syntax.ttcons
-          Syntax.tnil
-          (Syntax.ttcons Syntax.tnil (Syntax.ttcons Syntax.tnil Syntax.ttnil)))))
-          (Syntax.tcons (Syntax.tyArray (Syntax.tyInt Syntax.w8) 16) Syntax.tnil)))
-          Syntax.tnil)))
-          (Syntax.tcons
-          (Syntax.tyStruct
-          (List._∷_
-          102
-          (List._∷_
-          105
-          (List._∷_
-          110
-          (List._∷_
-          105
-          (List._∷_
-          115
-          (List._∷_
-          104
-          (List._∷_
-          58
-          (List._∷_ 58 (List._∷_ 83 (List._∷_ 101 (List._∷_ 110 (List._∷_ 116 List.[]))))))))))))
-          (Syntax.tcons
-          (Syntax.tyInt Syntax.w64)
-          (Syntax.tcons
-          (Syntax.tyStruct
-          (List._∷_
-          97
-          (List._∷_
-          110
-          (List._∷_
-          115
-          (List._∷_
-          119
-          (List._∷_
-          101
-          (List._∷_
-          114
-          (List._∷_
-          58
-          (List._∷_
-          58
-          (List._∷_
-          68
-          (List._∷_
-          101
-          (List._∷_
-          115
-          (List._∷_
-          116
-          (List._∷_
-          105
-          (List._∷_
-          110
-          (List._∷_
-          97
-          (List._∷_ 116 (List._∷_ 105 (List._∷_ 111 (List._∷_ 110 List.[])))))))))))))))))))
-          (Syntax.tcons
-          (Syntax.tyEnum
-          (List._∷_
-          97
-          (List._∷_
-          110
-          (List._∷_
-          115
-          (List._∷_
-          119
-          (List._∷_
-          101
-          (List._∷_
-          114
-          (List._∷_ 58 (List._∷_ 58 (List._∷_ 87 (List._∷_ 97 (List._∷_ 121 List.[])))))))))))
-          (Syntax.ttcons
-          Syntax.tnil
-          (Syntax.ttcons
-          Syntax.tnil
-          (Syntax.ttcons Syntax.tnil (Syntax.ttcons Syntax.tnil Syntax.ttnil)))))
-          (Syntax.tcons (Syntax.tyArray (Syntax.tyInt Syntax.w8) 16) Syntax.tnil)))
-          Syntax.tnil)))
-          (Syntax.tcons
-          (Syntax.tyInt Syntax.w64)
           (Syntax.tcons (Syntax.tyInt Syntax.w8) Syntax.tnil)))))),
     ) (List._∷_ (8, Rows'.any-gone (KInstanceRow.spelled)) (List._∷_ (
       9,
@@ -3629,6 +3669,160 @@ t10 = List._∷_ (0, Rows'.any-gone Syntax.tyUnit) (List._∷_ (
           116
           (List._∷_ 99 (List._∷_ 111 (List._∷_ 109 (List._∷_ 101 List.[])))))))))))))))
           (Syntax.tcons
+          (Syntax.tyStruct
+          (List._∷_
+          102
+          (List._∷_
+          105
+          (List._∷_
+          110
+          (List._∷_
+          105
+          (List._∷_
+          115
+          (List._∷_
+          104
+          (List._∷_
+          58
+          (List._∷_ 58 (List._∷_ 83 (List._∷_ 101 (List._∷_ 110 (List._∷_ 116 List.[]))))))))))))
+          (Syntax.tcons
+          (Syntax.tyInt Syntax.w64)
+          (Syntax.tcons
+          (Syntax.tyStruct
+          (List._∷_
+          97
+          (List._∷_
+          110
+          (List._∷_
+          115
+          (List._∷_
+          119
+          (List._∷_
+          101
+          (List._∷_
+          114
+          (List._∷_
+          58
+          (List._∷_
+          58
+          (List._∷_
+          68
+          (List._∷_
+          101
+          (List._∷_
+          115
+          (List._∷_
+          116
+          (List._∷_
+          105
+          (List._∷_
+          110
+          (List._∷_
+          97
+          (List._∷_ 116 (List._∷_ 105 (List._∷_ 111 (List._∷_ 110 List.[])))))))))))))))))))
+          (Syntax.tcons
+          (Syntax.tyArray (Syntax.tyInt Syntax.w8) 16)
+          (Syntax.tcons
+          (Syntax.tyEnum
+          (List._∷_
+          97
+          (List._∷_
+          110
+          (List._∷_
+          115
+          (List._∷_
+          119
+          (List._∷_
+          101
+          (List._∷_
+          114
+          (List._∷_ 58 (List._∷_ 58 (List._∷_ 87 (List._∷_ 97 (List._∷_ 121 List.[])))))))))))
+          (Syntax.ttcons
+          Syntax.tnil
+          (Syntax.ttcons
+          Syntax.tnil
+          (Syntax.ttcons Syntax.tnil (Syntax.ttcons Syntax.tnil Syntax.ttnil)))))
+          Syntax.tnil)))
+          Syntax.tnil)))
+          (Syntax.tcons
+          (Syntax.tyStruct
+          (List._∷_
+          102
+          (List._∷_
+          105
+          (List._∷_
+          110
+          (List._∷_
+          105
+          (List._∷_
+          115
+          (List._∷_
+          104
+          (List._∷_
+          58
+          (List._∷_ 58 (List._∷_ 83 (List._∷_ 101 (List._∷_ 110 (List._∷_ 116 List.[]))))))))))))
+          (Syntax.tcons
+          (Syntax.tyInt Syntax.w64)
+          (Syntax.tcons
+          (Syntax.tyStruct
+          (List._∷_
+          97
+          (List._∷_
+          110
+          (List._∷_
+          115
+          (List._∷_
+          119
+          (List._∷_
+          101
+          (List._∷_
+          114
+          (List._∷_
+          58
+          (List._∷_
+          58
+          (List._∷_
+          68
+          (List._∷_
+          101
+          (List._∷_
+          115
+          (List._∷_
+          116
+          (List._∷_
+          105
+          (List._∷_
+          110
+          (List._∷_
+          97
+          (List._∷_ 116 (List._∷_ 105 (List._∷_ 111 (List._∷_ 110 List.[])))))))))))))))))))
+          (Syntax.tcons
+          (Syntax.tyArray (Syntax.tyInt Syntax.w8) 16)
+          (Syntax.tcons
+          (Syntax.tyEnum
+          (List._∷_
+          97
+          (List._∷_
+          110
+          (List._∷_
+          115
+          (List._∷_
+          119
+          (List._∷_
+          101
+          (List._∷_
+          114
+          (List._∷_ 58 (List._∷_ 58 (List._∷_ 87 (List._∷_ 97 (List._∷_ 121 List.[])))))))))))
+          (Syntax.ttcons
+          Syntax.tnil
+          (Syntax.ttcons
+          Syntax.tnil
+          (Syntax.ttcons Syntax.tnil (Syntax.ttcons Syntax.tnil Syntax.ttnil)))))
+          Syntax.tnil)))
+          Syntax.tnil)))
+          (Syntax.tcons
+          (Syntax.tyInt Syntax.w64)
+          (Syntax.tcons
           (Syntax.tyEnum
           (List._∷_
           97
@@ -3684,156 +3878,6 @@ t10 = List._∷_ (0, Rows'.any-gone Syntax.tyUnit) (List._∷_ (
           (Syntax.ttcons
           Syntax.tnil
           (Syntax.ttcons Syntax.tnil (Syntax.ttcons Syntax.tnil Syntax.ttnil)))))))))))))))))))
-          (Syntax.tcons
-          (Syntax.tyStruct
-          (List._∷_
-          102
-          (List._∷_
-          105
-          (List._∷_
-          110
-          (List._∷_
-          105
-          (List._∷_
-          115
-          (List._∷_
-          104
-          (List._∷_
-          58
-          (List._∷_ 58 (List._∷_ 83 (List._∷_ 101 (List._∷_ 110 (List._∷_ 116 List.[]))))))))))))
-          (Syntax.tcons
-          (Syntax.tyInt Syntax.w64)
-          (Syntax.tcons
-          (Syntax.tyStruct
-          (List._∷_
-          97
-          (List._∷_
-          110
-          (List._∷_
-          115
-          (List._∷_
-          119
-          (List._∷_
-          101
-          (List._∷_
-          114
-          (List._∷_
-          58
-          (List._∷_
-          58
-          (List._∷_
-          68
-          (List._∷_
-          101
-          (List._∷_
-          115
-          (List._∷_
-          116
-          (List._∷_
-          105
-          (List._∷_
-          110
-          (List._∷_
-          97
-          (List._∷_ 116 (List._∷_ 105 (List._∷_ 111 (List._∷_ 110 List.[])))))))))))))))))))
-          (Syntax.tcons
-          (Syntax.tyEnum
-          (List._∷_
-          97
-          (List._∷_
-          110
-          (List._∷_
-          115
-          (List._∷_
-          119
-          (List._∷_
-          101
-          (List._∷_
-          114
-          (List._∷_ 58 (List._∷_ 58 (List._∷_ 87 (List._∷_ 97 (List._∷_ 121 List.[])))))))))))
-          (Syntax.ttcons
-          Syntax.tnil
-          (Syntax.ttcons
-          Syntax.tnil
-          (Syntax.ttcons Syntax.tnil (Syntax.ttcons Syntax.tnil Syntax.ttnil)))))
-          (Syntax.tcons (Syntax.tyArray (Syntax.tyInt Syntax.w8) 16) Syntax.tnil)))
-          Syntax.tnil)))
-          (Syntax.tcons
-          (Syntax.tyStruct
-          (List._∷_
-          102
-          (List._∷_
-          105
-          (List._∷_
-          110
-          (List._∷_
-          105
-          (List._∷_
-          115
-          (List._∷_
-          104
-          (List._∷_
-          58
-          (List._∷_ 58 (List._∷_ 83 (List._∷_ 101 (List._∷_ 110 (List._∷_ 116 List.[]))))))))))))
-          (Syntax.tcons
-          (Syntax.tyInt Syntax.w64)
-          (Syntax.tcons
-          (Syntax.tyStruct
-          (List._∷_
-          97
-          (List._∷_
-          110
-          (List._∷_
-          115
-          (List._∷_
-          119
-          (List._∷_
-          101
-          (List._∷_
-          114
-          (List._∷_
-          58
-          (List._∷_
-          58
-          (List._∷_
-          68
-          (List._∷_
-          101
-          (List._∷_
-          115
-          (List._∷_
-          116
-          (List._∷_
-          105
-          (List._∷_
-          110
-          (List._∷_
-          97
-          (List._∷_ 116 (List._∷_ 105 (List._∷_ 111 (List._∷_ 110 List.[])))))))))))))))))))
-          (Syntax.tcons
-          (Syntax.tyEnum
-          (List._∷_
-          97
-          (List._∷_
-          110
-          (List._∷_
-          115
-          (List._∷_
-          119
-          (List._∷_
-          101
-          (List._∷_
-          114
-          (List._∷_ 58 (List._∷_ 58 (List._∷_ 87 (List._∷_ 97 (List._∷_ 121 List.[])))))))))))
-          (Syntax.ttcons
-          Syntax.tnil
-          (Syntax.ttcons
-          Syntax.tnil
-          (Syntax.ttcons Syntax.tnil (Syntax.ttcons Syntax.tnil Syntax.ttnil)))))
-          (Syntax.tcons (Syntax.tyArray (Syntax.tyInt Syntax.w8) 16) Syntax.tnil)))
-          Syntax.tnil)))
-          (Syntax.tcons
-          (Syntax.tyInt Syntax.w64)
           (Syntax.tcons (Syntax.tyInt Syntax.w8) Syntax.tnil)))))),
     ) (List._∷_ (8, Rows'.any-gone (KInstanceRow.spelled)) (List._∷_ (
       9,
@@ -3925,6 +3969,160 @@ t11 = List._∷_ (0, Rows'.any-gone Syntax.tyUnit) (List._∷_ (
           116
           (List._∷_ 99 (List._∷_ 111 (List._∷_ 109 (List._∷_ 101 List.[])))))))))))))))
           (Syntax.tcons
+          (Syntax.tyStruct
+          (List._∷_
+          102
+          (List._∷_
+          105
+          (List._∷_
+          110
+          (List._∷_
+          105
+          (List._∷_
+          115
+          (List._∷_
+          104
+          (List._∷_
+          58
+          (List._∷_ 58 (List._∷_ 83 (List._∷_ 101 (List._∷_ 110 (List._∷_ 116 List.[]))))))))))))
+          (Syntax.tcons
+          (Syntax.tyInt Syntax.w64)
+          (Syntax.tcons
+          (Syntax.tyStruct
+          (List._∷_
+          97
+          (List._∷_
+          110
+          (List._∷_
+          115
+          (List._∷_
+          119
+          (List._∷_
+          101
+          (List._∷_
+          114
+          (List._∷_
+          58
+          (List._∷_
+          58
+          (List._∷_
+          68
+          (List._∷_
+          101
+          (List._∷_
+          115
+          (List._∷_
+          116
+          (List._∷_
+          105
+          (List._∷_
+          110
+          (List._∷_
+          97
+          (List._∷_ 116 (List._∷_ 105 (List._∷_ 111 (List._∷_ 110 List.[])))))))))))))))))))
+          (Syntax.tcons
+          (Syntax.tyArray (Syntax.tyInt Syntax.w8) 16)
+          (Syntax.tcons
+          (Syntax.tyEnum
+          (List._∷_
+          97
+          (List._∷_
+          110
+          (List._∷_
+          115
+          (List._∷_
+          119
+          (List._∷_
+          101
+          (List._∷_
+          114
+          (List._∷_ 58 (List._∷_ 58 (List._∷_ 87 (List._∷_ 97 (List._∷_ 121 List.[])))))))))))
+          (Syntax.ttcons
+          Syntax.tnil
+          (Syntax.ttcons
+          Syntax.tnil
+          (Syntax.ttcons Syntax.tnil (Syntax.ttcons Syntax.tnil Syntax.ttnil)))))
+          Syntax.tnil)))
+          Syntax.tnil)))
+          (Syntax.tcons
+          (Syntax.tyStruct
+          (List._∷_
+          102
+          (List._∷_
+          105
+          (List._∷_
+          110
+          (List._∷_
+          105
+          (List._∷_
+          115
+          (List._∷_
+          104
+          (List._∷_
+          58
+          (List._∷_ 58 (List._∷_ 83 (List._∷_ 101 (List._∷_ 110 (List._∷_ 116 List.[]))))))))))))
+          (Syntax.tcons
+          (Syntax.tyInt Syntax.w64)
+          (Syntax.tcons
+          (Syntax.tyStruct
+          (List._∷_
+          97
+          (List._∷_
+          110
+          (List._∷_
+          115
+          (List._∷_
+          119
+          (List._∷_
+          101
+          (List._∷_
+          114
+          (List._∷_
+          58
+          (List._∷_
+          58
+          (List._∷_
+          68
+          (List._∷_
+          101
+          (List._∷_
+          115
+          (List._∷_
+          116
+          (List._∷_
+          105
+          (List._∷_
+          110
+          (List._∷_
+          97
+          (List._∷_ 116 (List._∷_ 105 (List._∷_ 111 (List._∷_ 110 List.[])))))))))))))))))))
+          (Syntax.tcons
+          (Syntax.tyArray (Syntax.tyInt Syntax.w8) 16)
+          (Syntax.tcons
+          (Syntax.tyEnum
+          (List._∷_
+          97
+          (List._∷_
+          110
+          (List._∷_
+          115
+          (List._∷_
+          119
+          (List._∷_
+          101
+          (List._∷_
+          114
+          (List._∷_ 58 (List._∷_ 58 (List._∷_ 87 (List._∷_ 97 (List._∷_ 121 List.[])))))))))))
+          (Syntax.ttcons
+          Syntax.tnil
+          (Syntax.ttcons
+          Syntax.tnil
+          (Syntax.ttcons Syntax.tnil (Syntax.ttcons Syntax.tnil Syntax.ttnil)))))
+          Syntax.tnil)))
+          Syntax.tnil)))
+          (Syntax.tcons
+          (Syntax.tyInt Syntax.w64)
+          (Syntax.tcons
           (Syntax.tyEnum
           (List._∷_
           97
@@ -3980,156 +4178,6 @@ t11 = List._∷_ (0, Rows'.any-gone Syntax.tyUnit) (List._∷_ (
           (Syntax.ttcons
           Syntax.tnil
           (Syntax.ttcons Syntax.tnil (Syntax.ttcons Syntax.tnil Syntax.ttnil)))))))))))))))))))
-          (Syntax.tcons
-          (Syntax.tyStruct
-          (List._∷_
-          102
-          (List._∷_
-          105
-          (List._∷_
-          110
-          (List._∷_
-          105
-          (List._∷_
-          115
-          (List._∷_
-          104
-          (List._∷_
-          58
-          (List._∷_ 58 (List._∷_ 83 (List._∷_ 101 (List._∷_ 110 (List._∷_ 116 List.[]))))))))))))
-          (Syntax.tcons
-          (Syntax.tyInt Syntax.w64)
-          (Syntax.tcons
-          (Syntax.tyStruct
-          (List._∷_
-          97
-          (List._∷_
-          110
-          (List._∷_
-          115
-          (List._∷_
-          119
-          (List._∷_
-          101
-          (List._∷_
-          114
-          (List._∷_
-          58
-          (List._∷_
-          58
-          (List._∷_
-          68
-          (List._∷_
-          101
-          (List._∷_
-          115
-          (List._∷_
-          116
-          (List._∷_
-          105
-          (List._∷_
-          110
-          (List._∷_
-          97
-          (List._∷_ 116 (List._∷_ 105 (List._∷_ 111 (List._∷_ 110 List.[])))))))))))))))))))
-          (Syntax.tcons
-          (Syntax.tyEnum
-          (List._∷_
-          97
-          (List._∷_
-          110
-          (List._∷_
-          115
-          (List._∷_
-          119
-          (List._∷_
-          101
-          (List._∷_
-          114
-          (List._∷_ 58 (List._∷_ 58 (List._∷_ 87 (List._∷_ 97 (List._∷_ 121 List.[])))))))))))
-          (Syntax.ttcons
-          Syntax.tnil
-          (Syntax.ttcons
-          Syntax.tnil
-          (Syntax.ttcons Syntax.tnil (Syntax.ttcons Syntax.tnil Syntax.ttnil)))))
-          (Syntax.tcons (Syntax.tyArray (Syntax.tyInt Syntax.w8) 16) Syntax.tnil)))
-          Syntax.tnil)))
-          (Syntax.tcons
-          (Syntax.tyStruct
-          (List._∷_
-          102
-          (List._∷_
-          105
-          (List._∷_
-          110
-          (List._∷_
-          105
-          (List._∷_
-          115
-          (List._∷_
-          104
-          (List._∷_
-          58
-          (List._∷_ 58 (List._∷_ 83 (List._∷_ 101 (List._∷_ 110 (List._∷_ 116 List.[]))))))))))))
-          (Syntax.tcons
-          (Syntax.tyInt Syntax.w64)
-          (Syntax.tcons
-          (Syntax.tyStruct
-          (List._∷_
-          97
-          (List._∷_
-          110
-          (List._∷_
-          115
-          (List._∷_
-          119
-          (List._∷_
-          101
-          (List._∷_
-          114
-          (List._∷_
-          58
-          (List._∷_
-          58
-          (List._∷_
-          68
-          (List._∷_
-          101
-          (List._∷_
-          115
-          (List._∷_
-          116
-          (List._∷_
-          105
-          (List._∷_
-          110
-          (List._∷_
-          97
-          (List._∷_ 116 (List._∷_ 105 (List._∷_ 111 (List._∷_ 110 List.[])))))))))))))))))))
-          (Syntax.tcons
-          (Syntax.tyEnum
-          (List._∷_
-          97
-          (List._∷_
-          110
-          (List._∷_
-          115
-          (List._∷_
-          119
-          (List._∷_
-          101
-          (List._∷_
-          114
-          (List._∷_ 58 (List._∷_ 58 (List._∷_ 87 (List._∷_ 97 (List._∷_ 121 List.[])))))))))))
-          (Syntax.ttcons
-          Syntax.tnil
-          (Syntax.ttcons
-          Syntax.tnil
-          (Syntax.ttcons Syntax.tnil (Syntax.ttcons Syntax.tnil Syntax.ttnil)))))
-          (Syntax.tcons (Syntax.tyArray (Syntax.tyInt Syntax.w8) 16) Syntax.tnil)))
-          Syntax.tnil)))
-          (Syntax.tcons
-          (Syntax.tyInt Syntax.w64)
           (Syntax.tcons (Syntax.tyInt Syntax.w8) Syntax.tnil)))))),
     ) (List._∷_ (8, Rows'.any-gone (KInstanceRow.spelled)) (List._∷_ (
       9,
@@ -4222,6 +4270,160 @@ t12 = List._∷_ (0, Rows'.any-gone Syntax.tyUnit) (List._∷_ (
           116
           (List._∷_ 99 (List._∷_ 111 (List._∷_ 109 (List._∷_ 101 List.[])))))))))))))))
           (Syntax.tcons
+          (Syntax.tyStruct
+          (List._∷_
+          102
+          (List._∷_
+          105
+          (List._∷_
+          110
+          (List._∷_
+          105
+          (List._∷_
+          115
+          (List._∷_
+          104
+          (List._∷_
+          58
+          (List._∷_ 58 (List._∷_ 83 (List._∷_ 101 (List._∷_ 110 (List._∷_ 116 List.[]))))))))))))
+          (Syntax.tcons
+          (Syntax.tyInt Syntax.w64)
+          (Syntax.tcons
+          (Syntax.tyStruct
+          (List._∷_
+          97
+          (List._∷_
+          110
+          (List._∷_
+          115
+          (List._∷_
+          119
+          (List._∷_
+          101
+          (List._∷_
+          114
+          (List._∷_
+          58
+          (List._∷_
+          58
+          (List._∷_
+          68
+          (List._∷_
+          101
+          (List._∷_
+          115
+          (List._∷_
+          116
+          (List._∷_
+          105
+          (List._∷_
+          110
+          (List._∷_
+          97
+          (List._∷_ 116 (List._∷_ 105 (List._∷_ 111 (List._∷_ 110 List.[])))))))))))))))))))
+          (Syntax.tcons
+          (Syntax.tyArray (Syntax.tyInt Syntax.w8) 16)
+          (Syntax.tcons
+          (Syntax.tyEnum
+          (List._∷_
+          97
+          (List._∷_
+          110
+          (List._∷_
+          115
+          (List._∷_
+          119
+          (List._∷_
+          101
+          (List._∷_
+          114
+          (List._∷_ 58 (List._∷_ 58 (List._∷_ 87 (List._∷_ 97 (List._∷_ 121 List.[])))))))))))
+          (Syntax.ttcons
+          Syntax.tnil
+          (Syntax.ttcons
+          Syntax.tnil
+          (Syntax.ttcons Syntax.tnil (Syntax.ttcons Syntax.tnil Syntax.ttnil)))))
+          Syntax.tnil)))
+          Syntax.tnil)))
+          (Syntax.tcons
+          (Syntax.tyStruct
+          (List._∷_
+          102
+          (List._∷_
+          105
+          (List._∷_
+          110
+          (List._∷_
+          105
+          (List._∷_
+          115
+          (List._∷_
+          104
+          (List._∷_
+          58
+          (List._∷_ 58 (List._∷_ 83 (List._∷_ 101 (List._∷_ 110 (List._∷_ 116 List.[]))))))))))))
+          (Syntax.tcons
+          (Syntax.tyInt Syntax.w64)
+          (Syntax.tcons
+          (Syntax.tyStruct
+          (List._∷_
+          97
+          (List._∷_
+          110
+          (List._∷_
+          115
+          (List._∷_
+          119
+          (List._∷_
+          101
+          (List._∷_
+          114
+          (List._∷_
+          58
+          (List._∷_
+          58
+          (List._∷_
+          68
+          (List._∷_
+          101
+          (List._∷_
+          115
+          (List._∷_
+          116
+          (List._∷_
+          105
+          (List._∷_
+          110
+          (List._∷_
+          97
+          (List._∷_ 116 (List._∷_ 105 (List._∷_ 111 (List._∷_ 110 List.[])))))))))))))))))))
+          (Syntax.tcons
+          (Syntax.tyArray (Syntax.tyInt Syntax.w8) 16)
+          (Syntax.tcons
+          (Syntax.tyEnum
+          (List._∷_
+          97
+          (List._∷_
+          110
+          (List._∷_
+          115
+          (List._∷_
+          119
+          (List._∷_
+          101
+          (List._∷_
+          114
+          (List._∷_ 58 (List._∷_ 58 (List._∷_ 87 (List._∷_ 97 (List._∷_ 121 List.[])))))))))))
+          (Syntax.ttcons
+          Syntax.tnil
+          (Syntax.ttcons
+          Syntax.tnil
+          (Syntax.ttcons Syntax.tnil (Syntax.ttcons Syntax.tnil Syntax.ttnil)))))
+          Syntax.tnil)))
+          Syntax.tnil)))
+          (Syntax.tcons
+          (Syntax.tyInt Syntax.w64)
+          (Syntax.tcons
           (Syntax.tyEnum
           (List._∷_
           97
@@ -4277,156 +4479,6 @@ t12 = List._∷_ (0, Rows'.any-gone Syntax.tyUnit) (List._∷_ (
           (Syntax.ttcons
           Syntax.tnil
           (Syntax.ttcons Syntax.tnil (Syntax.ttcons Syntax.tnil Syntax.ttnil)))))))))))))))))))
-          (Syntax.tcons
-          (Syntax.tyStruct
-          (List._∷_
-          102
-          (List._∷_
-          105
-          (List._∷_
-          110
-          (List._∷_
-          105
-          (List._∷_
-          115
-          (List._∷_
-          104
-          (List._∷_
-          58
-          (List._∷_ 58 (List._∷_ 83 (List._∷_ 101 (List._∷_ 110 (List._∷_ 116 List.[]))))))))))))
-          (Syntax.tcons
-          (Syntax.tyInt Syntax.w64)
-          (Syntax.tcons
-          (Syntax.tyStruct
-          (List._∷_
-          97
-          (List._∷_
-          110
-          (List._∷_
-          115
-          (List._∷_
-          119
-          (List._∷_
-          101
-          (List._∷_
-          114
-          (List._∷_
-          58
-          (List._∷_
-          58
-          (List._∷_
-          68
-          (List._∷_
-          101
-          (List._∷_
-          115
-          (List._∷_
-          116
-          (List._∷_
-          105
-          (List._∷_
-          110
-          (List._∷_
-          97
-          (List._∷_ 116 (List._∷_ 105 (List._∷_ 111 (List._∷_ 110 List.[])))))))))))))))))))
-          (Syntax.tcons
-          (Syntax.tyEnum
-          (List._∷_
-          97
-          (List._∷_
-          110
-          (List._∷_
-          115
-          (List._∷_
-          119
-          (List._∷_
-          101
-          (List._∷_
-          114
-          (List._∷_ 58 (List._∷_ 58 (List._∷_ 87 (List._∷_ 97 (List._∷_ 121 List.[])))))))))))
-          (Syntax.ttcons
-          Syntax.tnil
-          (Syntax.ttcons
-          Syntax.tnil
-          (Syntax.ttcons Syntax.tnil (Syntax.ttcons Syntax.tnil Syntax.ttnil)))))
-          (Syntax.tcons (Syntax.tyArray (Syntax.tyInt Syntax.w8) 16) Syntax.tnil)))
-          Syntax.tnil)))
-          (Syntax.tcons
-          (Syntax.tyStruct
-          (List._∷_
-          102
-          (List._∷_
-          105
-          (List._∷_
-          110
-          (List._∷_
-          105
-          (List._∷_
-          115
-          (List._∷_
-          104
-          (List._∷_
-          58
-          (List._∷_ 58 (List._∷_ 83 (List._∷_ 101 (List._∷_ 110 (List._∷_ 116 List.[]))))))))))))
-          (Syntax.tcons
-          (Syntax.tyInt Syntax.w64)
-          (Syntax.tcons
-          (Syntax.tyStruct
-          (List._∷_
-          97
-          (List._∷_
-          110
-          (List._∷_
-          115
-          (List._∷_
-          119
-          (List._∷_
-          101
-          (List._∷_
-          114
-          (List._∷_
-          58
-          (List._∷_
-          58
-          (List._∷_
-          68
-          (List._∷_
-          101
-          (List._∷_
-          115
-          (List._∷_
-          116
-          (List._∷_
-          105
-          (List._∷_
-          110
-          (List._∷_
-          97
-          (List._∷_ 116 (List._∷_ 105 (List._∷_ 111 (List._∷_ 110 List.[])))))))))))))))))))
-          (Syntax.tcons
-          (Syntax.tyEnum
-          (List._∷_
-          97
-          (List._∷_
-          110
-          (List._∷_
-          115
-          (List._∷_
-          119
-          (List._∷_
-          101
-          (List._∷_
-          114
-          (List._∷_ 58 (List._∷_ 58 (List._∷_ 87 (List._∷_ 97 (List._∷_ 121 List.[])))))))))))
-          (Syntax.ttcons
-          Syntax.tnil
-          (Syntax.ttcons
-          Syntax.tnil
-          (Syntax.ttcons Syntax.tnil (Syntax.ttcons Syntax.tnil Syntax.ttnil)))))
-          (Syntax.tcons (Syntax.tyArray (Syntax.tyInt Syntax.w8) 16) Syntax.tnil)))
-          Syntax.tnil)))
-          (Syntax.tcons
-          (Syntax.tyInt Syntax.w64)
           (Syntax.tcons (Syntax.tyInt Syntax.w8) Syntax.tnil)))))),
     ) (List._∷_ (8, Rows'.any-gone (KInstanceRow.spelled)) (List._∷_ (
       9,
@@ -4519,6 +4571,160 @@ t13 = List._∷_ (0, Rows'.any-gone Syntax.tyUnit) (List._∷_ (
           116
           (List._∷_ 99 (List._∷_ 111 (List._∷_ 109 (List._∷_ 101 List.[])))))))))))))))
           (Syntax.tcons
+          (Syntax.tyStruct
+          (List._∷_
+          102
+          (List._∷_
+          105
+          (List._∷_
+          110
+          (List._∷_
+          105
+          (List._∷_
+          115
+          (List._∷_
+          104
+          (List._∷_
+          58
+          (List._∷_ 58 (List._∷_ 83 (List._∷_ 101 (List._∷_ 110 (List._∷_ 116 List.[]))))))))))))
+          (Syntax.tcons
+          (Syntax.tyInt Syntax.w64)
+          (Syntax.tcons
+          (Syntax.tyStruct
+          (List._∷_
+          97
+          (List._∷_
+          110
+          (List._∷_
+          115
+          (List._∷_
+          119
+          (List._∷_
+          101
+          (List._∷_
+          114
+          (List._∷_
+          58
+          (List._∷_
+          58
+          (List._∷_
+          68
+          (List._∷_
+          101
+          (List._∷_
+          115
+          (List._∷_
+          116
+          (List._∷_
+          105
+          (List._∷_
+          110
+          (List._∷_
+          97
+          (List._∷_ 116 (List._∷_ 105 (List._∷_ 111 (List._∷_ 110 List.[])))))))))))))))))))
+          (Syntax.tcons
+          (Syntax.tyArray (Syntax.tyInt Syntax.w8) 16)
+          (Syntax.tcons
+          (Syntax.tyEnum
+          (List._∷_
+          97
+          (List._∷_
+          110
+          (List._∷_
+          115
+          (List._∷_
+          119
+          (List._∷_
+          101
+          (List._∷_
+          114
+          (List._∷_ 58 (List._∷_ 58 (List._∷_ 87 (List._∷_ 97 (List._∷_ 121 List.[])))))))))))
+          (Syntax.ttcons
+          Syntax.tnil
+          (Syntax.ttcons
+          Syntax.tnil
+          (Syntax.ttcons Syntax.tnil (Syntax.ttcons Syntax.tnil Syntax.ttnil)))))
+          Syntax.tnil)))
+          Syntax.tnil)))
+          (Syntax.tcons
+          (Syntax.tyStruct
+          (List._∷_
+          102
+          (List._∷_
+          105
+          (List._∷_
+          110
+          (List._∷_
+          105
+          (List._∷_
+          115
+          (List._∷_
+          104
+          (List._∷_
+          58
+          (List._∷_ 58 (List._∷_ 83 (List._∷_ 101 (List._∷_ 110 (List._∷_ 116 List.[]))))))))))))
+          (Syntax.tcons
+          (Syntax.tyInt Syntax.w64)
+          (Syntax.tcons
+          (Syntax.tyStruct
+          (List._∷_
+          97
+          (List._∷_
+          110
+          (List._∷_
+          115
+          (List._∷_
+          119
+          (List._∷_
+          101
+          (List._∷_
+          114
+          (List._∷_
+          58
+          (List._∷_
+          58
+          (List._∷_
+          68
+          (List._∷_
+          101
+          (List._∷_
+          115
+          (List._∷_
+          116
+          (List._∷_
+          105
+          (List._∷_
+          110
+          (List._∷_
+          97
+          (List._∷_ 116 (List._∷_ 105 (List._∷_ 111 (List._∷_ 110 List.[])))))))))))))))))))
+          (Syntax.tcons
+          (Syntax.tyArray (Syntax.tyInt Syntax.w8) 16)
+          (Syntax.tcons
+          (Syntax.tyEnum
+          (List._∷_
+          97
+          (List._∷_
+          110
+          (List._∷_
+          115
+          (List._∷_
+          119
+          (List._∷_
+          101
+          (List._∷_
+          114
+          (List._∷_ 58 (List._∷_ 58 (List._∷_ 87 (List._∷_ 97 (List._∷_ 121 List.[])))))))))))
+          (Syntax.ttcons
+          Syntax.tnil
+          (Syntax.ttcons
+          Syntax.tnil
+          (Syntax.ttcons Syntax.tnil (Syntax.ttcons Syntax.tnil Syntax.ttnil)))))
+          Syntax.tnil)))
+          Syntax.tnil)))
+          (Syntax.tcons
+          (Syntax.tyInt Syntax.w64)
+          (Syntax.tcons
           (Syntax.tyEnum
           (List._∷_
           97
@@ -4574,156 +4780,6 @@ t13 = List._∷_ (0, Rows'.any-gone Syntax.tyUnit) (List._∷_ (
           (Syntax.ttcons
           Syntax.tnil
           (Syntax.ttcons Syntax.tnil (Syntax.ttcons Syntax.tnil Syntax.ttnil)))))))))))))))))))
-          (Syntax.tcons
-          (Syntax.tyStruct
-          (List._∷_
-          102
-          (List._∷_
-          105
-          (List._∷_
-          110
-          (List._∷_
-          105
-          (List._∷_
-          115
-          (List._∷_
-          104
-          (List._∷_
-          58
-          (List._∷_ 58 (List._∷_ 83 (List._∷_ 101 (List._∷_ 110 (List._∷_ 116 List.[]))))))))))))
-          (Syntax.tcons
-          (Syntax.tyInt Syntax.w64)
-          (Syntax.tcons
-          (Syntax.tyStruct
-          (List._∷_
-          97
-          (List._∷_
-          110
-          (List._∷_
-          115
-          (List._∷_
-          119
-          (List._∷_
-          101
-          (List._∷_
-          114
-          (List._∷_
-          58
-          (List._∷_
-          58
-          (List._∷_
-          68
-          (List._∷_
-          101
-          (List._∷_
-          115
-          (List._∷_
-          116
-          (List._∷_
-          105
-          (List._∷_
-          110
-          (List._∷_
-          97
-          (List._∷_ 116 (List._∷_ 105 (List._∷_ 111 (List._∷_ 110 List.[])))))))))))))))))))
-          (Syntax.tcons
-          (Syntax.tyEnum
-          (List._∷_
-          97
-          (List._∷_
-          110
-          (List._∷_
-          115
-          (List._∷_
-          119
-          (List._∷_
-          101
-          (List._∷_
-          114
-          (List._∷_ 58 (List._∷_ 58 (List._∷_ 87 (List._∷_ 97 (List._∷_ 121 List.[])))))))))))
-          (Syntax.ttcons
-          Syntax.tnil
-          (Syntax.ttcons
-          Syntax.tnil
-          (Syntax.ttcons Syntax.tnil (Syntax.ttcons Syntax.tnil Syntax.ttnil)))))
-          (Syntax.tcons (Syntax.tyArray (Syntax.tyInt Syntax.w8) 16) Syntax.tnil)))
-          Syntax.tnil)))
-          (Syntax.tcons
-          (Syntax.tyStruct
-          (List._∷_
-          102
-          (List._∷_
-          105
-          (List._∷_
-          110
-          (List._∷_
-          105
-          (List._∷_
-          115
-          (List._∷_
-          104
-          (List._∷_
-          58
-          (List._∷_ 58 (List._∷_ 83 (List._∷_ 101 (List._∷_ 110 (List._∷_ 116 List.[]))))))))))))
-          (Syntax.tcons
-          (Syntax.tyInt Syntax.w64)
-          (Syntax.tcons
-          (Syntax.tyStruct
-          (List._∷_
-          97
-          (List._∷_
-          110
-          (List._∷_
-          115
-          (List._∷_
-          119
-          (List._∷_
-          101
-          (List._∷_
-          114
-          (List._∷_
-          58
-          (List._∷_
-          58
-          (List._∷_
-          68
-          (List._∷_
-          101
-          (List._∷_
-          115
-          (List._∷_
-          116
-          (List._∷_
-          105
-          (List._∷_
-          110
-          (List._∷_
-          97
-          (List._∷_ 116 (List._∷_ 105 (List._∷_ 111 (List._∷_ 110 List.[])))))))))))))))))))
-          (Syntax.tcons
-          (Syntax.tyEnum
-          (List._∷_
-          97
-          (List._∷_
-          110
-          (List._∷_
-          115
-          (List._∷_
-          119
-          (List._∷_
-          101
-          (List._∷_
-          114
-          (List._∷_ 58 (List._∷_ 58 (List._∷_ 87 (List._∷_ 97 (List._∷_ 121 List.[])))))))))))
-          (Syntax.ttcons
-          Syntax.tnil
-          (Syntax.ttcons
-          Syntax.tnil
-          (Syntax.ttcons Syntax.tnil (Syntax.ttcons Syntax.tnil Syntax.ttnil)))))
-          (Syntax.tcons (Syntax.tyArray (Syntax.tyInt Syntax.w8) 16) Syntax.tnil)))
-          Syntax.tnil)))
-          (Syntax.tcons
-          (Syntax.tyInt Syntax.w64)
           (Syntax.tcons (Syntax.tyInt Syntax.w8) Syntax.tnil)))))),
     ) (List._∷_ (8, Rows'.any-gone (KInstanceRow.spelled)) (List._∷_ (
       9,
@@ -4816,6 +4872,160 @@ t14 = List._∷_ (0, Rows'.any-gone Syntax.tyUnit) (List._∷_ (
           116
           (List._∷_ 99 (List._∷_ 111 (List._∷_ 109 (List._∷_ 101 List.[])))))))))))))))
           (Syntax.tcons
+          (Syntax.tyStruct
+          (List._∷_
+          102
+          (List._∷_
+          105
+          (List._∷_
+          110
+          (List._∷_
+          105
+          (List._∷_
+          115
+          (List._∷_
+          104
+          (List._∷_
+          58
+          (List._∷_ 58 (List._∷_ 83 (List._∷_ 101 (List._∷_ 110 (List._∷_ 116 List.[]))))))))))))
+          (Syntax.tcons
+          (Syntax.tyInt Syntax.w64)
+          (Syntax.tcons
+          (Syntax.tyStruct
+          (List._∷_
+          97
+          (List._∷_
+          110
+          (List._∷_
+          115
+          (List._∷_
+          119
+          (List._∷_
+          101
+          (List._∷_
+          114
+          (List._∷_
+          58
+          (List._∷_
+          58
+          (List._∷_
+          68
+          (List._∷_
+          101
+          (List._∷_
+          115
+          (List._∷_
+          116
+          (List._∷_
+          105
+          (List._∷_
+          110
+          (List._∷_
+          97
+          (List._∷_ 116 (List._∷_ 105 (List._∷_ 111 (List._∷_ 110 List.[])))))))))))))))))))
+          (Syntax.tcons
+          (Syntax.tyArray (Syntax.tyInt Syntax.w8) 16)
+          (Syntax.tcons
+          (Syntax.tyEnum
+          (List._∷_
+          97
+          (List._∷_
+          110
+          (List._∷_
+          115
+          (List._∷_
+          119
+          (List._∷_
+          101
+          (List._∷_
+          114
+          (List._∷_ 58 (List._∷_ 58 (List._∷_ 87 (List._∷_ 97 (List._∷_ 121 List.[])))))))))))
+          (Syntax.ttcons
+          Syntax.tnil
+          (Syntax.ttcons
+          Syntax.tnil
+          (Syntax.ttcons Syntax.tnil (Syntax.ttcons Syntax.tnil Syntax.ttnil)))))
+          Syntax.tnil)))
+          Syntax.tnil)))
+          (Syntax.tcons
+          (Syntax.tyStruct
+          (List._∷_
+          102
+          (List._∷_
+          105
+          (List._∷_
+          110
+          (List._∷_
+          105
+          (List._∷_
+          115
+          (List._∷_
+          104
+          (List._∷_
+          58
+          (List._∷_ 58 (List._∷_ 83 (List._∷_ 101 (List._∷_ 110 (List._∷_ 116 List.[]))))))))))))
+          (Syntax.tcons
+          (Syntax.tyInt Syntax.w64)
+          (Syntax.tcons
+          (Syntax.tyStruct
+          (List._∷_
+          97
+          (List._∷_
+          110
+          (List._∷_
+          115
+          (List._∷_
+          119
+          (List._∷_
+          101
+          (List._∷_
+          114
+          (List._∷_
+          58
+          (List._∷_
+          58
+          (List._∷_
+          68
+          (List._∷_
+          101
+          (List._∷_
+          115
+          (List._∷_
+          116
+          (List._∷_
+          105
+          (List._∷_
+          110
+          (List._∷_
+          97
+          (List._∷_ 116 (List._∷_ 105 (List._∷_ 111 (List._∷_ 110 List.[])))))))))))))))))))
+          (Syntax.tcons
+          (Syntax.tyArray (Syntax.tyInt Syntax.w8) 16)
+          (Syntax.tcons
+          (Syntax.tyEnum
+          (List._∷_
+          97
+          (List._∷_
+          110
+          (List._∷_
+          115
+          (List._∷_
+          119
+          (List._∷_
+          101
+          (List._∷_
+          114
+          (List._∷_ 58 (List._∷_ 58 (List._∷_ 87 (List._∷_ 97 (List._∷_ 121 List.[])))))))))))
+          (Syntax.ttcons
+          Syntax.tnil
+          (Syntax.ttcons
+          Syntax.tnil
+          (Syntax.ttcons Syntax.tnil (Syntax.ttcons Syntax.tnil Syntax.ttnil)))))
+          Syntax.tnil)))
+          Syntax.tnil)))
+          (Syntax.tcons
+          (Syntax.tyInt Syntax.w64)
+          (Syntax.tcons
           (Syntax.tyEnum
           (List._∷_
           97
@@ -4871,156 +5081,6 @@ t14 = List._∷_ (0, Rows'.any-gone Syntax.tyUnit) (List._∷_ (
           (Syntax.ttcons
           Syntax.tnil
           (Syntax.ttcons Syntax.tnil (Syntax.ttcons Syntax.tnil Syntax.ttnil)))))))))))))))))))
-          (Syntax.tcons
-          (Syntax.tyStruct
-          (List._∷_
-          102
-          (List._∷_
-          105
-          (List._∷_
-          110
-          (List._∷_
-          105
-          (List._∷_
-          115
-          (List._∷_
-          104
-          (List._∷_
-          58
-          (List._∷_ 58 (List._∷_ 83 (List._∷_ 101 (List._∷_ 110 (List._∷_ 116 List.[]))))))))))))
-          (Syntax.tcons
-          (Syntax.tyInt Syntax.w64)
-          (Syntax.tcons
-          (Syntax.tyStruct
-          (List._∷_
-          97
-          (List._∷_
-          110
-          (List._∷_
-          115
-          (List._∷_
-          119
-          (List._∷_
-          101
-          (List._∷_
-          114
-          (List._∷_
-          58
-          (List._∷_
-          58
-          (List._∷_
-          68
-          (List._∷_
-          101
-          (List._∷_
-          115
-          (List._∷_
-          116
-          (List._∷_
-          105
-          (List._∷_
-          110
-          (List._∷_
-          97
-          (List._∷_ 116 (List._∷_ 105 (List._∷_ 111 (List._∷_ 110 List.[])))))))))))))))))))
-          (Syntax.tcons
-          (Syntax.tyEnum
-          (List._∷_
-          97
-          (List._∷_
-          110
-          (List._∷_
-          115
-          (List._∷_
-          119
-          (List._∷_
-          101
-          (List._∷_
-          114
-          (List._∷_ 58 (List._∷_ 58 (List._∷_ 87 (List._∷_ 97 (List._∷_ 121 List.[])))))))))))
-          (Syntax.ttcons
-          Syntax.tnil
-          (Syntax.ttcons
-          Syntax.tnil
-          (Syntax.ttcons Syntax.tnil (Syntax.ttcons Syntax.tnil Syntax.ttnil)))))
-          (Syntax.tcons (Syntax.tyArray (Syntax.tyInt Syntax.w8) 16) Syntax.tnil)))
-          Syntax.tnil)))
-          (Syntax.tcons
-          (Syntax.tyStruct
-          (List._∷_
-          102
-          (List._∷_
-          105
-          (List._∷_
-          110
-          (List._∷_
-          105
-          (List._∷_
-          115
-          (List._∷_
-          104
-          (List._∷_
-          58
-          (List._∷_ 58 (List._∷_ 83 (List._∷_ 101 (List._∷_ 110 (List._∷_ 116 List.[]))))))))))))
-          (Syntax.tcons
-          (Syntax.tyInt Syntax.w64)
-          (Syntax.tcons
-          (Syntax.tyStruct
-          (List._∷_
-          97
-          (List._∷_
-          110
-          (List._∷_
-          115
-          (List._∷_
-          119
-          (List._∷_
-          101
-          (List._∷_
-          114
-          (List._∷_
-          58
-          (List._∷_
-          58
-          (List._∷_
-          68
-          (List._∷_
-          101
-          (List._∷_
-          115
-          (List._∷_
-          116
-          (List._∷_
-          105
-          (List._∷_
-          110
-          (List._∷_
-          97
-          (List._∷_ 116 (List._∷_ 105 (List._∷_ 111 (List._∷_ 110 List.[])))))))))))))))))))
-          (Syntax.tcons
-          (Syntax.tyEnum
-          (List._∷_
-          97
-          (List._∷_
-          110
-          (List._∷_
-          115
-          (List._∷_
-          119
-          (List._∷_
-          101
-          (List._∷_
-          114
-          (List._∷_ 58 (List._∷_ 58 (List._∷_ 87 (List._∷_ 97 (List._∷_ 121 List.[])))))))))))
-          (Syntax.ttcons
-          Syntax.tnil
-          (Syntax.ttcons
-          Syntax.tnil
-          (Syntax.ttcons Syntax.tnil (Syntax.ttcons Syntax.tnil Syntax.ttnil)))))
-          (Syntax.tcons (Syntax.tyArray (Syntax.tyInt Syntax.w8) 16) Syntax.tnil)))
-          Syntax.tnil)))
-          (Syntax.tcons
-          (Syntax.tyInt Syntax.w64)
           (Syntax.tcons (Syntax.tyInt Syntax.w8) Syntax.tnil)))))),
     ) (List._∷_ (8, Rows'.any-gone (KInstanceRow.spelled)) (List._∷_ (
       9,
@@ -5113,6 +5173,160 @@ t15 = List._∷_ (0, Rows'.any-gone Syntax.tyUnit) (List._∷_ (
           116
           (List._∷_ 99 (List._∷_ 111 (List._∷_ 109 (List._∷_ 101 List.[])))))))))))))))
           (Syntax.tcons
+          (Syntax.tyStruct
+          (List._∷_
+          102
+          (List._∷_
+          105
+          (List._∷_
+          110
+          (List._∷_
+          105
+          (List._∷_
+          115
+          (List._∷_
+          104
+          (List._∷_
+          58
+          (List._∷_ 58 (List._∷_ 83 (List._∷_ 101 (List._∷_ 110 (List._∷_ 116 List.[]))))))))))))
+          (Syntax.tcons
+          (Syntax.tyInt Syntax.w64)
+          (Syntax.tcons
+          (Syntax.tyStruct
+          (List._∷_
+          97
+          (List._∷_
+          110
+          (List._∷_
+          115
+          (List._∷_
+          119
+          (List._∷_
+          101
+          (List._∷_
+          114
+          (List._∷_
+          58
+          (List._∷_
+          58
+          (List._∷_
+          68
+          (List._∷_
+          101
+          (List._∷_
+          115
+          (List._∷_
+          116
+          (List._∷_
+          105
+          (List._∷_
+          110
+          (List._∷_
+          97
+          (List._∷_ 116 (List._∷_ 105 (List._∷_ 111 (List._∷_ 110 List.[])))))))))))))))))))
+          (Syntax.tcons
+          (Syntax.tyArray (Syntax.tyInt Syntax.w8) 16)
+          (Syntax.tcons
+          (Syntax.tyEnum
+          (List._∷_
+          97
+          (List._∷_
+          110
+          (List._∷_
+          115
+          (List._∷_
+          119
+          (List._∷_
+          101
+          (List._∷_
+          114
+          (List._∷_ 58 (List._∷_ 58 (List._∷_ 87 (List._∷_ 97 (List._∷_ 121 List.[])))))))))))
+          (Syntax.ttcons
+          Syntax.tnil
+          (Syntax.ttcons
+          Syntax.tnil
+          (Syntax.ttcons Syntax.tnil (Syntax.ttcons Syntax.tnil Syntax.ttnil)))))
+          Syntax.tnil)))
+          Syntax.tnil)))
+          (Syntax.tcons
+          (Syntax.tyStruct
+          (List._∷_
+          102
+          (List._∷_
+          105
+          (List._∷_
+          110
+          (List._∷_
+          105
+          (List._∷_
+          115
+          (List._∷_
+          104
+          (List._∷_
+          58
+          (List._∷_ 58 (List._∷_ 83 (List._∷_ 101 (List._∷_ 110 (List._∷_ 116 List.[]))))))))))))
+          (Syntax.tcons
+          (Syntax.tyInt Syntax.w64)
+          (Syntax.tcons
+          (Syntax.tyStruct
+          (List._∷_
+          97
+          (List._∷_
+          110
+          (List._∷_
+          115
+          (List._∷_
+          119
+          (List._∷_
+          101
+          (List._∷_
+          114
+          (List._∷_
+          58
+          (List._∷_
+          58
+          (List._∷_
+          68
+          (List._∷_
+          101
+          (List._∷_
+          115
+          (List._∷_
+          116
+          (List._∷_
+          105
+          (List._∷_
+          110
+          (List._∷_
+          97
+          (List._∷_ 116 (List._∷_ 105 (List._∷_ 111 (List._∷_ 110 List.[])))))))))))))))))))
+          (Syntax.tcons
+          (Syntax.tyArray (Syntax.tyInt Syntax.w8) 16)
+          (Syntax.tcons
+          (Syntax.tyEnum
+          (List._∷_
+          97
+          (List._∷_
+          110
+          (List._∷_
+          115
+          (List._∷_
+          119
+          (List._∷_
+          101
+          (List._∷_
+          114
+          (List._∷_ 58 (List._∷_ 58 (List._∷_ 87 (List._∷_ 97 (List._∷_ 121 List.[])))))))))))
+          (Syntax.ttcons
+          Syntax.tnil
+          (Syntax.ttcons
+          Syntax.tnil
+          (Syntax.ttcons Syntax.tnil (Syntax.ttcons Syntax.tnil Syntax.ttnil)))))
+          Syntax.tnil)))
+          Syntax.tnil)))
+          (Syntax.tcons
+          (Syntax.tyInt Syntax.w64)
+          (Syntax.tcons
           (Syntax.tyEnum
           (List._∷_
           97
@@ -5168,156 +5382,6 @@ t15 = List._∷_ (0, Rows'.any-gone Syntax.tyUnit) (List._∷_ (
           (Syntax.ttcons
           Syntax.tnil
           (Syntax.ttcons Syntax.tnil (Syntax.ttcons Syntax.tnil Syntax.ttnil)))))))))))))))))))
-          (Syntax.tcons
-          (Syntax.tyStruct
-          (List._∷_
-          102
-          (List._∷_
-          105
-          (List._∷_
-          110
-          (List._∷_
-          105
-          (List._∷_
-          115
-          (List._∷_
-          104
-          (List._∷_
-          58
-          (List._∷_ 58 (List._∷_ 83 (List._∷_ 101 (List._∷_ 110 (List._∷_ 116 List.[]))))))))))))
-          (Syntax.tcons
-          (Syntax.tyInt Syntax.w64)
-          (Syntax.tcons
-          (Syntax.tyStruct
-          (List._∷_
-          97
-          (List._∷_
-          110
-          (List._∷_
-          115
-          (List._∷_
-          119
-          (List._∷_
-          101
-          (List._∷_
-          114
-          (List._∷_
-          58
-          (List._∷_
-          58
-          (List._∷_
-          68
-          (List._∷_
-          101
-          (List._∷_
-          115
-          (List._∷_
-          116
-          (List._∷_
-          105
-          (List._∷_
-          110
-          (List._∷_
-          97
-          (List._∷_ 116 (List._∷_ 105 (List._∷_ 111 (List._∷_ 110 List.[])))))))))))))))))))
-          (Syntax.tcons
-          (Syntax.tyEnum
-          (List._∷_
-          97
-          (List._∷_
-          110
-          (List._∷_
-          115
-          (List._∷_
-          119
-          (List._∷_
-          101
-          (List._∷_
-          114
-          (List._∷_ 58 (List._∷_ 58 (List._∷_ 87 (List._∷_ 97 (List._∷_ 121 List.[])))))))))))
-          (Syntax.ttcons
-          Syntax.tnil
-          (Syntax.ttcons
-          Syntax.tnil
-          (Syntax.ttcons Syntax.tnil (Syntax.ttcons Syntax.tnil Syntax.ttnil)))))
-          (Syntax.tcons (Syntax.tyArray (Syntax.tyInt Syntax.w8) 16) Syntax.tnil)))
-          Syntax.tnil)))
-          (Syntax.tcons
-          (Syntax.tyStruct
-          (List._∷_
-          102
-          (List._∷_
-          105
-          (List._∷_
-          110
-          (List._∷_
-          105
-          (List._∷_
-          115
-          (List._∷_
-          104
-          (List._∷_
-          58
-          (List._∷_ 58 (List._∷_ 83 (List._∷_ 101 (List._∷_ 110 (List._∷_ 116 List.[]))))))))))))
-          (Syntax.tcons
-          (Syntax.tyInt Syntax.w64)
-          (Syntax.tcons
-          (Syntax.tyStruct
-          (List._∷_
-          97
-          (List._∷_
-          110
-          (List._∷_
-          115
-          (List._∷_
-          119
-          (List._∷_
-          101
-          (List._∷_
-          114
-          (List._∷_
-          58
-          (List._∷_
-          58
-          (List._∷_
-          68
-          (List._∷_
-          101
-          (List._∷_
-          115
-          (List._∷_
-          116
-          (List._∷_
-          105
-          (List._∷_
-          110
-          (List._∷_
-          97
-          (List._∷_ 116 (List._∷_ 105 (List._∷_ 111 (List._∷_ 110 List.[])))))))))))))))))))
-          (Syntax.tcons
-          (Syntax.tyEnum
-          (List._∷_
-          97
-          (List._∷_
-          110
-          (List._∷_
-          115
-          (List._∷_
-          119
-          (List._∷_
-          101
-          (List._∷_
-          114
-          (List._∷_ 58 (List._∷_ 58 (List._∷_ 87 (List._∷_ 97 (List._∷_ 121 List.[])))))))))))
-          (Syntax.ttcons
-          Syntax.tnil
-          (Syntax.ttcons
-          Syntax.tnil
-          (Syntax.ttcons Syntax.tnil (Syntax.ttcons Syntax.tnil Syntax.ttnil)))))
-          (Syntax.tcons (Syntax.tyArray (Syntax.tyInt Syntax.w8) 16) Syntax.tnil)))
-          Syntax.tnil)))
-          (Syntax.tcons
-          (Syntax.tyInt Syntax.w64)
           (Syntax.tcons (Syntax.tyInt Syntax.w8) Syntax.tnil)))))),
     ) (List._∷_ (8, Rows'.any-gone (KInstanceRow.spelled)) (List._∷_ (
       9,
@@ -5412,6 +5476,160 @@ t16 = List._∷_ (0, Rows'.any-gone Syntax.tyUnit) (List._∷_ (
           116
           (List._∷_ 99 (List._∷_ 111 (List._∷_ 109 (List._∷_ 101 List.[])))))))))))))))
           (Syntax.tcons
+          (Syntax.tyStruct
+          (List._∷_
+          102
+          (List._∷_
+          105
+          (List._∷_
+          110
+          (List._∷_
+          105
+          (List._∷_
+          115
+          (List._∷_
+          104
+          (List._∷_
+          58
+          (List._∷_ 58 (List._∷_ 83 (List._∷_ 101 (List._∷_ 110 (List._∷_ 116 List.[]))))))))))))
+          (Syntax.tcons
+          (Syntax.tyInt Syntax.w64)
+          (Syntax.tcons
+          (Syntax.tyStruct
+          (List._∷_
+          97
+          (List._∷_
+          110
+          (List._∷_
+          115
+          (List._∷_
+          119
+          (List._∷_
+          101
+          (List._∷_
+          114
+          (List._∷_
+          58
+          (List._∷_
+          58
+          (List._∷_
+          68
+          (List._∷_
+          101
+          (List._∷_
+          115
+          (List._∷_
+          116
+          (List._∷_
+          105
+          (List._∷_
+          110
+          (List._∷_
+          97
+          (List._∷_ 116 (List._∷_ 105 (List._∷_ 111 (List._∷_ 110 List.[])))))))))))))))))))
+          (Syntax.tcons
+          (Syntax.tyArray (Syntax.tyInt Syntax.w8) 16)
+          (Syntax.tcons
+          (Syntax.tyEnum
+          (List._∷_
+          97
+          (List._∷_
+          110
+          (List._∷_
+          115
+          (List._∷_
+          119
+          (List._∷_
+          101
+          (List._∷_
+          114
+          (List._∷_ 58 (List._∷_ 58 (List._∷_ 87 (List._∷_ 97 (List._∷_ 121 List.[])))))))))))
+          (Syntax.ttcons
+          Syntax.tnil
+          (Syntax.ttcons
+          Syntax.tnil
+          (Syntax.ttcons Syntax.tnil (Syntax.ttcons Syntax.tnil Syntax.ttnil)))))
+          Syntax.tnil)))
+          Syntax.tnil)))
+          (Syntax.tcons
+          (Syntax.tyStruct
+          (List._∷_
+          102
+          (List._∷_
+          105
+          (List._∷_
+          110
+          (List._∷_
+          105
+          (List._∷_
+          115
+          (List._∷_
+          104
+          (List._∷_
+          58
+          (List._∷_ 58 (List._∷_ 83 (List._∷_ 101 (List._∷_ 110 (List._∷_ 116 List.[]))))))))))))
+          (Syntax.tcons
+          (Syntax.tyInt Syntax.w64)
+          (Syntax.tcons
+          (Syntax.tyStruct
+          (List._∷_
+          97
+          (List._∷_
+          110
+          (List._∷_
+          115
+          (List._∷_
+          119
+          (List._∷_
+          101
+          (List._∷_
+          114
+          (List._∷_
+          58
+          (List._∷_
+          58
+          (List._∷_
+          68
+          (List._∷_
+          101
+          (List._∷_
+          115
+          (List._∷_
+          116
+          (List._∷_
+          105
+          (List._∷_
+          110
+          (List._∷_
+          97
+          (List._∷_ 116 (List._∷_ 105 (List._∷_ 111 (List._∷_ 110 List.[])))))))))))))))))))
+          (Syntax.tcons
+          (Syntax.tyArray (Syntax.tyInt Syntax.w8) 16)
+          (Syntax.tcons
+          (Syntax.tyEnum
+          (List._∷_
+          97
+          (List._∷_
+          110
+          (List._∷_
+          115
+          (List._∷_
+          119
+          (List._∷_
+          101
+          (List._∷_
+          114
+          (List._∷_ 58 (List._∷_ 58 (List._∷_ 87 (List._∷_ 97 (List._∷_ 121 List.[])))))))))))
+          (Syntax.ttcons
+          Syntax.tnil
+          (Syntax.ttcons
+          Syntax.tnil
+          (Syntax.ttcons Syntax.tnil (Syntax.ttcons Syntax.tnil Syntax.ttnil)))))
+          Syntax.tnil)))
+          Syntax.tnil)))
+          (Syntax.tcons
+          (Syntax.tyInt Syntax.w64)
+          (Syntax.tcons
           (Syntax.tyEnum
           (List._∷_
           97
@@ -5467,156 +5685,6 @@ t16 = List._∷_ (0, Rows'.any-gone Syntax.tyUnit) (List._∷_ (
           (Syntax.ttcons
           Syntax.tnil
           (Syntax.ttcons Syntax.tnil (Syntax.ttcons Syntax.tnil Syntax.ttnil)))))))))))))))))))
-          (Syntax.tcons
-          (Syntax.tyStruct
-          (List._∷_
-          102
-          (List._∷_
-          105
-          (List._∷_
-          110
-          (List._∷_
-          105
-          (List._∷_
-          115
-          (List._∷_
-          104
-          (List._∷_
-          58
-          (List._∷_ 58 (List._∷_ 83 (List._∷_ 101 (List._∷_ 110 (List._∷_ 116 List.[]))))))))))))
-          (Syntax.tcons
-          (Syntax.tyInt Syntax.w64)
-          (Syntax.tcons
-          (Syntax.tyStruct
-          (List._∷_
-          97
-          (List._∷_
-          110
-          (List._∷_
-          115
-          (List._∷_
-          119
-          (List._∷_
-          101
-          (List._∷_
-          114
-          (List._∷_
-          58
-          (List._∷_
-          58
-          (List._∷_
-          68
-          (List._∷_
-          101
-          (List._∷_
-          115
-          (List._∷_
-          116
-          (List._∷_
-          105
-          (List._∷_
-          110
-          (List._∷_
-          97
-          (List._∷_ 116 (List._∷_ 105 (List._∷_ 111 (List._∷_ 110 List.[])))))))))))))))))))
-          (Syntax.tcons
-          (Syntax.tyEnum
-          (List._∷_
-          97
-          (List._∷_
-          110
-          (List._∷_
-          115
-          (List._∷_
-          119
-          (List._∷_
-          101
-          (List._∷_
-          114
-          (List._∷_ 58 (List._∷_ 58 (List._∷_ 87 (List._∷_ 97 (List._∷_ 121 List.[])))))))))))
-          (Syntax.ttcons
-          Syntax.tnil
-          (Syntax.ttcons
-          Syntax.tnil
-          (Syntax.ttcons Syntax.tnil (Syntax.ttcons Syntax.tnil Syntax.ttnil)))))
-          (Syntax.tcons (Syntax.tyArray (Syntax.tyInt Syntax.w8) 16) Syntax.tnil)))
-          Syntax.tnil)))
-          (Syntax.tcons
-          (Syntax.tyStruct
-          (List._∷_
-          102
-          (List._∷_
-          105
-          (List._∷_
-          110
-          (List._∷_
-          105
-          (List._∷_
-          115
-          (List._∷_
-          104
-          (List._∷_
-          58
-          (List._∷_ 58 (List._∷_ 83 (List._∷_ 101 (List._∷_ 110 (List._∷_ 116 List.[]))))))))))))
-          (Syntax.tcons
-          (Syntax.tyInt Syntax.w64)
-          (Syntax.tcons
-          (Syntax.tyStruct
-          (List._∷_
-          97
-          (List._∷_
-          110
-          (List._∷_
-          115
-          (List._∷_
-          119
-          (List._∷_
-          101
-          (List._∷_
-          114
-          (List._∷_
-          58
-          (List._∷_
-          58
-          (List._∷_
-          68
-          (List._∷_
-          101
-          (List._∷_
-          115
-          (List._∷_
-          116
-          (List._∷_
-          105
-          (List._∷_
-          110
-          (List._∷_
-          97
-          (List._∷_ 116 (List._∷_ 105 (List._∷_ 111 (List._∷_ 110 List.[])))))))))))))))))))
-          (Syntax.tcons
-          (Syntax.tyEnum
-          (List._∷_
-          97
-          (List._∷_
-          110
-          (List._∷_
-          115
-          (List._∷_
-          119
-          (List._∷_
-          101
-          (List._∷_
-          114
-          (List._∷_ 58 (List._∷_ 58 (List._∷_ 87 (List._∷_ 97 (List._∷_ 121 List.[])))))))))))
-          (Syntax.ttcons
-          Syntax.tnil
-          (Syntax.ttcons
-          Syntax.tnil
-          (Syntax.ttcons Syntax.tnil (Syntax.ttcons Syntax.tnil Syntax.ttnil)))))
-          (Syntax.tcons (Syntax.tyArray (Syntax.tyInt Syntax.w8) 16) Syntax.tnil)))
-          Syntax.tnil)))
-          (Syntax.tcons
-          (Syntax.tyInt Syntax.w64)
           (Syntax.tcons (Syntax.tyInt Syntax.w8) Syntax.tnil)))))),
     ) (List._∷_ (8, Rows'.any-gone (KInstanceRow.spelled)) (List._∷_ (
       9,
@@ -5707,6 +5775,160 @@ t17 = List._∷_ (0, Rows'.any-gone Syntax.tyUnit) (List._∷_ (
           116
           (List._∷_ 99 (List._∷_ 111 (List._∷_ 109 (List._∷_ 101 List.[])))))))))))))))
           (Syntax.tcons
+          (Syntax.tyStruct
+          (List._∷_
+          102
+          (List._∷_
+          105
+          (List._∷_
+          110
+          (List._∷_
+          105
+          (List._∷_
+          115
+          (List._∷_
+          104
+          (List._∷_
+          58
+          (List._∷_ 58 (List._∷_ 83 (List._∷_ 101 (List._∷_ 110 (List._∷_ 116 List.[]))))))))))))
+          (Syntax.tcons
+          (Syntax.tyInt Syntax.w64)
+          (Syntax.tcons
+          (Syntax.tyStruct
+          (List._∷_
+          97
+          (List._∷_
+          110
+          (List._∷_
+          115
+          (List._∷_
+          119
+          (List._∷_
+          101
+          (List._∷_
+          114
+          (List._∷_
+          58
+          (List._∷_
+          58
+          (List._∷_
+          68
+          (List._∷_
+          101
+          (List._∷_
+          115
+          (List._∷_
+          116
+          (List._∷_
+          105
+          (List._∷_
+          110
+          (List._∷_
+          97
+          (List._∷_ 116 (List._∷_ 105 (List._∷_ 111 (List._∷_ 110 List.[])))))))))))))))))))
+          (Syntax.tcons
+          (Syntax.tyArray (Syntax.tyInt Syntax.w8) 16)
+          (Syntax.tcons
+          (Syntax.tyEnum
+          (List._∷_
+          97
+          (List._∷_
+          110
+          (List._∷_
+          115
+          (List._∷_
+          119
+          (List._∷_
+          101
+          (List._∷_
+          114
+          (List._∷_ 58 (List._∷_ 58 (List._∷_ 87 (List._∷_ 97 (List._∷_ 121 List.[])))))))))))
+          (Syntax.ttcons
+          Syntax.tnil
+          (Syntax.ttcons
+          Syntax.tnil
+          (Syntax.ttcons Syntax.tnil (Syntax.ttcons Syntax.tnil Syntax.ttnil)))))
+          Syntax.tnil)))
+          Syntax.tnil)))
+          (Syntax.tcons
+          (Syntax.tyStruct
+          (List._∷_
+          102
+          (List._∷_
+          105
+          (List._∷_
+          110
+          (List._∷_
+          105
+          (List._∷_
+          115
+          (List._∷_
+          104
+          (List._∷_
+          58
+          (List._∷_ 58 (List._∷_ 83 (List._∷_ 101 (List._∷_ 110 (List._∷_ 116 List.[]))))))))))))
+          (Syntax.tcons
+          (Syntax.tyInt Syntax.w64)
+          (Syntax.tcons
+          (Syntax.tyStruct
+          (List._∷_
+          97
+          (List._∷_
+          110
+          (List._∷_
+          115
+          (List._∷_
+          119
+          (List._∷_
+          101
+          (List._∷_
+          114
+          (List._∷_
+          58
+          (List._∷_
+          58
+          (List._∷_
+          68
+          (List._∷_
+          101
+          (List._∷_
+          115
+          (List._∷_
+          116
+          (List._∷_
+          105
+          (List._∷_
+          110
+          (List._∷_
+          97
+          (List._∷_ 116 (List._∷_ 105 (List._∷_ 111 (List._∷_ 110 List.[])))))))))))))))))))
+          (Syntax.tcons
+          (Syntax.tyArray (Syntax.tyInt Syntax.w8) 16)
+          (Syntax.tcons
+          (Syntax.tyEnum
+          (List._∷_
+          97
+          (List._∷_
+          110
+          (List._∷_
+          115
+          (List._∷_
+          119
+          (List._∷_
+          101
+          (List._∷_
+          114
+          (List._∷_ 58 (List._∷_ 58 (List._∷_ 87 (List._∷_ 97 (List._∷_ 121 List.[])))))))))))
+          (Syntax.ttcons
+          Syntax.tnil
+          (Syntax.ttcons
+          Syntax.tnil
+          (Syntax.ttcons Syntax.tnil (Syntax.ttcons Syntax.tnil Syntax.ttnil)))))
+          Syntax.tnil)))
+          Syntax.tnil)))
+          (Syntax.tcons
+          (Syntax.tyInt Syntax.w64)
+          (Syntax.tcons
           (Syntax.tyEnum
           (List._∷_
           97
@@ -5762,156 +5984,6 @@ t17 = List._∷_ (0, Rows'.any-gone Syntax.tyUnit) (List._∷_ (
           (Syntax.ttcons
           Syntax.tnil
           (Syntax.ttcons Syntax.tnil (Syntax.ttcons Syntax.tnil Syntax.ttnil)))))))))))))))))))
-          (Syntax.tcons
-          (Syntax.tyStruct
-          (List._∷_
-          102
-          (List._∷_
-          105
-          (List._∷_
-          110
-          (List._∷_
-          105
-          (List._∷_
-          115
-          (List._∷_
-          104
-          (List._∷_
-          58
-          (List._∷_ 58 (List._∷_ 83 (List._∷_ 101 (List._∷_ 110 (List._∷_ 116 List.[]))))))))))))
-          (Syntax.tcons
-          (Syntax.tyInt Syntax.w64)
-          (Syntax.tcons
-          (Syntax.tyStruct
-          (List._∷_
-          97
-          (List._∷_
-          110
-          (List._∷_
-          115
-          (List._∷_
-          119
-          (List._∷_
-          101
-          (List._∷_
-          114
-          (List._∷_
-          58
-          (List._∷_
-          58
-          (List._∷_
-          68
-          (List._∷_
-          101
-          (List._∷_
-          115
-          (List._∷_
-          116
-          (List._∷_
-          105
-          (List._∷_
-          110
-          (List._∷_
-          97
-          (List._∷_ 116 (List._∷_ 105 (List._∷_ 111 (List._∷_ 110 List.[])))))))))))))))))))
-          (Syntax.tcons
-          (Syntax.tyEnum
-          (List._∷_
-          97
-          (List._∷_
-          110
-          (List._∷_
-          115
-          (List._∷_
-          119
-          (List._∷_
-          101
-          (List._∷_
-          114
-          (List._∷_ 58 (List._∷_ 58 (List._∷_ 87 (List._∷_ 97 (List._∷_ 121 List.[])))))))))))
-          (Syntax.ttcons
-          Syntax.tnil
-          (Syntax.ttcons
-          Syntax.tnil
-          (Syntax.ttcons Syntax.tnil (Syntax.ttcons Syntax.tnil Syntax.ttnil)))))
-          (Syntax.tcons (Syntax.tyArray (Syntax.tyInt Syntax.w8) 16) Syntax.tnil)))
-          Syntax.tnil)))
-          (Syntax.tcons
-          (Syntax.tyStruct
-          (List._∷_
-          102
-          (List._∷_
-          105
-          (List._∷_
-          110
-          (List._∷_
-          105
-          (List._∷_
-          115
-          (List._∷_
-          104
-          (List._∷_
-          58
-          (List._∷_ 58 (List._∷_ 83 (List._∷_ 101 (List._∷_ 110 (List._∷_ 116 List.[]))))))))))))
-          (Syntax.tcons
-          (Syntax.tyInt Syntax.w64)
-          (Syntax.tcons
-          (Syntax.tyStruct
-          (List._∷_
-          97
-          (List._∷_
-          110
-          (List._∷_
-          115
-          (List._∷_
-          119
-          (List._∷_
-          101
-          (List._∷_
-          114
-          (List._∷_
-          58
-          (List._∷_
-          58
-          (List._∷_
-          68
-          (List._∷_
-          101
-          (List._∷_
-          115
-          (List._∷_
-          116
-          (List._∷_
-          105
-          (List._∷_
-          110
-          (List._∷_
-          97
-          (List._∷_ 116 (List._∷_ 105 (List._∷_ 111 (List._∷_ 110 List.[])))))))))))))))))))
-          (Syntax.tcons
-          (Syntax.tyEnum
-          (List._∷_
-          97
-          (List._∷_
-          110
-          (List._∷_
-          115
-          (List._∷_
-          119
-          (List._∷_
-          101
-          (List._∷_
-          114
-          (List._∷_ 58 (List._∷_ 58 (List._∷_ 87 (List._∷_ 97 (List._∷_ 121 List.[])))))))))))
-          (Syntax.ttcons
-          Syntax.tnil
-          (Syntax.ttcons
-          Syntax.tnil
-          (Syntax.ttcons Syntax.tnil (Syntax.ttcons Syntax.tnil Syntax.ttnil)))))
-          (Syntax.tcons (Syntax.tyArray (Syntax.tyInt Syntax.w8) 16) Syntax.tnil)))
-          Syntax.tnil)))
-          (Syntax.tcons
-          (Syntax.tyInt Syntax.w64)
           (Syntax.tcons (Syntax.tyInt Syntax.w8) Syntax.tnil)))))),
     ) (List._∷_ (8, Rows'.any-gone (KInstanceRow.spelled)) (List._∷_ (
       9,
@@ -6004,6 +6076,160 @@ t18 = List._∷_ (0, Rows'.any-gone Syntax.tyUnit) (List._∷_ (
           116
           (List._∷_ 99 (List._∷_ 111 (List._∷_ 109 (List._∷_ 101 List.[])))))))))))))))
           (Syntax.tcons
+          (Syntax.tyStruct
+          (List._∷_
+          102
+          (List._∷_
+          105
+          (List._∷_
+          110
+          (List._∷_
+          105
+          (List._∷_
+          115
+          (List._∷_
+          104
+          (List._∷_
+          58
+          (List._∷_ 58 (List._∷_ 83 (List._∷_ 101 (List._∷_ 110 (List._∷_ 116 List.[]))))))))))))
+          (Syntax.tcons
+          (Syntax.tyInt Syntax.w64)
+          (Syntax.tcons
+          (Syntax.tyStruct
+          (List._∷_
+          97
+          (List._∷_
+          110
+          (List._∷_
+          115
+          (List._∷_
+          119
+          (List._∷_
+          101
+          (List._∷_
+          114
+          (List._∷_
+          58
+          (List._∷_
+          58
+          (List._∷_
+          68
+          (List._∷_
+          101
+          (List._∷_
+          115
+          (List._∷_
+          116
+          (List._∷_
+          105
+          (List._∷_
+          110
+          (List._∷_
+          97
+          (List._∷_ 116 (List._∷_ 105 (List._∷_ 111 (List._∷_ 110 List.[])))))))))))))))))))
+          (Syntax.tcons
+          (Syntax.tyArray (Syntax.tyInt Syntax.w8) 16)
+          (Syntax.tcons
+          (Syntax.tyEnum
+          (List._∷_
+          97
+          (List._∷_
+          110
+          (List._∷_
+          115
+          (List._∷_
+          119
+          (List._∷_
+          101
+          (List._∷_
+          114
+          (List._∷_ 58 (List._∷_ 58 (List._∷_ 87 (List._∷_ 97 (List._∷_ 121 List.[])))))))))))
+          (Syntax.ttcons
+          Syntax.tnil
+          (Syntax.ttcons
+          Syntax.tnil
+          (Syntax.ttcons Syntax.tnil (Syntax.ttcons Syntax.tnil Syntax.ttnil)))))
+          Syntax.tnil)))
+          Syntax.tnil)))
+          (Syntax.tcons
+          (Syntax.tyStruct
+          (List._∷_
+          102
+          (List._∷_
+          105
+          (List._∷_
+          110
+          (List._∷_
+          105
+          (List._∷_
+          115
+          (List._∷_
+          104
+          (List._∷_
+          58
+          (List._∷_ 58 (List._∷_ 83 (List._∷_ 101 (List._∷_ 110 (List._∷_ 116 List.[]))))))))))))
+          (Syntax.tcons
+          (Syntax.tyInt Syntax.w64)
+          (Syntax.tcons
+          (Syntax.tyStruct
+          (List._∷_
+          97
+          (List._∷_
+          110
+          (List._∷_
+          115
+          (List._∷_
+          119
+          (List._∷_
+          101
+          (List._∷_
+          114
+          (List._∷_
+          58
+          (List._∷_
+          58
+          (List._∷_
+          68
+          (List._∷_
+          101
+          (List._∷_
+          115
+          (List._∷_
+          116
+          (List._∷_
+          105
+          (List._∷_
+          110
+          (List._∷_
+          97
+          (List._∷_ 116 (List._∷_ 105 (List._∷_ 111 (List._∷_ 110 List.[])))))))))))))))))))
+          (Syntax.tcons
+          (Syntax.tyArray (Syntax.tyInt Syntax.w8) 16)
+          (Syntax.tcons
+          (Syntax.tyEnum
+          (List._∷_
+          97
+          (List._∷_
+          110
+          (List._∷_
+          115
+          (List._∷_
+          119
+          (List._∷_
+          101
+          (List._∷_
+          114
+          (List._∷_ 58 (List._∷_ 58 (List._∷_ 87 (List._∷_ 97 (List._∷_ 121 List.[])))))))))))
+          (Syntax.ttcons
+          Syntax.tnil
+          (Syntax.ttcons
+          Syntax.tnil
+          (Syntax.ttcons Syntax.tnil (Syntax.ttcons Syntax.tnil Syntax.ttnil)))))
+          Syntax.tnil)))
+          Syntax.tnil)))
+          (Syntax.tcons
+          (Syntax.tyInt Syntax.w64)
+          (Syntax.tcons
           (Syntax.tyEnum
           (List._∷_
           97
@@ -6059,156 +6285,6 @@ t18 = List._∷_ (0, Rows'.any-gone Syntax.tyUnit) (List._∷_ (
           (Syntax.ttcons
           Syntax.tnil
           (Syntax.ttcons Syntax.tnil (Syntax.ttcons Syntax.tnil Syntax.ttnil)))))))))))))))))))
-          (Syntax.tcons
-          (Syntax.tyStruct
-          (List._∷_
-          102
-          (List._∷_
-          105
-          (List._∷_
-          110
-          (List._∷_
-          105
-          (List._∷_
-          115
-          (List._∷_
-          104
-          (List._∷_
-          58
-          (List._∷_ 58 (List._∷_ 83 (List._∷_ 101 (List._∷_ 110 (List._∷_ 116 List.[]))))))))))))
-          (Syntax.tcons
-          (Syntax.tyInt Syntax.w64)
-          (Syntax.tcons
-          (Syntax.tyStruct
-          (List._∷_
-          97
-          (List._∷_
-          110
-          (List._∷_
-          115
-          (List._∷_
-          119
-          (List._∷_
-          101
-          (List._∷_
-          114
-          (List._∷_
-          58
-          (List._∷_
-          58
-          (List._∷_
-          68
-          (List._∷_
-          101
-          (List._∷_
-          115
-          (List._∷_
-          116
-          (List._∷_
-          105
-          (List._∷_
-          110
-          (List._∷_
-          97
-          (List._∷_ 116 (List._∷_ 105 (List._∷_ 111 (List._∷_ 110 List.[])))))))))))))))))))
-          (Syntax.tcons
-          (Syntax.tyEnum
-          (List._∷_
-          97
-          (List._∷_
-          110
-          (List._∷_
-          115
-          (List._∷_
-          119
-          (List._∷_
-          101
-          (List._∷_
-          114
-          (List._∷_ 58 (List._∷_ 58 (List._∷_ 87 (List._∷_ 97 (List._∷_ 121 List.[])))))))))))
-          (Syntax.ttcons
-          Syntax.tnil
-          (Syntax.ttcons
-          Syntax.tnil
-          (Syntax.ttcons Syntax.tnil (Syntax.ttcons Syntax.tnil Syntax.ttnil)))))
-          (Syntax.tcons (Syntax.tyArray (Syntax.tyInt Syntax.w8) 16) Syntax.tnil)))
-          Syntax.tnil)))
-          (Syntax.tcons
-          (Syntax.tyStruct
-          (List._∷_
-          102
-          (List._∷_
-          105
-          (List._∷_
-          110
-          (List._∷_
-          105
-          (List._∷_
-          115
-          (List._∷_
-          104
-          (List._∷_
-          58
-          (List._∷_ 58 (List._∷_ 83 (List._∷_ 101 (List._∷_ 110 (List._∷_ 116 List.[]))))))))))))
-          (Syntax.tcons
-          (Syntax.tyInt Syntax.w64)
-          (Syntax.tcons
-          (Syntax.tyStruct
-          (List._∷_
-          97
-          (List._∷_
-          110
-          (List._∷_
-          115
-          (List._∷_
-          119
-          (List._∷_
-          101
-          (List._∷_
-          114
-          (List._∷_
-          58
-          (List._∷_
-          58
-          (List._∷_
-          68
-          (List._∷_
-          101
-          (List._∷_
-          115
-          (List._∷_
-          116
-          (List._∷_
-          105
-          (List._∷_
-          110
-          (List._∷_
-          97
-          (List._∷_ 116 (List._∷_ 105 (List._∷_ 111 (List._∷_ 110 List.[])))))))))))))))))))
-          (Syntax.tcons
-          (Syntax.tyEnum
-          (List._∷_
-          97
-          (List._∷_
-          110
-          (List._∷_
-          115
-          (List._∷_
-          119
-          (List._∷_
-          101
-          (List._∷_
-          114
-          (List._∷_ 58 (List._∷_ 58 (List._∷_ 87 (List._∷_ 97 (List._∷_ 121 List.[])))))))))))
-          (Syntax.ttcons
-          Syntax.tnil
-          (Syntax.ttcons
-          Syntax.tnil
-          (Syntax.ttcons Syntax.tnil (Syntax.ttcons Syntax.tnil Syntax.ttnil)))))
-          (Syntax.tcons (Syntax.tyArray (Syntax.tyInt Syntax.w8) 16) Syntax.tnil)))
-          Syntax.tnil)))
-          (Syntax.tcons
-          (Syntax.tyInt Syntax.w64)
           (Syntax.tcons (Syntax.tyInt Syntax.w8) Syntax.tnil)))))),
     ) (List._∷_ (8, Rows'.any-gone (KInstanceRow.spelled)) (List._∷_ (
       9,
@@ -6297,6 +6373,160 @@ t19 = List._∷_ (0, Rows'.any-gone Syntax.tyUnit) (List._∷_ (
           116
           (List._∷_ 99 (List._∷_ 111 (List._∷_ 109 (List._∷_ 101 List.[])))))))))))))))
           (Syntax.tcons
+          (Syntax.tyStruct
+          (List._∷_
+          102
+          (List._∷_
+          105
+          (List._∷_
+          110
+          (List._∷_
+          105
+          (List._∷_
+          115
+          (List._∷_
+          104
+          (List._∷_
+          58
+          (List._∷_ 58 (List._∷_ 83 (List._∷_ 101 (List._∷_ 110 (List._∷_ 116 List.[]))))))))))))
+          (Syntax.tcons
+          (Syntax.tyInt Syntax.w64)
+          (Syntax.tcons
+          (Syntax.tyStruct
+          (List._∷_
+          97
+          (List._∷_
+          110
+          (List._∷_
+          115
+          (List._∷_
+          119
+          (List._∷_
+          101
+          (List._∷_
+          114
+          (List._∷_
+          58
+          (List._∷_
+          58
+          (List._∷_
+          68
+          (List._∷_
+          101
+          (List._∷_
+          115
+          (List._∷_
+          116
+          (List._∷_
+          105
+          (List._∷_
+          110
+          (List._∷_
+          97
+          (List._∷_ 116 (List._∷_ 105 (List._∷_ 111 (List._∷_ 110 List.[])))))))))))))))))))
+          (Syntax.tcons
+          (Syntax.tyArray (Syntax.tyInt Syntax.w8) 16)
+          (Syntax.tcons
+          (Syntax.tyEnum
+          (List._∷_
+          97
+          (List._∷_
+          110
+          (List._∷_
+          115
+          (List._∷_
+          119
+          (List._∷_
+          101
+          (List._∷_
+          114
+          (List._∷_ 58 (List._∷_ 58 (List._∷_ 87 (List._∷_ 97 (List._∷_ 121 List.[])))))))))))
+          (Syntax.ttcons
+          Syntax.tnil
+          (Syntax.ttcons
+          Syntax.tnil
+          (Syntax.ttcons Syntax.tnil (Syntax.ttcons Syntax.tnil Syntax.ttnil)))))
+          Syntax.tnil)))
+          Syntax.tnil)))
+          (Syntax.tcons
+          (Syntax.tyStruct
+          (List._∷_
+          102
+          (List._∷_
+          105
+          (List._∷_
+          110
+          (List._∷_
+          105
+          (List._∷_
+          115
+          (List._∷_
+          104
+          (List._∷_
+          58
+          (List._∷_ 58 (List._∷_ 83 (List._∷_ 101 (List._∷_ 110 (List._∷_ 116 List.[]))))))))))))
+          (Syntax.tcons
+          (Syntax.tyInt Syntax.w64)
+          (Syntax.tcons
+          (Syntax.tyStruct
+          (List._∷_
+          97
+          (List._∷_
+          110
+          (List._∷_
+          115
+          (List._∷_
+          119
+          (List._∷_
+          101
+          (List._∷_
+          114
+          (List._∷_
+          58
+          (List._∷_
+          58
+          (List._∷_
+          68
+          (List._∷_
+          101
+          (List._∷_
+          115
+          (List._∷_
+          116
+          (List._∷_
+          105
+          (List._∷_
+          110
+          (List._∷_
+          97
+          (List._∷_ 116 (List._∷_ 105 (List._∷_ 111 (List._∷_ 110 List.[])))))))))))))))))))
+          (Syntax.tcons
+          (Syntax.tyArray (Syntax.tyInt Syntax.w8) 16)
+          (Syntax.tcons
+          (Syntax.tyEnum
+          (List._∷_
+          97
+          (List._∷_
+          110
+          (List._∷_
+          115
+          (List._∷_
+          119
+          (List._∷_
+          101
+          (List._∷_
+          114
+          (List._∷_ 58 (List._∷_ 58 (List._∷_ 87 (List._∷_ 97 (List._∷_ 121 List.[])))))))))))
+          (Syntax.ttcons
+          Syntax.tnil
+          (Syntax.ttcons
+          Syntax.tnil
+          (Syntax.ttcons Syntax.tnil (Syntax.ttcons Syntax.tnil Syntax.ttnil)))))
+          Syntax.tnil)))
+          Syntax.tnil)))
+          (Syntax.tcons
+          (Syntax.tyInt Syntax.w64)
+          (Syntax.tcons
           (Syntax.tyEnum
           (List._∷_
           97
@@ -6352,156 +6582,6 @@ t19 = List._∷_ (0, Rows'.any-gone Syntax.tyUnit) (List._∷_ (
           (Syntax.ttcons
           Syntax.tnil
           (Syntax.ttcons Syntax.tnil (Syntax.ttcons Syntax.tnil Syntax.ttnil)))))))))))))))))))
-          (Syntax.tcons
-          (Syntax.tyStruct
-          (List._∷_
-          102
-          (List._∷_
-          105
-          (List._∷_
-          110
-          (List._∷_
-          105
-          (List._∷_
-          115
-          (List._∷_
-          104
-          (List._∷_
-          58
-          (List._∷_ 58 (List._∷_ 83 (List._∷_ 101 (List._∷_ 110 (List._∷_ 116 List.[]))))))))))))
-          (Syntax.tcons
-          (Syntax.tyInt Syntax.w64)
-          (Syntax.tcons
-          (Syntax.tyStruct
-          (List._∷_
-          97
-          (List._∷_
-          110
-          (List._∷_
-          115
-          (List._∷_
-          119
-          (List._∷_
-          101
-          (List._∷_
-          114
-          (List._∷_
-          58
-          (List._∷_
-          58
-          (List._∷_
-          68
-          (List._∷_
-          101
-          (List._∷_
-          115
-          (List._∷_
-          116
-          (List._∷_
-          105
-          (List._∷_
-          110
-          (List._∷_
-          97
-          (List._∷_ 116 (List._∷_ 105 (List._∷_ 111 (List._∷_ 110 List.[])))))))))))))))))))
-          (Syntax.tcons
-          (Syntax.tyEnum
-          (List._∷_
-          97
-          (List._∷_
-          110
-          (List._∷_
-          115
-          (List._∷_
-          119
-          (List._∷_
-          101
-          (List._∷_
-          114
-          (List._∷_ 58 (List._∷_ 58 (List._∷_ 87 (List._∷_ 97 (List._∷_ 121 List.[])))))))))))
-          (Syntax.ttcons
-          Syntax.tnil
-          (Syntax.ttcons
-          Syntax.tnil
-          (Syntax.ttcons Syntax.tnil (Syntax.ttcons Syntax.tnil Syntax.ttnil)))))
-          (Syntax.tcons (Syntax.tyArray (Syntax.tyInt Syntax.w8) 16) Syntax.tnil)))
-          Syntax.tnil)))
-          (Syntax.tcons
-          (Syntax.tyStruct
-          (List._∷_
-          102
-          (List._∷_
-          105
-          (List._∷_
-          110
-          (List._∷_
-          105
-          (List._∷_
-          115
-          (List._∷_
-          104
-          (List._∷_
-          58
-          (List._∷_ 58 (List._∷_ 83 (List._∷_ 101 (List._∷_ 110 (List._∷_ 116 List.[]))))))))))))
-          (Syntax.tcons
-          (Syntax.tyInt Syntax.w64)
-          (Syntax.tcons
-          (Syntax.tyStruct
-          (List._∷_
-          97
-          (List._∷_
-          110
-          (List._∷_
-          115
-          (List._∷_
-          119
-          (List._∷_
-          101
-          (List._∷_
-          114
-          (List._∷_
-          58
-          (List._∷_
-          58
-          (List._∷_
-          68
-          (List._∷_
-          101
-          (List._∷_
-          115
-          (List._∷_
-          116
-          (List._∷_
-          105
-          (List._∷_
-          110
-          (List._∷_
-          97
-          (List._∷_ 116 (List._∷_ 105 (List._∷_ 111 (List._∷_ 110 List.[])))))))))))))))))))
-          (Syntax.tcons
-          (Syntax.tyEnum
-          (List._∷_
-          97
-          (List._∷_
-          110
-          (List._∷_
-          115
-          (List._∷_
-          119
-          (List._∷_
-          101
-          (List._∷_
-          114
-          (List._∷_ 58 (List._∷_ 58 (List._∷_ 87 (List._∷_ 97 (List._∷_ 121 List.[])))))))))))
-          (Syntax.ttcons
-          Syntax.tnil
-          (Syntax.ttcons
-          Syntax.tnil
-          (Syntax.ttcons Syntax.tnil (Syntax.ttcons Syntax.tnil Syntax.ttnil)))))
-          (Syntax.tcons (Syntax.tyArray (Syntax.tyInt Syntax.w8) 16) Syntax.tnil)))
-          Syntax.tnil)))
-          (Syntax.tcons
-          (Syntax.tyInt Syntax.w64)
           (Syntax.tcons (Syntax.tyInt Syntax.w8) Syntax.tnil)))))),
     ) (List._∷_ (8, Rows'.any-gone (KInstanceRow.spelled)) (List._∷_ (
       9,
@@ -6592,6 +6672,160 @@ t20 = List._∷_ (0, Rows'.any-gone Syntax.tyUnit) (List._∷_ (
           116
           (List._∷_ 99 (List._∷_ 111 (List._∷_ 109 (List._∷_ 101 List.[])))))))))))))))
           (Syntax.tcons
+          (Syntax.tyStruct
+          (List._∷_
+          102
+          (List._∷_
+          105
+          (List._∷_
+          110
+          (List._∷_
+          105
+          (List._∷_
+          115
+          (List._∷_
+          104
+          (List._∷_
+          58
+          (List._∷_ 58 (List._∷_ 83 (List._∷_ 101 (List._∷_ 110 (List._∷_ 116 List.[]))))))))))))
+          (Syntax.tcons
+          (Syntax.tyInt Syntax.w64)
+          (Syntax.tcons
+          (Syntax.tyStruct
+          (List._∷_
+          97
+          (List._∷_
+          110
+          (List._∷_
+          115
+          (List._∷_
+          119
+          (List._∷_
+          101
+          (List._∷_
+          114
+          (List._∷_
+          58
+          (List._∷_
+          58
+          (List._∷_
+          68
+          (List._∷_
+          101
+          (List._∷_
+          115
+          (List._∷_
+          116
+          (List._∷_
+          105
+          (List._∷_
+          110
+          (List._∷_
+          97
+          (List._∷_ 116 (List._∷_ 105 (List._∷_ 111 (List._∷_ 110 List.[])))))))))))))))))))
+          (Syntax.tcons
+          (Syntax.tyArray (Syntax.tyInt Syntax.w8) 16)
+          (Syntax.tcons
+          (Syntax.tyEnum
+          (List._∷_
+          97
+          (List._∷_
+          110
+          (List._∷_
+          115
+          (List._∷_
+          119
+          (List._∷_
+          101
+          (List._∷_
+          114
+          (List._∷_ 58 (List._∷_ 58 (List._∷_ 87 (List._∷_ 97 (List._∷_ 121 List.[])))))))))))
+          (Syntax.ttcons
+          Syntax.tnil
+          (Syntax.ttcons
+          Syntax.tnil
+          (Syntax.ttcons Syntax.tnil (Syntax.ttcons Syntax.tnil Syntax.ttnil)))))
+          Syntax.tnil)))
+          Syntax.tnil)))
+          (Syntax.tcons
+          (Syntax.tyStruct
+          (List._∷_
+          102
+          (List._∷_
+          105
+          (List._∷_
+          110
+          (List._∷_
+          105
+          (List._∷_
+          115
+          (List._∷_
+          104
+          (List._∷_
+          58
+          (List._∷_ 58 (List._∷_ 83 (List._∷_ 101 (List._∷_ 110 (List._∷_ 116 List.[]))))))))))))
+          (Syntax.tcons
+          (Syntax.tyInt Syntax.w64)
+          (Syntax.tcons
+          (Syntax.tyStruct
+          (List._∷_
+          97
+          (List._∷_
+          110
+          (List._∷_
+          115
+          (List._∷_
+          119
+          (List._∷_
+          101
+          (List._∷_
+          114
+          (List._∷_
+          58
+          (List._∷_
+          58
+          (List._∷_
+          68
+          (List._∷_
+          101
+          (List._∷_
+          115
+          (List._∷_
+          116
+          (List._∷_
+          105
+          (List._∷_
+          110
+          (List._∷_
+          97
+          (List._∷_ 116 (List._∷_ 105 (List._∷_ 111 (List._∷_ 110 List.[])))))))))))))))))))
+          (Syntax.tcons
+          (Syntax.tyArray (Syntax.tyInt Syntax.w8) 16)
+          (Syntax.tcons
+          (Syntax.tyEnum
+          (List._∷_
+          97
+          (List._∷_
+          110
+          (List._∷_
+          115
+          (List._∷_
+          119
+          (List._∷_
+          101
+          (List._∷_
+          114
+          (List._∷_ 58 (List._∷_ 58 (List._∷_ 87 (List._∷_ 97 (List._∷_ 121 List.[])))))))))))
+          (Syntax.ttcons
+          Syntax.tnil
+          (Syntax.ttcons
+          Syntax.tnil
+          (Syntax.ttcons Syntax.tnil (Syntax.ttcons Syntax.tnil Syntax.ttnil)))))
+          Syntax.tnil)))
+          Syntax.tnil)))
+          (Syntax.tcons
+          (Syntax.tyInt Syntax.w64)
+          (Syntax.tcons
           (Syntax.tyEnum
           (List._∷_
           97
@@ -6647,156 +6881,6 @@ t20 = List._∷_ (0, Rows'.any-gone Syntax.tyUnit) (List._∷_ (
           (Syntax.ttcons
           Syntax.tnil
           (Syntax.ttcons Syntax.tnil (Syntax.ttcons Syntax.tnil Syntax.ttnil)))))))))))))))))))
-          (Syntax.tcons
-          (Syntax.tyStruct
-          (List._∷_
-          102
-          (List._∷_
-          105
-          (List._∷_
-          110
-          (List._∷_
-          105
-          (List._∷_
-          115
-          (List._∷_
-          104
-          (List._∷_
-          58
-          (List._∷_ 58 (List._∷_ 83 (List._∷_ 101 (List._∷_ 110 (List._∷_ 116 List.[]))))))))))))
-          (Syntax.tcons
-          (Syntax.tyInt Syntax.w64)
-          (Syntax.tcons
-          (Syntax.tyStruct
-          (List._∷_
-          97
-          (List._∷_
-          110
-          (List._∷_
-          115
-          (List._∷_
-          119
-          (List._∷_
-          101
-          (List._∷_
-          114
-          (List._∷_
-          58
-          (List._∷_
-          58
-          (List._∷_
-          68
-          (List._∷_
-          101
-          (List._∷_
-          115
-          (List._∷_
-          116
-          (List._∷_
-          105
-          (List._∷_
-          110
-          (List._∷_
-          97
-          (List._∷_ 116 (List._∷_ 105 (List._∷_ 111 (List._∷_ 110 List.[])))))))))))))))))))
-          (Syntax.tcons
-          (Syntax.tyEnum
-          (List._∷_
-          97
-          (List._∷_
-          110
-          (List._∷_
-          115
-          (List._∷_
-          119
-          (List._∷_
-          101
-          (List._∷_
-          114
-          (List._∷_ 58 (List._∷_ 58 (List._∷_ 87 (List._∷_ 97 (List._∷_ 121 List.[])))))))))))
-          (Syntax.ttcons
-          Syntax.tnil
-          (Syntax.ttcons
-          Syntax.tnil
-          (Syntax.ttcons Syntax.tnil (Syntax.ttcons Syntax.tnil Syntax.ttnil)))))
-          (Syntax.tcons (Syntax.tyArray (Syntax.tyInt Syntax.w8) 16) Syntax.tnil)))
-          Syntax.tnil)))
-          (Syntax.tcons
-          (Syntax.tyStruct
-          (List._∷_
-          102
-          (List._∷_
-          105
-          (List._∷_
-          110
-          (List._∷_
-          105
-          (List._∷_
-          115
-          (List._∷_
-          104
-          (List._∷_
-          58
-          (List._∷_ 58 (List._∷_ 83 (List._∷_ 101 (List._∷_ 110 (List._∷_ 116 List.[]))))))))))))
-          (Syntax.tcons
-          (Syntax.tyInt Syntax.w64)
-          (Syntax.tcons
-          (Syntax.tyStruct
-          (List._∷_
-          97
-          (List._∷_
-          110
-          (List._∷_
-          115
-          (List._∷_
-          119
-          (List._∷_
-          101
-          (List._∷_
-          114
-          (List._∷_
-          58
-          (List._∷_
-          58
-          (List._∷_
-          68
-          (List._∷_
-          101
-          (List._∷_
-          115
-          (List._∷_
-          116
-          (List._∷_
-          105
-          (List._∷_
-          110
-          (List._∷_
-          97
-          (List._∷_ 116 (List._∷_ 105 (List._∷_ 111 (List._∷_ 110 List.[])))))))))))))))))))
-          (Syntax.tcons
-          (Syntax.tyEnum
-          (List._∷_
-          97
-          (List._∷_
-          110
-          (List._∷_
-          115
-          (List._∷_
-          119
-          (List._∷_
-          101
-          (List._∷_
-          114
-          (List._∷_ 58 (List._∷_ 58 (List._∷_ 87 (List._∷_ 97 (List._∷_ 121 List.[])))))))))))
-          (Syntax.ttcons
-          Syntax.tnil
-          (Syntax.ttcons
-          Syntax.tnil
-          (Syntax.ttcons Syntax.tnil (Syntax.ttcons Syntax.tnil Syntax.ttnil)))))
-          (Syntax.tcons (Syntax.tyArray (Syntax.tyInt Syntax.w8) 16) Syntax.tnil)))
-          Syntax.tnil)))
-          (Syntax.tcons
-          (Syntax.tyInt Syntax.w64)
           (Syntax.tcons (Syntax.tyInt Syntax.w8) Syntax.tnil)))))),
     ) (List._∷_ (8, Rows'.any-gone (KInstanceRow.spelled)) (List._∷_ (
       9,
@@ -6883,6 +6967,160 @@ t21 = List._∷_ (0, Rows'.any-gone Syntax.tyUnit) (List._∷_ (
           116
           (List._∷_ 99 (List._∷_ 111 (List._∷_ 109 (List._∷_ 101 List.[])))))))))))))))
           (Syntax.tcons
+          (Syntax.tyStruct
+          (List._∷_
+          102
+          (List._∷_
+          105
+          (List._∷_
+          110
+          (List._∷_
+          105
+          (List._∷_
+          115
+          (List._∷_
+          104
+          (List._∷_
+          58
+          (List._∷_ 58 (List._∷_ 83 (List._∷_ 101 (List._∷_ 110 (List._∷_ 116 List.[]))))))))))))
+          (Syntax.tcons
+          (Syntax.tyInt Syntax.w64)
+          (Syntax.tcons
+          (Syntax.tyStruct
+          (List._∷_
+          97
+          (List._∷_
+          110
+          (List._∷_
+          115
+          (List._∷_
+          119
+          (List._∷_
+          101
+          (List._∷_
+          114
+          (List._∷_
+          58
+          (List._∷_
+          58
+          (List._∷_
+          68
+          (List._∷_
+          101
+          (List._∷_
+          115
+          (List._∷_
+          116
+          (List._∷_
+          105
+          (List._∷_
+          110
+          (List._∷_
+          97
+          (List._∷_ 116 (List._∷_ 105 (List._∷_ 111 (List._∷_ 110 List.[])))))))))))))))))))
+          (Syntax.tcons
+          (Syntax.tyArray (Syntax.tyInt Syntax.w8) 16)
+          (Syntax.tcons
+          (Syntax.tyEnum
+          (List._∷_
+          97
+          (List._∷_
+          110
+          (List._∷_
+          115
+          (List._∷_
+          119
+          (List._∷_
+          101
+          (List._∷_
+          114
+          (List._∷_ 58 (List._∷_ 58 (List._∷_ 87 (List._∷_ 97 (List._∷_ 121 List.[])))))))))))
+          (Syntax.ttcons
+          Syntax.tnil
+          (Syntax.ttcons
+          Syntax.tnil
+          (Syntax.ttcons Syntax.tnil (Syntax.ttcons Syntax.tnil Syntax.ttnil)))))
+          Syntax.tnil)))
+          Syntax.tnil)))
+          (Syntax.tcons
+          (Syntax.tyStruct
+          (List._∷_
+          102
+          (List._∷_
+          105
+          (List._∷_
+          110
+          (List._∷_
+          105
+          (List._∷_
+          115
+          (List._∷_
+          104
+          (List._∷_
+          58
+          (List._∷_ 58 (List._∷_ 83 (List._∷_ 101 (List._∷_ 110 (List._∷_ 116 List.[]))))))))))))
+          (Syntax.tcons
+          (Syntax.tyInt Syntax.w64)
+          (Syntax.tcons
+          (Syntax.tyStruct
+          (List._∷_
+          97
+          (List._∷_
+          110
+          (List._∷_
+          115
+          (List._∷_
+          119
+          (List._∷_
+          101
+          (List._∷_
+          114
+          (List._∷_
+          58
+          (List._∷_
+          58
+          (List._∷_
+          68
+          (List._∷_
+          101
+          (List._∷_
+          115
+          (List._∷_
+          116
+          (List._∷_
+          105
+          (List._∷_
+          110
+          (List._∷_
+          97
+          (List._∷_ 116 (List._∷_ 105 (List._∷_ 111 (List._∷_ 110 List.[])))))))))))))))))))
+          (Syntax.tcons
+          (Syntax.tyArray (Syntax.tyInt Syntax.w8) 16)
+          (Syntax.tcons
+          (Syntax.tyEnum
+          (List._∷_
+          97
+          (List._∷_
+          110
+          (List._∷_
+          115
+          (List._∷_
+          119
+          (List._∷_
+          101
+          (List._∷_
+          114
+          (List._∷_ 58 (List._∷_ 58 (List._∷_ 87 (List._∷_ 97 (List._∷_ 121 List.[])))))))))))
+          (Syntax.ttcons
+          Syntax.tnil
+          (Syntax.ttcons
+          Syntax.tnil
+          (Syntax.ttcons Syntax.tnil (Syntax.ttcons Syntax.tnil Syntax.ttnil)))))
+          Syntax.tnil)))
+          Syntax.tnil)))
+          (Syntax.tcons
+          (Syntax.tyInt Syntax.w64)
+          (Syntax.tcons
           (Syntax.tyEnum
           (List._∷_
           97
@@ -6938,156 +7176,6 @@ t21 = List._∷_ (0, Rows'.any-gone Syntax.tyUnit) (List._∷_ (
           (Syntax.ttcons
           Syntax.tnil
           (Syntax.ttcons Syntax.tnil (Syntax.ttcons Syntax.tnil Syntax.ttnil)))))))))))))))))))
-          (Syntax.tcons
-          (Syntax.tyStruct
-          (List._∷_
-          102
-          (List._∷_
-          105
-          (List._∷_
-          110
-          (List._∷_
-          105
-          (List._∷_
-          115
-          (List._∷_
-          104
-          (List._∷_
-          58
-          (List._∷_ 58 (List._∷_ 83 (List._∷_ 101 (List._∷_ 110 (List._∷_ 116 List.[]))))))))))))
-          (Syntax.tcons
-          (Syntax.tyInt Syntax.w64)
-          (Syntax.tcons
-          (Syntax.tyStruct
-          (List._∷_
-          97
-          (List._∷_
-          110
-          (List._∷_
-          115
-          (List._∷_
-          119
-          (List._∷_
-          101
-          (List._∷_
-          114
-          (List._∷_
-          58
-          (List._∷_
-          58
-          (List._∷_
-          68
-          (List._∷_
-          101
-          (List._∷_
-          115
-          (List._∷_
-          116
-          (List._∷_
-          105
-          (List._∷_
-          110
-          (List._∷_
-          97
-          (List._∷_ 116 (List._∷_ 105 (List._∷_ 111 (List._∷_ 110 List.[])))))))))))))))))))
-          (Syntax.tcons
-          (Syntax.tyEnum
-          (List._∷_
-          97
-          (List._∷_
-          110
-          (List._∷_
-          115
-          (List._∷_
-          119
-          (List._∷_
-          101
-          (List._∷_
-          114
-          (List._∷_ 58 (List._∷_ 58 (List._∷_ 87 (List._∷_ 97 (List._∷_ 121 List.[])))))))))))
-          (Syntax.ttcons
-          Syntax.tnil
-          (Syntax.ttcons
-          Syntax.tnil
-          (Syntax.ttcons Syntax.tnil (Syntax.ttcons Syntax.tnil Syntax.ttnil)))))
-          (Syntax.tcons (Syntax.tyArray (Syntax.tyInt Syntax.w8) 16) Syntax.tnil)))
-          Syntax.tnil)))
-          (Syntax.tcons
-          (Syntax.tyStruct
-          (List._∷_
-          102
-          (List._∷_
-          105
-          (List._∷_
-          110
-          (List._∷_
-          105
-          (List._∷_
-          115
-          (List._∷_
-          104
-          (List._∷_
-          58
-          (List._∷_ 58 (List._∷_ 83 (List._∷_ 101 (List._∷_ 110 (List._∷_ 116 List.[]))))))))))))
-          (Syntax.tcons
-          (Syntax.tyInt Syntax.w64)
-          (Syntax.tcons
-          (Syntax.tyStruct
-          (List._∷_
-          97
-          (List._∷_
-          110
-          (List._∷_
-          115
-          (List._∷_
-          119
-          (List._∷_
-          101
-          (List._∷_
-          114
-          (List._∷_
-          58
-          (List._∷_
-          58
-          (List._∷_
-          68
-          (List._∷_
-          101
-          (List._∷_
-          115
-          (List._∷_
-          116
-          (List._∷_
-          105
-          (List._∷_
-          110
-          (List._∷_
-          97
-          (List._∷_ 116 (List._∷_ 105 (List._∷_ 111 (List._∷_ 110 List.[])))))))))))))))))))
-          (Syntax.tcons
-          (Syntax.tyEnum
-          (List._∷_
-          97
-          (List._∷_
-          110
-          (List._∷_
-          115
-          (List._∷_
-          119
-          (List._∷_
-          101
-          (List._∷_
-          114
-          (List._∷_ 58 (List._∷_ 58 (List._∷_ 87 (List._∷_ 97 (List._∷_ 121 List.[])))))))))))
-          (Syntax.ttcons
-          Syntax.tnil
-          (Syntax.ttcons
-          Syntax.tnil
-          (Syntax.ttcons Syntax.tnil (Syntax.ttcons Syntax.tnil Syntax.ttnil)))))
-          (Syntax.tcons (Syntax.tyArray (Syntax.tyInt Syntax.w8) 16) Syntax.tnil)))
-          Syntax.tnil)))
-          (Syntax.tcons
-          (Syntax.tyInt Syntax.w64)
           (Syntax.tcons (Syntax.tyInt Syntax.w8) Syntax.tnil)))))),
     ) (List._∷_ (8, Rows'.any-gone (KInstanceRow.spelled)) (List._∷_ (
       9,
@@ -8708,6 +8796,160 @@ t45 = List._∷_ (0, Rows'.any-gone Syntax.tyUnit) (List._∷_ (
           116
           (List._∷_ 99 (List._∷_ 111 (List._∷_ 109 (List._∷_ 101 List.[])))))))))))))))
           (Syntax.tcons
+          (Syntax.tyStruct
+          (List._∷_
+          102
+          (List._∷_
+          105
+          (List._∷_
+          110
+          (List._∷_
+          105
+          (List._∷_
+          115
+          (List._∷_
+          104
+          (List._∷_
+          58
+          (List._∷_ 58 (List._∷_ 83 (List._∷_ 101 (List._∷_ 110 (List._∷_ 116 List.[]))))))))))))
+          (Syntax.tcons
+          (Syntax.tyInt Syntax.w64)
+          (Syntax.tcons
+          (Syntax.tyStruct
+          (List._∷_
+          97
+          (List._∷_
+          110
+          (List._∷_
+          115
+          (List._∷_
+          119
+          (List._∷_
+          101
+          (List._∷_
+          114
+          (List._∷_
+          58
+          (List._∷_
+          58
+          (List._∷_
+          68
+          (List._∷_
+          101
+          (List._∷_
+          115
+          (List._∷_
+          116
+          (List._∷_
+          105
+          (List._∷_
+          110
+          (List._∷_
+          97
+          (List._∷_ 116 (List._∷_ 105 (List._∷_ 111 (List._∷_ 110 List.[])))))))))))))))))))
+          (Syntax.tcons
+          (Syntax.tyArray (Syntax.tyInt Syntax.w8) 16)
+          (Syntax.tcons
+          (Syntax.tyEnum
+          (List._∷_
+          97
+          (List._∷_
+          110
+          (List._∷_
+          115
+          (List._∷_
+          119
+          (List._∷_
+          101
+          (List._∷_
+          114
+          (List._∷_ 58 (List._∷_ 58 (List._∷_ 87 (List._∷_ 97 (List._∷_ 121 List.[])))))))))))
+          (Syntax.ttcons
+          Syntax.tnil
+          (Syntax.ttcons
+          Syntax.tnil
+          (Syntax.ttcons Syntax.tnil (Syntax.ttcons Syntax.tnil Syntax.ttnil)))))
+          Syntax.tnil)))
+          Syntax.tnil)))
+          (Syntax.tcons
+          (Syntax.tyStruct
+          (List._∷_
+          102
+          (List._∷_
+          105
+          (List._∷_
+          110
+          (List._∷_
+          105
+          (List._∷_
+          115
+          (List._∷_
+          104
+          (List._∷_
+          58
+          (List._∷_ 58 (List._∷_ 83 (List._∷_ 101 (List._∷_ 110 (List._∷_ 116 List.[]))))))))))))
+          (Syntax.tcons
+          (Syntax.tyInt Syntax.w64)
+          (Syntax.tcons
+          (Syntax.tyStruct
+          (List._∷_
+          97
+          (List._∷_
+          110
+          (List._∷_
+          115
+          (List._∷_
+          119
+          (List._∷_
+          101
+          (List._∷_
+          114
+          (List._∷_
+          58
+          (List._∷_
+          58
+          (List._∷_
+          68
+          (List._∷_
+          101
+          (List._∷_
+          115
+          (List._∷_
+          116
+          (List._∷_
+          105
+          (List._∷_
+          110
+          (List._∷_
+          97
+          (List._∷_ 116 (List._∷_ 105 (List._∷_ 111 (List._∷_ 110 List.[])))))))))))))))))))
+          (Syntax.tcons
+          (Syntax.tyArray (Syntax.tyInt Syntax.w8) 16)
+          (Syntax.tcons
+          (Syntax.tyEnum
+          (List._∷_
+          97
+          (List._∷_
+          110
+          (List._∷_
+          115
+          (List._∷_
+          119
+          (List._∷_
+          101
+          (List._∷_
+          114
+          (List._∷_ 58 (List._∷_ 58 (List._∷_ 87 (List._∷_ 97 (List._∷_ 121 List.[])))))))))))
+          (Syntax.ttcons
+          Syntax.tnil
+          (Syntax.ttcons
+          Syntax.tnil
+          (Syntax.ttcons Syntax.tnil (Syntax.ttcons Syntax.tnil Syntax.ttnil)))))
+          Syntax.tnil)))
+          Syntax.tnil)))
+          (Syntax.tcons
+          (Syntax.tyInt Syntax.w64)
+          (Syntax.tcons
           (Syntax.tyEnum
           (List._∷_
           97
@@ -8763,156 +9005,6 @@ t45 = List._∷_ (0, Rows'.any-gone Syntax.tyUnit) (List._∷_ (
           (Syntax.ttcons
           Syntax.tnil
           (Syntax.ttcons Syntax.tnil (Syntax.ttcons Syntax.tnil Syntax.ttnil)))))))))))))))))))
-          (Syntax.tcons
-          (Syntax.tyStruct
-          (List._∷_
-          102
-          (List._∷_
-          105
-          (List._∷_
-          110
-          (List._∷_
-          105
-          (List._∷_
-          115
-          (List._∷_
-          104
-          (List._∷_
-          58
-          (List._∷_ 58 (List._∷_ 83 (List._∷_ 101 (List._∷_ 110 (List._∷_ 116 List.[]))))))))))))
-          (Syntax.tcons
-          (Syntax.tyInt Syntax.w64)
-          (Syntax.tcons
-          (Syntax.tyStruct
-          (List._∷_
-          97
-          (List._∷_
-          110
-          (List._∷_
-          115
-          (List._∷_
-          119
-          (List._∷_
-          101
-          (List._∷_
-          114
-          (List._∷_
-          58
-          (List._∷_
-          58
-          (List._∷_
-          68
-          (List._∷_
-          101
-          (List._∷_
-          115
-          (List._∷_
-          116
-          (List._∷_
-          105
-          (List._∷_
-          110
-          (List._∷_
-          97
-          (List._∷_ 116 (List._∷_ 105 (List._∷_ 111 (List._∷_ 110 List.[])))))))))))))))))))
-          (Syntax.tcons
-          (Syntax.tyEnum
-          (List._∷_
-          97
-          (List._∷_
-          110
-          (List._∷_
-          115
-          (List._∷_
-          119
-          (List._∷_
-          101
-          (List._∷_
-          114
-          (List._∷_ 58 (List._∷_ 58 (List._∷_ 87 (List._∷_ 97 (List._∷_ 121 List.[])))))))))))
-          (Syntax.ttcons
-          Syntax.tnil
-          (Syntax.ttcons
-          Syntax.tnil
-          (Syntax.ttcons Syntax.tnil (Syntax.ttcons Syntax.tnil Syntax.ttnil)))))
-          (Syntax.tcons (Syntax.tyArray (Syntax.tyInt Syntax.w8) 16) Syntax.tnil)))
-          Syntax.tnil)))
-          (Syntax.tcons
-          (Syntax.tyStruct
-          (List._∷_
-          102
-          (List._∷_
-          105
-          (List._∷_
-          110
-          (List._∷_
-          105
-          (List._∷_
-          115
-          (List._∷_
-          104
-          (List._∷_
-          58
-          (List._∷_ 58 (List._∷_ 83 (List._∷_ 101 (List._∷_ 110 (List._∷_ 116 List.[]))))))))))))
-          (Syntax.tcons
-          (Syntax.tyInt Syntax.w64)
-          (Syntax.tcons
-          (Syntax.tyStruct
-          (List._∷_
-          97
-          (List._∷_
-          110
-          (List._∷_
-          115
-          (List._∷_
-          119
-          (List._∷_
-          101
-          (List._∷_
-          114
-          (List._∷_
-          58
-          (List._∷_
-          58
-          (List._∷_
-          68
-          (List._∷_
-          101
-          (List._∷_
-          115
-          (List._∷_
-          116
-          (List._∷_
-          105
-          (List._∷_
-          110
-          (List._∷_
-          97
-          (List._∷_ 116 (List._∷_ 105 (List._∷_ 111 (List._∷_ 110 List.[])))))))))))))))))))
-          (Syntax.tcons
-          (Syntax.tyEnum
-          (List._∷_
-          97
-          (List._∷_
-          110
-          (List._∷_
-          115
-          (List._∷_
-          119
-          (List._∷_
-          101
-          (List._∷_
-          114
-          (List._∷_ 58 (List._∷_ 58 (List._∷_ 87 (List._∷_ 97 (List._∷_ 121 List.[])))))))))))
-          (Syntax.ttcons
-          Syntax.tnil
-          (Syntax.ttcons
-          Syntax.tnil
-          (Syntax.ttcons Syntax.tnil (Syntax.ttcons Syntax.tnil Syntax.ttnil)))))
-          (Syntax.tcons (Syntax.tyArray (Syntax.tyInt Syntax.w8) 16) Syntax.tnil)))
-          Syntax.tnil)))
-          (Syntax.tcons
-          (Syntax.tyInt Syntax.w64)
           (Syntax.tcons (Syntax.tyInt Syntax.w8) Syntax.tnil)))))),
     ) (List._∷_ (8, Rows'.any-gone (KInstanceRow.spelled)) (List._∷_ (
       9,
@@ -9005,6 +9097,160 @@ t46 = List._∷_ (0, Rows'.any-gone Syntax.tyUnit) (List._∷_ (
           116
           (List._∷_ 99 (List._∷_ 111 (List._∷_ 109 (List._∷_ 101 List.[])))))))))))))))
           (Syntax.tcons
+          (Syntax.tyStruct
+          (List._∷_
+          102
+          (List._∷_
+          105
+          (List._∷_
+          110
+          (List._∷_
+          105
+          (List._∷_
+          115
+          (List._∷_
+          104
+          (List._∷_
+          58
+          (List._∷_ 58 (List._∷_ 83 (List._∷_ 101 (List._∷_ 110 (List._∷_ 116 List.[]))))))))))))
+          (Syntax.tcons
+          (Syntax.tyInt Syntax.w64)
+          (Syntax.tcons
+          (Syntax.tyStruct
+          (List._∷_
+          97
+          (List._∷_
+          110
+          (List._∷_
+          115
+          (List._∷_
+          119
+          (List._∷_
+          101
+          (List._∷_
+          114
+          (List._∷_
+          58
+          (List._∷_
+          58
+          (List._∷_
+          68
+          (List._∷_
+          101
+          (List._∷_
+          115
+          (List._∷_
+          116
+          (List._∷_
+          105
+          (List._∷_
+          110
+          (List._∷_
+          97
+          (List._∷_ 116 (List._∷_ 105 (List._∷_ 111 (List._∷_ 110 List.[])))))))))))))))))))
+          (Syntax.tcons
+          (Syntax.tyArray (Syntax.tyInt Syntax.w8) 16)
+          (Syntax.tcons
+          (Syntax.tyEnum
+          (List._∷_
+          97
+          (List._∷_
+          110
+          (List._∷_
+          115
+          (List._∷_
+          119
+          (List._∷_
+          101
+          (List._∷_
+          114
+          (List._∷_ 58 (List._∷_ 58 (List._∷_ 87 (List._∷_ 97 (List._∷_ 121 List.[])))))))))))
+          (Syntax.ttcons
+          Syntax.tnil
+          (Syntax.ttcons
+          Syntax.tnil
+          (Syntax.ttcons Syntax.tnil (Syntax.ttcons Syntax.tnil Syntax.ttnil)))))
+          Syntax.tnil)))
+          Syntax.tnil)))
+          (Syntax.tcons
+          (Syntax.tyStruct
+          (List._∷_
+          102
+          (List._∷_
+          105
+          (List._∷_
+          110
+          (List._∷_
+          105
+          (List._∷_
+          115
+          (List._∷_
+          104
+          (List._∷_
+          58
+          (List._∷_ 58 (List._∷_ 83 (List._∷_ 101 (List._∷_ 110 (List._∷_ 116 List.[]))))))))))))
+          (Syntax.tcons
+          (Syntax.tyInt Syntax.w64)
+          (Syntax.tcons
+          (Syntax.tyStruct
+          (List._∷_
+          97
+          (List._∷_
+          110
+          (List._∷_
+          115
+          (List._∷_
+          119
+          (List._∷_
+          101
+          (List._∷_
+          114
+          (List._∷_
+          58
+          (List._∷_
+          58
+          (List._∷_
+          68
+          (List._∷_
+          101
+          (List._∷_
+          115
+          (List._∷_
+          116
+          (List._∷_
+          105
+          (List._∷_
+          110
+          (List._∷_
+          97
+          (List._∷_ 116 (List._∷_ 105 (List._∷_ 111 (List._∷_ 110 List.[])))))))))))))))))))
+          (Syntax.tcons
+          (Syntax.tyArray (Syntax.tyInt Syntax.w8) 16)
+          (Syntax.tcons
+          (Syntax.tyEnum
+          (List._∷_
+          97
+          (List._∷_
+          110
+          (List._∷_
+          115
+          (List._∷_
+          119
+          (List._∷_
+          101
+          (List._∷_
+          114
+          (List._∷_ 58 (List._∷_ 58 (List._∷_ 87 (List._∷_ 97 (List._∷_ 121 List.[])))))))))))
+          (Syntax.ttcons
+          Syntax.tnil
+          (Syntax.ttcons
+          Syntax.tnil
+          (Syntax.ttcons Syntax.tnil (Syntax.ttcons Syntax.tnil Syntax.ttnil)))))
+          Syntax.tnil)))
+          Syntax.tnil)))
+          (Syntax.tcons
+          (Syntax.tyInt Syntax.w64)
+          (Syntax.tcons
           (Syntax.tyEnum
           (List._∷_
           97
@@ -9060,156 +9306,6 @@ t46 = List._∷_ (0, Rows'.any-gone Syntax.tyUnit) (List._∷_ (
           (Syntax.ttcons
           Syntax.tnil
           (Syntax.ttcons Syntax.tnil (Syntax.ttcons Syntax.tnil Syntax.ttnil)))))))))))))))))))
-          (Syntax.tcons
-          (Syntax.tyStruct
-          (List._∷_
-          102
-          (List._∷_
-          105
-          (List._∷_
-          110
-          (List._∷_
-          105
-          (List._∷_
-          115
-          (List._∷_
-          104
-          (List._∷_
-          58
-          (List._∷_ 58 (List._∷_ 83 (List._∷_ 101 (List._∷_ 110 (List._∷_ 116 List.[]))))))))))))
-          (Syntax.tcons
-          (Syntax.tyInt Syntax.w64)
-          (Syntax.tcons
-          (Syntax.tyStruct
-          (List._∷_
-          97
-          (List._∷_
-          110
-          (List._∷_
-          115
-          (List._∷_
-          119
-          (List._∷_
-          101
-          (List._∷_
-          114
-          (List._∷_
-          58
-          (List._∷_
-          58
-          (List._∷_
-          68
-          (List._∷_
-          101
-          (List._∷_
-          115
-          (List._∷_
-          116
-          (List._∷_
-          105
-          (List._∷_
-          110
-          (List._∷_
-          97
-          (List._∷_ 116 (List._∷_ 105 (List._∷_ 111 (List._∷_ 110 List.[])))))))))))))))))))
-          (Syntax.tcons
-          (Syntax.tyEnum
-          (List._∷_
-          97
-          (List._∷_
-          110
-          (List._∷_
-          115
-          (List._∷_
-          119
-          (List._∷_
-          101
-          (List._∷_
-          114
-          (List._∷_ 58 (List._∷_ 58 (List._∷_ 87 (List._∷_ 97 (List._∷_ 121 List.[])))))))))))
-          (Syntax.ttcons
-          Syntax.tnil
-          (Syntax.ttcons
-          Syntax.tnil
-          (Syntax.ttcons Syntax.tnil (Syntax.ttcons Syntax.tnil Syntax.ttnil)))))
-          (Syntax.tcons (Syntax.tyArray (Syntax.tyInt Syntax.w8) 16) Syntax.tnil)))
-          Syntax.tnil)))
-          (Syntax.tcons
-          (Syntax.tyStruct
-          (List._∷_
-          102
-          (List._∷_
-          105
-          (List._∷_
-          110
-          (List._∷_
-          105
-          (List._∷_
-          115
-          (List._∷_
-          104
-          (List._∷_
-          58
-          (List._∷_ 58 (List._∷_ 83 (List._∷_ 101 (List._∷_ 110 (List._∷_ 116 List.[]))))))))))))
-          (Syntax.tcons
-          (Syntax.tyInt Syntax.w64)
-          (Syntax.tcons
-          (Syntax.tyStruct
-          (List._∷_
-          97
-          (List._∷_
-          110
-          (List._∷_
-          115
-          (List._∷_
-          119
-          (List._∷_
-          101
-          (List._∷_
-          114
-          (List._∷_
-          58
-          (List._∷_
-          58
-          (List._∷_
-          68
-          (List._∷_
-          101
-          (List._∷_
-          115
-          (List._∷_
-          116
-          (List._∷_
-          105
-          (List._∷_
-          110
-          (List._∷_
-          97
-          (List._∷_ 116 (List._∷_ 105 (List._∷_ 111 (List._∷_ 110 List.[])))))))))))))))))))
-          (Syntax.tcons
-          (Syntax.tyEnum
-          (List._∷_
-          97
-          (List._∷_
-          110
-          (List._∷_
-          115
-          (List._∷_
-          119
-          (List._∷_
-          101
-          (List._∷_
-          114
-          (List._∷_ 58 (List._∷_ 58 (List._∷_ 87 (List._∷_ 97 (List._∷_ 121 List.[])))))))))))
-          (Syntax.ttcons
-          Syntax.tnil
-          (Syntax.ttcons
-          Syntax.tnil
-          (Syntax.ttcons Syntax.tnil (Syntax.ttcons Syntax.tnil Syntax.ttnil)))))
-          (Syntax.tcons (Syntax.tyArray (Syntax.tyInt Syntax.w8) 16) Syntax.tnil)))
-          Syntax.tnil)))
-          (Syntax.tcons
-          (Syntax.tyInt Syntax.w64)
           (Syntax.tcons (Syntax.tyInt Syntax.w8) Syntax.tnil)))))),
     ) (List._∷_ (8, Rows'.any-gone (KInstanceRow.spelled)) (List._∷_ (
       9,
@@ -9302,6 +9398,160 @@ t47 = List._∷_ (0, Rows'.any-gone Syntax.tyUnit) (List._∷_ (
           116
           (List._∷_ 99 (List._∷_ 111 (List._∷_ 109 (List._∷_ 101 List.[])))))))))))))))
           (Syntax.tcons
+          (Syntax.tyStruct
+          (List._∷_
+          102
+          (List._∷_
+          105
+          (List._∷_
+          110
+          (List._∷_
+          105
+          (List._∷_
+          115
+          (List._∷_
+          104
+          (List._∷_
+          58
+          (List._∷_ 58 (List._∷_ 83 (List._∷_ 101 (List._∷_ 110 (List._∷_ 116 List.[]))))))))))))
+          (Syntax.tcons
+          (Syntax.tyInt Syntax.w64)
+          (Syntax.tcons
+          (Syntax.tyStruct
+          (List._∷_
+          97
+          (List._∷_
+          110
+          (List._∷_
+          115
+          (List._∷_
+          119
+          (List._∷_
+          101
+          (List._∷_
+          114
+          (List._∷_
+          58
+          (List._∷_
+          58
+          (List._∷_
+          68
+          (List._∷_
+          101
+          (List._∷_
+          115
+          (List._∷_
+          116
+          (List._∷_
+          105
+          (List._∷_
+          110
+          (List._∷_
+          97
+          (List._∷_ 116 (List._∷_ 105 (List._∷_ 111 (List._∷_ 110 List.[])))))))))))))))))))
+          (Syntax.tcons
+          (Syntax.tyArray (Syntax.tyInt Syntax.w8) 16)
+          (Syntax.tcons
+          (Syntax.tyEnum
+          (List._∷_
+          97
+          (List._∷_
+          110
+          (List._∷_
+          115
+          (List._∷_
+          119
+          (List._∷_
+          101
+          (List._∷_
+          114
+          (List._∷_ 58 (List._∷_ 58 (List._∷_ 87 (List._∷_ 97 (List._∷_ 121 List.[])))))))))))
+          (Syntax.ttcons
+          Syntax.tnil
+          (Syntax.ttcons
+          Syntax.tnil
+          (Syntax.ttcons Syntax.tnil (Syntax.ttcons Syntax.tnil Syntax.ttnil)))))
+          Syntax.tnil)))
+          Syntax.tnil)))
+          (Syntax.tcons
+          (Syntax.tyStruct
+          (List._∷_
+          102
+          (List._∷_
+          105
+          (List._∷_
+          110
+          (List._∷_
+          105
+          (List._∷_
+          115
+          (List._∷_
+          104
+          (List._∷_
+          58
+          (List._∷_ 58 (List._∷_ 83 (List._∷_ 101 (List._∷_ 110 (List._∷_ 116 List.[]))))))))))))
+          (Syntax.tcons
+          (Syntax.tyInt Syntax.w64)
+          (Syntax.tcons
+          (Syntax.tyStruct
+          (List._∷_
+          97
+          (List._∷_
+          110
+          (List._∷_
+          115
+          (List._∷_
+          119
+          (List._∷_
+          101
+          (List._∷_
+          114
+          (List._∷_
+          58
+          (List._∷_
+          58
+          (List._∷_
+          68
+          (List._∷_
+          101
+          (List._∷_
+          115
+          (List._∷_
+          116
+          (List._∷_
+          105
+          (List._∷_
+          110
+          (List._∷_
+          97
+          (List._∷_ 116 (List._∷_ 105 (List._∷_ 111 (List._∷_ 110 List.[])))))))))))))))))))
+          (Syntax.tcons
+          (Syntax.tyArray (Syntax.tyInt Syntax.w8) 16)
+          (Syntax.tcons
+          (Syntax.tyEnum
+          (List._∷_
+          97
+          (List._∷_
+          110
+          (List._∷_
+          115
+          (List._∷_
+          119
+          (List._∷_
+          101
+          (List._∷_
+          114
+          (List._∷_ 58 (List._∷_ 58 (List._∷_ 87 (List._∷_ 97 (List._∷_ 121 List.[])))))))))))
+          (Syntax.ttcons
+          Syntax.tnil
+          (Syntax.ttcons
+          Syntax.tnil
+          (Syntax.ttcons Syntax.tnil (Syntax.ttcons Syntax.tnil Syntax.ttnil)))))
+          Syntax.tnil)))
+          Syntax.tnil)))
+          (Syntax.tcons
+          (Syntax.tyInt Syntax.w64)
+          (Syntax.tcons
           (Syntax.tyEnum
           (List._∷_
           97
@@ -9357,156 +9607,6 @@ t47 = List._∷_ (0, Rows'.any-gone Syntax.tyUnit) (List._∷_ (
           (Syntax.ttcons
           Syntax.tnil
           (Syntax.ttcons Syntax.tnil (Syntax.ttcons Syntax.tnil Syntax.ttnil)))))))))))))))))))
-          (Syntax.tcons
-          (Syntax.tyStruct
-          (List._∷_
-          102
-          (List._∷_
-          105
-          (List._∷_
-          110
-          (List._∷_
-          105
-          (List._∷_
-          115
-          (List._∷_
-          104
-          (List._∷_
-          58
-          (List._∷_ 58 (List._∷_ 83 (List._∷_ 101 (List._∷_ 110 (List._∷_ 116 List.[]))))))))))))
-          (Syntax.tcons
-          (Syntax.tyInt Syntax.w64)
-          (Syntax.tcons
-          (Syntax.tyStruct
-          (List._∷_
-          97
-          (List._∷_
-          110
-          (List._∷_
-          115
-          (List._∷_
-          119
-          (List._∷_
-          101
-          (List._∷_
-          114
-          (List._∷_
-          58
-          (List._∷_
-          58
-          (List._∷_
-          68
-          (List._∷_
-          101
-          (List._∷_
-          115
-          (List._∷_
-          116
-          (List._∷_
-          105
-          (List._∷_
-          110
-          (List._∷_
-          97
-          (List._∷_ 116 (List._∷_ 105 (List._∷_ 111 (List._∷_ 110 List.[])))))))))))))))))))
-          (Syntax.tcons
-          (Syntax.tyEnum
-          (List._∷_
-          97
-          (List._∷_
-          110
-          (List._∷_
-          115
-          (List._∷_
-          119
-          (List._∷_
-          101
-          (List._∷_
-          114
-          (List._∷_ 58 (List._∷_ 58 (List._∷_ 87 (List._∷_ 97 (List._∷_ 121 List.[])))))))))))
-          (Syntax.ttcons
-          Syntax.tnil
-          (Syntax.ttcons
-          Syntax.tnil
-          (Syntax.ttcons Syntax.tnil (Syntax.ttcons Syntax.tnil Syntax.ttnil)))))
-          (Syntax.tcons (Syntax.tyArray (Syntax.tyInt Syntax.w8) 16) Syntax.tnil)))
-          Syntax.tnil)))
-          (Syntax.tcons
-          (Syntax.tyStruct
-          (List._∷_
-          102
-          (List._∷_
-          105
-          (List._∷_
-          110
-          (List._∷_
-          105
-          (List._∷_
-          115
-          (List._∷_
-          104
-          (List._∷_
-          58
-          (List._∷_ 58 (List._∷_ 83 (List._∷_ 101 (List._∷_ 110 (List._∷_ 116 List.[]))))))))))))
-          (Syntax.tcons
-          (Syntax.tyInt Syntax.w64)
-          (Syntax.tcons
-          (Syntax.tyStruct
-          (List._∷_
-          97
-          (List._∷_
-          110
-          (List._∷_
-          115
-          (List._∷_
-          119
-          (List._∷_
-          101
-          (List._∷_
-          114
-          (List._∷_
-          58
-          (List._∷_
-          58
-          (List._∷_
-          68
-          (List._∷_
-          101
-          (List._∷_
-          115
-          (List._∷_
-          116
-          (List._∷_
-          105
-          (List._∷_
-          110
-          (List._∷_
-          97
-          (List._∷_ 116 (List._∷_ 105 (List._∷_ 111 (List._∷_ 110 List.[])))))))))))))))))))
-          (Syntax.tcons
-          (Syntax.tyEnum
-          (List._∷_
-          97
-          (List._∷_
-          110
-          (List._∷_
-          115
-          (List._∷_
-          119
-          (List._∷_
-          101
-          (List._∷_
-          114
-          (List._∷_ 58 (List._∷_ 58 (List._∷_ 87 (List._∷_ 97 (List._∷_ 121 List.[])))))))))))
-          (Syntax.ttcons
-          Syntax.tnil
-          (Syntax.ttcons
-          Syntax.tnil
-          (Syntax.ttcons Syntax.tnil (Syntax.ttcons Syntax.tnil Syntax.ttnil)))))
-          (Syntax.tcons (Syntax.tyArray (Syntax.tyInt Syntax.w8) 16) Syntax.tnil)))
-          Syntax.tnil)))
-          (Syntax.tcons
-          (Syntax.tyInt Syntax.w64)
           (Syntax.tcons (Syntax.tyInt Syntax.w8) Syntax.tnil)))))),
     ) (List._∷_ (8, Rows'.any-gone (KInstanceRow.spelled)) (List._∷_ (
       9,
@@ -9599,6 +9699,160 @@ t48 = List._∷_ (0, Rows'.any-gone Syntax.tyUnit) (List._∷_ (
           116
           (List._∷_ 99 (List._∷_ 111 (List._∷_ 109 (List._∷_ 101 List.[])))))))))))))))
           (Syntax.tcons
+          (Syntax.tyStruct
+          (List._∷_
+          102
+          (List._∷_
+          105
+          (List._∷_
+          110
+          (List._∷_
+          105
+          (List._∷_
+          115
+          (List._∷_
+          104
+          (List._∷_
+          58
+          (List._∷_ 58 (List._∷_ 83 (List._∷_ 101 (List._∷_ 110 (List._∷_ 116 List.[]))))))))))))
+          (Syntax.tcons
+          (Syntax.tyInt Syntax.w64)
+          (Syntax.tcons
+          (Syntax.tyStruct
+          (List._∷_
+          97
+          (List._∷_
+          110
+          (List._∷_
+          115
+          (List._∷_
+          119
+          (List._∷_
+          101
+          (List._∷_
+          114
+          (List._∷_
+          58
+          (List._∷_
+          58
+          (List._∷_
+          68
+          (List._∷_
+          101
+          (List._∷_
+          115
+          (List._∷_
+          116
+          (List._∷_
+          105
+          (List._∷_
+          110
+          (List._∷_
+          97
+          (List._∷_ 116 (List._∷_ 105 (List._∷_ 111 (List._∷_ 110 List.[])))))))))))))))))))
+          (Syntax.tcons
+          (Syntax.tyArray (Syntax.tyInt Syntax.w8) 16)
+          (Syntax.tcons
+          (Syntax.tyEnum
+          (List._∷_
+          97
+          (List._∷_
+          110
+          (List._∷_
+          115
+          (List._∷_
+          119
+          (List._∷_
+          101
+          (List._∷_
+          114
+          (List._∷_ 58 (List._∷_ 58 (List._∷_ 87 (List._∷_ 97 (List._∷_ 121 List.[])))))))))))
+          (Syntax.ttcons
+          Syntax.tnil
+          (Syntax.ttcons
+          Syntax.tnil
+          (Syntax.ttcons Syntax.tnil (Syntax.ttcons Syntax.tnil Syntax.ttnil)))))
+          Syntax.tnil)))
+          Syntax.tnil)))
+          (Syntax.tcons
+          (Syntax.tyStruct
+          (List._∷_
+          102
+          (List._∷_
+          105
+          (List._∷_
+          110
+          (List._∷_
+          105
+          (List._∷_
+          115
+          (List._∷_
+          104
+          (List._∷_
+          58
+          (List._∷_ 58 (List._∷_ 83 (List._∷_ 101 (List._∷_ 110 (List._∷_ 116 List.[]))))))))))))
+          (Syntax.tcons
+          (Syntax.tyInt Syntax.w64)
+          (Syntax.tcons
+          (Syntax.tyStruct
+          (List._∷_
+          97
+          (List._∷_
+          110
+          (List._∷_
+          115
+          (List._∷_
+          119
+          (List._∷_
+          101
+          (List._∷_
+          114
+          (List._∷_
+          58
+          (List._∷_
+          58
+          (List._∷_
+          68
+          (List._∷_
+          101
+          (List._∷_
+          115
+          (List._∷_
+          116
+          (List._∷_
+          105
+          (List._∷_
+          110
+          (List._∷_
+          97
+          (List._∷_ 116 (List._∷_ 105 (List._∷_ 111 (List._∷_ 110 List.[])))))))))))))))))))
+          (Syntax.tcons
+          (Syntax.tyArray (Syntax.tyInt Syntax.w8) 16)
+          (Syntax.tcons
+          (Syntax.tyEnum
+          (List._∷_
+          97
+          (List._∷_
+          110
+          (List._∷_
+          115
+          (List._∷_
+          119
+          (List._∷_
+          101
+          (List._∷_
+          114
+          (List._∷_ 58 (List._∷_ 58 (List._∷_ 87 (List._∷_ 97 (List._∷_ 121 List.[])))))))))))
+          (Syntax.ttcons
+          Syntax.tnil
+          (Syntax.ttcons
+          Syntax.tnil
+          (Syntax.ttcons Syntax.tnil (Syntax.ttcons Syntax.tnil Syntax.ttnil)))))
+          Syntax.tnil)))
+          Syntax.tnil)))
+          (Syntax.tcons
+          (Syntax.tyInt Syntax.w64)
+          (Syntax.tcons
           (Syntax.tyEnum
           (List._∷_
           97
@@ -9654,156 +9908,6 @@ t48 = List._∷_ (0, Rows'.any-gone Syntax.tyUnit) (List._∷_ (
           (Syntax.ttcons
           Syntax.tnil
           (Syntax.ttcons Syntax.tnil (Syntax.ttcons Syntax.tnil Syntax.ttnil)))))))))))))))))))
-          (Syntax.tcons
-          (Syntax.tyStruct
-          (List._∷_
-          102
-          (List._∷_
-          105
-          (List._∷_
-          110
-          (List._∷_
-          105
-          (List._∷_
-          115
-          (List._∷_
-          104
-          (List._∷_
-          58
-          (List._∷_ 58 (List._∷_ 83 (List._∷_ 101 (List._∷_ 110 (List._∷_ 116 List.[]))))))))))))
-          (Syntax.tcons
-          (Syntax.tyInt Syntax.w64)
-          (Syntax.tcons
-          (Syntax.tyStruct
-          (List._∷_
-          97
-          (List._∷_
-          110
-          (List._∷_
-          115
-          (List._∷_
-          119
-          (List._∷_
-          101
-          (List._∷_
-          114
-          (List._∷_
-          58
-          (List._∷_
-          58
-          (List._∷_
-          68
-          (List._∷_
-          101
-          (List._∷_
-          115
-          (List._∷_
-          116
-          (List._∷_
-          105
-          (List._∷_
-          110
-          (List._∷_
-          97
-          (List._∷_ 116 (List._∷_ 105 (List._∷_ 111 (List._∷_ 110 List.[])))))))))))))))))))
-          (Syntax.tcons
-          (Syntax.tyEnum
-          (List._∷_
-          97
-          (List._∷_
-          110
-          (List._∷_
-          115
-          (List._∷_
-          119
-          (List._∷_
-          101
-          (List._∷_
-          114
-          (List._∷_ 58 (List._∷_ 58 (List._∷_ 87 (List._∷_ 97 (List._∷_ 121 List.[])))))))))))
-          (Syntax.ttcons
-          Syntax.tnil
-          (Syntax.ttcons
-          Syntax.tnil
-          (Syntax.ttcons Syntax.tnil (Syntax.ttcons Syntax.tnil Syntax.ttnil)))))
-          (Syntax.tcons (Syntax.tyArray (Syntax.tyInt Syntax.w8) 16) Syntax.tnil)))
-          Syntax.tnil)))
-          (Syntax.tcons
-          (Syntax.tyStruct
-          (List._∷_
-          102
-          (List._∷_
-          105
-          (List._∷_
-          110
-          (List._∷_
-          105
-          (List._∷_
-          115
-          (List._∷_
-          104
-          (List._∷_
-          58
-          (List._∷_ 58 (List._∷_ 83 (List._∷_ 101 (List._∷_ 110 (List._∷_ 116 List.[]))))))))))))
-          (Syntax.tcons
-          (Syntax.tyInt Syntax.w64)
-          (Syntax.tcons
-          (Syntax.tyStruct
-          (List._∷_
-          97
-          (List._∷_
-          110
-          (List._∷_
-          115
-          (List._∷_
-          119
-          (List._∷_
-          101
-          (List._∷_
-          114
-          (List._∷_
-          58
-          (List._∷_
-          58
-          (List._∷_
-          68
-          (List._∷_
-          101
-          (List._∷_
-          115
-          (List._∷_
-          116
-          (List._∷_
-          105
-          (List._∷_
-          110
-          (List._∷_
-          97
-          (List._∷_ 116 (List._∷_ 105 (List._∷_ 111 (List._∷_ 110 List.[])))))))))))))))))))
-          (Syntax.tcons
-          (Syntax.tyEnum
-          (List._∷_
-          97
-          (List._∷_
-          110
-          (List._∷_
-          115
-          (List._∷_
-          119
-          (List._∷_
-          101
-          (List._∷_
-          114
-          (List._∷_ 58 (List._∷_ 58 (List._∷_ 87 (List._∷_ 97 (List._∷_ 121 List.[])))))))))))
-          (Syntax.ttcons
-          Syntax.tnil
-          (Syntax.ttcons
-          Syntax.tnil
-          (Syntax.ttcons Syntax.tnil (Syntax.ttcons Syntax.tnil Syntax.ttnil)))))
-          (Syntax.tcons (Syntax.tyArray (Syntax.tyInt Syntax.w8) 16) Syntax.tnil)))
-          Syntax.tnil)))
-          (Syntax.tcons
-          (Syntax.tyInt Syntax.w64)
           (Syntax.tcons (Syntax.tyInt Syntax.w8) Syntax.tnil)))))),
     ) (List._∷_ (8, Rows'.any-gone (KInstanceRow.spelled)) (List._∷_ (
       9,
@@ -9896,6 +10000,160 @@ t49 = List._∷_ (0, Rows'.sc-here Row.sUnit) (List._∷_ (
           116
           (List._∷_ 99 (List._∷_ 111 (List._∷_ 109 (List._∷_ 101 List.[])))))))))))))))
           (Syntax.tcons
+          (Syntax.tyStruct
+          (List._∷_
+          102
+          (List._∷_
+          105
+          (List._∷_
+          110
+          (List._∷_
+          105
+          (List._∷_
+          115
+          (List._∷_
+          104
+          (List._∷_
+          58
+          (List._∷_ 58 (List._∷_ 83 (List._∷_ 101 (List._∷_ 110 (List._∷_ 116 List.[]))))))))))))
+          (Syntax.tcons
+          (Syntax.tyInt Syntax.w64)
+          (Syntax.tcons
+          (Syntax.tyStruct
+          (List._∷_
+          97
+          (List._∷_
+          110
+          (List._∷_
+          115
+          (List._∷_
+          119
+          (List._∷_
+          101
+          (List._∷_
+          114
+          (List._∷_
+          58
+          (List._∷_
+          58
+          (List._∷_
+          68
+          (List._∷_
+          101
+          (List._∷_
+          115
+          (List._∷_
+          116
+          (List._∷_
+          105
+          (List._∷_
+          110
+          (List._∷_
+          97
+          (List._∷_ 116 (List._∷_ 105 (List._∷_ 111 (List._∷_ 110 List.[])))))))))))))))))))
+          (Syntax.tcons
+          (Syntax.tyArray (Syntax.tyInt Syntax.w8) 16)
+          (Syntax.tcons
+          (Syntax.tyEnum
+          (List._∷_
+          97
+          (List._∷_
+          110
+          (List._∷_
+          115
+          (List._∷_
+          119
+          (List._∷_
+          101
+          (List._∷_
+          114
+          (List._∷_ 58 (List._∷_ 58 (List._∷_ 87 (List._∷_ 97 (List._∷_ 121 List.[])))))))))))
+          (Syntax.ttcons
+          Syntax.tnil
+          (Syntax.ttcons
+          Syntax.tnil
+          (Syntax.ttcons Syntax.tnil (Syntax.ttcons Syntax.tnil Syntax.ttnil)))))
+          Syntax.tnil)))
+          Syntax.tnil)))
+          (Syntax.tcons
+          (Syntax.tyStruct
+          (List._∷_
+          102
+          (List._∷_
+          105
+          (List._∷_
+          110
+          (List._∷_
+          105
+          (List._∷_
+          115
+          (List._∷_
+          104
+          (List._∷_
+          58
+          (List._∷_ 58 (List._∷_ 83 (List._∷_ 101 (List._∷_ 110 (List._∷_ 116 List.[]))))))))))))
+          (Syntax.tcons
+          (Syntax.tyInt Syntax.w64)
+          (Syntax.tcons
+          (Syntax.tyStruct
+          (List._∷_
+          97
+          (List._∷_
+          110
+          (List._∷_
+          115
+          (List._∷_
+          119
+          (List._∷_
+          101
+          (List._∷_
+          114
+          (List._∷_
+          58
+          (List._∷_
+          58
+          (List._∷_
+          68
+          (List._∷_
+          101
+          (List._∷_
+          115
+          (List._∷_
+          116
+          (List._∷_
+          105
+          (List._∷_
+          110
+          (List._∷_
+          97
+          (List._∷_ 116 (List._∷_ 105 (List._∷_ 111 (List._∷_ 110 List.[])))))))))))))))))))
+          (Syntax.tcons
+          (Syntax.tyArray (Syntax.tyInt Syntax.w8) 16)
+          (Syntax.tcons
+          (Syntax.tyEnum
+          (List._∷_
+          97
+          (List._∷_
+          110
+          (List._∷_
+          115
+          (List._∷_
+          119
+          (List._∷_
+          101
+          (List._∷_
+          114
+          (List._∷_ 58 (List._∷_ 58 (List._∷_ 87 (List._∷_ 97 (List._∷_ 121 List.[])))))))))))
+          (Syntax.ttcons
+          Syntax.tnil
+          (Syntax.ttcons
+          Syntax.tnil
+          (Syntax.ttcons Syntax.tnil (Syntax.ttcons Syntax.tnil Syntax.ttnil)))))
+          Syntax.tnil)))
+          Syntax.tnil)))
+          (Syntax.tcons
+          (Syntax.tyInt Syntax.w64)
+          (Syntax.tcons
           (Syntax.tyEnum
           (List._∷_
           97
@@ -9951,156 +10209,6 @@ t49 = List._∷_ (0, Rows'.sc-here Row.sUnit) (List._∷_ (
           (Syntax.ttcons
           Syntax.tnil
           (Syntax.ttcons Syntax.tnil (Syntax.ttcons Syntax.tnil Syntax.ttnil)))))))))))))))))))
-          (Syntax.tcons
-          (Syntax.tyStruct
-          (List._∷_
-          102
-          (List._∷_
-          105
-          (List._∷_
-          110
-          (List._∷_
-          105
-          (List._∷_
-          115
-          (List._∷_
-          104
-          (List._∷_
-          58
-          (List._∷_ 58 (List._∷_ 83 (List._∷_ 101 (List._∷_ 110 (List._∷_ 116 List.[]))))))))))))
-          (Syntax.tcons
-          (Syntax.tyInt Syntax.w64)
-          (Syntax.tcons
-          (Syntax.tyStruct
-          (List._∷_
-          97
-          (List._∷_
-          110
-          (List._∷_
-          115
-          (List._∷_
-          119
-          (List._∷_
-          101
-          (List._∷_
-          114
-          (List._∷_
-          58
-          (List._∷_
-          58
-          (List._∷_
-          68
-          (List._∷_
-          101
-          (List._∷_
-          115
-          (List._∷_
-          116
-          (List._∷_
-          105
-          (List._∷_
-          110
-          (List._∷_
-          97
-          (List._∷_ 116 (List._∷_ 105 (List._∷_ 111 (List._∷_ 110 List.[])))))))))))))))))))
-          (Syntax.tcons
-          (Syntax.tyEnum
-          (List._∷_
-          97
-          (List._∷_
-          110
-          (List._∷_
-          115
-          (List._∷_
-          119
-          (List._∷_
-          101
-          (List._∷_
-          114
-          (List._∷_ 58 (List._∷_ 58 (List._∷_ 87 (List._∷_ 97 (List._∷_ 121 List.[])))))))))))
-          (Syntax.ttcons
-          Syntax.tnil
-          (Syntax.ttcons
-          Syntax.tnil
-          (Syntax.ttcons Syntax.tnil (Syntax.ttcons Syntax.tnil Syntax.ttnil)))))
-          (Syntax.tcons (Syntax.tyArray (Syntax.tyInt Syntax.w8) 16) Syntax.tnil)))
-          Syntax.tnil)))
-          (Syntax.tcons
-          (Syntax.tyStruct
-          (List._∷_
-          102
-          (List._∷_
-          105
-          (List._∷_
-          110
-          (List._∷_
-          105
-          (List._∷_
-          115
-          (List._∷_
-          104
-          (List._∷_
-          58
-          (List._∷_ 58 (List._∷_ 83 (List._∷_ 101 (List._∷_ 110 (List._∷_ 116 List.[]))))))))))))
-          (Syntax.tcons
-          (Syntax.tyInt Syntax.w64)
-          (Syntax.tcons
-          (Syntax.tyStruct
-          (List._∷_
-          97
-          (List._∷_
-          110
-          (List._∷_
-          115
-          (List._∷_
-          119
-          (List._∷_
-          101
-          (List._∷_
-          114
-          (List._∷_
-          58
-          (List._∷_
-          58
-          (List._∷_
-          68
-          (List._∷_
-          101
-          (List._∷_
-          115
-          (List._∷_
-          116
-          (List._∷_
-          105
-          (List._∷_
-          110
-          (List._∷_
-          97
-          (List._∷_ 116 (List._∷_ 105 (List._∷_ 111 (List._∷_ 110 List.[])))))))))))))))))))
-          (Syntax.tcons
-          (Syntax.tyEnum
-          (List._∷_
-          97
-          (List._∷_
-          110
-          (List._∷_
-          115
-          (List._∷_
-          119
-          (List._∷_
-          101
-          (List._∷_
-          114
-          (List._∷_ 58 (List._∷_ 58 (List._∷_ 87 (List._∷_ 97 (List._∷_ 121 List.[])))))))))))
-          (Syntax.ttcons
-          Syntax.tnil
-          (Syntax.ttcons
-          Syntax.tnil
-          (Syntax.ttcons Syntax.tnil (Syntax.ttcons Syntax.tnil Syntax.ttnil)))))
-          (Syntax.tcons (Syntax.tyArray (Syntax.tyInt Syntax.w8) 16) Syntax.tnil)))
-          Syntax.tnil)))
-          (Syntax.tcons
-          (Syntax.tyInt Syntax.w64)
           (Syntax.tcons (Syntax.tyInt Syntax.w8) Syntax.tnil)))))),
     ) (List._∷_ (8, Rows'.any-gone (KInstanceRow.spelled)) (List._∷_ (
       9,
@@ -10651,6 +10759,160 @@ module _ (claims· : Claims) where
       117
       (List._∷_ 116 (List._∷_ 99 (List._∷_ 111 (List._∷_ 109 (List._∷_ 101 List.[])))))))))))))))
       (Syntax.tcons
+      (Syntax.tyStruct
+      (List._∷_
+      102
+      (List._∷_
+      105
+      (List._∷_
+      110
+      (List._∷_
+      105
+      (List._∷_
+      115
+      (List._∷_
+      104
+      (List._∷_
+      58
+      (List._∷_ 58 (List._∷_ 83 (List._∷_ 101 (List._∷_ 110 (List._∷_ 116 List.[]))))))))))))
+      (Syntax.tcons
+      (Syntax.tyInt Syntax.w64)
+      (Syntax.tcons
+      (Syntax.tyStruct
+      (List._∷_
+      97
+      (List._∷_
+      110
+      (List._∷_
+      115
+      (List._∷_
+      119
+      (List._∷_
+      101
+      (List._∷_
+      114
+      (List._∷_
+      58
+      (List._∷_
+      58
+      (List._∷_
+      68
+      (List._∷_
+      101
+      (List._∷_
+      115
+      (List._∷_
+      116
+      (List._∷_
+      105
+      (List._∷_
+      110
+      (List._∷_
+      97
+      (List._∷_ 116 (List._∷_ 105 (List._∷_ 111 (List._∷_ 110 List.[])))))))))))))))))))
+      (Syntax.tcons
+      (Syntax.tyArray (Syntax.tyInt Syntax.w8) 16)
+      (Syntax.tcons
+      (Syntax.tyEnum
+      (List._∷_
+      97
+      (List._∷_
+      110
+      (List._∷_
+      115
+      (List._∷_
+      119
+      (List._∷_
+      101
+      (List._∷_
+      114
+      (List._∷_ 58 (List._∷_ 58 (List._∷_ 87 (List._∷_ 97 (List._∷_ 121 List.[])))))))))))
+      (Syntax.ttcons
+      Syntax.tnil
+      (Syntax.ttcons
+      Syntax.tnil
+      (Syntax.ttcons Syntax.tnil (Syntax.ttcons Syntax.tnil Syntax.ttnil)))))
+      Syntax.tnil)))
+      Syntax.tnil)))
+      (Syntax.tcons
+      (Syntax.tyStruct
+      (List._∷_
+      102
+      (List._∷_
+      105
+      (List._∷_
+      110
+      (List._∷_
+      105
+      (List._∷_
+      115
+      (List._∷_
+      104
+      (List._∷_
+      58
+      (List._∷_ 58 (List._∷_ 83 (List._∷_ 101 (List._∷_ 110 (List._∷_ 116 List.[]))))))))))))
+      (Syntax.tcons
+      (Syntax.tyInt Syntax.w64)
+      (Syntax.tcons
+      (Syntax.tyStruct
+      (List._∷_
+      97
+      (List._∷_
+      110
+      (List._∷_
+      115
+      (List._∷_
+      119
+      (List._∷_
+      101
+      (List._∷_
+      114
+      (List._∷_
+      58
+      (List._∷_
+      58
+      (List._∷_
+      68
+      (List._∷_
+      101
+      (List._∷_
+      115
+      (List._∷_
+      116
+      (List._∷_
+      105
+      (List._∷_
+      110
+      (List._∷_
+      97
+      (List._∷_ 116 (List._∷_ 105 (List._∷_ 111 (List._∷_ 110 List.[])))))))))))))))))))
+      (Syntax.tcons
+      (Syntax.tyArray (Syntax.tyInt Syntax.w8) 16)
+      (Syntax.tcons
+      (Syntax.tyEnum
+      (List._∷_
+      97
+      (List._∷_
+      110
+      (List._∷_
+      115
+      (List._∷_
+      119
+      (List._∷_
+      101
+      (List._∷_
+      114
+      (List._∷_ 58 (List._∷_ 58 (List._∷_ 87 (List._∷_ 97 (List._∷_ 121 List.[])))))))))))
+      (Syntax.ttcons
+      Syntax.tnil
+      (Syntax.ttcons
+      Syntax.tnil
+      (Syntax.ttcons Syntax.tnil (Syntax.ttcons Syntax.tnil Syntax.ttnil)))))
+      Syntax.tnil)))
+      Syntax.tnil)))
+      (Syntax.tcons
+      (Syntax.tyInt Syntax.w64)
+      (Syntax.tcons
       (Syntax.tyEnum
       (List._∷_
       97
@@ -10704,156 +10966,6 @@ module _ (claims· : Claims) where
       (Syntax.ttcons
       Syntax.tnil
       (Syntax.ttcons Syntax.tnil (Syntax.ttcons Syntax.tnil Syntax.ttnil)))))))))))))))))))
-      (Syntax.tcons
-      (Syntax.tyStruct
-      (List._∷_
-      102
-      (List._∷_
-      105
-      (List._∷_
-      110
-      (List._∷_
-      105
-      (List._∷_
-      115
-      (List._∷_
-      104
-      (List._∷_
-      58
-      (List._∷_ 58 (List._∷_ 83 (List._∷_ 101 (List._∷_ 110 (List._∷_ 116 List.[]))))))))))))
-      (Syntax.tcons
-      (Syntax.tyInt Syntax.w64)
-      (Syntax.tcons
-      (Syntax.tyStruct
-      (List._∷_
-      97
-      (List._∷_
-      110
-      (List._∷_
-      115
-      (List._∷_
-      119
-      (List._∷_
-      101
-      (List._∷_
-      114
-      (List._∷_
-      58
-      (List._∷_
-      58
-      (List._∷_
-      68
-      (List._∷_
-      101
-      (List._∷_
-      115
-      (List._∷_
-      116
-      (List._∷_
-      105
-      (List._∷_
-      110
-      (List._∷_
-      97
-      (List._∷_ 116 (List._∷_ 105 (List._∷_ 111 (List._∷_ 110 List.[])))))))))))))))))))
-      (Syntax.tcons
-      (Syntax.tyEnum
-      (List._∷_
-      97
-      (List._∷_
-      110
-      (List._∷_
-      115
-      (List._∷_
-      119
-      (List._∷_
-      101
-      (List._∷_
-      114
-      (List._∷_ 58 (List._∷_ 58 (List._∷_ 87 (List._∷_ 97 (List._∷_ 121 List.[])))))))))))
-      (Syntax.ttcons
-      Syntax.tnil
-      (Syntax.ttcons
-      Syntax.tnil
-      (Syntax.ttcons Syntax.tnil (Syntax.ttcons Syntax.tnil Syntax.ttnil)))))
-      (Syntax.tcons (Syntax.tyArray (Syntax.tyInt Syntax.w8) 16) Syntax.tnil)))
-      Syntax.tnil)))
-      (Syntax.tcons
-      (Syntax.tyStruct
-      (List._∷_
-      102
-      (List._∷_
-      105
-      (List._∷_
-      110
-      (List._∷_
-      105
-      (List._∷_
-      115
-      (List._∷_
-      104
-      (List._∷_
-      58
-      (List._∷_ 58 (List._∷_ 83 (List._∷_ 101 (List._∷_ 110 (List._∷_ 116 List.[]))))))))))))
-      (Syntax.tcons
-      (Syntax.tyInt Syntax.w64)
-      (Syntax.tcons
-      (Syntax.tyStruct
-      (List._∷_
-      97
-      (List._∷_
-      110
-      (List._∷_
-      115
-      (List._∷_
-      119
-      (List._∷_
-      101
-      (List._∷_
-      114
-      (List._∷_
-      58
-      (List._∷_
-      58
-      (List._∷_
-      68
-      (List._∷_
-      101
-      (List._∷_
-      115
-      (List._∷_
-      116
-      (List._∷_
-      105
-      (List._∷_
-      110
-      (List._∷_
-      97
-      (List._∷_ 116 (List._∷_ 105 (List._∷_ 111 (List._∷_ 110 List.[])))))))))))))))))))
-      (Syntax.tcons
-      (Syntax.tyEnum
-      (List._∷_
-      97
-      (List._∷_
-      110
-      (List._∷_
-      115
-      (List._∷_
-      119
-      (List._∷_
-      101
-      (List._∷_
-      114
-      (List._∷_ 58 (List._∷_ 58 (List._∷_ 87 (List._∷_ 97 (List._∷_ 121 List.[])))))))))))
-      (Syntax.ttcons
-      Syntax.tnil
-      (Syntax.ttcons
-      Syntax.tnil
-      (Syntax.ttcons Syntax.tnil (Syntax.ttcons Syntax.tnil Syntax.ttnil)))))
-      (Syntax.tcons (Syntax.tyArray (Syntax.tyInt Syntax.w8) 16) Syntax.tnil)))
-      Syntax.tnil)))
-      (Syntax.tcons
-      (Syntax.tyInt Syntax.w64)
       (Syntax.tcons (Syntax.tyInt Syntax.w8) Syntax.tnil))))))
 
   abbrev s28 : (bs : List.List Nat.ℕ) → Typed.Mo T29 → Typed.Mo T30
@@ -11084,6 +11196,160 @@ module _ (claims· : Claims) where
       117
       (List._∷_ 116 (List._∷_ 99 (List._∷_ 111 (List._∷_ 109 (List._∷_ 101 List.[])))))))))))))))
       (Syntax.tcons
+      (Syntax.tyStruct
+      (List._∷_
+      102
+      (List._∷_
+      105
+      (List._∷_
+      110
+      (List._∷_
+      105
+      (List._∷_
+      115
+      (List._∷_
+      104
+      (List._∷_
+      58
+      (List._∷_ 58 (List._∷_ 83 (List._∷_ 101 (List._∷_ 110 (List._∷_ 116 List.[]))))))))))))
+      (Syntax.tcons
+      (Syntax.tyInt Syntax.w64)
+      (Syntax.tcons
+      (Syntax.tyStruct
+      (List._∷_
+      97
+      (List._∷_
+      110
+      (List._∷_
+      115
+      (List._∷_
+      119
+      (List._∷_
+      101
+      (List._∷_
+      114
+      (List._∷_
+      58
+      (List._∷_
+      58
+      (List._∷_
+      68
+      (List._∷_
+      101
+      (List._∷_
+      115
+      (List._∷_
+      116
+      (List._∷_
+      105
+      (List._∷_
+      110
+      (List._∷_
+      97
+      (List._∷_ 116 (List._∷_ 105 (List._∷_ 111 (List._∷_ 110 List.[])))))))))))))))))))
+      (Syntax.tcons
+      (Syntax.tyArray (Syntax.tyInt Syntax.w8) 16)
+      (Syntax.tcons
+      (Syntax.tyEnum
+      (List._∷_
+      97
+      (List._∷_
+      110
+      (List._∷_
+      115
+      (List._∷_
+      119
+      (List._∷_
+      101
+      (List._∷_
+      114
+      (List._∷_ 58 (List._∷_ 58 (List._∷_ 87 (List._∷_ 97 (List._∷_ 121 List.[])))))))))))
+      (Syntax.ttcons
+      Syntax.tnil
+      (Syntax.ttcons
+      Syntax.tnil
+      (Syntax.ttcons Syntax.tnil (Syntax.ttcons Syntax.tnil Syntax.ttnil)))))
+      Syntax.tnil)))
+      Syntax.tnil)))
+      (Syntax.tcons
+      (Syntax.tyStruct
+      (List._∷_
+      102
+      (List._∷_
+      105
+      (List._∷_
+      110
+      (List._∷_
+      105
+      (List._∷_
+      115
+      (List._∷_
+      104
+      (List._∷_
+      58
+      (List._∷_ 58 (List._∷_ 83 (List._∷_ 101 (List._∷_ 110 (List._∷_ 116 List.[]))))))))))))
+      (Syntax.tcons
+      (Syntax.tyInt Syntax.w64)
+      (Syntax.tcons
+      (Syntax.tyStruct
+      (List._∷_
+      97
+      (List._∷_
+      110
+      (List._∷_
+      115
+      (List._∷_
+      119
+      (List._∷_
+      101
+      (List._∷_
+      114
+      (List._∷_
+      58
+      (List._∷_
+      58
+      (List._∷_
+      68
+      (List._∷_
+      101
+      (List._∷_
+      115
+      (List._∷_
+      116
+      (List._∷_
+      105
+      (List._∷_
+      110
+      (List._∷_
+      97
+      (List._∷_ 116 (List._∷_ 105 (List._∷_ 111 (List._∷_ 110 List.[])))))))))))))))))))
+      (Syntax.tcons
+      (Syntax.tyArray (Syntax.tyInt Syntax.w8) 16)
+      (Syntax.tcons
+      (Syntax.tyEnum
+      (List._∷_
+      97
+      (List._∷_
+      110
+      (List._∷_
+      115
+      (List._∷_
+      119
+      (List._∷_
+      101
+      (List._∷_
+      114
+      (List._∷_ 58 (List._∷_ 58 (List._∷_ 87 (List._∷_ 97 (List._∷_ 121 List.[])))))))))))
+      (Syntax.ttcons
+      Syntax.tnil
+      (Syntax.ttcons
+      Syntax.tnil
+      (Syntax.ttcons Syntax.tnil (Syntax.ttcons Syntax.tnil Syntax.ttnil)))))
+      Syntax.tnil)))
+      Syntax.tnil)))
+      (Syntax.tcons
+      (Syntax.tyInt Syntax.w64)
+      (Syntax.tcons
       (Syntax.tyEnum
       (List._∷_
       97
@@ -11137,156 +11403,6 @@ module _ (claims· : Claims) where
       (Syntax.ttcons
       Syntax.tnil
       (Syntax.ttcons Syntax.tnil (Syntax.ttcons Syntax.tnil Syntax.ttnil)))))))))))))))))))
-      (Syntax.tcons
-      (Syntax.tyStruct
-      (List._∷_
-      102
-      (List._∷_
-      105
-      (List._∷_
-      110
-      (List._∷_
-      105
-      (List._∷_
-      115
-      (List._∷_
-      104
-      (List._∷_
-      58
-      (List._∷_ 58 (List._∷_ 83 (List._∷_ 101 (List._∷_ 110 (List._∷_ 116 List.[]))))))))))))
-      (Syntax.tcons
-      (Syntax.tyInt Syntax.w64)
-      (Syntax.tcons
-      (Syntax.tyStruct
-      (List._∷_
-      97
-      (List._∷_
-      110
-      (List._∷_
-      115
-      (List._∷_
-      119
-      (List._∷_
-      101
-      (List._∷_
-      114
-      (List._∷_
-      58
-      (List._∷_
-      58
-      (List._∷_
-      68
-      (List._∷_
-      101
-      (List._∷_
-      115
-      (List._∷_
-      116
-      (List._∷_
-      105
-      (List._∷_
-      110
-      (List._∷_
-      97
-      (List._∷_ 116 (List._∷_ 105 (List._∷_ 111 (List._∷_ 110 List.[])))))))))))))))))))
-      (Syntax.tcons
-      (Syntax.tyEnum
-      (List._∷_
-      97
-      (List._∷_
-      110
-      (List._∷_
-      115
-      (List._∷_
-      119
-      (List._∷_
-      101
-      (List._∷_
-      114
-      (List._∷_ 58 (List._∷_ 58 (List._∷_ 87 (List._∷_ 97 (List._∷_ 121 List.[])))))))))))
-      (Syntax.ttcons
-      Syntax.tnil
-      (Syntax.ttcons
-      Syntax.tnil
-      (Syntax.ttcons Syntax.tnil (Syntax.ttcons Syntax.tnil Syntax.ttnil)))))
-      (Syntax.tcons (Syntax.tyArray (Syntax.tyInt Syntax.w8) 16) Syntax.tnil)))
-      Syntax.tnil)))
-      (Syntax.tcons
-      (Syntax.tyStruct
-      (List._∷_
-      102
-      (List._∷_
-      105
-      (List._∷_
-      110
-      (List._∷_
-      105
-      (List._∷_
-      115
-      (List._∷_
-      104
-      (List._∷_
-      58
-      (List._∷_ 58 (List._∷_ 83 (List._∷_ 101 (List._∷_ 110 (List._∷_ 116 List.[]))))))))))))
-      (Syntax.tcons
-      (Syntax.tyInt Syntax.w64)
-      (Syntax.tcons
-      (Syntax.tyStruct
-      (List._∷_
-      97
-      (List._∷_
-      110
-      (List._∷_
-      115
-      (List._∷_
-      119
-      (List._∷_
-      101
-      (List._∷_
-      114
-      (List._∷_
-      58
-      (List._∷_
-      58
-      (List._∷_
-      68
-      (List._∷_
-      101
-      (List._∷_
-      115
-      (List._∷_
-      116
-      (List._∷_
-      105
-      (List._∷_
-      110
-      (List._∷_
-      97
-      (List._∷_ 116 (List._∷_ 105 (List._∷_ 111 (List._∷_ 110 List.[])))))))))))))))))))
-      (Syntax.tcons
-      (Syntax.tyEnum
-      (List._∷_
-      97
-      (List._∷_
-      110
-      (List._∷_
-      115
-      (List._∷_
-      119
-      (List._∷_
-      101
-      (List._∷_
-      114
-      (List._∷_ 58 (List._∷_ 58 (List._∷_ 87 (List._∷_ 97 (List._∷_ 121 List.[])))))))))))
-      (Syntax.ttcons
-      Syntax.tnil
-      (Syntax.ttcons
-      Syntax.tnil
-      (Syntax.ttcons Syntax.tnil (Syntax.ttcons Syntax.tnil Syntax.ttnil)))))
-      (Syntax.tcons (Syntax.tyArray (Syntax.tyInt Syntax.w8) 16) Syntax.tnil)))
-      Syntax.tnil)))
-      (Syntax.tcons
-      (Syntax.tyInt Syntax.w64)
       (Syntax.tcons (Syntax.tyInt Syntax.w8) Syntax.tnil))))))
 
   abbrev s54 : (bs : List.List Nat.ℕ) → Typed.Mo T55 → Typed.Mo T56
@@ -12829,6 +12945,164 @@ module _ (claims· : Claims) where
               116
               (List._∷_ 99 (List._∷_ 111 (List._∷_ 109 (List._∷_ 101 List.[])))))))))))))))
               (Syntax.tcons
+              (Syntax.tyStruct
+              (List._∷_
+              102
+              (List._∷_
+              105
+              (List._∷_
+              110
+              (List._∷_
+              105
+              (List._∷_
+              115
+              (List._∷_
+              104
+              (List._∷_
+              58
+              (List._∷_
+              58
+              (List._∷_ 83 (List._∷_ 101 (List._∷_ 110 (List._∷_ 116 List.[]))))))))))))
+              (Syntax.tcons
+              (Syntax.tyInt Syntax.w64)
+              (Syntax.tcons
+              (Syntax.tyStruct
+              (List._∷_
+              97
+              (List._∷_
+              110
+              (List._∷_
+              115
+              (List._∷_
+              119
+              (List._∷_
+              101
+              (List._∷_
+              114
+              (List._∷_
+              58
+              (List._∷_
+              58
+              (List._∷_
+              68
+              (List._∷_
+              101
+              (List._∷_
+              115
+              (List._∷_
+              116
+              (List._∷_
+              105
+              (List._∷_
+              110
+              (List._∷_
+              97
+              (List._∷_ 116 (List._∷_ 105 (List._∷_ 111 (List._∷_ 110 List.[])))))))))))))))))))
+              (Syntax.tcons
+              (Syntax.tyArray (Syntax.tyInt Syntax.w8) 16)
+              (Syntax.tcons
+              (Syntax.tyEnum
+              (List._∷_
+              97
+              (List._∷_
+              110
+              (List._∷_
+              115
+              (List._∷_
+              119
+              (List._∷_
+              101
+              (List._∷_
+              114
+              (List._∷_ 58 (List._∷_ 58 (List._∷_ 87 (List._∷_ 97 (List._∷_ 121 List.[])))))))))))
+              (Syntax.ttcons
+              Syntax.tnil
+              (Syntax.ttcons
+              Syntax.tnil
+              (Syntax.ttcons Syntax.tnil (Syntax.ttcons Syntax.tnil Syntax.ttnil)))))
+              Syntax.tnil)))
+              Syntax.tnil)))
+              (Syntax.tcons
+              (Syntax.tyStruct
+              (List._∷_
+              102
+              (List._∷_
+              105
+              (List._∷_
+              110
+              (List._∷_
+              105
+              (List._∷_
+              115
+              (List._∷_
+              104
+              (List._∷_
+              58
+              (List._∷_
+              58
+              (List._∷_ 83 (List._∷_ 101 (List._∷_ 110 (List._∷_ 116 List.[]))))))))))))
+              (Syntax.tcons
+              (Syntax.tyInt Syntax.w64)
+              (Syntax.tcons
+              (Syntax.tyStruct
+              (List._∷_
+              97
+              (List._∷_
+              110
+              (List._∷_
+              115
+              (List._∷_
+              119
+              (List._∷_
+              101
+              (List._∷_
+              114
+              (List._∷_
+              58
+              (List._∷_
+              58
+              (List._∷_
+              68
+              (List._∷_
+              101
+              (List._∷_
+              115
+              (List._∷_
+              116
+              (List._∷_
+              105
+              (List._∷_
+              110
+              (List._∷_
+              97
+              (List._∷_ 116 (List._∷_ 105 (List._∷_ 111 (List._∷_ 110 List.[])))))))))))))))))))
+              (Syntax.tcons
+              (Syntax.tyArray (Syntax.tyInt Syntax.w8) 16)
+              (Syntax.tcons
+              (Syntax.tyEnum
+              (List._∷_
+              97
+              (List._∷_
+              110
+              (List._∷_
+              115
+              (List._∷_
+              119
+              (List._∷_
+              101
+              (List._∷_
+              114
+              (List._∷_ 58 (List._∷_ 58 (List._∷_ 87 (List._∷_ 97 (List._∷_ 121 List.[])))))))))))
+              (Syntax.ttcons
+              Syntax.tnil
+              (Syntax.ttcons
+              Syntax.tnil
+              (Syntax.ttcons Syntax.tnil (Syntax.ttcons Syntax.tnil Syntax.ttnil)))))
+              Syntax.tnil)))
+              Syntax.tnil)))
+              (Syntax.tcons
+              (Syntax.tyInt Syntax.w64)
+              (Syntax.tcons
               (Syntax.tyEnum
               (List._∷_
               97
@@ -12884,160 +13158,6 @@ module _ (claims· : Claims) where
               (Syntax.ttcons
               Syntax.tnil
               (Syntax.ttcons Syntax.tnil (Syntax.ttcons Syntax.tnil Syntax.ttnil)))))))))))))))))))
-              (Syntax.tcons
-              (Syntax.tyStruct
-              (List._∷_
-              102
-              (List._∷_
-              105
-              (List._∷_
-              110
-              (List._∷_
-              105
-              (List._∷_
-              115
-              (List._∷_
-              104
-              (List._∷_
-              58
-              (List._∷_
-              58
-              (List._∷_ 83 (List._∷_ 101 (List._∷_ 110 (List._∷_ 116 List.[]))))))))))))
-              (Syntax.tcons
-              (Syntax.tyInt Syntax.w64)
-              (Syntax.tcons
-              (Syntax.tyStruct
-              (List._∷_
-              97
-              (List._∷_
-              110
-              (List._∷_
-              115
-              (List._∷_
-              119
-              (List._∷_
-              101
-              (List._∷_
-              114
-              (List._∷_
-              58
-              (List._∷_
-              58
-              (List._∷_
-              68
-              (List._∷_
-              101
-              (List._∷_
-              115
-              (List._∷_
-              116
-              (List._∷_
-              105
-              (List._∷_
-              110
-              (List._∷_
-              97
-              (List._∷_ 116 (List._∷_ 105 (List._∷_ 111 (List._∷_ 110 List.[])))))))))))))))))))
-              (Syntax.tcons
-              (Syntax.tyEnum
-              (List._∷_
-              97
-              (List._∷_
-              110
-              (List._∷_
-              115
-              (List._∷_
-              119
-              (List._∷_
-              101
-              (List._∷_
-              114
-              (List._∷_ 58 (List._∷_ 58 (List._∷_ 87 (List._∷_ 97 (List._∷_ 121 List.[])))))))))))
-              (Syntax.ttcons
-              Syntax.tnil
-              (Syntax.ttcons
-              Syntax.tnil
-              (Syntax.ttcons Syntax.tnil (Syntax.ttcons Syntax.tnil Syntax.ttnil)))))
-              (Syntax.tcons (Syntax.tyArray (Syntax.tyInt Syntax.w8) 16) Syntax.tnil)))
-              Syntax.tnil)))
-              (Syntax.tcons
-              (Syntax.tyStruct
-              (List._∷_
-              102
-              (List._∷_
-              105
-              (List._∷_
-              110
-              (List._∷_
-              105
-              (List._∷_
-              115
-              (List._∷_
-              104
-              (List._∷_
-              58
-              (List._∷_
-              58
-              (List._∷_ 83 (List._∷_ 101 (List._∷_ 110 (List._∷_ 116 List.[]))))))))))))
-              (Syntax.tcons
-              (Syntax.tyInt Syntax.w64)
-              (Syntax.tcons
-              (Syntax.tyStruct
-              (List._∷_
-              97
-              (List._∷_
-              110
-              (List._∷_
-              115
-              (List._∷_
-              119
-              (List._∷_
-              101
-              (List._∷_
-              114
-              (List._∷_
-              58
-              (List._∷_
-              58
-              (List._∷_
-              68
-              (List._∷_
-              101
-              (List._∷_
-              115
-              (List._∷_
-              116
-              (List._∷_
-              105
-              (List._∷_
-              110
-              (List._∷_
-              97
-              (List._∷_ 116 (List._∷_ 105 (List._∷_ 111 (List._∷_ 110 List.[])))))))))))))))))))
-              (Syntax.tcons
-              (Syntax.tyEnum
-              (List._∷_
-              97
-              (List._∷_
-              110
-              (List._∷_
-              115
-              (List._∷_
-              119
-              (List._∷_
-              101
-              (List._∷_
-              114
-              (List._∷_ 58 (List._∷_ 58 (List._∷_ 87 (List._∷_ 97 (List._∷_ 121 List.[])))))))))))
-              (Syntax.ttcons
-              Syntax.tnil
-              (Syntax.ttcons
-              Syntax.tnil
-              (Syntax.ttcons Syntax.tnil (Syntax.ttcons Syntax.tnil Syntax.ttnil)))))
-              (Syntax.tcons (Syntax.tyArray (Syntax.tyInt Syntax.w8) 16) Syntax.tnil)))
-              Syntax.tnil)))
-              (Syntax.tcons
-              (Syntax.tyInt Syntax.w64)
               (Syntax.tcons (Syntax.tyInt Syntax.w8) Syntax.tnil))))))
               (Local.room-whole
               𝓤
@@ -13070,6 +13190,164 @@ module _ (claims· : Claims) where
               116
               (List._∷_ 99 (List._∷_ 111 (List._∷_ 109 (List._∷_ 101 List.[])))))))))))))))
               (Syntax.tcons
+              (Syntax.tyStruct
+              (List._∷_
+              102
+              (List._∷_
+              105
+              (List._∷_
+              110
+              (List._∷_
+              105
+              (List._∷_
+              115
+              (List._∷_
+              104
+              (List._∷_
+              58
+              (List._∷_
+              58
+              (List._∷_ 83 (List._∷_ 101 (List._∷_ 110 (List._∷_ 116 List.[]))))))))))))
+              (Syntax.tcons
+              (Syntax.tyInt Syntax.w64)
+              (Syntax.tcons
+              (Syntax.tyStruct
+              (List._∷_
+              97
+              (List._∷_
+              110
+              (List._∷_
+              115
+              (List._∷_
+              119
+              (List._∷_
+              101
+              (List._∷_
+              114
+              (List._∷_
+              58
+              (List._∷_
+              58
+              (List._∷_
+              68
+              (List._∷_
+              101
+              (List._∷_
+              115
+              (List._∷_
+              116
+              (List._∷_
+              105
+              (List._∷_
+              110
+              (List._∷_
+              97
+              (List._∷_ 116 (List._∷_ 105 (List._∷_ 111 (List._∷_ 110 List.[])))))))))))))))))))
+              (Syntax.tcons
+              (Syntax.tyArray (Syntax.tyInt Syntax.w8) 16)
+              (Syntax.tcons
+              (Syntax.tyEnum
+              (List._∷_
+              97
+              (List._∷_
+              110
+              (List._∷_
+              115
+              (List._∷_
+              119
+              (List._∷_
+              101
+              (List._∷_
+              114
+              (List._∷_ 58 (List._∷_ 58 (List._∷_ 87 (List._∷_ 97 (List._∷_ 121 List.[])))))))))))
+              (Syntax.ttcons
+              Syntax.tnil
+              (Syntax.ttcons
+              Syntax.tnil
+              (Syntax.ttcons Syntax.tnil (Syntax.ttcons Syntax.tnil Syntax.ttnil)))))
+              Syntax.tnil)))
+              Syntax.tnil)))
+              (Syntax.tcons
+              (Syntax.tyStruct
+              (List._∷_
+              102
+              (List._∷_
+              105
+              (List._∷_
+              110
+              (List._∷_
+              105
+              (List._∷_
+              115
+              (List._∷_
+              104
+              (List._∷_
+              58
+              (List._∷_
+              58
+              (List._∷_ 83 (List._∷_ 101 (List._∷_ 110 (List._∷_ 116 List.[]))))))))))))
+              (Syntax.tcons
+              (Syntax.tyInt Syntax.w64)
+              (Syntax.tcons
+              (Syntax.tyStruct
+              (List._∷_
+              97
+              (List._∷_
+              110
+              (List._∷_
+              115
+              (List._∷_
+              119
+              (List._∷_
+              101
+              (List._∷_
+              114
+              (List._∷_
+              58
+              (List._∷_
+              58
+              (List._∷_
+              68
+              (List._∷_
+              101
+              (List._∷_
+              115
+              (List._∷_
+              116
+              (List._∷_
+              105
+              (List._∷_
+              110
+              (List._∷_
+              97
+              (List._∷_ 116 (List._∷_ 105 (List._∷_ 111 (List._∷_ 110 List.[])))))))))))))))))))
+              (Syntax.tcons
+              (Syntax.tyArray (Syntax.tyInt Syntax.w8) 16)
+              (Syntax.tcons
+              (Syntax.tyEnum
+              (List._∷_
+              97
+              (List._∷_
+              110
+              (List._∷_
+              115
+              (List._∷_
+              119
+              (List._∷_
+              101
+              (List._∷_
+              114
+              (List._∷_ 58 (List._∷_ 58 (List._∷_ 87 (List._∷_ 97 (List._∷_ 121 List.[])))))))))))
+              (Syntax.ttcons
+              Syntax.tnil
+              (Syntax.ttcons
+              Syntax.tnil
+              (Syntax.ttcons Syntax.tnil (Syntax.ttcons Syntax.tnil Syntax.ttnil)))))
+              Syntax.tnil)))
+              Syntax.tnil)))
+              (Syntax.tcons
+              (Syntax.tyInt Syntax.w64)
+              (Syntax.tcons
               (Syntax.tyEnum
               (List._∷_
               97
@@ -13125,160 +13403,6 @@ module _ (claims· : Claims) where
               (Syntax.ttcons
               Syntax.tnil
               (Syntax.ttcons Syntax.tnil (Syntax.ttcons Syntax.tnil Syntax.ttnil)))))))))))))))))))
-              (Syntax.tcons
-              (Syntax.tyStruct
-              (List._∷_
-              102
-              (List._∷_
-              105
-              (List._∷_
-              110
-              (List._∷_
-              105
-              (List._∷_
-              115
-              (List._∷_
-              104
-              (List._∷_
-              58
-              (List._∷_
-              58
-              (List._∷_ 83 (List._∷_ 101 (List._∷_ 110 (List._∷_ 116 List.[]))))))))))))
-              (Syntax.tcons
-              (Syntax.tyInt Syntax.w64)
-              (Syntax.tcons
-              (Syntax.tyStruct
-              (List._∷_
-              97
-              (List._∷_
-              110
-              (List._∷_
-              115
-              (List._∷_
-              119
-              (List._∷_
-              101
-              (List._∷_
-              114
-              (List._∷_
-              58
-              (List._∷_
-              58
-              (List._∷_
-              68
-              (List._∷_
-              101
-              (List._∷_
-              115
-              (List._∷_
-              116
-              (List._∷_
-              105
-              (List._∷_
-              110
-              (List._∷_
-              97
-              (List._∷_ 116 (List._∷_ 105 (List._∷_ 111 (List._∷_ 110 List.[])))))))))))))))))))
-              (Syntax.tcons
-              (Syntax.tyEnum
-              (List._∷_
-              97
-              (List._∷_
-              110
-              (List._∷_
-              115
-              (List._∷_
-              119
-              (List._∷_
-              101
-              (List._∷_
-              114
-              (List._∷_ 58 (List._∷_ 58 (List._∷_ 87 (List._∷_ 97 (List._∷_ 121 List.[])))))))))))
-              (Syntax.ttcons
-              Syntax.tnil
-              (Syntax.ttcons
-              Syntax.tnil
-              (Syntax.ttcons Syntax.tnil (Syntax.ttcons Syntax.tnil Syntax.ttnil)))))
-              (Syntax.tcons (Syntax.tyArray (Syntax.tyInt Syntax.w8) 16) Syntax.tnil)))
-              Syntax.tnil)))
-              (Syntax.tcons
-              (Syntax.tyStruct
-              (List._∷_
-              102
-              (List._∷_
-              105
-              (List._∷_
-              110
-              (List._∷_
-              105
-              (List._∷_
-              115
-              (List._∷_
-              104
-              (List._∷_
-              58
-              (List._∷_
-              58
-              (List._∷_ 83 (List._∷_ 101 (List._∷_ 110 (List._∷_ 116 List.[]))))))))))))
-              (Syntax.tcons
-              (Syntax.tyInt Syntax.w64)
-              (Syntax.tcons
-              (Syntax.tyStruct
-              (List._∷_
-              97
-              (List._∷_
-              110
-              (List._∷_
-              115
-              (List._∷_
-              119
-              (List._∷_
-              101
-              (List._∷_
-              114
-              (List._∷_
-              58
-              (List._∷_
-              58
-              (List._∷_
-              68
-              (List._∷_
-              101
-              (List._∷_
-              115
-              (List._∷_
-              116
-              (List._∷_
-              105
-              (List._∷_
-              110
-              (List._∷_
-              97
-              (List._∷_ 116 (List._∷_ 105 (List._∷_ 111 (List._∷_ 110 List.[])))))))))))))))))))
-              (Syntax.tcons
-              (Syntax.tyEnum
-              (List._∷_
-              97
-              (List._∷_
-              110
-              (List._∷_
-              115
-              (List._∷_
-              119
-              (List._∷_
-              101
-              (List._∷_
-              114
-              (List._∷_ 58 (List._∷_ 58 (List._∷_ 87 (List._∷_ 97 (List._∷_ 121 List.[])))))))))))
-              (Syntax.ttcons
-              Syntax.tnil
-              (Syntax.ttcons
-              Syntax.tnil
-              (Syntax.ttcons Syntax.tnil (Syntax.ttcons Syntax.tnil Syntax.ttnil)))))
-              (Syntax.tcons (Syntax.tyArray (Syntax.tyInt Syntax.w8) 16) Syntax.tnil)))
-              Syntax.tnil)))
-              (Syntax.tcons
-              (Syntax.tyInt Syntax.w64)
               (Syntax.tcons (Syntax.tyInt Syntax.w8) Syntax.tnil))))))
               Path'.refl))
               d11
@@ -14686,6 +14810,164 @@ module _ (claims· : Claims) where
               116
               (List._∷_ 99 (List._∷_ 111 (List._∷_ 109 (List._∷_ 101 List.[])))))))))))))))
               (Syntax.tcons
+              (Syntax.tyStruct
+              (List._∷_
+              102
+              (List._∷_
+              105
+              (List._∷_
+              110
+              (List._∷_
+              105
+              (List._∷_
+              115
+              (List._∷_
+              104
+              (List._∷_
+              58
+              (List._∷_
+              58
+              (List._∷_ 83 (List._∷_ 101 (List._∷_ 110 (List._∷_ 116 List.[]))))))))))))
+              (Syntax.tcons
+              (Syntax.tyInt Syntax.w64)
+              (Syntax.tcons
+              (Syntax.tyStruct
+              (List._∷_
+              97
+              (List._∷_
+              110
+              (List._∷_
+              115
+              (List._∷_
+              119
+              (List._∷_
+              101
+              (List._∷_
+              114
+              (List._∷_
+              58
+              (List._∷_
+              58
+              (List._∷_
+              68
+              (List._∷_
+              101
+              (List._∷_
+              115
+              (List._∷_
+              116
+              (List._∷_
+              105
+              (List._∷_
+              110
+              (List._∷_
+              97
+              (List._∷_ 116 (List._∷_ 105 (List._∷_ 111 (List._∷_ 110 List.[])))))))))))))))))))
+              (Syntax.tcons
+              (Syntax.tyArray (Syntax.tyInt Syntax.w8) 16)
+              (Syntax.tcons
+              (Syntax.tyEnum
+              (List._∷_
+              97
+              (List._∷_
+              110
+              (List._∷_
+              115
+              (List._∷_
+              119
+              (List._∷_
+              101
+              (List._∷_
+              114
+              (List._∷_ 58 (List._∷_ 58 (List._∷_ 87 (List._∷_ 97 (List._∷_ 121 List.[])))))))))))
+              (Syntax.ttcons
+              Syntax.tnil
+              (Syntax.ttcons
+              Syntax.tnil
+              (Syntax.ttcons Syntax.tnil (Syntax.ttcons Syntax.tnil Syntax.ttnil)))))
+              Syntax.tnil)))
+              Syntax.tnil)))
+              (Syntax.tcons
+              (Syntax.tyStruct
+              (List._∷_
+              102
+              (List._∷_
+              105
+              (List._∷_
+              110
+              (List._∷_
+              105
+              (List._∷_
+              115
+              (List._∷_
+              104
+              (List._∷_
+              58
+              (List._∷_
+              58
+              (List._∷_ 83 (List._∷_ 101 (List._∷_ 110 (List._∷_ 116 List.[]))))))))))))
+              (Syntax.tcons
+              (Syntax.tyInt Syntax.w64)
+              (Syntax.tcons
+              (Syntax.tyStruct
+              (List._∷_
+              97
+              (List._∷_
+              110
+              (List._∷_
+              115
+              (List._∷_
+              119
+              (List._∷_
+              101
+              (List._∷_
+              114
+              (List._∷_
+              58
+              (List._∷_
+              58
+              (List._∷_
+              68
+              (List._∷_
+              101
+              (List._∷_
+              115
+              (List._∷_
+              116
+              (List._∷_
+              105
+              (List._∷_
+              110
+              (List._∷_
+              97
+              (List._∷_ 116 (List._∷_ 105 (List._∷_ 111 (List._∷_ 110 List.[])))))))))))))))))))
+              (Syntax.tcons
+              (Syntax.tyArray (Syntax.tyInt Syntax.w8) 16)
+              (Syntax.tcons
+              (Syntax.tyEnum
+              (List._∷_
+              97
+              (List._∷_
+              110
+              (List._∷_
+              115
+              (List._∷_
+              119
+              (List._∷_
+              101
+              (List._∷_
+              114
+              (List._∷_ 58 (List._∷_ 58 (List._∷_ 87 (List._∷_ 97 (List._∷_ 121 List.[])))))))))))
+              (Syntax.ttcons
+              Syntax.tnil
+              (Syntax.ttcons
+              Syntax.tnil
+              (Syntax.ttcons Syntax.tnil (Syntax.ttcons Syntax.tnil Syntax.ttnil)))))
+              Syntax.tnil)))
+              Syntax.tnil)))
+              (Syntax.tcons
+              (Syntax.tyInt Syntax.w64)
+              (Syntax.tcons
               (Syntax.tyEnum
               (List._∷_
               97
@@ -14741,160 +15023,6 @@ module _ (claims· : Claims) where
               (Syntax.ttcons
               Syntax.tnil
               (Syntax.ttcons Syntax.tnil (Syntax.ttcons Syntax.tnil Syntax.ttnil)))))))))))))))))))
-              (Syntax.tcons
-              (Syntax.tyStruct
-              (List._∷_
-              102
-              (List._∷_
-              105
-              (List._∷_
-              110
-              (List._∷_
-              105
-              (List._∷_
-              115
-              (List._∷_
-              104
-              (List._∷_
-              58
-              (List._∷_
-              58
-              (List._∷_ 83 (List._∷_ 101 (List._∷_ 110 (List._∷_ 116 List.[]))))))))))))
-              (Syntax.tcons
-              (Syntax.tyInt Syntax.w64)
-              (Syntax.tcons
-              (Syntax.tyStruct
-              (List._∷_
-              97
-              (List._∷_
-              110
-              (List._∷_
-              115
-              (List._∷_
-              119
-              (List._∷_
-              101
-              (List._∷_
-              114
-              (List._∷_
-              58
-              (List._∷_
-              58
-              (List._∷_
-              68
-              (List._∷_
-              101
-              (List._∷_
-              115
-              (List._∷_
-              116
-              (List._∷_
-              105
-              (List._∷_
-              110
-              (List._∷_
-              97
-              (List._∷_ 116 (List._∷_ 105 (List._∷_ 111 (List._∷_ 110 List.[])))))))))))))))))))
-              (Syntax.tcons
-              (Syntax.tyEnum
-              (List._∷_
-              97
-              (List._∷_
-              110
-              (List._∷_
-              115
-              (List._∷_
-              119
-              (List._∷_
-              101
-              (List._∷_
-              114
-              (List._∷_ 58 (List._∷_ 58 (List._∷_ 87 (List._∷_ 97 (List._∷_ 121 List.[])))))))))))
-              (Syntax.ttcons
-              Syntax.tnil
-              (Syntax.ttcons
-              Syntax.tnil
-              (Syntax.ttcons Syntax.tnil (Syntax.ttcons Syntax.tnil Syntax.ttnil)))))
-              (Syntax.tcons (Syntax.tyArray (Syntax.tyInt Syntax.w8) 16) Syntax.tnil)))
-              Syntax.tnil)))
-              (Syntax.tcons
-              (Syntax.tyStruct
-              (List._∷_
-              102
-              (List._∷_
-              105
-              (List._∷_
-              110
-              (List._∷_
-              105
-              (List._∷_
-              115
-              (List._∷_
-              104
-              (List._∷_
-              58
-              (List._∷_
-              58
-              (List._∷_ 83 (List._∷_ 101 (List._∷_ 110 (List._∷_ 116 List.[]))))))))))))
-              (Syntax.tcons
-              (Syntax.tyInt Syntax.w64)
-              (Syntax.tcons
-              (Syntax.tyStruct
-              (List._∷_
-              97
-              (List._∷_
-              110
-              (List._∷_
-              115
-              (List._∷_
-              119
-              (List._∷_
-              101
-              (List._∷_
-              114
-              (List._∷_
-              58
-              (List._∷_
-              58
-              (List._∷_
-              68
-              (List._∷_
-              101
-              (List._∷_
-              115
-              (List._∷_
-              116
-              (List._∷_
-              105
-              (List._∷_
-              110
-              (List._∷_
-              97
-              (List._∷_ 116 (List._∷_ 105 (List._∷_ 111 (List._∷_ 110 List.[])))))))))))))))))))
-              (Syntax.tcons
-              (Syntax.tyEnum
-              (List._∷_
-              97
-              (List._∷_
-              110
-              (List._∷_
-              115
-              (List._∷_
-              119
-              (List._∷_
-              101
-              (List._∷_
-              114
-              (List._∷_ 58 (List._∷_ 58 (List._∷_ 87 (List._∷_ 97 (List._∷_ 121 List.[])))))))))))
-              (Syntax.ttcons
-              Syntax.tnil
-              (Syntax.ttcons
-              Syntax.tnil
-              (Syntax.ttcons Syntax.tnil (Syntax.ttcons Syntax.tnil Syntax.ttnil)))))
-              (Syntax.tcons (Syntax.tyArray (Syntax.tyInt Syntax.w8) 16) Syntax.tnil)))
-              Syntax.tnil)))
-              (Syntax.tcons
-              (Syntax.tyInt Syntax.w64)
               (Syntax.tcons (Syntax.tyInt Syntax.w8) Syntax.tnil)))))))
               (tt, (tt, (tt, (tt, (tt, tt)))))
               Path'.refl)

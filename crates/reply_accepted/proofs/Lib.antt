@@ -1,0 +1,6 @@
+-- deadlines that are kept
+pub mod Kept
+-- what is sent
+pub mod Sends
+-- what is stored
+pub mod Outcome

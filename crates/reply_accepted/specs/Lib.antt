@@ -1,0 +1,2 @@
+-- the route and the message that it makes
+pub mod Made

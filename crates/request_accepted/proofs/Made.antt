@@ -1,0 +1,88 @@
+-- The rows that a request leaves, from their parts.
+use Prim.Native.Nat.{ℕ}
+use mathlib.Core.Path.{_≡_, refl}
+use mathlib.Core.Bool.{Bool, true, false, cond, not}
+use mathlib.Core.List.{[]}
+use mathlib.Core.Option.{some, none}
+use lib.Dec.{eqb}
+use lib.ListN.{take}
+use Rattle.plain.specs.Rank.{minHop, rowDeadline, plusDelta}
+use Rattle.plain.specs.Given.{Settings}
+use Rattle.plain.specs.Request.{isUpdate, keptDeadline, sOut, repliesNow, requestRow, ownReplyRow}
+use Rattle.plain.specs.declared.Standing.{Standing}
+use Rattle.deadline.specs.Deadline.{deadlineOf}
+use Rattle.deadline.specs.declared.Deadline.{Deadline}
+use Rattle.row.specs.Meaning as meaning
+use Rattle.row.specs.Record.{requestRecord, replyRecord}
+use Rattle.message.specs.Message.{configurationIn, messageIn, receivedBy, requestFound}
+use Rattle.message.specs.declared.Parsed.{Parsed}
+use Rattle.message.specs.declared.Link.{Link}
+use Rattle.message.specs.declared.Found.{Found}
+use Rattle.request.specs.Facts.{askedOf}
+use Rattle.request.specs.declared.RequestFacts.{RequestFacts}
+
+-- ---- The deadline of the request row
+
+same-end : (endless deadline : ℕ) → cond (not (eqb endless 0)) none (some deadline) ≡ meaning.deadlineOf endless deadline
+unfolding meaning.deadlineOf
+same-end endless deadline = go (eqb endless 0)
+  where
+    go : (b : Bool) → cond (not b) none (some deadline) ≡ cond b (some deadline) none
+    go true = refl
+    go false = refl
+
+module _ (s : Standing) (f : Found) (t l : ℕ) where
+  -- "the deadline stays"
+  pub end-stays : isUpdate s ≡ true → f .is ≡ true
+      → deadlineOf (record { endless = not (eqb (f .row .endless) 0); at = f .row .deadline }) ≡ keptDeadline s (requestFound f) t l
+  unfolding deadlineOf keptDeadline requestFound meaning.requestOf
+  end-stays u e = rw (e, u) (same-end (f .row .endless) (f .row .deadline))
+
+  pub end-none : f .is ≡ false → rowDeadline t l ≡ keptDeadline s (requestFound f) t l
+  unfolding keptDeadline requestFound
+  end-none e = rw e refl
+
+  pub end-new : isUpdate s ≡ false → rowDeadline t l ≡ keptDeadline s (requestFound f) t l
+  unfolding keptDeadline requestFound
+  end-new u = go (f .is)
+    where
+      go : (b : Bool) → rowDeadline t l ≡ keptDeadline s (cond b (some (record { number = f .at; row = meaning.requestOf (f .row) })) none) t l
+      go true = rw u refl
+      go false = refl
+
+-- ---- Records
+
+pub request-is : (t : ℕ) (k : Link) (p : Parsed) (a : RequestFacts) (s replied : Bool) (end : Deadline)
+    → s ≡ sOut (receivedBy k []) (messageIn p [])
+    → replied ≡ repliesNow (askedOf a)
+    → deadlineOf end ≡ keptDeadline (a .standing) (requestFound (a .row)) t (p .discovery .l)
+    → requestRecord (record {
+      instance = p .base .instance;
+      dodagid = p .base .dodagid;
+      seq = p .discovery .number;
+      s = s;
+      h = p .discovery .h;
+      rank = a .rank;
+      neighbour = k .neighbour;
+      targets = take (a .targets .count) (a .targets .list);
+      replied = replied;
+      deadline = cond (end .endless) none (some (end .at));
+    })
+    ≡ requestRecord (requestRow t (receivedBy k []) (messageIn p []) (askedOf a))
+unfolding deadlineOf requestRow messageIn askedOf
+request-is t k p a s replied end es er ed = rw (es, er, ed)
+
+pub reply-is : (x : Settings) (t own : ℕ) (p : Parsed) (delta instance rank : ℕ) (end : Deadline)
+    → instance ≡ plusDelta (p .base .instance) delta
+    → rank ≡ minHop (configurationIn (p .configured) (p .configuration))
+    → deadlineOf end ≡ rowDeadline t (p .discovery .l)
+    → replyRecord (record {
+      instance = instance;
+      dodagid = x .receiving;
+      seq = own;
+      rank = rank;
+      deadline = cond (end .endless) none (some (end .at));
+    })
+    ≡ replyRecord (ownReplyRow x t own (messageIn p []) delta)
+unfolding deadlineOf ownReplyRow messageIn
+reply-is x t own p delta instance rank end ei er ed = rw (ei, er, ed)

@@ -1,0 +1,2 @@
+-- what is said of our reply
+pub mod Replied

@@ -1,0 +1,47 @@
+-- A message that is sent.
+use Prim.Native.Nat.{_≤_}
+use mathlib.Core.Path.{_≡_, refl, ap}
+use mathlib.Core.Bool.{true, false}
+use mathlib.Core.List.{List}
+use lib.ListN.{length}
+use Rattle.plain.specs.Address.{Address}
+use Rattle.plain.specs.Given.{Settings, Destination}
+use Rattle.plain.specs.Octets.{Message, octetsOf}
+use Rattle.answer.specs.Answer.{destinationOf}
+use Rattle.answer.specs.declared.Destination as code
+use Rattle.writer_option.specs.Sendable.{Sendable, shortPrefixes}
+use Rattle.message.specs.Message.{messageIn}
+use Rattle.message.specs.declared.Parsed.{Parsed}
+use Rattle.decision.specs.Decision.{Posts, postVector, postMessage, octetsAs}
+use Rattle.decision.specs.declared.What.the-variants.{Dio}
+use Rattle.decision.specs.declared.Post.{Post}
+
+-- a message is sent
+pub dio-posts : (x : Settings) (v : List Address) (r : Post) (m : Message) (to : Destination)
+    → r .what ≡ Dio
+    → postMessage x r v ≡ m
+    → destinationOf (r .to) ≡ to
+    → r .message .n ≤ 16
+    → r .message .count ≤ 8
+    → Sendable (m .discovery) (length (m .vector))
+    → shortPrefixes (m .targets) ≡ true
+    → Posts x v (octetsOf m) to r
+unfolding octetsAs postMessage postVector
+dio-posts x v r m to ew em et hn hc hs hp = record {
+  sends = rw ew (ap octetsOf em);
+  goes = et;
+  fits = record {
+    received = hn;
+    sendable = rw (← em) at hs;
+    targets = hc;
+    prefixes = rw (← em) at hp;
+  };
+}
+
+-- a message with its vector as it is
+abbrev pub plainPost : Parsed → code.Destination → Post
+plainPost m to = record { what = Dio; message = m; grown = false; turned = false; to = to }
+
+pub plain-message : (x : Settings) (m : Parsed) (to : code.Destination) (v : List Address) → postMessage x (plainPost m to) v ≡ messageIn m v
+unfolding postMessage postVector messageIn
+plain-message x m to v = refl
