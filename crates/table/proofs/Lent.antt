@@ -2,5 +2,3 @@ pub mod all_good
 pub mod all_good_routes
 pub mod put_route
 pub mod put_row
-pub mod route_at
-pub mod row_at

@@ -1,10 +1,9 @@
-// The two lent tables: whether every row is good, and loads and stores of whole rows.
+// The two lent tables: whether every row is good, and stores of whole rows.
 ghost use mathlib.Core.Path.{_≡_};
 ghost use mathlib.Core.List.{map};
-ghost use Prim.Native.Nat.{_<_};
-ghost use lib.ListN.{length, getD, set};
+ghost use lib.ListN.{set};
 ghost use Rattle.plain.specs.Answers.{goodInstance, goodRoute, allGood};
-ghost use Rattle.row.specs.Meaning.{instanceOf, routeOf, noRow, noRoute};
+ghost use Rattle.row.specs.Meaning.{instanceOf, routeOf};
 use row::InstanceRow;
 use row::RouteRow;
 
@@ -23,13 +22,6 @@ pub fn all_good(rows: &[InstanceRow]) -> bool
         }
     }
     true
-}
-
-pub fn row_at(rows: &[InstanceRow], i: usize) -> InstanceRow
-    requires { ⌜ i < length (now rows) ⌝ }
-    ensures { λ r. ⌜ r ≡ getD (now (rows .entry)) i noRow ⌝ }
-{
-    rows[i]
 }
 
 // Past the end nothing changes.
@@ -57,13 +49,6 @@ pub fn all_good_routes(routes: &[RouteRow]) -> bool
         }
     }
     true
-}
-
-pub fn route_at(routes: &[RouteRow], i: usize) -> RouteRow
-    requires { ⌜ i < length (now routes) ⌝ }
-    ensures { λ r. ⌜ r ≡ getD (now (routes .entry)) i noRoute ⌝ }
-{
-    routes[i]
 }
 
 // Past the end nothing changes.

@@ -2,7 +2,6 @@
 ghost use mathlib.Core.Path.{_≡_};
 ghost use Prim.Native.Nat.{_-_, _/_, _≤_};
 ghost use lib.ListN.{length, take};
-ghost use Rattle.plain.specs.Lists.{any, same};
 ghost use Rattle.plain.specs.Octets.{restored};
 
 // The whole addresses of a vector's octets: as many as they are, from the first on.
@@ -22,20 +21,4 @@ pub fn addresses(part: &[u8], compr: u8, dodagid: [u8; 16]) -> [[u8; 16]; 16]
         i = i + 1;
     }
     vector
-}
-
-// Whether an address is among the first n of a vector.
-pub fn is_in_vector(vector: [[u8; 16]; 16], n: usize, a: [u8; 16]) -> bool
-    requires { ⌜ n ≤ 16 ⌝ }
-    ensures { λ r. ⌜ r ≡ any (same a) (take n vector) ⌝ }
-{
-    let mut i: usize = 0;
-    while i < n {
-        let b = vector[i];
-        if address::is_same(a, b) {
-            return true;
-        }
-        i = i + 1;
-    }
-    false
 }
