@@ -1,6 +1,6 @@
 -- What the facts and the answer of a reply come to.
 use Prim.Native.Nat.{ℕ, zero, suc, _<_, _≤_}
-use mathlib.Core.Path.{_≡_, refl, sym, ap}
+use mathlib.Core.Path.{_≡_, refl, sym, ap, _∙_}
 use mathlib.Core.Bool.{Bool, true, false, cond, not, _&&_, _||_}
 use mathlib.Core.List.{List, [], _∷_}
 use mathlib.Core.Option.{Option, some, none}
@@ -46,7 +46,7 @@ module _ (m : Message) (a : Answered) where
       go false true true e = true-false (sym e)
       go false false true e = true-false (sym e)
 
-  pub full-added : (x : Settings) → grows m a && cannotGrow (m .discovery .compr) (grown x false (m .vector)) ≡ isFull x m a
+  full-added : (x : Settings) → grows m a && cannotGrow (m .discovery .compr) (grown x false (m .vector)) ≡ isFull x m a
   unfolding isFull
   full-added x = go (grows m a) refl
     where
@@ -55,6 +55,10 @@ module _ (m : Message) (a : Answered) where
           ≡ grows m a && cannotGrow (m .discovery .compr) (grown x (m .discovery .h) (m .vector))
       go true e = rw (grows-h e)
       go false e = rw e
+
+  pub full-is : (x : Settings) (adds r : Bool) → adds ≡ grows m a → r ≡ adds && cannotGrow (m .discovery .compr) (grown x false (m .vector))
+      → isFull x m a ≡ r
+  full-is x adds r ea er = sym (er ∙ rw ea (full-added x))
 
 -- ---- Answer 11
 

@@ -23,7 +23,7 @@ ghost use Rattle.row.specs.Meaning.{requestOf};
 ghost use Rattle.message.specs.Message.{messageIn, receivedBy, replyFound, routeFound};
 ghost use Rattle.own.specs.Settings.{settingsOf};
 ghost use Rattle.rule.specs.Heard.{Array};
-ghost use Rattle.reply.specs.Facts.{answeredOf, Gathered, isFull};
+ghost use Rattle.reply.specs.Facts.{answeredOf, Gathered};
 
 // What the answer and the outcome of a reply rest on: the rows that the tables hold for it, whether it is symmetric, whether we are
 // OrigNode, our own rank, and how it stands to the live row. The rank is a sum that may not fit 16 bits.
@@ -198,7 +198,7 @@ fn is_stale(p: Parsed, w: ReplyFacts) -> bool
     rule::is_route_stale(p.discovery.h, g, seq)
 }
 
-// Whether our addresses are added to the vector.
+// Whether our addresses are added to the vector. Answer 16 is asked only there.
 pub fn does_grow(p: Parsed, w: ReplyFacts) -> bool
     ensures { λ r. ⌜ ((v : List Address) → r ≡ grows (messageIn p v) (answeredOf w)) ⌝ }
 {
@@ -209,14 +209,6 @@ pub fn does_grow(p: Parsed, w: ReplyFacts) -> bool
         return false;
     }
     !p.discovery.h
-}
-
-// Answer 16. What stands in the vector plays no part.
-fn is_full(o: Own, p: Parsed, w: ReplyFacts) -> bool
-    requires { ⌜ (p .n ≤ 16) × (p .discovery .compr ≤ 16) ⌝ }
-    ensures { λ r. ⌜ ((v : List Address) → Array v → r ≡ isFull (settingsOf o) (messageIn p v) (answeredOf w)) ⌝ }
-{
-    rule::cannot_add(o, does_grow(p, w), p.discovery.compr, p.n)
 }
 
 // The first line that holds.
@@ -245,7 +237,7 @@ pub fn judge(o: Own, k: Link, p: Parsed, vector: &[[u8; 16]; 16], w: ReplyFacts)
     if rule::is_nothing_new(standing) {
         return Answer::NothingNew;
     }
-    if is_full(o, p, w) {
+    if rule::cannot_add(o, does_grow(p, w), p.discovery.compr, p.n) {
         return Answer::VectorFull;
     }
     Answer::Done

@@ -52,12 +52,19 @@ unfolding requestLines answerOf askedOf messageIn forwards
 lines-of x k p v a = refl
 
 -- 16: ours are added where the request goes on and H is 0
-pub full-added : (x : Settings) (goes h : Bool) (compr : ℕ) (v : List Address)
+full-added : (x : Settings) (goes h : Bool) (compr : ℕ) (v : List Address)
     → (goes && not h) && cannotGrow compr (grown x false v) ≡ goes && not h && cannotGrow compr (grown x h v)
 full-added x true true compr v = refl
 full-added x true false compr v = refl
 full-added x false true compr v = refl
 full-added x false false compr v = refl
+
+pub full-is : (x : Settings) (p : Parsed) (a : RequestFacts) (v : List Address) (adds r : Bool)
+    → adds ≡ forwards (messageIn p []) (askedOf a) && not (p .discovery .h)
+    → r ≡ adds && cannotGrow (p .discovery .compr) (grown x false v)
+    → forwards (messageIn p []) (askedOf a) && not (p .discovery .h) && cannotGrow (p .discovery .compr) (grown x (p .discovery .h) v) ≡ r
+full-is x p a v adds r ea er =
+    sym (er ∙ rw ea (full-added x (forwards (messageIn p []) (askedOf a)) (p .discovery .h) (p .discovery .compr) v))
 
 -- ---- What is known where no line holds
 

@@ -208,7 +208,7 @@ fn lacks_delta(a: RequestFacts) -> bool
     false
 }
 
-// Whether ours are added to the vector: the request goes on, and H is 0.
+// Whether ours are added to the vector: the request goes on, and H is 0. Answer 16 is asked only there.
 fn adds_ours(p: Parsed, a: RequestFacts) -> bool
     ensures { λ r. ⌜ r ≡ forwards (messageIn p []) (askedOf a) && not (p .discovery .h) ⌝ }
 {
@@ -217,14 +217,6 @@ fn adds_ours(p: Parsed, a: RequestFacts) -> bool
         return !p.discovery.h;
     }
     false
-}
-
-// Answer 16. It is asked only when forwarding.
-fn is_full(o: Own, p: Parsed, a: RequestFacts) -> bool
-    requires { ⌜ Heard p ⌝ }
-    ensures { λ r. ⌜ ((v : List Address) → length v ≡ p .n → Whole v → r ≡ forwards (messageIn p []) (askedOf a) && not (p .discovery .h) && cannotGrow (p .discovery .compr) (grown (settingsOf o) (p .discovery .h) v)) ⌝ }
-{
-    rule::cannot_add(o, adds_ours(p, a), p.discovery.compr, p.n)
 }
 
 // The answer of a request.
@@ -256,7 +248,7 @@ pub fn judge(o: Own, k: Link, p: Parsed, vector: &[[u8; 16]; 16], a: RequestFact
     if lacks_delta(a) {
         return Answer::NoDelta;
     }
-    if is_full(o, p, a) {
+    if rule::cannot_add(o, adds_ours(p, a), p.discovery.compr, p.n) {
         return Answer::VectorFull;
     }
     Answer::Done

@@ -4,7 +4,7 @@ use lib.ListN.{length, take}
 use lib.Seq.{length-take-le}
 use Rattle.own.specs.Settings.{settingsOf}
 use Rattle.own.proofs.Growth.{whole-take}
-use Rattle.request.proofs.Lines.{lines-of}
+use Rattle.request.proofs.Lines.{lines-of, full-is}
 use denote.Ref.{now}
 use borrow.Author.Needs.{needs}
 use Rattle.request.proofs.judge.Statement.{statement}
@@ -112,45 +112,52 @@ returns-7 c =
       sym (c .before .lacks-delta .ensures) ∙ c .if7 .taken,
     )
 
-is-full-requires : tie.Need-is-full-requires
-is-full-requires c κs = search needs
+adds-ours-requires : tie.Need-adds-ours-requires
+adds-ours-requires c κs = search needs
+
+cannot-add-requires : tie.Need-cannot-add-requires
+cannot-add-requires c κs = search needs
 
 returns-8 : tie.Need-returns-8
 returns-8 c =
-    let s = c .before .before .before .before .before .before .before .before .before .before .before .before .before .before .before .before .before in
+    let s = c .before .before .before .before .before .before .before .before .before .before .before .before .before .before .before .before .before .before in
     let a = s .args in
     let len : length (take (a .p .n) (now (a .vector))) ≡ a .p .n =
     length-take-le (a .p .n) (now (a .vector)) (omega (arith, s .pre .0 .addresses, s .pre .1 .places)) in
     let whole = whole-take (a .p .n) (now (a .vector)) (s .pre .1 .whole) in
     rw (
       lines-of (settingsOf (a .o)) (a .k) (a .p) (now (a .vector)) (a .a),
-      sym (c .before .before .before .before .before .before .before .before .before .before .before .before .before .before .before .has-ours .ensures) ∙ c .before .before .before .before .before .before .before .before .before .before .before .before .before .before .if1 .left,
-      sym (c .before .before .before .before .before .before .before .before .before .before .before .before .before .cannot-elide .ensures) ∙ c .before .before .before .before .before .before .before .before .before .before .before .before .if2 .left,
-      c .before .before .before .before .before .before .before .before .before .before .if3 .left,
-      sym (c .before .before .before .before .before .before .before .before .before .is-rank-refused .ensures) ∙ c .before .before .before .before .before .before .before .before .if4 .left,
-      sym (c .before .before .before .before .before .before .before .is-outdated .ensures) ∙ c .before .before .before .before .before .before .if5 .left,
-      sym (c .before .before .before .before .before .is-nothing-new .ensures) ∙ c .before .before .before .before .if6 .left,
-      sym (c .before .before .before .lacks-delta .ensures) ∙ c .before .before .if7 .left,
-      sym (c .before .is-full .ensures _ len whole) ∙ c .if8 .taken,
+      sym (c .before .before .before .before .before .before .before .before .before .before .before .before .before .before .before .before .has-ours .ensures) ∙ c .before .before .before .before .before .before .before .before .before .before .before .before .before .before .before .if1 .left,
+      sym (c .before .before .before .before .before .before .before .before .before .before .before .before .before .before .cannot-elide .ensures) ∙ c .before .before .before .before .before .before .before .before .before .before .before .before .before .if2 .left,
+      c .before .before .before .before .before .before .before .before .before .before .before .if3 .left,
+      sym (c .before .before .before .before .before .before .before .before .before .before .is-rank-refused .ensures) ∙ c .before .before .before .before .before .before .before .before .before .if4 .left,
+      sym (c .before .before .before .before .before .before .before .before .is-outdated .ensures) ∙ c .before .before .before .before .before .before .before .if5 .left,
+      sym (c .before .before .before .before .before .before .is-nothing-new .ensures) ∙ c .before .before .before .before .before .if6 .left,
+      sym (c .before .before .before .before .lacks-delta .ensures) ∙ c .before .before .before .if7 .left,
+      full-is (settingsOf (a .o)) (a .p) (a .a) (take (a .p .n) (now (a .vector))) _ _ (c .before .before .adds-ours .ensures)
+          (c .before .cannot-add .ensures (take (a .p .n) (now (a .vector))) len whole)
+          ∙ c .if8 .taken,
     )
 
 returns-9 : tie.Need-returns-9
 returns-9 c =
-    let s = c .before .before .before .before .before .before .before .before .before .before .before .before .before .before .before .before .before in
+    let s = c .before .before .before .before .before .before .before .before .before .before .before .before .before .before .before .before .before .before in
     let a = s .args in
     let len : length (take (a .p .n) (now (a .vector))) ≡ a .p .n =
     length-take-le (a .p .n) (now (a .vector)) (omega (arith, s .pre .0 .addresses, s .pre .1 .places)) in
     let whole = whole-take (a .p .n) (now (a .vector)) (s .pre .1 .whole) in
     rw (
       lines-of (settingsOf (a .o)) (a .k) (a .p) (now (a .vector)) (a .a),
-      sym (c .before .before .before .before .before .before .before .before .before .before .before .before .before .before .before .has-ours .ensures) ∙ c .before .before .before .before .before .before .before .before .before .before .before .before .before .before .if1 .left,
-      sym (c .before .before .before .before .before .before .before .before .before .before .before .before .before .cannot-elide .ensures) ∙ c .before .before .before .before .before .before .before .before .before .before .before .before .if2 .left,
-      c .before .before .before .before .before .before .before .before .before .before .if3 .left,
-      sym (c .before .before .before .before .before .before .before .before .before .is-rank-refused .ensures) ∙ c .before .before .before .before .before .before .before .before .if4 .left,
-      sym (c .before .before .before .before .before .before .before .is-outdated .ensures) ∙ c .before .before .before .before .before .before .if5 .left,
-      sym (c .before .before .before .before .before .is-nothing-new .ensures) ∙ c .before .before .before .before .if6 .left,
-      sym (c .before .before .before .lacks-delta .ensures) ∙ c .before .before .if7 .left,
-      sym (c .before .is-full .ensures _ len whole) ∙ c .if8 .left,
+      sym (c .before .before .before .before .before .before .before .before .before .before .before .before .before .before .before .before .has-ours .ensures) ∙ c .before .before .before .before .before .before .before .before .before .before .before .before .before .before .before .if1 .left,
+      sym (c .before .before .before .before .before .before .before .before .before .before .before .before .before .before .cannot-elide .ensures) ∙ c .before .before .before .before .before .before .before .before .before .before .before .before .before .if2 .left,
+      c .before .before .before .before .before .before .before .before .before .before .before .if3 .left,
+      sym (c .before .before .before .before .before .before .before .before .before .before .is-rank-refused .ensures) ∙ c .before .before .before .before .before .before .before .before .before .if4 .left,
+      sym (c .before .before .before .before .before .before .before .before .is-outdated .ensures) ∙ c .before .before .before .before .before .before .before .if5 .left,
+      sym (c .before .before .before .before .before .before .is-nothing-new .ensures) ∙ c .before .before .before .before .before .if6 .left,
+      sym (c .before .before .before .before .lacks-delta .ensures) ∙ c .before .before .before .if7 .left,
+      full-is (settingsOf (a .o)) (a .p) (a .a) (take (a .p .n) (now (a .vector))) _ _ (c .before .before .adds-ours .ensures)
+          (c .before .cannot-add .ensures (take (a .p .n) (now (a .vector))) len whole)
+          ∙ c .if8 .left,
     )
 
 pub judge-spec : {M : Type 1} → statement M
@@ -170,6 +177,7 @@ judge-spec =
     returns-6
     lacks-delta-requires
     returns-7
-    is-full-requires
+    adds-ours-requires
+    cannot-add-requires
     returns-8
     returns-9)
