@@ -34,7 +34,8 @@ use Rattle.heard.proofs.Laws.{message-is, reply-is, base-is, heard-sound, lines
 use Rattle.finish.specs.Gives.{nothingSent, stateOf, decisionOf, Gives}
 use Rattle.finish.specs.declared.Outcome.{Outcome}
 use Rattle.finish.proofs.Laws.{refused-gives}
-use Rattle.node.specs.Taken.{lentBy, Taken, TakenStart, requestDecision, replyDecision, startDecision}
+use Rattle.bad_call.specs.Lent.{lentBy}
+use Rattle.node.specs.Taken.{Taken, TakenStart, requestDecision, replyDecision, startDecision}
 use Rattle.plain.specs.declared.Target.{Target}
 use Rattle.art.specs.declared.Targets.{Targets}
 use Rattle.matching.specs.Kept.{listOf}

@@ -13,7 +13,7 @@ use Rattle.message.specs.Message.{receivedBy}
 use Rattle.message.specs.declared.Link.{Link}
 use Rattle.start.specs.Start.{startOf}
 use Rattle.start.specs.declared.Asking.{Asking}
-use Rattle.node.specs.Taken.{lentBy}
+use Rattle.bad_call.specs.Lent.{lentBy}
 use Rattle.finish.specs.Gives.{stateOf, Gives}
 use Rattle.finish.specs.declared.Outcome.{Outcome}
 

@@ -94,7 +94,7 @@ pub fn message(
       outcome = r;
     }) ⌝ }
 {
-    if node::is_bad(o, clock, t, forward.len(), reply.len()) {
+    if bad_call::is_bad(o, clock, t, forward.len(), reply.len()) {
         return finish::refused(bad_call(), clock, seq);
     }
     if 1236 < octets.len() {
@@ -169,7 +169,7 @@ pub fn start(
       outcome = r;
     }) ⌝ }
 {
-    if node::is_bad(o, clock, t, forward.len(), reply.len()) {
+    if bad_call::is_bad(o, clock, t, forward.len(), reply.len()) {
         return finish::refused(bad_call(), clock, seq);
     }
     let g = gather::gather(targets);

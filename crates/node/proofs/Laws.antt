@@ -11,11 +11,11 @@ use lib.Seq.{length-take-le}
 use borrow.Author.Tests.{leb-true, le-ltb, eq-eqb, ne-eqb}
 use Rattle.lemmas.proofs.Choice.{true-false, and-left, and-right}
 use Rattle.plain.specs.Lists.{all, anyTwo, given}
-use Rattle.plain.specs.Address.{Address, unusable}
-use Rattle.plain.specs.Given.{Settings, Lent, Received, RequestRow, ReplyRow, Instance, Route, State}
+use Rattle.plain.specs.Address.{Address}
+use Rattle.plain.specs.Given.{Settings, Received, RequestRow, ReplyRow, Instance, Route, State}
 use Rattle.plain.specs.Table.{Numbered, Change, put, noChange}
 use Rattle.plain.specs.Octets.{Message, mostTargets}
-use Rattle.plain.specs.Answers.{View, viewOf, badLent, goodInstance, allGood, goodDeadline, goodState, wrongState, requests, replies, requestTwins, replyTwins, routeTwins, answerOf, liveRequest}
+use Rattle.plain.specs.Answers.{View, viewOf, goodInstance, allGood, goodDeadline, goodState, wrongState, requests, replies, requestTwins, replyTwins, routeTwins, answerOf, liveRequest}
 use Rattle.plain.specs.Request.{Accepted, Asked, askedWith, asked, requestLines, acceptRequest, freeDelta, deltaTaken, routeChange, withReplyRow, startLines, acceptStart}
 use Rattle.plain.specs.Reply.{Answered, partnerOf, answeredWith, answered, replyLines, acceptReply, origNode, partnerNumber}
 use Rattle.plain.specs.Plain.{Decision, enact, linesWith, acceptWith, idle}
@@ -202,18 +202,6 @@ module _ (clock seq t : ℕ) (rows : List InstanceRow) (routes : List RouteRow) 
 -- two answers are the two halves of a good state
 pub and-are : {a b c d : Bool} → a ≡ c → b ≡ d → a && b ≡ c && d
 and-are e f = rw (e, f)
-
--- ---- 1: only our own addresses are left to ask
-module _ (x : Settings) (clock : ℕ) (c : Lent) (e1 : clock ≤ c .time) (e2 : c .time ≤ 2 ^ 40) (e3 : 1236 ≤ c .forwardRoom) (e4 : 1236 ≤ c .replyRoom) where
-  pub bad-receiving : (b : Bool) → b ≡ unusable (x .receiving) → b ≡ true → badLent x clock c ≡ true
-  unfolding badLent
-  bad-receiving b e f =
-      rw (le-ltb (c .time) clock e1, le-ltb (2 ^ 40) (c .time) e2, le-ltb (c .forwardRoom) 1236 e3, le-ltb (c .replyRoom) 1236 e4, sym e ∙ f)
-
-  pub bad-sending : (b : Bool) → b ≡ unusable (x .receiving) → b ≡ false → badLent x clock c ≡ unusable (x .sending)
-  unfolding badLent
-  bad-sending b e f =
-      rw (le-ltb (c .time) clock e1, le-ltb (2 ^ 40) (c .time) e2, le-ltb (c .forwardRoom) 1236 e3, le-ltb (c .replyRoom) 1236 e4, sym e ∙ f)
 
 -- ---- the facts of a reply, from what was found
 

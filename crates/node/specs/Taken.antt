@@ -4,7 +4,7 @@ use mathlib.Core.Path.{_≡_}
 use mathlib.Core.Bool.{true}
 use mathlib.Core.List.{List, map}
 use lib.ListN.{length}
-use Rattle.plain.specs.Given.{Settings, Lent, Received, Start, State}
+use Rattle.plain.specs.Given.{Settings, Received, Start, State}
 use Rattle.plain.specs.Answers.{answerOf, viewOf, goodInstance, allGood}
 use Rattle.plain.specs.Octets.{Message}
 use Rattle.plain.specs.Request.{asked, requestLines, acceptRequest, startLines, acceptStart}
@@ -19,10 +19,6 @@ use Rattle.art.specs.declared.Targets.{Targets}
 use Rattle.start.specs.Start.{Sendable}
 use Rattle.start.specs.declared.Asking.{Asking}
 use Rattle.finish.specs.Gives.{decisionOf}
-
--- the time, and of the two lent buffers their lengths
-abbrev pub lentBy : ℕ → ℕ → ℕ → Lent
-lentBy t forward reply = record { time = t; forwardRoom = forward; replyRoom = reply }
 
 -- What holds where neither 1 nor 2 to 6 is answered.
 pub record Taken (clock t : ℕ) (rows : List InstanceRow) (forward reply : List ℕ) (p : Parsed) : Type 0 where

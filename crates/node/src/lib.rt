@@ -5,7 +5,7 @@ ghost use mathlib.Core.List.{List, []};
 ghost use lib.ListN.{replicate};
 ghost use Rattle.plain.specs.Address.{zeroAddress};
 ghost use Rattle.plain.specs.Given.{State};
-ghost use Rattle.plain.specs.Answers.{badLent, wrongState, goodState, viewOf};
+ghost use Rattle.plain.specs.Answers.{wrongState, goodState, viewOf};
 ghost use Rattle.plain.specs.Plain.{enact};
 ghost use Rattle.answer.specs.declared.Answer.the-variants.{NoPartner};
 ghost use Rattle.plain.specs.declared.Target as plain;
@@ -13,7 +13,7 @@ ghost use Rattle.own.specs.Settings.{settingsOf};
 ghost use Rattle.matching.specs.Kept.{listOf};
 ghost use Rattle.start.specs.Start.{startOf};
 ghost use Rattle.finish.specs.Gives.{stateOf, Gives};
-ghost use Rattle.node.specs.Taken.{lentBy, Taken, TakenStart, requestDecision, replyDecision, startDecision};
+ghost use Rattle.node.specs.Taken.{Taken, TakenStart, requestDecision, replyDecision, startDecision};
 ghost use Rattle.message.specs.Message.{messageIn, receivedBy};
 use answer::Answer;
 use art::Targets;
@@ -29,30 +29,6 @@ use row::RouteRow;
 use start::Asking;
 
 // ---- by value
-
-// 1, asked of every call: the time, both buffers, both own addresses.
-pub fn is_bad(o: Own, clock: u64, t: u64, forward: usize, reply: usize) -> bool
-    ensures { λ r. ⌜ r ≡ badLent (settingsOf o) clock (lentBy t forward reply) ⌝ }
-{
-    let receiving = o.receiving;
-    let sending = o.sending;
-    if t < clock {
-        return true;
-    }
-    if 1099511627776 < t {
-        return true;
-    }
-    if forward < 1236 {
-        return true;
-    }
-    if reply < 1236 {
-        return true;
-    }
-    if address::is_unusable(receiving) {
-        return true;
-    }
-    address::is_unusable(sending)
-}
 
 fn receiving_of(o: Own) -> [u8; 16]
     ensures { λ r. ⌜ r ≡ o .receiving ⌝ }
