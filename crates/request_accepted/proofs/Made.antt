@@ -18,25 +18,18 @@ use Rattle.message.specs.Message.{configurationIn, messageIn, receivedBy, reque
 use Rattle.message.specs.declared.Parsed.{Parsed}
 use Rattle.message.specs.declared.Link.{Link}
 use Rattle.message.specs.declared.Found.{Found}
+use Rattle.rule.proofs.Laws.{deadline-kept}
 use Rattle.request.specs.Facts.{askedOf}
 use Rattle.request.specs.declared.RequestFacts.{RequestFacts}
 
 -- ---- The deadline of the request row
-
-same-end : (endless deadline : ℕ) → cond (not (eqb endless 0)) none (some deadline) ≡ meaning.deadlineOf endless deadline
-unfolding meaning.deadlineOf
-same-end endless deadline = go (eqb endless 0)
-  where
-    go : (b : Bool) → cond (not b) none (some deadline) ≡ cond b (some deadline) none
-    go true = refl
-    go false = refl
 
 module _ (s : Standing) (f : Found) (t l : ℕ) where
   -- "the deadline stays"
   pub end-stays : isUpdate s ≡ true → f .is ≡ true
       → deadlineOf (record { endless = not (eqb (f .row .endless) 0); at = f .row .deadline }) ≡ keptDeadline s (requestFound f) t l
   unfolding deadlineOf keptDeadline requestFound meaning.requestOf
-  end-stays u e = rw (e, u) (same-end (f .row .endless) (f .row .deadline))
+  end-stays u e = rw (e, u) (deadline-kept (f .row .endless) (f .row .deadline))
 
   pub end-none : f .is ≡ false → rowDeadline t l ≡ keptDeadline s (requestFound f) t l
   unfolding keptDeadline requestFound

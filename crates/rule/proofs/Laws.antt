@@ -1,14 +1,18 @@
 -- What the parts of a decision come to.
+use Prim.Native.Nat.{ℕ}
 use mathlib.Core.Path.{_≡_, refl, ap}
+use mathlib.Core.Bool.{Bool, true, false, cond, not}
 use mathlib.Core.List.{List, []}
 use mathlib.Core.Option.{Option, some, none}
 use native.Mathlib.Omega.{arith}
+use lib.Dec.{eqb}
 use lib.ListN.{length, take}
 use lib.Seq.{length-take-le}
 use Rattle.plain.specs.Address.{Address}
 use Rattle.plain.specs.Lists.{all}
 use Rattle.plain.specs.Given.{Settings, RequestRow, ReplyRow, Instance, Route, Destination}
-use Rattle.row.specs.Meaning.{instanceOf, routeOf, routeIn}
+use Rattle.deadline.specs.Deadline as lasting
+use Rattle.row.specs.Meaning.{deadlineOf, instanceOf, routeOf, routeIn}
 use Rattle.row.specs.Record.{requestRecord, replyRecord, routeRecord}
 use Rattle.row.proofs.Laws.{request-back, reply-back, route-back}
 use Rattle.message.specs.declared.Parsed.{Parsed}
@@ -63,3 +67,14 @@ posts-nothing x vector = record {
     prefixes = refl;
   };
 }
+
+-- ---- Deadlines
+
+-- a row's deadline by value means the row's
+pub deadline-kept : (endless at : ℕ) → lasting.deadlineOf (record { endless = not (eqb endless 0); at = at }) ≡ deadlineOf endless at
+unfolding lasting.deadlineOf deadlineOf
+deadline-kept endless at = go (eqb endless 0)
+  where
+    go : (b : Bool) → cond (not b) none (some at) ≡ cond b (some at) none
+    go true = refl
+    go false = refl

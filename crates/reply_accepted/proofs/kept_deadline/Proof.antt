@@ -1,4 +1,5 @@
-use Rattle.reply_accepted.proofs.Kept.{deadline-kept, kept-update, kept-not, kept-none}
+use Rattle.rule.proofs.Laws.{deadline-kept}
+use Rattle.reply_accepted.proofs.Kept.{kept-update, kept-not, kept-none}
 use mathlib.Core.Path.{sym, _∙_}
 use borrow.Author.Needs.{needs}
 use Rattle.reply_accepted.proofs.kept_deadline.Statement.{statement}
