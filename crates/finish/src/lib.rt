@@ -29,15 +29,16 @@ pub struct Live {
 
 // What was written into a buffer, and where it is to go.
 pub struct Sent {
-    pub size: usize,
     pub to: Destination,
+    pub size: usize,
 }
 
-// What a call comes to, beside the rows and octets that it writes.
+// What a call comes to, beside the rows and octets that it writes. In this order no two zeros of a refusal stand side by side: LLVM would write
+// them as one, and the processor wait where they are read apart.
 pub struct Outcome {
     pub forward: Sent,
-    pub reply: Sent,
     pub clock: u64,
+    pub reply: Sent,
     pub answer: Answer,
     pub seq: u8,
 }

@@ -1267,8 +1267,6 @@ t0 = List._∷_ (
       58
       (List._∷_ 58 (List._∷_ 83 (List._∷_ 101 (List._∷_ 110 (List._∷_ 116 List.[]))))))))))))
       (Syntax.tcons
-      (Syntax.tyInt Syntax.w64)
-      (Syntax.tcons
       (Syntax.tyStruct
       (List._∷_
       97
@@ -1324,7 +1322,9 @@ t0 = List._∷_ (
       Syntax.tnil
       (Syntax.ttcons Syntax.tnil (Syntax.ttcons Syntax.tnil Syntax.ttnil)))))
       Syntax.tnil)))
-      Syntax.tnil)))
+      (Syntax.tcons (Syntax.tyInt Syntax.w64) Syntax.tnil)))
+      (Syntax.tcons
+      (Syntax.tyInt Syntax.w64)
       (Syntax.tcons
       (Syntax.tyStruct
       (List._∷_
@@ -1343,8 +1343,6 @@ t0 = List._∷_ (
       58
       (List._∷_ 58 (List._∷_ 83 (List._∷_ 101 (List._∷_ 110 (List._∷_ 116 List.[]))))))))))))
       (Syntax.tcons
-      (Syntax.tyInt Syntax.w64)
-      (Syntax.tcons
       (Syntax.tyStruct
       (List._∷_
       97
@@ -1400,9 +1398,7 @@ t0 = List._∷_ (
       Syntax.tnil
       (Syntax.ttcons Syntax.tnil (Syntax.ttcons Syntax.tnil Syntax.ttnil)))))
       Syntax.tnil)))
-      Syntax.tnil)))
-      (Syntax.tcons
-      (Syntax.tyInt Syntax.w64)
+      (Syntax.tcons (Syntax.tyInt Syntax.w64) Syntax.tnil)))
       (Syntax.tcons
       (Syntax.tyEnum
       (List._∷_
@@ -2136,8 +2132,6 @@ t4 = List._∷_ (
       58
       (List._∷_ 58 (List._∷_ 83 (List._∷_ 101 (List._∷_ 110 (List._∷_ 116 List.[]))))))))))))
       (Syntax.tcons
-      (Syntax.tyInt Syntax.w64)
-      (Syntax.tcons
       (Syntax.tyStruct
       (List._∷_
       97
@@ -2193,7 +2187,9 @@ t4 = List._∷_ (
       Syntax.tnil
       (Syntax.ttcons Syntax.tnil (Syntax.ttcons Syntax.tnil Syntax.ttnil)))))
       Syntax.tnil)))
-      Syntax.tnil)))
+      (Syntax.tcons (Syntax.tyInt Syntax.w64) Syntax.tnil)))
+      (Syntax.tcons
+      (Syntax.tyInt Syntax.w64)
       (Syntax.tcons
       (Syntax.tyStruct
       (List._∷_
@@ -2212,8 +2208,6 @@ t4 = List._∷_ (
       58
       (List._∷_ 58 (List._∷_ 83 (List._∷_ 101 (List._∷_ 110 (List._∷_ 116 List.[]))))))))))))
       (Syntax.tcons
-      (Syntax.tyInt Syntax.w64)
-      (Syntax.tcons
       (Syntax.tyStruct
       (List._∷_
       97
@@ -2269,9 +2263,7 @@ t4 = List._∷_ (
       Syntax.tnil
       (Syntax.ttcons Syntax.tnil (Syntax.ttcons Syntax.tnil Syntax.ttnil)))))
       Syntax.tnil)))
-      Syntax.tnil)))
-      (Syntax.tcons
-      (Syntax.tyInt Syntax.w64)
+      (Syntax.tcons (Syntax.tyInt Syntax.w64) Syntax.tnil)))
       (Syntax.tcons
       (Syntax.tyEnum
       (List._∷_
@@ -2551,8 +2543,6 @@ t5 = List._∷_ (
       58
       (List._∷_ 58 (List._∷_ 83 (List._∷_ 101 (List._∷_ 110 (List._∷_ 116 List.[]))))))))))))
       (Syntax.tcons
-      (Syntax.tyInt Syntax.w64)
-      (Syntax.tcons
       (Syntax.tyStruct
       (List._∷_
       97
@@ -2608,7 +2598,9 @@ t5 = List._∷_ (
       Syntax.tnil
       (Syntax.ttcons Syntax.tnil (Syntax.ttcons Syntax.tnil Syntax.ttnil)))))
       Syntax.tnil)))
-      Syntax.tnil)))
+      (Syntax.tcons (Syntax.tyInt Syntax.w64) Syntax.tnil)))
+      (Syntax.tcons
+      (Syntax.tyInt Syntax.w64)
       (Syntax.tcons
       (Syntax.tyStruct
       (List._∷_
@@ -2627,8 +2619,6 @@ t5 = List._∷_ (
       58
       (List._∷_ 58 (List._∷_ 83 (List._∷_ 101 (List._∷_ 110 (List._∷_ 116 List.[]))))))))))))
       (Syntax.tcons
-      (Syntax.tyInt Syntax.w64)
-      (Syntax.tcons
       (Syntax.tyStruct
       (List._∷_
       97
@@ -2684,9 +2674,7 @@ t5 = List._∷_ (
       Syntax.tnil
       (Syntax.ttcons Syntax.tnil (Syntax.ttcons Syntax.tnil Syntax.ttnil)))))
       Syntax.tnil)))
-      Syntax.tnil)))
-      (Syntax.tcons
-      (Syntax.tyInt Syntax.w64)
+      (Syntax.tcons (Syntax.tyInt Syntax.w64) Syntax.tnil)))
       (Syntax.tcons
       (Syntax.tyEnum
       (List._∷_
@@ -2966,8 +2954,6 @@ t6 = List._∷_ (
       58
       (List._∷_ 58 (List._∷_ 83 (List._∷_ 101 (List._∷_ 110 (List._∷_ 116 List.[]))))))))))))
       (Syntax.tcons
-      (Syntax.tyInt Syntax.w64)
-      (Syntax.tcons
       (Syntax.tyStruct
       (List._∷_
       97
@@ -3023,7 +3009,9 @@ t6 = List._∷_ (
       Syntax.tnil
       (Syntax.ttcons Syntax.tnil (Syntax.ttcons Syntax.tnil Syntax.ttnil)))))
       Syntax.tnil)))
-      Syntax.tnil)))
+      (Syntax.tcons (Syntax.tyInt Syntax.w64) Syntax.tnil)))
+      (Syntax.tcons
+      (Syntax.tyInt Syntax.w64)
       (Syntax.tcons
       (Syntax.tyStruct
       (List._∷_
@@ -3042,8 +3030,6 @@ t6 = List._∷_ (
       58
       (List._∷_ 58 (List._∷_ 83 (List._∷_ 101 (List._∷_ 110 (List._∷_ 116 List.[]))))))))))))
       (Syntax.tcons
-      (Syntax.tyInt Syntax.w64)
-      (Syntax.tcons
       (Syntax.tyStruct
       (List._∷_
       97
@@ -3099,9 +3085,7 @@ t6 = List._∷_ (
       Syntax.tnil
       (Syntax.ttcons Syntax.tnil (Syntax.ttcons Syntax.tnil Syntax.ttnil)))))
       Syntax.tnil)))
-      Syntax.tnil)))
-      (Syntax.tcons
-      (Syntax.tyInt Syntax.w64)
+      (Syntax.tcons (Syntax.tyInt Syntax.w64) Syntax.tnil)))
       (Syntax.tcons
       (Syntax.tyEnum
       (List._∷_
@@ -3383,8 +3367,6 @@ t7 = List._∷_ (
       58
       (List._∷_ 58 (List._∷_ 83 (List._∷_ 101 (List._∷_ 110 (List._∷_ 116 List.[]))))))))))))
       (Syntax.tcons
-      (Syntax.tyInt Syntax.w64)
-      (Syntax.tcons
       (Syntax.tyStruct
       (List._∷_
       97
@@ -3440,7 +3422,9 @@ t7 = List._∷_ (
       Syntax.tnil
       (Syntax.ttcons Syntax.tnil (Syntax.ttcons Syntax.tnil Syntax.ttnil)))))
       Syntax.tnil)))
-      Syntax.tnil)))
+      (Syntax.tcons (Syntax.tyInt Syntax.w64) Syntax.tnil)))
+      (Syntax.tcons
+      (Syntax.tyInt Syntax.w64)
       (Syntax.tcons
       (Syntax.tyStruct
       (List._∷_
@@ -3459,8 +3443,6 @@ t7 = List._∷_ (
       58
       (List._∷_ 58 (List._∷_ 83 (List._∷_ 101 (List._∷_ 110 (List._∷_ 116 List.[]))))))))))))
       (Syntax.tcons
-      (Syntax.tyInt Syntax.w64)
-      (Syntax.tcons
       (Syntax.tyStruct
       (List._∷_
       97
@@ -3516,9 +3498,7 @@ t7 = List._∷_ (
       Syntax.tnil
       (Syntax.ttcons Syntax.tnil (Syntax.ttcons Syntax.tnil Syntax.ttnil)))))
       Syntax.tnil)))
-      Syntax.tnil)))
-      (Syntax.tcons
-      (Syntax.tyInt Syntax.w64)
+      (Syntax.tcons (Syntax.tyInt Syntax.w64) Syntax.tnil)))
       (Syntax.tcons
       (Syntax.tyEnum
       (List._∷_
@@ -3798,8 +3778,6 @@ t8 = List._∷_ (
       58
       (List._∷_ 58 (List._∷_ 83 (List._∷_ 101 (List._∷_ 110 (List._∷_ 116 List.[]))))))))))))
       (Syntax.tcons
-      (Syntax.tyInt Syntax.w64)
-      (Syntax.tcons
       (Syntax.tyStruct
       (List._∷_
       97
@@ -3855,7 +3833,9 @@ t8 = List._∷_ (
       Syntax.tnil
       (Syntax.ttcons Syntax.tnil (Syntax.ttcons Syntax.tnil Syntax.ttnil)))))
       Syntax.tnil)))
-      Syntax.tnil)))
+      (Syntax.tcons (Syntax.tyInt Syntax.w64) Syntax.tnil)))
+      (Syntax.tcons
+      (Syntax.tyInt Syntax.w64)
       (Syntax.tcons
       (Syntax.tyStruct
       (List._∷_
@@ -3874,8 +3854,6 @@ t8 = List._∷_ (
       58
       (List._∷_ 58 (List._∷_ 83 (List._∷_ 101 (List._∷_ 110 (List._∷_ 116 List.[]))))))))))))
       (Syntax.tcons
-      (Syntax.tyInt Syntax.w64)
-      (Syntax.tcons
       (Syntax.tyStruct
       (List._∷_
       97
@@ -3931,9 +3909,7 @@ t8 = List._∷_ (
       Syntax.tnil
       (Syntax.ttcons Syntax.tnil (Syntax.ttcons Syntax.tnil Syntax.ttnil)))))
       Syntax.tnil)))
-      Syntax.tnil)))
-      (Syntax.tcons
-      (Syntax.tyInt Syntax.w64)
+      (Syntax.tcons (Syntax.tyInt Syntax.w64) Syntax.tnil)))
       (Syntax.tcons
       (Syntax.tyEnum
       (List._∷_
@@ -4213,8 +4189,6 @@ t9 = List._∷_ (
       58
       (List._∷_ 58 (List._∷_ 83 (List._∷_ 101 (List._∷_ 110 (List._∷_ 116 List.[]))))))))))))
       (Syntax.tcons
-      (Syntax.tyInt Syntax.w64)
-      (Syntax.tcons
       (Syntax.tyStruct
       (List._∷_
       97
@@ -4270,7 +4244,9 @@ t9 = List._∷_ (
       Syntax.tnil
       (Syntax.ttcons Syntax.tnil (Syntax.ttcons Syntax.tnil Syntax.ttnil)))))
       Syntax.tnil)))
-      Syntax.tnil)))
+      (Syntax.tcons (Syntax.tyInt Syntax.w64) Syntax.tnil)))
+      (Syntax.tcons
+      (Syntax.tyInt Syntax.w64)
       (Syntax.tcons
       (Syntax.tyStruct
       (List._∷_
@@ -4289,8 +4265,6 @@ t9 = List._∷_ (
       58
       (List._∷_ 58 (List._∷_ 83 (List._∷_ 101 (List._∷_ 110 (List._∷_ 116 List.[]))))))))))))
       (Syntax.tcons
-      (Syntax.tyInt Syntax.w64)
-      (Syntax.tcons
       (Syntax.tyStruct
       (List._∷_
       97
@@ -4346,9 +4320,7 @@ t9 = List._∷_ (
       Syntax.tnil
       (Syntax.ttcons Syntax.tnil (Syntax.ttcons Syntax.tnil Syntax.ttnil)))))
       Syntax.tnil)))
-      Syntax.tnil)))
-      (Syntax.tcons
-      (Syntax.tyInt Syntax.w64)
+      (Syntax.tcons (Syntax.tyInt Syntax.w64) Syntax.tnil)))
       (Syntax.tcons
       (Syntax.tyEnum
       (List._∷_
@@ -4642,8 +4614,6 @@ t10 = List._∷_ (
       58
       (List._∷_ 58 (List._∷_ 83 (List._∷_ 101 (List._∷_ 110 (List._∷_ 116 List.[]))))))))))))
       (Syntax.tcons
-      (Syntax.tyInt Syntax.w64)
-      (Syntax.tcons
       (Syntax.tyStruct
       (List._∷_
       97
@@ -4699,7 +4669,9 @@ t10 = List._∷_ (
       Syntax.tnil
       (Syntax.ttcons Syntax.tnil (Syntax.ttcons Syntax.tnil Syntax.ttnil)))))
       Syntax.tnil)))
-      Syntax.tnil)))
+      (Syntax.tcons (Syntax.tyInt Syntax.w64) Syntax.tnil)))
+      (Syntax.tcons
+      (Syntax.tyInt Syntax.w64)
       (Syntax.tcons
       (Syntax.tyStruct
       (List._∷_
@@ -4718,8 +4690,6 @@ t10 = List._∷_ (
       58
       (List._∷_ 58 (List._∷_ 83 (List._∷_ 101 (List._∷_ 110 (List._∷_ 116 List.[]))))))))))))
       (Syntax.tcons
-      (Syntax.tyInt Syntax.w64)
-      (Syntax.tcons
       (Syntax.tyStruct
       (List._∷_
       97
@@ -4775,9 +4745,7 @@ t10 = List._∷_ (
       Syntax.tnil
       (Syntax.ttcons Syntax.tnil (Syntax.ttcons Syntax.tnil Syntax.ttnil)))))
       Syntax.tnil)))
-      Syntax.tnil)))
-      (Syntax.tcons
-      (Syntax.tyInt Syntax.w64)
+      (Syntax.tcons (Syntax.tyInt Syntax.w64) Syntax.tnil)))
       (Syntax.tcons
       (Syntax.tyEnum
       (List._∷_
@@ -5098,8 +5066,6 @@ t11 = List._∷_ (
       58
       (List._∷_ 58 (List._∷_ 83 (List._∷_ 101 (List._∷_ 110 (List._∷_ 116 List.[]))))))))))))
       (Syntax.tcons
-      (Syntax.tyInt Syntax.w64)
-      (Syntax.tcons
       (Syntax.tyStruct
       (List._∷_
       97
@@ -5155,7 +5121,9 @@ t11 = List._∷_ (
       Syntax.tnil
       (Syntax.ttcons Syntax.tnil (Syntax.ttcons Syntax.tnil Syntax.ttnil)))))
       Syntax.tnil)))
-      Syntax.tnil)))
+      (Syntax.tcons (Syntax.tyInt Syntax.w64) Syntax.tnil)))
+      (Syntax.tcons
+      (Syntax.tyInt Syntax.w64)
       (Syntax.tcons
       (Syntax.tyStruct
       (List._∷_
@@ -5174,8 +5142,6 @@ t11 = List._∷_ (
       58
       (List._∷_ 58 (List._∷_ 83 (List._∷_ 101 (List._∷_ 110 (List._∷_ 116 List.[]))))))))))))
       (Syntax.tcons
-      (Syntax.tyInt Syntax.w64)
-      (Syntax.tcons
       (Syntax.tyStruct
       (List._∷_
       97
@@ -5231,9 +5197,7 @@ t11 = List._∷_ (
       Syntax.tnil
       (Syntax.ttcons Syntax.tnil (Syntax.ttcons Syntax.tnil Syntax.ttnil)))))
       Syntax.tnil)))
-      Syntax.tnil)))
-      (Syntax.tcons
-      (Syntax.tyInt Syntax.w64)
+      (Syntax.tcons (Syntax.tyInt Syntax.w64) Syntax.tnil)))
       (Syntax.tcons
       (Syntax.tyEnum
       (List._∷_
@@ -5551,8 +5515,6 @@ t12 = List._∷_ (
       58
       (List._∷_ 58 (List._∷_ 83 (List._∷_ 101 (List._∷_ 110 (List._∷_ 116 List.[]))))))))))))
       (Syntax.tcons
-      (Syntax.tyInt Syntax.w64)
-      (Syntax.tcons
       (Syntax.tyStruct
       (List._∷_
       97
@@ -5608,7 +5570,9 @@ t12 = List._∷_ (
       Syntax.tnil
       (Syntax.ttcons Syntax.tnil (Syntax.ttcons Syntax.tnil Syntax.ttnil)))))
       Syntax.tnil)))
-      Syntax.tnil)))
+      (Syntax.tcons (Syntax.tyInt Syntax.w64) Syntax.tnil)))
+      (Syntax.tcons
+      (Syntax.tyInt Syntax.w64)
       (Syntax.tcons
       (Syntax.tyStruct
       (List._∷_
@@ -5627,8 +5591,6 @@ t12 = List._∷_ (
       58
       (List._∷_ 58 (List._∷_ 83 (List._∷_ 101 (List._∷_ 110 (List._∷_ 116 List.[]))))))))))))
       (Syntax.tcons
-      (Syntax.tyInt Syntax.w64)
-      (Syntax.tcons
       (Syntax.tyStruct
       (List._∷_
       97
@@ -5684,9 +5646,7 @@ t12 = List._∷_ (
       Syntax.tnil
       (Syntax.ttcons Syntax.tnil (Syntax.ttcons Syntax.tnil Syntax.ttnil)))))
       Syntax.tnil)))
-      Syntax.tnil)))
-      (Syntax.tcons
-      (Syntax.tyInt Syntax.w64)
+      (Syntax.tcons (Syntax.tyInt Syntax.w64) Syntax.tnil)))
       (Syntax.tcons
       (Syntax.tyEnum
       (List._∷_
@@ -6774,8 +6734,6 @@ t17 = List._∷_ (
       58
       (List._∷_ 58 (List._∷_ 83 (List._∷_ 101 (List._∷_ 110 (List._∷_ 116 List.[]))))))))))))
       (Syntax.tcons
-      (Syntax.tyInt Syntax.w64)
-      (Syntax.tcons
       (Syntax.tyStruct
       (List._∷_
       97
@@ -6831,7 +6789,9 @@ t17 = List._∷_ (
       Syntax.tnil
       (Syntax.ttcons Syntax.tnil (Syntax.ttcons Syntax.tnil Syntax.ttnil)))))
       Syntax.tnil)))
-      Syntax.tnil)))
+      (Syntax.tcons (Syntax.tyInt Syntax.w64) Syntax.tnil)))
+      (Syntax.tcons
+      (Syntax.tyInt Syntax.w64)
       (Syntax.tcons
       (Syntax.tyStruct
       (List._∷_
@@ -6850,8 +6810,6 @@ t17 = List._∷_ (
       58
       (List._∷_ 58 (List._∷_ 83 (List._∷_ 101 (List._∷_ 110 (List._∷_ 116 List.[]))))))))))))
       (Syntax.tcons
-      (Syntax.tyInt Syntax.w64)
-      (Syntax.tcons
       (Syntax.tyStruct
       (List._∷_
       97
@@ -6907,9 +6865,7 @@ t17 = List._∷_ (
       Syntax.tnil
       (Syntax.ttcons Syntax.tnil (Syntax.ttcons Syntax.tnil Syntax.ttnil)))))
       Syntax.tnil)))
-      Syntax.tnil)))
-      (Syntax.tcons
-      (Syntax.tyInt Syntax.w64)
+      (Syntax.tcons (Syntax.tyInt Syntax.w64) Syntax.tnil)))
       (Syntax.tcons
       (Syntax.tyEnum
       (List._∷_
@@ -7294,8 +7250,6 @@ t19 = List._∷_ (
       58
       (List._∷_ 58 (List._∷_ 83 (List._∷_ 101 (List._∷_ 110 (List._∷_ 116 List.[]))))))))))))
       (Syntax.tcons
-      (Syntax.tyInt Syntax.w64)
-      (Syntax.tcons
       (Syntax.tyStruct
       (List._∷_
       97
@@ -7351,7 +7305,9 @@ t19 = List._∷_ (
       Syntax.tnil
       (Syntax.ttcons Syntax.tnil (Syntax.ttcons Syntax.tnil Syntax.ttnil)))))
       Syntax.tnil)))
-      Syntax.tnil)))
+      (Syntax.tcons (Syntax.tyInt Syntax.w64) Syntax.tnil)))
+      (Syntax.tcons
+      (Syntax.tyInt Syntax.w64)
       (Syntax.tcons
       (Syntax.tyStruct
       (List._∷_
@@ -7370,8 +7326,6 @@ t19 = List._∷_ (
       58
       (List._∷_ 58 (List._∷_ 83 (List._∷_ 101 (List._∷_ 110 (List._∷_ 116 List.[]))))))))))))
       (Syntax.tcons
-      (Syntax.tyInt Syntax.w64)
-      (Syntax.tcons
       (Syntax.tyStruct
       (List._∷_
       97
@@ -7427,9 +7381,7 @@ t19 = List._∷_ (
       Syntax.tnil
       (Syntax.ttcons Syntax.tnil (Syntax.ttcons Syntax.tnil Syntax.ttnil)))))
       Syntax.tnil)))
-      Syntax.tnil)))
-      (Syntax.tcons
-      (Syntax.tyInt Syntax.w64)
+      (Syntax.tcons (Syntax.tyInt Syntax.w64) Syntax.tnil)))
       (Syntax.tcons
       (Syntax.tyEnum
       (List._∷_
@@ -7643,8 +7595,6 @@ t20 = List._∷_ (
       58
       (List._∷_ 58 (List._∷_ 83 (List._∷_ 101 (List._∷_ 110 (List._∷_ 116 List.[]))))))))))))
       (Syntax.tcons
-      (Syntax.tyInt Syntax.w64)
-      (Syntax.tcons
       (Syntax.tyStruct
       (List._∷_
       97
@@ -7700,7 +7650,9 @@ t20 = List._∷_ (
       Syntax.tnil
       (Syntax.ttcons Syntax.tnil (Syntax.ttcons Syntax.tnil Syntax.ttnil)))))
       Syntax.tnil)))
-      Syntax.tnil)))
+      (Syntax.tcons (Syntax.tyInt Syntax.w64) Syntax.tnil)))
+      (Syntax.tcons
+      (Syntax.tyInt Syntax.w64)
       (Syntax.tcons
       (Syntax.tyStruct
       (List._∷_
@@ -7719,8 +7671,6 @@ t20 = List._∷_ (
       58
       (List._∷_ 58 (List._∷_ 83 (List._∷_ 101 (List._∷_ 110 (List._∷_ 116 List.[]))))))))))))
       (Syntax.tcons
-      (Syntax.tyInt Syntax.w64)
-      (Syntax.tcons
       (Syntax.tyStruct
       (List._∷_
       97
@@ -7776,9 +7726,7 @@ t20 = List._∷_ (
       Syntax.tnil
       (Syntax.ttcons Syntax.tnil (Syntax.ttcons Syntax.tnil Syntax.ttnil)))))
       Syntax.tnil)))
-      Syntax.tnil)))
-      (Syntax.tcons
-      (Syntax.tyInt Syntax.w64)
+      (Syntax.tcons (Syntax.tyInt Syntax.w64) Syntax.tnil)))
       (Syntax.tcons
       (Syntax.tyEnum
       (List._∷_
@@ -8151,8 +8099,6 @@ t22 = List._∷_ (
       58
       (List._∷_ 58 (List._∷_ 83 (List._∷_ 101 (List._∷_ 110 (List._∷_ 116 List.[]))))))))))))
       (Syntax.tcons
-      (Syntax.tyInt Syntax.w64)
-      (Syntax.tcons
       (Syntax.tyStruct
       (List._∷_
       97
@@ -8208,7 +8154,9 @@ t22 = List._∷_ (
       Syntax.tnil
       (Syntax.ttcons Syntax.tnil (Syntax.ttcons Syntax.tnil Syntax.ttnil)))))
       Syntax.tnil)))
-      Syntax.tnil)))
+      (Syntax.tcons (Syntax.tyInt Syntax.w64) Syntax.tnil)))
+      (Syntax.tcons
+      (Syntax.tyInt Syntax.w64)
       (Syntax.tcons
       (Syntax.tyStruct
       (List._∷_
@@ -8227,8 +8175,6 @@ t22 = List._∷_ (
       58
       (List._∷_ 58 (List._∷_ 83 (List._∷_ 101 (List._∷_ 110 (List._∷_ 116 List.[]))))))))))))
       (Syntax.tcons
-      (Syntax.tyInt Syntax.w64)
-      (Syntax.tcons
       (Syntax.tyStruct
       (List._∷_
       97
@@ -8284,9 +8230,7 @@ t22 = List._∷_ (
       Syntax.tnil
       (Syntax.ttcons Syntax.tnil (Syntax.ttcons Syntax.tnil Syntax.ttnil)))))
       Syntax.tnil)))
-      Syntax.tnil)))
-      (Syntax.tcons
-      (Syntax.tyInt Syntax.w64)
+      (Syntax.tcons (Syntax.tyInt Syntax.w64) Syntax.tnil)))
       (Syntax.tcons
       (Syntax.tyEnum
       (List._∷_
@@ -8858,8 +8802,6 @@ t25 = List._∷_ (
       58
       (List._∷_ 58 (List._∷_ 83 (List._∷_ 101 (List._∷_ 110 (List._∷_ 116 List.[]))))))))))))
       (Syntax.tcons
-      (Syntax.tyInt Syntax.w64)
-      (Syntax.tcons
       (Syntax.tyStruct
       (List._∷_
       97
@@ -8915,7 +8857,9 @@ t25 = List._∷_ (
       Syntax.tnil
       (Syntax.ttcons Syntax.tnil (Syntax.ttcons Syntax.tnil Syntax.ttnil)))))
       Syntax.tnil)))
-      Syntax.tnil)))
+      (Syntax.tcons (Syntax.tyInt Syntax.w64) Syntax.tnil)))
+      (Syntax.tcons
+      (Syntax.tyInt Syntax.w64)
       (Syntax.tcons
       (Syntax.tyStruct
       (List._∷_
@@ -8934,8 +8878,6 @@ t25 = List._∷_ (
       58
       (List._∷_ 58 (List._∷_ 83 (List._∷_ 101 (List._∷_ 110 (List._∷_ 116 List.[]))))))))))))
       (Syntax.tcons
-      (Syntax.tyInt Syntax.w64)
-      (Syntax.tcons
       (Syntax.tyStruct
       (List._∷_
       97
@@ -8991,9 +8933,7 @@ t25 = List._∷_ (
       Syntax.tnil
       (Syntax.ttcons Syntax.tnil (Syntax.ttcons Syntax.tnil Syntax.ttnil)))))
       Syntax.tnil)))
-      Syntax.tnil)))
-      (Syntax.tcons
-      (Syntax.tyInt Syntax.w64)
+      (Syntax.tcons (Syntax.tyInt Syntax.w64) Syntax.tnil)))
       (Syntax.tcons
       (Syntax.tyEnum
       (List._∷_
@@ -10112,8 +10052,6 @@ t31 = List._∷_ (
       58
       (List._∷_ 58 (List._∷_ 83 (List._∷_ 101 (List._∷_ 110 (List._∷_ 116 List.[]))))))))))))
       (Syntax.tcons
-      (Syntax.tyInt Syntax.w64)
-      (Syntax.tcons
       (Syntax.tyStruct
       (List._∷_
       97
@@ -10169,7 +10107,9 @@ t31 = List._∷_ (
       Syntax.tnil
       (Syntax.ttcons Syntax.tnil (Syntax.ttcons Syntax.tnil Syntax.ttnil)))))
       Syntax.tnil)))
-      Syntax.tnil)))
+      (Syntax.tcons (Syntax.tyInt Syntax.w64) Syntax.tnil)))
+      (Syntax.tcons
+      (Syntax.tyInt Syntax.w64)
       (Syntax.tcons
       (Syntax.tyStruct
       (List._∷_
@@ -10188,8 +10128,6 @@ t31 = List._∷_ (
       58
       (List._∷_ 58 (List._∷_ 83 (List._∷_ 101 (List._∷_ 110 (List._∷_ 116 List.[]))))))))))))
       (Syntax.tcons
-      (Syntax.tyInt Syntax.w64)
-      (Syntax.tcons
       (Syntax.tyStruct
       (List._∷_
       97
@@ -10245,9 +10183,7 @@ t31 = List._∷_ (
       Syntax.tnil
       (Syntax.ttcons Syntax.tnil (Syntax.ttcons Syntax.tnil Syntax.ttnil)))))
       Syntax.tnil)))
-      Syntax.tnil)))
-      (Syntax.tcons
-      (Syntax.tyInt Syntax.w64)
+      (Syntax.tcons (Syntax.tyInt Syntax.w64) Syntax.tnil)))
       (Syntax.tcons
       (Syntax.tyEnum
       (List._∷_
@@ -10578,8 +10514,6 @@ t33 = List._∷_ (
       58
       (List._∷_ 58 (List._∷_ 83 (List._∷_ 101 (List._∷_ 110 (List._∷_ 116 List.[]))))))))))))
       (Syntax.tcons
-      (Syntax.tyInt Syntax.w64)
-      (Syntax.tcons
       (Syntax.tyStruct
       (List._∷_
       97
@@ -10635,7 +10569,9 @@ t33 = List._∷_ (
       Syntax.tnil
       (Syntax.ttcons Syntax.tnil (Syntax.ttcons Syntax.tnil Syntax.ttnil)))))
       Syntax.tnil)))
-      Syntax.tnil)))
+      (Syntax.tcons (Syntax.tyInt Syntax.w64) Syntax.tnil)))
+      (Syntax.tcons
+      (Syntax.tyInt Syntax.w64)
       (Syntax.tcons
       (Syntax.tyStruct
       (List._∷_
@@ -10654,8 +10590,6 @@ t33 = List._∷_ (
       58
       (List._∷_ 58 (List._∷_ 83 (List._∷_ 101 (List._∷_ 110 (List._∷_ 116 List.[]))))))))))))
       (Syntax.tcons
-      (Syntax.tyInt Syntax.w64)
-      (Syntax.tcons
       (Syntax.tyStruct
       (List._∷_
       97
@@ -10711,9 +10645,7 @@ t33 = List._∷_ (
       Syntax.tnil
       (Syntax.ttcons Syntax.tnil (Syntax.ttcons Syntax.tnil Syntax.ttnil)))))
       Syntax.tnil)))
-      Syntax.tnil)))
-      (Syntax.tcons
-      (Syntax.tyInt Syntax.w64)
+      (Syntax.tcons (Syntax.tyInt Syntax.w64) Syntax.tnil)))
       (Syntax.tcons
       (Syntax.tyEnum
       (List._∷_
@@ -11285,8 +11217,6 @@ t36 = List._∷_ (
       58
       (List._∷_ 58 (List._∷_ 83 (List._∷_ 101 (List._∷_ 110 (List._∷_ 116 List.[]))))))))))))
       (Syntax.tcons
-      (Syntax.tyInt Syntax.w64)
-      (Syntax.tcons
       (Syntax.tyStruct
       (List._∷_
       97
@@ -11342,7 +11272,9 @@ t36 = List._∷_ (
       Syntax.tnil
       (Syntax.ttcons Syntax.tnil (Syntax.ttcons Syntax.tnil Syntax.ttnil)))))
       Syntax.tnil)))
-      Syntax.tnil)))
+      (Syntax.tcons (Syntax.tyInt Syntax.w64) Syntax.tnil)))
+      (Syntax.tcons
+      (Syntax.tyInt Syntax.w64)
       (Syntax.tcons
       (Syntax.tyStruct
       (List._∷_
@@ -11361,8 +11293,6 @@ t36 = List._∷_ (
       58
       (List._∷_ 58 (List._∷_ 83 (List._∷_ 101 (List._∷_ 110 (List._∷_ 116 List.[]))))))))))))
       (Syntax.tcons
-      (Syntax.tyInt Syntax.w64)
-      (Syntax.tcons
       (Syntax.tyStruct
       (List._∷_
       97
@@ -11418,9 +11348,7 @@ t36 = List._∷_ (
       Syntax.tnil
       (Syntax.ttcons Syntax.tnil (Syntax.ttcons Syntax.tnil Syntax.ttnil)))))
       Syntax.tnil)))
-      Syntax.tnil)))
-      (Syntax.tcons
-      (Syntax.tyInt Syntax.w64)
+      (Syntax.tcons (Syntax.tyInt Syntax.w64) Syntax.tnil)))
       (Syntax.tcons
       (Syntax.tyEnum
       (List._∷_
@@ -11990,8 +11918,6 @@ t39 = List._∷_ (
       58
       (List._∷_ 58 (List._∷_ 83 (List._∷_ 101 (List._∷_ 110 (List._∷_ 116 List.[]))))))))))))
       (Syntax.tcons
-      (Syntax.tyInt Syntax.w64)
-      (Syntax.tcons
       (Syntax.tyStruct
       (List._∷_
       97
@@ -12047,7 +11973,9 @@ t39 = List._∷_ (
       Syntax.tnil
       (Syntax.ttcons Syntax.tnil (Syntax.ttcons Syntax.tnil Syntax.ttnil)))))
       Syntax.tnil)))
-      Syntax.tnil)))
+      (Syntax.tcons (Syntax.tyInt Syntax.w64) Syntax.tnil)))
+      (Syntax.tcons
+      (Syntax.tyInt Syntax.w64)
       (Syntax.tcons
       (Syntax.tyStruct
       (List._∷_
@@ -12066,8 +11994,6 @@ t39 = List._∷_ (
       58
       (List._∷_ 58 (List._∷_ 83 (List._∷_ 101 (List._∷_ 110 (List._∷_ 116 List.[]))))))))))))
       (Syntax.tcons
-      (Syntax.tyInt Syntax.w64)
-      (Syntax.tcons
       (Syntax.tyStruct
       (List._∷_
       97
@@ -12123,9 +12049,7 @@ t39 = List._∷_ (
       Syntax.tnil
       (Syntax.ttcons Syntax.tnil (Syntax.ttcons Syntax.tnil Syntax.ttnil)))))
       Syntax.tnil)))
-      Syntax.tnil)))
-      (Syntax.tcons
-      (Syntax.tyInt Syntax.w64)
+      (Syntax.tcons (Syntax.tyInt Syntax.w64) Syntax.tnil)))
       (Syntax.tcons
       (Syntax.tyEnum
       (List._∷_
@@ -12694,8 +12618,6 @@ t42 = List._∷_ (
       58
       (List._∷_ 58 (List._∷_ 83 (List._∷_ 101 (List._∷_ 110 (List._∷_ 116 List.[]))))))))))))
       (Syntax.tcons
-      (Syntax.tyInt Syntax.w64)
-      (Syntax.tcons
       (Syntax.tyStruct
       (List._∷_
       97
@@ -12751,7 +12673,9 @@ t42 = List._∷_ (
       Syntax.tnil
       (Syntax.ttcons Syntax.tnil (Syntax.ttcons Syntax.tnil Syntax.ttnil)))))
       Syntax.tnil)))
-      Syntax.tnil)))
+      (Syntax.tcons (Syntax.tyInt Syntax.w64) Syntax.tnil)))
+      (Syntax.tcons
+      (Syntax.tyInt Syntax.w64)
       (Syntax.tcons
       (Syntax.tyStruct
       (List._∷_
@@ -12770,8 +12694,6 @@ t42 = List._∷_ (
       58
       (List._∷_ 58 (List._∷_ 83 (List._∷_ 101 (List._∷_ 110 (List._∷_ 116 List.[]))))))))))))
       (Syntax.tcons
-      (Syntax.tyInt Syntax.w64)
-      (Syntax.tcons
       (Syntax.tyStruct
       (List._∷_
       97
@@ -12827,9 +12749,7 @@ t42 = List._∷_ (
       Syntax.tnil
       (Syntax.ttcons Syntax.tnil (Syntax.ttcons Syntax.tnil Syntax.ttnil)))))
       Syntax.tnil)))
-      Syntax.tnil)))
-      (Syntax.tcons
-      (Syntax.tyInt Syntax.w64)
+      (Syntax.tcons (Syntax.tyInt Syntax.w64) Syntax.tnil)))
       (Syntax.tcons
       (Syntax.tyEnum
       (List._∷_
@@ -13399,8 +13319,6 @@ t46 = List._∷_ (
       58
       (List._∷_ 58 (List._∷_ 83 (List._∷_ 101 (List._∷_ 110 (List._∷_ 116 List.[]))))))))))))
       (Syntax.tcons
-      (Syntax.tyInt Syntax.w64)
-      (Syntax.tcons
       (Syntax.tyStruct
       (List._∷_
       97
@@ -13456,7 +13374,9 @@ t46 = List._∷_ (
       Syntax.tnil
       (Syntax.ttcons Syntax.tnil (Syntax.ttcons Syntax.tnil Syntax.ttnil)))))
       Syntax.tnil)))
-      Syntax.tnil)))
+      (Syntax.tcons (Syntax.tyInt Syntax.w64) Syntax.tnil)))
+      (Syntax.tcons
+      (Syntax.tyInt Syntax.w64)
       (Syntax.tcons
       (Syntax.tyStruct
       (List._∷_
@@ -13475,8 +13395,6 @@ t46 = List._∷_ (
       58
       (List._∷_ 58 (List._∷_ 83 (List._∷_ 101 (List._∷_ 110 (List._∷_ 116 List.[]))))))))))))
       (Syntax.tcons
-      (Syntax.tyInt Syntax.w64)
-      (Syntax.tcons
       (Syntax.tyStruct
       (List._∷_
       97
@@ -13532,9 +13450,7 @@ t46 = List._∷_ (
       Syntax.tnil
       (Syntax.ttcons Syntax.tnil (Syntax.ttcons Syntax.tnil Syntax.ttnil)))))
       Syntax.tnil)))
-      Syntax.tnil)))
-      (Syntax.tcons
-      (Syntax.tyInt Syntax.w64)
+      (Syntax.tcons (Syntax.tyInt Syntax.w64) Syntax.tnil)))
       (Syntax.tcons
       (Syntax.tyEnum
       (List._∷_
@@ -16233,8 +16149,6 @@ module _ (claims· : Claims) where
       58
       (List._∷_ 58 (List._∷_ 83 (List._∷_ 101 (List._∷_ 110 (List._∷_ 116 List.[]))))))))))))
       (Syntax.tcons
-      (Syntax.tyInt Syntax.w64)
-      (Syntax.tcons
       (Syntax.tyStruct
       (List._∷_
       97
@@ -16290,7 +16204,9 @@ module _ (claims· : Claims) where
       Syntax.tnil
       (Syntax.ttcons Syntax.tnil (Syntax.ttcons Syntax.tnil Syntax.ttnil)))))
       Syntax.tnil)))
-      Syntax.tnil)))
+      (Syntax.tcons (Syntax.tyInt Syntax.w64) Syntax.tnil)))
+      (Syntax.tcons
+      (Syntax.tyInt Syntax.w64)
       (Syntax.tcons
       (Syntax.tyStruct
       (List._∷_
@@ -16309,8 +16225,6 @@ module _ (claims· : Claims) where
       58
       (List._∷_ 58 (List._∷_ 83 (List._∷_ 101 (List._∷_ 110 (List._∷_ 116 List.[]))))))))))))
       (Syntax.tcons
-      (Syntax.tyInt Syntax.w64)
-      (Syntax.tcons
       (Syntax.tyStruct
       (List._∷_
       97
@@ -16366,9 +16280,7 @@ module _ (claims· : Claims) where
       Syntax.tnil
       (Syntax.ttcons Syntax.tnil (Syntax.ttcons Syntax.tnil Syntax.ttnil)))))
       Syntax.tnil)))
-      Syntax.tnil)))
-      (Syntax.tcons
-      (Syntax.tyInt Syntax.w64)
+      (Syntax.tcons (Syntax.tyInt Syntax.w64) Syntax.tnil)))
       (Syntax.tcons
       (Syntax.tyEnum
       (List._∷_
@@ -16839,8 +16751,6 @@ module _ (claims· : Claims) where
       58
       (List._∷_ 58 (List._∷_ 83 (List._∷_ 101 (List._∷_ 110 (List._∷_ 116 List.[]))))))))))))
       (Syntax.tcons
-      (Syntax.tyInt Syntax.w64)
-      (Syntax.tcons
       (Syntax.tyStruct
       (List._∷_
       97
@@ -16896,7 +16806,9 @@ module _ (claims· : Claims) where
       Syntax.tnil
       (Syntax.ttcons Syntax.tnil (Syntax.ttcons Syntax.tnil Syntax.ttnil)))))
       Syntax.tnil)))
-      Syntax.tnil)))
+      (Syntax.tcons (Syntax.tyInt Syntax.w64) Syntax.tnil)))
+      (Syntax.tcons
+      (Syntax.tyInt Syntax.w64)
       (Syntax.tcons
       (Syntax.tyStruct
       (List._∷_
@@ -16915,8 +16827,6 @@ module _ (claims· : Claims) where
       58
       (List._∷_ 58 (List._∷_ 83 (List._∷_ 101 (List._∷_ 110 (List._∷_ 116 List.[]))))))))))))
       (Syntax.tcons
-      (Syntax.tyInt Syntax.w64)
-      (Syntax.tcons
       (Syntax.tyStruct
       (List._∷_
       97
@@ -16972,9 +16882,7 @@ module _ (claims· : Claims) where
       Syntax.tnil
       (Syntax.ttcons Syntax.tnil (Syntax.ttcons Syntax.tnil Syntax.ttnil)))))
       Syntax.tnil)))
-      Syntax.tnil)))
-      (Syntax.tcons
-      (Syntax.tyInt Syntax.w64)
+      (Syntax.tcons (Syntax.tyInt Syntax.w64) Syntax.tnil)))
       (Syntax.tcons
       (Syntax.tyEnum
       (List._∷_
@@ -17481,8 +17389,6 @@ module _ (claims· : Claims) where
       58
       (List._∷_ 58 (List._∷_ 83 (List._∷_ 101 (List._∷_ 110 (List._∷_ 116 List.[]))))))))))))
       (Syntax.tcons
-      (Syntax.tyInt Syntax.w64)
-      (Syntax.tcons
       (Syntax.tyStruct
       (List._∷_
       97
@@ -17538,7 +17444,9 @@ module _ (claims· : Claims) where
       Syntax.tnil
       (Syntax.ttcons Syntax.tnil (Syntax.ttcons Syntax.tnil Syntax.ttnil)))))
       Syntax.tnil)))
-      Syntax.tnil)))
+      (Syntax.tcons (Syntax.tyInt Syntax.w64) Syntax.tnil)))
+      (Syntax.tcons
+      (Syntax.tyInt Syntax.w64)
       (Syntax.tcons
       (Syntax.tyStruct
       (List._∷_
@@ -17557,8 +17465,6 @@ module _ (claims· : Claims) where
       58
       (List._∷_ 58 (List._∷_ 83 (List._∷_ 101 (List._∷_ 110 (List._∷_ 116 List.[]))))))))))))
       (Syntax.tcons
-      (Syntax.tyInt Syntax.w64)
-      (Syntax.tcons
       (Syntax.tyStruct
       (List._∷_
       97
@@ -17614,9 +17520,7 @@ module _ (claims· : Claims) where
       Syntax.tnil
       (Syntax.ttcons Syntax.tnil (Syntax.ttcons Syntax.tnil Syntax.ttnil)))))
       Syntax.tnil)))
-      Syntax.tnil)))
-      (Syntax.tcons
-      (Syntax.tyInt Syntax.w64)
+      (Syntax.tcons (Syntax.tyInt Syntax.w64) Syntax.tnil)))
       (Syntax.tcons
       (Syntax.tyEnum
       (List._∷_
@@ -18105,8 +18009,6 @@ module _ (claims· : Claims) where
       58
       (List._∷_ 58 (List._∷_ 83 (List._∷_ 101 (List._∷_ 110 (List._∷_ 116 List.[]))))))))))))
       (Syntax.tcons
-      (Syntax.tyInt Syntax.w64)
-      (Syntax.tcons
       (Syntax.tyStruct
       (List._∷_
       97
@@ -18162,7 +18064,9 @@ module _ (claims· : Claims) where
       Syntax.tnil
       (Syntax.ttcons Syntax.tnil (Syntax.ttcons Syntax.tnil Syntax.ttnil)))))
       Syntax.tnil)))
-      Syntax.tnil)))
+      (Syntax.tcons (Syntax.tyInt Syntax.w64) Syntax.tnil)))
+      (Syntax.tcons
+      (Syntax.tyInt Syntax.w64)
       (Syntax.tcons
       (Syntax.tyStruct
       (List._∷_
@@ -18181,8 +18085,6 @@ module _ (claims· : Claims) where
       58
       (List._∷_ 58 (List._∷_ 83 (List._∷_ 101 (List._∷_ 110 (List._∷_ 116 List.[]))))))))))))
       (Syntax.tcons
-      (Syntax.tyInt Syntax.w64)
-      (Syntax.tcons
       (Syntax.tyStruct
       (List._∷_
       97
@@ -18238,9 +18140,7 @@ module _ (claims· : Claims) where
       Syntax.tnil
       (Syntax.ttcons Syntax.tnil (Syntax.ttcons Syntax.tnil Syntax.ttnil)))))
       Syntax.tnil)))
-      Syntax.tnil)))
-      (Syntax.tcons
-      (Syntax.tyInt Syntax.w64)
+      (Syntax.tcons (Syntax.tyInt Syntax.w64) Syntax.tnil)))
       (Syntax.tcons
       (Syntax.tyEnum
       (List._∷_
@@ -18891,8 +18791,6 @@ module _ (claims· : Claims) where
               58
               (List._∷_ 83 (List._∷_ 101 (List._∷_ 110 (List._∷_ 116 List.[]))))))))))))
               (Syntax.tcons
-              (Syntax.tyInt Syntax.w64)
-              (Syntax.tcons
               (Syntax.tyStruct
               (List._∷_
               97
@@ -18948,7 +18846,9 @@ module _ (claims· : Claims) where
               Syntax.tnil
               (Syntax.ttcons Syntax.tnil (Syntax.ttcons Syntax.tnil Syntax.ttnil)))))
               Syntax.tnil)))
-              Syntax.tnil)))
+              (Syntax.tcons (Syntax.tyInt Syntax.w64) Syntax.tnil)))
+              (Syntax.tcons
+              (Syntax.tyInt Syntax.w64)
               (Syntax.tcons
               (Syntax.tyStruct
               (List._∷_
@@ -18969,8 +18869,6 @@ module _ (claims· : Claims) where
               58
               (List._∷_ 83 (List._∷_ 101 (List._∷_ 110 (List._∷_ 116 List.[]))))))))))))
               (Syntax.tcons
-              (Syntax.tyInt Syntax.w64)
-              (Syntax.tcons
               (Syntax.tyStruct
               (List._∷_
               97
@@ -19026,9 +18924,7 @@ module _ (claims· : Claims) where
               Syntax.tnil
               (Syntax.ttcons Syntax.tnil (Syntax.ttcons Syntax.tnil Syntax.ttnil)))))
               Syntax.tnil)))
-              Syntax.tnil)))
-              (Syntax.tcons
-              (Syntax.tyInt Syntax.w64)
+              (Syntax.tcons (Syntax.tyInt Syntax.w64) Syntax.tnil)))
               (Syntax.tcons
               (Syntax.tyEnum
               (List._∷_
@@ -19247,8 +19143,6 @@ module _ (claims· : Claims) where
               58
               (List._∷_ 83 (List._∷_ 101 (List._∷_ 110 (List._∷_ 116 List.[]))))))))))))
               (Syntax.tcons
-              (Syntax.tyInt Syntax.w64)
-              (Syntax.tcons
               (Syntax.tyStruct
               (List._∷_
               97
@@ -19304,7 +19198,9 @@ module _ (claims· : Claims) where
               Syntax.tnil
               (Syntax.ttcons Syntax.tnil (Syntax.ttcons Syntax.tnil Syntax.ttnil)))))
               Syntax.tnil)))
-              Syntax.tnil)))
+              (Syntax.tcons (Syntax.tyInt Syntax.w64) Syntax.tnil)))
+              (Syntax.tcons
+              (Syntax.tyInt Syntax.w64)
               (Syntax.tcons
               (Syntax.tyStruct
               (List._∷_
@@ -19325,8 +19221,6 @@ module _ (claims· : Claims) where
               58
               (List._∷_ 83 (List._∷_ 101 (List._∷_ 110 (List._∷_ 116 List.[]))))))))))))
               (Syntax.tcons
-              (Syntax.tyInt Syntax.w64)
-              (Syntax.tcons
               (Syntax.tyStruct
               (List._∷_
               97
@@ -19382,9 +19276,7 @@ module _ (claims· : Claims) where
               Syntax.tnil
               (Syntax.ttcons Syntax.tnil (Syntax.ttcons Syntax.tnil Syntax.ttnil)))))
               Syntax.tnil)))
-              Syntax.tnil)))
-              (Syntax.tcons
-              (Syntax.tyInt Syntax.w64)
+              (Syntax.tcons (Syntax.tyInt Syntax.w64) Syntax.tnil)))
               (Syntax.tcons
               (Syntax.tyEnum
               (List._∷_
@@ -19605,8 +19497,6 @@ module _ (claims· : Claims) where
               58
               (List._∷_ 83 (List._∷_ 101 (List._∷_ 110 (List._∷_ 116 List.[]))))))))))))
               (Syntax.tcons
-              (Syntax.tyInt Syntax.w64)
-              (Syntax.tcons
               (Syntax.tyStruct
               (List._∷_
               97
@@ -19662,7 +19552,9 @@ module _ (claims· : Claims) where
               Syntax.tnil
               (Syntax.ttcons Syntax.tnil (Syntax.ttcons Syntax.tnil Syntax.ttnil)))))
               Syntax.tnil)))
-              Syntax.tnil)))
+              (Syntax.tcons (Syntax.tyInt Syntax.w64) Syntax.tnil)))
+              (Syntax.tcons
+              (Syntax.tyInt Syntax.w64)
               (Syntax.tcons
               (Syntax.tyStruct
               (List._∷_
@@ -19683,8 +19575,6 @@ module _ (claims· : Claims) where
               58
               (List._∷_ 83 (List._∷_ 101 (List._∷_ 110 (List._∷_ 116 List.[]))))))))))))
               (Syntax.tcons
-              (Syntax.tyInt Syntax.w64)
-              (Syntax.tcons
               (Syntax.tyStruct
               (List._∷_
               97
@@ -19740,9 +19630,7 @@ module _ (claims· : Claims) where
               Syntax.tnil
               (Syntax.ttcons Syntax.tnil (Syntax.ttcons Syntax.tnil Syntax.ttnil)))))
               Syntax.tnil)))
-              Syntax.tnil)))
-              (Syntax.tcons
-              (Syntax.tyInt Syntax.w64)
+              (Syntax.tcons (Syntax.tyInt Syntax.w64) Syntax.tnil)))
               (Syntax.tcons
               (Syntax.tyEnum
               (List._∷_
@@ -19961,8 +19849,6 @@ module _ (claims· : Claims) where
               58
               (List._∷_ 83 (List._∷_ 101 (List._∷_ 110 (List._∷_ 116 List.[]))))))))))))
               (Syntax.tcons
-              (Syntax.tyInt Syntax.w64)
-              (Syntax.tcons
               (Syntax.tyStruct
               (List._∷_
               97
@@ -20018,7 +19904,9 @@ module _ (claims· : Claims) where
               Syntax.tnil
               (Syntax.ttcons Syntax.tnil (Syntax.ttcons Syntax.tnil Syntax.ttnil)))))
               Syntax.tnil)))
-              Syntax.tnil)))
+              (Syntax.tcons (Syntax.tyInt Syntax.w64) Syntax.tnil)))
+              (Syntax.tcons
+              (Syntax.tyInt Syntax.w64)
               (Syntax.tcons
               (Syntax.tyStruct
               (List._∷_
@@ -20039,8 +19927,6 @@ module _ (claims· : Claims) where
               58
               (List._∷_ 83 (List._∷_ 101 (List._∷_ 110 (List._∷_ 116 List.[]))))))))))))
               (Syntax.tcons
-              (Syntax.tyInt Syntax.w64)
-              (Syntax.tcons
               (Syntax.tyStruct
               (List._∷_
               97
@@ -20096,9 +19982,7 @@ module _ (claims· : Claims) where
               Syntax.tnil
               (Syntax.ttcons Syntax.tnil (Syntax.ttcons Syntax.tnil Syntax.ttnil)))))
               Syntax.tnil)))
-              Syntax.tnil)))
-              (Syntax.tcons
-              (Syntax.tyInt Syntax.w64)
+              (Syntax.tcons (Syntax.tyInt Syntax.w64) Syntax.tnil)))
               (Syntax.tcons
               (Syntax.tyEnum
               (List._∷_
@@ -20317,8 +20201,6 @@ module _ (claims· : Claims) where
               58
               (List._∷_ 83 (List._∷_ 101 (List._∷_ 110 (List._∷_ 116 List.[]))))))))))))
               (Syntax.tcons
-              (Syntax.tyInt Syntax.w64)
-              (Syntax.tcons
               (Syntax.tyStruct
               (List._∷_
               97
@@ -20374,7 +20256,9 @@ module _ (claims· : Claims) where
               Syntax.tnil
               (Syntax.ttcons Syntax.tnil (Syntax.ttcons Syntax.tnil Syntax.ttnil)))))
               Syntax.tnil)))
-              Syntax.tnil)))
+              (Syntax.tcons (Syntax.tyInt Syntax.w64) Syntax.tnil)))
+              (Syntax.tcons
+              (Syntax.tyInt Syntax.w64)
               (Syntax.tcons
               (Syntax.tyStruct
               (List._∷_
@@ -20395,8 +20279,6 @@ module _ (claims· : Claims) where
               58
               (List._∷_ 83 (List._∷_ 101 (List._∷_ 110 (List._∷_ 116 List.[]))))))))))))
               (Syntax.tcons
-              (Syntax.tyInt Syntax.w64)
-              (Syntax.tcons
               (Syntax.tyStruct
               (List._∷_
               97
@@ -20452,9 +20334,7 @@ module _ (claims· : Claims) where
               Syntax.tnil
               (Syntax.ttcons Syntax.tnil (Syntax.ttcons Syntax.tnil Syntax.ttnil)))))
               Syntax.tnil)))
-              Syntax.tnil)))
-              (Syntax.tcons
-              (Syntax.tyInt Syntax.w64)
+              (Syntax.tcons (Syntax.tyInt Syntax.w64) Syntax.tnil)))
               (Syntax.tcons
               (Syntax.tyEnum
               (List._∷_
@@ -20675,8 +20555,6 @@ module _ (claims· : Claims) where
               58
               (List._∷_ 83 (List._∷_ 101 (List._∷_ 110 (List._∷_ 116 List.[]))))))))))))
               (Syntax.tcons
-              (Syntax.tyInt Syntax.w64)
-              (Syntax.tcons
               (Syntax.tyStruct
               (List._∷_
               97
@@ -20732,7 +20610,9 @@ module _ (claims· : Claims) where
               Syntax.tnil
               (Syntax.ttcons Syntax.tnil (Syntax.ttcons Syntax.tnil Syntax.ttnil)))))
               Syntax.tnil)))
-              Syntax.tnil)))
+              (Syntax.tcons (Syntax.tyInt Syntax.w64) Syntax.tnil)))
+              (Syntax.tcons
+              (Syntax.tyInt Syntax.w64)
               (Syntax.tcons
               (Syntax.tyStruct
               (List._∷_
@@ -20753,8 +20633,6 @@ module _ (claims· : Claims) where
               58
               (List._∷_ 83 (List._∷_ 101 (List._∷_ 110 (List._∷_ 116 List.[]))))))))))))
               (Syntax.tcons
-              (Syntax.tyInt Syntax.w64)
-              (Syntax.tcons
               (Syntax.tyStruct
               (List._∷_
               97
@@ -20810,9 +20688,7 @@ module _ (claims· : Claims) where
               Syntax.tnil
               (Syntax.ttcons Syntax.tnil (Syntax.ttcons Syntax.tnil Syntax.ttnil)))))
               Syntax.tnil)))
-              Syntax.tnil)))
-              (Syntax.tcons
-              (Syntax.tyInt Syntax.w64)
+              (Syntax.tcons (Syntax.tyInt Syntax.w64) Syntax.tnil)))
               (Syntax.tcons
               (Syntax.tyEnum
               (List._∷_
@@ -21035,8 +20911,6 @@ module _ (claims· : Claims) where
               58
               (List._∷_ 83 (List._∷_ 101 (List._∷_ 110 (List._∷_ 116 List.[]))))))))))))
               (Syntax.tcons
-              (Syntax.tyInt Syntax.w64)
-              (Syntax.tcons
               (Syntax.tyStruct
               (List._∷_
               97
@@ -21092,7 +20966,9 @@ module _ (claims· : Claims) where
               Syntax.tnil
               (Syntax.ttcons Syntax.tnil (Syntax.ttcons Syntax.tnil Syntax.ttnil)))))
               Syntax.tnil)))
-              Syntax.tnil)))
+              (Syntax.tcons (Syntax.tyInt Syntax.w64) Syntax.tnil)))
+              (Syntax.tcons
+              (Syntax.tyInt Syntax.w64)
               (Syntax.tcons
               (Syntax.tyStruct
               (List._∷_
@@ -21113,8 +20989,6 @@ module _ (claims· : Claims) where
               58
               (List._∷_ 83 (List._∷_ 101 (List._∷_ 110 (List._∷_ 116 List.[]))))))))))))
               (Syntax.tcons
-              (Syntax.tyInt Syntax.w64)
-              (Syntax.tcons
               (Syntax.tyStruct
               (List._∷_
               97
@@ -21170,9 +21044,7 @@ module _ (claims· : Claims) where
               Syntax.tnil
               (Syntax.ttcons Syntax.tnil (Syntax.ttcons Syntax.tnil Syntax.ttnil)))))
               Syntax.tnil)))
-              Syntax.tnil)))
-              (Syntax.tcons
-              (Syntax.tyInt Syntax.w64)
+              (Syntax.tcons (Syntax.tyInt Syntax.w64) Syntax.tnil)))
               (Syntax.tcons
               (Syntax.tyEnum
               (List._∷_
@@ -21397,8 +21269,6 @@ module _ (claims· : Claims) where
               58
               (List._∷_ 83 (List._∷_ 101 (List._∷_ 110 (List._∷_ 116 List.[]))))))))))))
               (Syntax.tcons
-              (Syntax.tyInt Syntax.w64)
-              (Syntax.tcons
               (Syntax.tyStruct
               (List._∷_
               97
@@ -21454,7 +21324,9 @@ module _ (claims· : Claims) where
               Syntax.tnil
               (Syntax.ttcons Syntax.tnil (Syntax.ttcons Syntax.tnil Syntax.ttnil)))))
               Syntax.tnil)))
-              Syntax.tnil)))
+              (Syntax.tcons (Syntax.tyInt Syntax.w64) Syntax.tnil)))
+              (Syntax.tcons
+              (Syntax.tyInt Syntax.w64)
               (Syntax.tcons
               (Syntax.tyStruct
               (List._∷_
@@ -21475,8 +21347,6 @@ module _ (claims· : Claims) where
               58
               (List._∷_ 83 (List._∷_ 101 (List._∷_ 110 (List._∷_ 116 List.[]))))))))))))
               (Syntax.tcons
-              (Syntax.tyInt Syntax.w64)
-              (Syntax.tcons
               (Syntax.tyStruct
               (List._∷_
               97
@@ -21532,9 +21402,7 @@ module _ (claims· : Claims) where
               Syntax.tnil
               (Syntax.ttcons Syntax.tnil (Syntax.ttcons Syntax.tnil Syntax.ttnil)))))
               Syntax.tnil)))
-              Syntax.tnil)))
-              (Syntax.tcons
-              (Syntax.tyInt Syntax.w64)
+              (Syntax.tcons (Syntax.tyInt Syntax.w64) Syntax.tnil)))
               (Syntax.tcons
               (Syntax.tyEnum
               (List._∷_
@@ -25642,8 +25510,6 @@ module _ (claims· : Claims) where
               58
               (List._∷_ 83 (List._∷_ 101 (List._∷_ 110 (List._∷_ 116 List.[]))))))))))))
               (Syntax.tcons
-              (Syntax.tyInt Syntax.w64)
-              (Syntax.tcons
               (Syntax.tyStruct
               (List._∷_
               97
@@ -25699,7 +25565,9 @@ module _ (claims· : Claims) where
               Syntax.tnil
               (Syntax.ttcons Syntax.tnil (Syntax.ttcons Syntax.tnil Syntax.ttnil)))))
               Syntax.tnil)))
-              Syntax.tnil)))
+              (Syntax.tcons (Syntax.tyInt Syntax.w64) Syntax.tnil)))
+              (Syntax.tcons
+              (Syntax.tyInt Syntax.w64)
               (Syntax.tcons
               (Syntax.tyStruct
               (List._∷_
@@ -25720,8 +25588,6 @@ module _ (claims· : Claims) where
               58
               (List._∷_ 83 (List._∷_ 101 (List._∷_ 110 (List._∷_ 116 List.[]))))))))))))
               (Syntax.tcons
-              (Syntax.tyInt Syntax.w64)
-              (Syntax.tcons
               (Syntax.tyStruct
               (List._∷_
               97
@@ -25777,9 +25643,7 @@ module _ (claims· : Claims) where
               Syntax.tnil
               (Syntax.ttcons Syntax.tnil (Syntax.ttcons Syntax.tnil Syntax.ttnil)))))
               Syntax.tnil)))
-              Syntax.tnil)))
-              (Syntax.tcons
-              (Syntax.tyInt Syntax.w64)
+              (Syntax.tcons (Syntax.tyInt Syntax.w64) Syntax.tnil)))
               (Syntax.tcons
               (Syntax.tyEnum
               (List._∷_
@@ -26542,8 +26406,6 @@ module _ (claims· : Claims) where
               58
               (List._∷_ 83 (List._∷_ 101 (List._∷_ 110 (List._∷_ 116 List.[]))))))))))))
               (Syntax.tcons
-              (Syntax.tyInt Syntax.w64)
-              (Syntax.tcons
               (Syntax.tyStruct
               (List._∷_
               97
@@ -26599,7 +26461,9 @@ module _ (claims· : Claims) where
               Syntax.tnil
               (Syntax.ttcons Syntax.tnil (Syntax.ttcons Syntax.tnil Syntax.ttnil)))))
               Syntax.tnil)))
-              Syntax.tnil)))
+              (Syntax.tcons (Syntax.tyInt Syntax.w64) Syntax.tnil)))
+              (Syntax.tcons
+              (Syntax.tyInt Syntax.w64)
               (Syntax.tcons
               (Syntax.tyStruct
               (List._∷_
@@ -26620,8 +26484,6 @@ module _ (claims· : Claims) where
               58
               (List._∷_ 83 (List._∷_ 101 (List._∷_ 110 (List._∷_ 116 List.[]))))))))))))
               (Syntax.tcons
-              (Syntax.tyInt Syntax.w64)
-              (Syntax.tcons
               (Syntax.tyStruct
               (List._∷_
               97
@@ -26677,9 +26539,7 @@ module _ (claims· : Claims) where
               Syntax.tnil
               (Syntax.ttcons Syntax.tnil (Syntax.ttcons Syntax.tnil Syntax.ttnil)))))
               Syntax.tnil)))
-              Syntax.tnil)))
-              (Syntax.tcons
-              (Syntax.tyInt Syntax.w64)
+              (Syntax.tcons (Syntax.tyInt Syntax.w64) Syntax.tnil)))
               (Syntax.tcons
               (Syntax.tyEnum
               (List._∷_
@@ -27582,8 +27442,6 @@ module _ (claims· : Claims) where
               58
               (List._∷_ 83 (List._∷_ 101 (List._∷_ 110 (List._∷_ 116 List.[]))))))))))))
               (Syntax.tcons
-              (Syntax.tyInt Syntax.w64)
-              (Syntax.tcons
               (Syntax.tyStruct
               (List._∷_
               97
@@ -27639,7 +27497,9 @@ module _ (claims· : Claims) where
               Syntax.tnil
               (Syntax.ttcons Syntax.tnil (Syntax.ttcons Syntax.tnil Syntax.ttnil)))))
               Syntax.tnil)))
-              Syntax.tnil)))
+              (Syntax.tcons (Syntax.tyInt Syntax.w64) Syntax.tnil)))
+              (Syntax.tcons
+              (Syntax.tyInt Syntax.w64)
               (Syntax.tcons
               (Syntax.tyStruct
               (List._∷_
@@ -27660,8 +27520,6 @@ module _ (claims· : Claims) where
               58
               (List._∷_ 83 (List._∷_ 101 (List._∷_ 110 (List._∷_ 116 List.[]))))))))))))
               (Syntax.tcons
-              (Syntax.tyInt Syntax.w64)
-              (Syntax.tcons
               (Syntax.tyStruct
               (List._∷_
               97
@@ -27717,9 +27575,7 @@ module _ (claims· : Claims) where
               Syntax.tnil
               (Syntax.ttcons Syntax.tnil (Syntax.ttcons Syntax.tnil Syntax.ttnil)))))
               Syntax.tnil)))
-              Syntax.tnil)))
-              (Syntax.tcons
-              (Syntax.tyInt Syntax.w64)
+              (Syntax.tcons (Syntax.tyInt Syntax.w64) Syntax.tnil)))
               (Syntax.tcons
               (Syntax.tyEnum
               (List._∷_
@@ -29685,8 +29541,6 @@ module _ (claims· : Claims) where
               58
               (List._∷_ 83 (List._∷_ 101 (List._∷_ 110 (List._∷_ 116 List.[]))))))))))))
               (Syntax.tcons
-              (Syntax.tyInt Syntax.w64)
-              (Syntax.tcons
               (Syntax.tyStruct
               (List._∷_
               97
@@ -29742,7 +29596,9 @@ module _ (claims· : Claims) where
               Syntax.tnil
               (Syntax.ttcons Syntax.tnil (Syntax.ttcons Syntax.tnil Syntax.ttnil)))))
               Syntax.tnil)))
-              Syntax.tnil)))
+              (Syntax.tcons (Syntax.tyInt Syntax.w64) Syntax.tnil)))
+              (Syntax.tcons
+              (Syntax.tyInt Syntax.w64)
               (Syntax.tcons
               (Syntax.tyStruct
               (List._∷_
@@ -29763,8 +29619,6 @@ module _ (claims· : Claims) where
               58
               (List._∷_ 83 (List._∷_ 101 (List._∷_ 110 (List._∷_ 116 List.[]))))))))))))
               (Syntax.tcons
-              (Syntax.tyInt Syntax.w64)
-              (Syntax.tcons
               (Syntax.tyStruct
               (List._∷_
               97
@@ -29820,9 +29674,7 @@ module _ (claims· : Claims) where
               Syntax.tnil
               (Syntax.ttcons Syntax.tnil (Syntax.ttcons Syntax.tnil Syntax.ttnil)))))
               Syntax.tnil)))
-              Syntax.tnil)))
-              (Syntax.tcons
-              (Syntax.tyInt Syntax.w64)
+              (Syntax.tcons (Syntax.tyInt Syntax.w64) Syntax.tnil)))
               (Syntax.tcons
               (Syntax.tyEnum
               (List._∷_

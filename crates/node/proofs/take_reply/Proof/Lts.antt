@@ -2080,8 +2080,6 @@ t0 = List._∷_ (
       58
       (List._∷_ 58 (List._∷_ 83 (List._∷_ 101 (List._∷_ 110 (List._∷_ 116 List.[]))))))))))))
       (Syntax.tcons
-      (Syntax.tyInt Syntax.w64)
-      (Syntax.tcons
       (Syntax.tyStruct
       (List._∷_
       97
@@ -2137,7 +2135,9 @@ t0 = List._∷_ (
       Syntax.tnil
       (Syntax.ttcons Syntax.tnil (Syntax.ttcons Syntax.tnil Syntax.ttnil)))))
       Syntax.tnil)))
-      Syntax.tnil)))
+      (Syntax.tcons (Syntax.tyInt Syntax.w64) Syntax.tnil)))
+      (Syntax.tcons
+      (Syntax.tyInt Syntax.w64)
       (Syntax.tcons
       (Syntax.tyStruct
       (List._∷_
@@ -2156,8 +2156,6 @@ t0 = List._∷_ (
       58
       (List._∷_ 58 (List._∷_ 83 (List._∷_ 101 (List._∷_ 110 (List._∷_ 116 List.[]))))))))))))
       (Syntax.tcons
-      (Syntax.tyInt Syntax.w64)
-      (Syntax.tcons
       (Syntax.tyStruct
       (List._∷_
       97
@@ -2213,9 +2211,7 @@ t0 = List._∷_ (
       Syntax.tnil
       (Syntax.ttcons Syntax.tnil (Syntax.ttcons Syntax.tnil Syntax.ttnil)))))
       Syntax.tnil)))
-      Syntax.tnil)))
-      (Syntax.tcons
-      (Syntax.tyInt Syntax.w64)
+      (Syntax.tcons (Syntax.tyInt Syntax.w64) Syntax.tnil)))
       (Syntax.tcons
       (Syntax.tyEnum
       (List._∷_
@@ -3597,8 +3593,6 @@ t7 = List._∷_ (
       58
       (List._∷_ 58 (List._∷_ 83 (List._∷_ 101 (List._∷_ 110 (List._∷_ 116 List.[]))))))))))))
       (Syntax.tcons
-      (Syntax.tyInt Syntax.w64)
-      (Syntax.tcons
       (Syntax.tyStruct
       (List._∷_
       97
@@ -3654,7 +3648,9 @@ t7 = List._∷_ (
       Syntax.tnil
       (Syntax.ttcons Syntax.tnil (Syntax.ttcons Syntax.tnil Syntax.ttnil)))))
       Syntax.tnil)))
-      Syntax.tnil)))
+      (Syntax.tcons (Syntax.tyInt Syntax.w64) Syntax.tnil)))
+      (Syntax.tcons
+      (Syntax.tyInt Syntax.w64)
       (Syntax.tcons
       (Syntax.tyStruct
       (List._∷_
@@ -3673,8 +3669,6 @@ t7 = List._∷_ (
       58
       (List._∷_ 58 (List._∷_ 83 (List._∷_ 101 (List._∷_ 110 (List._∷_ 116 List.[]))))))))))))
       (Syntax.tcons
-      (Syntax.tyInt Syntax.w64)
-      (Syntax.tcons
       (Syntax.tyStruct
       (List._∷_
       97
@@ -3730,9 +3724,7 @@ t7 = List._∷_ (
       Syntax.tnil
       (Syntax.ttcons Syntax.tnil (Syntax.ttcons Syntax.tnil Syntax.ttnil)))))
       Syntax.tnil)))
-      Syntax.tnil)))
-      (Syntax.tcons
-      (Syntax.tyInt Syntax.w64)
+      (Syntax.tcons (Syntax.tyInt Syntax.w64) Syntax.tnil)))
       (Syntax.tcons
       (Syntax.tyEnum
       (List._∷_
@@ -3913,8 +3905,6 @@ t8 = List._∷_ (
       58
       (List._∷_ 58 (List._∷_ 83 (List._∷_ 101 (List._∷_ 110 (List._∷_ 116 List.[]))))))))))))
       (Syntax.tcons
-      (Syntax.tyInt Syntax.w64)
-      (Syntax.tcons
       (Syntax.tyStruct
       (List._∷_
       97
@@ -3970,7 +3960,9 @@ t8 = List._∷_ (
       Syntax.tnil
       (Syntax.ttcons Syntax.tnil (Syntax.ttcons Syntax.tnil Syntax.ttnil)))))
       Syntax.tnil)))
-      Syntax.tnil)))
+      (Syntax.tcons (Syntax.tyInt Syntax.w64) Syntax.tnil)))
+      (Syntax.tcons
+      (Syntax.tyInt Syntax.w64)
       (Syntax.tcons
       (Syntax.tyStruct
       (List._∷_
@@ -3989,8 +3981,6 @@ t8 = List._∷_ (
       58
       (List._∷_ 58 (List._∷_ 83 (List._∷_ 101 (List._∷_ 110 (List._∷_ 116 List.[]))))))))))))
       (Syntax.tcons
-      (Syntax.tyInt Syntax.w64)
-      (Syntax.tcons
       (Syntax.tyStruct
       (List._∷_
       97
@@ -4046,9 +4036,7 @@ t8 = List._∷_ (
       Syntax.tnil
       (Syntax.ttcons Syntax.tnil (Syntax.ttcons Syntax.tnil Syntax.ttnil)))))
       Syntax.tnil)))
-      Syntax.tnil)))
-      (Syntax.tcons
-      (Syntax.tyInt Syntax.w64)
+      (Syntax.tcons (Syntax.tyInt Syntax.w64) Syntax.tnil)))
       (Syntax.tcons
       (Syntax.tyEnum
       (List._∷_
@@ -4229,8 +4217,6 @@ t9 = List._∷_ (
       58
       (List._∷_ 58 (List._∷_ 83 (List._∷_ 101 (List._∷_ 110 (List._∷_ 116 List.[]))))))))))))
       (Syntax.tcons
-      (Syntax.tyInt Syntax.w64)
-      (Syntax.tcons
       (Syntax.tyStruct
       (List._∷_
       97
@@ -4286,7 +4272,9 @@ t9 = List._∷_ (
       Syntax.tnil
       (Syntax.ttcons Syntax.tnil (Syntax.ttcons Syntax.tnil Syntax.ttnil)))))
       Syntax.tnil)))
-      Syntax.tnil)))
+      (Syntax.tcons (Syntax.tyInt Syntax.w64) Syntax.tnil)))
+      (Syntax.tcons
+      (Syntax.tyInt Syntax.w64)
       (Syntax.tcons
       (Syntax.tyStruct
       (List._∷_
@@ -4305,8 +4293,6 @@ t9 = List._∷_ (
       58
       (List._∷_ 58 (List._∷_ 83 (List._∷_ 101 (List._∷_ 110 (List._∷_ 116 List.[]))))))))))))
       (Syntax.tcons
-      (Syntax.tyInt Syntax.w64)
-      (Syntax.tcons
       (Syntax.tyStruct
       (List._∷_
       97
@@ -4362,9 +4348,7 @@ t9 = List._∷_ (
       Syntax.tnil
       (Syntax.ttcons Syntax.tnil (Syntax.ttcons Syntax.tnil Syntax.ttnil)))))
       Syntax.tnil)))
-      Syntax.tnil)))
-      (Syntax.tcons
-      (Syntax.tyInt Syntax.w64)
+      (Syntax.tcons (Syntax.tyInt Syntax.w64) Syntax.tnil)))
       (Syntax.tcons
       (Syntax.tyEnum
       (List._∷_
@@ -6090,8 +6074,6 @@ t15 = List._∷_ (
       58
       (List._∷_ 58 (List._∷_ 83 (List._∷_ 101 (List._∷_ 110 (List._∷_ 116 List.[]))))))))))))
       (Syntax.tcons
-      (Syntax.tyInt Syntax.w64)
-      (Syntax.tcons
       (Syntax.tyStruct
       (List._∷_
       97
@@ -6147,7 +6129,9 @@ t15 = List._∷_ (
       Syntax.tnil
       (Syntax.ttcons Syntax.tnil (Syntax.ttcons Syntax.tnil Syntax.ttnil)))))
       Syntax.tnil)))
-      Syntax.tnil)))
+      (Syntax.tcons (Syntax.tyInt Syntax.w64) Syntax.tnil)))
+      (Syntax.tcons
+      (Syntax.tyInt Syntax.w64)
       (Syntax.tcons
       (Syntax.tyStruct
       (List._∷_
@@ -6166,8 +6150,6 @@ t15 = List._∷_ (
       58
       (List._∷_ 58 (List._∷_ 83 (List._∷_ 101 (List._∷_ 110 (List._∷_ 116 List.[]))))))))))))
       (Syntax.tcons
-      (Syntax.tyInt Syntax.w64)
-      (Syntax.tcons
       (Syntax.tyStruct
       (List._∷_
       97
@@ -6223,9 +6205,7 @@ t15 = List._∷_ (
       Syntax.tnil
       (Syntax.ttcons Syntax.tnil (Syntax.ttcons Syntax.tnil Syntax.ttnil)))))
       Syntax.tnil)))
-      Syntax.tnil)))
-      (Syntax.tcons
-      (Syntax.tyInt Syntax.w64)
+      (Syntax.tcons (Syntax.tyInt Syntax.w64) Syntax.tnil)))
       (Syntax.tcons
       (Syntax.tyEnum
       (List._∷_
@@ -6688,8 +6668,6 @@ t17 = List._∷_ (
       58
       (List._∷_ 58 (List._∷_ 83 (List._∷_ 101 (List._∷_ 110 (List._∷_ 116 List.[]))))))))))))
       (Syntax.tcons
-      (Syntax.tyInt Syntax.w64)
-      (Syntax.tcons
       (Syntax.tyStruct
       (List._∷_
       97
@@ -6745,7 +6723,9 @@ t17 = List._∷_ (
       Syntax.tnil
       (Syntax.ttcons Syntax.tnil (Syntax.ttcons Syntax.tnil Syntax.ttnil)))))
       Syntax.tnil)))
-      Syntax.tnil)))
+      (Syntax.tcons (Syntax.tyInt Syntax.w64) Syntax.tnil)))
+      (Syntax.tcons
+      (Syntax.tyInt Syntax.w64)
       (Syntax.tcons
       (Syntax.tyStruct
       (List._∷_
@@ -6764,8 +6744,6 @@ t17 = List._∷_ (
       58
       (List._∷_ 58 (List._∷_ 83 (List._∷_ 101 (List._∷_ 110 (List._∷_ 116 List.[]))))))))))))
       (Syntax.tcons
-      (Syntax.tyInt Syntax.w64)
-      (Syntax.tcons
       (Syntax.tyStruct
       (List._∷_
       97
@@ -6821,9 +6799,7 @@ t17 = List._∷_ (
       Syntax.tnil
       (Syntax.ttcons Syntax.tnil (Syntax.ttcons Syntax.tnil Syntax.ttnil)))))
       Syntax.tnil)))
-      Syntax.tnil)))
-      (Syntax.tcons
-      (Syntax.tyInt Syntax.w64)
+      (Syntax.tcons (Syntax.tyInt Syntax.w64) Syntax.tnil)))
       (Syntax.tcons
       (Syntax.tyEnum
       (List._∷_
@@ -7284,8 +7260,6 @@ t19 = List._∷_ (
       58
       (List._∷_ 58 (List._∷_ 83 (List._∷_ 101 (List._∷_ 110 (List._∷_ 116 List.[]))))))))))))
       (Syntax.tcons
-      (Syntax.tyInt Syntax.w64)
-      (Syntax.tcons
       (Syntax.tyStruct
       (List._∷_
       97
@@ -7341,7 +7315,9 @@ t19 = List._∷_ (
       Syntax.tnil
       (Syntax.ttcons Syntax.tnil (Syntax.ttcons Syntax.tnil Syntax.ttnil)))))
       Syntax.tnil)))
-      Syntax.tnil)))
+      (Syntax.tcons (Syntax.tyInt Syntax.w64) Syntax.tnil)))
+      (Syntax.tcons
+      (Syntax.tyInt Syntax.w64)
       (Syntax.tcons
       (Syntax.tyStruct
       (List._∷_
@@ -7360,8 +7336,6 @@ t19 = List._∷_ (
       58
       (List._∷_ 58 (List._∷_ 83 (List._∷_ 101 (List._∷_ 110 (List._∷_ 116 List.[]))))))))))))
       (Syntax.tcons
-      (Syntax.tyInt Syntax.w64)
-      (Syntax.tcons
       (Syntax.tyStruct
       (List._∷_
       97
@@ -7417,9 +7391,7 @@ t19 = List._∷_ (
       Syntax.tnil
       (Syntax.ttcons Syntax.tnil (Syntax.ttcons Syntax.tnil Syntax.ttnil)))))
       Syntax.tnil)))
-      Syntax.tnil)))
-      (Syntax.tcons
-      (Syntax.tyInt Syntax.w64)
+      (Syntax.tcons (Syntax.tyInt Syntax.w64) Syntax.tnil)))
       (Syntax.tcons
       (Syntax.tyEnum
       (List._∷_
@@ -7950,8 +7922,6 @@ t21 = List._∷_ (
       58
       (List._∷_ 58 (List._∷_ 83 (List._∷_ 101 (List._∷_ 110 (List._∷_ 116 List.[]))))))))))))
       (Syntax.tcons
-      (Syntax.tyInt Syntax.w64)
-      (Syntax.tcons
       (Syntax.tyStruct
       (List._∷_
       97
@@ -8007,7 +7977,9 @@ t21 = List._∷_ (
       Syntax.tnil
       (Syntax.ttcons Syntax.tnil (Syntax.ttcons Syntax.tnil Syntax.ttnil)))))
       Syntax.tnil)))
-      Syntax.tnil)))
+      (Syntax.tcons (Syntax.tyInt Syntax.w64) Syntax.tnil)))
+      (Syntax.tcons
+      (Syntax.tyInt Syntax.w64)
       (Syntax.tcons
       (Syntax.tyStruct
       (List._∷_
@@ -8026,8 +7998,6 @@ t21 = List._∷_ (
       58
       (List._∷_ 58 (List._∷_ 83 (List._∷_ 101 (List._∷_ 110 (List._∷_ 116 List.[]))))))))))))
       (Syntax.tcons
-      (Syntax.tyInt Syntax.w64)
-      (Syntax.tcons
       (Syntax.tyStruct
       (List._∷_
       97
@@ -8083,9 +8053,7 @@ t21 = List._∷_ (
       Syntax.tnil
       (Syntax.ttcons Syntax.tnil (Syntax.ttcons Syntax.tnil Syntax.ttnil)))))
       Syntax.tnil)))
-      Syntax.tnil)))
-      (Syntax.tcons
-      (Syntax.tyInt Syntax.w64)
+      (Syntax.tcons (Syntax.tyInt Syntax.w64) Syntax.tnil)))
       (Syntax.tcons
       (Syntax.tyEnum
       (List._∷_
@@ -8238,8 +8206,6 @@ t22 = List._∷_ (
       58
       (List._∷_ 58 (List._∷_ 83 (List._∷_ 101 (List._∷_ 110 (List._∷_ 116 List.[]))))))))))))
       (Syntax.tcons
-      (Syntax.tyInt Syntax.w64)
-      (Syntax.tcons
       (Syntax.tyStruct
       (List._∷_
       97
@@ -8295,7 +8261,9 @@ t22 = List._∷_ (
       Syntax.tnil
       (Syntax.ttcons Syntax.tnil (Syntax.ttcons Syntax.tnil Syntax.ttnil)))))
       Syntax.tnil)))
-      Syntax.tnil)))
+      (Syntax.tcons (Syntax.tyInt Syntax.w64) Syntax.tnil)))
+      (Syntax.tcons
+      (Syntax.tyInt Syntax.w64)
       (Syntax.tcons
       (Syntax.tyStruct
       (List._∷_
@@ -8314,8 +8282,6 @@ t22 = List._∷_ (
       58
       (List._∷_ 58 (List._∷_ 83 (List._∷_ 101 (List._∷_ 110 (List._∷_ 116 List.[]))))))))))))
       (Syntax.tcons
-      (Syntax.tyInt Syntax.w64)
-      (Syntax.tcons
       (Syntax.tyStruct
       (List._∷_
       97
@@ -8371,9 +8337,7 @@ t22 = List._∷_ (
       Syntax.tnil
       (Syntax.ttcons Syntax.tnil (Syntax.ttcons Syntax.tnil Syntax.ttnil)))))
       Syntax.tnil)))
-      Syntax.tnil)))
-      (Syntax.tcons
-      (Syntax.tyInt Syntax.w64)
+      (Syntax.tcons (Syntax.tyInt Syntax.w64) Syntax.tnil)))
       (Syntax.tcons
       (Syntax.tyEnum
       (List._∷_
@@ -9348,8 +9312,6 @@ t28 = List._∷_ (
       58
       (List._∷_ 58 (List._∷_ 83 (List._∷_ 101 (List._∷_ 110 (List._∷_ 116 List.[]))))))))))))
       (Syntax.tcons
-      (Syntax.tyInt Syntax.w64)
-      (Syntax.tcons
       (Syntax.tyStruct
       (List._∷_
       97
@@ -9405,7 +9367,9 @@ t28 = List._∷_ (
       Syntax.tnil
       (Syntax.ttcons Syntax.tnil (Syntax.ttcons Syntax.tnil Syntax.ttnil)))))
       Syntax.tnil)))
-      Syntax.tnil)))
+      (Syntax.tcons (Syntax.tyInt Syntax.w64) Syntax.tnil)))
+      (Syntax.tcons
+      (Syntax.tyInt Syntax.w64)
       (Syntax.tcons
       (Syntax.tyStruct
       (List._∷_
@@ -9424,8 +9388,6 @@ t28 = List._∷_ (
       58
       (List._∷_ 58 (List._∷_ 83 (List._∷_ 101 (List._∷_ 110 (List._∷_ 116 List.[]))))))))))))
       (Syntax.tcons
-      (Syntax.tyInt Syntax.w64)
-      (Syntax.tcons
       (Syntax.tyStruct
       (List._∷_
       97
@@ -9481,9 +9443,7 @@ t28 = List._∷_ (
       Syntax.tnil
       (Syntax.ttcons Syntax.tnil (Syntax.ttcons Syntax.tnil Syntax.ttnil)))))
       Syntax.tnil)))
-      Syntax.tnil)))
-      (Syntax.tcons
-      (Syntax.tyInt Syntax.w64)
+      (Syntax.tcons (Syntax.tyInt Syntax.w64) Syntax.tnil)))
       (Syntax.tcons
       (Syntax.tyEnum
       (List._∷_
@@ -10036,8 +9996,6 @@ t32 = List._∷_ (
       58
       (List._∷_ 58 (List._∷_ 83 (List._∷_ 101 (List._∷_ 110 (List._∷_ 116 List.[]))))))))))))
       (Syntax.tcons
-      (Syntax.tyInt Syntax.w64)
-      (Syntax.tcons
       (Syntax.tyStruct
       (List._∷_
       97
@@ -10093,7 +10051,9 @@ t32 = List._∷_ (
       Syntax.tnil
       (Syntax.ttcons Syntax.tnil (Syntax.ttcons Syntax.tnil Syntax.ttnil)))))
       Syntax.tnil)))
-      Syntax.tnil)))
+      (Syntax.tcons (Syntax.tyInt Syntax.w64) Syntax.tnil)))
+      (Syntax.tcons
+      (Syntax.tyInt Syntax.w64)
       (Syntax.tcons
       (Syntax.tyStruct
       (List._∷_
@@ -10112,8 +10072,6 @@ t32 = List._∷_ (
       58
       (List._∷_ 58 (List._∷_ 83 (List._∷_ 101 (List._∷_ 110 (List._∷_ 116 List.[]))))))))))))
       (Syntax.tcons
-      (Syntax.tyInt Syntax.w64)
-      (Syntax.tcons
       (Syntax.tyStruct
       (List._∷_
       97
@@ -10169,9 +10127,7 @@ t32 = List._∷_ (
       Syntax.tnil
       (Syntax.ttcons Syntax.tnil (Syntax.ttcons Syntax.tnil Syntax.ttnil)))))
       Syntax.tnil)))
-      Syntax.tnil)))
-      (Syntax.tcons
-      (Syntax.tyInt Syntax.w64)
+      (Syntax.tcons (Syntax.tyInt Syntax.w64) Syntax.tnil)))
       (Syntax.tcons
       (Syntax.tyEnum
       (List._∷_
@@ -10326,8 +10282,6 @@ t33 = List._∷_ (
       58
       (List._∷_ 58 (List._∷_ 83 (List._∷_ 101 (List._∷_ 110 (List._∷_ 116 List.[]))))))))))))
       (Syntax.tcons
-      (Syntax.tyInt Syntax.w64)
-      (Syntax.tcons
       (Syntax.tyStruct
       (List._∷_
       97
@@ -10383,7 +10337,9 @@ t33 = List._∷_ (
       Syntax.tnil
       (Syntax.ttcons Syntax.tnil (Syntax.ttcons Syntax.tnil Syntax.ttnil)))))
       Syntax.tnil)))
-      Syntax.tnil)))
+      (Syntax.tcons (Syntax.tyInt Syntax.w64) Syntax.tnil)))
+      (Syntax.tcons
+      (Syntax.tyInt Syntax.w64)
       (Syntax.tcons
       (Syntax.tyStruct
       (List._∷_
@@ -10402,8 +10358,6 @@ t33 = List._∷_ (
       58
       (List._∷_ 58 (List._∷_ 83 (List._∷_ 101 (List._∷_ 110 (List._∷_ 116 List.[]))))))))))))
       (Syntax.tcons
-      (Syntax.tyInt Syntax.w64)
-      (Syntax.tcons
       (Syntax.tyStruct
       (List._∷_
       97
@@ -10459,9 +10413,7 @@ t33 = List._∷_ (
       Syntax.tnil
       (Syntax.ttcons Syntax.tnil (Syntax.ttcons Syntax.tnil Syntax.ttnil)))))
       Syntax.tnil)))
-      Syntax.tnil)))
-      (Syntax.tcons
-      (Syntax.tyInt Syntax.w64)
+      (Syntax.tcons (Syntax.tyInt Syntax.w64) Syntax.tnil)))
       (Syntax.tcons
       (Syntax.tyEnum
       (List._∷_
@@ -10616,8 +10568,6 @@ t34 = List._∷_ (
       58
       (List._∷_ 58 (List._∷_ 83 (List._∷_ 101 (List._∷_ 110 (List._∷_ 116 List.[]))))))))))))
       (Syntax.tcons
-      (Syntax.tyInt Syntax.w64)
-      (Syntax.tcons
       (Syntax.tyStruct
       (List._∷_
       97
@@ -10673,7 +10623,9 @@ t34 = List._∷_ (
       Syntax.tnil
       (Syntax.ttcons Syntax.tnil (Syntax.ttcons Syntax.tnil Syntax.ttnil)))))
       Syntax.tnil)))
-      Syntax.tnil)))
+      (Syntax.tcons (Syntax.tyInt Syntax.w64) Syntax.tnil)))
+      (Syntax.tcons
+      (Syntax.tyInt Syntax.w64)
       (Syntax.tcons
       (Syntax.tyStruct
       (List._∷_
@@ -10692,8 +10644,6 @@ t34 = List._∷_ (
       58
       (List._∷_ 58 (List._∷_ 83 (List._∷_ 101 (List._∷_ 110 (List._∷_ 116 List.[]))))))))))))
       (Syntax.tcons
-      (Syntax.tyInt Syntax.w64)
-      (Syntax.tcons
       (Syntax.tyStruct
       (List._∷_
       97
@@ -10749,9 +10699,7 @@ t34 = List._∷_ (
       Syntax.tnil
       (Syntax.ttcons Syntax.tnil (Syntax.ttcons Syntax.tnil Syntax.ttnil)))))
       Syntax.tnil)))
-      Syntax.tnil)))
-      (Syntax.tcons
-      (Syntax.tyInt Syntax.w64)
+      (Syntax.tcons (Syntax.tyInt Syntax.w64) Syntax.tnil)))
       (Syntax.tcons
       (Syntax.tyEnum
       (List._∷_
@@ -11728,8 +11676,6 @@ t43 = List._∷_ (
       58
       (List._∷_ 58 (List._∷_ 83 (List._∷_ 101 (List._∷_ 110 (List._∷_ 116 List.[]))))))))))))
       (Syntax.tcons
-      (Syntax.tyInt Syntax.w64)
-      (Syntax.tcons
       (Syntax.tyStruct
       (List._∷_
       97
@@ -11785,7 +11731,9 @@ t43 = List._∷_ (
       Syntax.tnil
       (Syntax.ttcons Syntax.tnil (Syntax.ttcons Syntax.tnil Syntax.ttnil)))))
       Syntax.tnil)))
-      Syntax.tnil)))
+      (Syntax.tcons (Syntax.tyInt Syntax.w64) Syntax.tnil)))
+      (Syntax.tcons
+      (Syntax.tyInt Syntax.w64)
       (Syntax.tcons
       (Syntax.tyStruct
       (List._∷_
@@ -11804,8 +11752,6 @@ t43 = List._∷_ (
       58
       (List._∷_ 58 (List._∷_ 83 (List._∷_ 101 (List._∷_ 110 (List._∷_ 116 List.[]))))))))))))
       (Syntax.tcons
-      (Syntax.tyInt Syntax.w64)
-      (Syntax.tcons
       (Syntax.tyStruct
       (List._∷_
       97
@@ -11861,9 +11807,7 @@ t43 = List._∷_ (
       Syntax.tnil
       (Syntax.ttcons Syntax.tnil (Syntax.ttcons Syntax.tnil Syntax.ttnil)))))
       Syntax.tnil)))
-      Syntax.tnil)))
-      (Syntax.tcons
-      (Syntax.tyInt Syntax.w64)
+      (Syntax.tcons (Syntax.tyInt Syntax.w64) Syntax.tnil)))
       (Syntax.tcons
       (Syntax.tyEnum
       (List._∷_
@@ -13091,8 +13035,6 @@ t52 = List._∷_ (
       58
       (List._∷_ 58 (List._∷_ 83 (List._∷_ 101 (List._∷_ 110 (List._∷_ 116 List.[]))))))))))))
       (Syntax.tcons
-      (Syntax.tyInt Syntax.w64)
-      (Syntax.tcons
       (Syntax.tyStruct
       (List._∷_
       97
@@ -13148,7 +13090,9 @@ t52 = List._∷_ (
       Syntax.tnil
       (Syntax.ttcons Syntax.tnil (Syntax.ttcons Syntax.tnil Syntax.ttnil)))))
       Syntax.tnil)))
-      Syntax.tnil)))
+      (Syntax.tcons (Syntax.tyInt Syntax.w64) Syntax.tnil)))
+      (Syntax.tcons
+      (Syntax.tyInt Syntax.w64)
       (Syntax.tcons
       (Syntax.tyStruct
       (List._∷_
@@ -13167,8 +13111,6 @@ t52 = List._∷_ (
       58
       (List._∷_ 58 (List._∷_ 83 (List._∷_ 101 (List._∷_ 110 (List._∷_ 116 List.[]))))))))))))
       (Syntax.tcons
-      (Syntax.tyInt Syntax.w64)
-      (Syntax.tcons
       (Syntax.tyStruct
       (List._∷_
       97
@@ -13224,9 +13166,7 @@ t52 = List._∷_ (
       Syntax.tnil
       (Syntax.ttcons Syntax.tnil (Syntax.ttcons Syntax.tnil Syntax.ttnil)))))
       Syntax.tnil)))
-      Syntax.tnil)))
-      (Syntax.tcons
-      (Syntax.tyInt Syntax.w64)
+      (Syntax.tcons (Syntax.tyInt Syntax.w64) Syntax.tnil)))
       (Syntax.tcons
       (Syntax.tyEnum
       (List._∷_
@@ -15488,8 +15428,6 @@ t63 = List._∷_ (
       58
       (List._∷_ 58 (List._∷_ 83 (List._∷_ 101 (List._∷_ 110 (List._∷_ 116 List.[]))))))))))))
       (Syntax.tcons
-      (Syntax.tyInt Syntax.w64)
-      (Syntax.tcons
       (Syntax.tyStruct
       (List._∷_
       97
@@ -15545,7 +15483,9 @@ t63 = List._∷_ (
       Syntax.tnil
       (Syntax.ttcons Syntax.tnil (Syntax.ttcons Syntax.tnil Syntax.ttnil)))))
       Syntax.tnil)))
-      Syntax.tnil)))
+      (Syntax.tcons (Syntax.tyInt Syntax.w64) Syntax.tnil)))
+      (Syntax.tcons
+      (Syntax.tyInt Syntax.w64)
       (Syntax.tcons
       (Syntax.tyStruct
       (List._∷_
@@ -15564,8 +15504,6 @@ t63 = List._∷_ (
       58
       (List._∷_ 58 (List._∷_ 83 (List._∷_ 101 (List._∷_ 110 (List._∷_ 116 List.[]))))))))))))
       (Syntax.tcons
-      (Syntax.tyInt Syntax.w64)
-      (Syntax.tcons
       (Syntax.tyStruct
       (List._∷_
       97
@@ -15621,9 +15559,7 @@ t63 = List._∷_ (
       Syntax.tnil
       (Syntax.ttcons Syntax.tnil (Syntax.ttcons Syntax.tnil Syntax.ttnil)))))
       Syntax.tnil)))
-      Syntax.tnil)))
-      (Syntax.tcons
-      (Syntax.tyInt Syntax.w64)
+      (Syntax.tcons (Syntax.tyInt Syntax.w64) Syntax.tnil)))
       (Syntax.tcons
       (Syntax.tyEnum
       (List._∷_
@@ -15986,8 +15922,6 @@ t66 = List._∷_ (
       58
       (List._∷_ 58 (List._∷_ 83 (List._∷_ 101 (List._∷_ 110 (List._∷_ 116 List.[]))))))))))))
       (Syntax.tcons
-      (Syntax.tyInt Syntax.w64)
-      (Syntax.tcons
       (Syntax.tyStruct
       (List._∷_
       97
@@ -16043,7 +15977,9 @@ t66 = List._∷_ (
       Syntax.tnil
       (Syntax.ttcons Syntax.tnil (Syntax.ttcons Syntax.tnil Syntax.ttnil)))))
       Syntax.tnil)))
-      Syntax.tnil)))
+      (Syntax.tcons (Syntax.tyInt Syntax.w64) Syntax.tnil)))
+      (Syntax.tcons
+      (Syntax.tyInt Syntax.w64)
       (Syntax.tcons
       (Syntax.tyStruct
       (List._∷_
@@ -16062,8 +15998,6 @@ t66 = List._∷_ (
       58
       (List._∷_ 58 (List._∷_ 83 (List._∷_ 101 (List._∷_ 110 (List._∷_ 116 List.[]))))))))))))
       (Syntax.tcons
-      (Syntax.tyInt Syntax.w64)
-      (Syntax.tcons
       (Syntax.tyStruct
       (List._∷_
       97
@@ -16119,9 +16053,7 @@ t66 = List._∷_ (
       Syntax.tnil
       (Syntax.ttcons Syntax.tnil (Syntax.ttcons Syntax.tnil Syntax.ttnil)))))
       Syntax.tnil)))
-      Syntax.tnil)))
-      (Syntax.tcons
-      (Syntax.tyInt Syntax.w64)
+      (Syntax.tcons (Syntax.tyInt Syntax.w64) Syntax.tnil)))
       (Syntax.tcons
       (Syntax.tyEnum
       (List._∷_
@@ -16482,8 +16414,6 @@ t69 = List._∷_ (
       58
       (List._∷_ 58 (List._∷_ 83 (List._∷_ 101 (List._∷_ 110 (List._∷_ 116 List.[]))))))))))))
       (Syntax.tcons
-      (Syntax.tyInt Syntax.w64)
-      (Syntax.tcons
       (Syntax.tyStruct
       (List._∷_
       97
@@ -16539,7 +16469,9 @@ t69 = List._∷_ (
       Syntax.tnil
       (Syntax.ttcons Syntax.tnil (Syntax.ttcons Syntax.tnil Syntax.ttnil)))))
       Syntax.tnil)))
-      Syntax.tnil)))
+      (Syntax.tcons (Syntax.tyInt Syntax.w64) Syntax.tnil)))
+      (Syntax.tcons
+      (Syntax.tyInt Syntax.w64)
       (Syntax.tcons
       (Syntax.tyStruct
       (List._∷_
@@ -16558,8 +16490,6 @@ t69 = List._∷_ (
       58
       (List._∷_ 58 (List._∷_ 83 (List._∷_ 101 (List._∷_ 110 (List._∷_ 116 List.[]))))))))))))
       (Syntax.tcons
-      (Syntax.tyInt Syntax.w64)
-      (Syntax.tcons
       (Syntax.tyStruct
       (List._∷_
       97
@@ -16615,9 +16545,7 @@ t69 = List._∷_ (
       Syntax.tnil
       (Syntax.ttcons Syntax.tnil (Syntax.ttcons Syntax.tnil Syntax.ttnil)))))
       Syntax.tnil)))
-      Syntax.tnil)))
-      (Syntax.tcons
-      (Syntax.tyInt Syntax.w64)
+      (Syntax.tcons (Syntax.tyInt Syntax.w64) Syntax.tnil)))
       (Syntax.tcons
       (Syntax.tyEnum
       (List._∷_
@@ -16977,8 +16905,6 @@ t72 = List._∷_ (
       58
       (List._∷_ 58 (List._∷_ 83 (List._∷_ 101 (List._∷_ 110 (List._∷_ 116 List.[]))))))))))))
       (Syntax.tcons
-      (Syntax.tyInt Syntax.w64)
-      (Syntax.tcons
       (Syntax.tyStruct
       (List._∷_
       97
@@ -17034,7 +16960,9 @@ t72 = List._∷_ (
       Syntax.tnil
       (Syntax.ttcons Syntax.tnil (Syntax.ttcons Syntax.tnil Syntax.ttnil)))))
       Syntax.tnil)))
-      Syntax.tnil)))
+      (Syntax.tcons (Syntax.tyInt Syntax.w64) Syntax.tnil)))
+      (Syntax.tcons
+      (Syntax.tyInt Syntax.w64)
       (Syntax.tcons
       (Syntax.tyStruct
       (List._∷_
@@ -17053,8 +16981,6 @@ t72 = List._∷_ (
       58
       (List._∷_ 58 (List._∷_ 83 (List._∷_ 101 (List._∷_ 110 (List._∷_ 116 List.[]))))))))))))
       (Syntax.tcons
-      (Syntax.tyInt Syntax.w64)
-      (Syntax.tcons
       (Syntax.tyStruct
       (List._∷_
       97
@@ -17110,9 +17036,7 @@ t72 = List._∷_ (
       Syntax.tnil
       (Syntax.ttcons Syntax.tnil (Syntax.ttcons Syntax.tnil Syntax.ttnil)))))
       Syntax.tnil)))
-      Syntax.tnil)))
-      (Syntax.tcons
-      (Syntax.tyInt Syntax.w64)
+      (Syntax.tcons (Syntax.tyInt Syntax.w64) Syntax.tnil)))
       (Syntax.tcons
       (Syntax.tyEnum
       (List._∷_
@@ -21559,8 +21483,6 @@ t98 = List._∷_ (
       58
       (List._∷_ 58 (List._∷_ 83 (List._∷_ 101 (List._∷_ 110 (List._∷_ 116 List.[]))))))))))))
       (Syntax.tcons
-      (Syntax.tyInt Syntax.w64)
-      (Syntax.tcons
       (Syntax.tyStruct
       (List._∷_
       97
@@ -21616,7 +21538,9 @@ t98 = List._∷_ (
       Syntax.tnil
       (Syntax.ttcons Syntax.tnil (Syntax.ttcons Syntax.tnil Syntax.ttnil)))))
       Syntax.tnil)))
-      Syntax.tnil)))
+      (Syntax.tcons (Syntax.tyInt Syntax.w64) Syntax.tnil)))
+      (Syntax.tcons
+      (Syntax.tyInt Syntax.w64)
       (Syntax.tcons
       (Syntax.tyStruct
       (List._∷_
@@ -21635,8 +21559,6 @@ t98 = List._∷_ (
       58
       (List._∷_ 58 (List._∷_ 83 (List._∷_ 101 (List._∷_ 110 (List._∷_ 116 List.[]))))))))))))
       (Syntax.tcons
-      (Syntax.tyInt Syntax.w64)
-      (Syntax.tcons
       (Syntax.tyStruct
       (List._∷_
       97
@@ -21692,9 +21614,7 @@ t98 = List._∷_ (
       Syntax.tnil
       (Syntax.ttcons Syntax.tnil (Syntax.ttcons Syntax.tnil Syntax.ttnil)))))
       Syntax.tnil)))
-      Syntax.tnil)))
-      (Syntax.tcons
-      (Syntax.tyInt Syntax.w64)
+      (Syntax.tcons (Syntax.tyInt Syntax.w64) Syntax.tnil)))
       (Syntax.tcons
       (Syntax.tyEnum
       (List._∷_
@@ -21861,8 +21781,6 @@ t99 = List._∷_ (
       58
       (List._∷_ 58 (List._∷_ 83 (List._∷_ 101 (List._∷_ 110 (List._∷_ 116 List.[]))))))))))))
       (Syntax.tcons
-      (Syntax.tyInt Syntax.w64)
-      (Syntax.tcons
       (Syntax.tyStruct
       (List._∷_
       97
@@ -21918,7 +21836,9 @@ t99 = List._∷_ (
       Syntax.tnil
       (Syntax.ttcons Syntax.tnil (Syntax.ttcons Syntax.tnil Syntax.ttnil)))))
       Syntax.tnil)))
-      Syntax.tnil)))
+      (Syntax.tcons (Syntax.tyInt Syntax.w64) Syntax.tnil)))
+      (Syntax.tcons
+      (Syntax.tyInt Syntax.w64)
       (Syntax.tcons
       (Syntax.tyStruct
       (List._∷_
@@ -21937,8 +21857,6 @@ t99 = List._∷_ (
       58
       (List._∷_ 58 (List._∷_ 83 (List._∷_ 101 (List._∷_ 110 (List._∷_ 116 List.[]))))))))))))
       (Syntax.tcons
-      (Syntax.tyInt Syntax.w64)
-      (Syntax.tcons
       (Syntax.tyStruct
       (List._∷_
       97
@@ -21994,9 +21912,7 @@ t99 = List._∷_ (
       Syntax.tnil
       (Syntax.ttcons Syntax.tnil (Syntax.ttcons Syntax.tnil Syntax.ttnil)))))
       Syntax.tnil)))
-      Syntax.tnil)))
-      (Syntax.tcons
-      (Syntax.tyInt Syntax.w64)
+      (Syntax.tcons (Syntax.tyInt Syntax.w64) Syntax.tnil)))
       (Syntax.tcons
       (Syntax.tyEnum
       (List._∷_
@@ -22188,8 +22104,6 @@ t100 = List._∷_ (
       58
       (List._∷_ 58 (List._∷_ 83 (List._∷_ 101 (List._∷_ 110 (List._∷_ 116 List.[]))))))))))))
       (Syntax.tcons
-      (Syntax.tyInt Syntax.w64)
-      (Syntax.tcons
       (Syntax.tyStruct
       (List._∷_
       97
@@ -22245,7 +22159,9 @@ t100 = List._∷_ (
       Syntax.tnil
       (Syntax.ttcons Syntax.tnil (Syntax.ttcons Syntax.tnil Syntax.ttnil)))))
       Syntax.tnil)))
-      Syntax.tnil)))
+      (Syntax.tcons (Syntax.tyInt Syntax.w64) Syntax.tnil)))
+      (Syntax.tcons
+      (Syntax.tyInt Syntax.w64)
       (Syntax.tcons
       (Syntax.tyStruct
       (List._∷_
@@ -22264,8 +22180,6 @@ t100 = List._∷_ (
       58
       (List._∷_ 58 (List._∷_ 83 (List._∷_ 101 (List._∷_ 110 (List._∷_ 116 List.[]))))))))))))
       (Syntax.tcons
-      (Syntax.tyInt Syntax.w64)
-      (Syntax.tcons
       (Syntax.tyStruct
       (List._∷_
       97
@@ -22321,9 +22235,7 @@ t100 = List._∷_ (
       Syntax.tnil
       (Syntax.ttcons Syntax.tnil (Syntax.ttcons Syntax.tnil Syntax.ttnil)))))
       Syntax.tnil)))
-      Syntax.tnil)))
-      (Syntax.tcons
-      (Syntax.tyInt Syntax.w64)
+      (Syntax.tcons (Syntax.tyInt Syntax.w64) Syntax.tnil)))
       (Syntax.tcons
       (Syntax.tyEnum
       (List._∷_
@@ -24405,8 +24317,6 @@ module _ (claims· : Claims) where
       58
       (List._∷_ 58 (List._∷_ 83 (List._∷_ 101 (List._∷_ 110 (List._∷_ 116 List.[]))))))))))))
       (Syntax.tcons
-      (Syntax.tyInt Syntax.w64)
-      (Syntax.tcons
       (Syntax.tyStruct
       (List._∷_
       97
@@ -24462,7 +24372,9 @@ module _ (claims· : Claims) where
       Syntax.tnil
       (Syntax.ttcons Syntax.tnil (Syntax.ttcons Syntax.tnil Syntax.ttnil)))))
       Syntax.tnil)))
-      Syntax.tnil)))
+      (Syntax.tcons (Syntax.tyInt Syntax.w64) Syntax.tnil)))
+      (Syntax.tcons
+      (Syntax.tyInt Syntax.w64)
       (Syntax.tcons
       (Syntax.tyStruct
       (List._∷_
@@ -24481,8 +24393,6 @@ module _ (claims· : Claims) where
       58
       (List._∷_ 58 (List._∷_ 83 (List._∷_ 101 (List._∷_ 110 (List._∷_ 116 List.[]))))))))))))
       (Syntax.tcons
-      (Syntax.tyInt Syntax.w64)
-      (Syntax.tcons
       (Syntax.tyStruct
       (List._∷_
       97
@@ -24538,9 +24448,7 @@ module _ (claims· : Claims) where
       Syntax.tnil
       (Syntax.ttcons Syntax.tnil (Syntax.ttcons Syntax.tnil Syntax.ttnil)))))
       Syntax.tnil)))
-      Syntax.tnil)))
-      (Syntax.tcons
-      (Syntax.tyInt Syntax.w64)
+      (Syntax.tcons (Syntax.tyInt Syntax.w64) Syntax.tnil)))
       (Syntax.tcons
       (Syntax.tyEnum
       (List._∷_
@@ -25435,8 +25343,6 @@ module _ (claims· : Claims) where
       58
       (List._∷_ 58 (List._∷_ 83 (List._∷_ 101 (List._∷_ 110 (List._∷_ 116 List.[]))))))))))))
       (Syntax.tcons
-      (Syntax.tyInt Syntax.w64)
-      (Syntax.tcons
       (Syntax.tyStruct
       (List._∷_
       97
@@ -25492,7 +25398,9 @@ module _ (claims· : Claims) where
       Syntax.tnil
       (Syntax.ttcons Syntax.tnil (Syntax.ttcons Syntax.tnil Syntax.ttnil)))))
       Syntax.tnil)))
-      Syntax.tnil)))
+      (Syntax.tcons (Syntax.tyInt Syntax.w64) Syntax.tnil)))
+      (Syntax.tcons
+      (Syntax.tyInt Syntax.w64)
       (Syntax.tcons
       (Syntax.tyStruct
       (List._∷_
@@ -25511,8 +25419,6 @@ module _ (claims· : Claims) where
       58
       (List._∷_ 58 (List._∷_ 83 (List._∷_ 101 (List._∷_ 110 (List._∷_ 116 List.[]))))))))))))
       (Syntax.tcons
-      (Syntax.tyInt Syntax.w64)
-      (Syntax.tcons
       (Syntax.tyStruct
       (List._∷_
       97
@@ -25568,9 +25474,7 @@ module _ (claims· : Claims) where
       Syntax.tnil
       (Syntax.ttcons Syntax.tnil (Syntax.ttcons Syntax.tnil Syntax.ttnil)))))
       Syntax.tnil)))
-      Syntax.tnil)))
-      (Syntax.tcons
-      (Syntax.tyInt Syntax.w64)
+      (Syntax.tcons (Syntax.tyInt Syntax.w64) Syntax.tnil)))
       (Syntax.tcons
       (Syntax.tyEnum
       (List._∷_
@@ -26006,8 +25910,6 @@ module _ (claims· : Claims) where
       58
       (List._∷_ 58 (List._∷_ 83 (List._∷_ 101 (List._∷_ 110 (List._∷_ 116 List.[]))))))))))))
       (Syntax.tcons
-      (Syntax.tyInt Syntax.w64)
-      (Syntax.tcons
       (Syntax.tyStruct
       (List._∷_
       97
@@ -26063,7 +25965,9 @@ module _ (claims· : Claims) where
       Syntax.tnil
       (Syntax.ttcons Syntax.tnil (Syntax.ttcons Syntax.tnil Syntax.ttnil)))))
       Syntax.tnil)))
-      Syntax.tnil)))
+      (Syntax.tcons (Syntax.tyInt Syntax.w64) Syntax.tnil)))
+      (Syntax.tcons
+      (Syntax.tyInt Syntax.w64)
       (Syntax.tcons
       (Syntax.tyStruct
       (List._∷_
@@ -26082,8 +25986,6 @@ module _ (claims· : Claims) where
       58
       (List._∷_ 58 (List._∷_ 83 (List._∷_ 101 (List._∷_ 110 (List._∷_ 116 List.[]))))))))))))
       (Syntax.tcons
-      (Syntax.tyInt Syntax.w64)
-      (Syntax.tcons
       (Syntax.tyStruct
       (List._∷_
       97
@@ -26139,9 +26041,7 @@ module _ (claims· : Claims) where
       Syntax.tnil
       (Syntax.ttcons Syntax.tnil (Syntax.ttcons Syntax.tnil Syntax.ttnil)))))
       Syntax.tnil)))
-      Syntax.tnil)))
-      (Syntax.tcons
-      (Syntax.tyInt Syntax.w64)
+      (Syntax.tcons (Syntax.tyInt Syntax.w64) Syntax.tnil)))
       (Syntax.tcons
       (Syntax.tyEnum
       (List._∷_
@@ -26907,8 +26807,6 @@ module _ (claims· : Claims) where
               58
               (List._∷_ 83 (List._∷_ 101 (List._∷_ 110 (List._∷_ 116 List.[]))))))))))))
               (Syntax.tcons
-              (Syntax.tyInt Syntax.w64)
-              (Syntax.tcons
               (Syntax.tyStruct
               (List._∷_
               97
@@ -26964,7 +26862,9 @@ module _ (claims· : Claims) where
               Syntax.tnil
               (Syntax.ttcons Syntax.tnil (Syntax.ttcons Syntax.tnil Syntax.ttnil)))))
               Syntax.tnil)))
-              Syntax.tnil)))
+              (Syntax.tcons (Syntax.tyInt Syntax.w64) Syntax.tnil)))
+              (Syntax.tcons
+              (Syntax.tyInt Syntax.w64)
               (Syntax.tcons
               (Syntax.tyStruct
               (List._∷_
@@ -26985,8 +26885,6 @@ module _ (claims· : Claims) where
               58
               (List._∷_ 83 (List._∷_ 101 (List._∷_ 110 (List._∷_ 116 List.[]))))))))))))
               (Syntax.tcons
-              (Syntax.tyInt Syntax.w64)
-              (Syntax.tcons
               (Syntax.tyStruct
               (List._∷_
               97
@@ -27042,9 +26940,7 @@ module _ (claims· : Claims) where
               Syntax.tnil
               (Syntax.ttcons Syntax.tnil (Syntax.ttcons Syntax.tnil Syntax.ttnil)))))
               Syntax.tnil)))
-              Syntax.tnil)))
-              (Syntax.tcons
-              (Syntax.tyInt Syntax.w64)
+              (Syntax.tcons (Syntax.tyInt Syntax.w64) Syntax.tnil)))
               (Syntax.tcons
               (Syntax.tyEnum
               (List._∷_
@@ -27244,8 +27140,6 @@ module _ (claims· : Claims) where
               58
               (List._∷_ 83 (List._∷_ 101 (List._∷_ 110 (List._∷_ 116 List.[]))))))))))))
               (Syntax.tcons
-              (Syntax.tyInt Syntax.w64)
-              (Syntax.tcons
               (Syntax.tyStruct
               (List._∷_
               97
@@ -27301,7 +27195,9 @@ module _ (claims· : Claims) where
               Syntax.tnil
               (Syntax.ttcons Syntax.tnil (Syntax.ttcons Syntax.tnil Syntax.ttnil)))))
               Syntax.tnil)))
-              Syntax.tnil)))
+              (Syntax.tcons (Syntax.tyInt Syntax.w64) Syntax.tnil)))
+              (Syntax.tcons
+              (Syntax.tyInt Syntax.w64)
               (Syntax.tcons
               (Syntax.tyStruct
               (List._∷_
@@ -27322,8 +27218,6 @@ module _ (claims· : Claims) where
               58
               (List._∷_ 83 (List._∷_ 101 (List._∷_ 110 (List._∷_ 116 List.[]))))))))))))
               (Syntax.tcons
-              (Syntax.tyInt Syntax.w64)
-              (Syntax.tcons
               (Syntax.tyStruct
               (List._∷_
               97
@@ -27379,9 +27273,7 @@ module _ (claims· : Claims) where
               Syntax.tnil
               (Syntax.ttcons Syntax.tnil (Syntax.ttcons Syntax.tnil Syntax.ttnil)))))
               Syntax.tnil)))
-              Syntax.tnil)))
-              (Syntax.tcons
-              (Syntax.tyInt Syntax.w64)
+              (Syntax.tcons (Syntax.tyInt Syntax.w64) Syntax.tnil)))
               (Syntax.tcons
               (Syntax.tyEnum
               (List._∷_
@@ -27551,8 +27443,6 @@ module _ (claims· : Claims) where
               58
               (List._∷_ 83 (List._∷_ 101 (List._∷_ 110 (List._∷_ 116 List.[]))))))))))))
               (Syntax.tcons
-              (Syntax.tyInt Syntax.w64)
-              (Syntax.tcons
               (Syntax.tyStruct
               (List._∷_
               97
@@ -27608,7 +27498,9 @@ module _ (claims· : Claims) where
               Syntax.tnil
               (Syntax.ttcons Syntax.tnil (Syntax.ttcons Syntax.tnil Syntax.ttnil)))))
               Syntax.tnil)))
-              Syntax.tnil)))
+              (Syntax.tcons (Syntax.tyInt Syntax.w64) Syntax.tnil)))
+              (Syntax.tcons
+              (Syntax.tyInt Syntax.w64)
               (Syntax.tcons
               (Syntax.tyStruct
               (List._∷_
@@ -27629,8 +27521,6 @@ module _ (claims· : Claims) where
               58
               (List._∷_ 83 (List._∷_ 101 (List._∷_ 110 (List._∷_ 116 List.[]))))))))))))
               (Syntax.tcons
-              (Syntax.tyInt Syntax.w64)
-              (Syntax.tcons
               (Syntax.tyStruct
               (List._∷_
               97
@@ -27686,9 +27576,7 @@ module _ (claims· : Claims) where
               Syntax.tnil
               (Syntax.ttcons Syntax.tnil (Syntax.ttcons Syntax.tnil Syntax.ttnil)))))
               Syntax.tnil)))
-              Syntax.tnil)))
-              (Syntax.tcons
-              (Syntax.tyInt Syntax.w64)
+              (Syntax.tcons (Syntax.tyInt Syntax.w64) Syntax.tnil)))
               (Syntax.tcons
               (Syntax.tyEnum
               (List._∷_
@@ -27858,8 +27746,6 @@ module _ (claims· : Claims) where
               58
               (List._∷_ 83 (List._∷_ 101 (List._∷_ 110 (List._∷_ 116 List.[]))))))))))))
               (Syntax.tcons
-              (Syntax.tyInt Syntax.w64)
-              (Syntax.tcons
               (Syntax.tyStruct
               (List._∷_
               97
@@ -27915,7 +27801,9 @@ module _ (claims· : Claims) where
               Syntax.tnil
               (Syntax.ttcons Syntax.tnil (Syntax.ttcons Syntax.tnil Syntax.ttnil)))))
               Syntax.tnil)))
-              Syntax.tnil)))
+              (Syntax.tcons (Syntax.tyInt Syntax.w64) Syntax.tnil)))
+              (Syntax.tcons
+              (Syntax.tyInt Syntax.w64)
               (Syntax.tcons
               (Syntax.tyStruct
               (List._∷_
@@ -27936,8 +27824,6 @@ module _ (claims· : Claims) where
               58
               (List._∷_ 83 (List._∷_ 101 (List._∷_ 110 (List._∷_ 116 List.[]))))))))))))
               (Syntax.tcons
-              (Syntax.tyInt Syntax.w64)
-              (Syntax.tcons
               (Syntax.tyStruct
               (List._∷_
               97
@@ -27993,9 +27879,7 @@ module _ (claims· : Claims) where
               Syntax.tnil
               (Syntax.ttcons Syntax.tnil (Syntax.ttcons Syntax.tnil Syntax.ttnil)))))
               Syntax.tnil)))
-              Syntax.tnil)))
-              (Syntax.tcons
-              (Syntax.tyInt Syntax.w64)
+              (Syntax.tcons (Syntax.tyInt Syntax.w64) Syntax.tnil)))
               (Syntax.tcons
               (Syntax.tyEnum
               (List._∷_
@@ -28165,8 +28049,6 @@ module _ (claims· : Claims) where
               58
               (List._∷_ 83 (List._∷_ 101 (List._∷_ 110 (List._∷_ 116 List.[]))))))))))))
               (Syntax.tcons
-              (Syntax.tyInt Syntax.w64)
-              (Syntax.tcons
               (Syntax.tyStruct
               (List._∷_
               97
@@ -28222,7 +28104,9 @@ module _ (claims· : Claims) where
               Syntax.tnil
               (Syntax.ttcons Syntax.tnil (Syntax.ttcons Syntax.tnil Syntax.ttnil)))))
               Syntax.tnil)))
-              Syntax.tnil)))
+              (Syntax.tcons (Syntax.tyInt Syntax.w64) Syntax.tnil)))
+              (Syntax.tcons
+              (Syntax.tyInt Syntax.w64)
               (Syntax.tcons
               (Syntax.tyStruct
               (List._∷_
@@ -28243,8 +28127,6 @@ module _ (claims· : Claims) where
               58
               (List._∷_ 83 (List._∷_ 101 (List._∷_ 110 (List._∷_ 116 List.[]))))))))))))
               (Syntax.tcons
-              (Syntax.tyInt Syntax.w64)
-              (Syntax.tcons
               (Syntax.tyStruct
               (List._∷_
               97
@@ -28300,9 +28182,7 @@ module _ (claims· : Claims) where
               Syntax.tnil
               (Syntax.ttcons Syntax.tnil (Syntax.ttcons Syntax.tnil Syntax.ttnil)))))
               Syntax.tnil)))
-              Syntax.tnil)))
-              (Syntax.tcons
-              (Syntax.tyInt Syntax.w64)
+              (Syntax.tcons (Syntax.tyInt Syntax.w64) Syntax.tnil)))
               (Syntax.tcons
               (Syntax.tyEnum
               (List._∷_
@@ -28472,8 +28352,6 @@ module _ (claims· : Claims) where
               58
               (List._∷_ 83 (List._∷_ 101 (List._∷_ 110 (List._∷_ 116 List.[]))))))))))))
               (Syntax.tcons
-              (Syntax.tyInt Syntax.w64)
-              (Syntax.tcons
               (Syntax.tyStruct
               (List._∷_
               97
@@ -28529,7 +28407,9 @@ module _ (claims· : Claims) where
               Syntax.tnil
               (Syntax.ttcons Syntax.tnil (Syntax.ttcons Syntax.tnil Syntax.ttnil)))))
               Syntax.tnil)))
-              Syntax.tnil)))
+              (Syntax.tcons (Syntax.tyInt Syntax.w64) Syntax.tnil)))
+              (Syntax.tcons
+              (Syntax.tyInt Syntax.w64)
               (Syntax.tcons
               (Syntax.tyStruct
               (List._∷_
@@ -28550,8 +28430,6 @@ module _ (claims· : Claims) where
               58
               (List._∷_ 83 (List._∷_ 101 (List._∷_ 110 (List._∷_ 116 List.[]))))))))))))
               (Syntax.tcons
-              (Syntax.tyInt Syntax.w64)
-              (Syntax.tcons
               (Syntax.tyStruct
               (List._∷_
               97
@@ -28607,9 +28485,7 @@ module _ (claims· : Claims) where
               Syntax.tnil
               (Syntax.ttcons Syntax.tnil (Syntax.ttcons Syntax.tnil Syntax.ttnil)))))
               Syntax.tnil)))
-              Syntax.tnil)))
-              (Syntax.tcons
-              (Syntax.tyInt Syntax.w64)
+              (Syntax.tcons (Syntax.tyInt Syntax.w64) Syntax.tnil)))
               (Syntax.tcons
               (Syntax.tyEnum
               (List._∷_
@@ -28779,8 +28655,6 @@ module _ (claims· : Claims) where
               58
               (List._∷_ 83 (List._∷_ 101 (List._∷_ 110 (List._∷_ 116 List.[]))))))))))))
               (Syntax.tcons
-              (Syntax.tyInt Syntax.w64)
-              (Syntax.tcons
               (Syntax.tyStruct
               (List._∷_
               97
@@ -28836,7 +28710,9 @@ module _ (claims· : Claims) where
               Syntax.tnil
               (Syntax.ttcons Syntax.tnil (Syntax.ttcons Syntax.tnil Syntax.ttnil)))))
               Syntax.tnil)))
-              Syntax.tnil)))
+              (Syntax.tcons (Syntax.tyInt Syntax.w64) Syntax.tnil)))
+              (Syntax.tcons
+              (Syntax.tyInt Syntax.w64)
               (Syntax.tcons
               (Syntax.tyStruct
               (List._∷_
@@ -28857,8 +28733,6 @@ module _ (claims· : Claims) where
               58
               (List._∷_ 83 (List._∷_ 101 (List._∷_ 110 (List._∷_ 116 List.[]))))))))))))
               (Syntax.tcons
-              (Syntax.tyInt Syntax.w64)
-              (Syntax.tcons
               (Syntax.tyStruct
               (List._∷_
               97
@@ -28914,9 +28788,7 @@ module _ (claims· : Claims) where
               Syntax.tnil
               (Syntax.ttcons Syntax.tnil (Syntax.ttcons Syntax.tnil Syntax.ttnil)))))
               Syntax.tnil)))
-              Syntax.tnil)))
-              (Syntax.tcons
-              (Syntax.tyInt Syntax.w64)
+              (Syntax.tcons (Syntax.tyInt Syntax.w64) Syntax.tnil)))
               (Syntax.tcons
               (Syntax.tyEnum
               (List._∷_
@@ -29146,8 +29018,6 @@ module _ (claims· : Claims) where
               58
               (List._∷_ 83 (List._∷_ 101 (List._∷_ 110 (List._∷_ 116 List.[]))))))))))))
               (Syntax.tcons
-              (Syntax.tyInt Syntax.w64)
-              (Syntax.tcons
               (Syntax.tyStruct
               (List._∷_
               97
@@ -29203,7 +29073,9 @@ module _ (claims· : Claims) where
               Syntax.tnil
               (Syntax.ttcons Syntax.tnil (Syntax.ttcons Syntax.tnil Syntax.ttnil)))))
               Syntax.tnil)))
-              Syntax.tnil)))
+              (Syntax.tcons (Syntax.tyInt Syntax.w64) Syntax.tnil)))
+              (Syntax.tcons
+              (Syntax.tyInt Syntax.w64)
               (Syntax.tcons
               (Syntax.tyStruct
               (List._∷_
@@ -29224,8 +29096,6 @@ module _ (claims· : Claims) where
               58
               (List._∷_ 83 (List._∷_ 101 (List._∷_ 110 (List._∷_ 116 List.[]))))))))))))
               (Syntax.tcons
-              (Syntax.tyInt Syntax.w64)
-              (Syntax.tcons
               (Syntax.tyStruct
               (List._∷_
               97
@@ -29281,9 +29151,7 @@ module _ (claims· : Claims) where
               Syntax.tnil
               (Syntax.ttcons Syntax.tnil (Syntax.ttcons Syntax.tnil Syntax.ttnil)))))
               Syntax.tnil)))
-              Syntax.tnil)))
-              (Syntax.tcons
-              (Syntax.tyInt Syntax.w64)
+              (Syntax.tcons (Syntax.tyInt Syntax.w64) Syntax.tnil)))
               (Syntax.tcons
               (Syntax.tyEnum
               (List._∷_
@@ -29515,8 +29383,6 @@ module _ (claims· : Claims) where
               58
               (List._∷_ 83 (List._∷_ 101 (List._∷_ 110 (List._∷_ 116 List.[]))))))))))))
               (Syntax.tcons
-              (Syntax.tyInt Syntax.w64)
-              (Syntax.tcons
               (Syntax.tyStruct
               (List._∷_
               97
@@ -29572,7 +29438,9 @@ module _ (claims· : Claims) where
               Syntax.tnil
               (Syntax.ttcons Syntax.tnil (Syntax.ttcons Syntax.tnil Syntax.ttnil)))))
               Syntax.tnil)))
-              Syntax.tnil)))
+              (Syntax.tcons (Syntax.tyInt Syntax.w64) Syntax.tnil)))
+              (Syntax.tcons
+              (Syntax.tyInt Syntax.w64)
               (Syntax.tcons
               (Syntax.tyStruct
               (List._∷_
@@ -29593,8 +29461,6 @@ module _ (claims· : Claims) where
               58
               (List._∷_ 83 (List._∷_ 101 (List._∷_ 110 (List._∷_ 116 List.[]))))))))))))
               (Syntax.tcons
-              (Syntax.tyInt Syntax.w64)
-              (Syntax.tcons
               (Syntax.tyStruct
               (List._∷_
               97
@@ -29650,9 +29516,7 @@ module _ (claims· : Claims) where
               Syntax.tnil
               (Syntax.ttcons Syntax.tnil (Syntax.ttcons Syntax.tnil Syntax.ttnil)))))
               Syntax.tnil)))
-              Syntax.tnil)))
-              (Syntax.tcons
-              (Syntax.tyInt Syntax.w64)
+              (Syntax.tcons (Syntax.tyInt Syntax.w64) Syntax.tnil)))
               (Syntax.tcons
               (Syntax.tyEnum
               (List._∷_
@@ -29886,8 +29750,6 @@ module _ (claims· : Claims) where
               58
               (List._∷_ 83 (List._∷_ 101 (List._∷_ 110 (List._∷_ 116 List.[]))))))))))))
               (Syntax.tcons
-              (Syntax.tyInt Syntax.w64)
-              (Syntax.tcons
               (Syntax.tyStruct
               (List._∷_
               97
@@ -29943,7 +29805,9 @@ module _ (claims· : Claims) where
               Syntax.tnil
               (Syntax.ttcons Syntax.tnil (Syntax.ttcons Syntax.tnil Syntax.ttnil)))))
               Syntax.tnil)))
-              Syntax.tnil)))
+              (Syntax.tcons (Syntax.tyInt Syntax.w64) Syntax.tnil)))
+              (Syntax.tcons
+              (Syntax.tyInt Syntax.w64)
               (Syntax.tcons
               (Syntax.tyStruct
               (List._∷_
@@ -29964,8 +29828,6 @@ module _ (claims· : Claims) where
               58
               (List._∷_ 83 (List._∷_ 101 (List._∷_ 110 (List._∷_ 116 List.[]))))))))))))
               (Syntax.tcons
-              (Syntax.tyInt Syntax.w64)
-              (Syntax.tcons
               (Syntax.tyStruct
               (List._∷_
               97
@@ -30021,9 +29883,7 @@ module _ (claims· : Claims) where
               Syntax.tnil
               (Syntax.ttcons Syntax.tnil (Syntax.ttcons Syntax.tnil Syntax.ttnil)))))
               Syntax.tnil)))
-              Syntax.tnil)))
-              (Syntax.tcons
-              (Syntax.tyInt Syntax.w64)
+              (Syntax.tcons (Syntax.tyInt Syntax.w64) Syntax.tnil)))
               (Syntax.tcons
               (Syntax.tyEnum
               (List._∷_
@@ -36496,8 +36356,6 @@ module _ (claims· : Claims) where
               58
               (List._∷_ 83 (List._∷_ 101 (List._∷_ 110 (List._∷_ 116 List.[]))))))))))))
               (Syntax.tcons
-              (Syntax.tyInt Syntax.w64)
-              (Syntax.tcons
               (Syntax.tyStruct
               (List._∷_
               97
@@ -36553,7 +36411,9 @@ module _ (claims· : Claims) where
               Syntax.tnil
               (Syntax.ttcons Syntax.tnil (Syntax.ttcons Syntax.tnil Syntax.ttnil)))))
               Syntax.tnil)))
-              Syntax.tnil)))
+              (Syntax.tcons (Syntax.tyInt Syntax.w64) Syntax.tnil)))
+              (Syntax.tcons
+              (Syntax.tyInt Syntax.w64)
               (Syntax.tcons
               (Syntax.tyStruct
               (List._∷_
@@ -36574,8 +36434,6 @@ module _ (claims· : Claims) where
               58
               (List._∷_ 83 (List._∷_ 101 (List._∷_ 110 (List._∷_ 116 List.[]))))))))))))
               (Syntax.tcons
-              (Syntax.tyInt Syntax.w64)
-              (Syntax.tcons
               (Syntax.tyStruct
               (List._∷_
               97
@@ -36631,9 +36489,7 @@ module _ (claims· : Claims) where
               Syntax.tnil
               (Syntax.ttcons Syntax.tnil (Syntax.ttcons Syntax.tnil Syntax.ttnil)))))
               Syntax.tnil)))
-              Syntax.tnil)))
-              (Syntax.tcons
-              (Syntax.tyInt Syntax.w64)
+              (Syntax.tcons (Syntax.tyInt Syntax.w64) Syntax.tnil)))
               (Syntax.tcons
               (Syntax.tyEnum
               (List._∷_
@@ -39162,8 +39018,6 @@ module _ (claims· : Claims) where
               58
               (List._∷_ 83 (List._∷_ 101 (List._∷_ 110 (List._∷_ 116 List.[]))))))))))))
               (Syntax.tcons
-              (Syntax.tyInt Syntax.w64)
-              (Syntax.tcons
               (Syntax.tyStruct
               (List._∷_
               97
@@ -39219,7 +39073,9 @@ module _ (claims· : Claims) where
               Syntax.tnil
               (Syntax.ttcons Syntax.tnil (Syntax.ttcons Syntax.tnil Syntax.ttnil)))))
               Syntax.tnil)))
-              Syntax.tnil)))
+              (Syntax.tcons (Syntax.tyInt Syntax.w64) Syntax.tnil)))
+              (Syntax.tcons
+              (Syntax.tyInt Syntax.w64)
               (Syntax.tcons
               (Syntax.tyStruct
               (List._∷_
@@ -39240,8 +39096,6 @@ module _ (claims· : Claims) where
               58
               (List._∷_ 83 (List._∷_ 101 (List._∷_ 110 (List._∷_ 116 List.[]))))))))))))
               (Syntax.tcons
-              (Syntax.tyInt Syntax.w64)
-              (Syntax.tcons
               (Syntax.tyStruct
               (List._∷_
               97
@@ -39297,9 +39151,7 @@ module _ (claims· : Claims) where
               Syntax.tnil
               (Syntax.ttcons Syntax.tnil (Syntax.ttcons Syntax.tnil Syntax.ttnil)))))
               Syntax.tnil)))
-              Syntax.tnil)))
-              (Syntax.tcons
-              (Syntax.tyInt Syntax.w64)
+              (Syntax.tcons (Syntax.tyInt Syntax.w64) Syntax.tnil)))
               (Syntax.tcons
               (Syntax.tyEnum
               (List._∷_
@@ -46171,8 +46023,6 @@ module _ (claims· : Claims) where
               58
               (List._∷_ 83 (List._∷_ 101 (List._∷_ 110 (List._∷_ 116 List.[]))))))))))))
               (Syntax.tcons
-              (Syntax.tyInt Syntax.w64)
-              (Syntax.tcons
               (Syntax.tyStruct
               (List._∷_
               97
@@ -46228,7 +46078,9 @@ module _ (claims· : Claims) where
               Syntax.tnil
               (Syntax.ttcons Syntax.tnil (Syntax.ttcons Syntax.tnil Syntax.ttnil)))))
               Syntax.tnil)))
-              Syntax.tnil)))
+              (Syntax.tcons (Syntax.tyInt Syntax.w64) Syntax.tnil)))
+              (Syntax.tcons
+              (Syntax.tyInt Syntax.w64)
               (Syntax.tcons
               (Syntax.tyStruct
               (List._∷_
@@ -46249,8 +46101,6 @@ module _ (claims· : Claims) where
               58
               (List._∷_ 83 (List._∷_ 101 (List._∷_ 110 (List._∷_ 116 List.[]))))))))))))
               (Syntax.tcons
-              (Syntax.tyInt Syntax.w64)
-              (Syntax.tcons
               (Syntax.tyStruct
               (List._∷_
               97
@@ -46306,9 +46156,7 @@ module _ (claims· : Claims) where
               Syntax.tnil
               (Syntax.ttcons Syntax.tnil (Syntax.ttcons Syntax.tnil Syntax.ttnil)))))
               Syntax.tnil)))
-              Syntax.tnil)))
-              (Syntax.tcons
-              (Syntax.tyInt Syntax.w64)
+              (Syntax.tcons (Syntax.tyInt Syntax.w64) Syntax.tnil)))
               (Syntax.tcons
               (Syntax.tyEnum
               (List._∷_

@@ -769,8 +769,6 @@ t1 = List._∷_ (0, Rows.whole (Declared'.row Host.the-type)) (List._∷_ (
       58
       (List._∷_ 58 (List._∷_ 83 (List._∷_ 101 (List._∷_ 110 (List._∷_ 116 List.[]))))))))))))
       (Syntax.tcons
-      (Syntax.tyInt Syntax.w64)
-      (Syntax.tcons
       (Syntax.tyStruct
       (List._∷_
       97
@@ -826,7 +824,9 @@ t1 = List._∷_ (0, Rows.whole (Declared'.row Host.the-type)) (List._∷_ (
       Syntax.tnil
       (Syntax.ttcons Syntax.tnil (Syntax.ttcons Syntax.tnil Syntax.ttnil)))))
       Syntax.tnil)))
-      Syntax.tnil)))
+      (Syntax.tcons (Syntax.tyInt Syntax.w64) Syntax.tnil)))
+      (Syntax.tcons
+      (Syntax.tyInt Syntax.w64)
       (Syntax.tcons
       (Syntax.tyStruct
       (List._∷_
@@ -845,8 +845,6 @@ t1 = List._∷_ (0, Rows.whole (Declared'.row Host.the-type)) (List._∷_ (
       58
       (List._∷_ 58 (List._∷_ 83 (List._∷_ 101 (List._∷_ 110 (List._∷_ 116 List.[]))))))))))))
       (Syntax.tcons
-      (Syntax.tyInt Syntax.w64)
-      (Syntax.tcons
       (Syntax.tyStruct
       (List._∷_
       97
@@ -902,9 +900,7 @@ t1 = List._∷_ (0, Rows.whole (Declared'.row Host.the-type)) (List._∷_ (
       Syntax.tnil
       (Syntax.ttcons Syntax.tnil (Syntax.ttcons Syntax.tnil Syntax.ttnil)))))
       Syntax.tnil)))
-      Syntax.tnil)))
-      (Syntax.tcons
-      (Syntax.tyInt Syntax.w64)
+      (Syntax.tcons (Syntax.tyInt Syntax.w64) Syntax.tnil)))
       (Syntax.tcons
       (Syntax.tyEnum
       (List._∷_
@@ -2618,8 +2614,6 @@ t10 = List._∷_ (
       58
       (List._∷_ 58 (List._∷_ 83 (List._∷_ 101 (List._∷_ 110 (List._∷_ 116 List.[]))))))))))))
       (Syntax.tcons
-      (Syntax.tyInt Syntax.w64)
-      (Syntax.tcons
       (Syntax.tyStruct
       (List._∷_
       97
@@ -2675,7 +2669,9 @@ t10 = List._∷_ (
       Syntax.tnil
       (Syntax.ttcons Syntax.tnil (Syntax.ttcons Syntax.tnil Syntax.ttnil)))))
       Syntax.tnil)))
-      Syntax.tnil)))
+      (Syntax.tcons (Syntax.tyInt Syntax.w64) Syntax.tnil)))
+      (Syntax.tcons
+      (Syntax.tyInt Syntax.w64)
       (Syntax.tcons
       (Syntax.tyStruct
       (List._∷_
@@ -2694,8 +2690,6 @@ t10 = List._∷_ (
       58
       (List._∷_ 58 (List._∷_ 83 (List._∷_ 101 (List._∷_ 110 (List._∷_ 116 List.[]))))))))))))
       (Syntax.tcons
-      (Syntax.tyInt Syntax.w64)
-      (Syntax.tcons
       (Syntax.tyStruct
       (List._∷_
       97
@@ -2751,9 +2745,7 @@ t10 = List._∷_ (
       Syntax.tnil
       (Syntax.ttcons Syntax.tnil (Syntax.ttcons Syntax.tnil Syntax.ttnil)))))
       Syntax.tnil)))
-      Syntax.tnil)))
-      (Syntax.tcons
-      (Syntax.tyInt Syntax.w64)
+      (Syntax.tcons (Syntax.tyInt Syntax.w64) Syntax.tnil)))
       (Syntax.tcons
       (Syntax.tyEnum
       (List._∷_
@@ -3050,8 +3042,6 @@ t11 = List._∷_ (
       58
       (List._∷_ 58 (List._∷_ 83 (List._∷_ 101 (List._∷_ 110 (List._∷_ 116 List.[]))))))))))))
       (Syntax.tcons
-      (Syntax.tyInt Syntax.w64)
-      (Syntax.tcons
       (Syntax.tyStruct
       (List._∷_
       97
@@ -3107,7 +3097,9 @@ t11 = List._∷_ (
       Syntax.tnil
       (Syntax.ttcons Syntax.tnil (Syntax.ttcons Syntax.tnil Syntax.ttnil)))))
       Syntax.tnil)))
-      Syntax.tnil)))
+      (Syntax.tcons (Syntax.tyInt Syntax.w64) Syntax.tnil)))
+      (Syntax.tcons
+      (Syntax.tyInt Syntax.w64)
       (Syntax.tcons
       (Syntax.tyStruct
       (List._∷_
@@ -3126,8 +3118,6 @@ t11 = List._∷_ (
       58
       (List._∷_ 58 (List._∷_ 83 (List._∷_ 101 (List._∷_ 110 (List._∷_ 116 List.[]))))))))))))
       (Syntax.tcons
-      (Syntax.tyInt Syntax.w64)
-      (Syntax.tcons
       (Syntax.tyStruct
       (List._∷_
       97
@@ -3183,9 +3173,7 @@ t11 = List._∷_ (
       Syntax.tnil
       (Syntax.ttcons Syntax.tnil (Syntax.ttcons Syntax.tnil Syntax.ttnil)))))
       Syntax.tnil)))
-      Syntax.tnil)))
-      (Syntax.tcons
-      (Syntax.tyInt Syntax.w64)
+      (Syntax.tcons (Syntax.tyInt Syntax.w64) Syntax.tnil)))
       (Syntax.tcons
       (Syntax.tyEnum
       (List._∷_
@@ -3430,8 +3418,6 @@ t12 = List._∷_ (0, Rows.whole (Declared'.row Host.the-type)) (List._∷_ (
       58
       (List._∷_ 58 (List._∷_ 83 (List._∷_ 101 (List._∷_ 110 (List._∷_ 116 List.[]))))))))))))
       (Syntax.tcons
-      (Syntax.tyInt Syntax.w64)
-      (Syntax.tcons
       (Syntax.tyStruct
       (List._∷_
       97
@@ -3487,7 +3473,9 @@ t12 = List._∷_ (0, Rows.whole (Declared'.row Host.the-type)) (List._∷_ (
       Syntax.tnil
       (Syntax.ttcons Syntax.tnil (Syntax.ttcons Syntax.tnil Syntax.ttnil)))))
       Syntax.tnil)))
-      Syntax.tnil)))
+      (Syntax.tcons (Syntax.tyInt Syntax.w64) Syntax.tnil)))
+      (Syntax.tcons
+      (Syntax.tyInt Syntax.w64)
       (Syntax.tcons
       (Syntax.tyStruct
       (List._∷_
@@ -3506,8 +3494,6 @@ t12 = List._∷_ (0, Rows.whole (Declared'.row Host.the-type)) (List._∷_ (
       58
       (List._∷_ 58 (List._∷_ 83 (List._∷_ 101 (List._∷_ 110 (List._∷_ 116 List.[]))))))))))))
       (Syntax.tcons
-      (Syntax.tyInt Syntax.w64)
-      (Syntax.tcons
       (Syntax.tyStruct
       (List._∷_
       97
@@ -3563,9 +3549,7 @@ t12 = List._∷_ (0, Rows.whole (Declared'.row Host.the-type)) (List._∷_ (
       Syntax.tnil
       (Syntax.ttcons Syntax.tnil (Syntax.ttcons Syntax.tnil Syntax.ttnil)))))
       Syntax.tnil)))
-      Syntax.tnil)))
-      (Syntax.tcons
-      (Syntax.tyInt Syntax.w64)
+      (Syntax.tcons (Syntax.tyInt Syntax.w64) Syntax.tnil)))
       (Syntax.tcons
       (Syntax.tyEnum
       (List._∷_
@@ -4164,8 +4148,6 @@ module _ (claims· : Claims) where
       58
       (List._∷_ 58 (List._∷_ 83 (List._∷_ 101 (List._∷_ 110 (List._∷_ 116 List.[]))))))))))))
       (Syntax.tcons
-      (Syntax.tyInt Syntax.w64)
-      (Syntax.tcons
       (Syntax.tyStruct
       (List._∷_
       97
@@ -4221,7 +4203,9 @@ module _ (claims· : Claims) where
       Syntax.tnil
       (Syntax.ttcons Syntax.tnil (Syntax.ttcons Syntax.tnil Syntax.ttnil)))))
       Syntax.tnil)))
-      Syntax.tnil)))
+      (Syntax.tcons (Syntax.tyInt Syntax.w64) Syntax.tnil)))
+      (Syntax.tcons
+      (Syntax.tyInt Syntax.w64)
       (Syntax.tcons
       (Syntax.tyStruct
       (List._∷_
@@ -4240,8 +4224,6 @@ module _ (claims· : Claims) where
       58
       (List._∷_ 58 (List._∷_ 83 (List._∷_ 101 (List._∷_ 110 (List._∷_ 116 List.[]))))))))))))
       (Syntax.tcons
-      (Syntax.tyInt Syntax.w64)
-      (Syntax.tcons
       (Syntax.tyStruct
       (List._∷_
       97
@@ -4297,9 +4279,7 @@ module _ (claims· : Claims) where
       Syntax.tnil
       (Syntax.ttcons Syntax.tnil (Syntax.ttcons Syntax.tnil Syntax.ttnil)))))
       Syntax.tnil)))
-      Syntax.tnil)))
-      (Syntax.tcons
-      (Syntax.tyInt Syntax.w64)
+      (Syntax.tcons (Syntax.tyInt Syntax.w64) Syntax.tnil)))
       (Syntax.tcons
       (Syntax.tyEnum
       (List._∷_
@@ -6170,8 +6150,6 @@ module _ (claims· : Claims) where
               58
               (List._∷_ 83 (List._∷_ 101 (List._∷_ 110 (List._∷_ 116 List.[]))))))))))))
               (Syntax.tcons
-              (Syntax.tyInt Syntax.w64)
-              (Syntax.tcons
               (Syntax.tyStruct
               (List._∷_
               97
@@ -6227,7 +6205,9 @@ module _ (claims· : Claims) where
               Syntax.tnil
               (Syntax.ttcons Syntax.tnil (Syntax.ttcons Syntax.tnil Syntax.ttnil)))))
               Syntax.tnil)))
-              Syntax.tnil)))
+              (Syntax.tcons (Syntax.tyInt Syntax.w64) Syntax.tnil)))
+              (Syntax.tcons
+              (Syntax.tyInt Syntax.w64)
               (Syntax.tcons
               (Syntax.tyStruct
               (List._∷_
@@ -6248,8 +6228,6 @@ module _ (claims· : Claims) where
               58
               (List._∷_ 83 (List._∷_ 101 (List._∷_ 110 (List._∷_ 116 List.[]))))))))))))
               (Syntax.tcons
-              (Syntax.tyInt Syntax.w64)
-              (Syntax.tcons
               (Syntax.tyStruct
               (List._∷_
               97
@@ -6305,9 +6283,7 @@ module _ (claims· : Claims) where
               Syntax.tnil
               (Syntax.ttcons Syntax.tnil (Syntax.ttcons Syntax.tnil Syntax.ttnil)))))
               Syntax.tnil)))
-              Syntax.tnil)))
-              (Syntax.tcons
-              (Syntax.tyInt Syntax.w64)
+              (Syntax.tcons (Syntax.tyInt Syntax.w64) Syntax.tnil)))
               (Syntax.tcons
               (Syntax.tyEnum
               (List._∷_
@@ -6415,8 +6391,6 @@ module _ (claims· : Claims) where
               58
               (List._∷_ 83 (List._∷_ 101 (List._∷_ 110 (List._∷_ 116 List.[]))))))))))))
               (Syntax.tcons
-              (Syntax.tyInt Syntax.w64)
-              (Syntax.tcons
               (Syntax.tyStruct
               (List._∷_
               97
@@ -6472,7 +6446,9 @@ module _ (claims· : Claims) where
               Syntax.tnil
               (Syntax.ttcons Syntax.tnil (Syntax.ttcons Syntax.tnil Syntax.ttnil)))))
               Syntax.tnil)))
-              Syntax.tnil)))
+              (Syntax.tcons (Syntax.tyInt Syntax.w64) Syntax.tnil)))
+              (Syntax.tcons
+              (Syntax.tyInt Syntax.w64)
               (Syntax.tcons
               (Syntax.tyStruct
               (List._∷_
@@ -6493,8 +6469,6 @@ module _ (claims· : Claims) where
               58
               (List._∷_ 83 (List._∷_ 101 (List._∷_ 110 (List._∷_ 116 List.[]))))))))))))
               (Syntax.tcons
-              (Syntax.tyInt Syntax.w64)
-              (Syntax.tcons
               (Syntax.tyStruct
               (List._∷_
               97
@@ -6550,9 +6524,7 @@ module _ (claims· : Claims) where
               Syntax.tnil
               (Syntax.ttcons Syntax.tnil (Syntax.ttcons Syntax.tnil Syntax.ttnil)))))
               Syntax.tnil)))
-              Syntax.tnil)))
-              (Syntax.tcons
-              (Syntax.tyInt Syntax.w64)
+              (Syntax.tcons (Syntax.tyInt Syntax.w64) Syntax.tnil)))
               (Syntax.tcons
               (Syntax.tyEnum
               (List._∷_

@@ -151,8 +151,6 @@ xs =
     58
     (List._∷_ 58 (List._∷_ 83 (List._∷_ 101 (List._∷_ 110 (List._∷_ 116 List.[]))))))))))))
     (Syntax.tcons
-    (Syntax.tyInt Syntax.w64)
-    (Syntax.tcons
     (Syntax.tyStruct
     (List._∷_
     97
@@ -206,7 +204,9 @@ xs =
     Syntax.tnil
     (Syntax.ttcons Syntax.tnil (Syntax.ttcons Syntax.tnil Syntax.ttnil)))))
     Syntax.tnil)))
-    Syntax.tnil)))
+    (Syntax.tcons (Syntax.tyInt Syntax.w64) Syntax.tnil)))
+    (Syntax.tcons
+    (Syntax.tyInt Syntax.w64)
     (Syntax.tcons
     (Syntax.tyStruct
     (List._∷_
@@ -225,8 +225,6 @@ xs =
     58
     (List._∷_ 58 (List._∷_ 83 (List._∷_ 101 (List._∷_ 110 (List._∷_ 116 List.[]))))))))))))
     (Syntax.tcons
-    (Syntax.tyInt Syntax.w64)
-    (Syntax.tcons
     (Syntax.tyStruct
     (List._∷_
     97
@@ -280,9 +278,7 @@ xs =
     Syntax.tnil
     (Syntax.ttcons Syntax.tnil (Syntax.ttcons Syntax.tnil Syntax.ttnil)))))
     Syntax.tnil)))
-    Syntax.tnil)))
-    (Syntax.tcons
-    (Syntax.tyInt Syntax.w64)
+    (Syntax.tcons (Syntax.tyInt Syntax.w64) Syntax.tnil)))
     (Syntax.tcons
     (Syntax.tyEnum
     (List._∷_
@@ -1218,8 +1214,6 @@ t0 = List._∷_ (
       58
       (List._∷_ 58 (List._∷_ 83 (List._∷_ 101 (List._∷_ 110 (List._∷_ 116 List.[]))))))))))))
       (Syntax.tcons
-      (Syntax.tyInt Syntax.w64)
-      (Syntax.tcons
       (Syntax.tyStruct
       (List._∷_
       97
@@ -1275,7 +1269,9 @@ t0 = List._∷_ (
       Syntax.tnil
       (Syntax.ttcons Syntax.tnil (Syntax.ttcons Syntax.tnil Syntax.ttnil)))))
       Syntax.tnil)))
-      Syntax.tnil)))
+      (Syntax.tcons (Syntax.tyInt Syntax.w64) Syntax.tnil)))
+      (Syntax.tcons
+      (Syntax.tyInt Syntax.w64)
       (Syntax.tcons
       (Syntax.tyStruct
       (List._∷_
@@ -1294,8 +1290,6 @@ t0 = List._∷_ (
       58
       (List._∷_ 58 (List._∷_ 83 (List._∷_ 101 (List._∷_ 110 (List._∷_ 116 List.[]))))))))))))
       (Syntax.tcons
-      (Syntax.tyInt Syntax.w64)
-      (Syntax.tcons
       (Syntax.tyStruct
       (List._∷_
       97
@@ -1351,9 +1345,7 @@ t0 = List._∷_ (
       Syntax.tnil
       (Syntax.ttcons Syntax.tnil (Syntax.ttcons Syntax.tnil Syntax.ttnil)))))
       Syntax.tnil)))
-      Syntax.tnil)))
-      (Syntax.tcons
-      (Syntax.tyInt Syntax.w64)
+      (Syntax.tcons (Syntax.tyInt Syntax.w64) Syntax.tnil)))
       (Syntax.tcons
       (Syntax.tyEnum
       (List._∷_
@@ -1671,8 +1663,6 @@ t3 = List._∷_ (0, Rows.whole (Declared.row Host.the-type)) (List._∷_ (
       58
       (List._∷_ 58 (List._∷_ 83 (List._∷_ 101 (List._∷_ 110 (List._∷_ 116 List.[]))))))))))))
       (Syntax.tcons
-      (Syntax.tyInt Syntax.w64)
-      (Syntax.tcons
       (Syntax.tyStruct
       (List._∷_
       97
@@ -1728,7 +1718,9 @@ t3 = List._∷_ (0, Rows.whole (Declared.row Host.the-type)) (List._∷_ (
       Syntax.tnil
       (Syntax.ttcons Syntax.tnil (Syntax.ttcons Syntax.tnil Syntax.ttnil)))))
       Syntax.tnil)))
-      Syntax.tnil)))
+      (Syntax.tcons (Syntax.tyInt Syntax.w64) Syntax.tnil)))
+      (Syntax.tcons
+      (Syntax.tyInt Syntax.w64)
       (Syntax.tcons
       (Syntax.tyStruct
       (List._∷_
@@ -1747,8 +1739,6 @@ t3 = List._∷_ (0, Rows.whole (Declared.row Host.the-type)) (List._∷_ (
       58
       (List._∷_ 58 (List._∷_ 83 (List._∷_ 101 (List._∷_ 110 (List._∷_ 116 List.[]))))))))))))
       (Syntax.tcons
-      (Syntax.tyInt Syntax.w64)
-      (Syntax.tcons
       (Syntax.tyStruct
       (List._∷_
       97
@@ -1804,9 +1794,7 @@ t3 = List._∷_ (0, Rows.whole (Declared.row Host.the-type)) (List._∷_ (
       Syntax.tnil
       (Syntax.ttcons Syntax.tnil (Syntax.ttcons Syntax.tnil Syntax.ttnil)))))
       Syntax.tnil)))
-      Syntax.tnil)))
-      (Syntax.tcons
-      (Syntax.tyInt Syntax.w64)
+      (Syntax.tcons (Syntax.tyInt Syntax.w64) Syntax.tnil)))
       (Syntax.tcons
       (Syntax.tyEnum
       (List._∷_
@@ -2021,8 +2009,6 @@ t4 = List._∷_ (
       58
       (List._∷_ 58 (List._∷_ 83 (List._∷_ 101 (List._∷_ 110 (List._∷_ 116 List.[]))))))))))))
       (Syntax.tcons
-      (Syntax.tyInt Syntax.w64)
-      (Syntax.tcons
       (Syntax.tyStruct
       (List._∷_
       97
@@ -2078,7 +2064,9 @@ t4 = List._∷_ (
       Syntax.tnil
       (Syntax.ttcons Syntax.tnil (Syntax.ttcons Syntax.tnil Syntax.ttnil)))))
       Syntax.tnil)))
-      Syntax.tnil)))
+      (Syntax.tcons (Syntax.tyInt Syntax.w64) Syntax.tnil)))
+      (Syntax.tcons
+      (Syntax.tyInt Syntax.w64)
       (Syntax.tcons
       (Syntax.tyStruct
       (List._∷_
@@ -2097,8 +2085,6 @@ t4 = List._∷_ (
       58
       (List._∷_ 58 (List._∷_ 83 (List._∷_ 101 (List._∷_ 110 (List._∷_ 116 List.[]))))))))))))
       (Syntax.tcons
-      (Syntax.tyInt Syntax.w64)
-      (Syntax.tcons
       (Syntax.tyStruct
       (List._∷_
       97
@@ -2154,9 +2140,7 @@ t4 = List._∷_ (
       Syntax.tnil
       (Syntax.ttcons Syntax.tnil (Syntax.ttcons Syntax.tnil Syntax.ttnil)))))
       Syntax.tnil)))
-      Syntax.tnil)))
-      (Syntax.tcons
-      (Syntax.tyInt Syntax.w64)
+      (Syntax.tcons (Syntax.tyInt Syntax.w64) Syntax.tnil)))
       (Syntax.tcons
       (Syntax.tyEnum
       (List._∷_
@@ -2373,8 +2357,6 @@ t5 = List._∷_ (
       58
       (List._∷_ 58 (List._∷_ 83 (List._∷_ 101 (List._∷_ 110 (List._∷_ 116 List.[]))))))))))))
       (Syntax.tcons
-      (Syntax.tyInt Syntax.w64)
-      (Syntax.tcons
       (Syntax.tyStruct
       (List._∷_
       97
@@ -2430,7 +2412,9 @@ t5 = List._∷_ (
       Syntax.tnil
       (Syntax.ttcons Syntax.tnil (Syntax.ttcons Syntax.tnil Syntax.ttnil)))))
       Syntax.tnil)))
-      Syntax.tnil)))
+      (Syntax.tcons (Syntax.tyInt Syntax.w64) Syntax.tnil)))
+      (Syntax.tcons
+      (Syntax.tyInt Syntax.w64)
       (Syntax.tcons
       (Syntax.tyStruct
       (List._∷_
@@ -2449,8 +2433,6 @@ t5 = List._∷_ (
       58
       (List._∷_ 58 (List._∷_ 83 (List._∷_ 101 (List._∷_ 110 (List._∷_ 116 List.[]))))))))))))
       (Syntax.tcons
-      (Syntax.tyInt Syntax.w64)
-      (Syntax.tcons
       (Syntax.tyStruct
       (List._∷_
       97
@@ -2506,9 +2488,7 @@ t5 = List._∷_ (
       Syntax.tnil
       (Syntax.ttcons Syntax.tnil (Syntax.ttcons Syntax.tnil Syntax.ttnil)))))
       Syntax.tnil)))
-      Syntax.tnil)))
-      (Syntax.tcons
-      (Syntax.tyInt Syntax.w64)
+      (Syntax.tcons (Syntax.tyInt Syntax.w64) Syntax.tnil)))
       (Syntax.tcons
       (Syntax.tyEnum
       (List._∷_
@@ -2727,8 +2707,6 @@ t6 = List._∷_ (
       58
       (List._∷_ 58 (List._∷_ 83 (List._∷_ 101 (List._∷_ 110 (List._∷_ 116 List.[]))))))))))))
       (Syntax.tcons
-      (Syntax.tyInt Syntax.w64)
-      (Syntax.tcons
       (Syntax.tyStruct
       (List._∷_
       97
@@ -2784,7 +2762,9 @@ t6 = List._∷_ (
       Syntax.tnil
       (Syntax.ttcons Syntax.tnil (Syntax.ttcons Syntax.tnil Syntax.ttnil)))))
       Syntax.tnil)))
-      Syntax.tnil)))
+      (Syntax.tcons (Syntax.tyInt Syntax.w64) Syntax.tnil)))
+      (Syntax.tcons
+      (Syntax.tyInt Syntax.w64)
       (Syntax.tcons
       (Syntax.tyStruct
       (List._∷_
@@ -2803,8 +2783,6 @@ t6 = List._∷_ (
       58
       (List._∷_ 58 (List._∷_ 83 (List._∷_ 101 (List._∷_ 110 (List._∷_ 116 List.[]))))))))))))
       (Syntax.tcons
-      (Syntax.tyInt Syntax.w64)
-      (Syntax.tcons
       (Syntax.tyStruct
       (List._∷_
       97
@@ -2860,9 +2838,7 @@ t6 = List._∷_ (
       Syntax.tnil
       (Syntax.ttcons Syntax.tnil (Syntax.ttcons Syntax.tnil Syntax.ttnil)))))
       Syntax.tnil)))
-      Syntax.tnil)))
-      (Syntax.tcons
-      (Syntax.tyInt Syntax.w64)
+      (Syntax.tcons (Syntax.tyInt Syntax.w64) Syntax.tnil)))
       (Syntax.tcons
       (Syntax.tyEnum
       (List._∷_
@@ -3079,8 +3055,6 @@ t7 = List._∷_ (
       58
       (List._∷_ 58 (List._∷_ 83 (List._∷_ 101 (List._∷_ 110 (List._∷_ 116 List.[]))))))))))))
       (Syntax.tcons
-      (Syntax.tyInt Syntax.w64)
-      (Syntax.tcons
       (Syntax.tyStruct
       (List._∷_
       97
@@ -3136,7 +3110,9 @@ t7 = List._∷_ (
       Syntax.tnil
       (Syntax.ttcons Syntax.tnil (Syntax.ttcons Syntax.tnil Syntax.ttnil)))))
       Syntax.tnil)))
-      Syntax.tnil)))
+      (Syntax.tcons (Syntax.tyInt Syntax.w64) Syntax.tnil)))
+      (Syntax.tcons
+      (Syntax.tyInt Syntax.w64)
       (Syntax.tcons
       (Syntax.tyStruct
       (List._∷_
@@ -3155,8 +3131,6 @@ t7 = List._∷_ (
       58
       (List._∷_ 58 (List._∷_ 83 (List._∷_ 101 (List._∷_ 110 (List._∷_ 116 List.[]))))))))))))
       (Syntax.tcons
-      (Syntax.tyInt Syntax.w64)
-      (Syntax.tcons
       (Syntax.tyStruct
       (List._∷_
       97
@@ -3212,9 +3186,7 @@ t7 = List._∷_ (
       Syntax.tnil
       (Syntax.ttcons Syntax.tnil (Syntax.ttcons Syntax.tnil Syntax.ttnil)))))
       Syntax.tnil)))
-      Syntax.tnil)))
-      (Syntax.tcons
-      (Syntax.tyInt Syntax.w64)
+      (Syntax.tcons (Syntax.tyInt Syntax.w64) Syntax.tnil)))
       (Syntax.tcons
       (Syntax.tyEnum
       (List._∷_
@@ -3433,8 +3405,6 @@ t8 = List._∷_ (
       58
       (List._∷_ 58 (List._∷_ 83 (List._∷_ 101 (List._∷_ 110 (List._∷_ 116 List.[]))))))))))))
       (Syntax.tcons
-      (Syntax.tyInt Syntax.w64)
-      (Syntax.tcons
       (Syntax.tyStruct
       (List._∷_
       97
@@ -3490,7 +3460,9 @@ t8 = List._∷_ (
       Syntax.tnil
       (Syntax.ttcons Syntax.tnil (Syntax.ttcons Syntax.tnil Syntax.ttnil)))))
       Syntax.tnil)))
-      Syntax.tnil)))
+      (Syntax.tcons (Syntax.tyInt Syntax.w64) Syntax.tnil)))
+      (Syntax.tcons
+      (Syntax.tyInt Syntax.w64)
       (Syntax.tcons
       (Syntax.tyStruct
       (List._∷_
@@ -3509,8 +3481,6 @@ t8 = List._∷_ (
       58
       (List._∷_ 58 (List._∷_ 83 (List._∷_ 101 (List._∷_ 110 (List._∷_ 116 List.[]))))))))))))
       (Syntax.tcons
-      (Syntax.tyInt Syntax.w64)
-      (Syntax.tcons
       (Syntax.tyStruct
       (List._∷_
       97
@@ -3566,9 +3536,7 @@ t8 = List._∷_ (
       Syntax.tnil
       (Syntax.ttcons Syntax.tnil (Syntax.ttcons Syntax.tnil Syntax.ttnil)))))
       Syntax.tnil)))
-      Syntax.tnil)))
-      (Syntax.tcons
-      (Syntax.tyInt Syntax.w64)
+      (Syntax.tcons (Syntax.tyInt Syntax.w64) Syntax.tnil)))
       (Syntax.tcons
       (Syntax.tyEnum
       (List._∷_
@@ -3785,8 +3753,6 @@ t9 = List._∷_ (
       58
       (List._∷_ 58 (List._∷_ 83 (List._∷_ 101 (List._∷_ 110 (List._∷_ 116 List.[]))))))))))))
       (Syntax.tcons
-      (Syntax.tyInt Syntax.w64)
-      (Syntax.tcons
       (Syntax.tyStruct
       (List._∷_
       97
@@ -3842,7 +3808,9 @@ t9 = List._∷_ (
       Syntax.tnil
       (Syntax.ttcons Syntax.tnil (Syntax.ttcons Syntax.tnil Syntax.ttnil)))))
       Syntax.tnil)))
-      Syntax.tnil)))
+      (Syntax.tcons (Syntax.tyInt Syntax.w64) Syntax.tnil)))
+      (Syntax.tcons
+      (Syntax.tyInt Syntax.w64)
       (Syntax.tcons
       (Syntax.tyStruct
       (List._∷_
@@ -3861,8 +3829,6 @@ t9 = List._∷_ (
       58
       (List._∷_ 58 (List._∷_ 83 (List._∷_ 101 (List._∷_ 110 (List._∷_ 116 List.[]))))))))))))
       (Syntax.tcons
-      (Syntax.tyInt Syntax.w64)
-      (Syntax.tcons
       (Syntax.tyStruct
       (List._∷_
       97
@@ -3918,9 +3884,7 @@ t9 = List._∷_ (
       Syntax.tnil
       (Syntax.ttcons Syntax.tnil (Syntax.ttcons Syntax.tnil Syntax.ttnil)))))
       Syntax.tnil)))
-      Syntax.tnil)))
-      (Syntax.tcons
-      (Syntax.tyInt Syntax.w64)
+      (Syntax.tcons (Syntax.tyInt Syntax.w64) Syntax.tnil)))
       (Syntax.tcons
       (Syntax.tyEnum
       (List._∷_
@@ -4140,8 +4104,6 @@ t10 = List._∷_ (
       58
       (List._∷_ 58 (List._∷_ 83 (List._∷_ 101 (List._∷_ 110 (List._∷_ 116 List.[]))))))))))))
       (Syntax.tcons
-      (Syntax.tyInt Syntax.w64)
-      (Syntax.tcons
       (Syntax.tyStruct
       (List._∷_
       97
@@ -4197,7 +4159,9 @@ t10 = List._∷_ (
       Syntax.tnil
       (Syntax.ttcons Syntax.tnil (Syntax.ttcons Syntax.tnil Syntax.ttnil)))))
       Syntax.tnil)))
-      Syntax.tnil)))
+      (Syntax.tcons (Syntax.tyInt Syntax.w64) Syntax.tnil)))
+      (Syntax.tcons
+      (Syntax.tyInt Syntax.w64)
       (Syntax.tcons
       (Syntax.tyStruct
       (List._∷_
@@ -4216,8 +4180,6 @@ t10 = List._∷_ (
       58
       (List._∷_ 58 (List._∷_ 83 (List._∷_ 101 (List._∷_ 110 (List._∷_ 116 List.[]))))))))))))
       (Syntax.tcons
-      (Syntax.tyInt Syntax.w64)
-      (Syntax.tcons
       (Syntax.tyStruct
       (List._∷_
       97
@@ -4273,9 +4235,7 @@ t10 = List._∷_ (
       Syntax.tnil
       (Syntax.ttcons Syntax.tnil (Syntax.ttcons Syntax.tnil Syntax.ttnil)))))
       Syntax.tnil)))
-      Syntax.tnil)))
-      (Syntax.tcons
-      (Syntax.tyInt Syntax.w64)
+      (Syntax.tcons (Syntax.tyInt Syntax.w64) Syntax.tnil)))
       (Syntax.tcons
       (Syntax.tyEnum
       (List._∷_
@@ -4580,8 +4540,6 @@ t12 = List._∷_ (
       58
       (List._∷_ 58 (List._∷_ 83 (List._∷_ 101 (List._∷_ 110 (List._∷_ 116 List.[]))))))))))))
       (Syntax.tcons
-      (Syntax.tyInt Syntax.w64)
-      (Syntax.tcons
       (Syntax.tyStruct
       (List._∷_
       97
@@ -4637,7 +4595,9 @@ t12 = List._∷_ (
       Syntax.tnil
       (Syntax.ttcons Syntax.tnil (Syntax.ttcons Syntax.tnil Syntax.ttnil)))))
       Syntax.tnil)))
-      Syntax.tnil)))
+      (Syntax.tcons (Syntax.tyInt Syntax.w64) Syntax.tnil)))
+      (Syntax.tcons
+      (Syntax.tyInt Syntax.w64)
       (Syntax.tcons
       (Syntax.tyStruct
       (List._∷_
@@ -4656,8 +4616,6 @@ t12 = List._∷_ (
       58
       (List._∷_ 58 (List._∷_ 83 (List._∷_ 101 (List._∷_ 110 (List._∷_ 116 List.[]))))))))))))
       (Syntax.tcons
-      (Syntax.tyInt Syntax.w64)
-      (Syntax.tcons
       (Syntax.tyStruct
       (List._∷_
       97
@@ -4713,9 +4671,7 @@ t12 = List._∷_ (
       Syntax.tnil
       (Syntax.ttcons Syntax.tnil (Syntax.ttcons Syntax.tnil Syntax.ttnil)))))
       Syntax.tnil)))
-      Syntax.tnil)))
-      (Syntax.tcons
-      (Syntax.tyInt Syntax.w64)
+      (Syntax.tcons (Syntax.tyInt Syntax.w64) Syntax.tnil)))
       (Syntax.tcons
       (Syntax.tyEnum
       (List._∷_
@@ -7904,8 +7860,6 @@ t43 = List._∷_ (0, Rows.whole (Declared.row Host.the-type)) (List._∷_ (
       58
       (List._∷_ 58 (List._∷_ 83 (List._∷_ 101 (List._∷_ 110 (List._∷_ 116 List.[]))))))))))))
       (Syntax.tcons
-      (Syntax.tyInt Syntax.w64)
-      (Syntax.tcons
       (Syntax.tyStruct
       (List._∷_
       97
@@ -7961,7 +7915,9 @@ t43 = List._∷_ (0, Rows.whole (Declared.row Host.the-type)) (List._∷_ (
       Syntax.tnil
       (Syntax.ttcons Syntax.tnil (Syntax.ttcons Syntax.tnil Syntax.ttnil)))))
       Syntax.tnil)))
-      Syntax.tnil)))
+      (Syntax.tcons (Syntax.tyInt Syntax.w64) Syntax.tnil)))
+      (Syntax.tcons
+      (Syntax.tyInt Syntax.w64)
       (Syntax.tcons
       (Syntax.tyStruct
       (List._∷_
@@ -7980,8 +7936,6 @@ t43 = List._∷_ (0, Rows.whole (Declared.row Host.the-type)) (List._∷_ (
       58
       (List._∷_ 58 (List._∷_ 83 (List._∷_ 101 (List._∷_ 110 (List._∷_ 116 List.[]))))))))))))
       (Syntax.tcons
-      (Syntax.tyInt Syntax.w64)
-      (Syntax.tcons
       (Syntax.tyStruct
       (List._∷_
       97
@@ -8037,9 +7991,7 @@ t43 = List._∷_ (0, Rows.whole (Declared.row Host.the-type)) (List._∷_ (
       Syntax.tnil
       (Syntax.ttcons Syntax.tnil (Syntax.ttcons Syntax.tnil Syntax.ttnil)))))
       Syntax.tnil)))
-      Syntax.tnil)))
-      (Syntax.tcons
-      (Syntax.tyInt Syntax.w64)
+      (Syntax.tcons (Syntax.tyInt Syntax.w64) Syntax.tnil)))
       (Syntax.tcons
       (Syntax.tyEnum
       (List._∷_
@@ -8262,8 +8214,6 @@ t44 = List._∷_ (0, Rows.whole (Declared.row Host.the-type)) (List._∷_ (
       58
       (List._∷_ 58 (List._∷_ 83 (List._∷_ 101 (List._∷_ 110 (List._∷_ 116 List.[]))))))))))))
       (Syntax.tcons
-      (Syntax.tyInt Syntax.w64)
-      (Syntax.tcons
       (Syntax.tyStruct
       (List._∷_
       97
@@ -8319,7 +8269,9 @@ t44 = List._∷_ (0, Rows.whole (Declared.row Host.the-type)) (List._∷_ (
       Syntax.tnil
       (Syntax.ttcons Syntax.tnil (Syntax.ttcons Syntax.tnil Syntax.ttnil)))))
       Syntax.tnil)))
-      Syntax.tnil)))
+      (Syntax.tcons (Syntax.tyInt Syntax.w64) Syntax.tnil)))
+      (Syntax.tcons
+      (Syntax.tyInt Syntax.w64)
       (Syntax.tcons
       (Syntax.tyStruct
       (List._∷_
@@ -8338,8 +8290,6 @@ t44 = List._∷_ (0, Rows.whole (Declared.row Host.the-type)) (List._∷_ (
       58
       (List._∷_ 58 (List._∷_ 83 (List._∷_ 101 (List._∷_ 110 (List._∷_ 116 List.[]))))))))))))
       (Syntax.tcons
-      (Syntax.tyInt Syntax.w64)
-      (Syntax.tcons
       (Syntax.tyStruct
       (List._∷_
       97
@@ -8395,9 +8345,7 @@ t44 = List._∷_ (0, Rows.whole (Declared.row Host.the-type)) (List._∷_ (
       Syntax.tnil
       (Syntax.ttcons Syntax.tnil (Syntax.ttcons Syntax.tnil Syntax.ttnil)))))
       Syntax.tnil)))
-      Syntax.tnil)))
-      (Syntax.tcons
-      (Syntax.tyInt Syntax.w64)
+      (Syntax.tcons (Syntax.tyInt Syntax.w64) Syntax.tnil)))
       (Syntax.tcons
       (Syntax.tyEnum
       (List._∷_
@@ -8618,8 +8566,6 @@ t45 = List._∷_ (0, Rows.whole (Declared.row Host.the-type)) (List._∷_ (
       58
       (List._∷_ 58 (List._∷_ 83 (List._∷_ 101 (List._∷_ 110 (List._∷_ 116 List.[]))))))))))))
       (Syntax.tcons
-      (Syntax.tyInt Syntax.w64)
-      (Syntax.tcons
       (Syntax.tyStruct
       (List._∷_
       97
@@ -8675,7 +8621,9 @@ t45 = List._∷_ (0, Rows.whole (Declared.row Host.the-type)) (List._∷_ (
       Syntax.tnil
       (Syntax.ttcons Syntax.tnil (Syntax.ttcons Syntax.tnil Syntax.ttnil)))))
       Syntax.tnil)))
-      Syntax.tnil)))
+      (Syntax.tcons (Syntax.tyInt Syntax.w64) Syntax.tnil)))
+      (Syntax.tcons
+      (Syntax.tyInt Syntax.w64)
       (Syntax.tcons
       (Syntax.tyStruct
       (List._∷_
@@ -8694,8 +8642,6 @@ t45 = List._∷_ (0, Rows.whole (Declared.row Host.the-type)) (List._∷_ (
       58
       (List._∷_ 58 (List._∷_ 83 (List._∷_ 101 (List._∷_ 110 (List._∷_ 116 List.[]))))))))))))
       (Syntax.tcons
-      (Syntax.tyInt Syntax.w64)
-      (Syntax.tcons
       (Syntax.tyStruct
       (List._∷_
       97
@@ -8751,9 +8697,7 @@ t45 = List._∷_ (0, Rows.whole (Declared.row Host.the-type)) (List._∷_ (
       Syntax.tnil
       (Syntax.ttcons Syntax.tnil (Syntax.ttcons Syntax.tnil Syntax.ttnil)))))
       Syntax.tnil)))
-      Syntax.tnil)))
-      (Syntax.tcons
-      (Syntax.tyInt Syntax.w64)
+      (Syntax.tcons (Syntax.tyInt Syntax.w64) Syntax.tnil)))
       (Syntax.tcons
       (Syntax.tyEnum
       (List._∷_
@@ -8972,8 +8916,6 @@ t46 = List._∷_ (0, Rows.whole (Declared.row Host.the-type)) (List._∷_ (
       58
       (List._∷_ 58 (List._∷_ 83 (List._∷_ 101 (List._∷_ 110 (List._∷_ 116 List.[]))))))))))))
       (Syntax.tcons
-      (Syntax.tyInt Syntax.w64)
-      (Syntax.tcons
       (Syntax.tyStruct
       (List._∷_
       97
@@ -9029,7 +8971,9 @@ t46 = List._∷_ (0, Rows.whole (Declared.row Host.the-type)) (List._∷_ (
       Syntax.tnil
       (Syntax.ttcons Syntax.tnil (Syntax.ttcons Syntax.tnil Syntax.ttnil)))))
       Syntax.tnil)))
-      Syntax.tnil)))
+      (Syntax.tcons (Syntax.tyInt Syntax.w64) Syntax.tnil)))
+      (Syntax.tcons
+      (Syntax.tyInt Syntax.w64)
       (Syntax.tcons
       (Syntax.tyStruct
       (List._∷_
@@ -9048,8 +8992,6 @@ t46 = List._∷_ (0, Rows.whole (Declared.row Host.the-type)) (List._∷_ (
       58
       (List._∷_ 58 (List._∷_ 83 (List._∷_ 101 (List._∷_ 110 (List._∷_ 116 List.[]))))))))))))
       (Syntax.tcons
-      (Syntax.tyInt Syntax.w64)
-      (Syntax.tcons
       (Syntax.tyStruct
       (List._∷_
       97
@@ -9105,9 +9047,7 @@ t46 = List._∷_ (0, Rows.whole (Declared.row Host.the-type)) (List._∷_ (
       Syntax.tnil
       (Syntax.ttcons Syntax.tnil (Syntax.ttcons Syntax.tnil Syntax.ttnil)))))
       Syntax.tnil)))
-      Syntax.tnil)))
-      (Syntax.tcons
-      (Syntax.tyInt Syntax.w64)
+      (Syntax.tcons (Syntax.tyInt Syntax.w64) Syntax.tnil)))
       (Syntax.tcons
       (Syntax.tyEnum
       (List._∷_
@@ -9324,8 +9264,6 @@ t47 = List._∷_ (0, Rows.whole (Declared.row Host.the-type)) (List._∷_ (
       58
       (List._∷_ 58 (List._∷_ 83 (List._∷_ 101 (List._∷_ 110 (List._∷_ 116 List.[]))))))))))))
       (Syntax.tcons
-      (Syntax.tyInt Syntax.w64)
-      (Syntax.tcons
       (Syntax.tyStruct
       (List._∷_
       97
@@ -9381,7 +9319,9 @@ t47 = List._∷_ (0, Rows.whole (Declared.row Host.the-type)) (List._∷_ (
       Syntax.tnil
       (Syntax.ttcons Syntax.tnil (Syntax.ttcons Syntax.tnil Syntax.ttnil)))))
       Syntax.tnil)))
-      Syntax.tnil)))
+      (Syntax.tcons (Syntax.tyInt Syntax.w64) Syntax.tnil)))
+      (Syntax.tcons
+      (Syntax.tyInt Syntax.w64)
       (Syntax.tcons
       (Syntax.tyStruct
       (List._∷_
@@ -9400,8 +9340,6 @@ t47 = List._∷_ (0, Rows.whole (Declared.row Host.the-type)) (List._∷_ (
       58
       (List._∷_ 58 (List._∷_ 83 (List._∷_ 101 (List._∷_ 110 (List._∷_ 116 List.[]))))))))))))
       (Syntax.tcons
-      (Syntax.tyInt Syntax.w64)
-      (Syntax.tcons
       (Syntax.tyStruct
       (List._∷_
       97
@@ -9457,9 +9395,7 @@ t47 = List._∷_ (0, Rows.whole (Declared.row Host.the-type)) (List._∷_ (
       Syntax.tnil
       (Syntax.ttcons Syntax.tnil (Syntax.ttcons Syntax.tnil Syntax.ttnil)))))
       Syntax.tnil)))
-      Syntax.tnil)))
-      (Syntax.tcons
-      (Syntax.tyInt Syntax.w64)
+      (Syntax.tcons (Syntax.tyInt Syntax.w64) Syntax.tnil)))
       (Syntax.tcons
       (Syntax.tyEnum
       (List._∷_
@@ -9674,8 +9610,6 @@ t48 = List._∷_ (0, Rows.whole (Declared.row Host.the-type)) (List._∷_ (
       58
       (List._∷_ 58 (List._∷_ 83 (List._∷_ 101 (List._∷_ 110 (List._∷_ 116 List.[]))))))))))))
       (Syntax.tcons
-      (Syntax.tyInt Syntax.w64)
-      (Syntax.tcons
       (Syntax.tyStruct
       (List._∷_
       97
@@ -9731,7 +9665,9 @@ t48 = List._∷_ (0, Rows.whole (Declared.row Host.the-type)) (List._∷_ (
       Syntax.tnil
       (Syntax.ttcons Syntax.tnil (Syntax.ttcons Syntax.tnil Syntax.ttnil)))))
       Syntax.tnil)))
-      Syntax.tnil)))
+      (Syntax.tcons (Syntax.tyInt Syntax.w64) Syntax.tnil)))
+      (Syntax.tcons
+      (Syntax.tyInt Syntax.w64)
       (Syntax.tcons
       (Syntax.tyStruct
       (List._∷_
@@ -9750,8 +9686,6 @@ t48 = List._∷_ (0, Rows.whole (Declared.row Host.the-type)) (List._∷_ (
       58
       (List._∷_ 58 (List._∷_ 83 (List._∷_ 101 (List._∷_ 110 (List._∷_ 116 List.[]))))))))))))
       (Syntax.tcons
-      (Syntax.tyInt Syntax.w64)
-      (Syntax.tcons
       (Syntax.tyStruct
       (List._∷_
       97
@@ -9807,9 +9741,7 @@ t48 = List._∷_ (0, Rows.whole (Declared.row Host.the-type)) (List._∷_ (
       Syntax.tnil
       (Syntax.ttcons Syntax.tnil (Syntax.ttcons Syntax.tnil Syntax.ttnil)))))
       Syntax.tnil)))
-      Syntax.tnil)))
-      (Syntax.tcons
-      (Syntax.tyInt Syntax.w64)
+      (Syntax.tcons (Syntax.tyInt Syntax.w64) Syntax.tnil)))
       (Syntax.tcons
       (Syntax.tyEnum
       (List._∷_
@@ -10026,8 +9958,6 @@ t49 = List._∷_ (
       58
       (List._∷_ 58 (List._∷_ 83 (List._∷_ 101 (List._∷_ 110 (List._∷_ 116 List.[]))))))))))))
       (Syntax.tcons
-      (Syntax.tyInt Syntax.w64)
-      (Syntax.tcons
       (Syntax.tyStruct
       (List._∷_
       97
@@ -10083,7 +10013,9 @@ t49 = List._∷_ (
       Syntax.tnil
       (Syntax.ttcons Syntax.tnil (Syntax.ttcons Syntax.tnil Syntax.ttnil)))))
       Syntax.tnil)))
-      Syntax.tnil)))
+      (Syntax.tcons (Syntax.tyInt Syntax.w64) Syntax.tnil)))
+      (Syntax.tcons
+      (Syntax.tyInt Syntax.w64)
       (Syntax.tcons
       (Syntax.tyStruct
       (List._∷_
@@ -10102,8 +10034,6 @@ t49 = List._∷_ (
       58
       (List._∷_ 58 (List._∷_ 83 (List._∷_ 101 (List._∷_ 110 (List._∷_ 116 List.[]))))))))))))
       (Syntax.tcons
-      (Syntax.tyInt Syntax.w64)
-      (Syntax.tcons
       (Syntax.tyStruct
       (List._∷_
       97
@@ -10159,9 +10089,7 @@ t49 = List._∷_ (
       Syntax.tnil
       (Syntax.ttcons Syntax.tnil (Syntax.ttcons Syntax.tnil Syntax.ttnil)))))
       Syntax.tnil)))
-      Syntax.tnil)))
-      (Syntax.tcons
-      (Syntax.tyInt Syntax.w64)
+      (Syntax.tcons (Syntax.tyInt Syntax.w64) Syntax.tnil)))
       (Syntax.tcons
       (Syntax.tyEnum
       (List._∷_
@@ -10556,8 +10484,6 @@ t52 = List._∷_ (
       58
       (List._∷_ 58 (List._∷_ 83 (List._∷_ 101 (List._∷_ 110 (List._∷_ 116 List.[]))))))))))))
       (Syntax.tcons
-      (Syntax.tyInt Syntax.w64)
-      (Syntax.tcons
       (Syntax.tyStruct
       (List._∷_
       97
@@ -10613,7 +10539,9 @@ t52 = List._∷_ (
       Syntax.tnil
       (Syntax.ttcons Syntax.tnil (Syntax.ttcons Syntax.tnil Syntax.ttnil)))))
       Syntax.tnil)))
-      Syntax.tnil)))
+      (Syntax.tcons (Syntax.tyInt Syntax.w64) Syntax.tnil)))
+      (Syntax.tcons
+      (Syntax.tyInt Syntax.w64)
       (Syntax.tcons
       (Syntax.tyStruct
       (List._∷_
@@ -10632,8 +10560,6 @@ t52 = List._∷_ (
       58
       (List._∷_ 58 (List._∷_ 83 (List._∷_ 101 (List._∷_ 110 (List._∷_ 116 List.[]))))))))))))
       (Syntax.tcons
-      (Syntax.tyInt Syntax.w64)
-      (Syntax.tcons
       (Syntax.tyStruct
       (List._∷_
       97
@@ -10689,9 +10615,7 @@ t52 = List._∷_ (
       Syntax.tnil
       (Syntax.ttcons Syntax.tnil (Syntax.ttcons Syntax.tnil Syntax.ttnil)))))
       Syntax.tnil)))
-      Syntax.tnil)))
-      (Syntax.tcons
-      (Syntax.tyInt Syntax.w64)
+      (Syntax.tcons (Syntax.tyInt Syntax.w64) Syntax.tnil)))
       (Syntax.tcons
       (Syntax.tyEnum
       (List._∷_
@@ -11191,8 +11115,6 @@ t58 = List._∷_ (
       58
       (List._∷_ 58 (List._∷_ 83 (List._∷_ 101 (List._∷_ 110 (List._∷_ 116 List.[]))))))))))))
       (Syntax.tcons
-      (Syntax.tyInt Syntax.w64)
-      (Syntax.tcons
       (Syntax.tyStruct
       (List._∷_
       97
@@ -11248,7 +11170,9 @@ t58 = List._∷_ (
       Syntax.tnil
       (Syntax.ttcons Syntax.tnil (Syntax.ttcons Syntax.tnil Syntax.ttnil)))))
       Syntax.tnil)))
-      Syntax.tnil)))
+      (Syntax.tcons (Syntax.tyInt Syntax.w64) Syntax.tnil)))
+      (Syntax.tcons
+      (Syntax.tyInt Syntax.w64)
       (Syntax.tcons
       (Syntax.tyStruct
       (List._∷_
@@ -11267,8 +11191,6 @@ t58 = List._∷_ (
       58
       (List._∷_ 58 (List._∷_ 83 (List._∷_ 101 (List._∷_ 110 (List._∷_ 116 List.[]))))))))))))
       (Syntax.tcons
-      (Syntax.tyInt Syntax.w64)
-      (Syntax.tcons
       (Syntax.tyStruct
       (List._∷_
       97
@@ -11324,9 +11246,7 @@ t58 = List._∷_ (
       Syntax.tnil
       (Syntax.ttcons Syntax.tnil (Syntax.ttcons Syntax.tnil Syntax.ttnil)))))
       Syntax.tnil)))
-      Syntax.tnil)))
-      (Syntax.tcons
-      (Syntax.tyInt Syntax.w64)
+      (Syntax.tcons (Syntax.tyInt Syntax.w64) Syntax.tnil)))
       (Syntax.tcons
       (Syntax.tyEnum
       (List._∷_
@@ -11543,8 +11463,6 @@ t59 = List._∷_ (
       58
       (List._∷_ 58 (List._∷_ 83 (List._∷_ 101 (List._∷_ 110 (List._∷_ 116 List.[]))))))))))))
       (Syntax.tcons
-      (Syntax.tyInt Syntax.w64)
-      (Syntax.tcons
       (Syntax.tyStruct
       (List._∷_
       97
@@ -11600,7 +11518,9 @@ t59 = List._∷_ (
       Syntax.tnil
       (Syntax.ttcons Syntax.tnil (Syntax.ttcons Syntax.tnil Syntax.ttnil)))))
       Syntax.tnil)))
-      Syntax.tnil)))
+      (Syntax.tcons (Syntax.tyInt Syntax.w64) Syntax.tnil)))
+      (Syntax.tcons
+      (Syntax.tyInt Syntax.w64)
       (Syntax.tcons
       (Syntax.tyStruct
       (List._∷_
@@ -11619,8 +11539,6 @@ t59 = List._∷_ (
       58
       (List._∷_ 58 (List._∷_ 83 (List._∷_ 101 (List._∷_ 110 (List._∷_ 116 List.[]))))))))))))
       (Syntax.tcons
-      (Syntax.tyInt Syntax.w64)
-      (Syntax.tcons
       (Syntax.tyStruct
       (List._∷_
       97
@@ -11676,9 +11594,7 @@ t59 = List._∷_ (
       Syntax.tnil
       (Syntax.ttcons Syntax.tnil (Syntax.ttcons Syntax.tnil Syntax.ttnil)))))
       Syntax.tnil)))
-      Syntax.tnil)))
-      (Syntax.tcons
-      (Syntax.tyInt Syntax.w64)
+      (Syntax.tcons (Syntax.tyInt Syntax.w64) Syntax.tnil)))
       (Syntax.tcons
       (Syntax.tyEnum
       (List._∷_
@@ -11964,8 +11880,6 @@ t63 = List._∷_ (0, Rows.whole (Declared.row Host.the-type)) (List._∷_ (
       58
       (List._∷_ 58 (List._∷_ 83 (List._∷_ 101 (List._∷_ 110 (List._∷_ 116 List.[]))))))))))))
       (Syntax.tcons
-      (Syntax.tyInt Syntax.w64)
-      (Syntax.tcons
       (Syntax.tyStruct
       (List._∷_
       97
@@ -12021,7 +11935,9 @@ t63 = List._∷_ (0, Rows.whole (Declared.row Host.the-type)) (List._∷_ (
       Syntax.tnil
       (Syntax.ttcons Syntax.tnil (Syntax.ttcons Syntax.tnil Syntax.ttnil)))))
       Syntax.tnil)))
-      Syntax.tnil)))
+      (Syntax.tcons (Syntax.tyInt Syntax.w64) Syntax.tnil)))
+      (Syntax.tcons
+      (Syntax.tyInt Syntax.w64)
       (Syntax.tcons
       (Syntax.tyStruct
       (List._∷_
@@ -12040,8 +11956,6 @@ t63 = List._∷_ (0, Rows.whole (Declared.row Host.the-type)) (List._∷_ (
       58
       (List._∷_ 58 (List._∷_ 83 (List._∷_ 101 (List._∷_ 110 (List._∷_ 116 List.[]))))))))))))
       (Syntax.tcons
-      (Syntax.tyInt Syntax.w64)
-      (Syntax.tcons
       (Syntax.tyStruct
       (List._∷_
       97
@@ -12097,9 +12011,7 @@ t63 = List._∷_ (0, Rows.whole (Declared.row Host.the-type)) (List._∷_ (
       Syntax.tnil
       (Syntax.ttcons Syntax.tnil (Syntax.ttcons Syntax.tnil Syntax.ttnil)))))
       Syntax.tnil)))
-      Syntax.tnil)))
-      (Syntax.tcons
-      (Syntax.tyInt Syntax.w64)
+      (Syntax.tcons (Syntax.tyInt Syntax.w64) Syntax.tnil)))
       (Syntax.tcons
       (Syntax.tyEnum
       (List._∷_
@@ -12644,8 +12556,6 @@ module _ (claims· : Claims) where
       58
       (List._∷_ 58 (List._∷_ 83 (List._∷_ 101 (List._∷_ 110 (List._∷_ 116 List.[]))))))))))))
       (Syntax.tcons
-      (Syntax.tyInt Syntax.w64)
-      (Syntax.tcons
       (Syntax.tyStruct
       (List._∷_
       97
@@ -12701,7 +12611,9 @@ module _ (claims· : Claims) where
       Syntax.tnil
       (Syntax.ttcons Syntax.tnil (Syntax.ttcons Syntax.tnil Syntax.ttnil)))))
       Syntax.tnil)))
-      Syntax.tnil)))
+      (Syntax.tcons (Syntax.tyInt Syntax.w64) Syntax.tnil)))
+      (Syntax.tcons
+      (Syntax.tyInt Syntax.w64)
       (Syntax.tcons
       (Syntax.tyStruct
       (List._∷_
@@ -12720,8 +12632,6 @@ module _ (claims· : Claims) where
       58
       (List._∷_ 58 (List._∷_ 83 (List._∷_ 101 (List._∷_ 110 (List._∷_ 116 List.[]))))))))))))
       (Syntax.tcons
-      (Syntax.tyInt Syntax.w64)
-      (Syntax.tcons
       (Syntax.tyStruct
       (List._∷_
       97
@@ -12777,9 +12687,7 @@ module _ (claims· : Claims) where
       Syntax.tnil
       (Syntax.ttcons Syntax.tnil (Syntax.ttcons Syntax.tnil Syntax.ttnil)))))
       Syntax.tnil)))
-      Syntax.tnil)))
-      (Syntax.tcons
-      (Syntax.tyInt Syntax.w64)
+      (Syntax.tcons (Syntax.tyInt Syntax.w64) Syntax.tnil)))
       (Syntax.tcons
       (Syntax.tyEnum
       (List._∷_
@@ -13306,8 +13214,6 @@ module _ (claims· : Claims) where
       58
       (List._∷_ 58 (List._∷_ 83 (List._∷_ 101 (List._∷_ 110 (List._∷_ 116 List.[]))))))))))))
       (Syntax.tcons
-      (Syntax.tyInt Syntax.w64)
-      (Syntax.tcons
       (Syntax.tyStruct
       (List._∷_
       97
@@ -13363,7 +13269,9 @@ module _ (claims· : Claims) where
       Syntax.tnil
       (Syntax.ttcons Syntax.tnil (Syntax.ttcons Syntax.tnil Syntax.ttnil)))))
       Syntax.tnil)))
-      Syntax.tnil)))
+      (Syntax.tcons (Syntax.tyInt Syntax.w64) Syntax.tnil)))
+      (Syntax.tcons
+      (Syntax.tyInt Syntax.w64)
       (Syntax.tcons
       (Syntax.tyStruct
       (List._∷_
@@ -13382,8 +13290,6 @@ module _ (claims· : Claims) where
       58
       (List._∷_ 58 (List._∷_ 83 (List._∷_ 101 (List._∷_ 110 (List._∷_ 116 List.[]))))))))))))
       (Syntax.tcons
-      (Syntax.tyInt Syntax.w64)
-      (Syntax.tcons
       (Syntax.tyStruct
       (List._∷_
       97
@@ -13439,9 +13345,7 @@ module _ (claims· : Claims) where
       Syntax.tnil
       (Syntax.ttcons Syntax.tnil (Syntax.ttcons Syntax.tnil Syntax.ttnil)))))
       Syntax.tnil)))
-      Syntax.tnil)))
-      (Syntax.tcons
-      (Syntax.tyInt Syntax.w64)
+      (Syntax.tcons (Syntax.tyInt Syntax.w64) Syntax.tnil)))
       (Syntax.tcons
       (Syntax.tyEnum
       (List._∷_
@@ -14354,8 +14258,6 @@ module _ (claims· : Claims) where
               58
               (List._∷_ 83 (List._∷_ 101 (List._∷_ 110 (List._∷_ 116 List.[]))))))))))))
               (Syntax.tcons
-              (Syntax.tyInt Syntax.w64)
-              (Syntax.tcons
               (Syntax.tyStruct
               (List._∷_
               97
@@ -14411,7 +14313,9 @@ module _ (claims· : Claims) where
               Syntax.tnil
               (Syntax.ttcons Syntax.tnil (Syntax.ttcons Syntax.tnil Syntax.ttnil)))))
               Syntax.tnil)))
-              Syntax.tnil)))
+              (Syntax.tcons (Syntax.tyInt Syntax.w64) Syntax.tnil)))
+              (Syntax.tcons
+              (Syntax.tyInt Syntax.w64)
               (Syntax.tcons
               (Syntax.tyStruct
               (List._∷_
@@ -14432,8 +14336,6 @@ module _ (claims· : Claims) where
               58
               (List._∷_ 83 (List._∷_ 101 (List._∷_ 110 (List._∷_ 116 List.[]))))))))))))
               (Syntax.tcons
-              (Syntax.tyInt Syntax.w64)
-              (Syntax.tcons
               (Syntax.tyStruct
               (List._∷_
               97
@@ -14489,9 +14391,7 @@ module _ (claims· : Claims) where
               Syntax.tnil
               (Syntax.ttcons Syntax.tnil (Syntax.ttcons Syntax.tnil Syntax.ttnil)))))
               Syntax.tnil)))
-              Syntax.tnil)))
-              (Syntax.tcons
-              (Syntax.tyInt Syntax.w64)
+              (Syntax.tcons (Syntax.tyInt Syntax.w64) Syntax.tnil)))
               (Syntax.tcons
               (Syntax.tyEnum
               (List._∷_
@@ -14727,8 +14627,6 @@ module _ (claims· : Claims) where
               58
               (List._∷_ 83 (List._∷_ 101 (List._∷_ 110 (List._∷_ 116 List.[]))))))))))))
               (Syntax.tcons
-              (Syntax.tyInt Syntax.w64)
-              (Syntax.tcons
               (Syntax.tyStruct
               (List._∷_
               97
@@ -14784,7 +14682,9 @@ module _ (claims· : Claims) where
               Syntax.tnil
               (Syntax.ttcons Syntax.tnil (Syntax.ttcons Syntax.tnil Syntax.ttnil)))))
               Syntax.tnil)))
-              Syntax.tnil)))
+              (Syntax.tcons (Syntax.tyInt Syntax.w64) Syntax.tnil)))
+              (Syntax.tcons
+              (Syntax.tyInt Syntax.w64)
               (Syntax.tcons
               (Syntax.tyStruct
               (List._∷_
@@ -14805,8 +14705,6 @@ module _ (claims· : Claims) where
               58
               (List._∷_ 83 (List._∷_ 101 (List._∷_ 110 (List._∷_ 116 List.[]))))))))))))
               (Syntax.tcons
-              (Syntax.tyInt Syntax.w64)
-              (Syntax.tcons
               (Syntax.tyStruct
               (List._∷_
               97
@@ -14862,9 +14760,7 @@ module _ (claims· : Claims) where
               Syntax.tnil
               (Syntax.ttcons Syntax.tnil (Syntax.ttcons Syntax.tnil Syntax.ttnil)))))
               Syntax.tnil)))
-              Syntax.tnil)))
-              (Syntax.tcons
-              (Syntax.tyInt Syntax.w64)
+              (Syntax.tcons (Syntax.tyInt Syntax.w64) Syntax.tnil)))
               (Syntax.tcons
               (Syntax.tyEnum
               (List._∷_
@@ -15098,8 +14994,6 @@ module _ (claims· : Claims) where
               58
               (List._∷_ 83 (List._∷_ 101 (List._∷_ 110 (List._∷_ 116 List.[]))))))))))))
               (Syntax.tcons
-              (Syntax.tyInt Syntax.w64)
-              (Syntax.tcons
               (Syntax.tyStruct
               (List._∷_
               97
@@ -15155,7 +15049,9 @@ module _ (claims· : Claims) where
               Syntax.tnil
               (Syntax.ttcons Syntax.tnil (Syntax.ttcons Syntax.tnil Syntax.ttnil)))))
               Syntax.tnil)))
-              Syntax.tnil)))
+              (Syntax.tcons (Syntax.tyInt Syntax.w64) Syntax.tnil)))
+              (Syntax.tcons
+              (Syntax.tyInt Syntax.w64)
               (Syntax.tcons
               (Syntax.tyStruct
               (List._∷_
@@ -15176,8 +15072,6 @@ module _ (claims· : Claims) where
               58
               (List._∷_ 83 (List._∷_ 101 (List._∷_ 110 (List._∷_ 116 List.[]))))))))))))
               (Syntax.tcons
-              (Syntax.tyInt Syntax.w64)
-              (Syntax.tcons
               (Syntax.tyStruct
               (List._∷_
               97
@@ -15233,9 +15127,7 @@ module _ (claims· : Claims) where
               Syntax.tnil
               (Syntax.ttcons Syntax.tnil (Syntax.ttcons Syntax.tnil Syntax.ttnil)))))
               Syntax.tnil)))
-              Syntax.tnil)))
-              (Syntax.tcons
-              (Syntax.tyInt Syntax.w64)
+              (Syntax.tcons (Syntax.tyInt Syntax.w64) Syntax.tnil)))
               (Syntax.tcons
               (Syntax.tyEnum
               (List._∷_
@@ -15471,8 +15363,6 @@ module _ (claims· : Claims) where
               58
               (List._∷_ 83 (List._∷_ 101 (List._∷_ 110 (List._∷_ 116 List.[]))))))))))))
               (Syntax.tcons
-              (Syntax.tyInt Syntax.w64)
-              (Syntax.tcons
               (Syntax.tyStruct
               (List._∷_
               97
@@ -15528,7 +15418,9 @@ module _ (claims· : Claims) where
               Syntax.tnil
               (Syntax.ttcons Syntax.tnil (Syntax.ttcons Syntax.tnil Syntax.ttnil)))))
               Syntax.tnil)))
-              Syntax.tnil)))
+              (Syntax.tcons (Syntax.tyInt Syntax.w64) Syntax.tnil)))
+              (Syntax.tcons
+              (Syntax.tyInt Syntax.w64)
               (Syntax.tcons
               (Syntax.tyStruct
               (List._∷_
@@ -15549,8 +15441,6 @@ module _ (claims· : Claims) where
               58
               (List._∷_ 83 (List._∷_ 101 (List._∷_ 110 (List._∷_ 116 List.[]))))))))))))
               (Syntax.tcons
-              (Syntax.tyInt Syntax.w64)
-              (Syntax.tcons
               (Syntax.tyStruct
               (List._∷_
               97
@@ -15606,9 +15496,7 @@ module _ (claims· : Claims) where
               Syntax.tnil
               (Syntax.ttcons Syntax.tnil (Syntax.ttcons Syntax.tnil Syntax.ttnil)))))
               Syntax.tnil)))
-              Syntax.tnil)))
-              (Syntax.tcons
-              (Syntax.tyInt Syntax.w64)
+              (Syntax.tcons (Syntax.tyInt Syntax.w64) Syntax.tnil)))
               (Syntax.tcons
               (Syntax.tyEnum
               (List._∷_
@@ -15842,8 +15730,6 @@ module _ (claims· : Claims) where
               58
               (List._∷_ 83 (List._∷_ 101 (List._∷_ 110 (List._∷_ 116 List.[]))))))))))))
               (Syntax.tcons
-              (Syntax.tyInt Syntax.w64)
-              (Syntax.tcons
               (Syntax.tyStruct
               (List._∷_
               97
@@ -15899,7 +15785,9 @@ module _ (claims· : Claims) where
               Syntax.tnil
               (Syntax.ttcons Syntax.tnil (Syntax.ttcons Syntax.tnil Syntax.ttnil)))))
               Syntax.tnil)))
-              Syntax.tnil)))
+              (Syntax.tcons (Syntax.tyInt Syntax.w64) Syntax.tnil)))
+              (Syntax.tcons
+              (Syntax.tyInt Syntax.w64)
               (Syntax.tcons
               (Syntax.tyStruct
               (List._∷_
@@ -15920,8 +15808,6 @@ module _ (claims· : Claims) where
               58
               (List._∷_ 83 (List._∷_ 101 (List._∷_ 110 (List._∷_ 116 List.[]))))))))))))
               (Syntax.tcons
-              (Syntax.tyInt Syntax.w64)
-              (Syntax.tcons
               (Syntax.tyStruct
               (List._∷_
               97
@@ -15977,9 +15863,7 @@ module _ (claims· : Claims) where
               Syntax.tnil
               (Syntax.ttcons Syntax.tnil (Syntax.ttcons Syntax.tnil Syntax.ttnil)))))
               Syntax.tnil)))
-              Syntax.tnil)))
-              (Syntax.tcons
-              (Syntax.tyInt Syntax.w64)
+              (Syntax.tcons (Syntax.tyInt Syntax.w64) Syntax.tnil)))
               (Syntax.tcons
               (Syntax.tyEnum
               (List._∷_
@@ -16216,8 +16100,6 @@ module _ (claims· : Claims) where
               58
               (List._∷_ 83 (List._∷_ 101 (List._∷_ 110 (List._∷_ 116 List.[]))))))))))))
               (Syntax.tcons
-              (Syntax.tyInt Syntax.w64)
-              (Syntax.tcons
               (Syntax.tyStruct
               (List._∷_
               97
@@ -16273,7 +16155,9 @@ module _ (claims· : Claims) where
               Syntax.tnil
               (Syntax.ttcons Syntax.tnil (Syntax.ttcons Syntax.tnil Syntax.ttnil)))))
               Syntax.tnil)))
-              Syntax.tnil)))
+              (Syntax.tcons (Syntax.tyInt Syntax.w64) Syntax.tnil)))
+              (Syntax.tcons
+              (Syntax.tyInt Syntax.w64)
               (Syntax.tcons
               (Syntax.tyStruct
               (List._∷_
@@ -16294,8 +16178,6 @@ module _ (claims· : Claims) where
               58
               (List._∷_ 83 (List._∷_ 101 (List._∷_ 110 (List._∷_ 116 List.[]))))))))))))
               (Syntax.tcons
-              (Syntax.tyInt Syntax.w64)
-              (Syntax.tcons
               (Syntax.tyStruct
               (List._∷_
               97
@@ -16351,9 +16233,7 @@ module _ (claims· : Claims) where
               Syntax.tnil
               (Syntax.ttcons Syntax.tnil (Syntax.ttcons Syntax.tnil Syntax.ttnil)))))
               Syntax.tnil)))
-              Syntax.tnil)))
-              (Syntax.tcons
-              (Syntax.tyInt Syntax.w64)
+              (Syntax.tcons (Syntax.tyInt Syntax.w64) Syntax.tnil)))
               (Syntax.tcons
               (Syntax.tyEnum
               (List._∷_
@@ -16589,8 +16469,6 @@ module _ (claims· : Claims) where
               58
               (List._∷_ 83 (List._∷_ 101 (List._∷_ 110 (List._∷_ 116 List.[]))))))))))))
               (Syntax.tcons
-              (Syntax.tyInt Syntax.w64)
-              (Syntax.tcons
               (Syntax.tyStruct
               (List._∷_
               97
@@ -16646,7 +16524,9 @@ module _ (claims· : Claims) where
               Syntax.tnil
               (Syntax.ttcons Syntax.tnil (Syntax.ttcons Syntax.tnil Syntax.ttnil)))))
               Syntax.tnil)))
-              Syntax.tnil)))
+              (Syntax.tcons (Syntax.tyInt Syntax.w64) Syntax.tnil)))
+              (Syntax.tcons
+              (Syntax.tyInt Syntax.w64)
               (Syntax.tcons
               (Syntax.tyStruct
               (List._∷_
@@ -16667,8 +16547,6 @@ module _ (claims· : Claims) where
               58
               (List._∷_ 83 (List._∷_ 101 (List._∷_ 110 (List._∷_ 116 List.[]))))))))))))
               (Syntax.tcons
-              (Syntax.tyInt Syntax.w64)
-              (Syntax.tcons
               (Syntax.tyStruct
               (List._∷_
               97
@@ -16724,9 +16602,7 @@ module _ (claims· : Claims) where
               Syntax.tnil
               (Syntax.ttcons Syntax.tnil (Syntax.ttcons Syntax.tnil Syntax.ttnil)))))
               Syntax.tnil)))
-              Syntax.tnil)))
-              (Syntax.tcons
-              (Syntax.tyInt Syntax.w64)
+              (Syntax.tcons (Syntax.tyInt Syntax.w64) Syntax.tnil)))
               (Syntax.tcons
               (Syntax.tyEnum
               (List._∷_
@@ -18403,8 +18279,6 @@ module _ (claims· : Claims) where
               58
               (List._∷_ 83 (List._∷_ 101 (List._∷_ 110 (List._∷_ 116 List.[]))))))))))))
               (Syntax.tcons
-              (Syntax.tyInt Syntax.w64)
-              (Syntax.tcons
               (Syntax.tyStruct
               (List._∷_
               97
@@ -18460,7 +18334,9 @@ module _ (claims· : Claims) where
               Syntax.tnil
               (Syntax.ttcons Syntax.tnil (Syntax.ttcons Syntax.tnil Syntax.ttnil)))))
               Syntax.tnil)))
-              Syntax.tnil)))
+              (Syntax.tcons (Syntax.tyInt Syntax.w64) Syntax.tnil)))
+              (Syntax.tcons
+              (Syntax.tyInt Syntax.w64)
               (Syntax.tcons
               (Syntax.tyStruct
               (List._∷_
@@ -18481,8 +18357,6 @@ module _ (claims· : Claims) where
               58
               (List._∷_ 83 (List._∷_ 101 (List._∷_ 110 (List._∷_ 116 List.[]))))))))))))
               (Syntax.tcons
-              (Syntax.tyInt Syntax.w64)
-              (Syntax.tcons
               (Syntax.tyStruct
               (List._∷_
               97
@@ -18538,9 +18412,7 @@ module _ (claims· : Claims) where
               Syntax.tnil
               (Syntax.ttcons Syntax.tnil (Syntax.ttcons Syntax.tnil Syntax.ttnil)))))
               Syntax.tnil)))
-              Syntax.tnil)))
-              (Syntax.tcons
-              (Syntax.tyInt Syntax.w64)
+              (Syntax.tcons (Syntax.tyInt Syntax.w64) Syntax.tnil)))
               (Syntax.tcons
               (Syntax.tyEnum
               (List._∷_
@@ -18780,8 +18652,6 @@ module _ (claims· : Claims) where
               58
               (List._∷_ 83 (List._∷_ 101 (List._∷_ 110 (List._∷_ 116 List.[]))))))))))))
               (Syntax.tcons
-              (Syntax.tyInt Syntax.w64)
-              (Syntax.tcons
               (Syntax.tyStruct
               (List._∷_
               97
@@ -18837,7 +18707,9 @@ module _ (claims· : Claims) where
               Syntax.tnil
               (Syntax.ttcons Syntax.tnil (Syntax.ttcons Syntax.tnil Syntax.ttnil)))))
               Syntax.tnil)))
-              Syntax.tnil)))
+              (Syntax.tcons (Syntax.tyInt Syntax.w64) Syntax.tnil)))
+              (Syntax.tcons
+              (Syntax.tyInt Syntax.w64)
               (Syntax.tcons
               (Syntax.tyStruct
               (List._∷_
@@ -18858,8 +18730,6 @@ module _ (claims· : Claims) where
               58
               (List._∷_ 83 (List._∷_ 101 (List._∷_ 110 (List._∷_ 116 List.[]))))))))))))
               (Syntax.tcons
-              (Syntax.tyInt Syntax.w64)
-              (Syntax.tcons
               (Syntax.tyStruct
               (List._∷_
               97
@@ -18915,9 +18785,7 @@ module _ (claims· : Claims) where
               Syntax.tnil
               (Syntax.ttcons Syntax.tnil (Syntax.ttcons Syntax.tnil Syntax.ttnil)))))
               Syntax.tnil)))
-              Syntax.tnil)))
-              (Syntax.tcons
-              (Syntax.tyInt Syntax.w64)
+              (Syntax.tcons (Syntax.tyInt Syntax.w64) Syntax.tnil)))
               (Syntax.tcons
               (Syntax.tyEnum
               (List._∷_
@@ -19155,8 +19023,6 @@ module _ (claims· : Claims) where
               58
               (List._∷_ 83 (List._∷_ 101 (List._∷_ 110 (List._∷_ 116 List.[]))))))))))))
               (Syntax.tcons
-              (Syntax.tyInt Syntax.w64)
-              (Syntax.tcons
               (Syntax.tyStruct
               (List._∷_
               97
@@ -19212,7 +19078,9 @@ module _ (claims· : Claims) where
               Syntax.tnil
               (Syntax.ttcons Syntax.tnil (Syntax.ttcons Syntax.tnil Syntax.ttnil)))))
               Syntax.tnil)))
-              Syntax.tnil)))
+              (Syntax.tcons (Syntax.tyInt Syntax.w64) Syntax.tnil)))
+              (Syntax.tcons
+              (Syntax.tyInt Syntax.w64)
               (Syntax.tcons
               (Syntax.tyStruct
               (List._∷_
@@ -19233,8 +19101,6 @@ module _ (claims· : Claims) where
               58
               (List._∷_ 83 (List._∷_ 101 (List._∷_ 110 (List._∷_ 116 List.[]))))))))))))
               (Syntax.tcons
-              (Syntax.tyInt Syntax.w64)
-              (Syntax.tcons
               (Syntax.tyStruct
               (List._∷_
               97
@@ -19290,9 +19156,7 @@ module _ (claims· : Claims) where
               Syntax.tnil
               (Syntax.ttcons Syntax.tnil (Syntax.ttcons Syntax.tnil Syntax.ttnil)))))
               Syntax.tnil)))
-              Syntax.tnil)))
-              (Syntax.tcons
-              (Syntax.tyInt Syntax.w64)
+              (Syntax.tcons (Syntax.tyInt Syntax.w64) Syntax.tnil)))
               (Syntax.tcons
               (Syntax.tyEnum
               (List._∷_
@@ -19528,8 +19392,6 @@ module _ (claims· : Claims) where
               58
               (List._∷_ 83 (List._∷_ 101 (List._∷_ 110 (List._∷_ 116 List.[]))))))))))))
               (Syntax.tcons
-              (Syntax.tyInt Syntax.w64)
-              (Syntax.tcons
               (Syntax.tyStruct
               (List._∷_
               97
@@ -19585,7 +19447,9 @@ module _ (claims· : Claims) where
               Syntax.tnil
               (Syntax.ttcons Syntax.tnil (Syntax.ttcons Syntax.tnil Syntax.ttnil)))))
               Syntax.tnil)))
-              Syntax.tnil)))
+              (Syntax.tcons (Syntax.tyInt Syntax.w64) Syntax.tnil)))
+              (Syntax.tcons
+              (Syntax.tyInt Syntax.w64)
               (Syntax.tcons
               (Syntax.tyStruct
               (List._∷_
@@ -19606,8 +19470,6 @@ module _ (claims· : Claims) where
               58
               (List._∷_ 83 (List._∷_ 101 (List._∷_ 110 (List._∷_ 116 List.[]))))))))))))
               (Syntax.tcons
-              (Syntax.tyInt Syntax.w64)
-              (Syntax.tcons
               (Syntax.tyStruct
               (List._∷_
               97
@@ -19663,9 +19525,7 @@ module _ (claims· : Claims) where
               Syntax.tnil
               (Syntax.ttcons Syntax.tnil (Syntax.ttcons Syntax.tnil Syntax.ttnil)))))
               Syntax.tnil)))
-              Syntax.tnil)))
-              (Syntax.tcons
-              (Syntax.tyInt Syntax.w64)
+              (Syntax.tcons (Syntax.tyInt Syntax.w64) Syntax.tnil)))
               (Syntax.tcons
               (Syntax.tyEnum
               (List._∷_
@@ -19899,8 +19759,6 @@ module _ (claims· : Claims) where
               58
               (List._∷_ 83 (List._∷_ 101 (List._∷_ 110 (List._∷_ 116 List.[]))))))))))))
               (Syntax.tcons
-              (Syntax.tyInt Syntax.w64)
-              (Syntax.tcons
               (Syntax.tyStruct
               (List._∷_
               97
@@ -19956,7 +19814,9 @@ module _ (claims· : Claims) where
               Syntax.tnil
               (Syntax.ttcons Syntax.tnil (Syntax.ttcons Syntax.tnil Syntax.ttnil)))))
               Syntax.tnil)))
-              Syntax.tnil)))
+              (Syntax.tcons (Syntax.tyInt Syntax.w64) Syntax.tnil)))
+              (Syntax.tcons
+              (Syntax.tyInt Syntax.w64)
               (Syntax.tcons
               (Syntax.tyStruct
               (List._∷_
@@ -19977,8 +19837,6 @@ module _ (claims· : Claims) where
               58
               (List._∷_ 83 (List._∷_ 101 (List._∷_ 110 (List._∷_ 116 List.[]))))))))))))
               (Syntax.tcons
-              (Syntax.tyInt Syntax.w64)
-              (Syntax.tcons
               (Syntax.tyStruct
               (List._∷_
               97
@@ -20034,9 +19892,7 @@ module _ (claims· : Claims) where
               Syntax.tnil
               (Syntax.ttcons Syntax.tnil (Syntax.ttcons Syntax.tnil Syntax.ttnil)))))
               Syntax.tnil)))
-              Syntax.tnil)))
-              (Syntax.tcons
-              (Syntax.tyInt Syntax.w64)
+              (Syntax.tcons (Syntax.tyInt Syntax.w64) Syntax.tnil)))
               (Syntax.tcons
               (Syntax.tyEnum
               (List._∷_
@@ -20270,8 +20126,6 @@ module _ (claims· : Claims) where
               58
               (List._∷_ 83 (List._∷_ 101 (List._∷_ 110 (List._∷_ 116 List.[]))))))))))))
               (Syntax.tcons
-              (Syntax.tyInt Syntax.w64)
-              (Syntax.tcons
               (Syntax.tyStruct
               (List._∷_
               97
@@ -20327,7 +20181,9 @@ module _ (claims· : Claims) where
               Syntax.tnil
               (Syntax.ttcons Syntax.tnil (Syntax.ttcons Syntax.tnil Syntax.ttnil)))))
               Syntax.tnil)))
-              Syntax.tnil)))
+              (Syntax.tcons (Syntax.tyInt Syntax.w64) Syntax.tnil)))
+              (Syntax.tcons
+              (Syntax.tyInt Syntax.w64)
               (Syntax.tcons
               (Syntax.tyStruct
               (List._∷_
@@ -20348,8 +20204,6 @@ module _ (claims· : Claims) where
               58
               (List._∷_ 83 (List._∷_ 101 (List._∷_ 110 (List._∷_ 116 List.[]))))))))))))
               (Syntax.tcons
-              (Syntax.tyInt Syntax.w64)
-              (Syntax.tcons
               (Syntax.tyStruct
               (List._∷_
               97
@@ -20405,9 +20259,7 @@ module _ (claims· : Claims) where
               Syntax.tnil
               (Syntax.ttcons Syntax.tnil (Syntax.ttcons Syntax.tnil Syntax.ttnil)))))
               Syntax.tnil)))
-              Syntax.tnil)))
-              (Syntax.tcons
-              (Syntax.tyInt Syntax.w64)
+              (Syntax.tcons (Syntax.tyInt Syntax.w64) Syntax.tnil)))
               (Syntax.tcons
               (Syntax.tyEnum
               (List._∷_
@@ -20643,8 +20495,6 @@ module _ (claims· : Claims) where
               58
               (List._∷_ 83 (List._∷_ 101 (List._∷_ 110 (List._∷_ 116 List.[]))))))))))))
               (Syntax.tcons
-              (Syntax.tyInt Syntax.w64)
-              (Syntax.tcons
               (Syntax.tyStruct
               (List._∷_
               97
@@ -20700,7 +20550,9 @@ module _ (claims· : Claims) where
               Syntax.tnil
               (Syntax.ttcons Syntax.tnil (Syntax.ttcons Syntax.tnil Syntax.ttnil)))))
               Syntax.tnil)))
-              Syntax.tnil)))
+              (Syntax.tcons (Syntax.tyInt Syntax.w64) Syntax.tnil)))
+              (Syntax.tcons
+              (Syntax.tyInt Syntax.w64)
               (Syntax.tcons
               (Syntax.tyStruct
               (List._∷_
@@ -20721,8 +20573,6 @@ module _ (claims· : Claims) where
               58
               (List._∷_ 83 (List._∷_ 101 (List._∷_ 110 (List._∷_ 116 List.[]))))))))))))
               (Syntax.tcons
-              (Syntax.tyInt Syntax.w64)
-              (Syntax.tcons
               (Syntax.tyStruct
               (List._∷_
               97
@@ -20778,9 +20628,7 @@ module _ (claims· : Claims) where
               Syntax.tnil
               (Syntax.ttcons Syntax.tnil (Syntax.ttcons Syntax.tnil Syntax.ttnil)))))
               Syntax.tnil)))
-              Syntax.tnil)))
-              (Syntax.tcons
-              (Syntax.tyInt Syntax.w64)
+              (Syntax.tcons (Syntax.tyInt Syntax.w64) Syntax.tnil)))
               (Syntax.tcons
               (Syntax.tyEnum
               (List._∷_
@@ -21014,8 +20862,6 @@ module _ (claims· : Claims) where
               58
               (List._∷_ 83 (List._∷_ 101 (List._∷_ 110 (List._∷_ 116 List.[]))))))))))))
               (Syntax.tcons
-              (Syntax.tyInt Syntax.w64)
-              (Syntax.tcons
               (Syntax.tyStruct
               (List._∷_
               97
@@ -21071,7 +20917,9 @@ module _ (claims· : Claims) where
               Syntax.tnil
               (Syntax.ttcons Syntax.tnil (Syntax.ttcons Syntax.tnil Syntax.ttnil)))))
               Syntax.tnil)))
-              Syntax.tnil)))
+              (Syntax.tcons (Syntax.tyInt Syntax.w64) Syntax.tnil)))
+              (Syntax.tcons
+              (Syntax.tyInt Syntax.w64)
               (Syntax.tcons
               (Syntax.tyStruct
               (List._∷_
@@ -21092,8 +20940,6 @@ module _ (claims· : Claims) where
               58
               (List._∷_ 83 (List._∷_ 101 (List._∷_ 110 (List._∷_ 116 List.[]))))))))))))
               (Syntax.tcons
-              (Syntax.tyInt Syntax.w64)
-              (Syntax.tcons
               (Syntax.tyStruct
               (List._∷_
               97
@@ -21149,9 +20995,7 @@ module _ (claims· : Claims) where
               Syntax.tnil
               (Syntax.ttcons Syntax.tnil (Syntax.ttcons Syntax.tnil Syntax.ttnil)))))
               Syntax.tnil)))
-              Syntax.tnil)))
-              (Syntax.tcons
-              (Syntax.tyInt Syntax.w64)
+              (Syntax.tcons (Syntax.tyInt Syntax.w64) Syntax.tnil)))
               (Syntax.tcons
               (Syntax.tyEnum
               (List._∷_
@@ -21385,8 +21229,6 @@ module _ (claims· : Claims) where
               58
               (List._∷_ 83 (List._∷_ 101 (List._∷_ 110 (List._∷_ 116 List.[]))))))))))))
               (Syntax.tcons
-              (Syntax.tyInt Syntax.w64)
-              (Syntax.tcons
               (Syntax.tyStruct
               (List._∷_
               97
@@ -21442,7 +21284,9 @@ module _ (claims· : Claims) where
               Syntax.tnil
               (Syntax.ttcons Syntax.tnil (Syntax.ttcons Syntax.tnil Syntax.ttnil)))))
               Syntax.tnil)))
-              Syntax.tnil)))
+              (Syntax.tcons (Syntax.tyInt Syntax.w64) Syntax.tnil)))
+              (Syntax.tcons
+              (Syntax.tyInt Syntax.w64)
               (Syntax.tcons
               (Syntax.tyStruct
               (List._∷_
@@ -21463,8 +21307,6 @@ module _ (claims· : Claims) where
               58
               (List._∷_ 83 (List._∷_ 101 (List._∷_ 110 (List._∷_ 116 List.[]))))))))))))
               (Syntax.tcons
-              (Syntax.tyInt Syntax.w64)
-              (Syntax.tcons
               (Syntax.tyStruct
               (List._∷_
               97
@@ -21520,9 +21362,7 @@ module _ (claims· : Claims) where
               Syntax.tnil
               (Syntax.ttcons Syntax.tnil (Syntax.ttcons Syntax.tnil Syntax.ttnil)))))
               Syntax.tnil)))
-              Syntax.tnil)))
-              (Syntax.tcons
-              (Syntax.tyInt Syntax.w64)
+              (Syntax.tcons (Syntax.tyInt Syntax.w64) Syntax.tnil)))
               (Syntax.tcons
               (Syntax.tyEnum
               (List._∷_
@@ -25636,8 +25476,6 @@ module _ (claims· : Claims) where
               58
               (List._∷_ 83 (List._∷_ 101 (List._∷_ 110 (List._∷_ 116 List.[]))))))))))))
               (Syntax.tcons
-              (Syntax.tyInt Syntax.w64)
-              (Syntax.tcons
               (Syntax.tyStruct
               (List._∷_
               97
@@ -25693,7 +25531,9 @@ module _ (claims· : Claims) where
               Syntax.tnil
               (Syntax.ttcons Syntax.tnil (Syntax.ttcons Syntax.tnil Syntax.ttnil)))))
               Syntax.tnil)))
-              Syntax.tnil)))
+              (Syntax.tcons (Syntax.tyInt Syntax.w64) Syntax.tnil)))
+              (Syntax.tcons
+              (Syntax.tyInt Syntax.w64)
               (Syntax.tcons
               (Syntax.tyStruct
               (List._∷_
@@ -25714,8 +25554,6 @@ module _ (claims· : Claims) where
               58
               (List._∷_ 83 (List._∷_ 101 (List._∷_ 110 (List._∷_ 116 List.[]))))))))))))
               (Syntax.tcons
-              (Syntax.tyInt Syntax.w64)
-              (Syntax.tcons
               (Syntax.tyStruct
               (List._∷_
               97
@@ -25771,9 +25609,7 @@ module _ (claims· : Claims) where
               Syntax.tnil
               (Syntax.ttcons Syntax.tnil (Syntax.ttcons Syntax.tnil Syntax.ttnil)))))
               Syntax.tnil)))
-              Syntax.tnil)))
-              (Syntax.tcons
-              (Syntax.tyInt Syntax.w64)
+              (Syntax.tcons (Syntax.tyInt Syntax.w64) Syntax.tnil)))
               (Syntax.tcons
               (Syntax.tyEnum
               (List._∷_
@@ -25881,8 +25717,6 @@ module _ (claims· : Claims) where
               58
               (List._∷_ 83 (List._∷_ 101 (List._∷_ 110 (List._∷_ 116 List.[]))))))))))))
               (Syntax.tcons
-              (Syntax.tyInt Syntax.w64)
-              (Syntax.tcons
               (Syntax.tyStruct
               (List._∷_
               97
@@ -25938,7 +25772,9 @@ module _ (claims· : Claims) where
               Syntax.tnil
               (Syntax.ttcons Syntax.tnil (Syntax.ttcons Syntax.tnil Syntax.ttnil)))))
               Syntax.tnil)))
-              Syntax.tnil)))
+              (Syntax.tcons (Syntax.tyInt Syntax.w64) Syntax.tnil)))
+              (Syntax.tcons
+              (Syntax.tyInt Syntax.w64)
               (Syntax.tcons
               (Syntax.tyStruct
               (List._∷_
@@ -25959,8 +25795,6 @@ module _ (claims· : Claims) where
               58
               (List._∷_ 83 (List._∷_ 101 (List._∷_ 110 (List._∷_ 116 List.[]))))))))))))
               (Syntax.tcons
-              (Syntax.tyInt Syntax.w64)
-              (Syntax.tcons
               (Syntax.tyStruct
               (List._∷_
               97
@@ -26016,9 +25850,7 @@ module _ (claims· : Claims) where
               Syntax.tnil
               (Syntax.ttcons Syntax.tnil (Syntax.ttcons Syntax.tnil Syntax.ttnil)))))
               Syntax.tnil)))
-              Syntax.tnil)))
-              (Syntax.tcons
-              (Syntax.tyInt Syntax.w64)
+              (Syntax.tcons (Syntax.tyInt Syntax.w64) Syntax.tnil)))
               (Syntax.tcons
               (Syntax.tyEnum
               (List._∷_
@@ -28578,8 +28410,6 @@ module _ (claims· : Claims) where
               58
               (List._∷_ 83 (List._∷_ 101 (List._∷_ 110 (List._∷_ 116 List.[]))))))))))))
               (Syntax.tcons
-              (Syntax.tyInt Syntax.w64)
-              (Syntax.tcons
               (Syntax.tyStruct
               (List._∷_
               97
@@ -28635,7 +28465,9 @@ module _ (claims· : Claims) where
               Syntax.tnil
               (Syntax.ttcons Syntax.tnil (Syntax.ttcons Syntax.tnil Syntax.ttnil)))))
               Syntax.tnil)))
-              Syntax.tnil)))
+              (Syntax.tcons (Syntax.tyInt Syntax.w64) Syntax.tnil)))
+              (Syntax.tcons
+              (Syntax.tyInt Syntax.w64)
               (Syntax.tcons
               (Syntax.tyStruct
               (List._∷_
@@ -28656,8 +28488,6 @@ module _ (claims· : Claims) where
               58
               (List._∷_ 83 (List._∷_ 101 (List._∷_ 110 (List._∷_ 116 List.[]))))))))))))
               (Syntax.tcons
-              (Syntax.tyInt Syntax.w64)
-              (Syntax.tcons
               (Syntax.tyStruct
               (List._∷_
               97
@@ -28713,9 +28543,7 @@ module _ (claims· : Claims) where
               Syntax.tnil
               (Syntax.ttcons Syntax.tnil (Syntax.ttcons Syntax.tnil Syntax.ttnil)))))
               Syntax.tnil)))
-              Syntax.tnil)))
-              (Syntax.tcons
-              (Syntax.tyInt Syntax.w64)
+              (Syntax.tcons (Syntax.tyInt Syntax.w64) Syntax.tnil)))
               (Syntax.tcons
               (Syntax.tyEnum
               (List._∷_

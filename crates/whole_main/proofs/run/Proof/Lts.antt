@@ -125,8 +125,6 @@ xs =
     58
     (List._∷_ 58 (List._∷_ 83 (List._∷_ 101 (List._∷_ 110 (List._∷_ 116 List.[]))))))))))))
     (Syntax.tcons
-    (Syntax.tyInt Syntax.w64)
-    (Syntax.tcons
     (Syntax.tyStruct
     (List._∷_
     97
@@ -180,7 +178,9 @@ xs =
     Syntax.tnil
     (Syntax.ttcons Syntax.tnil (Syntax.ttcons Syntax.tnil Syntax.ttnil)))))
     Syntax.tnil)))
-    Syntax.tnil)))
+    (Syntax.tcons (Syntax.tyInt Syntax.w64) Syntax.tnil)))
+    (Syntax.tcons
+    (Syntax.tyInt Syntax.w64)
     (Syntax.tcons
     (Syntax.tyStruct
     (List._∷_
@@ -199,8 +199,6 @@ xs =
     58
     (List._∷_ 58 (List._∷_ 83 (List._∷_ 101 (List._∷_ 110 (List._∷_ 116 List.[]))))))))))))
     (Syntax.tcons
-    (Syntax.tyInt Syntax.w64)
-    (Syntax.tcons
     (Syntax.tyStruct
     (List._∷_
     97
@@ -254,9 +252,7 @@ xs =
     Syntax.tnil
     (Syntax.ttcons Syntax.tnil (Syntax.ttcons Syntax.tnil Syntax.ttnil)))))
     Syntax.tnil)))
-    Syntax.tnil)))
-    (Syntax.tcons
-    (Syntax.tyInt Syntax.w64)
+    (Syntax.tcons (Syntax.tyInt Syntax.w64) Syntax.tnil)))
     (Syntax.tcons
     (Syntax.tyEnum
     (List._∷_
@@ -900,8 +896,6 @@ t0 = List._∷_ (0, Rows'.any-gone Syntax.tyUnit) (List._∷_ (
           58
           (List._∷_ 58 (List._∷_ 83 (List._∷_ 101 (List._∷_ 110 (List._∷_ 116 List.[]))))))))))))
           (Syntax.tcons
-          (Syntax.tyInt Syntax.w64)
-          (Syntax.tcons
           (Syntax.tyStruct
           (List._∷_
           97
@@ -957,7 +951,9 @@ t0 = List._∷_ (0, Rows'.any-gone Syntax.tyUnit) (List._∷_ (
           Syntax.tnil
           (Syntax.ttcons Syntax.tnil (Syntax.ttcons Syntax.tnil Syntax.ttnil)))))
           Syntax.tnil)))
-          Syntax.tnil)))
+          (Syntax.tcons (Syntax.tyInt Syntax.w64) Syntax.tnil)))
+          (Syntax.tcons
+          (Syntax.tyInt Syntax.w64)
           (Syntax.tcons
           (Syntax.tyStruct
           (List._∷_
@@ -976,8 +972,6 @@ t0 = List._∷_ (0, Rows'.any-gone Syntax.tyUnit) (List._∷_ (
           58
           (List._∷_ 58 (List._∷_ 83 (List._∷_ 101 (List._∷_ 110 (List._∷_ 116 List.[]))))))))))))
           (Syntax.tcons
-          (Syntax.tyInt Syntax.w64)
-          (Syntax.tcons
           (Syntax.tyStruct
           (List._∷_
           97
@@ -1033,9 +1027,7 @@ t0 = List._∷_ (0, Rows'.any-gone Syntax.tyUnit) (List._∷_ (
           Syntax.tnil
           (Syntax.ttcons Syntax.tnil (Syntax.ttcons Syntax.tnil Syntax.ttnil)))))
           Syntax.tnil)))
-          Syntax.tnil)))
-          (Syntax.tcons
-          (Syntax.tyInt Syntax.w64)
+          (Syntax.tcons (Syntax.tyInt Syntax.w64) Syntax.tnil)))
           (Syntax.tcons
           (Syntax.tyEnum
           (List._∷_
@@ -1282,8 +1274,6 @@ t2 = List._∷_ (0, Rows'.sc-here Row.sUnit) (List._∷_ (
           58
           (List._∷_ 58 (List._∷_ 83 (List._∷_ 101 (List._∷_ 110 (List._∷_ 116 List.[]))))))))))))
           (Syntax.tcons
-          (Syntax.tyInt Syntax.w64)
-          (Syntax.tcons
           (Syntax.tyStruct
           (List._∷_
           97
@@ -1339,7 +1329,9 @@ t2 = List._∷_ (0, Rows'.sc-here Row.sUnit) (List._∷_ (
           Syntax.tnil
           (Syntax.ttcons Syntax.tnil (Syntax.ttcons Syntax.tnil Syntax.ttnil)))))
           Syntax.tnil)))
-          Syntax.tnil)))
+          (Syntax.tcons (Syntax.tyInt Syntax.w64) Syntax.tnil)))
+          (Syntax.tcons
+          (Syntax.tyInt Syntax.w64)
           (Syntax.tcons
           (Syntax.tyStruct
           (List._∷_
@@ -1358,8 +1350,6 @@ t2 = List._∷_ (0, Rows'.sc-here Row.sUnit) (List._∷_ (
           58
           (List._∷_ 58 (List._∷_ 83 (List._∷_ 101 (List._∷_ 110 (List._∷_ 116 List.[]))))))))))))
           (Syntax.tcons
-          (Syntax.tyInt Syntax.w64)
-          (Syntax.tcons
           (Syntax.tyStruct
           (List._∷_
           97
@@ -1415,9 +1405,7 @@ t2 = List._∷_ (0, Rows'.sc-here Row.sUnit) (List._∷_ (
           Syntax.tnil
           (Syntax.ttcons Syntax.tnil (Syntax.ttcons Syntax.tnil Syntax.ttnil)))))
           Syntax.tnil)))
-          Syntax.tnil)))
-          (Syntax.tcons
-          (Syntax.tyInt Syntax.w64)
+          (Syntax.tcons (Syntax.tyInt Syntax.w64) Syntax.tnil)))
           (Syntax.tcons
           (Syntax.tyEnum
           (List._∷_
@@ -1583,8 +1571,6 @@ t3 = List._∷_ (0, Rows'.any-gone Syntax.tyUnit) (List._∷_ (
           58
           (List._∷_ 58 (List._∷_ 83 (List._∷_ 101 (List._∷_ 110 (List._∷_ 116 List.[]))))))))))))
           (Syntax.tcons
-          (Syntax.tyInt Syntax.w64)
-          (Syntax.tcons
           (Syntax.tyStruct
           (List._∷_
           97
@@ -1640,7 +1626,9 @@ t3 = List._∷_ (0, Rows'.any-gone Syntax.tyUnit) (List._∷_ (
           Syntax.tnil
           (Syntax.ttcons Syntax.tnil (Syntax.ttcons Syntax.tnil Syntax.ttnil)))))
           Syntax.tnil)))
-          Syntax.tnil)))
+          (Syntax.tcons (Syntax.tyInt Syntax.w64) Syntax.tnil)))
+          (Syntax.tcons
+          (Syntax.tyInt Syntax.w64)
           (Syntax.tcons
           (Syntax.tyStruct
           (List._∷_
@@ -1659,8 +1647,6 @@ t3 = List._∷_ (0, Rows'.any-gone Syntax.tyUnit) (List._∷_ (
           58
           (List._∷_ 58 (List._∷_ 83 (List._∷_ 101 (List._∷_ 110 (List._∷_ 116 List.[]))))))))))))
           (Syntax.tcons
-          (Syntax.tyInt Syntax.w64)
-          (Syntax.tcons
           (Syntax.tyStruct
           (List._∷_
           97
@@ -1716,9 +1702,7 @@ t3 = List._∷_ (0, Rows'.any-gone Syntax.tyUnit) (List._∷_ (
           Syntax.tnil
           (Syntax.ttcons Syntax.tnil (Syntax.ttcons Syntax.tnil Syntax.ttnil)))))
           Syntax.tnil)))
-          Syntax.tnil)))
-          (Syntax.tcons
-          (Syntax.tyInt Syntax.w64)
+          (Syntax.tcons (Syntax.tyInt Syntax.w64) Syntax.tnil)))
           (Syntax.tcons
           (Syntax.tyEnum
           (List._∷_
@@ -1884,8 +1868,6 @@ t4 = List._∷_ (0, Rows'.any-gone Syntax.tyUnit) (List._∷_ (
           58
           (List._∷_ 58 (List._∷_ 83 (List._∷_ 101 (List._∷_ 110 (List._∷_ 116 List.[]))))))))))))
           (Syntax.tcons
-          (Syntax.tyInt Syntax.w64)
-          (Syntax.tcons
           (Syntax.tyStruct
           (List._∷_
           97
@@ -1941,7 +1923,9 @@ t4 = List._∷_ (0, Rows'.any-gone Syntax.tyUnit) (List._∷_ (
           Syntax.tnil
           (Syntax.ttcons Syntax.tnil (Syntax.ttcons Syntax.tnil Syntax.ttnil)))))
           Syntax.tnil)))
-          Syntax.tnil)))
+          (Syntax.tcons (Syntax.tyInt Syntax.w64) Syntax.tnil)))
+          (Syntax.tcons
+          (Syntax.tyInt Syntax.w64)
           (Syntax.tcons
           (Syntax.tyStruct
           (List._∷_
@@ -1960,8 +1944,6 @@ t4 = List._∷_ (0, Rows'.any-gone Syntax.tyUnit) (List._∷_ (
           58
           (List._∷_ 58 (List._∷_ 83 (List._∷_ 101 (List._∷_ 110 (List._∷_ 116 List.[]))))))))))))
           (Syntax.tcons
-          (Syntax.tyInt Syntax.w64)
-          (Syntax.tcons
           (Syntax.tyStruct
           (List._∷_
           97
@@ -2017,9 +1999,7 @@ t4 = List._∷_ (0, Rows'.any-gone Syntax.tyUnit) (List._∷_ (
           Syntax.tnil
           (Syntax.ttcons Syntax.tnil (Syntax.ttcons Syntax.tnil Syntax.ttnil)))))
           Syntax.tnil)))
-          Syntax.tnil)))
-          (Syntax.tcons
-          (Syntax.tyInt Syntax.w64)
+          (Syntax.tcons (Syntax.tyInt Syntax.w64) Syntax.tnil)))
           (Syntax.tcons
           (Syntax.tyEnum
           (List._∷_
@@ -2185,8 +2165,6 @@ t5 = List._∷_ (0, Rows'.any-gone Syntax.tyUnit) (List._∷_ (
           58
           (List._∷_ 58 (List._∷_ 83 (List._∷_ 101 (List._∷_ 110 (List._∷_ 116 List.[]))))))))))))
           (Syntax.tcons
-          (Syntax.tyInt Syntax.w64)
-          (Syntax.tcons
           (Syntax.tyStruct
           (List._∷_
           97
@@ -2242,7 +2220,9 @@ t5 = List._∷_ (0, Rows'.any-gone Syntax.tyUnit) (List._∷_ (
           Syntax.tnil
           (Syntax.ttcons Syntax.tnil (Syntax.ttcons Syntax.tnil Syntax.ttnil)))))
           Syntax.tnil)))
-          Syntax.tnil)))
+          (Syntax.tcons (Syntax.tyInt Syntax.w64) Syntax.tnil)))
+          (Syntax.tcons
+          (Syntax.tyInt Syntax.w64)
           (Syntax.tcons
           (Syntax.tyStruct
           (List._∷_
@@ -2261,8 +2241,6 @@ t5 = List._∷_ (0, Rows'.any-gone Syntax.tyUnit) (List._∷_ (
           58
           (List._∷_ 58 (List._∷_ 83 (List._∷_ 101 (List._∷_ 110 (List._∷_ 116 List.[]))))))))))))
           (Syntax.tcons
-          (Syntax.tyInt Syntax.w64)
-          (Syntax.tcons
           (Syntax.tyStruct
           (List._∷_
           97
@@ -2318,9 +2296,7 @@ t5 = List._∷_ (0, Rows'.any-gone Syntax.tyUnit) (List._∷_ (
           Syntax.tnil
           (Syntax.ttcons Syntax.tnil (Syntax.ttcons Syntax.tnil Syntax.ttnil)))))
           Syntax.tnil)))
-          Syntax.tnil)))
-          (Syntax.tcons
-          (Syntax.tyInt Syntax.w64)
+          (Syntax.tcons (Syntax.tyInt Syntax.w64) Syntax.tnil)))
           (Syntax.tcons
           (Syntax.tyEnum
           (List._∷_
@@ -2486,8 +2462,6 @@ t6 = List._∷_ (0, Rows'.any-gone Syntax.tyUnit) (List._∷_ (
           58
           (List._∷_ 58 (List._∷_ 83 (List._∷_ 101 (List._∷_ 110 (List._∷_ 116 List.[]))))))))))))
           (Syntax.tcons
-          (Syntax.tyInt Syntax.w64)
-          (Syntax.tcons
           (Syntax.tyStruct
           (List._∷_
           97
@@ -2543,7 +2517,9 @@ t6 = List._∷_ (0, Rows'.any-gone Syntax.tyUnit) (List._∷_ (
           Syntax.tnil
           (Syntax.ttcons Syntax.tnil (Syntax.ttcons Syntax.tnil Syntax.ttnil)))))
           Syntax.tnil)))
-          Syntax.tnil)))
+          (Syntax.tcons (Syntax.tyInt Syntax.w64) Syntax.tnil)))
+          (Syntax.tcons
+          (Syntax.tyInt Syntax.w64)
           (Syntax.tcons
           (Syntax.tyStruct
           (List._∷_
@@ -2562,8 +2538,6 @@ t6 = List._∷_ (0, Rows'.any-gone Syntax.tyUnit) (List._∷_ (
           58
           (List._∷_ 58 (List._∷_ 83 (List._∷_ 101 (List._∷_ 110 (List._∷_ 116 List.[]))))))))))))
           (Syntax.tcons
-          (Syntax.tyInt Syntax.w64)
-          (Syntax.tcons
           (Syntax.tyStruct
           (List._∷_
           97
@@ -2619,9 +2593,7 @@ t6 = List._∷_ (0, Rows'.any-gone Syntax.tyUnit) (List._∷_ (
           Syntax.tnil
           (Syntax.ttcons Syntax.tnil (Syntax.ttcons Syntax.tnil Syntax.ttnil)))))
           Syntax.tnil)))
-          Syntax.tnil)))
-          (Syntax.tcons
-          (Syntax.tyInt Syntax.w64)
+          (Syntax.tcons (Syntax.tyInt Syntax.w64) Syntax.tnil)))
           (Syntax.tcons
           (Syntax.tyEnum
           (List._∷_
@@ -2787,8 +2759,6 @@ t7 = List._∷_ (0, Rows'.any-gone Syntax.tyUnit) (List._∷_ (
           58
           (List._∷_ 58 (List._∷_ 83 (List._∷_ 101 (List._∷_ 110 (List._∷_ 116 List.[]))))))))))))
           (Syntax.tcons
-          (Syntax.tyInt Syntax.w64)
-          (Syntax.tcons
           (Syntax.tyStruct
           (List._∷_
           97
@@ -2844,7 +2814,9 @@ t7 = List._∷_ (0, Rows'.any-gone Syntax.tyUnit) (List._∷_ (
           Syntax.tnil
           (Syntax.ttcons Syntax.tnil (Syntax.ttcons Syntax.tnil Syntax.ttnil)))))
           Syntax.tnil)))
-          Syntax.tnil)))
+          (Syntax.tcons (Syntax.tyInt Syntax.w64) Syntax.tnil)))
+          (Syntax.tcons
+          (Syntax.tyInt Syntax.w64)
           (Syntax.tcons
           (Syntax.tyStruct
           (List._∷_
@@ -2863,8 +2835,6 @@ t7 = List._∷_ (0, Rows'.any-gone Syntax.tyUnit) (List._∷_ (
           58
           (List._∷_ 58 (List._∷_ 83 (List._∷_ 101 (List._∷_ 110 (List._∷_ 116 List.[]))))))))))))
           (Syntax.tcons
-          (Syntax.tyInt Syntax.w64)
-          (Syntax.tcons
           (Syntax.tyStruct
           (List._∷_
           97
@@ -2920,9 +2890,7 @@ t7 = List._∷_ (0, Rows'.any-gone Syntax.tyUnit) (List._∷_ (
           Syntax.tnil
           (Syntax.ttcons Syntax.tnil (Syntax.ttcons Syntax.tnil Syntax.ttnil)))))
           Syntax.tnil)))
-          Syntax.tnil)))
-          (Syntax.tcons
-          (Syntax.tyInt Syntax.w64)
+          (Syntax.tcons (Syntax.tyInt Syntax.w64) Syntax.tnil)))
           (Syntax.tcons
           (Syntax.tyEnum
           (List._∷_
@@ -3086,8 +3054,6 @@ t8 = List._∷_ (0, Rows'.any-gone Syntax.tyUnit) (List._∷_ (
       58
       (List._∷_ 58 (List._∷_ 83 (List._∷_ 101 (List._∷_ 110 (List._∷_ 116 List.[]))))))))))))
       (Syntax.tcons
-      (Syntax.tyInt Syntax.w64)
-      (Syntax.tcons
       (Syntax.tyStruct
       (List._∷_
       97
@@ -3143,7 +3109,9 @@ t8 = List._∷_ (0, Rows'.any-gone Syntax.tyUnit) (List._∷_ (
       Syntax.tnil
       (Syntax.ttcons Syntax.tnil (Syntax.ttcons Syntax.tnil Syntax.ttnil)))))
       Syntax.tnil)))
-      Syntax.tnil)))
+      (Syntax.tcons (Syntax.tyInt Syntax.w64) Syntax.tnil)))
+      (Syntax.tcons
+      (Syntax.tyInt Syntax.w64)
       (Syntax.tcons
       (Syntax.tyStruct
       (List._∷_
@@ -3162,8 +3130,6 @@ t8 = List._∷_ (0, Rows'.any-gone Syntax.tyUnit) (List._∷_ (
       58
       (List._∷_ 58 (List._∷_ 83 (List._∷_ 101 (List._∷_ 110 (List._∷_ 116 List.[]))))))))))))
       (Syntax.tcons
-      (Syntax.tyInt Syntax.w64)
-      (Syntax.tcons
       (Syntax.tyStruct
       (List._∷_
       97
@@ -3219,9 +3185,7 @@ t8 = List._∷_ (0, Rows'.any-gone Syntax.tyUnit) (List._∷_ (
       Syntax.tnil
       (Syntax.ttcons Syntax.tnil (Syntax.ttcons Syntax.tnil Syntax.ttnil)))))
       Syntax.tnil)))
-      Syntax.tnil)))
-      (Syntax.tcons
-      (Syntax.tyInt Syntax.w64)
+      (Syntax.tcons (Syntax.tyInt Syntax.w64) Syntax.tnil)))
       (Syntax.tcons
       (Syntax.tyEnum
       (List._∷_
@@ -3385,8 +3349,6 @@ t9 = List._∷_ (0, Rows'.any-gone Syntax.tyUnit) (List._∷_ (
           58
           (List._∷_ 58 (List._∷_ 83 (List._∷_ 101 (List._∷_ 110 (List._∷_ 116 List.[]))))))))))))
           (Syntax.tcons
-          (Syntax.tyInt Syntax.w64)
-          (Syntax.tcons
           (Syntax.tyStruct
           (List._∷_
           97
@@ -3442,7 +3404,9 @@ t9 = List._∷_ (0, Rows'.any-gone Syntax.tyUnit) (List._∷_ (
           Syntax.tnil
           (Syntax.ttcons Syntax.tnil (Syntax.ttcons Syntax.tnil Syntax.ttnil)))))
           Syntax.tnil)))
-          Syntax.tnil)))
+          (Syntax.tcons (Syntax.tyInt Syntax.w64) Syntax.tnil)))
+          (Syntax.tcons
+          (Syntax.tyInt Syntax.w64)
           (Syntax.tcons
           (Syntax.tyStruct
           (List._∷_
@@ -3461,8 +3425,6 @@ t9 = List._∷_ (0, Rows'.any-gone Syntax.tyUnit) (List._∷_ (
           58
           (List._∷_ 58 (List._∷_ 83 (List._∷_ 101 (List._∷_ 110 (List._∷_ 116 List.[]))))))))))))
           (Syntax.tcons
-          (Syntax.tyInt Syntax.w64)
-          (Syntax.tcons
           (Syntax.tyStruct
           (List._∷_
           97
@@ -3518,9 +3480,7 @@ t9 = List._∷_ (0, Rows'.any-gone Syntax.tyUnit) (List._∷_ (
           Syntax.tnil
           (Syntax.ttcons Syntax.tnil (Syntax.ttcons Syntax.tnil Syntax.ttnil)))))
           Syntax.tnil)))
-          Syntax.tnil)))
-          (Syntax.tcons
-          (Syntax.tyInt Syntax.w64)
+          (Syntax.tcons (Syntax.tyInt Syntax.w64) Syntax.tnil)))
           (Syntax.tcons
           (Syntax.tyEnum
           (List._∷_
@@ -3686,8 +3646,6 @@ t10 = List._∷_ (0, Rows'.any-gone Syntax.tyUnit) (List._∷_ (
           58
           (List._∷_ 58 (List._∷_ 83 (List._∷_ 101 (List._∷_ 110 (List._∷_ 116 List.[]))))))))))))
           (Syntax.tcons
-          (Syntax.tyInt Syntax.w64)
-          (Syntax.tcons
           (Syntax.tyStruct
           (List._∷_
           97
@@ -3743,7 +3701,9 @@ t10 = List._∷_ (0, Rows'.any-gone Syntax.tyUnit) (List._∷_ (
           Syntax.tnil
           (Syntax.ttcons Syntax.tnil (Syntax.ttcons Syntax.tnil Syntax.ttnil)))))
           Syntax.tnil)))
-          Syntax.tnil)))
+          (Syntax.tcons (Syntax.tyInt Syntax.w64) Syntax.tnil)))
+          (Syntax.tcons
+          (Syntax.tyInt Syntax.w64)
           (Syntax.tcons
           (Syntax.tyStruct
           (List._∷_
@@ -3762,8 +3722,6 @@ t10 = List._∷_ (0, Rows'.any-gone Syntax.tyUnit) (List._∷_ (
           58
           (List._∷_ 58 (List._∷_ 83 (List._∷_ 101 (List._∷_ 110 (List._∷_ 116 List.[]))))))))))))
           (Syntax.tcons
-          (Syntax.tyInt Syntax.w64)
-          (Syntax.tcons
           (Syntax.tyStruct
           (List._∷_
           97
@@ -3819,9 +3777,7 @@ t10 = List._∷_ (0, Rows'.any-gone Syntax.tyUnit) (List._∷_ (
           Syntax.tnil
           (Syntax.ttcons Syntax.tnil (Syntax.ttcons Syntax.tnil Syntax.ttnil)))))
           Syntax.tnil)))
-          Syntax.tnil)))
-          (Syntax.tcons
-          (Syntax.tyInt Syntax.w64)
+          (Syntax.tcons (Syntax.tyInt Syntax.w64) Syntax.tnil)))
           (Syntax.tcons
           (Syntax.tyEnum
           (List._∷_
@@ -3986,8 +3942,6 @@ t11 = List._∷_ (0, Rows'.any-gone Syntax.tyUnit) (List._∷_ (
           58
           (List._∷_ 58 (List._∷_ 83 (List._∷_ 101 (List._∷_ 110 (List._∷_ 116 List.[]))))))))))))
           (Syntax.tcons
-          (Syntax.tyInt Syntax.w64)
-          (Syntax.tcons
           (Syntax.tyStruct
           (List._∷_
           97
@@ -4043,7 +3997,9 @@ t11 = List._∷_ (0, Rows'.any-gone Syntax.tyUnit) (List._∷_ (
           Syntax.tnil
           (Syntax.ttcons Syntax.tnil (Syntax.ttcons Syntax.tnil Syntax.ttnil)))))
           Syntax.tnil)))
-          Syntax.tnil)))
+          (Syntax.tcons (Syntax.tyInt Syntax.w64) Syntax.tnil)))
+          (Syntax.tcons
+          (Syntax.tyInt Syntax.w64)
           (Syntax.tcons
           (Syntax.tyStruct
           (List._∷_
@@ -4062,8 +4018,6 @@ t11 = List._∷_ (0, Rows'.any-gone Syntax.tyUnit) (List._∷_ (
           58
           (List._∷_ 58 (List._∷_ 83 (List._∷_ 101 (List._∷_ 110 (List._∷_ 116 List.[]))))))))))))
           (Syntax.tcons
-          (Syntax.tyInt Syntax.w64)
-          (Syntax.tcons
           (Syntax.tyStruct
           (List._∷_
           97
@@ -4119,9 +4073,7 @@ t11 = List._∷_ (0, Rows'.any-gone Syntax.tyUnit) (List._∷_ (
           Syntax.tnil
           (Syntax.ttcons Syntax.tnil (Syntax.ttcons Syntax.tnil Syntax.ttnil)))))
           Syntax.tnil)))
-          Syntax.tnil)))
-          (Syntax.tcons
-          (Syntax.tyInt Syntax.w64)
+          (Syntax.tcons (Syntax.tyInt Syntax.w64) Syntax.tnil)))
           (Syntax.tcons
           (Syntax.tyEnum
           (List._∷_
@@ -4287,8 +4239,6 @@ t12 = List._∷_ (0, Rows'.any-gone Syntax.tyUnit) (List._∷_ (
           58
           (List._∷_ 58 (List._∷_ 83 (List._∷_ 101 (List._∷_ 110 (List._∷_ 116 List.[]))))))))))))
           (Syntax.tcons
-          (Syntax.tyInt Syntax.w64)
-          (Syntax.tcons
           (Syntax.tyStruct
           (List._∷_
           97
@@ -4344,7 +4294,9 @@ t12 = List._∷_ (0, Rows'.any-gone Syntax.tyUnit) (List._∷_ (
           Syntax.tnil
           (Syntax.ttcons Syntax.tnil (Syntax.ttcons Syntax.tnil Syntax.ttnil)))))
           Syntax.tnil)))
-          Syntax.tnil)))
+          (Syntax.tcons (Syntax.tyInt Syntax.w64) Syntax.tnil)))
+          (Syntax.tcons
+          (Syntax.tyInt Syntax.w64)
           (Syntax.tcons
           (Syntax.tyStruct
           (List._∷_
@@ -4363,8 +4315,6 @@ t12 = List._∷_ (0, Rows'.any-gone Syntax.tyUnit) (List._∷_ (
           58
           (List._∷_ 58 (List._∷_ 83 (List._∷_ 101 (List._∷_ 110 (List._∷_ 116 List.[]))))))))))))
           (Syntax.tcons
-          (Syntax.tyInt Syntax.w64)
-          (Syntax.tcons
           (Syntax.tyStruct
           (List._∷_
           97
@@ -4420,9 +4370,7 @@ t12 = List._∷_ (0, Rows'.any-gone Syntax.tyUnit) (List._∷_ (
           Syntax.tnil
           (Syntax.ttcons Syntax.tnil (Syntax.ttcons Syntax.tnil Syntax.ttnil)))))
           Syntax.tnil)))
-          Syntax.tnil)))
-          (Syntax.tcons
-          (Syntax.tyInt Syntax.w64)
+          (Syntax.tcons (Syntax.tyInt Syntax.w64) Syntax.tnil)))
           (Syntax.tcons
           (Syntax.tyEnum
           (List._∷_
@@ -4588,8 +4536,6 @@ t13 = List._∷_ (0, Rows'.any-gone Syntax.tyUnit) (List._∷_ (
           58
           (List._∷_ 58 (List._∷_ 83 (List._∷_ 101 (List._∷_ 110 (List._∷_ 116 List.[]))))))))))))
           (Syntax.tcons
-          (Syntax.tyInt Syntax.w64)
-          (Syntax.tcons
           (Syntax.tyStruct
           (List._∷_
           97
@@ -4645,7 +4591,9 @@ t13 = List._∷_ (0, Rows'.any-gone Syntax.tyUnit) (List._∷_ (
           Syntax.tnil
           (Syntax.ttcons Syntax.tnil (Syntax.ttcons Syntax.tnil Syntax.ttnil)))))
           Syntax.tnil)))
-          Syntax.tnil)))
+          (Syntax.tcons (Syntax.tyInt Syntax.w64) Syntax.tnil)))
+          (Syntax.tcons
+          (Syntax.tyInt Syntax.w64)
           (Syntax.tcons
           (Syntax.tyStruct
           (List._∷_
@@ -4664,8 +4612,6 @@ t13 = List._∷_ (0, Rows'.any-gone Syntax.tyUnit) (List._∷_ (
           58
           (List._∷_ 58 (List._∷_ 83 (List._∷_ 101 (List._∷_ 110 (List._∷_ 116 List.[]))))))))))))
           (Syntax.tcons
-          (Syntax.tyInt Syntax.w64)
-          (Syntax.tcons
           (Syntax.tyStruct
           (List._∷_
           97
@@ -4721,9 +4667,7 @@ t13 = List._∷_ (0, Rows'.any-gone Syntax.tyUnit) (List._∷_ (
           Syntax.tnil
           (Syntax.ttcons Syntax.tnil (Syntax.ttcons Syntax.tnil Syntax.ttnil)))))
           Syntax.tnil)))
-          Syntax.tnil)))
-          (Syntax.tcons
-          (Syntax.tyInt Syntax.w64)
+          (Syntax.tcons (Syntax.tyInt Syntax.w64) Syntax.tnil)))
           (Syntax.tcons
           (Syntax.tyEnum
           (List._∷_
@@ -4889,8 +4833,6 @@ t14 = List._∷_ (0, Rows'.any-gone Syntax.tyUnit) (List._∷_ (
           58
           (List._∷_ 58 (List._∷_ 83 (List._∷_ 101 (List._∷_ 110 (List._∷_ 116 List.[]))))))))))))
           (Syntax.tcons
-          (Syntax.tyInt Syntax.w64)
-          (Syntax.tcons
           (Syntax.tyStruct
           (List._∷_
           97
@@ -4946,7 +4888,9 @@ t14 = List._∷_ (0, Rows'.any-gone Syntax.tyUnit) (List._∷_ (
           Syntax.tnil
           (Syntax.ttcons Syntax.tnil (Syntax.ttcons Syntax.tnil Syntax.ttnil)))))
           Syntax.tnil)))
-          Syntax.tnil)))
+          (Syntax.tcons (Syntax.tyInt Syntax.w64) Syntax.tnil)))
+          (Syntax.tcons
+          (Syntax.tyInt Syntax.w64)
           (Syntax.tcons
           (Syntax.tyStruct
           (List._∷_
@@ -4965,8 +4909,6 @@ t14 = List._∷_ (0, Rows'.any-gone Syntax.tyUnit) (List._∷_ (
           58
           (List._∷_ 58 (List._∷_ 83 (List._∷_ 101 (List._∷_ 110 (List._∷_ 116 List.[]))))))))))))
           (Syntax.tcons
-          (Syntax.tyInt Syntax.w64)
-          (Syntax.tcons
           (Syntax.tyStruct
           (List._∷_
           97
@@ -5022,9 +4964,7 @@ t14 = List._∷_ (0, Rows'.any-gone Syntax.tyUnit) (List._∷_ (
           Syntax.tnil
           (Syntax.ttcons Syntax.tnil (Syntax.ttcons Syntax.tnil Syntax.ttnil)))))
           Syntax.tnil)))
-          Syntax.tnil)))
-          (Syntax.tcons
-          (Syntax.tyInt Syntax.w64)
+          (Syntax.tcons (Syntax.tyInt Syntax.w64) Syntax.tnil)))
           (Syntax.tcons
           (Syntax.tyEnum
           (List._∷_
@@ -5190,8 +5130,6 @@ t15 = List._∷_ (0, Rows'.any-gone Syntax.tyUnit) (List._∷_ (
           58
           (List._∷_ 58 (List._∷_ 83 (List._∷_ 101 (List._∷_ 110 (List._∷_ 116 List.[]))))))))))))
           (Syntax.tcons
-          (Syntax.tyInt Syntax.w64)
-          (Syntax.tcons
           (Syntax.tyStruct
           (List._∷_
           97
@@ -5247,7 +5185,9 @@ t15 = List._∷_ (0, Rows'.any-gone Syntax.tyUnit) (List._∷_ (
           Syntax.tnil
           (Syntax.ttcons Syntax.tnil (Syntax.ttcons Syntax.tnil Syntax.ttnil)))))
           Syntax.tnil)))
-          Syntax.tnil)))
+          (Syntax.tcons (Syntax.tyInt Syntax.w64) Syntax.tnil)))
+          (Syntax.tcons
+          (Syntax.tyInt Syntax.w64)
           (Syntax.tcons
           (Syntax.tyStruct
           (List._∷_
@@ -5266,8 +5206,6 @@ t15 = List._∷_ (0, Rows'.any-gone Syntax.tyUnit) (List._∷_ (
           58
           (List._∷_ 58 (List._∷_ 83 (List._∷_ 101 (List._∷_ 110 (List._∷_ 116 List.[]))))))))))))
           (Syntax.tcons
-          (Syntax.tyInt Syntax.w64)
-          (Syntax.tcons
           (Syntax.tyStruct
           (List._∷_
           97
@@ -5323,9 +5261,7 @@ t15 = List._∷_ (0, Rows'.any-gone Syntax.tyUnit) (List._∷_ (
           Syntax.tnil
           (Syntax.ttcons Syntax.tnil (Syntax.ttcons Syntax.tnil Syntax.ttnil)))))
           Syntax.tnil)))
-          Syntax.tnil)))
-          (Syntax.tcons
-          (Syntax.tyInt Syntax.w64)
+          (Syntax.tcons (Syntax.tyInt Syntax.w64) Syntax.tnil)))
           (Syntax.tcons
           (Syntax.tyEnum
           (List._∷_
@@ -5493,8 +5429,6 @@ t16 = List._∷_ (0, Rows'.any-gone Syntax.tyUnit) (List._∷_ (
           58
           (List._∷_ 58 (List._∷_ 83 (List._∷_ 101 (List._∷_ 110 (List._∷_ 116 List.[]))))))))))))
           (Syntax.tcons
-          (Syntax.tyInt Syntax.w64)
-          (Syntax.tcons
           (Syntax.tyStruct
           (List._∷_
           97
@@ -5550,7 +5484,9 @@ t16 = List._∷_ (0, Rows'.any-gone Syntax.tyUnit) (List._∷_ (
           Syntax.tnil
           (Syntax.ttcons Syntax.tnil (Syntax.ttcons Syntax.tnil Syntax.ttnil)))))
           Syntax.tnil)))
-          Syntax.tnil)))
+          (Syntax.tcons (Syntax.tyInt Syntax.w64) Syntax.tnil)))
+          (Syntax.tcons
+          (Syntax.tyInt Syntax.w64)
           (Syntax.tcons
           (Syntax.tyStruct
           (List._∷_
@@ -5569,8 +5505,6 @@ t16 = List._∷_ (0, Rows'.any-gone Syntax.tyUnit) (List._∷_ (
           58
           (List._∷_ 58 (List._∷_ 83 (List._∷_ 101 (List._∷_ 110 (List._∷_ 116 List.[]))))))))))))
           (Syntax.tcons
-          (Syntax.tyInt Syntax.w64)
-          (Syntax.tcons
           (Syntax.tyStruct
           (List._∷_
           97
@@ -5626,9 +5560,7 @@ t16 = List._∷_ (0, Rows'.any-gone Syntax.tyUnit) (List._∷_ (
           Syntax.tnil
           (Syntax.ttcons Syntax.tnil (Syntax.ttcons Syntax.tnil Syntax.ttnil)))))
           Syntax.tnil)))
-          Syntax.tnil)))
-          (Syntax.tcons
-          (Syntax.tyInt Syntax.w64)
+          (Syntax.tcons (Syntax.tyInt Syntax.w64) Syntax.tnil)))
           (Syntax.tcons
           (Syntax.tyEnum
           (List._∷_
@@ -5792,8 +5724,6 @@ t17 = List._∷_ (0, Rows'.any-gone Syntax.tyUnit) (List._∷_ (
           58
           (List._∷_ 58 (List._∷_ 83 (List._∷_ 101 (List._∷_ 110 (List._∷_ 116 List.[]))))))))))))
           (Syntax.tcons
-          (Syntax.tyInt Syntax.w64)
-          (Syntax.tcons
           (Syntax.tyStruct
           (List._∷_
           97
@@ -5849,7 +5779,9 @@ t17 = List._∷_ (0, Rows'.any-gone Syntax.tyUnit) (List._∷_ (
           Syntax.tnil
           (Syntax.ttcons Syntax.tnil (Syntax.ttcons Syntax.tnil Syntax.ttnil)))))
           Syntax.tnil)))
-          Syntax.tnil)))
+          (Syntax.tcons (Syntax.tyInt Syntax.w64) Syntax.tnil)))
+          (Syntax.tcons
+          (Syntax.tyInt Syntax.w64)
           (Syntax.tcons
           (Syntax.tyStruct
           (List._∷_
@@ -5868,8 +5800,6 @@ t17 = List._∷_ (0, Rows'.any-gone Syntax.tyUnit) (List._∷_ (
           58
           (List._∷_ 58 (List._∷_ 83 (List._∷_ 101 (List._∷_ 110 (List._∷_ 116 List.[]))))))))))))
           (Syntax.tcons
-          (Syntax.tyInt Syntax.w64)
-          (Syntax.tcons
           (Syntax.tyStruct
           (List._∷_
           97
@@ -5925,9 +5855,7 @@ t17 = List._∷_ (0, Rows'.any-gone Syntax.tyUnit) (List._∷_ (
           Syntax.tnil
           (Syntax.ttcons Syntax.tnil (Syntax.ttcons Syntax.tnil Syntax.ttnil)))))
           Syntax.tnil)))
-          Syntax.tnil)))
-          (Syntax.tcons
-          (Syntax.tyInt Syntax.w64)
+          (Syntax.tcons (Syntax.tyInt Syntax.w64) Syntax.tnil)))
           (Syntax.tcons
           (Syntax.tyEnum
           (List._∷_
@@ -6093,8 +6021,6 @@ t18 = List._∷_ (0, Rows'.any-gone Syntax.tyUnit) (List._∷_ (
           58
           (List._∷_ 58 (List._∷_ 83 (List._∷_ 101 (List._∷_ 110 (List._∷_ 116 List.[]))))))))))))
           (Syntax.tcons
-          (Syntax.tyInt Syntax.w64)
-          (Syntax.tcons
           (Syntax.tyStruct
           (List._∷_
           97
@@ -6150,7 +6076,9 @@ t18 = List._∷_ (0, Rows'.any-gone Syntax.tyUnit) (List._∷_ (
           Syntax.tnil
           (Syntax.ttcons Syntax.tnil (Syntax.ttcons Syntax.tnil Syntax.ttnil)))))
           Syntax.tnil)))
-          Syntax.tnil)))
+          (Syntax.tcons (Syntax.tyInt Syntax.w64) Syntax.tnil)))
+          (Syntax.tcons
+          (Syntax.tyInt Syntax.w64)
           (Syntax.tcons
           (Syntax.tyStruct
           (List._∷_
@@ -6169,8 +6097,6 @@ t18 = List._∷_ (0, Rows'.any-gone Syntax.tyUnit) (List._∷_ (
           58
           (List._∷_ 58 (List._∷_ 83 (List._∷_ 101 (List._∷_ 110 (List._∷_ 116 List.[]))))))))))))
           (Syntax.tcons
-          (Syntax.tyInt Syntax.w64)
-          (Syntax.tcons
           (Syntax.tyStruct
           (List._∷_
           97
@@ -6226,9 +6152,7 @@ t18 = List._∷_ (0, Rows'.any-gone Syntax.tyUnit) (List._∷_ (
           Syntax.tnil
           (Syntax.ttcons Syntax.tnil (Syntax.ttcons Syntax.tnil Syntax.ttnil)))))
           Syntax.tnil)))
-          Syntax.tnil)))
-          (Syntax.tcons
-          (Syntax.tyInt Syntax.w64)
+          (Syntax.tcons (Syntax.tyInt Syntax.w64) Syntax.tnil)))
           (Syntax.tcons
           (Syntax.tyEnum
           (List._∷_
@@ -6390,8 +6314,6 @@ t19 = List._∷_ (0, Rows'.any-gone Syntax.tyUnit) (List._∷_ (
           58
           (List._∷_ 58 (List._∷_ 83 (List._∷_ 101 (List._∷_ 110 (List._∷_ 116 List.[]))))))))))))
           (Syntax.tcons
-          (Syntax.tyInt Syntax.w64)
-          (Syntax.tcons
           (Syntax.tyStruct
           (List._∷_
           97
@@ -6447,7 +6369,9 @@ t19 = List._∷_ (0, Rows'.any-gone Syntax.tyUnit) (List._∷_ (
           Syntax.tnil
           (Syntax.ttcons Syntax.tnil (Syntax.ttcons Syntax.tnil Syntax.ttnil)))))
           Syntax.tnil)))
-          Syntax.tnil)))
+          (Syntax.tcons (Syntax.tyInt Syntax.w64) Syntax.tnil)))
+          (Syntax.tcons
+          (Syntax.tyInt Syntax.w64)
           (Syntax.tcons
           (Syntax.tyStruct
           (List._∷_
@@ -6466,8 +6390,6 @@ t19 = List._∷_ (0, Rows'.any-gone Syntax.tyUnit) (List._∷_ (
           58
           (List._∷_ 58 (List._∷_ 83 (List._∷_ 101 (List._∷_ 110 (List._∷_ 116 List.[]))))))))))))
           (Syntax.tcons
-          (Syntax.tyInt Syntax.w64)
-          (Syntax.tcons
           (Syntax.tyStruct
           (List._∷_
           97
@@ -6523,9 +6445,7 @@ t19 = List._∷_ (0, Rows'.any-gone Syntax.tyUnit) (List._∷_ (
           Syntax.tnil
           (Syntax.ttcons Syntax.tnil (Syntax.ttcons Syntax.tnil Syntax.ttnil)))))
           Syntax.tnil)))
-          Syntax.tnil)))
-          (Syntax.tcons
-          (Syntax.tyInt Syntax.w64)
+          (Syntax.tcons (Syntax.tyInt Syntax.w64) Syntax.tnil)))
           (Syntax.tcons
           (Syntax.tyEnum
           (List._∷_
@@ -6689,8 +6609,6 @@ t20 = List._∷_ (0, Rows'.any-gone Syntax.tyUnit) (List._∷_ (
           58
           (List._∷_ 58 (List._∷_ 83 (List._∷_ 101 (List._∷_ 110 (List._∷_ 116 List.[]))))))))))))
           (Syntax.tcons
-          (Syntax.tyInt Syntax.w64)
-          (Syntax.tcons
           (Syntax.tyStruct
           (List._∷_
           97
@@ -6746,7 +6664,9 @@ t20 = List._∷_ (0, Rows'.any-gone Syntax.tyUnit) (List._∷_ (
           Syntax.tnil
           (Syntax.ttcons Syntax.tnil (Syntax.ttcons Syntax.tnil Syntax.ttnil)))))
           Syntax.tnil)))
-          Syntax.tnil)))
+          (Syntax.tcons (Syntax.tyInt Syntax.w64) Syntax.tnil)))
+          (Syntax.tcons
+          (Syntax.tyInt Syntax.w64)
           (Syntax.tcons
           (Syntax.tyStruct
           (List._∷_
@@ -6765,8 +6685,6 @@ t20 = List._∷_ (0, Rows'.any-gone Syntax.tyUnit) (List._∷_ (
           58
           (List._∷_ 58 (List._∷_ 83 (List._∷_ 101 (List._∷_ 110 (List._∷_ 116 List.[]))))))))))))
           (Syntax.tcons
-          (Syntax.tyInt Syntax.w64)
-          (Syntax.tcons
           (Syntax.tyStruct
           (List._∷_
           97
@@ -6822,9 +6740,7 @@ t20 = List._∷_ (0, Rows'.any-gone Syntax.tyUnit) (List._∷_ (
           Syntax.tnil
           (Syntax.ttcons Syntax.tnil (Syntax.ttcons Syntax.tnil Syntax.ttnil)))))
           Syntax.tnil)))
-          Syntax.tnil)))
-          (Syntax.tcons
-          (Syntax.tyInt Syntax.w64)
+          (Syntax.tcons (Syntax.tyInt Syntax.w64) Syntax.tnil)))
           (Syntax.tcons
           (Syntax.tyEnum
           (List._∷_
@@ -6984,8 +6900,6 @@ t21 = List._∷_ (0, Rows'.any-gone Syntax.tyUnit) (List._∷_ (
           58
           (List._∷_ 58 (List._∷_ 83 (List._∷_ 101 (List._∷_ 110 (List._∷_ 116 List.[]))))))))))))
           (Syntax.tcons
-          (Syntax.tyInt Syntax.w64)
-          (Syntax.tcons
           (Syntax.tyStruct
           (List._∷_
           97
@@ -7041,7 +6955,9 @@ t21 = List._∷_ (0, Rows'.any-gone Syntax.tyUnit) (List._∷_ (
           Syntax.tnil
           (Syntax.ttcons Syntax.tnil (Syntax.ttcons Syntax.tnil Syntax.ttnil)))))
           Syntax.tnil)))
-          Syntax.tnil)))
+          (Syntax.tcons (Syntax.tyInt Syntax.w64) Syntax.tnil)))
+          (Syntax.tcons
+          (Syntax.tyInt Syntax.w64)
           (Syntax.tcons
           (Syntax.tyStruct
           (List._∷_
@@ -7060,8 +6976,6 @@ t21 = List._∷_ (0, Rows'.any-gone Syntax.tyUnit) (List._∷_ (
           58
           (List._∷_ 58 (List._∷_ 83 (List._∷_ 101 (List._∷_ 110 (List._∷_ 116 List.[]))))))))))))
           (Syntax.tcons
-          (Syntax.tyInt Syntax.w64)
-          (Syntax.tcons
           (Syntax.tyStruct
           (List._∷_
           97
@@ -7117,9 +7031,7 @@ t21 = List._∷_ (0, Rows'.any-gone Syntax.tyUnit) (List._∷_ (
           Syntax.tnil
           (Syntax.ttcons Syntax.tnil (Syntax.ttcons Syntax.tnil Syntax.ttnil)))))
           Syntax.tnil)))
-          Syntax.tnil)))
-          (Syntax.tcons
-          (Syntax.tyInt Syntax.w64)
+          (Syntax.tcons (Syntax.tyInt Syntax.w64) Syntax.tnil)))
           (Syntax.tcons
           (Syntax.tyEnum
           (List._∷_
@@ -8813,8 +8725,6 @@ t45 = List._∷_ (0, Rows'.any-gone Syntax.tyUnit) (List._∷_ (
           58
           (List._∷_ 58 (List._∷_ 83 (List._∷_ 101 (List._∷_ 110 (List._∷_ 116 List.[]))))))))))))
           (Syntax.tcons
-          (Syntax.tyInt Syntax.w64)
-          (Syntax.tcons
           (Syntax.tyStruct
           (List._∷_
           97
@@ -8870,7 +8780,9 @@ t45 = List._∷_ (0, Rows'.any-gone Syntax.tyUnit) (List._∷_ (
           Syntax.tnil
           (Syntax.ttcons Syntax.tnil (Syntax.ttcons Syntax.tnil Syntax.ttnil)))))
           Syntax.tnil)))
-          Syntax.tnil)))
+          (Syntax.tcons (Syntax.tyInt Syntax.w64) Syntax.tnil)))
+          (Syntax.tcons
+          (Syntax.tyInt Syntax.w64)
           (Syntax.tcons
           (Syntax.tyStruct
           (List._∷_
@@ -8889,8 +8801,6 @@ t45 = List._∷_ (0, Rows'.any-gone Syntax.tyUnit) (List._∷_ (
           58
           (List._∷_ 58 (List._∷_ 83 (List._∷_ 101 (List._∷_ 110 (List._∷_ 116 List.[]))))))))))))
           (Syntax.tcons
-          (Syntax.tyInt Syntax.w64)
-          (Syntax.tcons
           (Syntax.tyStruct
           (List._∷_
           97
@@ -8946,9 +8856,7 @@ t45 = List._∷_ (0, Rows'.any-gone Syntax.tyUnit) (List._∷_ (
           Syntax.tnil
           (Syntax.ttcons Syntax.tnil (Syntax.ttcons Syntax.tnil Syntax.ttnil)))))
           Syntax.tnil)))
-          Syntax.tnil)))
-          (Syntax.tcons
-          (Syntax.tyInt Syntax.w64)
+          (Syntax.tcons (Syntax.tyInt Syntax.w64) Syntax.tnil)))
           (Syntax.tcons
           (Syntax.tyEnum
           (List._∷_
@@ -9114,8 +9022,6 @@ t46 = List._∷_ (0, Rows'.any-gone Syntax.tyUnit) (List._∷_ (
           58
           (List._∷_ 58 (List._∷_ 83 (List._∷_ 101 (List._∷_ 110 (List._∷_ 116 List.[]))))))))))))
           (Syntax.tcons
-          (Syntax.tyInt Syntax.w64)
-          (Syntax.tcons
           (Syntax.tyStruct
           (List._∷_
           97
@@ -9171,7 +9077,9 @@ t46 = List._∷_ (0, Rows'.any-gone Syntax.tyUnit) (List._∷_ (
           Syntax.tnil
           (Syntax.ttcons Syntax.tnil (Syntax.ttcons Syntax.tnil Syntax.ttnil)))))
           Syntax.tnil)))
-          Syntax.tnil)))
+          (Syntax.tcons (Syntax.tyInt Syntax.w64) Syntax.tnil)))
+          (Syntax.tcons
+          (Syntax.tyInt Syntax.w64)
           (Syntax.tcons
           (Syntax.tyStruct
           (List._∷_
@@ -9190,8 +9098,6 @@ t46 = List._∷_ (0, Rows'.any-gone Syntax.tyUnit) (List._∷_ (
           58
           (List._∷_ 58 (List._∷_ 83 (List._∷_ 101 (List._∷_ 110 (List._∷_ 116 List.[]))))))))))))
           (Syntax.tcons
-          (Syntax.tyInt Syntax.w64)
-          (Syntax.tcons
           (Syntax.tyStruct
           (List._∷_
           97
@@ -9247,9 +9153,7 @@ t46 = List._∷_ (0, Rows'.any-gone Syntax.tyUnit) (List._∷_ (
           Syntax.tnil
           (Syntax.ttcons Syntax.tnil (Syntax.ttcons Syntax.tnil Syntax.ttnil)))))
           Syntax.tnil)))
-          Syntax.tnil)))
-          (Syntax.tcons
-          (Syntax.tyInt Syntax.w64)
+          (Syntax.tcons (Syntax.tyInt Syntax.w64) Syntax.tnil)))
           (Syntax.tcons
           (Syntax.tyEnum
           (List._∷_
@@ -9415,8 +9319,6 @@ t47 = List._∷_ (0, Rows'.any-gone Syntax.tyUnit) (List._∷_ (
           58
           (List._∷_ 58 (List._∷_ 83 (List._∷_ 101 (List._∷_ 110 (List._∷_ 116 List.[]))))))))))))
           (Syntax.tcons
-          (Syntax.tyInt Syntax.w64)
-          (Syntax.tcons
           (Syntax.tyStruct
           (List._∷_
           97
@@ -9472,7 +9374,9 @@ t47 = List._∷_ (0, Rows'.any-gone Syntax.tyUnit) (List._∷_ (
           Syntax.tnil
           (Syntax.ttcons Syntax.tnil (Syntax.ttcons Syntax.tnil Syntax.ttnil)))))
           Syntax.tnil)))
-          Syntax.tnil)))
+          (Syntax.tcons (Syntax.tyInt Syntax.w64) Syntax.tnil)))
+          (Syntax.tcons
+          (Syntax.tyInt Syntax.w64)
           (Syntax.tcons
           (Syntax.tyStruct
           (List._∷_
@@ -9491,8 +9395,6 @@ t47 = List._∷_ (0, Rows'.any-gone Syntax.tyUnit) (List._∷_ (
           58
           (List._∷_ 58 (List._∷_ 83 (List._∷_ 101 (List._∷_ 110 (List._∷_ 116 List.[]))))))))))))
           (Syntax.tcons
-          (Syntax.tyInt Syntax.w64)
-          (Syntax.tcons
           (Syntax.tyStruct
           (List._∷_
           97
@@ -9548,9 +9450,7 @@ t47 = List._∷_ (0, Rows'.any-gone Syntax.tyUnit) (List._∷_ (
           Syntax.tnil
           (Syntax.ttcons Syntax.tnil (Syntax.ttcons Syntax.tnil Syntax.ttnil)))))
           Syntax.tnil)))
-          Syntax.tnil)))
-          (Syntax.tcons
-          (Syntax.tyInt Syntax.w64)
+          (Syntax.tcons (Syntax.tyInt Syntax.w64) Syntax.tnil)))
           (Syntax.tcons
           (Syntax.tyEnum
           (List._∷_
@@ -9716,8 +9616,6 @@ t48 = List._∷_ (0, Rows'.any-gone Syntax.tyUnit) (List._∷_ (
           58
           (List._∷_ 58 (List._∷_ 83 (List._∷_ 101 (List._∷_ 110 (List._∷_ 116 List.[]))))))))))))
           (Syntax.tcons
-          (Syntax.tyInt Syntax.w64)
-          (Syntax.tcons
           (Syntax.tyStruct
           (List._∷_
           97
@@ -9773,7 +9671,9 @@ t48 = List._∷_ (0, Rows'.any-gone Syntax.tyUnit) (List._∷_ (
           Syntax.tnil
           (Syntax.ttcons Syntax.tnil (Syntax.ttcons Syntax.tnil Syntax.ttnil)))))
           Syntax.tnil)))
-          Syntax.tnil)))
+          (Syntax.tcons (Syntax.tyInt Syntax.w64) Syntax.tnil)))
+          (Syntax.tcons
+          (Syntax.tyInt Syntax.w64)
           (Syntax.tcons
           (Syntax.tyStruct
           (List._∷_
@@ -9792,8 +9692,6 @@ t48 = List._∷_ (0, Rows'.any-gone Syntax.tyUnit) (List._∷_ (
           58
           (List._∷_ 58 (List._∷_ 83 (List._∷_ 101 (List._∷_ 110 (List._∷_ 116 List.[]))))))))))))
           (Syntax.tcons
-          (Syntax.tyInt Syntax.w64)
-          (Syntax.tcons
           (Syntax.tyStruct
           (List._∷_
           97
@@ -9849,9 +9747,7 @@ t48 = List._∷_ (0, Rows'.any-gone Syntax.tyUnit) (List._∷_ (
           Syntax.tnil
           (Syntax.ttcons Syntax.tnil (Syntax.ttcons Syntax.tnil Syntax.ttnil)))))
           Syntax.tnil)))
-          Syntax.tnil)))
-          (Syntax.tcons
-          (Syntax.tyInt Syntax.w64)
+          (Syntax.tcons (Syntax.tyInt Syntax.w64) Syntax.tnil)))
           (Syntax.tcons
           (Syntax.tyEnum
           (List._∷_
@@ -10017,8 +9913,6 @@ t49 = List._∷_ (0, Rows'.sc-here Row.sUnit) (List._∷_ (
           58
           (List._∷_ 58 (List._∷_ 83 (List._∷_ 101 (List._∷_ 110 (List._∷_ 116 List.[]))))))))))))
           (Syntax.tcons
-          (Syntax.tyInt Syntax.w64)
-          (Syntax.tcons
           (Syntax.tyStruct
           (List._∷_
           97
@@ -10074,7 +9968,9 @@ t49 = List._∷_ (0, Rows'.sc-here Row.sUnit) (List._∷_ (
           Syntax.tnil
           (Syntax.ttcons Syntax.tnil (Syntax.ttcons Syntax.tnil Syntax.ttnil)))))
           Syntax.tnil)))
-          Syntax.tnil)))
+          (Syntax.tcons (Syntax.tyInt Syntax.w64) Syntax.tnil)))
+          (Syntax.tcons
+          (Syntax.tyInt Syntax.w64)
           (Syntax.tcons
           (Syntax.tyStruct
           (List._∷_
@@ -10093,8 +9989,6 @@ t49 = List._∷_ (0, Rows'.sc-here Row.sUnit) (List._∷_ (
           58
           (List._∷_ 58 (List._∷_ 83 (List._∷_ 101 (List._∷_ 110 (List._∷_ 116 List.[]))))))))))))
           (Syntax.tcons
-          (Syntax.tyInt Syntax.w64)
-          (Syntax.tcons
           (Syntax.tyStruct
           (List._∷_
           97
@@ -10150,9 +10044,7 @@ t49 = List._∷_ (0, Rows'.sc-here Row.sUnit) (List._∷_ (
           Syntax.tnil
           (Syntax.ttcons Syntax.tnil (Syntax.ttcons Syntax.tnil Syntax.ttnil)))))
           Syntax.tnil)))
-          Syntax.tnil)))
-          (Syntax.tcons
-          (Syntax.tyInt Syntax.w64)
+          (Syntax.tcons (Syntax.tyInt Syntax.w64) Syntax.tnil)))
           (Syntax.tcons
           (Syntax.tyEnum
           (List._∷_
@@ -10776,8 +10668,6 @@ module _ (claims· : Claims) where
       58
       (List._∷_ 58 (List._∷_ 83 (List._∷_ 101 (List._∷_ 110 (List._∷_ 116 List.[]))))))))))))
       (Syntax.tcons
-      (Syntax.tyInt Syntax.w64)
-      (Syntax.tcons
       (Syntax.tyStruct
       (List._∷_
       97
@@ -10833,7 +10723,9 @@ module _ (claims· : Claims) where
       Syntax.tnil
       (Syntax.ttcons Syntax.tnil (Syntax.ttcons Syntax.tnil Syntax.ttnil)))))
       Syntax.tnil)))
-      Syntax.tnil)))
+      (Syntax.tcons (Syntax.tyInt Syntax.w64) Syntax.tnil)))
+      (Syntax.tcons
+      (Syntax.tyInt Syntax.w64)
       (Syntax.tcons
       (Syntax.tyStruct
       (List._∷_
@@ -10852,8 +10744,6 @@ module _ (claims· : Claims) where
       58
       (List._∷_ 58 (List._∷_ 83 (List._∷_ 101 (List._∷_ 110 (List._∷_ 116 List.[]))))))))))))
       (Syntax.tcons
-      (Syntax.tyInt Syntax.w64)
-      (Syntax.tcons
       (Syntax.tyStruct
       (List._∷_
       97
@@ -10909,9 +10799,7 @@ module _ (claims· : Claims) where
       Syntax.tnil
       (Syntax.ttcons Syntax.tnil (Syntax.ttcons Syntax.tnil Syntax.ttnil)))))
       Syntax.tnil)))
-      Syntax.tnil)))
-      (Syntax.tcons
-      (Syntax.tyInt Syntax.w64)
+      (Syntax.tcons (Syntax.tyInt Syntax.w64) Syntax.tnil)))
       (Syntax.tcons
       (Syntax.tyEnum
       (List._∷_
@@ -11213,8 +11101,6 @@ module _ (claims· : Claims) where
       58
       (List._∷_ 58 (List._∷_ 83 (List._∷_ 101 (List._∷_ 110 (List._∷_ 116 List.[]))))))))))))
       (Syntax.tcons
-      (Syntax.tyInt Syntax.w64)
-      (Syntax.tcons
       (Syntax.tyStruct
       (List._∷_
       97
@@ -11270,7 +11156,9 @@ module _ (claims· : Claims) where
       Syntax.tnil
       (Syntax.ttcons Syntax.tnil (Syntax.ttcons Syntax.tnil Syntax.ttnil)))))
       Syntax.tnil)))
-      Syntax.tnil)))
+      (Syntax.tcons (Syntax.tyInt Syntax.w64) Syntax.tnil)))
+      (Syntax.tcons
+      (Syntax.tyInt Syntax.w64)
       (Syntax.tcons
       (Syntax.tyStruct
       (List._∷_
@@ -11289,8 +11177,6 @@ module _ (claims· : Claims) where
       58
       (List._∷_ 58 (List._∷_ 83 (List._∷_ 101 (List._∷_ 110 (List._∷_ 116 List.[]))))))))))))
       (Syntax.tcons
-      (Syntax.tyInt Syntax.w64)
-      (Syntax.tcons
       (Syntax.tyStruct
       (List._∷_
       97
@@ -11346,9 +11232,7 @@ module _ (claims· : Claims) where
       Syntax.tnil
       (Syntax.ttcons Syntax.tnil (Syntax.ttcons Syntax.tnil Syntax.ttnil)))))
       Syntax.tnil)))
-      Syntax.tnil)))
-      (Syntax.tcons
-      (Syntax.tyInt Syntax.w64)
+      (Syntax.tcons (Syntax.tyInt Syntax.w64) Syntax.tnil)))
       (Syntax.tcons
       (Syntax.tyEnum
       (List._∷_
@@ -12964,8 +12848,6 @@ module _ (claims· : Claims) where
               58
               (List._∷_ 83 (List._∷_ 101 (List._∷_ 110 (List._∷_ 116 List.[]))))))))))))
               (Syntax.tcons
-              (Syntax.tyInt Syntax.w64)
-              (Syntax.tcons
               (Syntax.tyStruct
               (List._∷_
               97
@@ -13021,7 +12903,9 @@ module _ (claims· : Claims) where
               Syntax.tnil
               (Syntax.ttcons Syntax.tnil (Syntax.ttcons Syntax.tnil Syntax.ttnil)))))
               Syntax.tnil)))
-              Syntax.tnil)))
+              (Syntax.tcons (Syntax.tyInt Syntax.w64) Syntax.tnil)))
+              (Syntax.tcons
+              (Syntax.tyInt Syntax.w64)
               (Syntax.tcons
               (Syntax.tyStruct
               (List._∷_
@@ -13042,8 +12926,6 @@ module _ (claims· : Claims) where
               58
               (List._∷_ 83 (List._∷_ 101 (List._∷_ 110 (List._∷_ 116 List.[]))))))))))))
               (Syntax.tcons
-              (Syntax.tyInt Syntax.w64)
-              (Syntax.tcons
               (Syntax.tyStruct
               (List._∷_
               97
@@ -13099,9 +12981,7 @@ module _ (claims· : Claims) where
               Syntax.tnil
               (Syntax.ttcons Syntax.tnil (Syntax.ttcons Syntax.tnil Syntax.ttnil)))))
               Syntax.tnil)))
-              Syntax.tnil)))
-              (Syntax.tcons
-              (Syntax.tyInt Syntax.w64)
+              (Syntax.tcons (Syntax.tyInt Syntax.w64) Syntax.tnil)))
               (Syntax.tcons
               (Syntax.tyEnum
               (List._∷_
@@ -13209,8 +13089,6 @@ module _ (claims· : Claims) where
               58
               (List._∷_ 83 (List._∷_ 101 (List._∷_ 110 (List._∷_ 116 List.[]))))))))))))
               (Syntax.tcons
-              (Syntax.tyInt Syntax.w64)
-              (Syntax.tcons
               (Syntax.tyStruct
               (List._∷_
               97
@@ -13266,7 +13144,9 @@ module _ (claims· : Claims) where
               Syntax.tnil
               (Syntax.ttcons Syntax.tnil (Syntax.ttcons Syntax.tnil Syntax.ttnil)))))
               Syntax.tnil)))
-              Syntax.tnil)))
+              (Syntax.tcons (Syntax.tyInt Syntax.w64) Syntax.tnil)))
+              (Syntax.tcons
+              (Syntax.tyInt Syntax.w64)
               (Syntax.tcons
               (Syntax.tyStruct
               (List._∷_
@@ -13287,8 +13167,6 @@ module _ (claims· : Claims) where
               58
               (List._∷_ 83 (List._∷_ 101 (List._∷_ 110 (List._∷_ 116 List.[]))))))))))))
               (Syntax.tcons
-              (Syntax.tyInt Syntax.w64)
-              (Syntax.tcons
               (Syntax.tyStruct
               (List._∷_
               97
@@ -13344,9 +13222,7 @@ module _ (claims· : Claims) where
               Syntax.tnil
               (Syntax.ttcons Syntax.tnil (Syntax.ttcons Syntax.tnil Syntax.ttnil)))))
               Syntax.tnil)))
-              Syntax.tnil)))
-              (Syntax.tcons
-              (Syntax.tyInt Syntax.w64)
+              (Syntax.tcons (Syntax.tyInt Syntax.w64) Syntax.tnil)))
               (Syntax.tcons
               (Syntax.tyEnum
               (List._∷_
@@ -14829,8 +14705,6 @@ module _ (claims· : Claims) where
               58
               (List._∷_ 83 (List._∷_ 101 (List._∷_ 110 (List._∷_ 116 List.[]))))))))))))
               (Syntax.tcons
-              (Syntax.tyInt Syntax.w64)
-              (Syntax.tcons
               (Syntax.tyStruct
               (List._∷_
               97
@@ -14886,7 +14760,9 @@ module _ (claims· : Claims) where
               Syntax.tnil
               (Syntax.ttcons Syntax.tnil (Syntax.ttcons Syntax.tnil Syntax.ttnil)))))
               Syntax.tnil)))
-              Syntax.tnil)))
+              (Syntax.tcons (Syntax.tyInt Syntax.w64) Syntax.tnil)))
+              (Syntax.tcons
+              (Syntax.tyInt Syntax.w64)
               (Syntax.tcons
               (Syntax.tyStruct
               (List._∷_
@@ -14907,8 +14783,6 @@ module _ (claims· : Claims) where
               58
               (List._∷_ 83 (List._∷_ 101 (List._∷_ 110 (List._∷_ 116 List.[]))))))))))))
               (Syntax.tcons
-              (Syntax.tyInt Syntax.w64)
-              (Syntax.tcons
               (Syntax.tyStruct
               (List._∷_
               97
@@ -14964,9 +14838,7 @@ module _ (claims· : Claims) where
               Syntax.tnil
               (Syntax.ttcons Syntax.tnil (Syntax.ttcons Syntax.tnil Syntax.ttnil)))))
               Syntax.tnil)))
-              Syntax.tnil)))
-              (Syntax.tcons
-              (Syntax.tyInt Syntax.w64)
+              (Syntax.tcons (Syntax.tyInt Syntax.w64) Syntax.tnil)))
               (Syntax.tcons
               (Syntax.tyEnum
               (List._∷_
