@@ -1,4 +1,5 @@
 // Passes over the options of a message (01, "Octets on the air").
+ghost use Prim.Native.Nat.{ℕ};
 ghost use mathlib.Core.Path.{_≡_};
 ghost use mathlib.Core.Bool.{false, true};
 ghost use Rattle.plain.specs.Octets.{optionsOf, ofType, artType, anyBad, targetsOf};
@@ -26,13 +27,10 @@ pub struct Scan {
     pub art: Found,
 }
 
-// What is found of a type after one more option.
-fn noted(f: Found, wanted: u8, kind: u8, start: usize, end: usize) -> Found
-    ensures { λ r. ⌜ Noted wanted kind start end f r ⌝ }
+// What is found of a type after one more option of that type.
+fn noted(f: Found, start: usize, end: usize) -> Found
+    ensures { λ r. ⌜ ((kind : ℕ) → Noted kind kind start end f r) ⌝ }
 {
-    if kind != wanted {
-        return f;
-    }
     if f.count == 0 {
         return Found {
             count: 1,
@@ -47,21 +45,27 @@ fn noted(f: Found, wanted: u8, kind: u8, start: usize, end: usize) -> Found
     }
 }
 
-// What a pass has found after one more option.
+// What a pass has found after one more option. Most types are none of these four.
 fn with_option(s: Scan, kind: u8, start: usize, end: usize) -> Scan
     ensures { λ r. ⌜ OptionTaken kind start end s r ⌝ }
 {
-    let configuration = noted(s.configuration, 0x04, kind, start, end);
-    let rreq = noted(s.rreq, 0x0B, kind, start, end);
-    let rrep = noted(s.rrep, 0x0C, kind, start, end);
-    let art = noted(s.art, 0x0D, kind, start, end);
-    Scan {
-        bad: s.bad,
-        configuration,
-        rreq,
-        rrep,
-        art,
+    let mut r = s;
+    if kind == 0x04 {
+        r.configuration = noted(s.configuration, start, end);
+        return r;
     }
+    if kind == 0x0B {
+        r.rreq = noted(s.rreq, start, end);
+        return r;
+    }
+    if kind == 0x0C {
+        r.rrep = noted(s.rrep, start, end);
+        return r;
+    }
+    if kind == 0x0D {
+        r.art = noted(s.art, start, end);
+    }
+    r
 }
 
 fn fresh() -> Scan
