@@ -90,14 +90,11 @@ fn way_number(d: Destination) -> u8
 fn neighbour_in(d: Destination) -> [u8; 16]
     ensures { λ r. ⌜ r ≡ neighbourIn (destinationOf d) ⌝ }
 {
-    let w = d.way;
     let a = d.neighbour;
-    match w {
-        Way::Nowhere => [0; 16],
-        Way::Group => [0; 16],
-        Way::Neighbour => a,
-        Way::Caller => [0; 16],
+    if way_number(d) == 2 {
+        return a;
     }
+    [0; 16]
 }
 
 pub fn host_outcome(r: Outcome) -> HostOutcome
