@@ -5,9 +5,10 @@ use mathlib.Core.Bool.{Bool, true, false, _||_}
 use mathlib.Core.List.{List, [], _∷_, _++_}
 use native.Mathlib.Omega.{arith}
 use native.Mathlib.Numerals.{add-one}
-use lib.ListN.{length, getD, take, drop, take-append-drop, length-take}
+use lib.ListN.{length, getD, take, drop, take-append-drop, length-take, drop-of-length-le}
 use lib.Seq.{take-suc, take-all}
 use Rattle.plain.specs.Lists.{any, anyTwo}
+use Rattle.lemmas.proofs.Walk.{left-at}
 use Rattle.lemmas.proofs.Choice.{true-false, or-left, or-right, or-neither}
 
 pub not-so : (b : Bool) → (b ≡ true → ⊥) → b ≡ false
@@ -94,6 +95,22 @@ module _ {A : Type 0} (p : A → A → Bool) where
 
   pub two-end : (xs : List A) (j : ℕ) → length xs ≤ j → anyTwo p (take j xs) ≡ false → anyTwo p xs ≡ false
   two-end xs j h e = rw (take-all j xs h) at e
+
+  -- from row j on: two of all are so if two of these are
+
+  pub behind-hit : {b : Bool} (xs : List A) (j : ℕ) (d : A) → b ≡ anyTwo p (drop j xs) → j < length xs
+      → any (p (getD xs j d)) (drop (j + 1) xs) ≡ true → b ≡ true
+  unfolding anyTwo
+  behind-hit xs j d v h e = v ∙ rw (left-at xs j d h, e)
+
+  pub behind-miss : {b : Bool} (xs : List A) (j : ℕ) (d : A) → b ≡ anyTwo p (drop j xs) → j < length xs
+      → any (p (getD xs j d)) (drop (j + 1) xs) ≡ false → b ≡ anyTwo p (drop (j + 1) xs)
+  unfolding anyTwo
+  behind-miss xs j d v h e = v ∙ rw (left-at xs j d h, e)
+
+  pub behind-end : {b : Bool} (xs : List A) (j : ℕ) → b ≡ anyTwo p (drop j xs) → length xs ≤ j → b ≡ false
+  unfolding anyTwo
+  behind-end xs j v h = v ∙ rw (drop-of-length-le xs {i = j} h)
 
 module _ {A : Type 0} (p q : A → A → Bool) where
   pub two-same : ((x y : A) → p x y ≡ q x y) → (xs : List A) → anyTwo p xs ≡ anyTwo q xs

@@ -15,16 +15,16 @@ pub left-at : {A : Type 0} (xs : List A) (i : ℕ) (d : A) → i < length xs →
 left-at xs i d h = rw add-one (drop-cons xs i d h)
 
 module _ {A : Type 0} (p : A → Bool) (d : A) where
-  pub any-hit : (xs : List A) (i : ℕ) → any p xs ≡ any p (drop i xs) → i < length xs → p (getD xs i d) ≡ true → any p xs ≡ true
+  pub any-hit : {b : Bool} (xs : List A) (i : ℕ) → b ≡ any p (drop i xs) → i < length xs → p (getD xs i d) ≡ true → b ≡ true
   unfolding any
   any-hit xs i v h e = v ∙ rw (left-at xs i d h, e)
 
-  pub any-miss : (xs : List A) (i : ℕ) → any p xs ≡ any p (drop i xs) → i < length xs → p (getD xs i d) ≡ false
-      → any p xs ≡ any p (drop (i + 1) xs)
+  pub any-miss : {b : Bool} (xs : List A) (i : ℕ) → b ≡ any p (drop i xs) → i < length xs → p (getD xs i d) ≡ false
+      → b ≡ any p (drop (i + 1) xs)
   unfolding any
   any-miss xs i v h e = v ∙ rw (left-at xs i d h, e)
 
-  pub any-end : (xs : List A) (i : ℕ) → any p xs ≡ any p (drop i xs) → length xs ≤ i → any p xs ≡ false
+  pub any-end : {b : Bool} (xs : List A) (i : ℕ) → b ≡ any p (drop i xs) → length xs ≤ i → b ≡ false
   unfolding any
   any-end xs i v h = v ∙ rw (drop-of-length-le xs {i = i} h)
 

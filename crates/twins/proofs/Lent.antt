@@ -6,6 +6,8 @@ pub mod few
 pub mod few_routes
 pub mod has_twins
 pub mod has_twins_route
+pub mod is_repeated
+pub mod is_route_repeated
 pub mod pass
 pub mod pass_routes
 pub mod passes

@@ -107,7 +107,7 @@ b5 = Syntax.cond (Syntax.copy (Syntax.place 5 List.[])) b3 b4
 abbrev b6 : Syntax.Body
 b6 =
     Syntax.call
-    "twins::scan"
+    "twins::is_repeated"
     (List._∷_
     (Syntax.copy (Syntax.place 1 List.[]))
     (List._∷_
@@ -528,8 +528,8 @@ module _ (claims· : Claims) where
       Closed =
           (𝓤 : URA.URA M) (H : Wp.Heap 𝓤) (A : Atoms.Atoms 𝓤) (W : Kit.Given 𝓤 H A) (𝓣 : Wp.Tables
           𝓤 H) (known0 : Plain.Known 𝓤 H A W 𝓣 1 ps·0 r·0 (claims· .0) (claims· .1)
-          "twins::scan") → Statement.Triple 𝓤 (Wp.WpFn 𝓤 H (𝓣 .C) (𝓣 .Λ) (Function.fnOf 1 ps r xs m
-          hs body)) (Function.plainOf 𝓤 H A 1 ps r Pre· Post·)
+          "twins::is_repeated") → Statement.Triple 𝓤 (Wp.WpFn 𝓤 H (𝓣 .C) (𝓣 .Λ) (Function.fnOf 1 ps
+          r xs m hs body)) (Function.plainOf 𝓤 H A 1 ps r Pre· Post·)
 
     module _ (Inv·0 : InvT-loop) (μ·0 : MeasureT-loop) where
       abbrev at0 : Typed.TF T8 O4
@@ -637,7 +637,7 @@ module _ (claims· : Claims) where
       module _ {M : Type 1} (𝓤 : URA.URA M) (H : Wp.Heap 𝓤) (A : Atoms.Atoms 𝓤)
           (W : Kit.Given 𝓤 H A) (𝓣 : Wp.Tables 𝓤 H) where
         abbrev Knowns : Type 1
-        Knowns = Plain.Known 𝓤 H A W 𝓣 1 ps·0 r·0 (claims· .0) (claims· .1) "twins::scan"
+        Knowns = Plain.Known 𝓤 H A W 𝓣 1 ps·0 r·0 (claims· .0) (claims· .1) "twins::is_repeated"
 
       module _ (κs : Lifetimes.Lfts 1) (qs : Lifetimes.Shares 1) where
         abbrev G0 : Row.Cx
@@ -1042,7 +1042,7 @@ module _ (claims· : Claims) where
               r·0
               (claims· .0)
               (claims· .1)
-              "twins::scan"
+              "twins::is_repeated"
               known
               E
               (λ pos β. β)
@@ -1518,15 +1518,15 @@ module _ (claims· : Claims) where
       abbrev pub m7 : (before : At-loop) → Typed.Mo T9
       m7 = λ before. s5 (m5 (before .before) (before .loop .j))
 
-      abbrev pub Need-scan-requires : Type 0
-      Need-scan-requires = (c : In-loop) → s6 .asks (m6 (c .before))
+      abbrev pub Need-is-repeated-requires : Type 0
+      Need-is-repeated-requires = (c : In-loop) → s6 .asks (m6 (c .before))
 
       abbrev pub m8 : (before : In-loop) → (given : s6 .gives (m6 (before .before))) → Typed.Mo T10
       m8 = λ before given. s6 .next (m6 (before .before)) given
 
       module _ (before· : In-loop) where
-        abbrev pub After-scan·own : Type 0
-        After-scan·own = Called.Called ps·0 r·0 (claims· .1) T6 (
+        abbrev pub After-is-repeated·own : Type 0
+        After-is-repeated·own = Called.Called ps·0 r·0 (claims· .1) T6 (
           record {
             pos = 1;
             ty = Syntax.tyRef
@@ -1538,12 +1538,13 @@ module _ (claims· : Claims) where
           (Num.vAt 3 λ x. x, (Num.vAt 2 λ x. x, tt)),
         ) (m6 (before· .before))
 
-      pub record After-scan : Type 0 where
+      pub record After-is-repeated : Type 0 where
         pub before : In-loop
-        pub scan : After-scan·own before
+        pub is-repeated : After-is-repeated·own before
 
-      abbrev pub After-scan·gave : (c : After-scan) → s6 .gives (m6 (c .before .before))
-      After-scan·gave = λ c. Called.given ps·0 r·0 (claims· .1) T6 (
+      abbrev pub After-is-repeated·gave :
+          (c : After-is-repeated) → s6 .gives (m6 (c .before .before))
+      After-is-repeated·gave = λ c. Called.given ps·0 r·0 (claims· .1) T6 (
         record {
           pos = 1;
           ty = Syntax.tyRef
@@ -1553,7 +1554,7 @@ module _ (claims· : Claims) where
           ref = λ x. x;
         },
         (Num.vAt 3 λ x. x, (Num.vAt 2 λ x. x, tt)),
-      ) (m6 (c .before .before)) (c .scan)
+      ) (m6 (c .before .before)) (c .is-repeated)
 
       abbrev W5 : (before : In-loop) → (given : s6 .gives (m6 (before .before))) → Typed.Want O5
       W5 =
@@ -1563,26 +1564,26 @@ module _ (claims· : Claims) where
           (at14 (W3 (before .before .before) (before .before .loop .j)))
           (W3 (before .before .before) (before .before .loop .j))
 
-      abbrev pub m9 : (before : After-scan) → Typed.Mo T12
-      m9 = λ before. s7 (m8 (before .before) (After-scan·gave before))
+      abbrev pub m9 : (before : After-is-repeated) → Typed.Mo T12
+      m9 = λ before. s7 (m8 (before .before) (After-is-repeated·gave before))
 
-      abbrev pub m10 : (before : After-scan) → Typed.Mo T13
+      abbrev pub m10 : (before : After-is-repeated) → Typed.Mo T13
       m10 = λ before. s8 (m9 before)
 
-      abbrev pub m11 : (before : After-scan) → Typed.Mo T14
+      abbrev pub m11 : (before : After-is-repeated) → Typed.Mo T14
       m11 = λ before. s9 (m10 before)
 
-      abbrev pub m12 : (before : After-scan) → Typed.Mo T15
+      abbrev pub m12 : (before : After-is-repeated) → Typed.Mo T15
       m12 = λ before. s10 (m11 before)
 
-      module _ (before· : After-scan) where
+      module _ (before· : After-is-repeated) where
         pub record Then1·own : Type 0 where
           pub taken : Path'._≡_
-              (Row.get 6 (T10 .locals) (m8 (before· .before) (After-scan·gave before·)))
+              (Row.get 6 (T10 .locals) (m8 (before· .before) (After-is-repeated·gave before·)))
               Bool'.true
 
       pub record Then1 : Type 0 where
-        pub before : After-scan
+        pub before : After-is-repeated
         pub if1 : Then1·own before
 
       abbrev pub Need-returns : Type 0
@@ -1604,23 +1605,23 @@ module _ (claims· : Claims) where
           (dens (c .before .before .before .before .κs) (c .before .before .before .before .args))
           (m12 (c .before) .1)))
 
-      abbrev pub m13 : (before : After-scan) → Typed.Mo T16
-      m13 = λ before. s11 (m8 (before .before) (After-scan·gave before))
+      abbrev pub m13 : (before : After-is-repeated) → Typed.Mo T16
+      m13 = λ before. s11 (m8 (before .before) (After-is-repeated·gave before))
 
-      module _ (before· : After-scan) where
+      module _ (before· : After-is-repeated) where
         pub record Else1·own : Type 0 where
           pub left : Path'._≡_
-              (Row.get 6 (T10 .locals) (m8 (before· .before) (After-scan·gave before·)))
+              (Row.get 6 (T10 .locals) (m8 (before· .before) (After-is-repeated·gave before·)))
               Bool'.false
 
       pub record Else1 : Type 0 where
-        pub before : After-scan
+        pub before : After-is-repeated
         pub if1 : Else1·own before
 
       abbrev pub Need-add-j : Type 0
       Need-add-j = (c : Else1) → s12 .asks (m13 (c .before))
 
-      abbrev pub m14 : (before : After-scan) → Typed.Mo T17
+      abbrev pub m14 : (before : After-is-repeated) → Typed.Mo T17
       m14 = λ before. s12 .next (m13 before)
 
       abbrev pub Need-loop-less : Type 0
@@ -1708,7 +1709,7 @@ module _ (claims· : Claims) where
           (dens (c .before .before .κs) (c .before .before .args))
           (m17 (c .before) .1)))
 
-      module _ (loop-holds : Need-loop-holds) (scan-requires : Need-scan-requires)
+      module _ (loop-holds : Need-loop-holds) (is-repeated-requires : Need-is-repeated-requires)
           (returns : Need-returns) (add-j : Need-add-j) (loop-less : Need-loop-less)
           (loop-again : Need-loop-again) (returns-2 : Need-returns-2) where
         lay6 :
@@ -1777,30 +1778,30 @@ module _ (claims· : Claims) where
         )
 
         lay4 :
-            (c : After-scan) →
+            (c : After-is-repeated) →
             at15
             (W3 (c .before .before .before) (c .before .before .loop .j))
-            (m8 (c .before) (After-scan·gave c))
+            (m8 (c .before) (After-is-repeated·gave c))
         lay4 = λ c. (
           λ taken. (
             (Path'.refl, (tt, tt)),
             returns record {
-              before = record { before = c .before; scan = c .scan };
+              before = record { before = c .before; is-repeated = c .is-repeated };
               if1 = record { taken = taken };
             },
           ),
           λ left. lay5 record {
-            before = record { before = c .before; scan = c .scan };
+            before = record { before = c .before; is-repeated = c .is-repeated };
             if1 = record { left = left };
           },
         )
 
         lay3 : (c : In-loop) → at16 (W3 (c .before .before) (c .before .loop .j)) (m6 (c .before))
         lay3 = λ c. (
-          scan-requires record { before = c .before; loop-test = c .loop-test },
+          is-repeated-requires record { before = c .before; loop-test = c .loop-test },
           λ g. lay4 record {
             before = record { before = c .before; loop-test = c .loop-test };
-            scan = Called.called ps·0 r·0 (claims· .1) T6 (
+            is-repeated = Called.called ps·0 r·0 (claims· .1) T6 (
               record {
                 pos = 1;
                 ty = Syntax.tyRef
@@ -1888,7 +1889,7 @@ module _ (claims· : Claims) where
             r·0
             (claims· .0)
             (claims· .1)
-            "twins::scan") where
+            "twins::is_repeated") where
           pub spec :
               Statement.Triple
               𝓤

@@ -5,9 +5,9 @@ use Rattle.twins.proofs.Lent.every_pair.Kinds
 use Rattle.twins.proofs.every_pair.Proof.Lts
 use Rattle.twins.proofs.Lent.every_pair.Reads
 use Rattle.twins.proofs.every_pair.Statement
-use Rattle.twins.proofs.scan.Met
-use Rattle.twins.proofs.Lent.scan.Reads as Reads'
-use Rattle.twins.proofs.scan.Symbol
+use Rattle.twins.proofs.is_repeated.Met
+use Rattle.twins.proofs.Lent.is_repeated.Reads as Reads'
+use Rattle.twins.proofs.is_repeated.Symbol
 use borrow.Fn.Run
 use borrow.Fn.Written
 use contract.Running
@@ -30,8 +30,9 @@ In-loop = λ Inv μ. Lts.In-loop (Reads'.Asked, Reads'.Learnt) Reads.Pre Reads.P
 abbrev pub After-loop : (Inv : InvT-loop) → (μ : MeasureT-loop) → Type 0
 After-loop = λ Inv μ. Lts.After-loop (Reads'.Asked, Reads'.Learnt) Reads.Pre Reads.Post Inv μ
 
-abbrev pub After-scan : (Inv : InvT-loop) → (μ : MeasureT-loop) → Type 0
-After-scan = λ Inv μ. Lts.After-scan (Reads'.Asked, Reads'.Learnt) Reads.Pre Reads.Post Inv μ
+abbrev pub After-is-repeated : (Inv : InvT-loop) → (μ : MeasureT-loop) → Type 0
+After-is-repeated =
+    λ Inv μ. Lts.After-is-repeated (Reads'.Asked, Reads'.Learnt) Reads.Pre Reads.Post Inv μ
 
 abbrev pub Then1 : (Inv : InvT-loop) → (μ : MeasureT-loop) → Type 0
 Then1 = λ Inv μ. Lts.Then1 (Reads'.Asked, Reads'.Learnt) Reads.Pre Reads.Post Inv μ
@@ -43,9 +44,14 @@ abbrev pub Need-loop-holds : (Inv : InvT-loop) → (μ : MeasureT-loop) → Type
 Need-loop-holds =
     λ Inv μ. Lts.Need-loop-holds (Reads'.Asked, Reads'.Learnt) Reads.Pre Reads.Post Inv μ
 
-abbrev pub Need-scan-requires : (Inv : InvT-loop) → (μ : MeasureT-loop) → Type 0
-Need-scan-requires =
-    λ Inv μ. Lts.Need-scan-requires (Reads'.Asked, Reads'.Learnt) Reads.Pre Reads.Post Inv μ
+abbrev pub Need-is-repeated-requires : (Inv : InvT-loop) → (μ : MeasureT-loop) → Type 0
+Need-is-repeated-requires =
+    λ Inv μ. Lts.Need-is-repeated-requires
+    (Reads'.Asked, Reads'.Learnt)
+    Reads.Pre
+    Reads.Post
+    Inv
+    μ
 
 abbrev pub Need-returns : (Inv : InvT-loop) → (μ : MeasureT-loop) → Type 0
 Need-returns = λ Inv μ. Lts.Need-returns (Reads'.Asked, Reads'.Learnt) Reads.Pre Reads.Post Inv μ
@@ -70,7 +76,7 @@ module _ {M : Type 1} where
       (Inv : InvT-loop) →
       (μ : MeasureT-loop) →
       (answer : Need-loop-holds Inv μ) →
-      (answer : Need-scan-requires Inv μ) →
+      (answer : Need-is-repeated-requires Inv μ) →
       (answer : Need-returns Inv μ) →
       (answer : Need-add-j Inv μ) →
       (answer : Need-loop-less Inv μ) →
@@ -116,5 +122,5 @@ module _ {M : Type 1} where
       Code.env
       Symbol.name
       Symbol.routine
-      Code.calls-twins·scan
+      Code.calls-twins·is-repeated
       (Met.met 𝓤 H 𝓜 𝓖 𝓡))

@@ -5,9 +5,9 @@ use Rattle.twins.proofs.Lent.every_pair_of_routes.Kinds
 use Rattle.twins.proofs.every_pair_of_routes.Proof.Lts
 use Rattle.twins.proofs.Lent.every_pair_of_routes.Reads
 use Rattle.twins.proofs.every_pair_of_routes.Statement
-use Rattle.twins.proofs.scan_routes.Met
-use Rattle.twins.proofs.Lent.scan_routes.Reads as Reads'
-use Rattle.twins.proofs.scan_routes.Symbol
+use Rattle.twins.proofs.is_route_repeated.Met
+use Rattle.twins.proofs.Lent.is_route_repeated.Reads as Reads'
+use Rattle.twins.proofs.is_route_repeated.Symbol
 use borrow.Fn.Run
 use borrow.Fn.Written
 use contract.Running
@@ -30,9 +30,9 @@ In-loop = λ Inv μ. Lts.In-loop (Reads'.Asked, Reads'.Learnt) Reads.Pre Reads.P
 abbrev pub After-loop : (Inv : InvT-loop) → (μ : MeasureT-loop) → Type 0
 After-loop = λ Inv μ. Lts.After-loop (Reads'.Asked, Reads'.Learnt) Reads.Pre Reads.Post Inv μ
 
-abbrev pub After-scan-routes : (Inv : InvT-loop) → (μ : MeasureT-loop) → Type 0
-After-scan-routes =
-    λ Inv μ. Lts.After-scan-routes (Reads'.Asked, Reads'.Learnt) Reads.Pre Reads.Post Inv μ
+abbrev pub After-is-route-repeated : (Inv : InvT-loop) → (μ : MeasureT-loop) → Type 0
+After-is-route-repeated =
+    λ Inv μ. Lts.After-is-route-repeated (Reads'.Asked, Reads'.Learnt) Reads.Pre Reads.Post Inv μ
 
 abbrev pub Then1 : (Inv : InvT-loop) → (μ : MeasureT-loop) → Type 0
 Then1 = λ Inv μ. Lts.Then1 (Reads'.Asked, Reads'.Learnt) Reads.Pre Reads.Post Inv μ
@@ -44,14 +44,11 @@ abbrev pub Need-loop-holds : (Inv : InvT-loop) → (μ : MeasureT-loop) → Type
 Need-loop-holds =
     λ Inv μ. Lts.Need-loop-holds (Reads'.Asked, Reads'.Learnt) Reads.Pre Reads.Post Inv μ
 
-abbrev pub Need-scan-routes-requires : (Inv : InvT-loop) → (μ : MeasureT-loop) → Type 0
-Need-scan-routes-requires =
-    λ Inv μ. Lts.Need-scan-routes-requires
-    (Reads'.Asked, Reads'.Learnt)
-    Reads.Pre
-    Reads.Post
-    Inv
-    μ
+abbrev pub Need-is-route-repeated-requires : (Inv : InvT-loop) → (μ : MeasureT-loop) → Type 0
+Need-is-route-repeated-requires = λ Inv μ. Lts.Need-is-route-repeated-requires (
+  Reads'.Asked,
+  Reads'.Learnt,
+) Reads.Pre Reads.Post Inv μ
 
 abbrev pub Need-returns : (Inv : InvT-loop) → (μ : MeasureT-loop) → Type 0
 Need-returns = λ Inv μ. Lts.Need-returns (Reads'.Asked, Reads'.Learnt) Reads.Pre Reads.Post Inv μ
@@ -76,7 +73,7 @@ module _ {M : Type 1} where
       (Inv : InvT-loop) →
       (μ : MeasureT-loop) →
       (answer : Need-loop-holds Inv μ) →
-      (answer : Need-scan-routes-requires Inv μ) →
+      (answer : Need-is-route-repeated-requires Inv μ) →
       (answer : Need-returns Inv μ) →
       (answer : Need-add-j Inv μ) →
       (answer : Need-loop-less Inv μ) →
@@ -122,5 +119,5 @@ module _ {M : Type 1} where
       Code.env
       Symbol.name
       Symbol.routine
-      Code.calls-twins·scan-routes
+      Code.calls-twins·is-route-repeated
       (Met.met 𝓤 H 𝓜 𝓖 𝓡))
