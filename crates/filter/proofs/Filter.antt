@@ -122,21 +122,20 @@ module _ (slot : ℕ → ℕ) (K : Kind) (mask p : ℕ) (rows : List (K .Row)) w
           rw (getD-set-other ws _ _ _ 0 (eqb-false (slot (K .hash (row k))) (slot (K .hash (row j))) q)) (holds k m c)
 
   -- the same with a name for each thing that the code computes on the way
-  module _ (j h s x : ℕ) (v on m b : Bool) (ws : List ℕ)
+  module _ (j h s x : ℕ) (v on m : Bool) (ws : List ℕ)
       (hashed : h ≡ K .hash (row j)) (lives : v ≡ K .live (row j)) (chose : on ≡ chosenOf mask p v h) (placed : s ≡ slot h) where
     chose-is : on ≡ chosen (row j)
     chose-is = chose ∙ rw (hashed, lives)
 
-    pub pass-miss : j < length rows → Holds j ws → m ≡ maybeOf on (getD ws s 0) h → b ≡ cond m (earlierTwin j) false
-        → b ≡ false → earlierIn j ≡ false
-    pass-miss low holds e f g = miss j ws low holds (rw (← chose-is, ← hashed, ← placed, ← e) (sym f ∙ g))
+    pub pass-miss : j < length rows → Holds j ws → m ≡ maybeOf on (getD ws s 0) h → cond m (earlierTwin j) false ≡ false
+        → earlierIn j ≡ false
+    pass-miss low holds e f = miss j ws low holds (rw (← chose-is, ← hashed, ← placed, ← e) f)
 
     pub pass-keep : Holds j ws → s < length ws → x ≡ markedOf on (getD ws s 0) h → Holds (j + 1) (set ws s x)
     pass-keep holds room e = rw (e, chose-is, placed, hashed) (keep j ws (rw (← hashed, ← placed) room) holds)
 
-    pub pass-hit : m ≡ maybeOf on (getD ws s 0) h → b ≡ cond m (earlierTwin j) false → b ≡ true
-        → earlierIn j ≡ true
-    pass-hit e f g = hit j (getD ws s 0) (rw (← chose-is, ← hashed, ← e) (sym f ∙ g))
+    pub pass-hit : m ≡ maybeOf on (getD ws s 0) h → cond m (earlierTwin j) false ≡ true → earlierIn j ≡ true
+    pass-hit e f = hit j (getD ws s 0) (rw (← chose-is, ← hashed, ← e) f)
 
 -- ---- a pass for each class
 
@@ -178,3 +177,10 @@ one-chosen false h = refl
 pub all-class : {R : Type 0} (hash : R → ℕ) (twins : R → R → Bool) (rows : List R) → anyTwo (inClass hash 0 0 twins) rows ≡ false
     → anyTwo twins rows ≡ false
 all-class hash twins rows e = each-class hash twins 0 rows (λ q l. let z : q ≡ 0 = omega arith in rw z e)
+
+-- what was asked only where the filter said maybe
+pub asked : (m b e : Bool) → m ≡ true → b ≡ e → cond m e false ≡ b
+asked m b e h f = rw (h, f)
+
+pub unasked : (m e : Bool) → m ≡ false → cond m e false ≡ false
+unasked m e h = rw h

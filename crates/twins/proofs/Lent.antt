@@ -1,5 +1,3 @@
-pub mod earlier
-pub mod earlier_route
 pub mod every_pair
 pub mod every_pair_of_routes
 pub mod few

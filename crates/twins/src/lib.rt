@@ -17,7 +17,8 @@ use row::RouteRow;
 
 // ---- instance rows
 
-// Whether the row at j has a twin before it.
+// Whether the row at j has a twin before it. It is called for only where the filter does not tell, and from two places, so that it is not compiled
+// into either.
 fn scan(rows: &[InstanceRow], j: usize, t: u64) -> bool
     requires { ⌜ j < length (now rows) ⌝ }
     ensures { λ b. ⌜ b ≡ any (λ a. rowTwins t a (getD (now (rows .entry)) j noRow)) (take j (now (rows .entry))) ⌝ }
@@ -28,17 +29,6 @@ fn scan(rows: &[InstanceRow], j: usize, t: u64) -> bool
             return true;
         }
         i += 1;
-    }
-    false
-}
-
-// The same, asked only where `on`. It is small, so that it is compiled into its caller, and `scan` is not.
-fn earlier(rows: &[InstanceRow], j: usize, t: u64, on: bool) -> bool
-    requires { ⌜ j < length (now rows) ⌝ }
-    ensures { λ b. ⌜ b ≡ cond on (any (λ a. rowTwins t a (getD (now (rows .entry)) j noRow)) (take j (now (rows .entry)))) false ⌝ }
-{
-    if on {
-        return scan(rows, j, t);
     }
     false
 }
@@ -83,8 +73,10 @@ fn few(rows: &[InstanceRow], t: u64) -> bool
         let on = live::is_live(rows[j], t);
         let s = filter::few_slot_of(h);
         let w = words[s];
-        if earlier(rows, j, t, filter::maybe(on, w, h)) {
-            return true;
+        if filter::maybe(on, w, h) {
+            if scan(rows, j, t) {
+                return true;
+            }
         }
         words[s] = filter::marked(on, w, h);
         j += 1;
@@ -103,8 +95,10 @@ fn pass(rows: &[InstanceRow], t: u64, mask: u64, p: u64) -> bool
         let on = filter::is_chosen(mask, p, live::is_live(rows[j], t), h);
         let s = filter::slot_of(h);
         let w = words[s];
-        if earlier(rows, j, t, filter::maybe(on, w, h)) {
-            return true;
+        if filter::maybe(on, w, h) {
+            if scan(rows, j, t) {
+                return true;
+            }
         }
         words[s] = filter::marked(on, w, h);
         j += 1;
@@ -160,16 +154,6 @@ fn scan_routes(routes: &[RouteRow], j: usize, t: u64) -> bool
     false
 }
 
-fn earlier_route(routes: &[RouteRow], j: usize, t: u64, on: bool) -> bool
-    requires { ⌜ j < length (now routes) ⌝ }
-    ensures { λ b. ⌜ b ≡ cond on (any (λ a. routePair t a (getD (now (routes .entry)) j noRoute)) (take j (now (routes .entry)))) false ⌝ }
-{
-    if on {
-        return scan_routes(routes, j, t);
-    }
-    false
-}
-
 fn is_route_repeated(routes: &[RouteRow], j: usize, t: u64) -> bool
     requires { ⌜ j < length (now routes) ⌝ }
     ensures { λ b. ⌜ b ≡ any (λ a. routePair t (getD (now (routes .entry)) j noRoute) a) (drop (j + 1) (now (routes .entry))) ⌝ }
@@ -207,8 +191,10 @@ fn few_routes(routes: &[RouteRow], t: u64) -> bool
         let on = live::is_live_route(routes[j], t);
         let s = filter::few_slot_of(h);
         let w = words[s];
-        if earlier_route(routes, j, t, filter::maybe(on, w, h)) {
-            return true;
+        if filter::maybe(on, w, h) {
+            if scan_routes(routes, j, t) {
+                return true;
+            }
         }
         words[s] = filter::marked(on, w, h);
         j += 1;
@@ -226,8 +212,10 @@ fn pass_routes(routes: &[RouteRow], t: u64, mask: u64, p: u64) -> bool
         let on = filter::is_chosen(mask, p, live::is_live_route(routes[j], t), h);
         let s = filter::slot_of(h);
         let w = words[s];
-        if earlier_route(routes, j, t, filter::maybe(on, w, h)) {
-            return true;
+        if filter::maybe(on, w, h) {
+            if scan_routes(routes, j, t) {
+                return true;
+            }
         }
         words[s] = filter::marked(on, w, h);
         j += 1;

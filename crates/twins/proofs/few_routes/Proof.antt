@@ -2,7 +2,8 @@ pub mod Lts
 pub mod Tie
 use Rattle.filter.proofs.Joins.{routeKind}
 use Prim.Native.Nat.{_-_, _≤_}
-use mathlib.Core.Path.{_≡_, sym}
+use mathlib.Core.Path.{_≡_, sym, _∙_}
+use mathlib.Core.Logic.{⊎-elim}
 use mathlib.Core.Bool.{false}
 use denote.Ref.{now}
 use lib.ListN.{length, take, length-set}
@@ -11,7 +12,7 @@ use Rattle.row.specs.Meaning.{noRoute}
 use Rattle.key.specs.Pair.{routePair}
 use Rattle.filter.specs.Filter.{fewSlotOf, hashRoute, inClass}
 use Rattle.key.proofs.Any.{two-start, two-hit, two-more, two-end}
-use Rattle.filter.proofs.Filter.{Holds, none-held, pass-hit, pass-miss, pass-keep, one-chosen, one-class, all-class}
+use Rattle.filter.proofs.Filter.{Holds, none-held, pass-hit, pass-miss, pass-keep, asked, unasked, one-chosen, one-class, all-class}
 use borrow.Author.Needs.{needs}
 use Rattle.twins.proofs.few_routes.Statement.{statement}
 use Rattle.twins.proofs.few_routes.Proof.Tie as tie
@@ -63,21 +64,22 @@ array-read-w c = search needs
 maybe-requires : tie.Need-maybe-requires Inv-loop μ-loop
 maybe-requires c = search needs
 
-earlier-route-requires : tie.Need-earlier-route-requires Inv-loop μ-loop
-earlier-route-requires c = search needs
+scan-routes-requires : tie.Need-scan-routes-requires Inv-loop μ-loop
+scan-routes-requires c = search needs
 
 returns : tie.Need-returns Inv-loop μ-loop
-returns c = let a = c .before .before .before .before .before .before .before .before .before .before .args in
-    let l = c .before .before .before .before .before .before .before .before .before .loop in
-    let h = c .before .before .before .before .before .before .hash-route in
-    let v = c .before .before .before .before .is-live-route in
-    let s = c .before .before .before .few-slot-of in
-    let m = c .before .before .maybe in
-    let e = c .before .earlier-route in
+returns c = let a = c .before .before .before .before .before .before .before .before .before .before .before .args in
+    let l = c .before .before .before .before .before .before .before .before .before .before .loop in
+    let h = c .before .before .before .before .before .before .before .hash-route in
+    let v = c .before .before .before .before .before .is-live-route in
+    let s = c .before .before .before .before .few-slot-of in
+    let m = c .before .before .before .maybe in
+    let e = c .before .scan-routes in
     sym (one-class hashRoute (routePair (a .t)) 0 0 (now (a .routes))
     (two-hit (inClass hashRoute 0 0 (routePair (a .t))) (now (a .routes)) (l .j) noRoute (search needs)
-    (pass-hit fewSlotOf (routeKind (a .t)) 0 0 (now (a .routes)) (l .j) (h .result) (s .result) 0 (v .result) (v .result) (m .result) (e .result)
-    (l .words) (h .ensures) (v .ensures) (one-chosen (v .result) (h .result)) (s .ensures .0) (m .ensures) (e .ensures) (c .if1 .taken))))
+    (pass-hit fewSlotOf (routeKind (a .t)) 0 0 (now (a .routes)) (l .j) (h .result) (s .result) 0 (v .result) (v .result) (m .result)
+    (l .words) (h .ensures) (v .ensures) (one-chosen (v .result) (h .result)) (s .ensures .0) (m .ensures)
+    (asked (m .result) (e .result) _ (c .before .before .if1 .taken) (e .ensures) ∙ c .if2 .taken))))
 
 marked-requires : tie.Need-marked-requires Inv-loop μ-loop
 marked-requires c = search needs
@@ -95,21 +97,21 @@ loop-less : tie.Need-loop-less Inv-loop μ-loop
 loop-less c = search needs
 
 loop-again : tie.Need-loop-again Inv-loop μ-loop
-loop-again c = let a = c .before .before .before .before .before .before .before .before .before .before .before .args in
-    let l = c .before .before .before .before .before .before .before .before .before .before .loop in
-    let h = c .before .before .before .before .before .before .before .hash-route in
-    let v = c .before .before .before .before .before .is-live-route in
-    let s = c .before .before .before .before .few-slot-of in
-    let m = c .before .before .before .maybe in
-    let e = c .before .before .earlier-route in (
+loop-again c = let a = c .before .before .before .before .before .before .before .before .before .before .args in
+    let l = c .before .before .before .before .before .before .before .before .before .loop in
+    let h = c .before .before .before .before .before .before .hash-route in
+    let v = c .before .before .before .before .is-live-route in
+    let s = c .before .before .before .few-slot-of in
+    let m = c .before .before .maybe in
+    let none = ⊎-elim (λ w. asked (m .result) (w .1 .result) _ (w .0 .taken) (w .1 .ensures) ∙ w .2 .left)
+    (λ w. unasked (m .result) _ (w .left)) (c .before .if1 .came) in (
       search needs,
       simp length-set (search needs),
       two-more (inClass hashRoute 0 0 (routePair (a .t))) (now (a .routes)) (l .j) noRoute (search needs) (l .inv .2)
-          (pass-miss fewSlotOf (routeKind (a .t)) 0 0 (now (a .routes)) (l .j) (h .result) (s .result) 0 (v .result) (v .result) (m .result)
-          (e .result) (l .words) (h .ensures) (v .ensures) (one-chosen (v .result) (h .result)) (s .ensures .0) (search needs) (l .inv .3)
-          (m .ensures) (e .ensures) (c .before .if1 .left)),
+          (pass-miss fewSlotOf (routeKind (a .t)) 0 0 (now (a .routes)) (l .j) (h .result) (s .result) 0 (v .result) (v .result) (m .result) (l .words) (h .ensures) (v .ensures) (one-chosen (v .result) (h .result)) (s .ensures .0) (search needs) (l .inv .3)
+          (m .ensures) none),
       pass-keep fewSlotOf (routeKind (a .t)) 0 0 (now (a .routes)) (l .j) (h .result) (s .result) (c .marked .result) (v .result) (v .result)
-          (m .result) (e .result) (l .words) (h .ensures) (v .ensures) (one-chosen (v .result) (h .result)) (s .ensures .0) (l .inv .3)
+          (m .result) (l .words) (h .ensures) (v .ensures) (one-chosen (v .result) (h .result)) (s .ensures .0) (l .inv .3)
           (search needs) (c .marked .ensures),
     )
 
@@ -120,8 +122,4 @@ returns-2 c = let a = c .before .before .args in
     (two-end (inClass hashRoute 0 0 (routePair (a .t))) (now (a .routes)) (l .j) (c .loop-test .left) (l .inv .2)))
 
 pub few-routes-spec : {M : Type 1} → statement M
-few-routes-spec =
-    tie.close
-    (tie.spec Inv-loop μ-loop loop-holds mul-hash-route shared-slice-copy-out-hash-route hash-route-requires mul-is-live-route shared-slice-copy-out-is-live-route is-live-route-requires
-    few-slot-of-requires mul-w array-read-w maybe-requires earlier-route-requires returns marked-requires mul-words array-write-words add-j loop-less
-    loop-again returns-2)
+few-routes-spec = tie.close (tie.spec Inv-loop μ-loop loop-holds mul-hash-route shared-slice-copy-out-hash-route hash-route-requires mul-is-live-route shared-slice-copy-out-is-live-route is-live-route-requires few-slot-of-requires mul-w array-read-w maybe-requires scan-routes-requires returns marked-requires mul-words array-write-words add-j loop-less loop-again returns-2)

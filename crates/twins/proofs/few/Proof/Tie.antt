@@ -14,15 +14,15 @@ use Rattle.filter.proofs.maybe.Symbol as Symbol'3
 use Rattle.live.proofs.is_live.Met as Met'4
 use Rattle.live.proofs.is_live.Reads as Reads'4
 use Rattle.live.proofs.is_live.Symbol as Symbol'4
-use Rattle.twins.proofs.earlier.Met as Met'5
-use Rattle.twins.proofs.Lent.earlier.Reads as Reads'5
-use Rattle.twins.proofs.earlier.Symbol as Symbol'5
 use Rattle.twins.proofs.few.Code
 use Rattle.twins.proofs.few.Key
 use Rattle.twins.proofs.Lent.few.Kinds
 use Rattle.twins.proofs.few.Proof.Lts
-use Rattle.twins.proofs.Lent.few.Reads as Reads'6
+use Rattle.twins.proofs.Lent.few.Reads as Reads'5
 use Rattle.twins.proofs.few.Statement
+use Rattle.twins.proofs.scan.Met as Met'5
+use Rattle.twins.proofs.Lent.scan.Reads as Reads'6
+use Rattle.twins.proofs.scan.Symbol as Symbol'5
 use borrow.Fn.Run
 use borrow.Fn.Written
 use contract.Running
@@ -43,11 +43,11 @@ Start = λ Inv μ. Lts.Start (
   Reads.Learnt,
   Reads'3.Asked,
   Reads'3.Learnt,
-  Reads'5.Asked,
-  Reads'5.Learnt,
+  Reads'6.Asked,
+  Reads'6.Learnt,
   Reads''.Asked,
   Reads''.Learnt,
-) Reads'6.Pre Reads'6.Post Inv μ
+) Reads'5.Pre Reads'5.Post Inv μ
 
 abbrev pub At-loop : (Inv : InvT-loop) → (μ : MeasureT-loop) → Type 0
 At-loop = λ Inv μ. Lts.At-loop (
@@ -59,11 +59,11 @@ At-loop = λ Inv μ. Lts.At-loop (
   Reads.Learnt,
   Reads'3.Asked,
   Reads'3.Learnt,
-  Reads'5.Asked,
-  Reads'5.Learnt,
+  Reads'6.Asked,
+  Reads'6.Learnt,
   Reads''.Asked,
   Reads''.Learnt,
-) Reads'6.Pre Reads'6.Post Inv μ
+) Reads'5.Pre Reads'5.Post Inv μ
 
 abbrev pub In-loop : (Inv : InvT-loop) → (μ : MeasureT-loop) → Type 0
 In-loop = λ Inv μ. Lts.In-loop (
@@ -75,11 +75,11 @@ In-loop = λ Inv μ. Lts.In-loop (
   Reads.Learnt,
   Reads'3.Asked,
   Reads'3.Learnt,
-  Reads'5.Asked,
-  Reads'5.Learnt,
+  Reads'6.Asked,
+  Reads'6.Learnt,
   Reads''.Asked,
   Reads''.Learnt,
-) Reads'6.Pre Reads'6.Post Inv μ
+) Reads'5.Pre Reads'5.Post Inv μ
 
 abbrev pub After-loop : (Inv : InvT-loop) → (μ : MeasureT-loop) → Type 0
 After-loop = λ Inv μ. Lts.After-loop (
@@ -91,11 +91,11 @@ After-loop = λ Inv μ. Lts.After-loop (
   Reads.Learnt,
   Reads'3.Asked,
   Reads'3.Learnt,
-  Reads'5.Asked,
-  Reads'5.Learnt,
+  Reads'6.Asked,
+  Reads'6.Learnt,
   Reads''.Asked,
   Reads''.Learnt,
-) Reads'6.Pre Reads'6.Post Inv μ
+) Reads'5.Pre Reads'5.Post Inv μ
 
 abbrev pub After-hash-row-arg : (Inv : InvT-loop) → (μ : MeasureT-loop) → Type 0
 After-hash-row-arg = λ Inv μ. Lts.After-hash-row-arg (
@@ -107,11 +107,11 @@ After-hash-row-arg = λ Inv μ. Lts.After-hash-row-arg (
   Reads.Learnt,
   Reads'3.Asked,
   Reads'3.Learnt,
-  Reads'5.Asked,
-  Reads'5.Learnt,
+  Reads'6.Asked,
+  Reads'6.Learnt,
   Reads''.Asked,
   Reads''.Learnt,
-) Reads'6.Pre Reads'6.Post Inv μ
+) Reads'5.Pre Reads'5.Post Inv μ
 
 abbrev pub After-hash-row : (Inv : InvT-loop) → (μ : MeasureT-loop) → Type 0
 After-hash-row = λ Inv μ. Lts.After-hash-row (
@@ -123,11 +123,11 @@ After-hash-row = λ Inv μ. Lts.After-hash-row (
   Reads.Learnt,
   Reads'3.Asked,
   Reads'3.Learnt,
-  Reads'5.Asked,
-  Reads'5.Learnt,
+  Reads'6.Asked,
+  Reads'6.Learnt,
   Reads''.Asked,
   Reads''.Learnt,
-) Reads'6.Pre Reads'6.Post Inv μ
+) Reads'5.Pre Reads'5.Post Inv μ
 
 abbrev pub After-is-live-arg : (Inv : InvT-loop) → (μ : MeasureT-loop) → Type 0
 After-is-live-arg = λ Inv μ. Lts.After-is-live-arg (
@@ -139,11 +139,11 @@ After-is-live-arg = λ Inv μ. Lts.After-is-live-arg (
   Reads.Learnt,
   Reads'3.Asked,
   Reads'3.Learnt,
-  Reads'5.Asked,
-  Reads'5.Learnt,
+  Reads'6.Asked,
+  Reads'6.Learnt,
   Reads''.Asked,
   Reads''.Learnt,
-) Reads'6.Pre Reads'6.Post Inv μ
+) Reads'5.Pre Reads'5.Post Inv μ
 
 abbrev pub After-is-live : (Inv : InvT-loop) → (μ : MeasureT-loop) → Type 0
 After-is-live = λ Inv μ. Lts.After-is-live (
@@ -155,11 +155,11 @@ After-is-live = λ Inv μ. Lts.After-is-live (
   Reads.Learnt,
   Reads'3.Asked,
   Reads'3.Learnt,
-  Reads'5.Asked,
-  Reads'5.Learnt,
+  Reads'6.Asked,
+  Reads'6.Learnt,
   Reads''.Asked,
   Reads''.Learnt,
-) Reads'6.Pre Reads'6.Post Inv μ
+) Reads'5.Pre Reads'5.Post Inv μ
 
 abbrev pub After-few-slot-of : (Inv : InvT-loop) → (μ : MeasureT-loop) → Type 0
 After-few-slot-of = λ Inv μ. Lts.After-few-slot-of (
@@ -171,11 +171,11 @@ After-few-slot-of = λ Inv μ. Lts.After-few-slot-of (
   Reads.Learnt,
   Reads'3.Asked,
   Reads'3.Learnt,
-  Reads'5.Asked,
-  Reads'5.Learnt,
+  Reads'6.Asked,
+  Reads'6.Learnt,
   Reads''.Asked,
   Reads''.Learnt,
-) Reads'6.Pre Reads'6.Post Inv μ
+) Reads'5.Pre Reads'5.Post Inv μ
 
 abbrev pub After-maybe : (Inv : InvT-loop) → (μ : MeasureT-loop) → Type 0
 After-maybe = λ Inv μ. Lts.After-maybe (
@@ -187,27 +187,11 @@ After-maybe = λ Inv μ. Lts.After-maybe (
   Reads.Learnt,
   Reads'3.Asked,
   Reads'3.Learnt,
-  Reads'5.Asked,
-  Reads'5.Learnt,
+  Reads'6.Asked,
+  Reads'6.Learnt,
   Reads''.Asked,
   Reads''.Learnt,
-) Reads'6.Pre Reads'6.Post Inv μ
-
-abbrev pub After-earlier : (Inv : InvT-loop) → (μ : MeasureT-loop) → Type 0
-After-earlier = λ Inv μ. Lts.After-earlier (
-  Reads'.Asked,
-  Reads'.Learnt,
-  Reads'4.Asked,
-  Reads'4.Learnt,
-  Reads.Asked,
-  Reads.Learnt,
-  Reads'3.Asked,
-  Reads'3.Learnt,
-  Reads'5.Asked,
-  Reads'5.Learnt,
-  Reads''.Asked,
-  Reads''.Learnt,
-) Reads'6.Pre Reads'6.Post Inv μ
+) Reads'5.Pre Reads'5.Post Inv μ
 
 abbrev pub Then1 : (Inv : InvT-loop) → (μ : MeasureT-loop) → Type 0
 Then1 = λ Inv μ. Lts.Then1 (
@@ -219,11 +203,59 @@ Then1 = λ Inv μ. Lts.Then1 (
   Reads.Learnt,
   Reads'3.Asked,
   Reads'3.Learnt,
-  Reads'5.Asked,
-  Reads'5.Learnt,
+  Reads'6.Asked,
+  Reads'6.Learnt,
   Reads''.Asked,
   Reads''.Learnt,
-) Reads'6.Pre Reads'6.Post Inv μ
+) Reads'5.Pre Reads'5.Post Inv μ
+
+abbrev pub After-scan : (Inv : InvT-loop) → (μ : MeasureT-loop) → Type 0
+After-scan = λ Inv μ. Lts.After-scan (
+  Reads'.Asked,
+  Reads'.Learnt,
+  Reads'4.Asked,
+  Reads'4.Learnt,
+  Reads.Asked,
+  Reads.Learnt,
+  Reads'3.Asked,
+  Reads'3.Learnt,
+  Reads'6.Asked,
+  Reads'6.Learnt,
+  Reads''.Asked,
+  Reads''.Learnt,
+) Reads'5.Pre Reads'5.Post Inv μ
+
+abbrev pub Then2 : (Inv : InvT-loop) → (μ : MeasureT-loop) → Type 0
+Then2 = λ Inv μ. Lts.Then2 (
+  Reads'.Asked,
+  Reads'.Learnt,
+  Reads'4.Asked,
+  Reads'4.Learnt,
+  Reads.Asked,
+  Reads.Learnt,
+  Reads'3.Asked,
+  Reads'3.Learnt,
+  Reads'6.Asked,
+  Reads'6.Learnt,
+  Reads''.Asked,
+  Reads''.Learnt,
+) Reads'5.Pre Reads'5.Post Inv μ
+
+abbrev pub Else2 : (Inv : InvT-loop) → (μ : MeasureT-loop) → Type 0
+Else2 = λ Inv μ. Lts.Else2 (
+  Reads'.Asked,
+  Reads'.Learnt,
+  Reads'4.Asked,
+  Reads'4.Learnt,
+  Reads.Asked,
+  Reads.Learnt,
+  Reads'3.Asked,
+  Reads'3.Learnt,
+  Reads'6.Asked,
+  Reads'6.Learnt,
+  Reads''.Asked,
+  Reads''.Learnt,
+) Reads'5.Pre Reads'5.Post Inv μ
 
 abbrev pub Else1 : (Inv : InvT-loop) → (μ : MeasureT-loop) → Type 0
 Else1 = λ Inv μ. Lts.Else1 (
@@ -235,11 +267,27 @@ Else1 = λ Inv μ. Lts.Else1 (
   Reads.Learnt,
   Reads'3.Asked,
   Reads'3.Learnt,
-  Reads'5.Asked,
-  Reads'5.Learnt,
+  Reads'6.Asked,
+  Reads'6.Learnt,
   Reads''.Asked,
   Reads''.Learnt,
-) Reads'6.Pre Reads'6.Post Inv μ
+) Reads'5.Pre Reads'5.Post Inv μ
+
+abbrev pub Joined1 : (Inv : InvT-loop) → (μ : MeasureT-loop) → Type 0
+Joined1 = λ Inv μ. Lts.Joined1 (
+  Reads'.Asked,
+  Reads'.Learnt,
+  Reads'4.Asked,
+  Reads'4.Learnt,
+  Reads.Asked,
+  Reads.Learnt,
+  Reads'3.Asked,
+  Reads'3.Learnt,
+  Reads'6.Asked,
+  Reads'6.Learnt,
+  Reads''.Asked,
+  Reads''.Learnt,
+) Reads'5.Pre Reads'5.Post Inv μ
 
 abbrev pub After-marked : (Inv : InvT-loop) → (μ : MeasureT-loop) → Type 0
 After-marked = λ Inv μ. Lts.After-marked (
@@ -251,11 +299,11 @@ After-marked = λ Inv μ. Lts.After-marked (
   Reads.Learnt,
   Reads'3.Asked,
   Reads'3.Learnt,
-  Reads'5.Asked,
-  Reads'5.Learnt,
+  Reads'6.Asked,
+  Reads'6.Learnt,
   Reads''.Asked,
   Reads''.Learnt,
-) Reads'6.Pre Reads'6.Post Inv μ
+) Reads'5.Pre Reads'5.Post Inv μ
 
 abbrev pub Need-loop-holds : (Inv : InvT-loop) → (μ : MeasureT-loop) → Type 0
 Need-loop-holds = λ Inv μ. Lts.Need-loop-holds (
@@ -267,11 +315,11 @@ Need-loop-holds = λ Inv μ. Lts.Need-loop-holds (
   Reads.Learnt,
   Reads'3.Asked,
   Reads'3.Learnt,
-  Reads'5.Asked,
-  Reads'5.Learnt,
+  Reads'6.Asked,
+  Reads'6.Learnt,
   Reads''.Asked,
   Reads''.Learnt,
-) Reads'6.Pre Reads'6.Post Inv μ
+) Reads'5.Pre Reads'5.Post Inv μ
 
 abbrev pub Need-mul-hash-row : (Inv : InvT-loop) → (μ : MeasureT-loop) → Type 0
 Need-mul-hash-row = λ Inv μ. Lts.Need-mul-hash-row (
@@ -283,11 +331,11 @@ Need-mul-hash-row = λ Inv μ. Lts.Need-mul-hash-row (
   Reads.Learnt,
   Reads'3.Asked,
   Reads'3.Learnt,
-  Reads'5.Asked,
-  Reads'5.Learnt,
+  Reads'6.Asked,
+  Reads'6.Learnt,
   Reads''.Asked,
   Reads''.Learnt,
-) Reads'6.Pre Reads'6.Post Inv μ
+) Reads'5.Pre Reads'5.Post Inv μ
 
 abbrev pub Need-shared-slice-copy-out-hash-row : (Inv : InvT-loop) → (μ : MeasureT-loop) → Type 0
 Need-shared-slice-copy-out-hash-row = λ Inv μ. Lts.Need-shared-slice-copy-out-hash-row (
@@ -299,11 +347,11 @@ Need-shared-slice-copy-out-hash-row = λ Inv μ. Lts.Need-shared-slice-copy-out-
   Reads.Learnt,
   Reads'3.Asked,
   Reads'3.Learnt,
-  Reads'5.Asked,
-  Reads'5.Learnt,
+  Reads'6.Asked,
+  Reads'6.Learnt,
   Reads''.Asked,
   Reads''.Learnt,
-) Reads'6.Pre Reads'6.Post Inv μ
+) Reads'5.Pre Reads'5.Post Inv μ
 
 abbrev pub Need-hash-row-requires : (Inv : InvT-loop) → (μ : MeasureT-loop) → Type 0
 Need-hash-row-requires = λ Inv μ. Lts.Need-hash-row-requires (
@@ -315,11 +363,11 @@ Need-hash-row-requires = λ Inv μ. Lts.Need-hash-row-requires (
   Reads.Learnt,
   Reads'3.Asked,
   Reads'3.Learnt,
-  Reads'5.Asked,
-  Reads'5.Learnt,
+  Reads'6.Asked,
+  Reads'6.Learnt,
   Reads''.Asked,
   Reads''.Learnt,
-) Reads'6.Pre Reads'6.Post Inv μ
+) Reads'5.Pre Reads'5.Post Inv μ
 
 abbrev pub Need-mul-is-live : (Inv : InvT-loop) → (μ : MeasureT-loop) → Type 0
 Need-mul-is-live = λ Inv μ. Lts.Need-mul-is-live (
@@ -331,11 +379,11 @@ Need-mul-is-live = λ Inv μ. Lts.Need-mul-is-live (
   Reads.Learnt,
   Reads'3.Asked,
   Reads'3.Learnt,
-  Reads'5.Asked,
-  Reads'5.Learnt,
+  Reads'6.Asked,
+  Reads'6.Learnt,
   Reads''.Asked,
   Reads''.Learnt,
-) Reads'6.Pre Reads'6.Post Inv μ
+) Reads'5.Pre Reads'5.Post Inv μ
 
 abbrev pub Need-shared-slice-copy-out-is-live : (Inv : InvT-loop) → (μ : MeasureT-loop) → Type 0
 Need-shared-slice-copy-out-is-live = λ Inv μ. Lts.Need-shared-slice-copy-out-is-live (
@@ -347,11 +395,11 @@ Need-shared-slice-copy-out-is-live = λ Inv μ. Lts.Need-shared-slice-copy-out-i
   Reads.Learnt,
   Reads'3.Asked,
   Reads'3.Learnt,
-  Reads'5.Asked,
-  Reads'5.Learnt,
+  Reads'6.Asked,
+  Reads'6.Learnt,
   Reads''.Asked,
   Reads''.Learnt,
-) Reads'6.Pre Reads'6.Post Inv μ
+) Reads'5.Pre Reads'5.Post Inv μ
 
 abbrev pub Need-is-live-requires : (Inv : InvT-loop) → (μ : MeasureT-loop) → Type 0
 Need-is-live-requires = λ Inv μ. Lts.Need-is-live-requires (
@@ -363,11 +411,11 @@ Need-is-live-requires = λ Inv μ. Lts.Need-is-live-requires (
   Reads.Learnt,
   Reads'3.Asked,
   Reads'3.Learnt,
-  Reads'5.Asked,
-  Reads'5.Learnt,
+  Reads'6.Asked,
+  Reads'6.Learnt,
   Reads''.Asked,
   Reads''.Learnt,
-) Reads'6.Pre Reads'6.Post Inv μ
+) Reads'5.Pre Reads'5.Post Inv μ
 
 abbrev pub Need-few-slot-of-requires : (Inv : InvT-loop) → (μ : MeasureT-loop) → Type 0
 Need-few-slot-of-requires = λ Inv μ. Lts.Need-few-slot-of-requires (
@@ -379,11 +427,11 @@ Need-few-slot-of-requires = λ Inv μ. Lts.Need-few-slot-of-requires (
   Reads.Learnt,
   Reads'3.Asked,
   Reads'3.Learnt,
-  Reads'5.Asked,
-  Reads'5.Learnt,
+  Reads'6.Asked,
+  Reads'6.Learnt,
   Reads''.Asked,
   Reads''.Learnt,
-) Reads'6.Pre Reads'6.Post Inv μ
+) Reads'5.Pre Reads'5.Post Inv μ
 
 abbrev pub Need-mul-w : (Inv : InvT-loop) → (μ : MeasureT-loop) → Type 0
 Need-mul-w = λ Inv μ. Lts.Need-mul-w (
@@ -395,11 +443,11 @@ Need-mul-w = λ Inv μ. Lts.Need-mul-w (
   Reads.Learnt,
   Reads'3.Asked,
   Reads'3.Learnt,
-  Reads'5.Asked,
-  Reads'5.Learnt,
+  Reads'6.Asked,
+  Reads'6.Learnt,
   Reads''.Asked,
   Reads''.Learnt,
-) Reads'6.Pre Reads'6.Post Inv μ
+) Reads'5.Pre Reads'5.Post Inv μ
 
 abbrev pub Need-array-read-w : (Inv : InvT-loop) → (μ : MeasureT-loop) → Type 0
 Need-array-read-w = λ Inv μ. Lts.Need-array-read-w (
@@ -411,11 +459,11 @@ Need-array-read-w = λ Inv μ. Lts.Need-array-read-w (
   Reads.Learnt,
   Reads'3.Asked,
   Reads'3.Learnt,
-  Reads'5.Asked,
-  Reads'5.Learnt,
+  Reads'6.Asked,
+  Reads'6.Learnt,
   Reads''.Asked,
   Reads''.Learnt,
-) Reads'6.Pre Reads'6.Post Inv μ
+) Reads'5.Pre Reads'5.Post Inv μ
 
 abbrev pub Need-maybe-requires : (Inv : InvT-loop) → (μ : MeasureT-loop) → Type 0
 Need-maybe-requires = λ Inv μ. Lts.Need-maybe-requires (
@@ -427,14 +475,14 @@ Need-maybe-requires = λ Inv μ. Lts.Need-maybe-requires (
   Reads.Learnt,
   Reads'3.Asked,
   Reads'3.Learnt,
-  Reads'5.Asked,
-  Reads'5.Learnt,
+  Reads'6.Asked,
+  Reads'6.Learnt,
   Reads''.Asked,
   Reads''.Learnt,
-) Reads'6.Pre Reads'6.Post Inv μ
+) Reads'5.Pre Reads'5.Post Inv μ
 
-abbrev pub Need-earlier-requires : (Inv : InvT-loop) → (μ : MeasureT-loop) → Type 0
-Need-earlier-requires = λ Inv μ. Lts.Need-earlier-requires (
+abbrev pub Need-scan-requires : (Inv : InvT-loop) → (μ : MeasureT-loop) → Type 0
+Need-scan-requires = λ Inv μ. Lts.Need-scan-requires (
   Reads'.Asked,
   Reads'.Learnt,
   Reads'4.Asked,
@@ -443,11 +491,11 @@ Need-earlier-requires = λ Inv μ. Lts.Need-earlier-requires (
   Reads.Learnt,
   Reads'3.Asked,
   Reads'3.Learnt,
-  Reads'5.Asked,
-  Reads'5.Learnt,
+  Reads'6.Asked,
+  Reads'6.Learnt,
   Reads''.Asked,
   Reads''.Learnt,
-) Reads'6.Pre Reads'6.Post Inv μ
+) Reads'5.Pre Reads'5.Post Inv μ
 
 abbrev pub Need-returns : (Inv : InvT-loop) → (μ : MeasureT-loop) → Type 0
 Need-returns = λ Inv μ. Lts.Need-returns (
@@ -459,11 +507,11 @@ Need-returns = λ Inv μ. Lts.Need-returns (
   Reads.Learnt,
   Reads'3.Asked,
   Reads'3.Learnt,
-  Reads'5.Asked,
-  Reads'5.Learnt,
+  Reads'6.Asked,
+  Reads'6.Learnt,
   Reads''.Asked,
   Reads''.Learnt,
-) Reads'6.Pre Reads'6.Post Inv μ
+) Reads'5.Pre Reads'5.Post Inv μ
 
 abbrev pub Need-marked-requires : (Inv : InvT-loop) → (μ : MeasureT-loop) → Type 0
 Need-marked-requires = λ Inv μ. Lts.Need-marked-requires (
@@ -475,11 +523,11 @@ Need-marked-requires = λ Inv μ. Lts.Need-marked-requires (
   Reads.Learnt,
   Reads'3.Asked,
   Reads'3.Learnt,
-  Reads'5.Asked,
-  Reads'5.Learnt,
+  Reads'6.Asked,
+  Reads'6.Learnt,
   Reads''.Asked,
   Reads''.Learnt,
-) Reads'6.Pre Reads'6.Post Inv μ
+) Reads'5.Pre Reads'5.Post Inv μ
 
 abbrev pub Need-mul-words : (Inv : InvT-loop) → (μ : MeasureT-loop) → Type 0
 Need-mul-words = λ Inv μ. Lts.Need-mul-words (
@@ -491,11 +539,11 @@ Need-mul-words = λ Inv μ. Lts.Need-mul-words (
   Reads.Learnt,
   Reads'3.Asked,
   Reads'3.Learnt,
-  Reads'5.Asked,
-  Reads'5.Learnt,
+  Reads'6.Asked,
+  Reads'6.Learnt,
   Reads''.Asked,
   Reads''.Learnt,
-) Reads'6.Pre Reads'6.Post Inv μ
+) Reads'5.Pre Reads'5.Post Inv μ
 
 abbrev pub Need-array-write-words : (Inv : InvT-loop) → (μ : MeasureT-loop) → Type 0
 Need-array-write-words = λ Inv μ. Lts.Need-array-write-words (
@@ -507,11 +555,11 @@ Need-array-write-words = λ Inv μ. Lts.Need-array-write-words (
   Reads.Learnt,
   Reads'3.Asked,
   Reads'3.Learnt,
-  Reads'5.Asked,
-  Reads'5.Learnt,
+  Reads'6.Asked,
+  Reads'6.Learnt,
   Reads''.Asked,
   Reads''.Learnt,
-) Reads'6.Pre Reads'6.Post Inv μ
+) Reads'5.Pre Reads'5.Post Inv μ
 
 abbrev pub Need-add-j : (Inv : InvT-loop) → (μ : MeasureT-loop) → Type 0
 Need-add-j = λ Inv μ. Lts.Need-add-j (
@@ -523,11 +571,11 @@ Need-add-j = λ Inv μ. Lts.Need-add-j (
   Reads.Learnt,
   Reads'3.Asked,
   Reads'3.Learnt,
-  Reads'5.Asked,
-  Reads'5.Learnt,
+  Reads'6.Asked,
+  Reads'6.Learnt,
   Reads''.Asked,
   Reads''.Learnt,
-) Reads'6.Pre Reads'6.Post Inv μ
+) Reads'5.Pre Reads'5.Post Inv μ
 
 abbrev pub Need-loop-less : (Inv : InvT-loop) → (μ : MeasureT-loop) → Type 0
 Need-loop-less = λ Inv μ. Lts.Need-loop-less (
@@ -539,11 +587,11 @@ Need-loop-less = λ Inv μ. Lts.Need-loop-less (
   Reads.Learnt,
   Reads'3.Asked,
   Reads'3.Learnt,
-  Reads'5.Asked,
-  Reads'5.Learnt,
+  Reads'6.Asked,
+  Reads'6.Learnt,
   Reads''.Asked,
   Reads''.Learnt,
-) Reads'6.Pre Reads'6.Post Inv μ
+) Reads'5.Pre Reads'5.Post Inv μ
 
 abbrev pub Need-loop-again : (Inv : InvT-loop) → (μ : MeasureT-loop) → Type 0
 Need-loop-again = λ Inv μ. Lts.Need-loop-again (
@@ -555,11 +603,11 @@ Need-loop-again = λ Inv μ. Lts.Need-loop-again (
   Reads.Learnt,
   Reads'3.Asked,
   Reads'3.Learnt,
-  Reads'5.Asked,
-  Reads'5.Learnt,
+  Reads'6.Asked,
+  Reads'6.Learnt,
   Reads''.Asked,
   Reads''.Learnt,
-) Reads'6.Pre Reads'6.Post Inv μ
+) Reads'5.Pre Reads'5.Post Inv μ
 
 abbrev pub Need-returns-2 : (Inv : InvT-loop) → (μ : MeasureT-loop) → Type 0
 Need-returns-2 = λ Inv μ. Lts.Need-returns-2 (
@@ -571,11 +619,11 @@ Need-returns-2 = λ Inv μ. Lts.Need-returns-2 (
   Reads.Learnt,
   Reads'3.Asked,
   Reads'3.Learnt,
-  Reads'5.Asked,
-  Reads'5.Learnt,
+  Reads'6.Asked,
+  Reads'6.Learnt,
   Reads''.Asked,
   Reads''.Learnt,
-) Reads'6.Pre Reads'6.Post Inv μ
+) Reads'5.Pre Reads'5.Post Inv μ
 
 module _ {M : Type 1} where
   pub spec :
@@ -592,7 +640,7 @@ module _ {M : Type 1} where
       (answer : Need-mul-w Inv μ) →
       (answer : Need-array-read-w Inv μ) →
       (answer : Need-maybe-requires Inv μ) →
-      (answer : Need-earlier-requires Inv μ) →
+      (answer : Need-scan-requires Inv μ) →
       (answer : Need-returns Inv μ) →
       (answer : Need-marked-requires Inv μ) →
       (answer : Need-mul-words Inv μ) →
@@ -610,11 +658,11 @@ module _ {M : Type 1} where
         Reads.Learnt,
         Reads'3.Asked,
         Reads'3.Learnt,
-        Reads'5.Asked,
-        Reads'5.Learnt,
+        Reads'6.Asked,
+        Reads'6.Learnt,
         Reads''.Asked,
         Reads''.Learnt,
-      ) Reads'6.Pre Reads'6.Post M
+      ) Reads'5.Pre Reads'5.Post M
   spec =
       λ Inv μ answer answer' answer'' answer'3 answer'4 answer'5 answer'6 answer'7 answer'8
       answer'9 answer'10 answer'11 answer'12 answer'13 answer'14 answer'15 answer'16 answer'17
@@ -627,13 +675,13 @@ module _ {M : Type 1} where
         Reads.Learnt,
         Reads'3.Asked,
         Reads'3.Learnt,
-        Reads'5.Asked,
-        Reads'5.Learnt,
+        Reads'6.Asked,
+        Reads'6.Learnt,
         Reads''.Asked,
         Reads''.Learnt,
       )
-      Reads'6.Pre
-      Reads'6.Post
+      Reads'5.Pre
+      Reads'5.Post
       Inv
       μ
       answer
@@ -666,32 +714,32 @@ module _ {M : Type 1} where
     Reads.Learnt,
     Reads'3.Asked,
     Reads'3.Learnt,
-    Reads'5.Asked,
-    Reads'5.Learnt,
+    Reads'6.Asked,
+    Reads'6.Learnt,
     Reads''.Asked,
     Reads''.Learnt,
-  ) Reads'6.Pre Reads'6.Post M → Statement.statement M
+  ) Reads'5.Pre Reads'5.Post M → Statement.statement M
   unfolding Code.routine Running.tablesOf
   close =
       λ closed 𝓤 H 𝓜 𝓖 𝓡. Written.close
       1
       Kinds.ps
       Kinds.r
-      Reads'6.Ghost
-      Reads'6.requires
-      Reads'6.ensures
-      Reads'6.pre-read
-      Reads'6.Pinned
-      Reads'6.Owned
-      Reads'6.post-read
+      Reads'5.Ghost
+      Reads'5.requires
+      Reads'5.ensures
+      Reads'5.pre-read
+      Reads'5.Pinned
+      Reads'5.Owned
+      Reads'5.post-read
       record { M = M; 𝓤 = 𝓤; H = H; 𝓜 = 𝓜; 𝓖 = 𝓖; 𝓡 = 𝓡 }
       Code.env
       Key.name
       Code.function
       (Code.unfolded 𝓤 H 𝓜 𝓡)
       (λ κs a g. tt)
-      (λ κs. Reads'6.owns κs record { M = M; 𝓤 = 𝓤; H = H; 𝓜 = 𝓜; 𝓖 = 𝓖; 𝓡 = 𝓡 })
-      (Reads'6.passes record { M = M; 𝓤 = 𝓤; H = H; 𝓜 = 𝓜; 𝓖 = 𝓖; 𝓡 = 𝓡 })
+      (λ κs. Reads'5.owns κs record { M = M; 𝓤 = 𝓤; H = H; 𝓜 = 𝓜; 𝓖 = 𝓖; 𝓡 = 𝓡 })
+      (Reads'5.passes record { M = M; 𝓤 = 𝓤; H = H; 𝓜 = 𝓜; 𝓖 = 𝓖; 𝓡 = 𝓡 })
       λ g. closed
       𝓤
       H
@@ -726,12 +774,12 @@ module _ {M : Type 1} where
       Symbol'3.routine
       Code.calls-filter·maybe
       (Met'3.met 𝓤 H 𝓜 𝓖 𝓡))
-      (Reads'5.known
+      (Reads'6.known
       record { M = M; 𝓤 = 𝓤; H = H; 𝓜 = 𝓜; 𝓖 = 𝓖; 𝓡 = 𝓡 }
       Code.env
       Symbol'5.name
       Symbol'5.routine
-      Code.calls-twins·earlier
+      Code.calls-twins·scan
       (Met'5.met 𝓤 H 𝓜 𝓖 𝓡))
       (Reads''.known
       record { M = M; 𝓤 = 𝓤; H = H; 𝓜 = 𝓜; 𝓖 = 𝓖; 𝓡 = 𝓡 }

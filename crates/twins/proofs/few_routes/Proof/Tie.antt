@@ -14,15 +14,15 @@ use Rattle.filter.proofs.maybe.Symbol as Symbol'3
 use Rattle.live.proofs.is_live_route.Met as Met'4
 use Rattle.live.proofs.is_live_route.Reads as Reads'4
 use Rattle.live.proofs.is_live_route.Symbol as Symbol'4
-use Rattle.twins.proofs.earlier_route.Met as Met'5
-use Rattle.twins.proofs.Lent.earlier_route.Reads as Reads'5
-use Rattle.twins.proofs.earlier_route.Symbol as Symbol'5
 use Rattle.twins.proofs.few_routes.Code
 use Rattle.twins.proofs.few_routes.Key
 use Rattle.twins.proofs.Lent.few_routes.Kinds
 use Rattle.twins.proofs.few_routes.Proof.Lts
-use Rattle.twins.proofs.Lent.few_routes.Reads as Reads'6
+use Rattle.twins.proofs.Lent.few_routes.Reads as Reads'5
 use Rattle.twins.proofs.few_routes.Statement
+use Rattle.twins.proofs.scan_routes.Met as Met'5
+use Rattle.twins.proofs.Lent.scan_routes.Reads as Reads'6
+use Rattle.twins.proofs.scan_routes.Symbol as Symbol'5
 use borrow.Fn.Run
 use borrow.Fn.Written
 use contract.Running
@@ -43,11 +43,11 @@ Start = λ Inv μ. Lts.Start (
   Reads.Learnt,
   Reads'3.Asked,
   Reads'3.Learnt,
-  Reads'5.Asked,
-  Reads'5.Learnt,
+  Reads'6.Asked,
+  Reads'6.Learnt,
   Reads''.Asked,
   Reads''.Learnt,
-) Reads'6.Pre Reads'6.Post Inv μ
+) Reads'5.Pre Reads'5.Post Inv μ
 
 abbrev pub At-loop : (Inv : InvT-loop) → (μ : MeasureT-loop) → Type 0
 At-loop = λ Inv μ. Lts.At-loop (
@@ -59,11 +59,11 @@ At-loop = λ Inv μ. Lts.At-loop (
   Reads.Learnt,
   Reads'3.Asked,
   Reads'3.Learnt,
-  Reads'5.Asked,
-  Reads'5.Learnt,
+  Reads'6.Asked,
+  Reads'6.Learnt,
   Reads''.Asked,
   Reads''.Learnt,
-) Reads'6.Pre Reads'6.Post Inv μ
+) Reads'5.Pre Reads'5.Post Inv μ
 
 abbrev pub In-loop : (Inv : InvT-loop) → (μ : MeasureT-loop) → Type 0
 In-loop = λ Inv μ. Lts.In-loop (
@@ -75,11 +75,11 @@ In-loop = λ Inv μ. Lts.In-loop (
   Reads.Learnt,
   Reads'3.Asked,
   Reads'3.Learnt,
-  Reads'5.Asked,
-  Reads'5.Learnt,
+  Reads'6.Asked,
+  Reads'6.Learnt,
   Reads''.Asked,
   Reads''.Learnt,
-) Reads'6.Pre Reads'6.Post Inv μ
+) Reads'5.Pre Reads'5.Post Inv μ
 
 abbrev pub After-loop : (Inv : InvT-loop) → (μ : MeasureT-loop) → Type 0
 After-loop = λ Inv μ. Lts.After-loop (
@@ -91,11 +91,11 @@ After-loop = λ Inv μ. Lts.After-loop (
   Reads.Learnt,
   Reads'3.Asked,
   Reads'3.Learnt,
-  Reads'5.Asked,
-  Reads'5.Learnt,
+  Reads'6.Asked,
+  Reads'6.Learnt,
   Reads''.Asked,
   Reads''.Learnt,
-) Reads'6.Pre Reads'6.Post Inv μ
+) Reads'5.Pre Reads'5.Post Inv μ
 
 abbrev pub After-hash-route-arg : (Inv : InvT-loop) → (μ : MeasureT-loop) → Type 0
 After-hash-route-arg = λ Inv μ. Lts.After-hash-route-arg (
@@ -107,11 +107,11 @@ After-hash-route-arg = λ Inv μ. Lts.After-hash-route-arg (
   Reads.Learnt,
   Reads'3.Asked,
   Reads'3.Learnt,
-  Reads'5.Asked,
-  Reads'5.Learnt,
+  Reads'6.Asked,
+  Reads'6.Learnt,
   Reads''.Asked,
   Reads''.Learnt,
-) Reads'6.Pre Reads'6.Post Inv μ
+) Reads'5.Pre Reads'5.Post Inv μ
 
 abbrev pub After-hash-route : (Inv : InvT-loop) → (μ : MeasureT-loop) → Type 0
 After-hash-route = λ Inv μ. Lts.After-hash-route (
@@ -123,11 +123,11 @@ After-hash-route = λ Inv μ. Lts.After-hash-route (
   Reads.Learnt,
   Reads'3.Asked,
   Reads'3.Learnt,
-  Reads'5.Asked,
-  Reads'5.Learnt,
+  Reads'6.Asked,
+  Reads'6.Learnt,
   Reads''.Asked,
   Reads''.Learnt,
-) Reads'6.Pre Reads'6.Post Inv μ
+) Reads'5.Pre Reads'5.Post Inv μ
 
 abbrev pub After-is-live-route-arg : (Inv : InvT-loop) → (μ : MeasureT-loop) → Type 0
 After-is-live-route-arg = λ Inv μ. Lts.After-is-live-route-arg (
@@ -139,11 +139,11 @@ After-is-live-route-arg = λ Inv μ. Lts.After-is-live-route-arg (
   Reads.Learnt,
   Reads'3.Asked,
   Reads'3.Learnt,
-  Reads'5.Asked,
-  Reads'5.Learnt,
+  Reads'6.Asked,
+  Reads'6.Learnt,
   Reads''.Asked,
   Reads''.Learnt,
-) Reads'6.Pre Reads'6.Post Inv μ
+) Reads'5.Pre Reads'5.Post Inv μ
 
 abbrev pub After-is-live-route : (Inv : InvT-loop) → (μ : MeasureT-loop) → Type 0
 After-is-live-route = λ Inv μ. Lts.After-is-live-route (
@@ -155,11 +155,11 @@ After-is-live-route = λ Inv μ. Lts.After-is-live-route (
   Reads.Learnt,
   Reads'3.Asked,
   Reads'3.Learnt,
-  Reads'5.Asked,
-  Reads'5.Learnt,
+  Reads'6.Asked,
+  Reads'6.Learnt,
   Reads''.Asked,
   Reads''.Learnt,
-) Reads'6.Pre Reads'6.Post Inv μ
+) Reads'5.Pre Reads'5.Post Inv μ
 
 abbrev pub After-few-slot-of : (Inv : InvT-loop) → (μ : MeasureT-loop) → Type 0
 After-few-slot-of = λ Inv μ. Lts.After-few-slot-of (
@@ -171,11 +171,11 @@ After-few-slot-of = λ Inv μ. Lts.After-few-slot-of (
   Reads.Learnt,
   Reads'3.Asked,
   Reads'3.Learnt,
-  Reads'5.Asked,
-  Reads'5.Learnt,
+  Reads'6.Asked,
+  Reads'6.Learnt,
   Reads''.Asked,
   Reads''.Learnt,
-) Reads'6.Pre Reads'6.Post Inv μ
+) Reads'5.Pre Reads'5.Post Inv μ
 
 abbrev pub After-maybe : (Inv : InvT-loop) → (μ : MeasureT-loop) → Type 0
 After-maybe = λ Inv μ. Lts.After-maybe (
@@ -187,27 +187,11 @@ After-maybe = λ Inv μ. Lts.After-maybe (
   Reads.Learnt,
   Reads'3.Asked,
   Reads'3.Learnt,
-  Reads'5.Asked,
-  Reads'5.Learnt,
+  Reads'6.Asked,
+  Reads'6.Learnt,
   Reads''.Asked,
   Reads''.Learnt,
-) Reads'6.Pre Reads'6.Post Inv μ
-
-abbrev pub After-earlier-route : (Inv : InvT-loop) → (μ : MeasureT-loop) → Type 0
-After-earlier-route = λ Inv μ. Lts.After-earlier-route (
-  Reads'.Asked,
-  Reads'.Learnt,
-  Reads'4.Asked,
-  Reads'4.Learnt,
-  Reads.Asked,
-  Reads.Learnt,
-  Reads'3.Asked,
-  Reads'3.Learnt,
-  Reads'5.Asked,
-  Reads'5.Learnt,
-  Reads''.Asked,
-  Reads''.Learnt,
-) Reads'6.Pre Reads'6.Post Inv μ
+) Reads'5.Pre Reads'5.Post Inv μ
 
 abbrev pub Then1 : (Inv : InvT-loop) → (μ : MeasureT-loop) → Type 0
 Then1 = λ Inv μ. Lts.Then1 (
@@ -219,11 +203,59 @@ Then1 = λ Inv μ. Lts.Then1 (
   Reads.Learnt,
   Reads'3.Asked,
   Reads'3.Learnt,
-  Reads'5.Asked,
-  Reads'5.Learnt,
+  Reads'6.Asked,
+  Reads'6.Learnt,
   Reads''.Asked,
   Reads''.Learnt,
-) Reads'6.Pre Reads'6.Post Inv μ
+) Reads'5.Pre Reads'5.Post Inv μ
+
+abbrev pub After-scan-routes : (Inv : InvT-loop) → (μ : MeasureT-loop) → Type 0
+After-scan-routes = λ Inv μ. Lts.After-scan-routes (
+  Reads'.Asked,
+  Reads'.Learnt,
+  Reads'4.Asked,
+  Reads'4.Learnt,
+  Reads.Asked,
+  Reads.Learnt,
+  Reads'3.Asked,
+  Reads'3.Learnt,
+  Reads'6.Asked,
+  Reads'6.Learnt,
+  Reads''.Asked,
+  Reads''.Learnt,
+) Reads'5.Pre Reads'5.Post Inv μ
+
+abbrev pub Then2 : (Inv : InvT-loop) → (μ : MeasureT-loop) → Type 0
+Then2 = λ Inv μ. Lts.Then2 (
+  Reads'.Asked,
+  Reads'.Learnt,
+  Reads'4.Asked,
+  Reads'4.Learnt,
+  Reads.Asked,
+  Reads.Learnt,
+  Reads'3.Asked,
+  Reads'3.Learnt,
+  Reads'6.Asked,
+  Reads'6.Learnt,
+  Reads''.Asked,
+  Reads''.Learnt,
+) Reads'5.Pre Reads'5.Post Inv μ
+
+abbrev pub Else2 : (Inv : InvT-loop) → (μ : MeasureT-loop) → Type 0
+Else2 = λ Inv μ. Lts.Else2 (
+  Reads'.Asked,
+  Reads'.Learnt,
+  Reads'4.Asked,
+  Reads'4.Learnt,
+  Reads.Asked,
+  Reads.Learnt,
+  Reads'3.Asked,
+  Reads'3.Learnt,
+  Reads'6.Asked,
+  Reads'6.Learnt,
+  Reads''.Asked,
+  Reads''.Learnt,
+) Reads'5.Pre Reads'5.Post Inv μ
 
 abbrev pub Else1 : (Inv : InvT-loop) → (μ : MeasureT-loop) → Type 0
 Else1 = λ Inv μ. Lts.Else1 (
@@ -235,11 +267,27 @@ Else1 = λ Inv μ. Lts.Else1 (
   Reads.Learnt,
   Reads'3.Asked,
   Reads'3.Learnt,
-  Reads'5.Asked,
-  Reads'5.Learnt,
+  Reads'6.Asked,
+  Reads'6.Learnt,
   Reads''.Asked,
   Reads''.Learnt,
-) Reads'6.Pre Reads'6.Post Inv μ
+) Reads'5.Pre Reads'5.Post Inv μ
+
+abbrev pub Joined1 : (Inv : InvT-loop) → (μ : MeasureT-loop) → Type 0
+Joined1 = λ Inv μ. Lts.Joined1 (
+  Reads'.Asked,
+  Reads'.Learnt,
+  Reads'4.Asked,
+  Reads'4.Learnt,
+  Reads.Asked,
+  Reads.Learnt,
+  Reads'3.Asked,
+  Reads'3.Learnt,
+  Reads'6.Asked,
+  Reads'6.Learnt,
+  Reads''.Asked,
+  Reads''.Learnt,
+) Reads'5.Pre Reads'5.Post Inv μ
 
 abbrev pub After-marked : (Inv : InvT-loop) → (μ : MeasureT-loop) → Type 0
 After-marked = λ Inv μ. Lts.After-marked (
@@ -251,11 +299,11 @@ After-marked = λ Inv μ. Lts.After-marked (
   Reads.Learnt,
   Reads'3.Asked,
   Reads'3.Learnt,
-  Reads'5.Asked,
-  Reads'5.Learnt,
+  Reads'6.Asked,
+  Reads'6.Learnt,
   Reads''.Asked,
   Reads''.Learnt,
-) Reads'6.Pre Reads'6.Post Inv μ
+) Reads'5.Pre Reads'5.Post Inv μ
 
 abbrev pub Need-loop-holds : (Inv : InvT-loop) → (μ : MeasureT-loop) → Type 0
 Need-loop-holds = λ Inv μ. Lts.Need-loop-holds (
@@ -267,11 +315,11 @@ Need-loop-holds = λ Inv μ. Lts.Need-loop-holds (
   Reads.Learnt,
   Reads'3.Asked,
   Reads'3.Learnt,
-  Reads'5.Asked,
-  Reads'5.Learnt,
+  Reads'6.Asked,
+  Reads'6.Learnt,
   Reads''.Asked,
   Reads''.Learnt,
-) Reads'6.Pre Reads'6.Post Inv μ
+) Reads'5.Pre Reads'5.Post Inv μ
 
 abbrev pub Need-mul-hash-route : (Inv : InvT-loop) → (μ : MeasureT-loop) → Type 0
 Need-mul-hash-route = λ Inv μ. Lts.Need-mul-hash-route (
@@ -283,11 +331,11 @@ Need-mul-hash-route = λ Inv μ. Lts.Need-mul-hash-route (
   Reads.Learnt,
   Reads'3.Asked,
   Reads'3.Learnt,
-  Reads'5.Asked,
-  Reads'5.Learnt,
+  Reads'6.Asked,
+  Reads'6.Learnt,
   Reads''.Asked,
   Reads''.Learnt,
-) Reads'6.Pre Reads'6.Post Inv μ
+) Reads'5.Pre Reads'5.Post Inv μ
 
 abbrev pub Need-shared-slice-copy-out-hash-route : (Inv : InvT-loop) → (μ : MeasureT-loop) → Type 0
 Need-shared-slice-copy-out-hash-route = λ Inv μ. Lts.Need-shared-slice-copy-out-hash-route (
@@ -299,11 +347,11 @@ Need-shared-slice-copy-out-hash-route = λ Inv μ. Lts.Need-shared-slice-copy-ou
   Reads.Learnt,
   Reads'3.Asked,
   Reads'3.Learnt,
-  Reads'5.Asked,
-  Reads'5.Learnt,
+  Reads'6.Asked,
+  Reads'6.Learnt,
   Reads''.Asked,
   Reads''.Learnt,
-) Reads'6.Pre Reads'6.Post Inv μ
+) Reads'5.Pre Reads'5.Post Inv μ
 
 abbrev pub Need-hash-route-requires : (Inv : InvT-loop) → (μ : MeasureT-loop) → Type 0
 Need-hash-route-requires = λ Inv μ. Lts.Need-hash-route-requires (
@@ -315,11 +363,11 @@ Need-hash-route-requires = λ Inv μ. Lts.Need-hash-route-requires (
   Reads.Learnt,
   Reads'3.Asked,
   Reads'3.Learnt,
-  Reads'5.Asked,
-  Reads'5.Learnt,
+  Reads'6.Asked,
+  Reads'6.Learnt,
   Reads''.Asked,
   Reads''.Learnt,
-) Reads'6.Pre Reads'6.Post Inv μ
+) Reads'5.Pre Reads'5.Post Inv μ
 
 abbrev pub Need-mul-is-live-route : (Inv : InvT-loop) → (μ : MeasureT-loop) → Type 0
 Need-mul-is-live-route = λ Inv μ. Lts.Need-mul-is-live-route (
@@ -331,11 +379,11 @@ Need-mul-is-live-route = λ Inv μ. Lts.Need-mul-is-live-route (
   Reads.Learnt,
   Reads'3.Asked,
   Reads'3.Learnt,
-  Reads'5.Asked,
-  Reads'5.Learnt,
+  Reads'6.Asked,
+  Reads'6.Learnt,
   Reads''.Asked,
   Reads''.Learnt,
-) Reads'6.Pre Reads'6.Post Inv μ
+) Reads'5.Pre Reads'5.Post Inv μ
 
 abbrev pub Need-shared-slice-copy-out-is-live-route :
     (Inv : InvT-loop) → (μ : MeasureT-loop) → Type 0
@@ -348,11 +396,11 @@ Need-shared-slice-copy-out-is-live-route = λ Inv μ. Lts.Need-shared-slice-copy
   Reads.Learnt,
   Reads'3.Asked,
   Reads'3.Learnt,
-  Reads'5.Asked,
-  Reads'5.Learnt,
+  Reads'6.Asked,
+  Reads'6.Learnt,
   Reads''.Asked,
   Reads''.Learnt,
-) Reads'6.Pre Reads'6.Post Inv μ
+) Reads'5.Pre Reads'5.Post Inv μ
 
 abbrev pub Need-is-live-route-requires : (Inv : InvT-loop) → (μ : MeasureT-loop) → Type 0
 Need-is-live-route-requires = λ Inv μ. Lts.Need-is-live-route-requires (
@@ -364,11 +412,11 @@ Need-is-live-route-requires = λ Inv μ. Lts.Need-is-live-route-requires (
   Reads.Learnt,
   Reads'3.Asked,
   Reads'3.Learnt,
-  Reads'5.Asked,
-  Reads'5.Learnt,
+  Reads'6.Asked,
+  Reads'6.Learnt,
   Reads''.Asked,
   Reads''.Learnt,
-) Reads'6.Pre Reads'6.Post Inv μ
+) Reads'5.Pre Reads'5.Post Inv μ
 
 abbrev pub Need-few-slot-of-requires : (Inv : InvT-loop) → (μ : MeasureT-loop) → Type 0
 Need-few-slot-of-requires = λ Inv μ. Lts.Need-few-slot-of-requires (
@@ -380,11 +428,11 @@ Need-few-slot-of-requires = λ Inv μ. Lts.Need-few-slot-of-requires (
   Reads.Learnt,
   Reads'3.Asked,
   Reads'3.Learnt,
-  Reads'5.Asked,
-  Reads'5.Learnt,
+  Reads'6.Asked,
+  Reads'6.Learnt,
   Reads''.Asked,
   Reads''.Learnt,
-) Reads'6.Pre Reads'6.Post Inv μ
+) Reads'5.Pre Reads'5.Post Inv μ
 
 abbrev pub Need-mul-w : (Inv : InvT-loop) → (μ : MeasureT-loop) → Type 0
 Need-mul-w = λ Inv μ. Lts.Need-mul-w (
@@ -396,11 +444,11 @@ Need-mul-w = λ Inv μ. Lts.Need-mul-w (
   Reads.Learnt,
   Reads'3.Asked,
   Reads'3.Learnt,
-  Reads'5.Asked,
-  Reads'5.Learnt,
+  Reads'6.Asked,
+  Reads'6.Learnt,
   Reads''.Asked,
   Reads''.Learnt,
-) Reads'6.Pre Reads'6.Post Inv μ
+) Reads'5.Pre Reads'5.Post Inv μ
 
 abbrev pub Need-array-read-w : (Inv : InvT-loop) → (μ : MeasureT-loop) → Type 0
 Need-array-read-w = λ Inv μ. Lts.Need-array-read-w (
@@ -412,11 +460,11 @@ Need-array-read-w = λ Inv μ. Lts.Need-array-read-w (
   Reads.Learnt,
   Reads'3.Asked,
   Reads'3.Learnt,
-  Reads'5.Asked,
-  Reads'5.Learnt,
+  Reads'6.Asked,
+  Reads'6.Learnt,
   Reads''.Asked,
   Reads''.Learnt,
-) Reads'6.Pre Reads'6.Post Inv μ
+) Reads'5.Pre Reads'5.Post Inv μ
 
 abbrev pub Need-maybe-requires : (Inv : InvT-loop) → (μ : MeasureT-loop) → Type 0
 Need-maybe-requires = λ Inv μ. Lts.Need-maybe-requires (
@@ -428,14 +476,14 @@ Need-maybe-requires = λ Inv μ. Lts.Need-maybe-requires (
   Reads.Learnt,
   Reads'3.Asked,
   Reads'3.Learnt,
-  Reads'5.Asked,
-  Reads'5.Learnt,
+  Reads'6.Asked,
+  Reads'6.Learnt,
   Reads''.Asked,
   Reads''.Learnt,
-) Reads'6.Pre Reads'6.Post Inv μ
+) Reads'5.Pre Reads'5.Post Inv μ
 
-abbrev pub Need-earlier-route-requires : (Inv : InvT-loop) → (μ : MeasureT-loop) → Type 0
-Need-earlier-route-requires = λ Inv μ. Lts.Need-earlier-route-requires (
+abbrev pub Need-scan-routes-requires : (Inv : InvT-loop) → (μ : MeasureT-loop) → Type 0
+Need-scan-routes-requires = λ Inv μ. Lts.Need-scan-routes-requires (
   Reads'.Asked,
   Reads'.Learnt,
   Reads'4.Asked,
@@ -444,11 +492,11 @@ Need-earlier-route-requires = λ Inv μ. Lts.Need-earlier-route-requires (
   Reads.Learnt,
   Reads'3.Asked,
   Reads'3.Learnt,
-  Reads'5.Asked,
-  Reads'5.Learnt,
+  Reads'6.Asked,
+  Reads'6.Learnt,
   Reads''.Asked,
   Reads''.Learnt,
-) Reads'6.Pre Reads'6.Post Inv μ
+) Reads'5.Pre Reads'5.Post Inv μ
 
 abbrev pub Need-returns : (Inv : InvT-loop) → (μ : MeasureT-loop) → Type 0
 Need-returns = λ Inv μ. Lts.Need-returns (
@@ -460,11 +508,11 @@ Need-returns = λ Inv μ. Lts.Need-returns (
   Reads.Learnt,
   Reads'3.Asked,
   Reads'3.Learnt,
-  Reads'5.Asked,
-  Reads'5.Learnt,
+  Reads'6.Asked,
+  Reads'6.Learnt,
   Reads''.Asked,
   Reads''.Learnt,
-) Reads'6.Pre Reads'6.Post Inv μ
+) Reads'5.Pre Reads'5.Post Inv μ
 
 abbrev pub Need-marked-requires : (Inv : InvT-loop) → (μ : MeasureT-loop) → Type 0
 Need-marked-requires = λ Inv μ. Lts.Need-marked-requires (
@@ -476,11 +524,11 @@ Need-marked-requires = λ Inv μ. Lts.Need-marked-requires (
   Reads.Learnt,
   Reads'3.Asked,
   Reads'3.Learnt,
-  Reads'5.Asked,
-  Reads'5.Learnt,
+  Reads'6.Asked,
+  Reads'6.Learnt,
   Reads''.Asked,
   Reads''.Learnt,
-) Reads'6.Pre Reads'6.Post Inv μ
+) Reads'5.Pre Reads'5.Post Inv μ
 
 abbrev pub Need-mul-words : (Inv : InvT-loop) → (μ : MeasureT-loop) → Type 0
 Need-mul-words = λ Inv μ. Lts.Need-mul-words (
@@ -492,11 +540,11 @@ Need-mul-words = λ Inv μ. Lts.Need-mul-words (
   Reads.Learnt,
   Reads'3.Asked,
   Reads'3.Learnt,
-  Reads'5.Asked,
-  Reads'5.Learnt,
+  Reads'6.Asked,
+  Reads'6.Learnt,
   Reads''.Asked,
   Reads''.Learnt,
-) Reads'6.Pre Reads'6.Post Inv μ
+) Reads'5.Pre Reads'5.Post Inv μ
 
 abbrev pub Need-array-write-words : (Inv : InvT-loop) → (μ : MeasureT-loop) → Type 0
 Need-array-write-words = λ Inv μ. Lts.Need-array-write-words (
@@ -508,11 +556,11 @@ Need-array-write-words = λ Inv μ. Lts.Need-array-write-words (
   Reads.Learnt,
   Reads'3.Asked,
   Reads'3.Learnt,
-  Reads'5.Asked,
-  Reads'5.Learnt,
+  Reads'6.Asked,
+  Reads'6.Learnt,
   Reads''.Asked,
   Reads''.Learnt,
-) Reads'6.Pre Reads'6.Post Inv μ
+) Reads'5.Pre Reads'5.Post Inv μ
 
 abbrev pub Need-add-j : (Inv : InvT-loop) → (μ : MeasureT-loop) → Type 0
 Need-add-j = λ Inv μ. Lts.Need-add-j (
@@ -524,11 +572,11 @@ Need-add-j = λ Inv μ. Lts.Need-add-j (
   Reads.Learnt,
   Reads'3.Asked,
   Reads'3.Learnt,
-  Reads'5.Asked,
-  Reads'5.Learnt,
+  Reads'6.Asked,
+  Reads'6.Learnt,
   Reads''.Asked,
   Reads''.Learnt,
-) Reads'6.Pre Reads'6.Post Inv μ
+) Reads'5.Pre Reads'5.Post Inv μ
 
 abbrev pub Need-loop-less : (Inv : InvT-loop) → (μ : MeasureT-loop) → Type 0
 Need-loop-less = λ Inv μ. Lts.Need-loop-less (
@@ -540,11 +588,11 @@ Need-loop-less = λ Inv μ. Lts.Need-loop-less (
   Reads.Learnt,
   Reads'3.Asked,
   Reads'3.Learnt,
-  Reads'5.Asked,
-  Reads'5.Learnt,
+  Reads'6.Asked,
+  Reads'6.Learnt,
   Reads''.Asked,
   Reads''.Learnt,
-) Reads'6.Pre Reads'6.Post Inv μ
+) Reads'5.Pre Reads'5.Post Inv μ
 
 abbrev pub Need-loop-again : (Inv : InvT-loop) → (μ : MeasureT-loop) → Type 0
 Need-loop-again = λ Inv μ. Lts.Need-loop-again (
@@ -556,11 +604,11 @@ Need-loop-again = λ Inv μ. Lts.Need-loop-again (
   Reads.Learnt,
   Reads'3.Asked,
   Reads'3.Learnt,
-  Reads'5.Asked,
-  Reads'5.Learnt,
+  Reads'6.Asked,
+  Reads'6.Learnt,
   Reads''.Asked,
   Reads''.Learnt,
-) Reads'6.Pre Reads'6.Post Inv μ
+) Reads'5.Pre Reads'5.Post Inv μ
 
 abbrev pub Need-returns-2 : (Inv : InvT-loop) → (μ : MeasureT-loop) → Type 0
 Need-returns-2 = λ Inv μ. Lts.Need-returns-2 (
@@ -572,11 +620,11 @@ Need-returns-2 = λ Inv μ. Lts.Need-returns-2 (
   Reads.Learnt,
   Reads'3.Asked,
   Reads'3.Learnt,
-  Reads'5.Asked,
-  Reads'5.Learnt,
+  Reads'6.Asked,
+  Reads'6.Learnt,
   Reads''.Asked,
   Reads''.Learnt,
-) Reads'6.Pre Reads'6.Post Inv μ
+) Reads'5.Pre Reads'5.Post Inv μ
 
 module _ {M : Type 1} where
   pub spec :
@@ -593,7 +641,7 @@ module _ {M : Type 1} where
       (answer : Need-mul-w Inv μ) →
       (answer : Need-array-read-w Inv μ) →
       (answer : Need-maybe-requires Inv μ) →
-      (answer : Need-earlier-route-requires Inv μ) →
+      (answer : Need-scan-routes-requires Inv μ) →
       (answer : Need-returns Inv μ) →
       (answer : Need-marked-requires Inv μ) →
       (answer : Need-mul-words Inv μ) →
@@ -611,11 +659,11 @@ module _ {M : Type 1} where
         Reads.Learnt,
         Reads'3.Asked,
         Reads'3.Learnt,
-        Reads'5.Asked,
-        Reads'5.Learnt,
+        Reads'6.Asked,
+        Reads'6.Learnt,
         Reads''.Asked,
         Reads''.Learnt,
-      ) Reads'6.Pre Reads'6.Post M
+      ) Reads'5.Pre Reads'5.Post M
   spec =
       λ Inv μ answer answer' answer'' answer'3 answer'4 answer'5 answer'6 answer'7 answer'8
       answer'9 answer'10 answer'11 answer'12 answer'13 answer'14 answer'15 answer'16 answer'17
@@ -628,13 +676,13 @@ module _ {M : Type 1} where
         Reads.Learnt,
         Reads'3.Asked,
         Reads'3.Learnt,
-        Reads'5.Asked,
-        Reads'5.Learnt,
+        Reads'6.Asked,
+        Reads'6.Learnt,
         Reads''.Asked,
         Reads''.Learnt,
       )
-      Reads'6.Pre
-      Reads'6.Post
+      Reads'5.Pre
+      Reads'5.Post
       Inv
       μ
       answer
@@ -667,32 +715,32 @@ module _ {M : Type 1} where
     Reads.Learnt,
     Reads'3.Asked,
     Reads'3.Learnt,
-    Reads'5.Asked,
-    Reads'5.Learnt,
+    Reads'6.Asked,
+    Reads'6.Learnt,
     Reads''.Asked,
     Reads''.Learnt,
-  ) Reads'6.Pre Reads'6.Post M → Statement.statement M
+  ) Reads'5.Pre Reads'5.Post M → Statement.statement M
   unfolding Code.routine Running.tablesOf
   close =
       λ closed 𝓤 H 𝓜 𝓖 𝓡. Written.close
       1
       Kinds.ps
       Kinds.r
-      Reads'6.Ghost
-      Reads'6.requires
-      Reads'6.ensures
-      Reads'6.pre-read
-      Reads'6.Pinned
-      Reads'6.Owned
-      Reads'6.post-read
+      Reads'5.Ghost
+      Reads'5.requires
+      Reads'5.ensures
+      Reads'5.pre-read
+      Reads'5.Pinned
+      Reads'5.Owned
+      Reads'5.post-read
       record { M = M; 𝓤 = 𝓤; H = H; 𝓜 = 𝓜; 𝓖 = 𝓖; 𝓡 = 𝓡 }
       Code.env
       Key.name
       Code.function
       (Code.unfolded 𝓤 H 𝓜 𝓡)
       (λ κs a g. tt)
-      (λ κs. Reads'6.owns κs record { M = M; 𝓤 = 𝓤; H = H; 𝓜 = 𝓜; 𝓖 = 𝓖; 𝓡 = 𝓡 })
-      (Reads'6.passes record { M = M; 𝓤 = 𝓤; H = H; 𝓜 = 𝓜; 𝓖 = 𝓖; 𝓡 = 𝓡 })
+      (λ κs. Reads'5.owns κs record { M = M; 𝓤 = 𝓤; H = H; 𝓜 = 𝓜; 𝓖 = 𝓖; 𝓡 = 𝓡 })
+      (Reads'5.passes record { M = M; 𝓤 = 𝓤; H = H; 𝓜 = 𝓜; 𝓖 = 𝓖; 𝓡 = 𝓡 })
       λ g. closed
       𝓤
       H
@@ -727,12 +775,12 @@ module _ {M : Type 1} where
       Symbol'3.routine
       Code.calls-filter·maybe
       (Met'3.met 𝓤 H 𝓜 𝓖 𝓡))
-      (Reads'5.known
+      (Reads'6.known
       record { M = M; 𝓤 = 𝓤; H = H; 𝓜 = 𝓜; 𝓖 = 𝓖; 𝓡 = 𝓡 }
       Code.env
       Symbol'5.name
       Symbol'5.routine
-      Code.calls-twins·earlier-route
+      Code.calls-twins·scan-routes
       (Met'5.met 𝓤 H 𝓜 𝓖 𝓡))
       (Reads''.known
       record { M = M; 𝓤 = 𝓤; H = H; 𝓜 = 𝓜; 𝓖 = 𝓖; 𝓡 = 𝓡 }
