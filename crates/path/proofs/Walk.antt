@@ -1,11 +1,13 @@
 -- Loops over the first n addresses of a vector: what is said of them is said of those that are left at i.
-use Prim.Native.Nat.{ℕ, _+_, _<_, _≤_}
+use Prim.Native.Nat.{ℕ, _+_, _-_, _<_, _≤_}
 use mathlib.Core.Path.{_≡_, refl, ap, _∙_}
-use mathlib.Core.Bool.{Bool, true, false}
+use mathlib.Core.Bool.{Bool, true, false, cond}
 use mathlib.Core.List.{List, [], _∷_}
 use native.Mathlib.Omega.{arith}
+use lib.Dec.{eqb}
 use lib.ListN.{length, getD, take, drop, drop-of-length-le}
 use lib.Seq.{getD-take, length-take-le}
+use borrow.Author.Tests.{ne-eqb}
 use Rattle.plain.specs.Lists.{any, count, same}
 use Rattle.plain.specs.Address.{Address}
 use Rattle.plain.specs.Reply.{before}
@@ -24,6 +26,19 @@ count-cons p x xs = go (p x) refl
 pub count-one : {A : Type 0} (p : A → Bool) (x : A) → count p (x ∷ []) ≤ 1
 unfolding count
 count-one p x = cond-case (λ (k : ℕ). k ≤ 1) (p x) 1 0 (λ e. omega arith) (λ e. omega arith)
+
+-- the address that was passed last when a loop is at i, `first` at the start
+abbrev pub last : Address → List Address → ℕ → Address
+last first v i = cond (eqb i 0) first (getD v (i - 1) [])
+
+pub last-none : (first : Address) (v : List Address) (i : ℕ) → i ≡ 0 → last first v i ≡ first
+last-none first v i h = rw h
+
+pub last-one : (first : Address) (v : List Address) (i : ℕ) → (i ≡ 0 → ⊥) → last first v i ≡ getD v (i - 1) []
+last-one first v i h = rw (ne-eqb i 0 h)
+
+pub next-last : (first : Address) (v : List Address) (i : ℕ) → last first v (i + 1) ≡ getD v i []
+next-last first v i = let e : i + 1 - 1 ≡ i = omega arith in last-one first v (i + 1) (λ z. omega arith) ∙ rw e
 
 module _ (n : ℕ) (v : List Address) (q : n ≤ length v) (i : ℕ) where
   left : i < n → drop i (take n v) ≡ getD v i [] ∷ drop (i + 1) (take n v)
