@@ -8,7 +8,7 @@ use lib.Dec.{eqb}
 use lib.ListN.{length, getD, take, drop, drop-of-length-le}
 use lib.Seq.{getD-take, length-take-le}
 use borrow.Author.Tests.{ne-eqb}
-use Rattle.plain.specs.Lists.{any, count, same}
+use Rattle.plain.specs.Lists.{count, same}
 use Rattle.plain.specs.Address.{Address}
 use Rattle.plain.specs.Reply.{before}
 use Rattle.lemmas.proofs.Choice.{cond-case}
@@ -41,24 +41,17 @@ pub next-last : (first : Address) (v : List Address) (i : ℕ) → last first v 
 next-last first v i = let e : i + 1 - 1 ≡ i = omega arith in last-one first v (i + 1) (λ z. omega arith) ∙ rw e
 
 module _ (n : ℕ) (v : List Address) (q : n ≤ length v) (i : ℕ) where
+  pub below : i < n → i < length (take n v)
+  below h = omega (arith, length-take-le n v q)
+
+  pub past : n ≤ i → length (take n v) ≤ i
+  past h = omega (arith, length-take-le n v q)
+
   left : i < n → drop i (take n v) ≡ getD v i [] ∷ drop (i + 1) (take n v)
-  left h = rw (← getD-take n v i [] h) (left-at (take n v) i [] (omega (arith, length-take-le n v q)))
+  left h = rw (← getD-take n v i [] h) (left-at (take n v) i [] (below h))
 
   none-left : n ≤ i → drop i (take n v) ≡ []
-  none-left h = drop-of-length-le (take n v) {i = i} (omega (arith, length-take-le n v q))
-
-  module _ (p : Address → Bool) (u : any p (take n v) ≡ any p (drop i (take n v))) where
-    pub any-hit : i < n → p (getD v i []) ≡ true → any p (take n v) ≡ true
-    unfolding any
-    any-hit h e = u ∙ rw (left h, e)
-
-    pub any-miss : i < n → p (getD v i []) ≡ false → any p (take n v) ≡ any p (drop (i + 1) (take n v))
-    unfolding any
-    any-miss h e = u ∙ rw (left h, e)
-
-    pub any-end : n ≤ i → any p (take n v) ≡ false
-    unfolding any
-    any-end h = u ∙ rw (none-left h)
+  none-left h = drop-of-length-le (take n v) {i = i} (past h)
 
   module _ (p : Address → Bool) (found : ℕ) (u : count p (take n v) ≡ found + count p (drop i (take n v))) where
     pub count-more : i < n → count p (take n v) ≡ found + count p (getD v i [] ∷ []) + count p (drop (i + 1) (take n v))
