@@ -7,7 +7,7 @@ use mathlib.Core.Option.{Option, some, none}
 use lib.Dec.{eqb}
 use lib.ListN.{length, take}
 use Rattle.plain.specs.Address.{Address}
-use Rattle.plain.specs.Given.{Settings, Instance, Route, Destination}
+use Rattle.plain.specs.Given.{Settings, ReplyRow, Instance, Route, Destination}
 use Rattle.plain.specs.Table.{Numbered, Change, put}
 use Rattle.plain.specs.Octets.{Message, octetsOf, elided}
 use Rattle.plain.specs.Request.{Accepted, grown, routeChange, withReplyRow}
@@ -21,6 +21,7 @@ use Rattle.message.specs.declared.Parsed.{Parsed}
 use Rattle.decision.specs.declared.What.{What}
 use Rattle.decision.specs.declared.What.the-variants.{Nothing, Dio, Path}
 use Rattle.decision.specs.declared.Post.{Post}
+use Rattle.decision.specs.declared.ReplyFields.{ReplyFields}
 use Rattle.decision.specs.declared.Decided.{Decided}
 
 -- ---- What goes into a buffer
@@ -73,18 +74,28 @@ unfoldable pub recordOf : Instance → InstanceRow
 recordOf (Instance.request r) = requestRecord r
 recordOf (Instance.reply r) = replyRecord r
 
+-- the reply row that has these fields
+unfoldable pub replyIn : ReplyFields → ReplyRow
+replyIn f = record {
+  instance = f .instance;
+  dodagid = f .dodagid;
+  seq = f .seq;
+  rank = f .rank;
+  deadline = cond (f .endless) none (some (f .deadline));
+}
+
 -- what becomes of the tables, where the live row of the call's key and the live route are given
 unfoldable pub instancesBy : {B : Type 0} → Option (Numbered B) → Decided → Change Instance
-instancesBy found d = withReplyRow (put found (instanceMeant (d .row))) (d .replies) (replyOf (d .second))
+instancesBy found d = withReplyRow (put found (instanceMeant (d .row))) (d .replies) (replyIn (d .second))
 
 unfoldable pub routesBy : Option (Numbered Route) → Decided → Change Route
 routesBy found d = routeChange (d .routed) found (routeIn (d .route))
 
--- What is stored is the rules' `acc`. Each record is the one that is written for its row.
+-- What is stored is the rules' `acc`. Each record is the one that is written for its row; that of the reply row is made
+-- from its fields where it is stored.
 pub record Stores {B : Type 0} (acc : Accepted) (found : Option (Numbered B)) (hop : Option (Numbered Route)) (d : Decided) : Type 0 where
   pub own : d .seq ≡ acc .own
   pub instances : instancesBy found d ≡ acc .instances
   pub routes : routesBy hop d ≡ acc .routes
   pub row : recordOf (instanceMeant (d .row)) ≡ d .row
-  pub second : d .replies ≡ true → replyRecord (replyOf (d .second)) ≡ d .second
   pub route : d .routed ≡ true → routeRecord (routeIn (d .route)) ≡ d .route

@@ -22,11 +22,21 @@ pub struct Post {
     pub to: Destination,
 }
 
-// What is stored. `second` is stored where `replies`, `route` where `routed`.
+// What a reply row holds. A fifth of the row's size: the row itself is made where it is stored.
+pub struct ReplyFields {
+    pub instance: u8,
+    pub seq: u8,
+    pub endless: bool,
+    pub rank: u16,
+    pub dodagid: [u8; 16],
+    pub deadline: u64,
+}
+
+// What is stored. `second`, a reply row, is stored where `replies`, `route` where `routed`.
 pub struct Decided {
     pub row: InstanceRow,
     pub replies: bool,
-    pub second: InstanceRow,
+    pub second: ReplyFields,
     pub routed: bool,
     pub route: RouteRow,
     pub seq: u8,

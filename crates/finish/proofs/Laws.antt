@@ -7,12 +7,12 @@ use mathlib.Core.List.{List, [], _∷_, map}
 use mathlib.Core.Option.{Option, some, none}
 use native.Mathlib.Omega.{arith}
 use lib.Dec.{eqb}
-use lib.ListN.{length, getD, set, length-set}
+use lib.ListN.{length, getD, set}
 use borrow.Author.Tests.{ne-eqb, eq-eqb, eqb-true}
 use Rattle.lemmas.specs.Written.{over, Written}
 use Rattle.lemmas.proofs.Choice.{true-false, and-left, and-right}
 use Rattle.plain.specs.Address.{Address}
-use Rattle.plain.specs.Given.{Settings, Instance}
+use Rattle.plain.specs.Given.{Settings, ReplyRow, Instance}
 use Rattle.plain.specs.Table.{hasRoom, placed, instanceDeadline, routeDeadline}
 use Rattle.plain.specs.Request.{Accepted}
 use Rattle.plain.specs.Plain as plain
@@ -23,9 +23,10 @@ use Rattle.answer.specs.declared.Answer.{Answer}
 use Rattle.answer.specs.declared.Answer.the-variants.{Done, NoRow}
 use Rattle.row.specs.Meaning.{instanceOf, routeOf, requestOf, replyOf, routeIn, noRow, noRoute}
 use Rattle.row.specs.Record.{requestRecord, replyRecord, routeRecord}
+use Rattle.row.proofs.Laws.{reply-back}
 use Rattle.row.specs.declared.InstanceRow.{InstanceRow}
 use Rattle.row.specs.declared.RouteRow.{RouteRow}
-use Rattle.decision.specs.Decision.{postOctets, instanceMeant, recordOf}
+use Rattle.decision.specs.Decision.{postOctets, instanceMeant, recordOf, replyIn}
 use Rattle.decision.specs.declared.Decided.{Decided}
 use Rattle.decision.specs.declared.Post.{Post}
 use Rattle.place.specs.Places.{rowChange, hopChange, Placed, RoutePlaced}
@@ -43,16 +44,6 @@ module _ (r : InstanceRow) where
   unfolding replyRecord
   reply-kind e = sym (ap (λ (z : InstanceRow). z .kind) e)
 
-  pub reply-means : replyRecord (replyOf r) ≡ r → instanceOf r ≡ some (Instance.reply (replyOf r))
-  unfolding instanceOf
-  reply-means e = rw (reply-kind e)
-
-  pub reply-record : replyRecord (replyOf r) ≡ r → recordOf (instanceMeant r) ≡ r
-  unfolding instanceMeant recordOf
-  reply-record e =
-      let b : eqb (r .kind) 1 ≡ false = rw (reply-kind e) in
-      rw b e
-
   pub instance-means : recordOf (instanceMeant r) ≡ r → instanceOf r ≡ some (instanceMeant r)
   unfolding instanceMeant recordOf instanceOf
   instance-means e = go (eqb (r .kind) 1) refl
@@ -64,6 +55,14 @@ module _ (r : InstanceRow) where
       go false q =
           let f : replyRecord (replyOf r) ≡ r = rw q at e in
           rw (reply-kind f)
+
+-- the record that is written for a reply row is written again for what it means
+pub reply-record : (q : ReplyRow) → recordOf (instanceMeant (replyRecord q)) ≡ replyRecord q
+unfolding instanceMeant recordOf instanceOf replyRecord
+reply-record q =
+    let e : some (Instance.reply (replyOf (replyRecord q))) ≡ some (Instance.reply q) = reply-back q in
+    let f : replyOf (replyRecord q) ≡ q = cc in
+    rw f
 
 pub route-means : (r : RouteRow) → routeRecord (routeIn r) ≡ r → routeOf r ≡ some (routeIn r)
 unfolding routeOf routeRecord
@@ -82,7 +81,7 @@ set-or P (x ∷ l) (suc i) a d h zero = inl refl
 set-or P (x ∷ l) (suc i) a d h (suc k) = set-or P l i a d (λ q. h (omega arith)) k
 
 pub records-two : (rows : List InstanceRow) (i j : ℕ) (one two : InstanceRow) → recordOf (instanceMeant one) ≡ one
-    → (j < length rows → recordOf (instanceMeant two) ≡ two) → Records rows (set (set rows i one) j two)
+    → recordOf (instanceMeant two) ≡ two → Records rows (set (set rows i one) j two)
 records-two rows i j one two e f k =
     ⊎-elim
     (λ (q : getD (set (set rows i one) j two) k noRow ≡ getD (set rows i one) k noRow).
@@ -91,7 +90,7 @@ records-two rows i j one two e f k =
     inr (subst (λ (z : InstanceRow). recordOf (instanceMeant z) ≡ z) (sym q) p))
     (set-or (λ (z : InstanceRow). recordOf (instanceMeant z) ≡ z) rows i one noRow (λ _. e) k))
     (λ p. inr p)
-    (set-or (λ (z : InstanceRow). recordOf (instanceMeant z) ≡ z) (set rows i one) j two noRow (λ h. f (omega (arith, length-set rows i one))) k)
+    (set-or (λ (z : InstanceRow). recordOf (instanceMeant z) ≡ z) (set rows i one) j two noRow (λ _. f) k)
 
 pub records-route : (routes : List RouteRow) (i : ℕ) (r : RouteRow) → (i < length routes → routeRecord (routeIn r) ≡ r)
     → RouteRecords routes (set routes i r)
@@ -140,7 +139,7 @@ module _ (clock seq t : ℕ) (rows : List InstanceRow) (routes : List RouteRow) 
         rw (
           ← w .instances,
           ← w .routes,
-          ← pp .room (instanceMeant (d .row)) (replyOf (d .second)),
+          ← pp .room (instanceMeant (d .row)) (replyIn (d .second)),
           ← qq .room (routeIn (d .route)),
         )
 
@@ -154,10 +153,6 @@ module _ (clock seq t : ℕ) (rows : List InstanceRow) (routes : List RouteRow) 
         → Gives (enact t (stateOf clock seq rows routes) (plain.Decision.take acc)) rows rows routes routes forward forward reply reply r
     full-gives b r e g f = rw (taken-is, sym e ∙ g) (refusal-gives 17 NoRow r refl f)
 
-    second-record : (b : Bool) → d .replies ≡ b → p .second < length rows → recordOf (instanceMeant (d .second)) ≡ d .second
-    second-record true g h = reply-record (d .second) (w .second g)
-    second-record false g h = absurd (omega (arith, pp .second g))
-
     route-record : (b : Bool) → d .routed ≡ b → q .hop < length routes → routeRecord (routeIn (d .route)) ≡ d .route
     route-record true g h = w .route g
     route-record false g h = absurd (omega (arith, qq .unrouted g))
@@ -165,7 +160,7 @@ module _ (clock seq t : ℕ) (rows : List InstanceRow) (routes : List RouteRow) 
     -- `own`, `to` and `from` are what the outcome says of the own number and of both destinations
     module _ (rows' : List InstanceRow) (routes' : List RouteRow) (forward' reply' : List ℕ) (n m own : ℕ) (to from : Destination) where
       pub done-gives : (b : Bool) (r : Outcome) → b ≡ p .ok && q .ok → b ≡ true
-          → rows' ≡ set (set rows (p .first) (d .row)) (p .second) (d .second) → routes' ≡ set routes (q .hop) (d .route)
+          → rows' ≡ set (set rows (p .first) (d .row)) (p .second) (replyRecord (replyIn (d .second))) → routes' ≡ set routes (q .hop) (d .route)
           → Written (postOctets x there vector) forward forward' n → Written (postOctets x back vector) reply reply' m
           → own ≡ d .seq → to ≡ there .to → from ≡ back .to
           → r ≡ record { answer = Done; forward = record { size = n; to = to }; reply = record { size = m; to = from }; clock = t; seq = own }
@@ -180,8 +175,8 @@ module _ (clock seq t : ℕ) (rows : List InstanceRow) (routes : List RouteRow) 
               clock = t;
               own = (eo ∙ w .own) i;
               instances = (
-                  pp .stored po (d .row) (d .second) (instanceMeant (d .row)) (replyOf (d .second)) (instance-means (d .row) (w .row))
-                  (λ z. reply-means (d .second) (w .second z))
+                  pp .stored po (d .row) (replyRecord (replyIn (d .second))) (instanceMeant (d .row)) (replyIn (d .second)) (instance-means (d .row) (w .row))
+                  (λ z. reply-back (replyIn (d .second)))
                   ∙ ap (λ z. placed instanceDeadline t z (map instanceOf rows)) (w .instances)
                   ) i;
               routes = (
@@ -195,7 +190,7 @@ module _ (clock seq t : ℕ) (rows : List InstanceRow) (routes : List RouteRow) 
             replyTo = ap destinationOf ef ∙ w .reply .goes;
             forwardOctets = u .holds ∙ ap (λ z. over z forward) (w .forward .sends);
             replyOctets = v .holds ∙ ap (λ z. over z reply) (w .reply .sends);
-            instances = records-two rows (p .first) (p .second) (d .row) (d .second) (w .row) (second-record (d .replies) refl);
+            instances = records-two rows (p .first) (p .second) (d .row) (replyRecord (replyIn (d .second))) (w .row) (reply-record (replyIn (d .second)));
             hops = records-route routes (q .hop) (d .route) (route-record (d .routed) refl);
             kept = λ z. absurd (z refl);
           })

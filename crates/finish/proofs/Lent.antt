@@ -1,2 +1,3 @@
 pub mod finish
+pub mod put_second
 pub mod store

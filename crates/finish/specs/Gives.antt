@@ -13,11 +13,11 @@ use Rattle.plain.specs.Request.{Accepted}
 use Rattle.plain.specs.Plain as plain
 use Rattle.answer.specs.Answer.{answerNumber, destinationOf}
 use Rattle.answer.specs.declared.Way.the-variants.{Nowhere}
-use Rattle.row.specs.Meaning.{instanceOf, routeOf, replyOf, routeIn, noRow, noRoute}
-use Rattle.row.specs.Record.{replyRecord, routeRecord}
+use Rattle.row.specs.Meaning.{instanceOf, routeOf, routeIn, noRow, noRoute}
+use Rattle.row.specs.Record.{routeRecord}
 use Rattle.row.specs.declared.InstanceRow.{InstanceRow}
 use Rattle.row.specs.declared.RouteRow.{RouteRow}
-use Rattle.decision.specs.Decision.{Fits, Posts, instanceMeant, recordOf}
+use Rattle.decision.specs.Decision.{Fits, Posts, instanceMeant, recordOf, replyIn}
 use Rattle.decision.specs.declared.Post.{Post}
 use Rattle.decision.specs.declared.Decided.{Decided}
 use Rattle.place.specs.Places.{HasRow, HasRoute, rowChange, hopChange}
@@ -77,8 +77,7 @@ pub record Settled (x : Settings) (vector : List Address) (acc : Accepted) (l : 
   pub forward : Posts x vector (acc .sent .forward) (acc .sent .forwardTo) there
   pub reply : Posts x vector (acc .sent .reply) (acc .sent .replyTo) back
   pub own : d .seq ≡ acc .own
-  pub instances : rowChange (l .is) (l .at) (instanceMeant (d .row)) (d .replies) (replyOf (d .second)) ≡ acc .instances
+  pub instances : rowChange (l .is) (l .at) (instanceMeant (d .row)) (d .replies) (replyIn (d .second)) ≡ acc .instances
   pub routes : hopChange (d .routed) (l .routed) (l .hop) (routeIn (d .route)) ≡ acc .routes
   pub row : recordOf (instanceMeant (d .row)) ≡ d .row
-  pub second : d .replies ≡ true → replyRecord (replyOf (d .second)) ≡ d .second
   pub route : d .routed ≡ true → routeRecord (routeIn (d .route)) ≡ d .route

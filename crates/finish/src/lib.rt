@@ -3,6 +3,8 @@ ghost use mathlib.Core.Path.{_≡_};
 ghost use mathlib.Core.Bool.{_&&_};
 ghost use lib.ListN.{set};
 ghost use Rattle.plain.specs.Request.{Accepted};
+ghost use Rattle.row.specs.Record.{replyRecord};
+ghost use Rattle.decision.specs.Decision.{replyIn};
 ghost use Rattle.own.specs.Settings.{settingsOf};
 ghost use Rattle.finish.specs.Gives.{nothingSent, stateOf, Ready, Settled, Gives};
 ghost use Rattle.plain.specs.Plain.{enact};
@@ -99,11 +101,13 @@ fn row_of(d: Decided) -> InstanceRow
     r
 }
 
+// The record of the reply row.
 fn second_of(d: Decided) -> InstanceRow
-    ensures { λ r. ⌜ r ≡ d .second ⌝ }
+    ensures { λ r. ⌜ r ≡ replyRecord (replyIn (d .second)) ⌝ }
 {
-    let r = d.second;
-    r
+    let f = d.second;
+    let dodagid = f.dodagid;
+    row::reply_row(f.instance, dodagid, f.seq, f.rank, f.endless, f.deadline)
 }
 
 fn route_of(d: Decided) -> RouteRow
@@ -150,13 +154,23 @@ fn has_room(p: Places, q: RoutePlace) -> bool
 
 // ---- over the lent tables
 
+// Past the end there is no reply row, and none is made: most calls store none.
+fn put_second(rows: &mut [InstanceRow], at: usize, d: &Decided)
+    ensures { λ _. ⌜ now (rows .exit) ≡ set (now (rows .entry)) at (replyRecord (replyIn (now (d .entry) .second))) ⌝ }
+{
+    if at < rows.len() {
+        rows[at] = second_of(*d);
+        return;
+    }
+}
+
 // The records at their places; a place past a table's end is none.
 fn store(instances: &mut [InstanceRow], routes: &mut [RouteRow], p: Places, hop: usize, d: &Decided)
-    ensures instances { λ _. ⌜ now (instances .exit) ≡ set (set (now (instances .entry)) (p .first) (now (d .entry) .row)) (p .second) (now (d .entry) .second) ⌝ }
+    ensures instances { λ _. ⌜ now (instances .exit) ≡ set (set (now (instances .entry)) (p .first) (now (d .entry) .row)) (p .second) (replyRecord (replyIn (now (d .entry) .second))) ⌝ }
     ensures routes { λ _. ⌜ now (routes .exit) ≡ set (now (routes .entry)) hop (now (d .entry) .route) ⌝ }
 {
     table::put_row(instances, p.first, row_of(*d));
-    table::put_row(instances, p.second, second_of(*d));
+    put_second(instances, p.second, d);
     table::put_route(routes, hop, route_of(*d));
 }
 

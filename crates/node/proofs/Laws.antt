@@ -21,7 +21,7 @@ use Rattle.plain.specs.Reply.{Answered, partnerOf, answeredWith, answered, repl
 use Rattle.plain.specs.Plain.{Decision, enact, linesWith, acceptWith, idle}
 use Rattle.plain.specs.declared.Target.{Target}
 use Rattle.answer.specs.Answer.{answerNumber}
-use Rattle.row.specs.Meaning.{instanceOf, routeOf, requestOf, replyOf, routeIn, targetsOf, blankTarget, noRow, noRoute}
+use Rattle.row.specs.Meaning.{instanceOf, routeOf, requestOf, routeIn, targetsOf, blankTarget, noRow, noRoute}
 use Rattle.good.specs.Good.{goodIf}
 use Rattle.row.specs.declared.InstanceRow.{InstanceRow}
 use Rattle.row.specs.declared.RouteRow.{RouteRow}
@@ -33,7 +33,7 @@ use Rattle.message.specs.declared.Link.{Link}
 use Rattle.message.specs.declared.Found.{Found}
 use Rattle.message.specs.declared.FoundRoute.{FoundRoute}
 use Rattle.message.specs.declared.FreeDelta.{FreeDelta}
-use Rattle.decision.specs.Decision.{Fits, Posts, Stores, instanceMeant, instancesBy, routesBy}
+use Rattle.decision.specs.Decision.{Fits, Posts, Stores, instanceMeant, instancesBy, replyIn, routesBy}
 use Rattle.decision.specs.declared.Decided.{Decided}
 use Rattle.decision.specs.declared.Post.{Post}
 use Rattle.search.specs.Seen.{requestSeen, replySeen, routeSeen, partnerSeen, deltaSeen, LiveRow, LiveRoute}
@@ -164,10 +164,9 @@ module _ {B : Type 0} (f : Found) (b : B) (g : FoundRoute) (l : Live) (el : l �
         reply = pr;
         own = w .own;
         instances =
-            sym (ap (λ (q : Change Instance). withReplyRow q (d .replies) (replyOf (d .second))) (put-number (f .is) (f .at) b (instanceMeant (d .row)))) ∙ w .instances;
+            sym (ap (λ (q : Change Instance). withReplyRow q (d .replies) (replyIn (d .second))) (put-number (f .is) (f .at) b (instanceMeant (d .row)))) ∙ w .instances;
         routes = sym (hop-number (d .routed) (g .is) (g .at) (routeIn (g .route)) (routeIn (d .route))) ∙ w .routes;
         row = w .row;
-        second = w .second;
         route = w .route;
       })
 

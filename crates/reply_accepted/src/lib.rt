@@ -193,7 +193,7 @@ pub fn accepted(seq: u8, t: u64, k: Link, p: Parsed, w: ReplyFacts) -> Decided
 {
     let row = reply_row(t, p, w);
     let route = route(t, k, p);
-    let none = row::no_row();
+    let none = rule::no_reply();
     Decided {
         row,
         replies: false,

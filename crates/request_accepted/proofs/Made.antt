@@ -13,11 +13,12 @@ use Rattle.plain.specs.declared.Standing.{Standing}
 use Rattle.deadline.specs.Deadline.{deadlineOf}
 use Rattle.deadline.specs.declared.Deadline.{Deadline}
 use Rattle.row.specs.Meaning as meaning
-use Rattle.row.specs.Record.{requestRecord, replyRecord}
+use Rattle.row.specs.Record.{requestRecord}
 use Rattle.message.specs.Message.{configurationIn, messageIn, receivedBy, requestFound}
 use Rattle.message.specs.declared.Parsed.{Parsed}
 use Rattle.message.specs.declared.Link.{Link}
 use Rattle.message.specs.declared.Found.{Found}
+use Rattle.decision.specs.Decision.{replyIn}
 use Rattle.rule.proofs.Laws.{deadline-kept}
 use Rattle.request.specs.Facts.{askedOf}
 use Rattle.request.specs.declared.RequestFacts.{RequestFacts}
@@ -69,13 +70,14 @@ pub reply-is : (x : Settings) (t own : ℕ) (p : Parsed) (delta instance rank : 
     → instance ≡ plusDelta (p .base .instance) delta
     → rank ≡ minHop (configurationIn (p .configured) (p .configuration))
     → deadlineOf end ≡ rowDeadline t (p .discovery .l)
-    → replyRecord (record {
+    → replyIn (record {
       instance = instance;
-      dodagid = x .receiving;
       seq = own;
+      endless = end .endless;
       rank = rank;
-      deadline = cond (end .endless) none (some (end .at));
+      dodagid = x .receiving;
+      deadline = end .at;
     })
-    ≡ replyRecord (ownReplyRow x t own (messageIn p []) delta)
-unfolding deadlineOf ownReplyRow messageIn
+    ≡ ownReplyRow x t own (messageIn p []) delta
+unfolding replyIn deadlineOf ownReplyRow messageIn
 reply-is x t own p delta instance rank end ei er ed = rw (ei, er, ed)

@@ -3,6 +3,7 @@ use answer::Destination;
 use deadline::Deadline;
 use decision::Decided;
 use decision::Post;
+use decision::ReplyFields;
 use decision::What;
 use message::FreeDelta;
 use message::Link;
@@ -23,11 +24,11 @@ ghost use Rattle.plain.specs.Address.{Address};
 ghost use Rattle.plain.specs.Given as rules;
 ghost use Rattle.plain.specs.Request.{forwards, sOut, keptDeadline, requestRow, ownReplyRow, routeRow, withRank, withFlag, replyMessage, replyDestination, deltaOr0, acceptRequest};
 ghost use Rattle.answer.specs.Answer.{destinationOf};
-ghost use Rattle.row.specs.Record.{requestRecord, replyRecord, routeRecord};
+ghost use Rattle.row.specs.Record.{requestRecord, routeRecord};
 ghost use Rattle.deadline.specs.Deadline.{deadlineOf};
 ghost use Rattle.own.specs.Settings.{settingsOf};
 ghost use Rattle.message.specs.Message.{configurationIn, messageIn, receivedBy, requestFound, routeFound, deltaFound};
-ghost use Rattle.decision.specs.Decision.{Posts, Stores};
+ghost use Rattle.decision.specs.Decision.{replyIn, Posts, Stores};
 ghost use Rattle.rule.specs.Heard.{Heard};
 ghost use Rattle.request.specs.Facts.{askedOf, Sendable};
 ghost use Rattle.request.specs.Room.{Roomy};
@@ -94,32 +95,23 @@ fn delta_or_0(d: FreeDelta) -> u8
     if d.is { d.delta } else { 0 }
 }
 
-// The row of our own reply, with our stepped number.
-fn reply_row(o: Own, t: u64, seq: u8, p: Parsed, delta: u8) -> InstanceRow
+// What the row of our own reply holds, with our stepped number.
+fn reply_fields(o: Own, t: u64, seq: u8, p: Parsed, delta: u8) -> ReplyFields
     requires { ⌜ t ≤ 2 ^ 40 ⌝ }
-    ensures { λ r. ⌜ r ≡ replyRecord (ownReplyRow (settingsOf o) t seq (messageIn p []) delta) ⌝ }
+    ensures { λ r. ⌜ replyIn r ≡ ownReplyRow (settingsOf o) t seq (messageIn p []) delta ⌝ }
 {
     let receiving = o.receiving;
+    let instance = sequence::plus_delta(p.base.instance, delta);
+    let rank = rule::step_of(p);
     let end = deadline::of_l(t, p.discovery.l);
-    row::reply_row(
-        sequence::plus_delta(p.base.instance, delta),
-        receiving,
+    ReplyFields {
+        instance,
         seq,
-        rule::step_of(p),
-        end.endless,
-        end.at,
-    )
-}
-
-// The row behind the request row: where we do not reply there is none to store.
-fn second_row(replies: bool, o: Own, t: u64, seq: u8, p: Parsed, delta: u8) -> InstanceRow
-    requires { ⌜ t ≤ 2 ^ 40 ⌝ }
-    ensures { λ r. ⌜ (replies ≡ true → r ≡ replyRecord (ownReplyRow (settingsOf o) t seq (messageIn p []) delta)) ⌝ }
-{
-    if replies {
-        return reply_row(o, t, seq, p, delta);
+        endless: end.endless,
+        rank,
+        dodagid: receiving,
+        deadline: end.at,
     }
-    row::no_row()
 }
 
 // The route, with H 1.
@@ -316,7 +308,7 @@ pub fn accepted(o: Own, seq: u8, t: u64, k: Link, p: Parsed, a: RequestFacts) ->
     let delta = delta_or_0(free);
     let replies = request::replies_now(a);
     let row = request_row(t, k, p, a);
-    let second = second_row(replies, o, t, next, p, delta);
+    let second = reply_fields(o, t, next, p, delta);
     let route = route_to(o, t, k, p);
     Decided {
         row,

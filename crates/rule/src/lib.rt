@@ -3,6 +3,7 @@
 use answer::Destination;
 use answer::Way;
 use decision::Post;
+use decision::ReplyFields;
 use decision::What;
 use message::FoundRoute;
 use message::Parsed;
@@ -24,7 +25,7 @@ ghost use Rattle.plain.specs.Request.{isStale, isNothingNew, isUpdate, routeSta
 ghost use Rattle.answer.specs.Answer.{destinationOf};
 ghost use Rattle.row.specs.Record.{routeRecord};
 ghost use Rattle.message.specs.Message.{configurationIn, routeFound};
-ghost use Rattle.decision.specs.Blank.{noPost};
+ghost use Rattle.decision.specs.Blank.{noPost, noReply};
 ghost use Rattle.own.specs.Settings.{settingsOf, Whole};
 
 // ---- how a message stands
@@ -195,5 +196,19 @@ pub fn no_post() -> Post
             way: Way::Nowhere,
             neighbour: zero,
         },
+    }
+}
+
+// No reply row is stored.
+pub fn no_reply() -> ReplyFields
+    ensures { λ r. ⌜ r ≡ noReply ⌝ }
+{
+    ReplyFields {
+        instance: 0,
+        seq: 0,
+        endless: false,
+        rank: 0,
+        dodagid: [0u8; 16],
+        deadline: 0,
     }
 }

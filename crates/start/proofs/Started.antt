@@ -96,6 +96,5 @@ stored-is x own next t s ts r en er ep ed eq targets = record {
   instances = rw (er, ep, request-meant (startRow x t next (startOf s []) (listOf ts)), en);
   routes = rw ed;
   row = rw er (request-again (startRow x t next (startOf s []) (listOf ts)));
-  second = λ w. true-false (sym w ∙ ep);
   route = λ w. true-false (sym w ∙ ed);
 }

@@ -138,7 +138,7 @@ pub fn accepted(o: Own, seq: u8, t: u64, s: Asking, ts: Targets) -> Decided
 {
     let next = sequence::step(seq);
     let row = start_row(o, next, t, s, ts);
-    let none = row::no_row();
+    let none = rule::no_reply();
     let route = row::no_route();
     Decided {
         row,

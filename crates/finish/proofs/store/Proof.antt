@@ -13,11 +13,8 @@ row-of-requires c = search needs
 put-row-requires : tie.Need-put-row-requires
 put-row-requires c = search needs
 
-second-of-requires : tie.Need-second-of-requires
-second-of-requires c = search needs
-
-put-row-requires-2 : tie.Need-put-row-requires-2
-put-row-requires-2 c = search needs
+put-second-requires : tie.Need-put-second-requires
+put-second-requires c = search needs
 
 route-of-requires : tie.Need-route-of-requires
 route-of-requires c = search needs
@@ -33,11 +30,11 @@ same-length-2 c = search needs
 
 returns : tie.Need-returns
 returns c =
-    let first = c .before .before .before .before .before .before .before .before .before .before .before .put-row in
-    let second = c .before .before .before .before .before .before .put-row2 in (
-      second .ensures ∙ rw (first .ensures, c .before .before .before .before .before .before .before .before .before .before .before .before .row-of .ensures, c .before .before .before .before .before .before .before .second-of .ensures),
+    let first = c .before .before .before .before .before .before .before .before .before .put-row in
+    let second = c .before .before .before .before .before .before .put-second in (
+      second .ensures ∙ rw (first .ensures, c .before .before .before .before .before .before .before .before .before .before .row-of .ensures),
       c .before .put-route .ensures ∙ rw (c .before .before .route-of .ensures),
     )
 
 pub store-spec : {M : Type 1} → statement M
-store-spec = tie.close (tie.spec row-of-requires put-row-requires second-of-requires put-row-requires-2 route-of-requires put-route-requires same-length same-length-2 returns)
+store-spec = tie.close (tie.spec row-of-requires put-row-requires put-second-requires route-of-requires put-route-requires same-length same-length-2 returns)

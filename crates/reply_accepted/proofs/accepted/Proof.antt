@@ -12,8 +12,8 @@ reply-row-requires c κs = search needs
 route-requires : tie.Need-route-requires
 route-requires c κs = search needs
 
-no-row-requires : tie.Need-no-row-requires
-no-row-requires c κs = search needs
+no-reply-requires : tie.Need-no-reply-requires
+no-reply-requires c κs = search needs
 
 returns : tie.Need-returns
 unfolding answeredOf messageIn
@@ -24,4 +24,4 @@ returns c =
     (c .before .route .ensures v)
 
 pub accepted-spec : {M : Type 1} → statement M
-accepted-spec = tie.close (tie.spec reply-row-requires route-requires no-row-requires returns)
+accepted-spec = tie.close (tie.spec reply-row-requires route-requires no-reply-requires returns)

@@ -17,8 +17,8 @@ replies-now-requires c κs = search needs
 request-row-requires : tie.Need-request-row-requires
 request-row-requires c κs = search needs
 
-second-row-requires : tie.Need-second-row-requires
-second-row-requires c κs = search needs
+reply-fields-requires : tie.Need-reply-fields-requires
+reply-fields-requires c κs = search needs
 
 route-to-requires : tie.Need-route-to-requires
 route-to-requires c κs = search needs
@@ -33,7 +33,7 @@ returns c =
     accepted-is (settingsOf (s .o)) (s .seq) (s .t) (s .k) (s .p) (s .a) _ (c .before .before .before .before .before .before .step .result)
     (c .before .before .before .before .before .delta-or-0 .result) (c .before .before .before .before .before .before .step .ensures)
     (c .before .before .before .before .before .delta-or-0 .ensures) (c .before .before .before .request-row .ensures)
-    (c .before .before .before .before .replies-now .ensures) (c .before .before .second-row .ensures) refl (c .before .route-to .ensures)
+    (c .before .before .before .before .replies-now .ensures) (c .before .before .reply-fields .ensures) refl (c .before .route-to .ensures)
     (c .seq-after .ensures) v
 
 pub accepted-spec : {M : Type 1} → statement M
@@ -44,7 +44,7 @@ accepted-spec =
     delta-or-0-requires
     replies-now-requires
     request-row-requires
-    second-row-requires
+    reply-fields-requires
     route-to-requires
     seq-after-requires
     returns)

@@ -11,8 +11,8 @@ step-requires c κs = search needs
 start-row-requires : tie.Need-start-row-requires
 start-row-requires c κs = search needs
 
-no-row-requires : tie.Need-no-row-requires
-no-row-requires c κs = search needs
+no-reply-requires : tie.Need-no-reply-requires
+no-reply-requires c κs = search needs
 
 no-route-requires : tie.Need-no-route-requires
 no-route-requires c κs = search needs
@@ -27,4 +27,4 @@ returns c =
 
 pub accepted-spec : {M : Type 1} → statement M
 accepted-spec =
-    tie.close (tie.spec step-requires start-row-requires no-row-requires no-route-requires returns)
+    tie.close (tie.spec step-requires start-row-requires no-reply-requires no-route-requires returns)

@@ -141,11 +141,18 @@ ps·1 =
 abbrev pub r·1 : Kinds.RK 1
 r·1 = Unit'.rUnit
 
-abbrev pub ps·2 : List.List (Kinds.PK 0)
-ps·2 = List._∷_ (KDecided.pk) List.[]
+abbrev pub ps·2 : List.List (Kinds.PK 2)
+ps·2 =
+    List._∷_
+    (MutSlice.pMutS (KInstanceRow.R) 0 tt)
+    (List._∷_
+    (Num.pNum Syntax.w64)
+    (List._∷_
+    (ShrRef.pShr (KDecided.R) 1 tt)
+    List.[]))
 
-abbrev pub r·2 : Kinds.RK 0
-r·2 = KInstanceRow.rk
+abbrev pub r·2 : Kinds.RK 2
+r·2 = Unit'.rUnit
 
 abbrev pub ps·3 : List.List (Kinds.PK 0)
 ps·3 = List._∷_ (KDecided.pk) List.[]
@@ -266,34 +273,17 @@ b6 =
 
 abbrev b7 : Syntax.Body
 b7 =
-    Syntax.assign
-    (Syntax.place 10 List.[])
-    (Syntax.rvOpd
-    (Syntax.copy
-    (Syntax.place
-    5
-    (List._∷_ (Syntax.deref (KDecided.spelled)) List.[]))))
-
-abbrev b8 : Syntax.Body
-b8 =
     Syntax.call
-    "finish::second_of"
-    (List._∷_ (Syntax.copy (Syntax.place 10 List.[])) List.[])
-    (Syntax.place 9 List.[])
-
-abbrev b9 : Syntax.Body
-b9 =
-    Syntax.call
-    "table::put_row"
+    "finish::put_second"
     (List._∷_
     (Syntax.copy (Syntax.place 12 List.[]))
     (List._∷_
     (Syntax.copy (Syntax.place 3 (List._∷_ (Syntax.field 2) List.[])))
-    (List._∷_ (Syntax.copy (Syntax.place 9 List.[])) List.[])))
+    (List._∷_ (Syntax.copy (Syntax.place 5 List.[])) List.[])))
     (Syntax.place 6 List.[])
 
-abbrev b10 : Syntax.Body
-b10 =
+abbrev b8 : Syntax.Body
+b8 =
     Syntax.assign
     (Syntax.place 13 List.[])
     (Syntax.addrOf
@@ -303,8 +293,8 @@ b10 =
     (Syntax.field 0)
     (List._∷_ (Syntax.deref (KRouteRow.spelled)) List.[]))))
 
-abbrev b11 : Syntax.Body
-b11 =
+abbrev b9 : Syntax.Body
+b9 =
     Syntax.assign
     (Syntax.place 14 List.[])
     (Syntax.aggregate
@@ -312,8 +302,8 @@ b11 =
     (Syntax.copy (Syntax.place 13 List.[]))
     (List._∷_ (Syntax.copy (Syntax.place 2 (List._∷_ (Syntax.field 1) List.[]))) List.[])))
 
-abbrev b12 : Syntax.Body
-b12 =
+abbrev b10 : Syntax.Body
+b10 =
     Syntax.assign
     (Syntax.place 10 List.[])
     (Syntax.rvOpd
@@ -322,15 +312,15 @@ b12 =
     5
     (List._∷_ (Syntax.deref (KDecided.spelled)) List.[]))))
 
-abbrev b13 : Syntax.Body
-b13 =
+abbrev b11 : Syntax.Body
+b11 =
     Syntax.call
     "finish::route_of"
     (List._∷_ (Syntax.copy (Syntax.place 10 List.[])) List.[])
     (Syntax.place 15 List.[])
 
-abbrev b14 : Syntax.Body
-b14 =
+abbrev b12 : Syntax.Body
+b12 =
     Syntax.call
     "table::put_route"
     (List._∷_
@@ -340,62 +330,56 @@ b14 =
     (List._∷_ (Syntax.copy (Syntax.place 15 List.[])) List.[])))
     (Syntax.place 6 List.[])
 
+abbrev b13 : Syntax.Body
+b13 = Syntax.assign (Syntax.place 0 List.[]) (Syntax.rvOpd Syntax.opdUnit)
+
+abbrev b14 : Syntax.Body
+b14 = Syntax.return
+
 abbrev b15 : Syntax.Body
-b15 = Syntax.assign (Syntax.place 0 List.[]) (Syntax.rvOpd Syntax.opdUnit)
+b15 = Syntax.seq b13 b14
 
 abbrev b16 : Syntax.Body
-b16 = Syntax.return
+b16 = Syntax.seq b12 b15
 
 abbrev b17 : Syntax.Body
-b17 = Syntax.seq b15 b16
+b17 = Syntax.seq b11 b16
 
 abbrev b18 : Syntax.Body
-b18 = Syntax.seq b14 b17
+b18 = Syntax.seq b10 b17
 
 abbrev b19 : Syntax.Body
-b19 = Syntax.seq b13 b18
+b19 = Syntax.seq b9 b18
 
 abbrev b20 : Syntax.Body
-b20 = Syntax.seq b12 b19
+b20 = Syntax.seq b8 b19
 
 abbrev b21 : Syntax.Body
-b21 = Syntax.seq b11 b20
+b21 = Syntax.seq b7 b20
 
 abbrev b22 : Syntax.Body
-b22 = Syntax.seq b10 b21
+b22 = Syntax.seq b6 b21
 
 abbrev b23 : Syntax.Body
-b23 = Syntax.seq b9 b22
+b23 = Syntax.seq b5 b22
 
 abbrev b24 : Syntax.Body
-b24 = Syntax.seq b8 b23
+b24 = Syntax.seq b4 b23
 
 abbrev b25 : Syntax.Body
-b25 = Syntax.seq b7 b24
+b25 = Syntax.seq b3 b24
 
 abbrev b26 : Syntax.Body
-b26 = Syntax.seq b6 b25
+b26 = Syntax.seq b2 b25
 
 abbrev b27 : Syntax.Body
-b27 = Syntax.seq b5 b26
+b27 = Syntax.seq b1 b26
 
 abbrev b28 : Syntax.Body
-b28 = Syntax.seq b4 b27
-
-abbrev b29 : Syntax.Body
-b29 = Syntax.seq b3 b28
-
-abbrev b30 : Syntax.Body
-b30 = Syntax.seq b2 b29
-
-abbrev b31 : Syntax.Body
-b31 = Syntax.seq b1 b30
-
-abbrev b32 : Syntax.Body
-b32 = Syntax.seq b0 b31
+b28 = Syntax.seq b0 b27
 
 abbrev pub body : Syntax.Body
-body = b32
+body = b28
 
 abbrev pub Claims : Type 1
 Claims =
@@ -403,8 +387,8 @@ Claims =
     Kinds.Out 0 ps·0 r·0 ×
     Kinds.In 1 ps·1 ×
     Kinds.Out 1 ps·1 r·1 ×
-    Kinds.In 0 ps·2 ×
-    Kinds.Out 0 ps·2 r·2 ×
+    Kinds.In 2 ps·2 ×
+    Kinds.Out 2 ps·2 r·2 ×
     Kinds.In 0 ps·3 ×
     Kinds.Out 0 ps·3 r·3 ×
     Kinds.In 1 ps·4 ×
@@ -1254,7 +1238,7 @@ t12 = List._∷_ (0, Rows'.any-gone Syntax.tyUnit) (List._∷_ (
       (KDecided.R)
       (Syntax.tyRef (Syntax.named 2) Syntax.imm (KDecided.named))
       2,
-) (List._∷_ (6, Rows'.any-gone Syntax.tyUnit) (List._∷_ (
+) (List._∷_ (6, Rows'.sc-here Row.sUnit) (List._∷_ (
   7,
   Rows'.any-gone
       (Syntax.tyRef Syntax.erased Syntax.mut (KInstanceRow.named)),
@@ -1268,17 +1252,16 @@ t12 = List._∷_ (0, Rows'.any-gone Syntax.tyUnit) (List._∷_ (
       (Syntax.tcons (Syntax.tyInt Syntax.w64) Syntax.tnil))),
 ) (List._∷_ (9, Rows'.any-gone (KInstanceRow.spelled)) (List._∷_ (
   10,
-  KDecided.row,
+  Rows'.any-gone (KDecided.spelled),
 ) (List._∷_ (
   11,
   Rows'.any-gone
       (Syntax.tyRef Syntax.erased Syntax.mut (KInstanceRow.named)),
 ) (List._∷_ (
   12,
-  Mut.mslice
+  Mut.msleft
       (KInstanceRow.R)
-      (Syntax.tyRef Syntax.erased Syntax.mut (KInstanceRow.named))
-      4,
+      (Syntax.tyRef Syntax.erased Syntax.mut (KInstanceRow.named)),
 ) (List._∷_ (
   13,
   Rows'.any-gone
@@ -1311,16 +1294,39 @@ t13 = List._∷_ (0, Rows'.any-gone Syntax.tyUnit) (List._∷_ (
       (KRouteRow.R)
       (Syntax.tyRef (Syntax.named 1) Syntax.mut (KRouteRow.named))
       1,
-) (List._∷_ (3, Rows'.whole (Declared.row Places.the-type)) (List._∷_ (
-  4,
-  Rows'.sc-here (Row.sInt Syntax.w64),
 ) (List._∷_ (
+  3,
+  Rows'.any-gone
+      (Syntax.tyStruct
+      (List._∷_
+      112
+      (List._∷_
+      108
+      (List._∷_
+      97
+      (List._∷_
+      99
+      (List._∷_
+      101
+      (List._∷_
+      58
+      (List._∷_
+      58
+      (List._∷_
+      80
+      (List._∷_ 108 (List._∷_ 97 (List._∷_ 99 (List._∷_ 101 (List._∷_ 115 List.[])))))))))))))
+      (Syntax.tcons
+      Syntax.tyBool
+      (Syntax.tcons
+      (Syntax.tyInt Syntax.w64)
+      (Syntax.tcons (Syntax.tyInt Syntax.w64) Syntax.tnil)))),
+) (List._∷_ (4, Rows'.sc-here (Row.sInt Syntax.w64)) (List._∷_ (
   5,
   Rows'.sref
       (KDecided.R)
       (Syntax.tyRef (Syntax.named 2) Syntax.imm (KDecided.named))
       2,
-) (List._∷_ (6, Rows'.any-gone Syntax.tyUnit) (List._∷_ (
+) (List._∷_ (6, Rows'.sc-here Row.sUnit) (List._∷_ (
   7,
   Rows'.any-gone
       (Syntax.tyRef Syntax.erased Syntax.mut (KInstanceRow.named)),
@@ -1332,19 +1338,18 @@ t13 = List._∷_ (0, Rows'.any-gone Syntax.tyUnit) (List._∷_ (
       (Syntax.tcons
       (Syntax.tyRef Syntax.erased Syntax.mut (KInstanceRow.named))
       (Syntax.tcons (Syntax.tyInt Syntax.w64) Syntax.tnil))),
-) (List._∷_ (9, KInstanceRow.row) (List._∷_ (
+) (List._∷_ (9, Rows'.any-gone (KInstanceRow.spelled)) (List._∷_ (
   10,
-  KDecided.row,
+  Rows'.any-gone (KDecided.spelled),
 ) (List._∷_ (
   11,
   Rows'.any-gone
       (Syntax.tyRef Syntax.erased Syntax.mut (KInstanceRow.named)),
 ) (List._∷_ (
   12,
-  Mut.mslice
+  Mut.msleft
       (KInstanceRow.R)
-      (Syntax.tyRef Syntax.erased Syntax.mut (KInstanceRow.named))
-      4,
+      (Syntax.tyRef Syntax.erased Syntax.mut (KInstanceRow.named)),
 ) (List._∷_ (
   13,
   Rows'.any-gone
@@ -1364,313 +1369,6 @@ t13 = List._∷_ (0, Rows'.any-gone Syntax.tyUnit) (List._∷_ (
 
 abbrev pub t14 : List.List Row.Entry
 t14 = List._∷_ (0, Rows'.any-gone Syntax.tyUnit) (List._∷_ (
-  1,
-  Relend.mslice-owed
-      (KInstanceRow.R)
-      (Syntax.tyRef (Syntax.named 0) Syntax.mut (KInstanceRow.named))
-      0
-      4
-      Row.off,
-) (List._∷_ (
-  2,
-  Mut.mslice
-      (KRouteRow.R)
-      (Syntax.tyRef (Syntax.named 1) Syntax.mut (KRouteRow.named))
-      1,
-) (List._∷_ (3, Rows'.whole (Declared.row Places.the-type)) (List._∷_ (
-  4,
-  Rows'.sc-here (Row.sInt Syntax.w64),
-) (List._∷_ (
-  5,
-  Rows'.sref
-      (KDecided.R)
-      (Syntax.tyRef (Syntax.named 2) Syntax.imm (KDecided.named))
-      2,
-) (List._∷_ (6, Rows'.any-gone Syntax.tyUnit) (List._∷_ (
-  7,
-  Rows'.any-gone
-      (Syntax.tyRef Syntax.erased Syntax.mut (KInstanceRow.named)),
-) (List._∷_ (
-  8,
-  Rows'.any-gone
-      (Syntax.tyStruct
-      (List._∷_ 38 (List._∷_ 91 (List._∷_ 93 List.[])))
-      (Syntax.tcons
-      (Syntax.tyRef Syntax.erased Syntax.mut (KInstanceRow.named))
-      (Syntax.tcons (Syntax.tyInt Syntax.w64) Syntax.tnil))),
-) (List._∷_ (9, KInstanceRow.row) (List._∷_ (
-  10,
-  Rows'.any-gone (KDecided.spelled),
-) (List._∷_ (
-  11,
-  Rows'.any-gone
-      (Syntax.tyRef Syntax.erased Syntax.mut (KInstanceRow.named)),
-) (List._∷_ (
-  12,
-  Mut.mslice
-      (KInstanceRow.R)
-      (Syntax.tyRef Syntax.erased Syntax.mut (KInstanceRow.named))
-      4,
-) (List._∷_ (
-  13,
-  Rows'.any-gone
-      (Syntax.tyRef Syntax.erased Syntax.mut (KRouteRow.named)),
-) (List._∷_ (
-  14,
-  Rows'.any-gone
-      (Syntax.tyStruct
-      (List._∷_ 38 (List._∷_ 91 (List._∷_ 93 List.[])))
-      (Syntax.tcons
-      (Syntax.tyRef Syntax.erased Syntax.mut (KRouteRow.named))
-      (Syntax.tcons (Syntax.tyInt Syntax.w64) Syntax.tnil))),
-)
-    (List._∷_
-    (15, Rows'.any-gone (KRouteRow.spelled))
-    List.[])))))))))))))))
-
-abbrev pub t15 : List.List Row.Entry
-t15 = List._∷_ (0, Rows'.any-gone Syntax.tyUnit) (List._∷_ (
-  1,
-  Relend.mslice-owed
-      (KInstanceRow.R)
-      (Syntax.tyRef (Syntax.named 0) Syntax.mut (KInstanceRow.named))
-      0
-      4
-      Row.off,
-) (List._∷_ (
-  2,
-  Mut.mslice
-      (KRouteRow.R)
-      (Syntax.tyRef (Syntax.named 1) Syntax.mut (KRouteRow.named))
-      1,
-) (List._∷_ (3, Rows'.whole (Declared.row Places.the-type)) (List._∷_ (
-  4,
-  Rows'.sc-here (Row.sInt Syntax.w64),
-) (List._∷_ (
-  5,
-  Rows'.sref
-      (KDecided.R)
-      (Syntax.tyRef (Syntax.named 2) Syntax.imm (KDecided.named))
-      2,
-) (List._∷_ (6, Rows'.sc-here Row.sUnit) (List._∷_ (
-  7,
-  Rows'.any-gone
-      (Syntax.tyRef Syntax.erased Syntax.mut (KInstanceRow.named)),
-) (List._∷_ (
-  8,
-  Rows'.any-gone
-      (Syntax.tyStruct
-      (List._∷_ 38 (List._∷_ 91 (List._∷_ 93 List.[])))
-      (Syntax.tcons
-      (Syntax.tyRef Syntax.erased Syntax.mut (KInstanceRow.named))
-      (Syntax.tcons (Syntax.tyInt Syntax.w64) Syntax.tnil))),
-) (List._∷_ (9, KInstanceRow.row) (List._∷_ (
-  10,
-  Rows'.any-gone (KDecided.spelled),
-) (List._∷_ (
-  11,
-  Rows'.any-gone
-      (Syntax.tyRef Syntax.erased Syntax.mut (KInstanceRow.named)),
-) (List._∷_ (
-  12,
-  Mut.msleft
-      (KInstanceRow.R)
-      (Syntax.tyRef Syntax.erased Syntax.mut (KInstanceRow.named)),
-) (List._∷_ (
-  13,
-  Rows'.any-gone
-      (Syntax.tyRef Syntax.erased Syntax.mut (KRouteRow.named)),
-) (List._∷_ (
-  14,
-  Rows'.any-gone
-      (Syntax.tyStruct
-      (List._∷_ 38 (List._∷_ 91 (List._∷_ 93 List.[])))
-      (Syntax.tcons
-      (Syntax.tyRef Syntax.erased Syntax.mut (KRouteRow.named))
-      (Syntax.tcons (Syntax.tyInt Syntax.w64) Syntax.tnil))),
-)
-    (List._∷_
-    (15, Rows'.any-gone (KRouteRow.spelled))
-    List.[])))))))))))))))
-
-abbrev pub t16 : List.List Row.Entry
-t16 = List._∷_ (0, Rows'.any-gone Syntax.tyUnit) (List._∷_ (
-  1,
-  Relend.mslice-owed
-      (KInstanceRow.R)
-      (Syntax.tyRef (Syntax.named 0) Syntax.mut (KInstanceRow.named))
-      0
-      4
-      Row.off,
-) (List._∷_ (
-  2,
-  Mut.mslice
-      (KRouteRow.R)
-      (Syntax.tyRef (Syntax.named 1) Syntax.mut (KRouteRow.named))
-      1,
-) (List._∷_ (
-  3,
-  Rows'.any-gone
-      (Syntax.tyStruct
-      (List._∷_
-      112
-      (List._∷_
-      108
-      (List._∷_
-      97
-      (List._∷_
-      99
-      (List._∷_
-      101
-      (List._∷_
-      58
-      (List._∷_
-      58
-      (List._∷_
-      80
-      (List._∷_ 108 (List._∷_ 97 (List._∷_ 99 (List._∷_ 101 (List._∷_ 115 List.[])))))))))))))
-      (Syntax.tcons
-      Syntax.tyBool
-      (Syntax.tcons
-      (Syntax.tyInt Syntax.w64)
-      (Syntax.tcons (Syntax.tyInt Syntax.w64) Syntax.tnil)))),
-) (List._∷_ (4, Rows'.sc-here (Row.sInt Syntax.w64)) (List._∷_ (
-  5,
-  Rows'.sref
-      (KDecided.R)
-      (Syntax.tyRef (Syntax.named 2) Syntax.imm (KDecided.named))
-      2,
-) (List._∷_ (6, Rows'.sc-here Row.sUnit) (List._∷_ (
-  7,
-  Rows'.any-gone
-      (Syntax.tyRef Syntax.erased Syntax.mut (KInstanceRow.named)),
-) (List._∷_ (
-  8,
-  Rows'.any-gone
-      (Syntax.tyStruct
-      (List._∷_ 38 (List._∷_ 91 (List._∷_ 93 List.[])))
-      (Syntax.tcons
-      (Syntax.tyRef Syntax.erased Syntax.mut (KInstanceRow.named))
-      (Syntax.tcons (Syntax.tyInt Syntax.w64) Syntax.tnil))),
-) (List._∷_ (9, KInstanceRow.row) (List._∷_ (
-  10,
-  Rows'.any-gone (KDecided.spelled),
-) (List._∷_ (
-  11,
-  Rows'.any-gone
-      (Syntax.tyRef Syntax.erased Syntax.mut (KInstanceRow.named)),
-) (List._∷_ (
-  12,
-  Mut.msleft
-      (KInstanceRow.R)
-      (Syntax.tyRef Syntax.erased Syntax.mut (KInstanceRow.named)),
-) (List._∷_ (
-  13,
-  Rows'.any-gone
-      (Syntax.tyRef Syntax.erased Syntax.mut (KRouteRow.named)),
-) (List._∷_ (
-  14,
-  Rows'.any-gone
-      (Syntax.tyStruct
-      (List._∷_ 38 (List._∷_ 91 (List._∷_ 93 List.[])))
-      (Syntax.tcons
-      (Syntax.tyRef Syntax.erased Syntax.mut (KRouteRow.named))
-      (Syntax.tcons (Syntax.tyInt Syntax.w64) Syntax.tnil))),
-)
-    (List._∷_
-    (15, Rows'.any-gone (KRouteRow.spelled))
-    List.[])))))))))))))))
-
-abbrev pub t17 : List.List Row.Entry
-t17 = List._∷_ (0, Rows'.any-gone Syntax.tyUnit) (List._∷_ (
-  1,
-  Relend.mslice-owed
-      (KInstanceRow.R)
-      (Syntax.tyRef (Syntax.named 0) Syntax.mut (KInstanceRow.named))
-      0
-      4
-      Row.off,
-) (List._∷_ (
-  2,
-  Mut.mslice
-      (KRouteRow.R)
-      (Syntax.tyRef (Syntax.named 1) Syntax.mut (KRouteRow.named))
-      1,
-) (List._∷_ (
-  3,
-  Rows'.any-gone
-      (Syntax.tyStruct
-      (List._∷_
-      112
-      (List._∷_
-      108
-      (List._∷_
-      97
-      (List._∷_
-      99
-      (List._∷_
-      101
-      (List._∷_
-      58
-      (List._∷_
-      58
-      (List._∷_
-      80
-      (List._∷_ 108 (List._∷_ 97 (List._∷_ 99 (List._∷_ 101 (List._∷_ 115 List.[])))))))))))))
-      (Syntax.tcons
-      Syntax.tyBool
-      (Syntax.tcons
-      (Syntax.tyInt Syntax.w64)
-      (Syntax.tcons (Syntax.tyInt Syntax.w64) Syntax.tnil)))),
-) (List._∷_ (4, Rows'.sc-here (Row.sInt Syntax.w64)) (List._∷_ (
-  5,
-  Rows'.sref
-      (KDecided.R)
-      (Syntax.tyRef (Syntax.named 2) Syntax.imm (KDecided.named))
-      2,
-) (List._∷_ (6, Rows'.any-gone Syntax.tyUnit) (List._∷_ (
-  7,
-  Rows'.any-gone
-      (Syntax.tyRef Syntax.erased Syntax.mut (KInstanceRow.named)),
-) (List._∷_ (
-  8,
-  Rows'.any-gone
-      (Syntax.tyStruct
-      (List._∷_ 38 (List._∷_ 91 (List._∷_ 93 List.[])))
-      (Syntax.tcons
-      (Syntax.tyRef Syntax.erased Syntax.mut (KInstanceRow.named))
-      (Syntax.tcons (Syntax.tyInt Syntax.w64) Syntax.tnil))),
-) (List._∷_ (9, KInstanceRow.row) (List._∷_ (
-  10,
-  Rows'.any-gone (KDecided.spelled),
-) (List._∷_ (
-  11,
-  Rows'.any-gone
-      (Syntax.tyRef Syntax.erased Syntax.mut (KInstanceRow.named)),
-) (List._∷_ (
-  12,
-  Mut.msleft
-      (KInstanceRow.R)
-      (Syntax.tyRef Syntax.erased Syntax.mut (KInstanceRow.named)),
-) (List._∷_ (
-  13,
-  Rows'.any-gone
-      (Syntax.tyRef Syntax.erased Syntax.mut (KRouteRow.named)),
-) (List._∷_ (
-  14,
-  Rows'.any-gone
-      (Syntax.tyStruct
-      (List._∷_ 38 (List._∷_ 91 (List._∷_ 93 List.[])))
-      (Syntax.tcons
-      (Syntax.tyRef Syntax.erased Syntax.mut (KRouteRow.named))
-      (Syntax.tcons (Syntax.tyInt Syntax.w64) Syntax.tnil))),
-)
-    (List._∷_
-    (15, Rows'.any-gone (KRouteRow.spelled))
-    List.[])))))))))))))))
-
-abbrev pub t18 : List.List Row.Entry
-t18 = List._∷_ (0, Rows'.any-gone Syntax.tyUnit) (List._∷_ (
   1,
   Relend.mslice-owed
       (KInstanceRow.R)
@@ -1757,8 +1455,8 @@ t18 = List._∷_ (0, Rows'.any-gone Syntax.tyUnit) (List._∷_ (
     (15, Rows'.any-gone (KRouteRow.spelled))
     List.[])))))))))))))))
 
-abbrev pub t19 : List.List Row.Entry
-t19 = List._∷_ (0, Rows'.any-gone Syntax.tyUnit) (List._∷_ (
+abbrev pub t15 : List.List Row.Entry
+t15 = List._∷_ (0, Rows'.any-gone Syntax.tyUnit) (List._∷_ (
   1,
   Mut.mslice
       (KInstanceRow.R)
@@ -1846,8 +1544,8 @@ t19 = List._∷_ (0, Rows'.any-gone Syntax.tyUnit) (List._∷_ (
     (15, Rows'.any-gone (KRouteRow.spelled))
     List.[])))))))))))))))
 
-abbrev pub t20 : List.List Row.Entry
-t20 = List._∷_ (0, Rows'.any-gone Syntax.tyUnit) (List._∷_ (
+abbrev pub t16 : List.List Row.Entry
+t16 = List._∷_ (0, Rows'.any-gone Syntax.tyUnit) (List._∷_ (
   1,
   Mut.mslice
       (KInstanceRow.R)
@@ -1939,358 +1637,358 @@ t20 = List._∷_ (0, Rows'.any-gone Syntax.tyUnit) (List._∷_ (
     (15, Rows'.any-gone (KRouteRow.spelled))
     List.[])))))))))))))))
 
+abbrev pub t17 : List.List Row.Entry
+t17 = List._∷_ (0, Rows'.any-gone Syntax.tyUnit) (List._∷_ (
+  1,
+  Mut.mslice
+      (KInstanceRow.R)
+      (Syntax.tyRef (Syntax.named 0) Syntax.mut (KInstanceRow.named))
+      0,
+) (List._∷_ (
+  2,
+  Relend.mslice-owed
+      (KRouteRow.R)
+      (Syntax.tyRef (Syntax.named 1) Syntax.mut (KRouteRow.named))
+      1
+      5
+      Row.off,
+) (List._∷_ (
+  3,
+  Rows'.any-gone
+      (Syntax.tyStruct
+      (List._∷_
+      112
+      (List._∷_
+      108
+      (List._∷_
+      97
+      (List._∷_
+      99
+      (List._∷_
+      101
+      (List._∷_
+      58
+      (List._∷_
+      58
+      (List._∷_
+      80
+      (List._∷_ 108 (List._∷_ 97 (List._∷_ 99 (List._∷_ 101 (List._∷_ 115 List.[])))))))))))))
+      (Syntax.tcons
+      Syntax.tyBool
+      (Syntax.tcons
+      (Syntax.tyInt Syntax.w64)
+      (Syntax.tcons (Syntax.tyInt Syntax.w64) Syntax.tnil)))),
+) (List._∷_ (4, Rows'.sc-here (Row.sInt Syntax.w64)) (List._∷_ (
+  5,
+  Rows'.sref
+      (KDecided.R)
+      (Syntax.tyRef (Syntax.named 2) Syntax.imm (KDecided.named))
+      2,
+) (List._∷_ (6, Rows'.any-gone Syntax.tyUnit) (List._∷_ (
+  7,
+  Rows'.any-gone
+      (Syntax.tyRef Syntax.erased Syntax.mut (KInstanceRow.named)),
+) (List._∷_ (
+  8,
+  Rows'.any-gone
+      (Syntax.tyStruct
+      (List._∷_ 38 (List._∷_ 91 (List._∷_ 93 List.[])))
+      (Syntax.tcons
+      (Syntax.tyRef Syntax.erased Syntax.mut (KInstanceRow.named))
+      (Syntax.tcons (Syntax.tyInt Syntax.w64) Syntax.tnil))),
+) (List._∷_ (9, Rows'.any-gone (KInstanceRow.spelled)) (List._∷_ (
+  10,
+  Rows'.any-gone (KDecided.spelled),
+) (List._∷_ (
+  11,
+  Rows'.any-gone
+      (Syntax.tyRef Syntax.erased Syntax.mut (KInstanceRow.named)),
+) (List._∷_ (
+  12,
+  Rows'.any-gone
+      (Syntax.tyStruct
+      (List._∷_ 38 (List._∷_ 91 (List._∷_ 93 List.[])))
+      (Syntax.tcons
+      (Syntax.tyRef Syntax.erased Syntax.mut (KInstanceRow.named))
+      (Syntax.tcons (Syntax.tyInt Syntax.w64) Syntax.tnil))),
+) (List._∷_ (
+  13,
+  Rows'.any-gone
+      (Syntax.tyRef Syntax.erased Syntax.mut (KRouteRow.named)),
+) (List._∷_ (
+  14,
+  Mut.mslice
+      (KRouteRow.R)
+      (Syntax.tyRef Syntax.erased Syntax.mut (KRouteRow.named))
+      5,
+)
+    (List._∷_
+    (15, Rows'.any-gone (KRouteRow.spelled))
+    List.[])))))))))))))))
+
+abbrev pub t18 : List.List Row.Entry
+t18 = List._∷_ (0, Rows'.any-gone Syntax.tyUnit) (List._∷_ (
+  1,
+  Mut.mslice
+      (KInstanceRow.R)
+      (Syntax.tyRef (Syntax.named 0) Syntax.mut (KInstanceRow.named))
+      0,
+) (List._∷_ (
+  2,
+  Relend.mslice-owed
+      (KRouteRow.R)
+      (Syntax.tyRef (Syntax.named 1) Syntax.mut (KRouteRow.named))
+      1
+      5
+      Row.off,
+) (List._∷_ (
+  3,
+  Rows'.any-gone
+      (Syntax.tyStruct
+      (List._∷_
+      112
+      (List._∷_
+      108
+      (List._∷_
+      97
+      (List._∷_
+      99
+      (List._∷_
+      101
+      (List._∷_
+      58
+      (List._∷_
+      58
+      (List._∷_
+      80
+      (List._∷_ 108 (List._∷_ 97 (List._∷_ 99 (List._∷_ 101 (List._∷_ 115 List.[])))))))))))))
+      (Syntax.tcons
+      Syntax.tyBool
+      (Syntax.tcons
+      (Syntax.tyInt Syntax.w64)
+      (Syntax.tcons (Syntax.tyInt Syntax.w64) Syntax.tnil)))),
+) (List._∷_ (4, Rows'.sc-here (Row.sInt Syntax.w64)) (List._∷_ (
+  5,
+  Rows'.sref
+      (KDecided.R)
+      (Syntax.tyRef (Syntax.named 2) Syntax.imm (KDecided.named))
+      2,
+) (List._∷_ (6, Rows'.any-gone Syntax.tyUnit) (List._∷_ (
+  7,
+  Rows'.any-gone
+      (Syntax.tyRef Syntax.erased Syntax.mut (KInstanceRow.named)),
+) (List._∷_ (
+  8,
+  Rows'.any-gone
+      (Syntax.tyStruct
+      (List._∷_ 38 (List._∷_ 91 (List._∷_ 93 List.[])))
+      (Syntax.tcons
+      (Syntax.tyRef Syntax.erased Syntax.mut (KInstanceRow.named))
+      (Syntax.tcons (Syntax.tyInt Syntax.w64) Syntax.tnil))),
+) (List._∷_ (9, Rows'.any-gone (KInstanceRow.spelled)) (List._∷_ (
+  10,
+  KDecided.row,
+) (List._∷_ (
+  11,
+  Rows'.any-gone
+      (Syntax.tyRef Syntax.erased Syntax.mut (KInstanceRow.named)),
+) (List._∷_ (
+  12,
+  Rows'.any-gone
+      (Syntax.tyStruct
+      (List._∷_ 38 (List._∷_ 91 (List._∷_ 93 List.[])))
+      (Syntax.tcons
+      (Syntax.tyRef Syntax.erased Syntax.mut (KInstanceRow.named))
+      (Syntax.tcons (Syntax.tyInt Syntax.w64) Syntax.tnil))),
+) (List._∷_ (
+  13,
+  Rows'.any-gone
+      (Syntax.tyRef Syntax.erased Syntax.mut (KRouteRow.named)),
+) (List._∷_ (
+  14,
+  Mut.mslice
+      (KRouteRow.R)
+      (Syntax.tyRef Syntax.erased Syntax.mut (KRouteRow.named))
+      5,
+)
+    (List._∷_
+    (15, Rows'.any-gone (KRouteRow.spelled))
+    List.[])))))))))))))))
+
+abbrev pub t19 : List.List Row.Entry
+t19 = List._∷_ (0, Rows'.any-gone Syntax.tyUnit) (List._∷_ (
+  1,
+  Mut.mslice
+      (KInstanceRow.R)
+      (Syntax.tyRef (Syntax.named 0) Syntax.mut (KInstanceRow.named))
+      0,
+) (List._∷_ (
+  2,
+  Relend.mslice-owed
+      (KRouteRow.R)
+      (Syntax.tyRef (Syntax.named 1) Syntax.mut (KRouteRow.named))
+      1
+      5
+      Row.off,
+) (List._∷_ (
+  3,
+  Rows'.any-gone
+      (Syntax.tyStruct
+      (List._∷_
+      112
+      (List._∷_
+      108
+      (List._∷_
+      97
+      (List._∷_
+      99
+      (List._∷_
+      101
+      (List._∷_
+      58
+      (List._∷_
+      58
+      (List._∷_
+      80
+      (List._∷_ 108 (List._∷_ 97 (List._∷_ 99 (List._∷_ 101 (List._∷_ 115 List.[])))))))))))))
+      (Syntax.tcons
+      Syntax.tyBool
+      (Syntax.tcons
+      (Syntax.tyInt Syntax.w64)
+      (Syntax.tcons (Syntax.tyInt Syntax.w64) Syntax.tnil)))),
+) (List._∷_ (4, Rows'.sc-here (Row.sInt Syntax.w64)) (List._∷_ (
+  5,
+  Rows'.sref
+      (KDecided.R)
+      (Syntax.tyRef (Syntax.named 2) Syntax.imm (KDecided.named))
+      2,
+) (List._∷_ (6, Rows'.any-gone Syntax.tyUnit) (List._∷_ (
+  7,
+  Rows'.any-gone
+      (Syntax.tyRef Syntax.erased Syntax.mut (KInstanceRow.named)),
+) (List._∷_ (
+  8,
+  Rows'.any-gone
+      (Syntax.tyStruct
+      (List._∷_ 38 (List._∷_ 91 (List._∷_ 93 List.[])))
+      (Syntax.tcons
+      (Syntax.tyRef Syntax.erased Syntax.mut (KInstanceRow.named))
+      (Syntax.tcons (Syntax.tyInt Syntax.w64) Syntax.tnil))),
+) (List._∷_ (9, Rows'.any-gone (KInstanceRow.spelled)) (List._∷_ (
+  10,
+  KDecided.row,
+) (List._∷_ (
+  11,
+  Rows'.any-gone
+      (Syntax.tyRef Syntax.erased Syntax.mut (KInstanceRow.named)),
+) (List._∷_ (
+  12,
+  Rows'.any-gone
+      (Syntax.tyStruct
+      (List._∷_ 38 (List._∷_ 91 (List._∷_ 93 List.[])))
+      (Syntax.tcons
+      (Syntax.tyRef Syntax.erased Syntax.mut (KInstanceRow.named))
+      (Syntax.tcons (Syntax.tyInt Syntax.w64) Syntax.tnil))),
+) (List._∷_ (
+  13,
+  Rows'.any-gone
+      (Syntax.tyRef Syntax.erased Syntax.mut (KRouteRow.named)),
+) (List._∷_ (
+  14,
+  Mut.mslice
+      (KRouteRow.R)
+      (Syntax.tyRef Syntax.erased Syntax.mut (KRouteRow.named))
+      5,
+) (List._∷_ (15, KRouteRow.row) List.[])))))))))))))))
+
+abbrev pub t20 : List.List Row.Entry
+t20 = List._∷_ (0, Rows'.any-gone Syntax.tyUnit) (List._∷_ (
+  1,
+  Mut.mslice
+      (KInstanceRow.R)
+      (Syntax.tyRef (Syntax.named 0) Syntax.mut (KInstanceRow.named))
+      0,
+) (List._∷_ (
+  2,
+  Relend.mslice-owed
+      (KRouteRow.R)
+      (Syntax.tyRef (Syntax.named 1) Syntax.mut (KRouteRow.named))
+      1
+      5
+      Row.off,
+) (List._∷_ (
+  3,
+  Rows'.any-gone
+      (Syntax.tyStruct
+      (List._∷_
+      112
+      (List._∷_
+      108
+      (List._∷_
+      97
+      (List._∷_
+      99
+      (List._∷_
+      101
+      (List._∷_
+      58
+      (List._∷_
+      58
+      (List._∷_
+      80
+      (List._∷_ 108 (List._∷_ 97 (List._∷_ 99 (List._∷_ 101 (List._∷_ 115 List.[])))))))))))))
+      (Syntax.tcons
+      Syntax.tyBool
+      (Syntax.tcons
+      (Syntax.tyInt Syntax.w64)
+      (Syntax.tcons (Syntax.tyInt Syntax.w64) Syntax.tnil)))),
+) (List._∷_ (4, Rows'.sc-here (Row.sInt Syntax.w64)) (List._∷_ (
+  5,
+  Rows'.sref
+      (KDecided.R)
+      (Syntax.tyRef (Syntax.named 2) Syntax.imm (KDecided.named))
+      2,
+) (List._∷_ (6, Rows'.any-gone Syntax.tyUnit) (List._∷_ (
+  7,
+  Rows'.any-gone
+      (Syntax.tyRef Syntax.erased Syntax.mut (KInstanceRow.named)),
+) (List._∷_ (
+  8,
+  Rows'.any-gone
+      (Syntax.tyStruct
+      (List._∷_ 38 (List._∷_ 91 (List._∷_ 93 List.[])))
+      (Syntax.tcons
+      (Syntax.tyRef Syntax.erased Syntax.mut (KInstanceRow.named))
+      (Syntax.tcons (Syntax.tyInt Syntax.w64) Syntax.tnil))),
+) (List._∷_ (9, Rows'.any-gone (KInstanceRow.spelled)) (List._∷_ (
+  10,
+  Rows'.any-gone (KDecided.spelled),
+) (List._∷_ (
+  11,
+  Rows'.any-gone
+      (Syntax.tyRef Syntax.erased Syntax.mut (KInstanceRow.named)),
+) (List._∷_ (
+  12,
+  Rows'.any-gone
+      (Syntax.tyStruct
+      (List._∷_ 38 (List._∷_ 91 (List._∷_ 93 List.[])))
+      (Syntax.tcons
+      (Syntax.tyRef Syntax.erased Syntax.mut (KInstanceRow.named))
+      (Syntax.tcons (Syntax.tyInt Syntax.w64) Syntax.tnil))),
+) (List._∷_ (
+  13,
+  Rows'.any-gone
+      (Syntax.tyRef Syntax.erased Syntax.mut (KRouteRow.named)),
+) (List._∷_ (
+  14,
+  Mut.mslice
+      (KRouteRow.R)
+      (Syntax.tyRef Syntax.erased Syntax.mut (KRouteRow.named))
+      5,
+) (List._∷_ (15, KRouteRow.row) List.[])))))))))))))))
+
 abbrev pub t21 : List.List Row.Entry
 t21 = List._∷_ (0, Rows'.any-gone Syntax.tyUnit) (List._∷_ (
-  1,
-  Mut.mslice
-      (KInstanceRow.R)
-      (Syntax.tyRef (Syntax.named 0) Syntax.mut (KInstanceRow.named))
-      0,
-) (List._∷_ (
-  2,
-  Relend.mslice-owed
-      (KRouteRow.R)
-      (Syntax.tyRef (Syntax.named 1) Syntax.mut (KRouteRow.named))
-      1
-      5
-      Row.off,
-) (List._∷_ (
-  3,
-  Rows'.any-gone
-      (Syntax.tyStruct
-      (List._∷_
-      112
-      (List._∷_
-      108
-      (List._∷_
-      97
-      (List._∷_
-      99
-      (List._∷_
-      101
-      (List._∷_
-      58
-      (List._∷_
-      58
-      (List._∷_
-      80
-      (List._∷_ 108 (List._∷_ 97 (List._∷_ 99 (List._∷_ 101 (List._∷_ 115 List.[])))))))))))))
-      (Syntax.tcons
-      Syntax.tyBool
-      (Syntax.tcons
-      (Syntax.tyInt Syntax.w64)
-      (Syntax.tcons (Syntax.tyInt Syntax.w64) Syntax.tnil)))),
-) (List._∷_ (4, Rows'.sc-here (Row.sInt Syntax.w64)) (List._∷_ (
-  5,
-  Rows'.sref
-      (KDecided.R)
-      (Syntax.tyRef (Syntax.named 2) Syntax.imm (KDecided.named))
-      2,
-) (List._∷_ (6, Rows'.any-gone Syntax.tyUnit) (List._∷_ (
-  7,
-  Rows'.any-gone
-      (Syntax.tyRef Syntax.erased Syntax.mut (KInstanceRow.named)),
-) (List._∷_ (
-  8,
-  Rows'.any-gone
-      (Syntax.tyStruct
-      (List._∷_ 38 (List._∷_ 91 (List._∷_ 93 List.[])))
-      (Syntax.tcons
-      (Syntax.tyRef Syntax.erased Syntax.mut (KInstanceRow.named))
-      (Syntax.tcons (Syntax.tyInt Syntax.w64) Syntax.tnil))),
-) (List._∷_ (9, Rows'.any-gone (KInstanceRow.spelled)) (List._∷_ (
-  10,
-  Rows'.any-gone (KDecided.spelled),
-) (List._∷_ (
-  11,
-  Rows'.any-gone
-      (Syntax.tyRef Syntax.erased Syntax.mut (KInstanceRow.named)),
-) (List._∷_ (
-  12,
-  Rows'.any-gone
-      (Syntax.tyStruct
-      (List._∷_ 38 (List._∷_ 91 (List._∷_ 93 List.[])))
-      (Syntax.tcons
-      (Syntax.tyRef Syntax.erased Syntax.mut (KInstanceRow.named))
-      (Syntax.tcons (Syntax.tyInt Syntax.w64) Syntax.tnil))),
-) (List._∷_ (
-  13,
-  Rows'.any-gone
-      (Syntax.tyRef Syntax.erased Syntax.mut (KRouteRow.named)),
-) (List._∷_ (
-  14,
-  Mut.mslice
-      (KRouteRow.R)
-      (Syntax.tyRef Syntax.erased Syntax.mut (KRouteRow.named))
-      5,
-)
-    (List._∷_
-    (15, Rows'.any-gone (KRouteRow.spelled))
-    List.[])))))))))))))))
-
-abbrev pub t22 : List.List Row.Entry
-t22 = List._∷_ (0, Rows'.any-gone Syntax.tyUnit) (List._∷_ (
-  1,
-  Mut.mslice
-      (KInstanceRow.R)
-      (Syntax.tyRef (Syntax.named 0) Syntax.mut (KInstanceRow.named))
-      0,
-) (List._∷_ (
-  2,
-  Relend.mslice-owed
-      (KRouteRow.R)
-      (Syntax.tyRef (Syntax.named 1) Syntax.mut (KRouteRow.named))
-      1
-      5
-      Row.off,
-) (List._∷_ (
-  3,
-  Rows'.any-gone
-      (Syntax.tyStruct
-      (List._∷_
-      112
-      (List._∷_
-      108
-      (List._∷_
-      97
-      (List._∷_
-      99
-      (List._∷_
-      101
-      (List._∷_
-      58
-      (List._∷_
-      58
-      (List._∷_
-      80
-      (List._∷_ 108 (List._∷_ 97 (List._∷_ 99 (List._∷_ 101 (List._∷_ 115 List.[])))))))))))))
-      (Syntax.tcons
-      Syntax.tyBool
-      (Syntax.tcons
-      (Syntax.tyInt Syntax.w64)
-      (Syntax.tcons (Syntax.tyInt Syntax.w64) Syntax.tnil)))),
-) (List._∷_ (4, Rows'.sc-here (Row.sInt Syntax.w64)) (List._∷_ (
-  5,
-  Rows'.sref
-      (KDecided.R)
-      (Syntax.tyRef (Syntax.named 2) Syntax.imm (KDecided.named))
-      2,
-) (List._∷_ (6, Rows'.any-gone Syntax.tyUnit) (List._∷_ (
-  7,
-  Rows'.any-gone
-      (Syntax.tyRef Syntax.erased Syntax.mut (KInstanceRow.named)),
-) (List._∷_ (
-  8,
-  Rows'.any-gone
-      (Syntax.tyStruct
-      (List._∷_ 38 (List._∷_ 91 (List._∷_ 93 List.[])))
-      (Syntax.tcons
-      (Syntax.tyRef Syntax.erased Syntax.mut (KInstanceRow.named))
-      (Syntax.tcons (Syntax.tyInt Syntax.w64) Syntax.tnil))),
-) (List._∷_ (9, Rows'.any-gone (KInstanceRow.spelled)) (List._∷_ (
-  10,
-  KDecided.row,
-) (List._∷_ (
-  11,
-  Rows'.any-gone
-      (Syntax.tyRef Syntax.erased Syntax.mut (KInstanceRow.named)),
-) (List._∷_ (
-  12,
-  Rows'.any-gone
-      (Syntax.tyStruct
-      (List._∷_ 38 (List._∷_ 91 (List._∷_ 93 List.[])))
-      (Syntax.tcons
-      (Syntax.tyRef Syntax.erased Syntax.mut (KInstanceRow.named))
-      (Syntax.tcons (Syntax.tyInt Syntax.w64) Syntax.tnil))),
-) (List._∷_ (
-  13,
-  Rows'.any-gone
-      (Syntax.tyRef Syntax.erased Syntax.mut (KRouteRow.named)),
-) (List._∷_ (
-  14,
-  Mut.mslice
-      (KRouteRow.R)
-      (Syntax.tyRef Syntax.erased Syntax.mut (KRouteRow.named))
-      5,
-)
-    (List._∷_
-    (15, Rows'.any-gone (KRouteRow.spelled))
-    List.[])))))))))))))))
-
-abbrev pub t23 : List.List Row.Entry
-t23 = List._∷_ (0, Rows'.any-gone Syntax.tyUnit) (List._∷_ (
-  1,
-  Mut.mslice
-      (KInstanceRow.R)
-      (Syntax.tyRef (Syntax.named 0) Syntax.mut (KInstanceRow.named))
-      0,
-) (List._∷_ (
-  2,
-  Relend.mslice-owed
-      (KRouteRow.R)
-      (Syntax.tyRef (Syntax.named 1) Syntax.mut (KRouteRow.named))
-      1
-      5
-      Row.off,
-) (List._∷_ (
-  3,
-  Rows'.any-gone
-      (Syntax.tyStruct
-      (List._∷_
-      112
-      (List._∷_
-      108
-      (List._∷_
-      97
-      (List._∷_
-      99
-      (List._∷_
-      101
-      (List._∷_
-      58
-      (List._∷_
-      58
-      (List._∷_
-      80
-      (List._∷_ 108 (List._∷_ 97 (List._∷_ 99 (List._∷_ 101 (List._∷_ 115 List.[])))))))))))))
-      (Syntax.tcons
-      Syntax.tyBool
-      (Syntax.tcons
-      (Syntax.tyInt Syntax.w64)
-      (Syntax.tcons (Syntax.tyInt Syntax.w64) Syntax.tnil)))),
-) (List._∷_ (4, Rows'.sc-here (Row.sInt Syntax.w64)) (List._∷_ (
-  5,
-  Rows'.sref
-      (KDecided.R)
-      (Syntax.tyRef (Syntax.named 2) Syntax.imm (KDecided.named))
-      2,
-) (List._∷_ (6, Rows'.any-gone Syntax.tyUnit) (List._∷_ (
-  7,
-  Rows'.any-gone
-      (Syntax.tyRef Syntax.erased Syntax.mut (KInstanceRow.named)),
-) (List._∷_ (
-  8,
-  Rows'.any-gone
-      (Syntax.tyStruct
-      (List._∷_ 38 (List._∷_ 91 (List._∷_ 93 List.[])))
-      (Syntax.tcons
-      (Syntax.tyRef Syntax.erased Syntax.mut (KInstanceRow.named))
-      (Syntax.tcons (Syntax.tyInt Syntax.w64) Syntax.tnil))),
-) (List._∷_ (9, Rows'.any-gone (KInstanceRow.spelled)) (List._∷_ (
-  10,
-  KDecided.row,
-) (List._∷_ (
-  11,
-  Rows'.any-gone
-      (Syntax.tyRef Syntax.erased Syntax.mut (KInstanceRow.named)),
-) (List._∷_ (
-  12,
-  Rows'.any-gone
-      (Syntax.tyStruct
-      (List._∷_ 38 (List._∷_ 91 (List._∷_ 93 List.[])))
-      (Syntax.tcons
-      (Syntax.tyRef Syntax.erased Syntax.mut (KInstanceRow.named))
-      (Syntax.tcons (Syntax.tyInt Syntax.w64) Syntax.tnil))),
-) (List._∷_ (
-  13,
-  Rows'.any-gone
-      (Syntax.tyRef Syntax.erased Syntax.mut (KRouteRow.named)),
-) (List._∷_ (
-  14,
-  Mut.mslice
-      (KRouteRow.R)
-      (Syntax.tyRef Syntax.erased Syntax.mut (KRouteRow.named))
-      5,
-) (List._∷_ (15, KRouteRow.row) List.[])))))))))))))))
-
-abbrev pub t24 : List.List Row.Entry
-t24 = List._∷_ (0, Rows'.any-gone Syntax.tyUnit) (List._∷_ (
-  1,
-  Mut.mslice
-      (KInstanceRow.R)
-      (Syntax.tyRef (Syntax.named 0) Syntax.mut (KInstanceRow.named))
-      0,
-) (List._∷_ (
-  2,
-  Relend.mslice-owed
-      (KRouteRow.R)
-      (Syntax.tyRef (Syntax.named 1) Syntax.mut (KRouteRow.named))
-      1
-      5
-      Row.off,
-) (List._∷_ (
-  3,
-  Rows'.any-gone
-      (Syntax.tyStruct
-      (List._∷_
-      112
-      (List._∷_
-      108
-      (List._∷_
-      97
-      (List._∷_
-      99
-      (List._∷_
-      101
-      (List._∷_
-      58
-      (List._∷_
-      58
-      (List._∷_
-      80
-      (List._∷_ 108 (List._∷_ 97 (List._∷_ 99 (List._∷_ 101 (List._∷_ 115 List.[])))))))))))))
-      (Syntax.tcons
-      Syntax.tyBool
-      (Syntax.tcons
-      (Syntax.tyInt Syntax.w64)
-      (Syntax.tcons (Syntax.tyInt Syntax.w64) Syntax.tnil)))),
-) (List._∷_ (4, Rows'.sc-here (Row.sInt Syntax.w64)) (List._∷_ (
-  5,
-  Rows'.sref
-      (KDecided.R)
-      (Syntax.tyRef (Syntax.named 2) Syntax.imm (KDecided.named))
-      2,
-) (List._∷_ (6, Rows'.any-gone Syntax.tyUnit) (List._∷_ (
-  7,
-  Rows'.any-gone
-      (Syntax.tyRef Syntax.erased Syntax.mut (KInstanceRow.named)),
-) (List._∷_ (
-  8,
-  Rows'.any-gone
-      (Syntax.tyStruct
-      (List._∷_ 38 (List._∷_ 91 (List._∷_ 93 List.[])))
-      (Syntax.tcons
-      (Syntax.tyRef Syntax.erased Syntax.mut (KInstanceRow.named))
-      (Syntax.tcons (Syntax.tyInt Syntax.w64) Syntax.tnil))),
-) (List._∷_ (9, Rows'.any-gone (KInstanceRow.spelled)) (List._∷_ (
-  10,
-  Rows'.any-gone (KDecided.spelled),
-) (List._∷_ (
-  11,
-  Rows'.any-gone
-      (Syntax.tyRef Syntax.erased Syntax.mut (KInstanceRow.named)),
-) (List._∷_ (
-  12,
-  Rows'.any-gone
-      (Syntax.tyStruct
-      (List._∷_ 38 (List._∷_ 91 (List._∷_ 93 List.[])))
-      (Syntax.tcons
-      (Syntax.tyRef Syntax.erased Syntax.mut (KInstanceRow.named))
-      (Syntax.tcons (Syntax.tyInt Syntax.w64) Syntax.tnil))),
-) (List._∷_ (
-  13,
-  Rows'.any-gone
-      (Syntax.tyRef Syntax.erased Syntax.mut (KRouteRow.named)),
-) (List._∷_ (
-  14,
-  Mut.mslice
-      (KRouteRow.R)
-      (Syntax.tyRef Syntax.erased Syntax.mut (KRouteRow.named))
-      5,
-) (List._∷_ (15, KRouteRow.row) List.[])))))))))))))))
-
-abbrev pub t25 : List.List Row.Entry
-t25 = List._∷_ (0, Rows'.any-gone Syntax.tyUnit) (List._∷_ (
   1,
   Mut.mslice
       (KInstanceRow.R)
@@ -2374,8 +2072,8 @@ t25 = List._∷_ (0, Rows'.any-gone Syntax.tyUnit) (List._∷_ (
       (Syntax.tyRef Syntax.erased Syntax.mut (KRouteRow.named)),
 ) (List._∷_ (15, KRouteRow.row) List.[])))))))))))))))
 
-abbrev pub t26 : List.List Row.Entry
-t26 = List._∷_ (0, Rows'.any-gone Syntax.tyUnit) (List._∷_ (
+abbrev pub t22 : List.List Row.Entry
+t22 = List._∷_ (0, Rows'.any-gone Syntax.tyUnit) (List._∷_ (
   1,
   Mut.mslice
       (KInstanceRow.R)
@@ -2459,8 +2157,8 @@ t26 = List._∷_ (0, Rows'.any-gone Syntax.tyUnit) (List._∷_ (
       (Syntax.tyRef Syntax.erased Syntax.mut (KRouteRow.named)),
 ) (List._∷_ (15, KRouteRow.row) List.[])))))))))))))))
 
-abbrev pub t27 : List.List Row.Entry
-t27 = List._∷_ (0, Rows'.any-gone Syntax.tyUnit) (List._∷_ (
+abbrev pub t23 : List.List Row.Entry
+t23 = List._∷_ (0, Rows'.any-gone Syntax.tyUnit) (List._∷_ (
   1,
   Mut.mslice
       (KInstanceRow.R)
@@ -2547,8 +2245,8 @@ t27 = List._∷_ (0, Rows'.any-gone Syntax.tyUnit) (List._∷_ (
     (15, Rows'.any-gone (KRouteRow.spelled))
     List.[])))))))))))))))
 
-abbrev pub t28 : List.List Row.Entry
-t28 = List._∷_ (0, Rows'.sc-here Row.sUnit) (List._∷_ (
+abbrev pub t24 : List.List Row.Entry
+t24 = List._∷_ (0, Rows'.sc-here Row.sUnit) (List._∷_ (
   1,
   Mut.mslice
       (KInstanceRow.R)
@@ -2684,20 +2382,20 @@ T18 = record { locals = t13; slots = List.[] }
 abbrev pub T19 : Row.Cx
 T19 = record { locals = t14; slots = List.[] }
 
-abbrev pub T20 : Row.Cx
-T20 = record { locals = t15; slots = List.[] }
-
 abbrev pub T21 : Row.Cx
-T21 = record { locals = t16; slots = List.[] }
+T21 = record { locals = t15; slots = List.[] }
 
-abbrev pub T22 : Row.Cx
-T22 = record { locals = t17; slots = List.[] }
-
-abbrev pub T23 : Row.Cx
-T23 = record { locals = t18; slots = List.[] }
+abbrev pub T24 : Row.Cx
+T24 = record { locals = t16; slots = List.[] }
 
 abbrev pub T25 : Row.Cx
-T25 = record { locals = t19; slots = List.[] }
+T25 = record { locals = t17; slots = List.[] }
+
+abbrev pub T26 : Row.Cx
+T26 = record { locals = t18; slots = List.[] }
+
+abbrev pub T27 : Row.Cx
+T27 = record { locals = t19; slots = List.[] }
 
 abbrev pub T28 : Row.Cx
 T28 = record { locals = t20; slots = List.[] }
@@ -2711,26 +2409,14 @@ T30 = record { locals = t22; slots = List.[] }
 abbrev pub T31 : Row.Cx
 T31 = record { locals = t23; slots = List.[] }
 
-abbrev pub T32 : Row.Cx
-T32 = record { locals = t24; slots = List.[] }
-
 abbrev pub T33 : Row.Cx
-T33 = record { locals = t25; slots = List.[] }
-
-abbrev pub T34 : Row.Cx
-T34 = record { locals = t26; slots = List.[] }
+T33 = record { locals = t15; slots = List.[] }
 
 abbrev pub T35 : Row.Cx
-T35 = record { locals = t27; slots = List.[] }
+T35 = record { locals = t24; slots = List.[] }
 
-abbrev pub T37 : Row.Cx
-T37 = record { locals = t19; slots = List.[] }
-
-abbrev pub T39 : Row.Cx
-T39 = record { locals = t28; slots = List.[] }
-
-abbrev pub T40 : Row.Cx
-T40 = record { locals = t1; slots = List.[] }
+abbrev pub T36 : Row.Cx
+T36 = record { locals = t1; slots = List.[] }
 
 abbrev pub O0 : Typed.Outs
 O0 = record { next = Option.none; exits = List.[]; returns = Option.some T1 }
@@ -2866,36 +2552,8 @@ module _ (claims· : Claims) where
       λ v. Shared.lenV
       (v .0))
 
-  abbrev s15 : Typed.Gives T16 T17
-  s15 =
-      DerefMove.k-ref-read-copy
-      T16
-      5
-      10
-      2
-      (KDecided.R)
-      (Rows'.sref
-      (KDecided.R)
-      (Syntax.tyRef (Syntax.named 2) Syntax.imm (KDecided.named))
-      2)
-      Row.off
-      (KDecided.row)
-      (λ x. x)
-      (λ x. x)
-      (λ x. x)
-      λ x. Unit
-
-  abbrev s16 : Typed.Both T17 T18
-  s16 = Call.callB ps·2 r·2 (claims· .4) (claims· .5) T17 (
-    record { pos = 10; st = List.[]; d = 0; at = λ x. x },
-    tt,
-  ) 9 List.[] (KInstanceRow.spelled)
-
-  abbrev s17 : Typed.Mo T18 → Typed.Mo T19
-  s17 = Scalar.n-room T18 10 (KDecided.spelled)
-
-  abbrev s18 : Typed.Both T19 T20
-  s18 = Call.callB ps·1 r·1 (claims· .2) (claims· .3) T19 (
+  abbrev s15 : Typed.Both T16 T17
+  s15 = Call.callB ps·2 r·2 (claims· .4) (claims· .5) T16 (
     record {
       pos = 12;
       ty = Syntax.tyRef Syntax.erased Syntax.mut (KInstanceRow.named);
@@ -2903,14 +2561,24 @@ module _ (claims· : Claims) where
     },
     (
       Num.vFld 3 (List._∷_ (Syntax.field 2) List.[]) 16 λ x. Places.struct .as-values x .1 .1 .0,
-      (record { pos = 9; st = List.[]; d = 0; at = λ x. x }, tt),
+      (
+        record {
+          pos = 5;
+          ty = Syntax.tyRef
+              (Syntax.named 2)
+              Syntax.imm
+              (KDecided.named);
+          ref = λ x. x;
+        },
+        tt,
+      ),
     ),
-  ) 6 (List._∷_ 4 List.[]) Syntax.tyUnit
+  ) 6 (List._∷_ 4 (List._∷_ 2 List.[])) Syntax.tyUnit
 
-  abbrev s19 : Typed.Mo T20 → Typed.Mo T21
-  s19 =
+  abbrev s16 : Typed.Mo T17 → Typed.Mo T18
+  s16 =
       Scalar.n-room
-      T20
+      T17
       3
       (Syntax.tyStruct
       (List._∷_
@@ -2936,17 +2604,14 @@ module _ (claims· : Claims) where
       (Syntax.tyInt Syntax.w64)
       (Syntax.tcons (Syntax.tyInt Syntax.w64) Syntax.tnil))))
 
-  abbrev s20 : Typed.Mo T21 → Typed.Mo T22
-  s20 = Scalar.n-room T21 6 Syntax.tyUnit
+  abbrev s17 : Typed.Mo T18 → Typed.Mo T19
+  s17 = Scalar.n-room T18 6 Syntax.tyUnit
 
-  abbrev s21 : Typed.Mo T22 → Typed.Mo T23
-  s21 = Scalar.n-room T22 9 (KInstanceRow.spelled)
-
-  abbrev s23 : Typed.Both T23 T25
-  s23 =
+  abbrev s19 : Typed.Both T19 T21
+  s19 =
       Relend.k-back-sl
       (KInstanceRow.R)
-      T23
+      T19
       12
       1
       0
@@ -2957,11 +2622,11 @@ module _ (claims· : Claims) where
       (λ x. x)
       λ x. x
 
-  abbrev s26 : Typed.Gives T25 T28
-  s26 =
+  abbrev s22 : Typed.Gives T21 T24
+  s22 =
       Relend.k-sl-relend
       (KRouteRow.R)
-      T25
+      T21
       2
       13
       1
@@ -2971,12 +2636,12 @@ module _ (claims· : Claims) where
       Row.off
       λ x. x
 
-  abbrev s27 : Typed.Asks T28 T29
-  s27 =
+  abbrev s23 : Typed.Asks T24 T25
+  s23 =
       Relend.k-sl-aggregate
       (KRouteRow.R)
       (Relend.asMut (KRouteRow.R))
-      T28
+      T24
       13
       14
       5
@@ -2991,10 +2656,10 @@ module _ (claims· : Claims) where
       λ v. Shared.lenV
       (v .0))
 
-  abbrev s28 : Typed.Gives T29 T30
-  s28 =
+  abbrev s24 : Typed.Gives T25 T26
+  s24 =
       DerefMove.k-ref-read-copy
-      T29
+      T25
       5
       10
       2
@@ -3010,17 +2675,17 @@ module _ (claims· : Claims) where
       (λ x. x)
       λ x. Unit
 
-  abbrev s29 : Typed.Both T30 T31
-  s29 = Call.callB ps·3 r·3 (claims· .6) (claims· .7) T30 (
+  abbrev s25 : Typed.Both T26 T27
+  s25 = Call.callB ps·3 r·3 (claims· .6) (claims· .7) T26 (
     record { pos = 10; st = List.[]; d = 0; at = λ x. x },
     tt,
   ) 15 List.[] (KRouteRow.spelled)
 
-  abbrev s30 : Typed.Mo T31 → Typed.Mo T32
-  s30 = Scalar.n-room T31 10 (KDecided.spelled)
+  abbrev s26 : Typed.Mo T27 → Typed.Mo T28
+  s26 = Scalar.n-room T27 10 (KDecided.spelled)
 
-  abbrev s31 : Typed.Both T32 T33
-  s31 = Call.callB ps·4 r·4 (claims· .8) (claims· .9) T32 (
+  abbrev s27 : Typed.Both T28 T29
+  s27 = Call.callB ps·4 r·4 (claims· .8) (claims· .9) T28 (
     record {
       pos = 14;
       ty = Syntax.tyRef Syntax.erased Syntax.mut (KRouteRow.named);
@@ -3029,17 +2694,17 @@ module _ (claims· : Claims) where
     (Num.vAt 4 λ x. x, (record { pos = 15; st = List.[]; d = 0; at = λ x. x }, tt)),
   ) 6 (List._∷_ 5 List.[]) Syntax.tyUnit
 
-  abbrev s32 : Typed.Mo T33 → Typed.Mo T34
-  s32 = Scalar.n-room T33 6 Syntax.tyUnit
+  abbrev s28 : Typed.Mo T29 → Typed.Mo T30
+  s28 = Scalar.n-room T29 6 Syntax.tyUnit
 
-  abbrev s33 : Typed.Mo T34 → Typed.Mo T35
-  s33 = Scalar.n-room T34 15 (KRouteRow.spelled)
+  abbrev s29 : Typed.Mo T30 → Typed.Mo T31
+  s29 = Scalar.n-room T30 15 (KRouteRow.spelled)
 
-  abbrev s35 : Typed.Both T35 T37
-  s35 =
+  abbrev s31 : Typed.Both T31 T33
+  s31 =
       Relend.k-back-sl
       (KRouteRow.R)
-      T35
+      T31
       14
       2
       1
@@ -3050,11 +2715,11 @@ module _ (claims· : Claims) where
       (λ x. x)
       λ x. x
 
-  abbrev s37 : Typed.Mo T37 → Typed.Mo T39
-  s37 = Scalar.n-use T37 Scalar.oUnit 0 (Rows'.sc-here Row.sUnit) (Row.sUnit .of)
+  abbrev s33 : Typed.Mo T33 → Typed.Mo T35
+  s33 = Scalar.n-use T33 Scalar.oUnit 0 (Rows'.sc-here Row.sUnit) (Row.sUnit .of)
 
-  abbrev s38 : Typed.Mo T39 → Typed.Mo T40
-  s38 = Scalar.n-room T39 4 (Syntax.tyInt Syntax.w64)
+  abbrev s34 : Typed.Mo T35 → Typed.Mo T36
+  s34 = Scalar.n-room T35 4 (Syntax.tyInt Syntax.w64)
 
   module _ (Pre· : (κs : Lifetimes.Lfts 3) → Kinds.Dens κs ps → Type 0)
       (Post· : (κs : Lifetimes.Lfts 3) → (a : Kinds.Dens κs ps) → Kinds.Plain 3 ps r κs) where
@@ -3064,135 +2729,123 @@ module _ (claims· : Claims) where
           (𝓤 : URA.URA M) (H : Wp.Heap 𝓤) (A : Atoms.Atoms 𝓤) (W : Kit.Given 𝓤 H A) (𝓣 : Wp.Tables
           𝓤 H) (known0 : Plain.Known 𝓤 H A W 𝓣 0 ps·0 r·0 (claims· .0) (claims· .1)
           "finish::row_of") (known1 : Plain.Known 𝓤 H A W 𝓣 1 ps·1 r·1 (claims· .2) (claims· .3)
-          "table::put_row") (known2 : Plain.Known 𝓤 H A W 𝓣 0 ps·2 r·2 (claims· .4) (claims· .5)
-          "finish::second_of") (known3 : Plain.Known 𝓤 H A W 𝓣 0 ps·3 r·3 (claims· .6) (claims· .7)
-          "finish::route_of") (known4 : Plain.Known 𝓤 H A W 𝓣 1 ps·4 r·4 (claims· .8) (claims· .9)
-          "table::put_route") → Statement.Triple 𝓤 (Wp.WpFn 𝓤 H (𝓣 .C) (𝓣 .Λ) (Function.fnOf 3 ps r
-          xs m hs body)) (Function.plainOf 𝓤 H A 3 ps r Pre· Post·)
+          "table::put_row") (known2 : Plain.Known 𝓤 H A W 𝓣 2 ps·2 r·2 (claims· .4) (claims· .5)
+          "finish::put_second") (known3 : Plain.Known 𝓤 H A W 𝓣 0 ps·3 r·3 (claims· .6)
+          (claims· .7) "finish::route_of") (known4 : Plain.Known 𝓤 H A W 𝓣 1 ps·4 r·4 (claims· .8)
+          (claims· .9) "table::put_route") → Statement.Triple 𝓤 (Wp.WpFn 𝓤 H (𝓣 .C) (𝓣 .Λ)
+          (Function.fnOf 3 ps r xs m hs body)) (Function.plainOf 𝓤 H A 3 ps r Pre· Post·)
 
     module _ where
-      abbrev at0 : Typed.TF T40 O0
+      abbrev at0 : Typed.TF T36 O0
       at0 = Typed.atRet O0
 
-      abbrev at1 : Typed.TF T39 O0
-      at1 = λ Ψ. Typed.pass T39 T40 s38 (at0 Ψ)
+      abbrev at1 : Typed.TF T35 O0
+      at1 = λ Ψ. Typed.pass T35 T36 s34 (at0 Ψ)
 
-      abbrev at2 : Typed.TF T37 O0
-      at2 = λ Ψ. Typed.pass T37 T39 s37 (at1 Ψ)
+      abbrev at2 : Typed.TF T33 O0
+      at2 = λ Ψ. Typed.pass T33 T35 s33 (at1 Ψ)
 
-      abbrev at3 : Typed.TF T37 O0
+      abbrev at3 : Typed.TF T33 O0
       at3 = λ Ψ. at2 Ψ
 
-      abbrev at4 : Typed.TF T35 O0
-      at4 = λ Ψ. Typed.both s35 (at3 Ψ)
+      abbrev at4 : Typed.TF T31 O0
+      at4 = λ Ψ. Typed.both s31 (at3 Ψ)
 
-      abbrev at5 : Typed.TF T35 O0
+      abbrev at5 : Typed.TF T31 O0
       at5 = λ Ψ. at4 Ψ
 
-      abbrev at6 : Typed.TF T34 O0
-      at6 = λ Ψ. Typed.pass T34 T35 s33 (at5 Ψ)
+      abbrev at6 : Typed.TF T30 O0
+      at6 = λ Ψ. Typed.pass T30 T31 s29 (at5 Ψ)
 
-      abbrev at7 : Typed.TF T33 O0
-      at7 = λ Ψ. Typed.pass T33 T34 s32 (at6 Ψ)
+      abbrev at7 : Typed.TF T29 O0
+      at7 = λ Ψ. Typed.pass T29 T30 s28 (at6 Ψ)
 
-      abbrev at8 : Typed.TF T32 O0
-      at8 = λ Ψ. Typed.both s31 (at7 Ψ)
+      abbrev at8 : Typed.TF T28 O0
+      at8 = λ Ψ. Typed.both s27 (at7 Ψ)
 
-      abbrev at9 : Typed.TF T31 O0
-      at9 = λ Ψ. Typed.pass T31 T32 s30 (at8 Ψ)
+      abbrev at9 : Typed.TF T27 O0
+      at9 = λ Ψ. Typed.pass T27 T28 s26 (at8 Ψ)
 
-      abbrev at10 : Typed.TF T30 O0
-      at10 = λ Ψ. Typed.both s29 (at9 Ψ)
+      abbrev at10 : Typed.TF T26 O0
+      at10 = λ Ψ. Typed.both s25 (at9 Ψ)
 
-      abbrev at11 : Typed.TF T29 O0
-      at11 = λ Ψ. Typed.give s28 (at10 Ψ)
+      abbrev at11 : Typed.TF T25 O0
+      at11 = λ Ψ. Typed.give s24 (at10 Ψ)
 
-      abbrev at12 : Typed.TF T28 O0
-      at12 = λ Ψ. Typed.ask s27 (at11 Ψ)
+      abbrev at12 : Typed.TF T24 O0
+      at12 = λ Ψ. Typed.ask s23 (at11 Ψ)
 
-      abbrev at13 : Typed.TF T25 O0
-      at13 = λ Ψ. Typed.give s26 (at12 Ψ)
+      abbrev at13 : Typed.TF T21 O0
+      at13 = λ Ψ. Typed.give s22 (at12 Ψ)
 
-      abbrev at14 : Typed.TF T25 O0
+      abbrev at14 : Typed.TF T21 O0
       at14 = λ Ψ. at13 Ψ
 
-      abbrev at15 : Typed.TF T25 O0
+      abbrev at15 : Typed.TF T21 O0
       at15 = λ Ψ. at14 Ψ
 
-      abbrev at16 : Typed.TF T23 O0
-      at16 = λ Ψ. Typed.both s23 (at15 Ψ)
+      abbrev at16 : Typed.TF T19 O0
+      at16 = λ Ψ. Typed.both s19 (at15 Ψ)
 
-      abbrev at17 : Typed.TF T23 O0
+      abbrev at17 : Typed.TF T19 O0
       at17 = λ Ψ. at16 Ψ
 
-      abbrev at18 : Typed.TF T22 O0
-      at18 = λ Ψ. Typed.pass T22 T23 s21 (at17 Ψ)
+      abbrev at18 : Typed.TF T18 O0
+      at18 = λ Ψ. Typed.pass T18 T19 s17 (at17 Ψ)
 
-      abbrev at19 : Typed.TF T21 O0
-      at19 = λ Ψ. Typed.pass T21 T22 s20 (at18 Ψ)
+      abbrev at19 : Typed.TF T17 O0
+      at19 = λ Ψ. Typed.pass T17 T18 s16 (at18 Ψ)
 
-      abbrev at20 : Typed.TF T20 O0
-      at20 = λ Ψ. Typed.pass T20 T21 s19 (at19 Ψ)
+      abbrev at20 : Typed.TF T16 O0
+      at20 = λ Ψ. Typed.both s15 (at19 Ψ)
 
-      abbrev at21 : Typed.TF T19 O0
-      at21 = λ Ψ. Typed.both s18 (at20 Ψ)
+      abbrev at21 : Typed.TF T15 O0
+      at21 = λ Ψ. Typed.ask s14 (at20 Ψ)
 
-      abbrev at22 : Typed.TF T18 O0
-      at22 = λ Ψ. Typed.pass T18 T19 s17 (at21 Ψ)
+      abbrev at22 : Typed.TF T12 O0
+      at22 = λ Ψ. Typed.give s13 (at21 Ψ)
 
-      abbrev at23 : Typed.TF T17 O0
-      at23 = λ Ψ. Typed.both s16 (at22 Ψ)
+      abbrev at23 : Typed.TF T12 O0
+      at23 = λ Ψ. at22 Ψ
 
-      abbrev at24 : Typed.TF T16 O0
-      at24 = λ Ψ. Typed.give s15 (at23 Ψ)
+      abbrev at24 : Typed.TF T12 O0
+      at24 = λ Ψ. at23 Ψ
 
-      abbrev at25 : Typed.TF T15 O0
-      at25 = λ Ψ. Typed.ask s14 (at24 Ψ)
+      abbrev at25 : Typed.TF T10 O0
+      at25 = λ Ψ. Typed.both s10 (at24 Ψ)
 
-      abbrev at26 : Typed.TF T12 O0
-      at26 = λ Ψ. Typed.give s13 (at25 Ψ)
+      abbrev at26 : Typed.TF T10 O0
+      at26 = λ Ψ. at25 Ψ
 
-      abbrev at27 : Typed.TF T12 O0
-      at27 = λ Ψ. at26 Ψ
+      abbrev at27 : Typed.TF T9 O0
+      at27 = λ Ψ. Typed.pass T9 T10 s8 (at26 Ψ)
 
-      abbrev at28 : Typed.TF T12 O0
-      at28 = λ Ψ. at27 Ψ
+      abbrev at28 : Typed.TF T8 O0
+      at28 = λ Ψ. Typed.pass T8 T9 s7 (at27 Ψ)
 
-      abbrev at29 : Typed.TF T10 O0
-      at29 = λ Ψ. Typed.both s10 (at28 Ψ)
+      abbrev at29 : Typed.TF T7 O0
+      at29 = λ Ψ. Typed.both s6 (at28 Ψ)
 
-      abbrev at30 : Typed.TF T10 O0
-      at30 = λ Ψ. at29 Ψ
+      abbrev at30 : Typed.TF T6 O0
+      at30 = λ Ψ. Typed.pass T6 T7 s5 (at29 Ψ)
 
-      abbrev at31 : Typed.TF T9 O0
-      at31 = λ Ψ. Typed.pass T9 T10 s8 (at30 Ψ)
+      abbrev at31 : Typed.TF T5 O0
+      at31 = λ Ψ. Typed.both s4 (at30 Ψ)
 
-      abbrev at32 : Typed.TF T8 O0
-      at32 = λ Ψ. Typed.pass T8 T9 s7 (at31 Ψ)
+      abbrev at32 : Typed.TF T4 O0
+      at32 = λ Ψ. Typed.give s3 (at31 Ψ)
 
-      abbrev at33 : Typed.TF T7 O0
-      at33 = λ Ψ. Typed.both s6 (at32 Ψ)
+      abbrev at33 : Typed.TF T3 O0
+      at33 = λ Ψ. Typed.ask s2 (at32 Ψ)
 
-      abbrev at34 : Typed.TF T6 O0
-      at34 = λ Ψ. Typed.pass T6 T7 s5 (at33 Ψ)
+      abbrev at34 : Typed.TF T0 O0
+      at34 = λ Ψ. Typed.give s1 (at33 Ψ)
 
-      abbrev at35 : Typed.TF T5 O0
-      at35 = λ Ψ. Typed.both s4 (at34 Ψ)
-
-      abbrev at36 : Typed.TF T4 O0
-      at36 = λ Ψ. Typed.give s3 (at35 Ψ)
-
-      abbrev at37 : Typed.TF T3 O0
-      at37 = λ Ψ. Typed.ask s2 (at36 Ψ)
-
-      abbrev at38 : Typed.TF T0 O0
-      at38 = λ Ψ. Typed.give s1 (at37 Ψ)
-
-      abbrev at39 : Typed.TF T0 O0
-      at39 = λ Ψ. at38 Ψ
+      abbrev at35 : Typed.TF T0 O0
+      at35 = λ Ψ. at34 Ψ
 
       abbrev pub Φ : Typed.TF T0 O0
-      Φ = at39
+      Φ = at35
 
       module _ {M : Type 1} (𝓤 : URA.URA M) (H : Wp.Heap 𝓤) (A : Atoms.Atoms 𝓤)
           (W : Kit.Given 𝓤 H A) (𝓣 : Wp.Tables 𝓤 H) where
@@ -3200,7 +2853,7 @@ module _ (claims· : Claims) where
         Knowns =
             Plain.Known 𝓤 H A W 𝓣 0 ps·0 r·0 (claims· .0) (claims· .1) "finish::row_of" ×
             Plain.Known 𝓤 H A W 𝓣 1 ps·1 r·1 (claims· .2) (claims· .3) "table::put_row" ×
-            Plain.Known 𝓤 H A W 𝓣 0 ps·2 r·2 (claims· .4) (claims· .5) "finish::second_of" ×
+            Plain.Known 𝓤 H A W 𝓣 2 ps·2 r·2 (claims· .4) (claims· .5) "finish::put_second" ×
             Plain.Known 𝓤 H A W 𝓣 0 ps·3 r·3 (claims· .6) (claims· .7) "finish::route_of" ×
             Plain.Known 𝓤 H A W 𝓣 1 ps·4 r·4 (claims· .8) (claims· .9) "table::put_route"
 
@@ -3993,7 +3646,7 @@ module _ (claims· : Claims) where
               Syntax.imm
               (KDecided.named))
               2,
-        ) (List._∷_ (6, Rows'.any-gone Syntax.tyUnit) (List._∷_ (
+        ) (List._∷_ (6, Rows'.sc-here Row.sUnit) (List._∷_ (
           7,
           Rows'.any-gone
               (Syntax.tyRef Syntax.erased Syntax.mut (KInstanceRow.named)),
@@ -4007,17 +3660,16 @@ module _ (claims· : Claims) where
               (Syntax.tcons (Syntax.tyInt Syntax.w64) Syntax.tnil))),
         ) (List._∷_ (9, Rows'.any-gone (KInstanceRow.spelled)) (List._∷_ (
           10,
-          KDecided.row,
+          Rows'.any-gone (KDecided.spelled),
         ) (List._∷_ (
           11,
           Rows'.any-gone
               (Syntax.tyRef Syntax.erased Syntax.mut (KInstanceRow.named)),
         ) (List._∷_ (
           12,
-          Mut.mslice
+          Mut.msleft
               (KInstanceRow.R)
-              (Syntax.tyRef Syntax.erased Syntax.mut (KInstanceRow.named))
-              4,
+              (Syntax.tyRef Syntax.erased Syntax.mut (KInstanceRow.named)),
         ) (List._∷_ (
           13,
           Rows'.any-gone
@@ -4056,10 +3708,35 @@ module _ (claims· : Claims) where
               Syntax.mut
               (KRouteRow.named))
               1,
-        ) (List._∷_ (3, Rows'.whole (Declared.row Places.the-type)) (List._∷_ (
-          4,
-          Rows'.sc-here (Row.sInt Syntax.w64),
         ) (List._∷_ (
+          3,
+          Rows'.any-gone
+              (Syntax.tyStruct
+              (List._∷_
+              112
+              (List._∷_
+              108
+              (List._∷_
+              97
+              (List._∷_
+              99
+              (List._∷_
+              101
+              (List._∷_
+              58
+              (List._∷_
+              58
+              (List._∷_
+              80
+              (List._∷_
+              108
+              (List._∷_ 97 (List._∷_ 99 (List._∷_ 101 (List._∷_ 115 List.[])))))))))))))
+              (Syntax.tcons
+              Syntax.tyBool
+              (Syntax.tcons
+              (Syntax.tyInt Syntax.w64)
+              (Syntax.tcons (Syntax.tyInt Syntax.w64) Syntax.tnil)))),
+        ) (List._∷_ (4, Rows'.sc-here (Row.sInt Syntax.w64)) (List._∷_ (
           5,
           Rows'.sref
               (KDecided.R)
@@ -4068,7 +3745,7 @@ module _ (claims· : Claims) where
               Syntax.imm
               (KDecided.named))
               2,
-        ) (List._∷_ (6, Rows'.any-gone Syntax.tyUnit) (List._∷_ (
+        ) (List._∷_ (6, Rows'.sc-here Row.sUnit) (List._∷_ (
           7,
           Rows'.any-gone
               (Syntax.tyRef Syntax.erased Syntax.mut (KInstanceRow.named)),
@@ -4080,19 +3757,18 @@ module _ (claims· : Claims) where
               (Syntax.tcons
               (Syntax.tyRef Syntax.erased Syntax.mut (KInstanceRow.named))
               (Syntax.tcons (Syntax.tyInt Syntax.w64) Syntax.tnil))),
-        ) (List._∷_ (9, KInstanceRow.row) (List._∷_ (
+        ) (List._∷_ (9, Rows'.any-gone (KInstanceRow.spelled)) (List._∷_ (
           10,
-          KDecided.row,
+          Rows'.any-gone (KDecided.spelled),
         ) (List._∷_ (
           11,
           Rows'.any-gone
               (Syntax.tyRef Syntax.erased Syntax.mut (KInstanceRow.named)),
         ) (List._∷_ (
           12,
-          Mut.mslice
+          Mut.msleft
               (KInstanceRow.R)
-              (Syntax.tyRef Syntax.erased Syntax.mut (KInstanceRow.named))
-              4,
+              (Syntax.tyRef Syntax.erased Syntax.mut (KInstanceRow.named)),
         ) (List._∷_ (
           13,
           Rows'.any-gone
@@ -4112,353 +3788,6 @@ module _ (claims· : Claims) where
 
         abbrev g14 : List.List Row.Entry
         g14 = List._∷_ (0, Rows'.any-gone Syntax.tyUnit) (List._∷_ (
-          1,
-          Relend.mslice-owed
-              (KInstanceRow.R)
-              (Syntax.tyRef
-              (Syntax.named 0)
-              Syntax.mut
-              (KInstanceRow.named))
-              0
-              4
-              (Row.lease (κs .0) (qs .0)),
-        ) (List._∷_ (
-          2,
-          Mut.mslice
-              (KRouteRow.R)
-              (Syntax.tyRef
-              (Syntax.named 1)
-              Syntax.mut
-              (KRouteRow.named))
-              1,
-        ) (List._∷_ (3, Rows'.whole (Declared.row Places.the-type)) (List._∷_ (
-          4,
-          Rows'.sc-here (Row.sInt Syntax.w64),
-        ) (List._∷_ (
-          5,
-          Rows'.sref
-              (KDecided.R)
-              (Syntax.tyRef
-              (Syntax.named 2)
-              Syntax.imm
-              (KDecided.named))
-              2,
-        ) (List._∷_ (6, Rows'.any-gone Syntax.tyUnit) (List._∷_ (
-          7,
-          Rows'.any-gone
-              (Syntax.tyRef Syntax.erased Syntax.mut (KInstanceRow.named)),
-        ) (List._∷_ (
-          8,
-          Rows'.any-gone
-              (Syntax.tyStruct
-              (List._∷_ 38 (List._∷_ 91 (List._∷_ 93 List.[])))
-              (Syntax.tcons
-              (Syntax.tyRef Syntax.erased Syntax.mut (KInstanceRow.named))
-              (Syntax.tcons (Syntax.tyInt Syntax.w64) Syntax.tnil))),
-        ) (List._∷_ (9, KInstanceRow.row) (List._∷_ (
-          10,
-          Rows'.any-gone (KDecided.spelled),
-        ) (List._∷_ (
-          11,
-          Rows'.any-gone
-              (Syntax.tyRef Syntax.erased Syntax.mut (KInstanceRow.named)),
-        ) (List._∷_ (
-          12,
-          Mut.mslice
-              (KInstanceRow.R)
-              (Syntax.tyRef Syntax.erased Syntax.mut (KInstanceRow.named))
-              4,
-        ) (List._∷_ (
-          13,
-          Rows'.any-gone
-              (Syntax.tyRef Syntax.erased Syntax.mut (KRouteRow.named)),
-        ) (List._∷_ (
-          14,
-          Rows'.any-gone
-              (Syntax.tyStruct
-              (List._∷_ 38 (List._∷_ 91 (List._∷_ 93 List.[])))
-              (Syntax.tcons
-              (Syntax.tyRef Syntax.erased Syntax.mut (KRouteRow.named))
-              (Syntax.tcons (Syntax.tyInt Syntax.w64) Syntax.tnil))),
-        )
-            (List._∷_
-            (15, Rows'.any-gone (KRouteRow.spelled))
-            List.[])))))))))))))))
-
-        abbrev g15 : List.List Row.Entry
-        g15 = List._∷_ (0, Rows'.any-gone Syntax.tyUnit) (List._∷_ (
-          1,
-          Relend.mslice-owed
-              (KInstanceRow.R)
-              (Syntax.tyRef
-              (Syntax.named 0)
-              Syntax.mut
-              (KInstanceRow.named))
-              0
-              4
-              (Row.lease (κs .0) (qs .0)),
-        ) (List._∷_ (
-          2,
-          Mut.mslice
-              (KRouteRow.R)
-              (Syntax.tyRef
-              (Syntax.named 1)
-              Syntax.mut
-              (KRouteRow.named))
-              1,
-        ) (List._∷_ (3, Rows'.whole (Declared.row Places.the-type)) (List._∷_ (
-          4,
-          Rows'.sc-here (Row.sInt Syntax.w64),
-        ) (List._∷_ (
-          5,
-          Rows'.sref
-              (KDecided.R)
-              (Syntax.tyRef
-              (Syntax.named 2)
-              Syntax.imm
-              (KDecided.named))
-              2,
-        ) (List._∷_ (6, Rows'.sc-here Row.sUnit) (List._∷_ (
-          7,
-          Rows'.any-gone
-              (Syntax.tyRef Syntax.erased Syntax.mut (KInstanceRow.named)),
-        ) (List._∷_ (
-          8,
-          Rows'.any-gone
-              (Syntax.tyStruct
-              (List._∷_ 38 (List._∷_ 91 (List._∷_ 93 List.[])))
-              (Syntax.tcons
-              (Syntax.tyRef Syntax.erased Syntax.mut (KInstanceRow.named))
-              (Syntax.tcons (Syntax.tyInt Syntax.w64) Syntax.tnil))),
-        ) (List._∷_ (9, KInstanceRow.row) (List._∷_ (
-          10,
-          Rows'.any-gone (KDecided.spelled),
-        ) (List._∷_ (
-          11,
-          Rows'.any-gone
-              (Syntax.tyRef Syntax.erased Syntax.mut (KInstanceRow.named)),
-        ) (List._∷_ (
-          12,
-          Mut.msleft
-              (KInstanceRow.R)
-              (Syntax.tyRef Syntax.erased Syntax.mut (KInstanceRow.named)),
-        ) (List._∷_ (
-          13,
-          Rows'.any-gone
-              (Syntax.tyRef Syntax.erased Syntax.mut (KRouteRow.named)),
-        ) (List._∷_ (
-          14,
-          Rows'.any-gone
-              (Syntax.tyStruct
-              (List._∷_ 38 (List._∷_ 91 (List._∷_ 93 List.[])))
-              (Syntax.tcons
-              (Syntax.tyRef Syntax.erased Syntax.mut (KRouteRow.named))
-              (Syntax.tcons (Syntax.tyInt Syntax.w64) Syntax.tnil))),
-        )
-            (List._∷_
-            (15, Rows'.any-gone (KRouteRow.spelled))
-            List.[])))))))))))))))
-
-        abbrev g16 : List.List Row.Entry
-        g16 = List._∷_ (0, Rows'.any-gone Syntax.tyUnit) (List._∷_ (
-          1,
-          Relend.mslice-owed
-              (KInstanceRow.R)
-              (Syntax.tyRef
-              (Syntax.named 0)
-              Syntax.mut
-              (KInstanceRow.named))
-              0
-              4
-              (Row.lease (κs .0) (qs .0)),
-        ) (List._∷_ (
-          2,
-          Mut.mslice
-              (KRouteRow.R)
-              (Syntax.tyRef
-              (Syntax.named 1)
-              Syntax.mut
-              (KRouteRow.named))
-              1,
-        ) (List._∷_ (
-          3,
-          Rows'.any-gone
-              (Syntax.tyStruct
-              (List._∷_
-              112
-              (List._∷_
-              108
-              (List._∷_
-              97
-              (List._∷_
-              99
-              (List._∷_
-              101
-              (List._∷_
-              58
-              (List._∷_
-              58
-              (List._∷_
-              80
-              (List._∷_
-              108
-              (List._∷_ 97 (List._∷_ 99 (List._∷_ 101 (List._∷_ 115 List.[])))))))))))))
-              (Syntax.tcons
-              Syntax.tyBool
-              (Syntax.tcons
-              (Syntax.tyInt Syntax.w64)
-              (Syntax.tcons (Syntax.tyInt Syntax.w64) Syntax.tnil)))),
-        ) (List._∷_ (4, Rows'.sc-here (Row.sInt Syntax.w64)) (List._∷_ (
-          5,
-          Rows'.sref
-              (KDecided.R)
-              (Syntax.tyRef
-              (Syntax.named 2)
-              Syntax.imm
-              (KDecided.named))
-              2,
-        ) (List._∷_ (6, Rows'.sc-here Row.sUnit) (List._∷_ (
-          7,
-          Rows'.any-gone
-              (Syntax.tyRef Syntax.erased Syntax.mut (KInstanceRow.named)),
-        ) (List._∷_ (
-          8,
-          Rows'.any-gone
-              (Syntax.tyStruct
-              (List._∷_ 38 (List._∷_ 91 (List._∷_ 93 List.[])))
-              (Syntax.tcons
-              (Syntax.tyRef Syntax.erased Syntax.mut (KInstanceRow.named))
-              (Syntax.tcons (Syntax.tyInt Syntax.w64) Syntax.tnil))),
-        ) (List._∷_ (9, KInstanceRow.row) (List._∷_ (
-          10,
-          Rows'.any-gone (KDecided.spelled),
-        ) (List._∷_ (
-          11,
-          Rows'.any-gone
-              (Syntax.tyRef Syntax.erased Syntax.mut (KInstanceRow.named)),
-        ) (List._∷_ (
-          12,
-          Mut.msleft
-              (KInstanceRow.R)
-              (Syntax.tyRef Syntax.erased Syntax.mut (KInstanceRow.named)),
-        ) (List._∷_ (
-          13,
-          Rows'.any-gone
-              (Syntax.tyRef Syntax.erased Syntax.mut (KRouteRow.named)),
-        ) (List._∷_ (
-          14,
-          Rows'.any-gone
-              (Syntax.tyStruct
-              (List._∷_ 38 (List._∷_ 91 (List._∷_ 93 List.[])))
-              (Syntax.tcons
-              (Syntax.tyRef Syntax.erased Syntax.mut (KRouteRow.named))
-              (Syntax.tcons (Syntax.tyInt Syntax.w64) Syntax.tnil))),
-        )
-            (List._∷_
-            (15, Rows'.any-gone (KRouteRow.spelled))
-            List.[])))))))))))))))
-
-        abbrev g17 : List.List Row.Entry
-        g17 = List._∷_ (0, Rows'.any-gone Syntax.tyUnit) (List._∷_ (
-          1,
-          Relend.mslice-owed
-              (KInstanceRow.R)
-              (Syntax.tyRef
-              (Syntax.named 0)
-              Syntax.mut
-              (KInstanceRow.named))
-              0
-              4
-              (Row.lease (κs .0) (qs .0)),
-        ) (List._∷_ (
-          2,
-          Mut.mslice
-              (KRouteRow.R)
-              (Syntax.tyRef
-              (Syntax.named 1)
-              Syntax.mut
-              (KRouteRow.named))
-              1,
-        ) (List._∷_ (
-          3,
-          Rows'.any-gone
-              (Syntax.tyStruct
-              (List._∷_
-              112
-              (List._∷_
-              108
-              (List._∷_
-              97
-              (List._∷_
-              99
-              (List._∷_
-              101
-              (List._∷_
-              58
-              (List._∷_
-              58
-              (List._∷_
-              80
-              (List._∷_
-              108
-              (List._∷_ 97 (List._∷_ 99 (List._∷_ 101 (List._∷_ 115 List.[])))))))))))))
-              (Syntax.tcons
-              Syntax.tyBool
-              (Syntax.tcons
-              (Syntax.tyInt Syntax.w64)
-              (Syntax.tcons (Syntax.tyInt Syntax.w64) Syntax.tnil)))),
-        ) (List._∷_ (4, Rows'.sc-here (Row.sInt Syntax.w64)) (List._∷_ (
-          5,
-          Rows'.sref
-              (KDecided.R)
-              (Syntax.tyRef
-              (Syntax.named 2)
-              Syntax.imm
-              (KDecided.named))
-              2,
-        ) (List._∷_ (6, Rows'.any-gone Syntax.tyUnit) (List._∷_ (
-          7,
-          Rows'.any-gone
-              (Syntax.tyRef Syntax.erased Syntax.mut (KInstanceRow.named)),
-        ) (List._∷_ (
-          8,
-          Rows'.any-gone
-              (Syntax.tyStruct
-              (List._∷_ 38 (List._∷_ 91 (List._∷_ 93 List.[])))
-              (Syntax.tcons
-              (Syntax.tyRef Syntax.erased Syntax.mut (KInstanceRow.named))
-              (Syntax.tcons (Syntax.tyInt Syntax.w64) Syntax.tnil))),
-        ) (List._∷_ (9, KInstanceRow.row) (List._∷_ (
-          10,
-          Rows'.any-gone (KDecided.spelled),
-        ) (List._∷_ (
-          11,
-          Rows'.any-gone
-              (Syntax.tyRef Syntax.erased Syntax.mut (KInstanceRow.named)),
-        ) (List._∷_ (
-          12,
-          Mut.msleft
-              (KInstanceRow.R)
-              (Syntax.tyRef Syntax.erased Syntax.mut (KInstanceRow.named)),
-        ) (List._∷_ (
-          13,
-          Rows'.any-gone
-              (Syntax.tyRef Syntax.erased Syntax.mut (KRouteRow.named)),
-        ) (List._∷_ (
-          14,
-          Rows'.any-gone
-              (Syntax.tyStruct
-              (List._∷_ 38 (List._∷_ 91 (List._∷_ 93 List.[])))
-              (Syntax.tcons
-              (Syntax.tyRef Syntax.erased Syntax.mut (KRouteRow.named))
-              (Syntax.tcons (Syntax.tyInt Syntax.w64) Syntax.tnil))),
-        )
-            (List._∷_
-            (15, Rows'.any-gone (KRouteRow.spelled))
-            List.[])))))))))))))))
-
-        abbrev g18 : List.List Row.Entry
-        g18 = List._∷_ (0, Rows'.any-gone Syntax.tyUnit) (List._∷_ (
           1,
           Relend.mslice-owed
               (KInstanceRow.R)
@@ -4556,8 +3885,8 @@ module _ (claims· : Claims) where
             (15, Rows'.any-gone (KRouteRow.spelled))
             List.[])))))))))))))))
 
-        abbrev g20 : List.List Row.Entry
-        g20 = List._∷_ (0, Rows'.any-gone Syntax.tyUnit) (List._∷_ (
+        abbrev g16 : List.List Row.Entry
+        g16 = List._∷_ (0, Rows'.any-gone Syntax.tyUnit) (List._∷_ (
           1,
           Mut.mslice
               (KInstanceRow.R)
@@ -4660,408 +3989,408 @@ module _ (claims· : Claims) where
             (15, Rows'.any-gone (KRouteRow.spelled))
             List.[])))))))))))))))
 
+        abbrev g17 : List.List Row.Entry
+        g17 = List._∷_ (0, Rows'.any-gone Syntax.tyUnit) (List._∷_ (
+          1,
+          Mut.mslice
+              (KInstanceRow.R)
+              (Syntax.tyRef
+              (Syntax.named 0)
+              Syntax.mut
+              (KInstanceRow.named))
+              0,
+        ) (List._∷_ (
+          2,
+          Relend.mslice-owed
+              (KRouteRow.R)
+              (Syntax.tyRef
+              (Syntax.named 1)
+              Syntax.mut
+              (KRouteRow.named))
+              1
+              5
+              (Row.lease (κs .1 .0) (qs .1 .0)),
+        ) (List._∷_ (
+          3,
+          Rows'.any-gone
+              (Syntax.tyStruct
+              (List._∷_
+              112
+              (List._∷_
+              108
+              (List._∷_
+              97
+              (List._∷_
+              99
+              (List._∷_
+              101
+              (List._∷_
+              58
+              (List._∷_
+              58
+              (List._∷_
+              80
+              (List._∷_
+              108
+              (List._∷_ 97 (List._∷_ 99 (List._∷_ 101 (List._∷_ 115 List.[])))))))))))))
+              (Syntax.tcons
+              Syntax.tyBool
+              (Syntax.tcons
+              (Syntax.tyInt Syntax.w64)
+              (Syntax.tcons (Syntax.tyInt Syntax.w64) Syntax.tnil)))),
+        ) (List._∷_ (4, Rows'.sc-here (Row.sInt Syntax.w64)) (List._∷_ (
+          5,
+          Rows'.sref
+              (KDecided.R)
+              (Syntax.tyRef
+              (Syntax.named 2)
+              Syntax.imm
+              (KDecided.named))
+              2,
+        ) (List._∷_ (6, Rows'.any-gone Syntax.tyUnit) (List._∷_ (
+          7,
+          Rows'.any-gone
+              (Syntax.tyRef Syntax.erased Syntax.mut (KInstanceRow.named)),
+        ) (List._∷_ (
+          8,
+          Rows'.any-gone
+              (Syntax.tyStruct
+              (List._∷_ 38 (List._∷_ 91 (List._∷_ 93 List.[])))
+              (Syntax.tcons
+              (Syntax.tyRef Syntax.erased Syntax.mut (KInstanceRow.named))
+              (Syntax.tcons (Syntax.tyInt Syntax.w64) Syntax.tnil))),
+        ) (List._∷_ (9, Rows'.any-gone (KInstanceRow.spelled)) (List._∷_ (
+          10,
+          Rows'.any-gone (KDecided.spelled),
+        ) (List._∷_ (
+          11,
+          Rows'.any-gone
+              (Syntax.tyRef Syntax.erased Syntax.mut (KInstanceRow.named)),
+        ) (List._∷_ (
+          12,
+          Rows'.any-gone
+              (Syntax.tyStruct
+              (List._∷_ 38 (List._∷_ 91 (List._∷_ 93 List.[])))
+              (Syntax.tcons
+              (Syntax.tyRef Syntax.erased Syntax.mut (KInstanceRow.named))
+              (Syntax.tcons (Syntax.tyInt Syntax.w64) Syntax.tnil))),
+        ) (List._∷_ (
+          13,
+          Rows'.any-gone
+              (Syntax.tyRef Syntax.erased Syntax.mut (KRouteRow.named)),
+        ) (List._∷_ (
+          14,
+          Mut.mslice
+              (KRouteRow.R)
+              (Syntax.tyRef Syntax.erased Syntax.mut (KRouteRow.named))
+              5,
+        )
+            (List._∷_
+            (15, Rows'.any-gone (KRouteRow.spelled))
+            List.[])))))))))))))))
+
+        abbrev g18 : List.List Row.Entry
+        g18 = List._∷_ (0, Rows'.any-gone Syntax.tyUnit) (List._∷_ (
+          1,
+          Mut.mslice
+              (KInstanceRow.R)
+              (Syntax.tyRef
+              (Syntax.named 0)
+              Syntax.mut
+              (KInstanceRow.named))
+              0,
+        ) (List._∷_ (
+          2,
+          Relend.mslice-owed
+              (KRouteRow.R)
+              (Syntax.tyRef
+              (Syntax.named 1)
+              Syntax.mut
+              (KRouteRow.named))
+              1
+              5
+              (Row.lease (κs .1 .0) (qs .1 .0)),
+        ) (List._∷_ (
+          3,
+          Rows'.any-gone
+              (Syntax.tyStruct
+              (List._∷_
+              112
+              (List._∷_
+              108
+              (List._∷_
+              97
+              (List._∷_
+              99
+              (List._∷_
+              101
+              (List._∷_
+              58
+              (List._∷_
+              58
+              (List._∷_
+              80
+              (List._∷_
+              108
+              (List._∷_ 97 (List._∷_ 99 (List._∷_ 101 (List._∷_ 115 List.[])))))))))))))
+              (Syntax.tcons
+              Syntax.tyBool
+              (Syntax.tcons
+              (Syntax.tyInt Syntax.w64)
+              (Syntax.tcons (Syntax.tyInt Syntax.w64) Syntax.tnil)))),
+        ) (List._∷_ (4, Rows'.sc-here (Row.sInt Syntax.w64)) (List._∷_ (
+          5,
+          Rows'.sref
+              (KDecided.R)
+              (Syntax.tyRef
+              (Syntax.named 2)
+              Syntax.imm
+              (KDecided.named))
+              2,
+        ) (List._∷_ (6, Rows'.any-gone Syntax.tyUnit) (List._∷_ (
+          7,
+          Rows'.any-gone
+              (Syntax.tyRef Syntax.erased Syntax.mut (KInstanceRow.named)),
+        ) (List._∷_ (
+          8,
+          Rows'.any-gone
+              (Syntax.tyStruct
+              (List._∷_ 38 (List._∷_ 91 (List._∷_ 93 List.[])))
+              (Syntax.tcons
+              (Syntax.tyRef Syntax.erased Syntax.mut (KInstanceRow.named))
+              (Syntax.tcons (Syntax.tyInt Syntax.w64) Syntax.tnil))),
+        ) (List._∷_ (9, Rows'.any-gone (KInstanceRow.spelled)) (List._∷_ (
+          10,
+          KDecided.row,
+        ) (List._∷_ (
+          11,
+          Rows'.any-gone
+              (Syntax.tyRef Syntax.erased Syntax.mut (KInstanceRow.named)),
+        ) (List._∷_ (
+          12,
+          Rows'.any-gone
+              (Syntax.tyStruct
+              (List._∷_ 38 (List._∷_ 91 (List._∷_ 93 List.[])))
+              (Syntax.tcons
+              (Syntax.tyRef Syntax.erased Syntax.mut (KInstanceRow.named))
+              (Syntax.tcons (Syntax.tyInt Syntax.w64) Syntax.tnil))),
+        ) (List._∷_ (
+          13,
+          Rows'.any-gone
+              (Syntax.tyRef Syntax.erased Syntax.mut (KRouteRow.named)),
+        ) (List._∷_ (
+          14,
+          Mut.mslice
+              (KRouteRow.R)
+              (Syntax.tyRef Syntax.erased Syntax.mut (KRouteRow.named))
+              5,
+        )
+            (List._∷_
+            (15, Rows'.any-gone (KRouteRow.spelled))
+            List.[])))))))))))))))
+
+        abbrev g19 : List.List Row.Entry
+        g19 = List._∷_ (0, Rows'.any-gone Syntax.tyUnit) (List._∷_ (
+          1,
+          Mut.mslice
+              (KInstanceRow.R)
+              (Syntax.tyRef
+              (Syntax.named 0)
+              Syntax.mut
+              (KInstanceRow.named))
+              0,
+        ) (List._∷_ (
+          2,
+          Relend.mslice-owed
+              (KRouteRow.R)
+              (Syntax.tyRef
+              (Syntax.named 1)
+              Syntax.mut
+              (KRouteRow.named))
+              1
+              5
+              (Row.lease (κs .1 .0) (qs .1 .0)),
+        ) (List._∷_ (
+          3,
+          Rows'.any-gone
+              (Syntax.tyStruct
+              (List._∷_
+              112
+              (List._∷_
+              108
+              (List._∷_
+              97
+              (List._∷_
+              99
+              (List._∷_
+              101
+              (List._∷_
+              58
+              (List._∷_
+              58
+              (List._∷_
+              80
+              (List._∷_
+              108
+              (List._∷_ 97 (List._∷_ 99 (List._∷_ 101 (List._∷_ 115 List.[])))))))))))))
+              (Syntax.tcons
+              Syntax.tyBool
+              (Syntax.tcons
+              (Syntax.tyInt Syntax.w64)
+              (Syntax.tcons (Syntax.tyInt Syntax.w64) Syntax.tnil)))),
+        ) (List._∷_ (4, Rows'.sc-here (Row.sInt Syntax.w64)) (List._∷_ (
+          5,
+          Rows'.sref
+              (KDecided.R)
+              (Syntax.tyRef
+              (Syntax.named 2)
+              Syntax.imm
+              (KDecided.named))
+              2,
+        ) (List._∷_ (6, Rows'.any-gone Syntax.tyUnit) (List._∷_ (
+          7,
+          Rows'.any-gone
+              (Syntax.tyRef Syntax.erased Syntax.mut (KInstanceRow.named)),
+        ) (List._∷_ (
+          8,
+          Rows'.any-gone
+              (Syntax.tyStruct
+              (List._∷_ 38 (List._∷_ 91 (List._∷_ 93 List.[])))
+              (Syntax.tcons
+              (Syntax.tyRef Syntax.erased Syntax.mut (KInstanceRow.named))
+              (Syntax.tcons (Syntax.tyInt Syntax.w64) Syntax.tnil))),
+        ) (List._∷_ (9, Rows'.any-gone (KInstanceRow.spelled)) (List._∷_ (
+          10,
+          KDecided.row,
+        ) (List._∷_ (
+          11,
+          Rows'.any-gone
+              (Syntax.tyRef Syntax.erased Syntax.mut (KInstanceRow.named)),
+        ) (List._∷_ (
+          12,
+          Rows'.any-gone
+              (Syntax.tyStruct
+              (List._∷_ 38 (List._∷_ 91 (List._∷_ 93 List.[])))
+              (Syntax.tcons
+              (Syntax.tyRef Syntax.erased Syntax.mut (KInstanceRow.named))
+              (Syntax.tcons (Syntax.tyInt Syntax.w64) Syntax.tnil))),
+        ) (List._∷_ (
+          13,
+          Rows'.any-gone
+              (Syntax.tyRef Syntax.erased Syntax.mut (KRouteRow.named)),
+        ) (List._∷_ (
+          14,
+          Mut.mslice
+              (KRouteRow.R)
+              (Syntax.tyRef Syntax.erased Syntax.mut (KRouteRow.named))
+              5,
+        )
+            (List._∷_
+            (15, KRouteRow.row)
+            List.[])))))))))))))))
+
+        abbrev g20 : List.List Row.Entry
+        g20 = List._∷_ (0, Rows'.any-gone Syntax.tyUnit) (List._∷_ (
+          1,
+          Mut.mslice
+              (KInstanceRow.R)
+              (Syntax.tyRef
+              (Syntax.named 0)
+              Syntax.mut
+              (KInstanceRow.named))
+              0,
+        ) (List._∷_ (
+          2,
+          Relend.mslice-owed
+              (KRouteRow.R)
+              (Syntax.tyRef
+              (Syntax.named 1)
+              Syntax.mut
+              (KRouteRow.named))
+              1
+              5
+              (Row.lease (κs .1 .0) (qs .1 .0)),
+        ) (List._∷_ (
+          3,
+          Rows'.any-gone
+              (Syntax.tyStruct
+              (List._∷_
+              112
+              (List._∷_
+              108
+              (List._∷_
+              97
+              (List._∷_
+              99
+              (List._∷_
+              101
+              (List._∷_
+              58
+              (List._∷_
+              58
+              (List._∷_
+              80
+              (List._∷_
+              108
+              (List._∷_ 97 (List._∷_ 99 (List._∷_ 101 (List._∷_ 115 List.[])))))))))))))
+              (Syntax.tcons
+              Syntax.tyBool
+              (Syntax.tcons
+              (Syntax.tyInt Syntax.w64)
+              (Syntax.tcons (Syntax.tyInt Syntax.w64) Syntax.tnil)))),
+        ) (List._∷_ (4, Rows'.sc-here (Row.sInt Syntax.w64)) (List._∷_ (
+          5,
+          Rows'.sref
+              (KDecided.R)
+              (Syntax.tyRef
+              (Syntax.named 2)
+              Syntax.imm
+              (KDecided.named))
+              2,
+        ) (List._∷_ (6, Rows'.any-gone Syntax.tyUnit) (List._∷_ (
+          7,
+          Rows'.any-gone
+              (Syntax.tyRef Syntax.erased Syntax.mut (KInstanceRow.named)),
+        ) (List._∷_ (
+          8,
+          Rows'.any-gone
+              (Syntax.tyStruct
+              (List._∷_ 38 (List._∷_ 91 (List._∷_ 93 List.[])))
+              (Syntax.tcons
+              (Syntax.tyRef Syntax.erased Syntax.mut (KInstanceRow.named))
+              (Syntax.tcons (Syntax.tyInt Syntax.w64) Syntax.tnil))),
+        ) (List._∷_ (9, Rows'.any-gone (KInstanceRow.spelled)) (List._∷_ (
+          10,
+          Rows'.any-gone (KDecided.spelled),
+        ) (List._∷_ (
+          11,
+          Rows'.any-gone
+              (Syntax.tyRef Syntax.erased Syntax.mut (KInstanceRow.named)),
+        ) (List._∷_ (
+          12,
+          Rows'.any-gone
+              (Syntax.tyStruct
+              (List._∷_ 38 (List._∷_ 91 (List._∷_ 93 List.[])))
+              (Syntax.tcons
+              (Syntax.tyRef Syntax.erased Syntax.mut (KInstanceRow.named))
+              (Syntax.tcons (Syntax.tyInt Syntax.w64) Syntax.tnil))),
+        ) (List._∷_ (
+          13,
+          Rows'.any-gone
+              (Syntax.tyRef Syntax.erased Syntax.mut (KRouteRow.named)),
+        ) (List._∷_ (
+          14,
+          Mut.mslice
+              (KRouteRow.R)
+              (Syntax.tyRef Syntax.erased Syntax.mut (KRouteRow.named))
+              5,
+        )
+            (List._∷_
+            (15, KRouteRow.row)
+            List.[])))))))))))))))
+
         abbrev g21 : List.List Row.Entry
         g21 = List._∷_ (0, Rows'.any-gone Syntax.tyUnit) (List._∷_ (
-          1,
-          Mut.mslice
-              (KInstanceRow.R)
-              (Syntax.tyRef
-              (Syntax.named 0)
-              Syntax.mut
-              (KInstanceRow.named))
-              0,
-        ) (List._∷_ (
-          2,
-          Relend.mslice-owed
-              (KRouteRow.R)
-              (Syntax.tyRef
-              (Syntax.named 1)
-              Syntax.mut
-              (KRouteRow.named))
-              1
-              5
-              (Row.lease (κs .1 .0) (qs .1 .0)),
-        ) (List._∷_ (
-          3,
-          Rows'.any-gone
-              (Syntax.tyStruct
-              (List._∷_
-              112
-              (List._∷_
-              108
-              (List._∷_
-              97
-              (List._∷_
-              99
-              (List._∷_
-              101
-              (List._∷_
-              58
-              (List._∷_
-              58
-              (List._∷_
-              80
-              (List._∷_
-              108
-              (List._∷_ 97 (List._∷_ 99 (List._∷_ 101 (List._∷_ 115 List.[])))))))))))))
-              (Syntax.tcons
-              Syntax.tyBool
-              (Syntax.tcons
-              (Syntax.tyInt Syntax.w64)
-              (Syntax.tcons (Syntax.tyInt Syntax.w64) Syntax.tnil)))),
-        ) (List._∷_ (4, Rows'.sc-here (Row.sInt Syntax.w64)) (List._∷_ (
-          5,
-          Rows'.sref
-              (KDecided.R)
-              (Syntax.tyRef
-              (Syntax.named 2)
-              Syntax.imm
-              (KDecided.named))
-              2,
-        ) (List._∷_ (6, Rows'.any-gone Syntax.tyUnit) (List._∷_ (
-          7,
-          Rows'.any-gone
-              (Syntax.tyRef Syntax.erased Syntax.mut (KInstanceRow.named)),
-        ) (List._∷_ (
-          8,
-          Rows'.any-gone
-              (Syntax.tyStruct
-              (List._∷_ 38 (List._∷_ 91 (List._∷_ 93 List.[])))
-              (Syntax.tcons
-              (Syntax.tyRef Syntax.erased Syntax.mut (KInstanceRow.named))
-              (Syntax.tcons (Syntax.tyInt Syntax.w64) Syntax.tnil))),
-        ) (List._∷_ (9, Rows'.any-gone (KInstanceRow.spelled)) (List._∷_ (
-          10,
-          Rows'.any-gone (KDecided.spelled),
-        ) (List._∷_ (
-          11,
-          Rows'.any-gone
-              (Syntax.tyRef Syntax.erased Syntax.mut (KInstanceRow.named)),
-        ) (List._∷_ (
-          12,
-          Rows'.any-gone
-              (Syntax.tyStruct
-              (List._∷_ 38 (List._∷_ 91 (List._∷_ 93 List.[])))
-              (Syntax.tcons
-              (Syntax.tyRef Syntax.erased Syntax.mut (KInstanceRow.named))
-              (Syntax.tcons (Syntax.tyInt Syntax.w64) Syntax.tnil))),
-        ) (List._∷_ (
-          13,
-          Rows'.any-gone
-              (Syntax.tyRef Syntax.erased Syntax.mut (KRouteRow.named)),
-        ) (List._∷_ (
-          14,
-          Mut.mslice
-              (KRouteRow.R)
-              (Syntax.tyRef Syntax.erased Syntax.mut (KRouteRow.named))
-              5,
-        )
-            (List._∷_
-            (15, Rows'.any-gone (KRouteRow.spelled))
-            List.[])))))))))))))))
-
-        abbrev g22 : List.List Row.Entry
-        g22 = List._∷_ (0, Rows'.any-gone Syntax.tyUnit) (List._∷_ (
-          1,
-          Mut.mslice
-              (KInstanceRow.R)
-              (Syntax.tyRef
-              (Syntax.named 0)
-              Syntax.mut
-              (KInstanceRow.named))
-              0,
-        ) (List._∷_ (
-          2,
-          Relend.mslice-owed
-              (KRouteRow.R)
-              (Syntax.tyRef
-              (Syntax.named 1)
-              Syntax.mut
-              (KRouteRow.named))
-              1
-              5
-              (Row.lease (κs .1 .0) (qs .1 .0)),
-        ) (List._∷_ (
-          3,
-          Rows'.any-gone
-              (Syntax.tyStruct
-              (List._∷_
-              112
-              (List._∷_
-              108
-              (List._∷_
-              97
-              (List._∷_
-              99
-              (List._∷_
-              101
-              (List._∷_
-              58
-              (List._∷_
-              58
-              (List._∷_
-              80
-              (List._∷_
-              108
-              (List._∷_ 97 (List._∷_ 99 (List._∷_ 101 (List._∷_ 115 List.[])))))))))))))
-              (Syntax.tcons
-              Syntax.tyBool
-              (Syntax.tcons
-              (Syntax.tyInt Syntax.w64)
-              (Syntax.tcons (Syntax.tyInt Syntax.w64) Syntax.tnil)))),
-        ) (List._∷_ (4, Rows'.sc-here (Row.sInt Syntax.w64)) (List._∷_ (
-          5,
-          Rows'.sref
-              (KDecided.R)
-              (Syntax.tyRef
-              (Syntax.named 2)
-              Syntax.imm
-              (KDecided.named))
-              2,
-        ) (List._∷_ (6, Rows'.any-gone Syntax.tyUnit) (List._∷_ (
-          7,
-          Rows'.any-gone
-              (Syntax.tyRef Syntax.erased Syntax.mut (KInstanceRow.named)),
-        ) (List._∷_ (
-          8,
-          Rows'.any-gone
-              (Syntax.tyStruct
-              (List._∷_ 38 (List._∷_ 91 (List._∷_ 93 List.[])))
-              (Syntax.tcons
-              (Syntax.tyRef Syntax.erased Syntax.mut (KInstanceRow.named))
-              (Syntax.tcons (Syntax.tyInt Syntax.w64) Syntax.tnil))),
-        ) (List._∷_ (9, Rows'.any-gone (KInstanceRow.spelled)) (List._∷_ (
-          10,
-          KDecided.row,
-        ) (List._∷_ (
-          11,
-          Rows'.any-gone
-              (Syntax.tyRef Syntax.erased Syntax.mut (KInstanceRow.named)),
-        ) (List._∷_ (
-          12,
-          Rows'.any-gone
-              (Syntax.tyStruct
-              (List._∷_ 38 (List._∷_ 91 (List._∷_ 93 List.[])))
-              (Syntax.tcons
-              (Syntax.tyRef Syntax.erased Syntax.mut (KInstanceRow.named))
-              (Syntax.tcons (Syntax.tyInt Syntax.w64) Syntax.tnil))),
-        ) (List._∷_ (
-          13,
-          Rows'.any-gone
-              (Syntax.tyRef Syntax.erased Syntax.mut (KRouteRow.named)),
-        ) (List._∷_ (
-          14,
-          Mut.mslice
-              (KRouteRow.R)
-              (Syntax.tyRef Syntax.erased Syntax.mut (KRouteRow.named))
-              5,
-        )
-            (List._∷_
-            (15, Rows'.any-gone (KRouteRow.spelled))
-            List.[])))))))))))))))
-
-        abbrev g23 : List.List Row.Entry
-        g23 = List._∷_ (0, Rows'.any-gone Syntax.tyUnit) (List._∷_ (
-          1,
-          Mut.mslice
-              (KInstanceRow.R)
-              (Syntax.tyRef
-              (Syntax.named 0)
-              Syntax.mut
-              (KInstanceRow.named))
-              0,
-        ) (List._∷_ (
-          2,
-          Relend.mslice-owed
-              (KRouteRow.R)
-              (Syntax.tyRef
-              (Syntax.named 1)
-              Syntax.mut
-              (KRouteRow.named))
-              1
-              5
-              (Row.lease (κs .1 .0) (qs .1 .0)),
-        ) (List._∷_ (
-          3,
-          Rows'.any-gone
-              (Syntax.tyStruct
-              (List._∷_
-              112
-              (List._∷_
-              108
-              (List._∷_
-              97
-              (List._∷_
-              99
-              (List._∷_
-              101
-              (List._∷_
-              58
-              (List._∷_
-              58
-              (List._∷_
-              80
-              (List._∷_
-              108
-              (List._∷_ 97 (List._∷_ 99 (List._∷_ 101 (List._∷_ 115 List.[])))))))))))))
-              (Syntax.tcons
-              Syntax.tyBool
-              (Syntax.tcons
-              (Syntax.tyInt Syntax.w64)
-              (Syntax.tcons (Syntax.tyInt Syntax.w64) Syntax.tnil)))),
-        ) (List._∷_ (4, Rows'.sc-here (Row.sInt Syntax.w64)) (List._∷_ (
-          5,
-          Rows'.sref
-              (KDecided.R)
-              (Syntax.tyRef
-              (Syntax.named 2)
-              Syntax.imm
-              (KDecided.named))
-              2,
-        ) (List._∷_ (6, Rows'.any-gone Syntax.tyUnit) (List._∷_ (
-          7,
-          Rows'.any-gone
-              (Syntax.tyRef Syntax.erased Syntax.mut (KInstanceRow.named)),
-        ) (List._∷_ (
-          8,
-          Rows'.any-gone
-              (Syntax.tyStruct
-              (List._∷_ 38 (List._∷_ 91 (List._∷_ 93 List.[])))
-              (Syntax.tcons
-              (Syntax.tyRef Syntax.erased Syntax.mut (KInstanceRow.named))
-              (Syntax.tcons (Syntax.tyInt Syntax.w64) Syntax.tnil))),
-        ) (List._∷_ (9, Rows'.any-gone (KInstanceRow.spelled)) (List._∷_ (
-          10,
-          KDecided.row,
-        ) (List._∷_ (
-          11,
-          Rows'.any-gone
-              (Syntax.tyRef Syntax.erased Syntax.mut (KInstanceRow.named)),
-        ) (List._∷_ (
-          12,
-          Rows'.any-gone
-              (Syntax.tyStruct
-              (List._∷_ 38 (List._∷_ 91 (List._∷_ 93 List.[])))
-              (Syntax.tcons
-              (Syntax.tyRef Syntax.erased Syntax.mut (KInstanceRow.named))
-              (Syntax.tcons (Syntax.tyInt Syntax.w64) Syntax.tnil))),
-        ) (List._∷_ (
-          13,
-          Rows'.any-gone
-              (Syntax.tyRef Syntax.erased Syntax.mut (KRouteRow.named)),
-        ) (List._∷_ (
-          14,
-          Mut.mslice
-              (KRouteRow.R)
-              (Syntax.tyRef Syntax.erased Syntax.mut (KRouteRow.named))
-              5,
-        )
-            (List._∷_
-            (15, KRouteRow.row)
-            List.[])))))))))))))))
-
-        abbrev g24 : List.List Row.Entry
-        g24 = List._∷_ (0, Rows'.any-gone Syntax.tyUnit) (List._∷_ (
-          1,
-          Mut.mslice
-              (KInstanceRow.R)
-              (Syntax.tyRef
-              (Syntax.named 0)
-              Syntax.mut
-              (KInstanceRow.named))
-              0,
-        ) (List._∷_ (
-          2,
-          Relend.mslice-owed
-              (KRouteRow.R)
-              (Syntax.tyRef
-              (Syntax.named 1)
-              Syntax.mut
-              (KRouteRow.named))
-              1
-              5
-              (Row.lease (κs .1 .0) (qs .1 .0)),
-        ) (List._∷_ (
-          3,
-          Rows'.any-gone
-              (Syntax.tyStruct
-              (List._∷_
-              112
-              (List._∷_
-              108
-              (List._∷_
-              97
-              (List._∷_
-              99
-              (List._∷_
-              101
-              (List._∷_
-              58
-              (List._∷_
-              58
-              (List._∷_
-              80
-              (List._∷_
-              108
-              (List._∷_ 97 (List._∷_ 99 (List._∷_ 101 (List._∷_ 115 List.[])))))))))))))
-              (Syntax.tcons
-              Syntax.tyBool
-              (Syntax.tcons
-              (Syntax.tyInt Syntax.w64)
-              (Syntax.tcons (Syntax.tyInt Syntax.w64) Syntax.tnil)))),
-        ) (List._∷_ (4, Rows'.sc-here (Row.sInt Syntax.w64)) (List._∷_ (
-          5,
-          Rows'.sref
-              (KDecided.R)
-              (Syntax.tyRef
-              (Syntax.named 2)
-              Syntax.imm
-              (KDecided.named))
-              2,
-        ) (List._∷_ (6, Rows'.any-gone Syntax.tyUnit) (List._∷_ (
-          7,
-          Rows'.any-gone
-              (Syntax.tyRef Syntax.erased Syntax.mut (KInstanceRow.named)),
-        ) (List._∷_ (
-          8,
-          Rows'.any-gone
-              (Syntax.tyStruct
-              (List._∷_ 38 (List._∷_ 91 (List._∷_ 93 List.[])))
-              (Syntax.tcons
-              (Syntax.tyRef Syntax.erased Syntax.mut (KInstanceRow.named))
-              (Syntax.tcons (Syntax.tyInt Syntax.w64) Syntax.tnil))),
-        ) (List._∷_ (9, Rows'.any-gone (KInstanceRow.spelled)) (List._∷_ (
-          10,
-          Rows'.any-gone (KDecided.spelled),
-        ) (List._∷_ (
-          11,
-          Rows'.any-gone
-              (Syntax.tyRef Syntax.erased Syntax.mut (KInstanceRow.named)),
-        ) (List._∷_ (
-          12,
-          Rows'.any-gone
-              (Syntax.tyStruct
-              (List._∷_ 38 (List._∷_ 91 (List._∷_ 93 List.[])))
-              (Syntax.tcons
-              (Syntax.tyRef Syntax.erased Syntax.mut (KInstanceRow.named))
-              (Syntax.tcons (Syntax.tyInt Syntax.w64) Syntax.tnil))),
-        ) (List._∷_ (
-          13,
-          Rows'.any-gone
-              (Syntax.tyRef Syntax.erased Syntax.mut (KRouteRow.named)),
-        ) (List._∷_ (
-          14,
-          Mut.mslice
-              (KRouteRow.R)
-              (Syntax.tyRef Syntax.erased Syntax.mut (KRouteRow.named))
-              5,
-        )
-            (List._∷_
-            (15, KRouteRow.row)
-            List.[])))))))))))))))
-
-        abbrev g25 : List.List Row.Entry
-        g25 = List._∷_ (0, Rows'.any-gone Syntax.tyUnit) (List._∷_ (
           1,
           Mut.mslice
               (KInstanceRow.R)
@@ -5159,8 +4488,8 @@ module _ (claims· : Claims) where
             (15, KRouteRow.row)
             List.[])))))))))))))))
 
-        abbrev g26 : List.List Row.Entry
-        g26 = List._∷_ (0, Rows'.any-gone Syntax.tyUnit) (List._∷_ (
+        abbrev g22 : List.List Row.Entry
+        g22 = List._∷_ (0, Rows'.any-gone Syntax.tyUnit) (List._∷_ (
           1,
           Mut.mslice
               (KInstanceRow.R)
@@ -5258,8 +4587,8 @@ module _ (claims· : Claims) where
             (15, KRouteRow.row)
             List.[])))))))))))))))
 
-        abbrev g27 : List.List Row.Entry
-        g27 = List._∷_ (0, Rows'.any-gone Syntax.tyUnit) (List._∷_ (
+        abbrev g23 : List.List Row.Entry
+        g23 = List._∷_ (0, Rows'.any-gone Syntax.tyUnit) (List._∷_ (
           1,
           Mut.mslice
               (KInstanceRow.R)
@@ -5599,55 +4928,7 @@ module _ (claims· : Claims) where
 
         abbrev G20 : Row.Cx
         G20 = record {
-          locals = g15;
-          slots = List._∷_
-              Row.off
-              (List._∷_
-              (Row.lease (κs .1 .0) (qs .1 .0))
-              (List._∷_
-              (Row.lease (κs .1 .1 .0) (qs .1 .1 .0))
-              (List._∷_ Row.off (List._∷_ Row.alive (List._∷_ Row.off List.[])))));
-        }
-
-        abbrev G21 : Row.Cx
-        G21 = record {
-          locals = g16;
-          slots = List._∷_
-              Row.off
-              (List._∷_
-              (Row.lease (κs .1 .0) (qs .1 .0))
-              (List._∷_
-              (Row.lease (κs .1 .1 .0) (qs .1 .1 .0))
-              (List._∷_ Row.off (List._∷_ Row.alive (List._∷_ Row.off List.[])))));
-        }
-
-        abbrev G22 : Row.Cx
-        G22 = record {
-          locals = g17;
-          slots = List._∷_
-              Row.off
-              (List._∷_
-              (Row.lease (κs .1 .0) (qs .1 .0))
-              (List._∷_
-              (Row.lease (κs .1 .1 .0) (qs .1 .1 .0))
-              (List._∷_ Row.off (List._∷_ Row.alive (List._∷_ Row.off List.[])))));
-        }
-
-        abbrev G23 : Row.Cx
-        G23 = record {
-          locals = g18;
-          slots = List._∷_
-              Row.off
-              (List._∷_
-              (Row.lease (κs .1 .0) (qs .1 .0))
-              (List._∷_
-              (Row.lease (κs .1 .1 .0) (qs .1 .1 .0))
-              (List._∷_ Row.off (List._∷_ Row.alive (List._∷_ Row.off List.[])))));
-        }
-
-        abbrev G24 : Row.Cx
-        G24 = record {
-          locals = g18;
+          locals = g14;
           slots = List._∷_
               Row.off
               (List._∷_
@@ -5657,9 +4938,9 @@ module _ (claims· : Claims) where
               (List._∷_ Row.off (List._∷_ Row.dead (List._∷_ Row.off List.[])))));
         }
 
-        abbrev G25 : Row.Cx
-        G25 = record {
-          locals = t19;
+        abbrev G21 : Row.Cx
+        G21 = record {
+          locals = t15;
           slots = List._∷_
               (Row.lease (κs .0) (qs .0))
               (List._∷_
@@ -5669,9 +4950,9 @@ module _ (claims· : Claims) where
               (List._∷_ Row.off (List._∷_ Row.dead (List._∷_ Row.off List.[])))));
         }
 
-        abbrev G26 : Row.Cx
-        G26 = record {
-          locals = t19;
+        abbrev G22 : Row.Cx
+        G22 = record {
+          locals = t15;
           slots = List._∷_
               (Row.lease (κs .0) (qs .0))
               (List._∷_
@@ -5681,13 +4962,61 @@ module _ (claims· : Claims) where
               (List._∷_ Row.off (List._∷_ Row.off (List._∷_ Row.off List.[])))));
         }
 
-        abbrev G27 : Row.Cx
-        G27 = record {
-          locals = t19;
+        abbrev G23 : Row.Cx
+        G23 = record {
+          locals = t15;
           slots = List._∷_
               (Row.lease (κs .0) (qs .0))
               (List._∷_
               (Row.lease (κs .1 .0) (qs .1 .0))
+              (List._∷_
+              (Row.lease (κs .1 .1 .0) (qs .1 .1 .0))
+              (List._∷_ Row.off (List._∷_ Row.off (List._∷_ Row.alive List.[])))));
+        }
+
+        abbrev G24 : Row.Cx
+        G24 = record {
+          locals = g16;
+          slots = List._∷_
+              (Row.lease (κs .0) (qs .0))
+              (List._∷_
+              Row.off
+              (List._∷_
+              (Row.lease (κs .1 .1 .0) (qs .1 .1 .0))
+              (List._∷_ Row.off (List._∷_ Row.off (List._∷_ Row.alive List.[])))));
+        }
+
+        abbrev G25 : Row.Cx
+        G25 = record {
+          locals = g17;
+          slots = List._∷_
+              (Row.lease (κs .0) (qs .0))
+              (List._∷_
+              Row.off
+              (List._∷_
+              (Row.lease (κs .1 .1 .0) (qs .1 .1 .0))
+              (List._∷_ Row.off (List._∷_ Row.off (List._∷_ Row.alive List.[])))));
+        }
+
+        abbrev G26 : Row.Cx
+        G26 = record {
+          locals = g18;
+          slots = List._∷_
+              (Row.lease (κs .0) (qs .0))
+              (List._∷_
+              Row.off
+              (List._∷_
+              (Row.lease (κs .1 .1 .0) (qs .1 .1 .0))
+              (List._∷_ Row.off (List._∷_ Row.off (List._∷_ Row.alive List.[])))));
+        }
+
+        abbrev G27 : Row.Cx
+        G27 = record {
+          locals = g19;
+          slots = List._∷_
+              (Row.lease (κs .0) (qs .0))
+              (List._∷_
+              Row.off
               (List._∷_
               (Row.lease (κs .1 .1 .0) (qs .1 .1 .0))
               (List._∷_ Row.off (List._∷_ Row.off (List._∷_ Row.alive List.[])))));
@@ -5743,102 +5072,54 @@ module _ (claims· : Claims) where
 
         abbrev G32 : Row.Cx
         G32 = record {
-          locals = g24;
+          locals = g23;
           slots = List._∷_
               (Row.lease (κs .0) (qs .0))
               (List._∷_
               Row.off
               (List._∷_
               (Row.lease (κs .1 .1 .0) (qs .1 .1 .0))
-              (List._∷_ Row.off (List._∷_ Row.off (List._∷_ Row.alive List.[])))));
+              (List._∷_ Row.off (List._∷_ Row.off (List._∷_ Row.dead List.[])))));
         }
 
         abbrev G33 : Row.Cx
         G33 = record {
-          locals = g25;
+          locals = t15;
           slots = List._∷_
               (Row.lease (κs .0) (qs .0))
               (List._∷_
-              Row.off
+              (Row.lease (κs .1 .0) (qs .1 .0))
               (List._∷_
               (Row.lease (κs .1 .1 .0) (qs .1 .1 .0))
-              (List._∷_ Row.off (List._∷_ Row.off (List._∷_ Row.alive List.[])))));
+              (List._∷_ Row.off (List._∷_ Row.off (List._∷_ Row.dead List.[])))));
         }
 
         abbrev G34 : Row.Cx
         G34 = record {
-          locals = g26;
+          locals = t15;
           slots = List._∷_
               (Row.lease (κs .0) (qs .0))
               (List._∷_
-              Row.off
+              (Row.lease (κs .1 .0) (qs .1 .0))
               (List._∷_
               (Row.lease (κs .1 .1 .0) (qs .1 .1 .0))
-              (List._∷_ Row.off (List._∷_ Row.off (List._∷_ Row.alive List.[])))));
+              (List._∷_ Row.off (List._∷_ Row.off (List._∷_ Row.off List.[])))));
         }
 
         abbrev G35 : Row.Cx
         G35 = record {
-          locals = g27;
+          locals = t24;
           slots = List._∷_
               (Row.lease (κs .0) (qs .0))
               (List._∷_
-              Row.off
+              (Row.lease (κs .1 .0) (qs .1 .0))
               (List._∷_
               (Row.lease (κs .1 .1 .0) (qs .1 .1 .0))
-              (List._∷_ Row.off (List._∷_ Row.off (List._∷_ Row.alive List.[])))));
+              (List._∷_ Row.off (List._∷_ Row.off (List._∷_ Row.off List.[])))));
         }
 
         abbrev G36 : Row.Cx
         G36 = record {
-          locals = g27;
-          slots = List._∷_
-              (Row.lease (κs .0) (qs .0))
-              (List._∷_
-              Row.off
-              (List._∷_
-              (Row.lease (κs .1 .1 .0) (qs .1 .1 .0))
-              (List._∷_ Row.off (List._∷_ Row.off (List._∷_ Row.dead List.[])))));
-        }
-
-        abbrev G37 : Row.Cx
-        G37 = record {
-          locals = t19;
-          slots = List._∷_
-              (Row.lease (κs .0) (qs .0))
-              (List._∷_
-              (Row.lease (κs .1 .0) (qs .1 .0))
-              (List._∷_
-              (Row.lease (κs .1 .1 .0) (qs .1 .1 .0))
-              (List._∷_ Row.off (List._∷_ Row.off (List._∷_ Row.dead List.[])))));
-        }
-
-        abbrev G38 : Row.Cx
-        G38 = record {
-          locals = t19;
-          slots = List._∷_
-              (Row.lease (κs .0) (qs .0))
-              (List._∷_
-              (Row.lease (κs .1 .0) (qs .1 .0))
-              (List._∷_
-              (Row.lease (κs .1 .1 .0) (qs .1 .1 .0))
-              (List._∷_ Row.off (List._∷_ Row.off (List._∷_ Row.off List.[])))));
-        }
-
-        abbrev G39 : Row.Cx
-        G39 = record {
-          locals = t28;
-          slots = List._∷_
-              (Row.lease (κs .0) (qs .0))
-              (List._∷_
-              (Row.lease (κs .1 .0) (qs .1 .0))
-              (List._∷_
-              (Row.lease (κs .1 .1 .0) (qs .1 .1 .0))
-              (List._∷_ Row.off (List._∷_ Row.off (List._∷_ Row.off List.[])))));
-        }
-
-        abbrev G40 : Row.Cx
-        G40 = record {
           locals = t1;
           slots = List._∷_
               (Row.lease (κs .0) (qs .0))
@@ -5858,10 +5139,10 @@ module _ (claims· : Claims) where
           abbrev E : Wp.Env 𝓤 H
           E = Frame.EnvOf 𝓤 H (List._∷_ (Kinds.tyR r) (Enter.tysP ps xs)) bs
 
-          d0 : Typed.Typed 𝓤 H A 𝓣 E G40 b16 Δ0 at0
+          d0 : Typed.Typed 𝓤 H A 𝓣 E G36 b14 Δ0 at0
           d0 = Typed.t-return 𝓤 H A W 𝓣 E Δ0 tt
 
-          d1 : Typed.Typed 𝓤 H A 𝓣 E G39 b16 Δ0 at1
+          d1 : Typed.Typed 𝓤 H A 𝓣 E G35 b14 Δ0 at1
           d1 =
               Typed.g-pre
               𝓤
@@ -5870,11 +5151,11 @@ module _ (claims· : Claims) where
               W
               𝓣
               E
-              G39
-              G40
-              b16
+              G35
+              G36
+              b14
               Δ0
-              (Typed.pass T39 T40 s38)
+              (Typed.pass T35 T36 s34)
               at0
               (Scalar.g-room
               𝓤
@@ -5882,13 +5163,13 @@ module _ (claims· : Claims) where
               A
               W
               E
-              G39
+              G35
               4
               (Syntax.tyInt Syntax.w64)
               (Scalar.room-sc 𝓤 H A W (Row.sInt Syntax.w64)))
               d0
 
-          d2 : Typed.Typed 𝓤 H A 𝓣 E G38 b17 Δ0 at2
+          d2 : Typed.Typed 𝓤 H A 𝓣 E G34 b15 Δ0 at2
           d2 =
               Typed.s-seq
               𝓤
@@ -5897,12 +5178,12 @@ module _ (claims· : Claims) where
               W
               𝓣
               E
-              G38
-              G39
-              b15
-              b16
+              G34
+              G35
+              b13
+              b14
               Δ0
-              (Typed.pass T37 T39 s37)
+              (Typed.pass T33 T35 s33)
               at1
               (Scalar.t-use
               𝓤
@@ -5911,7 +5192,7 @@ module _ (claims· : Claims) where
               W
               E
               𝓣
-              G38
+              G34
               Scalar.oUnit
               0
               (Rows'.sc-here Row.sUnit)
@@ -5926,7 +5207,7 @@ module _ (claims· : Claims) where
               λ u. tt)
               d1
 
-          d3 : Typed.Typed 𝓤 H A 𝓣 E G37 b17 Δ0 at3
+          d3 : Typed.Typed 𝓤 H A 𝓣 E G33 b15 Δ0 at3
           d3 =
               Typed.g-pre
               𝓤
@@ -5935,16 +5216,16 @@ module _ (claims· : Claims) where
               W
               𝓣
               E
-              G37
-              G38
-              b17
+              G33
+              G34
+              b15
               Δ0
               (λ Ψ. Ψ)
               at2
-              (Lifetime.g-forget 𝓤 H A W E G37 5 Row.dead Path'.refl)
+              (Lifetime.g-forget 𝓤 H A W E G33 5 Row.dead Path'.refl)
               d2
 
-          d4 : Typed.Typed 𝓤 H A 𝓣 E G36 b17 Δ0 at4
+          d4 : Typed.Typed 𝓤 H A 𝓣 E G32 b15 Δ0 at4
           d4 =
               Typed.g-pre
               𝓤
@@ -5953,11 +5234,11 @@ module _ (claims· : Claims) where
               W
               𝓣
               E
-              G36
-              G37
-              b17
+              G32
+              G33
+              b15
               Δ0
-              (Typed.both s35)
+              (Typed.both s31)
               at3
               (Relend.g-back-sl
               𝓤
@@ -5966,7 +5247,7 @@ module _ (claims· : Claims) where
               W
               E
               (KRouteRow.R)
-              G36
+              G32
               14
               2
               1
@@ -6006,7 +5287,7 @@ module _ (claims· : Claims) where
               Path'.refl)
               d3
 
-          d5 : Typed.Typed 𝓤 H A 𝓣 E G35 b17 Δ0 at5
+          d5 : Typed.Typed 𝓤 H A 𝓣 E G31 b15 Δ0 at5
           d5 =
               Typed.g-pre
               𝓤
@@ -6015,16 +5296,16 @@ module _ (claims· : Claims) where
               W
               𝓣
               E
-              G35
-              G36
-              b17
+              G31
+              G32
+              b15
               Δ0
               (λ Ψ. Ψ)
               at4
-              (Lifetime.g-end 𝓤 H A W E G35 5 Path'.refl)
+              (Lifetime.g-end 𝓤 H A W E G31 5 Path'.refl)
               d4
 
-          d6 : Typed.Typed 𝓤 H A 𝓣 E G34 b17 Δ0 at6
+          d6 : Typed.Typed 𝓤 H A 𝓣 E G30 b15 Δ0 at6
           d6 =
               Typed.g-pre
               𝓤
@@ -6033,11 +5314,11 @@ module _ (claims· : Claims) where
               W
               𝓣
               E
-              G34
-              G35
-              b17
+              G30
+              G31
+              b15
               Δ0
-              (Typed.pass T34 T35 s33)
+              (Typed.pass T30 T31 s29)
               at5
               (Scalar.g-room
               𝓤
@@ -6045,13 +5326,13 @@ module _ (claims· : Claims) where
               A
               W
               E
-              G34
+              G30
               15
               (KRouteRow.spelled)
               (KRouteRow.room 𝓤 H A W))
               d5
 
-          d7 : Typed.Typed 𝓤 H A 𝓣 E G33 b17 Δ0 at7
+          d7 : Typed.Typed 𝓤 H A 𝓣 E G29 b15 Δ0 at7
           d7 =
               Typed.g-pre
               𝓤
@@ -6060,16 +5341,16 @@ module _ (claims· : Claims) where
               W
               𝓣
               E
-              G33
-              G34
-              b17
+              G29
+              G30
+              b15
               Δ0
-              (Typed.pass T33 T34 s32)
+              (Typed.pass T29 T30 s28)
               at6
-              (Scalar.g-room 𝓤 H A W E G33 6 Syntax.tyUnit (Scalar.room-sc 𝓤 H A W Row.sUnit))
+              (Scalar.g-room 𝓤 H A W E G29 6 Syntax.tyUnit (Scalar.room-sc 𝓤 H A W Row.sUnit))
               d6
 
-          d8 : Typed.Typed 𝓤 H A 𝓣 E G32 b18 Δ0 at8
+          d8 : Typed.Typed 𝓤 H A 𝓣 E G28 b16 Δ0 at8
           d8 =
               Typed.s-seq
               𝓤
@@ -6078,12 +5359,12 @@ module _ (claims· : Claims) where
               W
               𝓣
               E
-              G32
-              G33
-              b14
-              b17
+              G28
+              G29
+              b12
+              b15
               Δ0
-              (Typed.both s31)
+              (Typed.both s27)
               at7
               (Plain.t-call-plain
               𝓤
@@ -6100,7 +5381,7 @@ module _ (claims· : Claims) where
               (known .4)
               E
               (λ pos β. β)
-              G32 (
+              G28 (
                 record {
                   pos = 14;
                   ty = Syntax.tyRef
@@ -6113,7 +5394,7 @@ module _ (claims· : Claims) where
               )
               6
               (List._∷_ 5 List.[])
-              (Call.sub-id 𝓤 H A W (G32 .slots)) (
+              (Call.sub-id 𝓤 H A W (G28 .slots)) (
                 Reads'.as-is
                     𝓤
                     H
@@ -6153,7 +5434,7 @@ module _ (claims· : Claims) where
               Path'.refl)
               d7
 
-          d9 : Typed.Typed 𝓤 H A 𝓣 E G31 b18 Δ0 at9
+          d9 : Typed.Typed 𝓤 H A 𝓣 E G27 b16 Δ0 at9
           d9 =
               Typed.g-pre
               𝓤
@@ -6162,11 +5443,11 @@ module _ (claims· : Claims) where
               W
               𝓣
               E
-              G31
-              G32
-              b18
+              G27
+              G28
+              b16
               Δ0
-              (Typed.pass T31 T32 s30)
+              (Typed.pass T27 T28 s26)
               at8
               (Scalar.g-room
               𝓤
@@ -6174,13 +5455,13 @@ module _ (claims· : Claims) where
               A
               W
               E
-              G31
+              G27
               10
               (KDecided.spelled)
               (KDecided.room 𝓤 H A W))
               d8
 
-          d10 : Typed.Typed 𝓤 H A 𝓣 E G30 b19 Δ0 at10
+          d10 : Typed.Typed 𝓤 H A 𝓣 E G26 b17 Δ0 at10
           d10 =
               Typed.s-seq
               𝓤
@@ -6189,12 +5470,12 @@ module _ (claims· : Claims) where
               W
               𝓣
               E
-              G30
-              G31
-              b13
-              b18
+              G26
+              G27
+              b11
+              b16
               Δ0
-              (Typed.both s29)
+              (Typed.both s25)
               at9
               (Plain.t-call-plain
               𝓤
@@ -6211,11 +5492,11 @@ module _ (claims· : Claims) where
               (known .3)
               E
               (λ pos β. β)
-              G30
+              G26
               (record { pos = 10; st = List.[]; d = 0; at = λ x. x }, tt)
               15
               List.[]
-              (Call.sub-id 𝓤 H A W (G30 .slots)) (
+              (Call.sub-id 𝓤 H A W (G26 .slots)) (
                 (
                   KDecided.yields 𝓤 H A W,
                   Path'.refl,
@@ -6227,7 +5508,7 @@ module _ (claims· : Claims) where
               Path'.refl)
               d9
 
-          d11 : Typed.Typed 𝓤 H A 𝓣 E G29 b20 Δ0 at11
+          d11 : Typed.Typed 𝓤 H A 𝓣 E G25 b18 Δ0 at11
           d11 =
               Typed.s-seq
               𝓤
@@ -6236,12 +5517,12 @@ module _ (claims· : Claims) where
               W
               𝓣
               E
-              G29
-              G30
-              b12
-              b19
+              G25
+              G26
+              b10
+              b17
               Δ0
-              (Typed.give s28)
+              (Typed.give s24)
               at10
               (DerefMove.t-sref-read-copy
               𝓤
@@ -6251,7 +5532,7 @@ module _ (claims· : Claims) where
               E
               𝓣
               (λ ρ. Unit)
-              G29
+              G25
               5
               10
               2
@@ -6280,7 +5561,7 @@ module _ (claims· : Claims) where
               H
               A
               (KDecided.R))
-              (Own.told-none 𝓤 H A (G29 .slots))
+              (Own.told-none 𝓤 H A (G25 .slots))
               (Copies.halves
               𝓤
               H
@@ -6317,7 +5598,7 @@ module _ (claims· : Claims) where
               Path'.refl)
               d10
 
-          d12 : Typed.Typed 𝓤 H A 𝓣 E G28 b21 Δ0 at12
+          d12 : Typed.Typed 𝓤 H A 𝓣 E G24 b19 Δ0 at12
           d12 =
               Typed.s-seq
               𝓤
@@ -6326,12 +5607,12 @@ module _ (claims· : Claims) where
               W
               𝓣
               E
-              G28
-              G29
-              b11
-              b20
+              G24
+              G25
+              b9
+              b18
               Δ0
-              (Typed.ask s27)
+              (Typed.ask s23)
               at11
               (Relend.t-sl-aggregate
               𝓤
@@ -6342,7 +5623,7 @@ module _ (claims· : Claims) where
               (KRouteRow.R)
               𝓣
               (Relend.asMut (KRouteRow.R))
-              G28
+              G24
               13
               14
               5
@@ -6395,7 +5676,7 @@ module _ (claims· : Claims) where
               λ b o k. tt)
               d11
 
-          d13 : Typed.Typed 𝓤 H A 𝓣 E G27 b22 Δ0 at13
+          d13 : Typed.Typed 𝓤 H A 𝓣 E G23 b20 Δ0 at13
           d13 =
               Typed.s-seq
               𝓤
@@ -6404,12 +5685,12 @@ module _ (claims· : Claims) where
               W
               𝓣
               E
-              G27
-              G28
-              b10
-              b21
+              G23
+              G24
+              b8
+              b19
               Δ0
-              (Typed.give s26)
+              (Typed.give s22)
               at12
               (Relend.t-sl-relend
               𝓤
@@ -6419,7 +5700,7 @@ module _ (claims· : Claims) where
               E
               (KRouteRow.R)
               𝓣
-              G27
+              G23
               2
               13
               1
@@ -6456,7 +5737,7 @@ module _ (claims· : Claims) where
               λ b o. tt)
               d12
 
-          d14 : Typed.Typed 𝓤 H A 𝓣 E G26 b22 Δ0 at14
+          d14 : Typed.Typed 𝓤 H A 𝓣 E G22 b20 Δ0 at14
           d14 =
               Typed.g-pre
               𝓤
@@ -6465,13 +5746,13 @@ module _ (claims· : Claims) where
               W
               𝓣
               E
-              G26
-              G27
-              b22
+              G22
+              G23
+              b20
               Δ0
               (λ Ψ. Ψ)
               at13
-              (Lifetime.g-begin 𝓤 H A W E G26 5 (
+              (Lifetime.g-begin 𝓤 H A W E G22 5 (
                 tt,
                 (
                   tt,
@@ -6492,7 +5773,7 @@ module _ (claims· : Claims) where
               ))
               d13
 
-          d15 : Typed.Typed 𝓤 H A 𝓣 E G25 b22 Δ0 at15
+          d15 : Typed.Typed 𝓤 H A 𝓣 E G21 b20 Δ0 at15
           d15 =
               Typed.g-pre
               𝓤
@@ -6501,16 +5782,16 @@ module _ (claims· : Claims) where
               W
               𝓣
               E
-              G25
-              G26
-              b22
+              G21
+              G22
+              b20
               Δ0
               (λ Ψ. Ψ)
               at14
-              (Lifetime.g-forget 𝓤 H A W E G25 4 Row.dead Path'.refl)
+              (Lifetime.g-forget 𝓤 H A W E G21 4 Row.dead Path'.refl)
               d14
 
-          d16 : Typed.Typed 𝓤 H A 𝓣 E G24 b22 Δ0 at16
+          d16 : Typed.Typed 𝓤 H A 𝓣 E G20 b20 Δ0 at16
           d16 =
               Typed.g-pre
               𝓤
@@ -6519,11 +5800,11 @@ module _ (claims· : Claims) where
               W
               𝓣
               E
-              G24
-              G25
-              b22
+              G20
+              G21
+              b20
               Δ0
-              (Typed.both s23)
+              (Typed.both s19)
               at15
               (Relend.g-back-sl
               𝓤
@@ -6532,7 +5813,7 @@ module _ (claims· : Claims) where
               W
               E
               (KInstanceRow.R)
-              G24
+              G20
               12
               1
               0
@@ -6572,7 +5853,7 @@ module _ (claims· : Claims) where
               Path'.refl)
               d15
 
-          d17 : Typed.Typed 𝓤 H A 𝓣 E G23 b22 Δ0 at17
+          d17 : Typed.Typed 𝓤 H A 𝓣 E G19 b20 Δ0 at17
           d17 =
               Typed.g-pre
               𝓤
@@ -6581,16 +5862,16 @@ module _ (claims· : Claims) where
               W
               𝓣
               E
-              G23
-              G24
-              b22
+              G19
+              G20
+              b20
               Δ0
               (λ Ψ. Ψ)
               at16
-              (Lifetime.g-end 𝓤 H A W E G23 4 Path'.refl)
+              (Lifetime.g-end 𝓤 H A W E G19 4 Path'.refl)
               d16
 
-          d18 : Typed.Typed 𝓤 H A 𝓣 E G22 b22 Δ0 at18
+          d18 : Typed.Typed 𝓤 H A 𝓣 E G18 b20 Δ0 at18
           d18 =
               Typed.g-pre
               𝓤
@@ -6599,25 +5880,16 @@ module _ (claims· : Claims) where
               W
               𝓣
               E
-              G22
-              G23
-              b22
+              G18
+              G19
+              b20
               Δ0
-              (Typed.pass T22 T23 s21)
+              (Typed.pass T18 T19 s17)
               at17
-              (Scalar.g-room
-              𝓤
-              H
-              A
-              W
-              E
-              G22
-              9
-              (KInstanceRow.spelled)
-              (KInstanceRow.room 𝓤 H A W))
+              (Scalar.g-room 𝓤 H A W E G18 6 Syntax.tyUnit (Scalar.room-sc 𝓤 H A W Row.sUnit))
               d17
 
-          d19 : Typed.Typed 𝓤 H A 𝓣 E G21 b22 Δ0 at19
+          d19 : Typed.Typed 𝓤 H A 𝓣 E G17 b20 Δ0 at19
           d19 =
               Typed.g-pre
               𝓤
@@ -6626,37 +5898,19 @@ module _ (claims· : Claims) where
               W
               𝓣
               E
-              G21
-              G22
-              b22
+              G17
+              G18
+              b20
               Δ0
-              (Typed.pass T21 T22 s20)
+              (Typed.pass T17 T18 s16)
               at18
-              (Scalar.g-room 𝓤 H A W E G21 6 Syntax.tyUnit (Scalar.room-sc 𝓤 H A W Row.sUnit))
-              d18
-
-          d20 : Typed.Typed 𝓤 H A 𝓣 E G20 b22 Δ0 at20
-          d20 =
-              Typed.g-pre
-              𝓤
-              H
-              A
-              W
-              𝓣
-              E
-              G20
-              G21
-              b22
-              Δ0
-              (Typed.pass T20 T21 s19)
-              at19
               (Scalar.g-room
               𝓤
               H
               A
               W
               E
-              G20
+              G17
               3
               (Syntax.tyStruct
               (List._∷_
@@ -6715,10 +5969,10 @@ module _ (claims· : Claims) where
               (Syntax.tyInt Syntax.w64)
               (Syntax.tcons (Syntax.tyInt Syntax.w64) Syntax.tnil))))
               Path'.refl))
-              d19
+              d18
 
-          d21 : Typed.Typed 𝓤 H A 𝓣 E G19 b23 Δ0 at21
-          d21 =
+          d20 : Typed.Typed 𝓤 H A 𝓣 E G16 b21 Δ0 at20
+          d20 =
               Typed.s-seq
               𝓤
               H
@@ -6726,29 +5980,29 @@ module _ (claims· : Claims) where
               W
               𝓣
               E
-              G19
-              G20
-              b9
-              b22
+              G16
+              G17
+              b7
+              b20
               Δ0
-              (Typed.both s18)
-              at20
+              (Typed.both s15)
+              at19
               (Plain.t-call-plain
               𝓤
               H
               A
               W
               𝓣
-              1
-              ps·1
-              r·1
-              (claims· .2)
-              (claims· .3)
-              "table::put_row"
-              (known .1)
+              2
+              ps·2
+              r·2
+              (claims· .4)
+              (claims· .5)
+              "finish::put_second"
+              (known .2)
               E
               (λ pos β. β)
-              G19 (
+              G16 (
                 record {
                   pos = 12;
                   ty = Syntax.tyRef
@@ -6764,12 +6018,22 @@ module _ (claims· : Claims) where
                       16
                       λ x. Places.struct .as-values
                       x .1 .1 .0,
-                  (record { pos = 9; st = List.[]; d = 0; at = λ x. x }, tt),
+                  (
+                    record {
+                      pos = 5;
+                      ty = Syntax.tyRef
+                          (Syntax.named 2)
+                          Syntax.imm
+                          (KDecided.named);
+                      ref = λ x. x;
+                    },
+                    tt,
+                  ),
                 ),
               )
               6
-              (List._∷_ 4 List.[])
-              (Call.sub-id 𝓤 H A W (G19 .slots)) (
+              (List._∷_ 4 (List._∷_ 2 List.[]))
+              (Call.sub-id 𝓤 H A W (G16 .slots)) (
                 Reads'.as-is
                     𝓤
                     H
@@ -6809,185 +6073,40 @@ module _ (claims· : Claims) where
                     Path'.refl,
                   ),
                   (
-                    (
-                      KInstanceRow.yields 𝓤 H A W,
-                      Path'.refl,
-                    ),
+                    ShrRef.spares-sref
+                        𝓤
+                        H
+                        A
+                        W
+                        (KDecided.R)
+                        (Syntax.tyRef
+                        (Syntax.named 2)
+                        Syntax.imm
+                        (KDecided.named))
+                        2,
+                    Reads'.reads-sref
+                        𝓤
+                        H
+                        A
+                        W
+                        (KDecided.R)
+                        (Syntax.tyRef
+                        (Syntax.named 2)
+                        Syntax.imm
+                        (KDecided.named))
+                        2,
+                    Path'.refl,
                     tt,
                   ),
                 ),
               )
               (Reads'.room-gone 𝓤 H A Syntax.tyUnit)
-              (tt, tt)
+              (tt, (tt, tt))
               Path'.refl)
-              d20
+              d19
 
-          d22 : Typed.Typed 𝓤 H A 𝓣 E G18 b23 Δ0 at22
-          d22 =
-              Typed.g-pre
-              𝓤
-              H
-              A
-              W
-              𝓣
-              E
-              G18
-              G19
-              b23
-              Δ0
-              (Typed.pass T18 T19 s17)
-              at21
-              (Scalar.g-room
-              𝓤
-              H
-              A
-              W
-              E
-              G18
-              10
-              (KDecided.spelled)
-              (KDecided.room 𝓤 H A W))
-              d21
-
-          d23 : Typed.Typed 𝓤 H A 𝓣 E G17 b24 Δ0 at23
-          d23 =
-              Typed.s-seq
-              𝓤
-              H
-              A
-              W
-              𝓣
-              E
-              G17
-              G18
-              b8
-              b23
-              Δ0
-              (Typed.both s16)
-              at22
-              (Plain.t-call-plain
-              𝓤
-              H
-              A
-              W
-              𝓣
-              0
-              ps·2
-              r·2
-              (claims· .4)
-              (claims· .5)
-              "finish::second_of"
-              (known .2)
-              E
-              (λ pos β. β)
-              G17
-              (record { pos = 10; st = List.[]; d = 0; at = λ x. x }, tt)
-              9
-              List.[]
-              (Call.sub-id 𝓤 H A W (G17 .slots)) (
-                (
-                  KDecided.yields 𝓤 H A W,
-                  Path'.refl,
-                ),
-                tt,
-              )
-              (Reads'.room-gone 𝓤 H A (KInstanceRow.spelled))
-              tt
-              Path'.refl)
-              d22
-
-          d24 : Typed.Typed 𝓤 H A 𝓣 E G16 b25 Δ0 at24
-          d24 =
-              Typed.s-seq
-              𝓤
-              H
-              A
-              W
-              𝓣
-              E
-              G16
-              G17
-              b7
-              b24
-              Δ0
-              (Typed.give s15)
-              at23
-              (DerefMove.t-sref-read-copy
-              𝓤
-              H
-              A
-              W
-              E
-              𝓣
-              (λ ρ. Unit)
-              G16
-              5
-              10
-              2
-              (KDecided.R)
-              (Syntax.tyRef
-              (Syntax.named 2)
-              Syntax.imm
-              (KDecided.named))
-              (KDecided.spelled)
-              (KDecided.spelled)
-              (Row.lease (κs .1 .1 .0) (qs .1 .1 .0))
-              (λ x. x)
-              (KDecided.row)
-              (λ x. x)
-              (λ x. Unit)
-              Path'.refl
-              Path'.refl
-              Path'.refl
-              (KDecided.cp .copy
-              𝓤
-              H
-              A
-              W)
-              (DerefMove.learns-nothing
-              𝓤
-              H
-              A
-              (KDecided.R))
-              (Own.told-none 𝓤 H A (G16 .slots))
-              (Copies.halves
-              𝓤
-              H
-              A
-              W
-              (KDecided.cp))
-              (Reads'.as-is
-              𝓤
-              H
-              A
-              (Rows'.sref
-              (KDecided.R)
-              (Syntax.tyRef
-              (Syntax.named 2)
-              Syntax.imm
-              (KDecided.named))
-              2))
-              (Reads'.room-gone 𝓤 H A (KDecided.spelled))
-              (Yields.makes-mem
-              𝓤
-              H
-              A
-              W
-              (λ ρ. Unit)
-              (KDecided.R)
-              Path'.refl
-              (KDecided.row)
-              (λ x. x)
-              λ ρ told. KDecided.of-mem 𝓤 H A W
-              ρ)
-              Path'.refl
-              tt
-              Path'.refl
-              Path'.refl)
-              d23
-
-          d25 : Typed.Typed 𝓤 H A 𝓣 E G15 b26 Δ0 at25
-          d25 =
+          d21 : Typed.Typed 𝓤 H A 𝓣 E G15 b22 Δ0 at21
+          d21 =
               Typed.s-seq
               𝓤
               H
@@ -6998,10 +6117,10 @@ module _ (claims· : Claims) where
               G15
               G16
               b6
-              b25
+              b21
               Δ0
               (Typed.ask s14)
-              at24
+              at20
               (Relend.t-sl-aggregate
               𝓤
               H
@@ -7062,10 +6181,10 @@ module _ (claims· : Claims) where
               Path'.refl
               Path'.refl
               λ b o k. tt)
-              d24
+              d20
 
-          d26 : Typed.Typed 𝓤 H A 𝓣 E G14 b27 Δ0 at26
-          d26 =
+          d22 : Typed.Typed 𝓤 H A 𝓣 E G14 b23 Δ0 at22
+          d22 =
               Typed.s-seq
               𝓤
               H
@@ -7076,10 +6195,10 @@ module _ (claims· : Claims) where
               G14
               G15
               b5
-              b26
+              b22
               Δ0
               (Typed.give s13)
-              at25
+              at21
               (Relend.t-sl-relend
               𝓤
               H
@@ -7126,10 +6245,10 @@ module _ (claims· : Claims) where
               Path'.refl
               Path'.refl
               λ b o. tt)
-              d25
+              d21
 
-          d27 : Typed.Typed 𝓤 H A 𝓣 E G13 b27 Δ0 at27
-          d27 =
+          d23 : Typed.Typed 𝓤 H A 𝓣 E G13 b23 Δ0 at23
+          d23 =
               Typed.g-pre
               𝓤
               H
@@ -7139,10 +6258,10 @@ module _ (claims· : Claims) where
               E
               G13
               G14
-              b27
+              b23
               Δ0
               (λ Ψ. Ψ)
-              at26
+              at22
               (Lifetime.g-begin 𝓤 H A W E G13 4 (
                 tt,
                 (
@@ -7162,10 +6281,10 @@ module _ (claims· : Claims) where
                   ),
                 ),
               ))
-              d26
+              d22
 
-          d28 : Typed.Typed 𝓤 H A 𝓣 E G12 b27 Δ0 at28
-          d28 =
+          d24 : Typed.Typed 𝓤 H A 𝓣 E G12 b23 Δ0 at24
+          d24 =
               Typed.g-pre
               𝓤
               H
@@ -7175,15 +6294,15 @@ module _ (claims· : Claims) where
               E
               G12
               G13
-              b27
+              b23
               Δ0
               (λ Ψ. Ψ)
-              at27
+              at23
               (Lifetime.g-forget 𝓤 H A W E G12 3 Row.dead Path'.refl)
-              d27
+              d23
 
-          d29 : Typed.Typed 𝓤 H A 𝓣 E G11 b27 Δ0 at29
-          d29 =
+          d25 : Typed.Typed 𝓤 H A 𝓣 E G11 b23 Δ0 at25
+          d25 =
               Typed.g-pre
               𝓤
               H
@@ -7193,10 +6312,10 @@ module _ (claims· : Claims) where
               E
               G11
               G12
-              b27
+              b23
               Δ0
               (Typed.both s10)
-              at28
+              at24
               (Relend.g-back-sl
               𝓤
               H
@@ -7242,10 +6361,10 @@ module _ (claims· : Claims) where
               (Row.lease (κs .0) (qs .0))))
               Path'.refl
               Path'.refl)
-              d28
+              d24
 
-          d30 : Typed.Typed 𝓤 H A 𝓣 E G10 b27 Δ0 at30
-          d30 =
+          d26 : Typed.Typed 𝓤 H A 𝓣 E G10 b23 Δ0 at26
+          d26 =
               Typed.g-pre
               𝓤
               H
@@ -7255,15 +6374,15 @@ module _ (claims· : Claims) where
               E
               G10
               G11
-              b27
+              b23
               Δ0
               (λ Ψ. Ψ)
-              at29
+              at25
               (Lifetime.g-end 𝓤 H A W E G10 3 Path'.refl)
-              d29
+              d25
 
-          d31 : Typed.Typed 𝓤 H A 𝓣 E G9 b27 Δ0 at31
-          d31 =
+          d27 : Typed.Typed 𝓤 H A 𝓣 E G9 b23 Δ0 at27
+          d27 =
               Typed.g-pre
               𝓤
               H
@@ -7273,10 +6392,10 @@ module _ (claims· : Claims) where
               E
               G9
               G10
-              b27
+              b23
               Δ0
               (Typed.pass T9 T10 s8)
-              at30
+              at26
               (Scalar.g-room
               𝓤
               H
@@ -7287,10 +6406,10 @@ module _ (claims· : Claims) where
               9
               (KInstanceRow.spelled)
               (KInstanceRow.room 𝓤 H A W))
-              d30
+              d26
 
-          d32 : Typed.Typed 𝓤 H A 𝓣 E G8 b27 Δ0 at32
-          d32 =
+          d28 : Typed.Typed 𝓤 H A 𝓣 E G8 b23 Δ0 at28
+          d28 =
               Typed.g-pre
               𝓤
               H
@@ -7300,15 +6419,15 @@ module _ (claims· : Claims) where
               E
               G8
               G9
-              b27
+              b23
               Δ0
               (Typed.pass T8 T9 s7)
-              at31
+              at27
               (Scalar.g-room 𝓤 H A W E G8 6 Syntax.tyUnit (Scalar.room-sc 𝓤 H A W Row.sUnit))
-              d31
+              d27
 
-          d33 : Typed.Typed 𝓤 H A 𝓣 E G7 b28 Δ0 at33
-          d33 =
+          d29 : Typed.Typed 𝓤 H A 𝓣 E G7 b24 Δ0 at29
+          d29 =
               Typed.s-seq
               𝓤
               H
@@ -7319,10 +6438,10 @@ module _ (claims· : Claims) where
               G7
               G8
               b4
-              b27
+              b23
               Δ0
               (Typed.both s6)
-              at32
+              at28
               (Plain.t-call-plain
               𝓤
               H
@@ -7410,10 +6529,10 @@ module _ (claims· : Claims) where
               (Reads'.room-gone 𝓤 H A Syntax.tyUnit)
               (tt, tt)
               Path'.refl)
-              d32
+              d28
 
-          d34 : Typed.Typed 𝓤 H A 𝓣 E G6 b28 Δ0 at34
-          d34 =
+          d30 : Typed.Typed 𝓤 H A 𝓣 E G6 b24 Δ0 at30
+          d30 =
               Typed.g-pre
               𝓤
               H
@@ -7423,10 +6542,10 @@ module _ (claims· : Claims) where
               E
               G6
               G7
-              b28
+              b24
               Δ0
               (Typed.pass T6 T7 s5)
-              at33
+              at29
               (Scalar.g-room
               𝓤
               H
@@ -7437,10 +6556,10 @@ module _ (claims· : Claims) where
               10
               (KDecided.spelled)
               (KDecided.room 𝓤 H A W))
-              d33
+              d29
 
-          d35 : Typed.Typed 𝓤 H A 𝓣 E G5 b29 Δ0 at35
-          d35 =
+          d31 : Typed.Typed 𝓤 H A 𝓣 E G5 b25 Δ0 at31
+          d31 =
               Typed.s-seq
               𝓤
               H
@@ -7451,10 +6570,10 @@ module _ (claims· : Claims) where
               G5
               G6
               b3
-              b28
+              b24
               Δ0
               (Typed.both s4)
-              at34
+              at30
               (Plain.t-call-plain
               𝓤
               H
@@ -7484,10 +6603,10 @@ module _ (claims· : Claims) where
               (Reads'.room-gone 𝓤 H A (KInstanceRow.spelled))
               tt
               Path'.refl)
-              d34
+              d30
 
-          d36 : Typed.Typed 𝓤 H A 𝓣 E G4 b30 Δ0 at36
-          d36 =
+          d32 : Typed.Typed 𝓤 H A 𝓣 E G4 b26 Δ0 at32
+          d32 =
               Typed.s-seq
               𝓤
               H
@@ -7498,10 +6617,10 @@ module _ (claims· : Claims) where
               G4
               G5
               b2
-              b29
+              b25
               Δ0
               (Typed.give s3)
-              at35
+              at31
               (DerefMove.t-sref-read-copy
               𝓤
               H
@@ -7574,10 +6693,10 @@ module _ (claims· : Claims) where
               tt
               Path'.refl
               Path'.refl)
-              d35
+              d31
 
-          d37 : Typed.Typed 𝓤 H A 𝓣 E G3 b31 Δ0 at37
-          d37 =
+          d33 : Typed.Typed 𝓤 H A 𝓣 E G3 b27 Δ0 at33
+          d33 =
               Typed.s-seq
               𝓤
               H
@@ -7588,10 +6707,10 @@ module _ (claims· : Claims) where
               G3
               G4
               b1
-              b30
+              b26
               Δ0
               (Typed.ask s2)
-              at36
+              at32
               (Relend.t-sl-aggregate
               𝓤
               H
@@ -7652,10 +6771,10 @@ module _ (claims· : Claims) where
               Path'.refl
               Path'.refl
               λ b o k. tt)
-              d36
+              d32
 
-          d38 : Typed.Typed 𝓤 H A 𝓣 E G2 b32 Δ0 at38
-          d38 =
+          d34 : Typed.Typed 𝓤 H A 𝓣 E G2 b28 Δ0 at34
+          d34 =
               Typed.s-seq
               𝓤
               H
@@ -7666,10 +6785,10 @@ module _ (claims· : Claims) where
               G2
               G3
               b0
-              b31
+              b27
               Δ0
               (Typed.give s1)
-              at37
+              at33
               (Relend.t-sl-relend
               𝓤
               H
@@ -7716,11 +6835,11 @@ module _ (claims· : Claims) where
               Path'.refl
               Path'.refl
               λ b o. tt)
-              d37
+              d33
 
-          d39 : Typed.Typed 𝓤 H A 𝓣 E G0 b32 Δ0 at39
-          d39 =
-              Typed.g-pre 𝓤 H A W 𝓣 E G0 G2 b32 Δ0 (λ Ψ. Ψ) at38 (Lifetime.g-begin 𝓤 H A W E G0 3 (
+          d35 : Typed.Typed 𝓤 H A 𝓣 E G0 b28 Δ0 at35
+          d35 =
+              Typed.g-pre 𝓤 H A W 𝓣 E G0 G2 b28 Δ0 (λ Ψ. Ψ) at34 (Lifetime.g-begin 𝓤 H A W E G0 3 (
                 tt,
                 (
                   tt,
@@ -7738,7 +6857,7 @@ module _ (claims· : Claims) where
                     ),
                   ),
                 ),
-              )) d38
+              )) d34
 
           pub typed :
               Typed.Typed
@@ -7748,10 +6867,10 @@ module _ (claims· : Claims) where
               𝓣
               E
               (Function.Γin 3 ps r xs m κs qs)
-              b32
+              b28
               (Function.Δret 3 ps r xs m κs qs)
               Φ
-          typed = d39
+          typed = d35
 
       module _ (κs : Lifetimes.Lfts 3) where
         pub record Args : Type 0 where
@@ -7962,75 +7081,26 @@ module _ (claims· : Claims) where
       m11 = λ before given. s14 .next (m10 before given)
 
       module _ (before· : After-instances) where
-        pub record After-put-row-arg2·own : Type 0 where
+        pub record After-put-second-arg·own : Type 0 where
           pub given : s13 .gives (m9 (before· .before) (before· .instances .given))
 
-      pub record After-put-row-arg2 : Type 0 where
+      pub record After-put-second-arg : Type 0 where
         pub before : After-instances
-        pub put-row-arg2 : After-put-row-arg2·own before
+        pub put-second-arg : After-put-second-arg·own before
+
+      abbrev pub Need-put-second-requires : Type 0
+      Need-put-second-requires =
+          (c : After-put-second-arg) → s15 .asks (m11 (c .before) (c .put-second-arg .given))
 
       abbrev pub m12 :
-          (before : After-put-row-arg2) →
-          (given : s15 .gives (m11 (before .before) (before .put-row-arg2 .given))) →
+          (before : After-put-second-arg) →
+          (given : s15 .gives (m11 (before .before) (before .put-second-arg .given))) →
           Typed.Mo T17
-      m12 = λ before given. s15 .next (m11 (before .before) (before .put-row-arg2 .given)) given
+      m12 = λ before given. s15 .next (m11 (before .before) (before .put-second-arg .given)) given
 
-      module _ (before· : After-put-row-arg2) where
-        pub record After-second-of-arg·own : Type 0 where
-          pub given : s15 .gives (m11 (before· .before) (before· .put-row-arg2 .given))
-
-      pub record After-second-of-arg : Type 0 where
-        pub before : After-put-row-arg2
-        pub second-of-arg : After-second-of-arg·own before
-
-      abbrev pub Need-second-of-requires : Type 0
-      Need-second-of-requires =
-          (c : After-second-of-arg) → s16 .asks (m12 (c .before) (c .second-of-arg .given))
-
-      abbrev pub m13 :
-          (before : After-second-of-arg) →
-          (given : s16 .gives (m12 (before .before) (before .second-of-arg .given))) →
-          Typed.Mo T18
-      m13 = λ before given. s16 .next (m12 (before .before) (before .second-of-arg .given)) given
-
-      module _ (before· : After-second-of-arg) where
-        abbrev pub After-second-of·own : Type 0
-        After-second-of·own = Called.Called ps·2 r·2 (claims· .5) T17 (
-          record { pos = 10; st = List.[]; d = 0; at = λ x. x },
-          tt,
-        ) (m12 (before· .before) (before· .second-of-arg .given))
-
-      pub record After-second-of : Type 0 where
-        pub before : After-second-of-arg
-        pub second-of : After-second-of·own before
-
-      abbrev pub After-second-of·gave :
-          (c : After-second-of) →
-          s16 .gives (m12 (c .before .before) (c .before .second-of-arg .given))
-      After-second-of·gave = λ c. Called.given ps·2 r·2 (claims· .5) T17 (
-        record { pos = 10; st = List.[]; d = 0; at = λ x. x },
-        tt,
-      ) (m12 (c .before .before) (c .before .second-of-arg .given)) (c .second-of)
-
-      abbrev pub m14 :
-          (before : After-second-of-arg) →
-          (given : s16 .gives (m12 (before .before) (before .second-of-arg .given))) →
-          Typed.Mo T19
-      m14 = λ before given. s17 (m13 before given)
-
-      abbrev pub Need-put-row-requires-2 : Type 0
-      Need-put-row-requires-2 =
-          (c : After-second-of) → s18 .asks (m14 (c .before) (After-second-of·gave c))
-
-      abbrev pub m15 :
-          (before : After-second-of) →
-          (given : s18 .gives (m14 (before .before) (After-second-of·gave before))) →
-          Typed.Mo T20
-      m15 = λ before given. s18 .next (m14 (before .before) (After-second-of·gave before)) given
-
-      module _ (before· : After-second-of) where
-        abbrev pub After-put-row2·own : Type 0
-        After-put-row2·own = Called.Called ps·1 r·1 (claims· .3) T19 (
+      module _ (before· : After-put-second-arg) where
+        abbrev pub After-put-second·own : Type 0
+        After-put-second·own = Called.Called ps·2 r·2 (claims· .5) T16 (
           record {
             pos = 12;
             ty = Syntax.tyRef
@@ -8046,18 +7116,28 @@ module _ (claims· : Claims) where
                 16
                 λ x. Places.struct .as-values
                 x .1 .1 .0,
-            (record { pos = 9; st = List.[]; d = 0; at = λ x. x }, tt),
+            (
+              record {
+                pos = 5;
+                ty = Syntax.tyRef
+                    (Syntax.named 2)
+                    Syntax.imm
+                    (KDecided.named);
+                ref = λ x. x;
+              },
+              tt,
+            ),
           ),
-        ) (m14 (before· .before) (After-second-of·gave before·))
+        ) (m11 (before· .before) (before· .put-second-arg .given))
 
-      pub record After-put-row2 : Type 0 where
-        pub before : After-second-of
-        pub put-row2 : After-put-row2·own before
+      pub record After-put-second : Type 0 where
+        pub before : After-put-second-arg
+        pub put-second : After-put-second·own before
 
-      abbrev pub After-put-row2·gave :
-          (c : After-put-row2) →
-          s18 .gives (m14 (c .before .before) (After-second-of·gave (c .before)))
-      After-put-row2·gave = λ c. Called.given ps·1 r·1 (claims· .3) T19 (
+      abbrev pub After-put-second·gave :
+          (c : After-put-second) →
+          s15 .gives (m11 (c .before .before) (c .before .put-second-arg .given))
+      After-put-second·gave = λ c. Called.given ps·2 r·2 (claims· .5) T16 (
         record {
           pos = 12;
           ty = Syntax.tyRef Syntax.erased Syntax.mut (KInstanceRow.named);
@@ -8070,71 +7150,75 @@ module _ (claims· : Claims) where
               16
               λ x. Places.struct .as-values
               x .1 .1 .0,
-          (record { pos = 9; st = List.[]; d = 0; at = λ x. x }, tt),
+          (
+            record {
+              pos = 5;
+              ty = Syntax.tyRef
+                  (Syntax.named 2)
+                  Syntax.imm
+                  (KDecided.named);
+              ref = λ x. x;
+            },
+            tt,
+          ),
         ),
-      ) (m14 (c .before .before) (After-second-of·gave (c .before))) (c .put-row2)
+      ) (m11 (c .before .before) (c .before .put-second-arg .given)) (c .put-second)
 
-      abbrev pub m16 :
-          (before : After-second-of) →
-          (given : s18 .gives (m14 (before .before) (After-second-of·gave before))) →
+      abbrev pub m13 :
+          (before : After-put-second-arg) →
+          (given : s15 .gives (m11 (before .before) (before .put-second-arg .given))) →
+          Typed.Mo T18
+      m13 = λ before given. s16 (m12 before given)
+
+      abbrev pub m14 :
+          (before : After-put-second-arg) →
+          (given : s15 .gives (m11 (before .before) (before .put-second-arg .given))) →
+          Typed.Mo T19
+      m14 = λ before given. s17 (m13 before given)
+
+      abbrev pub m15 :
+          (before : After-put-second) →
+          (given : s19 .gives (m14 (before .before) (After-put-second·gave before))) →
           Typed.Mo T21
-      m16 = λ before given. s19 (m15 before given)
+      m15 = λ before given. s19 .next (m14 (before .before) (After-put-second·gave before)) given
 
-      abbrev pub m17 :
-          (before : After-second-of) →
-          (given : s18 .gives (m14 (before .before) (After-second-of·gave before))) →
-          Typed.Mo T22
-      m17 = λ before given. s20 (m16 before given)
-
-      abbrev pub m18 :
-          (before : After-second-of) →
-          (given : s18 .gives (m14 (before .before) (After-second-of·gave before))) →
-          Typed.Mo T23
-      m18 = λ before given. s21 (m17 before given)
-
-      abbrev pub m19 :
-          (before : After-put-row2) →
-          (given : s23 .gives (m18 (before .before) (After-put-row2·gave before))) →
-          Typed.Mo T25
-      m19 = λ before given. s23 .next (m18 (before .before) (After-put-row2·gave before)) given
-
-      module _ (before· : After-put-row2) where
+      module _ (before· : After-put-second) where
         pub record After-instances2·own : Type 0 where
-          pub given : s23 .gives (m18 (before· .before) (After-put-row2·gave before·))
+          pub given : s19 .gives (m14 (before· .before) (After-put-second·gave before·))
 
       pub record After-instances2 : Type 0 where
-        pub before : After-put-row2
+        pub before : After-put-second
         pub instances2 : After-instances2·own before
 
-      abbrev pub m20 :
+      abbrev pub m16 :
           (before : After-instances2) →
-          (given : s26 .gives (m19 (before .before) (before .instances2 .given))) →
-          Typed.Mo T28
-      m20 = λ before given. s26 .next (m19 (before .before) (before .instances2 .given)) given
+          (given : s22 .gives (m15 (before .before) (before .instances2 .given))) →
+          Typed.Mo T24
+      m16 = λ before given. s22 .next (m15 (before .before) (before .instances2 .given)) given
 
-      abbrev pub m21 :
+      abbrev pub m17 :
           (before : After-instances2) →
-          (given : s26 .gives (m19 (before .before) (before .instances2 .given))) →
-          Typed.Mo T29
-      m21 = λ before given. s27 .next (m20 before given)
+          (given : s22 .gives (m15 (before .before) (before .instances2 .given))) →
+          Typed.Mo T25
+      m17 = λ before given. s23 .next (m16 before given)
 
       module _ (before· : After-instances2) where
         pub record After-put-route-arg·own : Type 0 where
-          pub given : s26 .gives (m19 (before· .before) (before· .instances2 .given))
+          pub given : s22 .gives (m15 (before· .before) (before· .instances2 .given))
 
       pub record After-put-route-arg : Type 0 where
         pub before : After-instances2
         pub put-route-arg : After-put-route-arg·own before
 
-      abbrev pub m22 :
+      abbrev pub m18 :
           (before : After-put-route-arg) →
-          (given : s28 .gives (m21 (before .before) (before .put-route-arg .given))) →
-          Typed.Mo T30
-      m22 = λ before given. s28 .next (m21 (before .before) (before .put-route-arg .given)) given
+          (given : s24 .gives (m17 (before .before) (before .put-route-arg .given))) →
+          Typed.Mo T26
+      m18 = λ before given. s24 .next (m17 (before .before) (before .put-route-arg .given)) given
 
       module _ (before· : After-put-route-arg) where
         pub record After-route-of-arg·own : Type 0 where
-          pub given : s28 .gives (m21 (before· .before) (before· .put-route-arg .given))
+          pub given : s24 .gives (m17 (before· .before) (before· .put-route-arg .given))
 
       pub record After-route-of-arg : Type 0 where
         pub before : After-put-route-arg
@@ -8142,20 +7226,20 @@ module _ (claims· : Claims) where
 
       abbrev pub Need-route-of-requires : Type 0
       Need-route-of-requires =
-          (c : After-route-of-arg) → s29 .asks (m22 (c .before) (c .route-of-arg .given))
+          (c : After-route-of-arg) → s25 .asks (m18 (c .before) (c .route-of-arg .given))
 
-      abbrev pub m23 :
+      abbrev pub m19 :
           (before : After-route-of-arg) →
-          (given : s29 .gives (m22 (before .before) (before .route-of-arg .given))) →
-          Typed.Mo T31
-      m23 = λ before given. s29 .next (m22 (before .before) (before .route-of-arg .given)) given
+          (given : s25 .gives (m18 (before .before) (before .route-of-arg .given))) →
+          Typed.Mo T27
+      m19 = λ before given. s25 .next (m18 (before .before) (before .route-of-arg .given)) given
 
       module _ (before· : After-route-of-arg) where
         abbrev pub After-route-of·own : Type 0
-        After-route-of·own = Called.Called ps·3 r·3 (claims· .7) T30 (
+        After-route-of·own = Called.Called ps·3 r·3 (claims· .7) T26 (
           record { pos = 10; st = List.[]; d = 0; at = λ x. x },
           tt,
-        ) (m22 (before· .before) (before· .route-of-arg .given))
+        ) (m18 (before· .before) (before· .route-of-arg .given))
 
       pub record After-route-of : Type 0 where
         pub before : After-route-of-arg
@@ -8163,31 +7247,31 @@ module _ (claims· : Claims) where
 
       abbrev pub After-route-of·gave :
           (c : After-route-of) →
-          s29 .gives (m22 (c .before .before) (c .before .route-of-arg .given))
-      After-route-of·gave = λ c. Called.given ps·3 r·3 (claims· .7) T30 (
+          s25 .gives (m18 (c .before .before) (c .before .route-of-arg .given))
+      After-route-of·gave = λ c. Called.given ps·3 r·3 (claims· .7) T26 (
         record { pos = 10; st = List.[]; d = 0; at = λ x. x },
         tt,
-      ) (m22 (c .before .before) (c .before .route-of-arg .given)) (c .route-of)
+      ) (m18 (c .before .before) (c .before .route-of-arg .given)) (c .route-of)
 
-      abbrev pub m24 :
+      abbrev pub m20 :
           (before : After-route-of-arg) →
-          (given : s29 .gives (m22 (before .before) (before .route-of-arg .given))) →
-          Typed.Mo T32
-      m24 = λ before given. s30 (m23 before given)
+          (given : s25 .gives (m18 (before .before) (before .route-of-arg .given))) →
+          Typed.Mo T28
+      m20 = λ before given. s26 (m19 before given)
 
       abbrev pub Need-put-route-requires : Type 0
       Need-put-route-requires =
-          (c : After-route-of) → s31 .asks (m24 (c .before) (After-route-of·gave c))
+          (c : After-route-of) → s27 .asks (m20 (c .before) (After-route-of·gave c))
 
-      abbrev pub m25 :
+      abbrev pub m21 :
           (before : After-route-of) →
-          (given : s31 .gives (m24 (before .before) (After-route-of·gave before))) →
-          Typed.Mo T33
-      m25 = λ before given. s31 .next (m24 (before .before) (After-route-of·gave before)) given
+          (given : s27 .gives (m20 (before .before) (After-route-of·gave before))) →
+          Typed.Mo T29
+      m21 = λ before given. s27 .next (m20 (before .before) (After-route-of·gave before)) given
 
       module _ (before· : After-route-of) where
         abbrev pub After-put-route·own : Type 0
-        After-put-route·own = Called.Called ps·4 r·4 (claims· .9) T32 (
+        After-put-route·own = Called.Called ps·4 r·4 (claims· .9) T28 (
           record {
             pos = 14;
             ty = Syntax.tyRef
@@ -8197,7 +7281,7 @@ module _ (claims· : Claims) where
             ref = λ x. x;
           },
           (Num.vAt 4 λ x. x, (record { pos = 15; st = List.[]; d = 0; at = λ x. x }, tt)),
-        ) (m24 (before· .before) (After-route-of·gave before·))
+        ) (m20 (before· .before) (After-route-of·gave before·))
 
       pub record After-put-route : Type 0 where
         pub before : After-route-of
@@ -8205,49 +7289,49 @@ module _ (claims· : Claims) where
 
       abbrev pub After-put-route·gave :
           (c : After-put-route) →
-          s31 .gives (m24 (c .before .before) (After-route-of·gave (c .before)))
-      After-put-route·gave = λ c. Called.given ps·4 r·4 (claims· .9) T32 (
+          s27 .gives (m20 (c .before .before) (After-route-of·gave (c .before)))
+      After-put-route·gave = λ c. Called.given ps·4 r·4 (claims· .9) T28 (
         record {
           pos = 14;
           ty = Syntax.tyRef Syntax.erased Syntax.mut (KRouteRow.named);
           ref = λ x. x;
         },
         (Num.vAt 4 λ x. x, (record { pos = 15; st = List.[]; d = 0; at = λ x. x }, tt)),
-      ) (m24 (c .before .before) (After-route-of·gave (c .before))) (c .put-route)
+      ) (m20 (c .before .before) (After-route-of·gave (c .before))) (c .put-route)
+
+      abbrev pub m22 :
+          (before : After-route-of) →
+          (given : s27 .gives (m20 (before .before) (After-route-of·gave before))) →
+          Typed.Mo T30
+      m22 = λ before given. s28 (m21 before given)
+
+      abbrev pub m23 :
+          (before : After-route-of) →
+          (given : s27 .gives (m20 (before .before) (After-route-of·gave before))) →
+          Typed.Mo T31
+      m23 = λ before given. s29 (m22 before given)
+
+      abbrev pub m24 :
+          (before : After-put-route) →
+          (given : s31 .gives (m23 (before .before) (After-put-route·gave before))) →
+          Typed.Mo T33
+      m24 = λ before given. s31 .next (m23 (before .before) (After-put-route·gave before)) given
+
+      abbrev pub m25 :
+          (before : After-put-route) →
+          (given : s31 .gives (m23 (before .before) (After-put-route·gave before))) →
+          Typed.Mo T35
+      m25 = λ before given. s33 (m24 before given)
 
       abbrev pub m26 :
-          (before : After-route-of) →
-          (given : s31 .gives (m24 (before .before) (After-route-of·gave before))) →
-          Typed.Mo T34
-      m26 = λ before given. s32 (m25 before given)
-
-      abbrev pub m27 :
-          (before : After-route-of) →
-          (given : s31 .gives (m24 (before .before) (After-route-of·gave before))) →
-          Typed.Mo T35
-      m27 = λ before given. s33 (m26 before given)
-
-      abbrev pub m28 :
           (before : After-put-route) →
-          (given : s35 .gives (m27 (before .before) (After-put-route·gave before))) →
-          Typed.Mo T37
-      m28 = λ before given. s35 .next (m27 (before .before) (After-put-route·gave before)) given
-
-      abbrev pub m29 :
-          (before : After-put-route) →
-          (given : s35 .gives (m27 (before .before) (After-put-route·gave before))) →
-          Typed.Mo T39
-      m29 = λ before given. s37 (m28 before given)
-
-      abbrev pub m30 :
-          (before : After-put-route) →
-          (given : s35 .gives (m27 (before .before) (After-put-route·gave before))) →
-          Typed.Mo T40
-      m30 = λ before given. s38 (m29 before given)
+          (given : s31 .gives (m23 (before .before) (After-put-route·gave before))) →
+          Typed.Mo T36
+      m26 = λ before given. s34 (m25 before given)
 
       module _ (before· : After-put-route) where
         pub record After-routes·own : Type 0 where
-          pub given : s35 .gives (m27 (before· .before) (After-put-route·gave before·))
+          pub given : s31 .gives (m23 (before· .before) (After-put-route·gave before·))
 
       pub record After-routes : Type 0 where
         pub before : After-put-route
@@ -8255,98 +7339,97 @@ module _ (claims· : Claims) where
 
       abbrev pub Need-same-length : Type 0
       Need-same-length =
-          (c : After-routes) → MutSlice.SameLen (Row.get 1 (T40 .locals) (m30 (c .before)
+          (c : After-routes) → MutSlice.SameLen (Row.get 1 (T36 .locals) (m26 (c .before)
           (c .routes .given))) (dens
           (c .before .before .before .before .before .before .before .before .before .before
-          .before .before .before .before .before .κs)
+          .before .before .before .κs)
           (c .before .before .before .before .before .before .before .before .before .before
-          .before .before .before .before .before .args) .0)
+          .before .before .before .args) .0)
 
       abbrev pub Need-same-length-2 : Type 0
       Need-same-length-2 =
-          (c : After-routes) → MutSlice.SameLen (Row.get 2 (T40 .locals) (m30 (c .before)
+          (c : After-routes) → MutSlice.SameLen (Row.get 2 (T36 .locals) (m26 (c .before)
           (c .routes .given))) (dens
           (c .before .before .before .before .before .before .before .before .before .before
-          .before .before .before .before .before .κs)
+          .before .before .before .κs)
           (c .before .before .before .before .before .before .before .before .before .before
-          .before .before .before .before .before .args) .1 .0)
+          .before .before .before .args) .1 .0)
 
       abbrev pub Need-returns : Type 0
       Need-returns =
           (c : After-routes) → Post·
           (c .before .before .before .before .before .before .before .before .before .before
-          .before .before .before .before .before .κs) (dens
+          .before .before .before .κs) (dens
           (c .before .before .before .before .before .before .before .before .before .before
-          .before .before .before .before .before .κs)
+          .before .before .before .κs)
           (c .before .before .before .before .before .before .before .before .before .before
-          .before .before .before .before .before .args)) (Function.resV r
+          .before .before .before .args)) (Function.resV r
           (c .before .before .before .before .before .before .before .before .before .before
-          .before .before .before .before .before .κs) (m30 (c .before) (c .routes .given) .0))
-          (Clauses.atExit (Kinds.endedOf 3 ps r)
+          .before .before .before .κs) (m26 (c .before) (c .routes .given) .0)) (Clauses.atExit
+          (Kinds.endedOf 3 ps r)
           (c .before .before .before .before .before .before .before .before .before .before
-          .before .before .before .before .before .κs) (dens
+          .before .before .before .κs) (dens
           (c .before .before .before .before .before .before .before .before .before .before
-          .before .before .before .before .before .κs)
+          .before .before .before .κs)
           (c .before .before .before .before .before .before .before .before .before .before
-          .before .before .before .before .before .args)) (Enter.lastsP
+          .before .before .before .args)) (Enter.lastsP
           (c .before .before .before .before .before .before .before .before .before .before
-          .before .before .before .before .before .κs) 1 ps xs (dens
+          .before .before .before .κs) 1 ps xs (dens
           (c .before .before .before .before .before .before .before .before .before .before
-          .before .before .before .before .before .κs)
+          .before .before .before .κs)
           (c .before .before .before .before .before .before .before .before .before .before
-          .before .before .before .before .before .args)) (m30 (c .before) (c .routes .given) .1)))
+          .before .before .before .args)) (m26 (c .before) (c .routes .given) .1)))
 
       module _ (row-of-requires : Need-row-of-requires) (put-row-requires : Need-put-row-requires)
-          (second-of-requires : Need-second-of-requires)
-          (put-row-requires-2 : Need-put-row-requires-2)
+          (put-second-requires : Need-put-second-requires)
           (route-of-requires : Need-route-of-requires)
           (put-route-requires : Need-put-route-requires) (same-length : Need-same-length)
           (same-length-2 : Need-same-length-2) (returns : Need-returns) where
-        lay6 :
+        lay5 :
             (c : After-put-route) → at7 (W0
             (c .before .before .before .before .before .before .before .before .before .before
-            .before .before .before .before .κs)
+            .before .before .κs)
             (c .before .before .before .before .before .before .before .before .before .before
-            .before .before .before .before .args)) (m25 (c .before) (After-put-route·gave c))
-        lay6 = λ c. (
+            .before .before .args)) (m21 (c .before) (After-put-route·gave c))
+        lay5 = λ c. (
           Path'.refl,
           λ g. (
             (
-              MutSlice.fix-len (Row.get 1 (T40 .locals) (m30 record {
+              MutSlice.fix-len (Row.get 1 (T36 .locals) (m26 record {
                 before = c .before;
                 put-route = c .put-route;
-              } g) .ptr) (Row.get 1 (T40 .locals) (m30 record {
+              } g) .ptr) (Row.get 1 (T36 .locals) (m26 record {
                 before = c .before;
                 put-route = c .put-route;
-              } g) .name) (Row.get 1 (T40 .locals) (m30 record {
+              } g) .name) (Row.get 1 (T36 .locals) (m26 record {
                 before = c .before;
                 put-route = c .put-route;
               } g) .now)
                   (dens
                   (c .before .before .before .before .before .before .before .before .before
-                  .before .before .before .before .before .κs)
+                  .before .before .before .κs)
                   (c .before .before .before .before .before .before .before .before .before
-                  .before .before .before .before .before .args) .0 .now)
+                  .before .before .before .args) .0 .now)
                   (same-length record {
                     before = record { before = c .before; put-route = c .put-route };
                     routes = record { given = g };
                   }),
               (
-                MutSlice.fix-len (Row.get 2 (T40 .locals) (m30 record {
+                MutSlice.fix-len (Row.get 2 (T36 .locals) (m26 record {
                   before = c .before;
                   put-route = c .put-route;
-                } g) .ptr) (Row.get 2 (T40 .locals) (m30 record {
+                } g) .ptr) (Row.get 2 (T36 .locals) (m26 record {
                   before = c .before;
                   put-route = c .put-route;
-                } g) .name) (Row.get 2 (T40 .locals) (m30 record {
+                } g) .name) (Row.get 2 (T36 .locals) (m26 record {
                   before = c .before;
                   put-route = c .put-route;
                 } g) .now)
                     (dens
                     (c .before .before .before .before .before .before .before .before .before
-                    .before .before .before .before .before .κs)
+                    .before .before .before .κs)
                     (c .before .before .before .before .before .before .before .before .before
-                    .before .before .before .before .before .args) .1 .0 .now)
+                    .before .before .before .args) .1 .0 .now)
                     (same-length-2 record {
                       before = record { before = c .before; put-route = c .put-route };
                       routes = record { given = g };
@@ -8361,17 +7444,17 @@ module _ (claims· : Claims) where
           ),
         )
 
-        lay5 :
+        lay4 :
             (c : After-route-of) → at9 (W0
             (c .before .before .before .before .before .before .before .before .before .before
-            .before .before .before .κs)
+            .before .κs)
             (c .before .before .before .before .before .before .before .before .before .before
-            .before .before .before .args)) (m23 (c .before) (After-route-of·gave c))
-        lay5 = λ c. (
+            .before .args)) (m19 (c .before) (After-route-of·gave c))
+        lay4 = λ c. (
           put-route-requires record { before = c .before; route-of = c .route-of },
-          λ g. lay6 record {
+          λ g. lay5 record {
             before = record { before = c .before; route-of = c .route-of };
-            put-route = Called.called ps·4 r·4 (claims· .9) T32 (
+            put-route = Called.called ps·4 r·4 (claims· .9) T28 (
               record {
                 pos = 14;
                 ty = Syntax.tyRef
@@ -8381,18 +7464,18 @@ module _ (claims· : Claims) where
                 ref = λ x. x;
               },
               (Num.vAt 4 λ x. x, (record { pos = 15; st = List.[]; d = 0; at = λ x. x }, tt)),
-            ) (m24 (c .before) (After-route-of·gave c)) g;
+            ) (m20 (c .before) (After-route-of·gave c)) g;
           },
         )
 
-        lay4 :
-            (c : After-put-row2) →
-            at20
+        lay3 :
+            (c : After-put-second) →
+            at19
             (W0
-            (c .before .before .before .before .before .before .before .before .before .κs)
-            (c .before .before .before .before .before .before .before .before .before .args))
-            (m15 (c .before) (After-put-row2·gave c))
-        lay4 = λ c. (
+            (c .before .before .before .before .before .before .before .κs)
+            (c .before .before .before .before .before .before .before .args))
+            (m12 (c .before) (After-put-second·gave c))
+        lay3 = λ c. (
           Path'.refl,
           λ g. λ g'. (
             Path'.refl,
@@ -8400,30 +7483,30 @@ module _ (claims· : Claims) where
               route-of-requires record {
                 before = record {
                   before = record {
-                    before = record { before = c .before; put-row2 = c .put-row2 };
+                    before = record { before = c .before; put-second = c .put-second };
                     instances2 = record { given = g };
                   };
                   put-route-arg = record { given = g' };
                 };
                 route-of-arg = record { given = g'' };
               },
-              λ g'3. lay5 record {
+              λ g'3. lay4 record {
                 before = record {
                   before = record {
                     before = record {
-                      before = record { before = c .before; put-row2 = c .put-row2 };
+                      before = record { before = c .before; put-second = c .put-second };
                       instances2 = record { given = g };
                     };
                     put-route-arg = record { given = g' };
                   };
                   route-of-arg = record { given = g'' };
                 };
-                route-of = Called.called ps·3 r·3 (claims· .7) T30 (
+                route-of = Called.called ps·3 r·3 (claims· .7) T26 (
                   record { pos = 10; st = List.[]; d = 0; at = λ x. x },
                   tt,
-                ) (m22 record {
+                ) (m18 record {
                   before = record {
-                    before = record { before = c .before; put-row2 = c .put-row2 };
+                    before = record { before = c .before; put-second = c .put-second };
                     instances2 = record { given = g };
                   };
                   put-route-arg = record { given = g' };
@@ -8433,80 +7516,63 @@ module _ (claims· : Claims) where
           ),
         )
 
-        lay3 :
-            (c : After-second-of) →
-            at22
-            (W0
-            (c .before .before .before .before .before .before .before .before .κs)
-            (c .before .before .before .before .before .before .before .before .args))
-            (m13 (c .before) (After-second-of·gave c))
-        lay3 = λ c. (
-          put-row-requires-2 record { before = c .before; second-of = c .second-of },
-          λ g. lay4 record {
-            before = record { before = c .before; second-of = c .second-of };
-            put-row2 = Called.called ps·1 r·1 (claims· .3) T19 (
-              record {
-                pos = 12;
-                ty = Syntax.tyRef
-                    Syntax.erased
-                    Syntax.mut
-                    (KInstanceRow.named);
-                ref = λ x. x;
-              },
-              (
-                Num.vFld
-                    3
-                    (List._∷_ (Syntax.field 2) List.[])
-                    16
-                    λ x. Places.struct .as-values
-                    x .1 .1 .0,
-                (record { pos = 9; st = List.[]; d = 0; at = λ x. x }, tt),
-              ),
-            ) (m14 (c .before) (After-second-of·gave c)) g;
-          },
-        )
-
         lay2 :
             (c : After-put-row) →
-            at32
+            at28
             (W0 (c .before .before .before .before .κs) (c .before .before .before .before .args))
             (m6 (c .before) (After-put-row·gave c))
         lay2 = λ c. (
           Path'.refl,
           λ g. λ g'. (
             Path'.refl,
-            λ g''. (
-              second-of-requires record {
+            (
+              put-second-requires record {
                 before = record {
-                  before = record {
-                    before = record { before = c .before; put-row = c .put-row };
-                    instances = record { given = g };
-                  };
-                  put-row-arg2 = record { given = g' };
+                  before = record { before = c .before; put-row = c .put-row };
+                  instances = record { given = g };
                 };
-                second-of-arg = record { given = g'' };
+                put-second-arg = record { given = g' };
               },
-              λ g'3. lay3 record {
+              λ g''. lay3 record {
                 before = record {
-                  before = record {
-                    before = record {
-                      before = record { before = c .before; put-row = c .put-row };
-                      instances = record { given = g };
-                    };
-                    put-row-arg2 = record { given = g' };
-                  };
-                  second-of-arg = record { given = g'' };
-                };
-                second-of = Called.called ps·2 r·2 (claims· .5) T17 (
-                  record { pos = 10; st = List.[]; d = 0; at = λ x. x },
-                  tt,
-                ) (m12 record {
                   before = record {
                     before = record { before = c .before; put-row = c .put-row };
                     instances = record { given = g };
                   };
-                  put-row-arg2 = record { given = g' };
-                } g'') g'3;
+                  put-second-arg = record { given = g' };
+                };
+                put-second = Called.called ps·2 r·2 (claims· .5) T16 (
+                  record {
+                    pos = 12;
+                    ty = Syntax.tyRef
+                        Syntax.erased
+                        Syntax.mut
+                        (KInstanceRow.named);
+                    ref = λ x. x;
+                  },
+                  (
+                    Num.vFld
+                        3
+                        (List._∷_ (Syntax.field 2) List.[])
+                        16
+                        λ x. Places.struct .as-values
+                        x .1 .1 .0,
+                    (
+                      record {
+                        pos = 5;
+                        ty = Syntax.tyRef
+                            (Syntax.named 2)
+                            Syntax.imm
+                            (KDecided.named);
+                        ref = λ x. x;
+                      },
+                      tt,
+                    ),
+                  ),
+                ) (m11 record {
+                  before = record { before = c .before; put-row = c .put-row };
+                  instances = record { given = g };
+                } g') g'';
               },
             ),
           ),
@@ -8514,7 +7580,7 @@ module _ (claims· : Claims) where
 
         lay1 :
             (c : After-row-of) →
-            at34
+            at30
             (W0 (c .before .before .before .κs) (c .before .before .before .args))
             (m4 (c .before) (After-row-of·gave c))
         lay1 = λ c. (
@@ -8543,7 +7609,7 @@ module _ (claims· : Claims) where
           },
         )
 
-        pub laid : (c : Start) → at39 (W0 (c .κs) (c .args)) (m0 (c .κs) (c .args))
+        pub laid : (c : Start) → at35 (W0 (c .κs) (c .args)) (m0 (c .κs) (c .args))
         laid = λ c. λ g. (
           Path'.refl,
           λ g'. (
@@ -8595,12 +7661,12 @@ module _ (claims· : Claims) where
             A
             W
             𝓣
-            0
+            2
             ps·2
             r·2
             (claims· .4)
             (claims· .5)
-            "finish::second_of")
+            "finish::put_second")
             (known3 : Plain.Known
             𝓤
             H

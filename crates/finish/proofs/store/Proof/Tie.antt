@@ -1,13 +1,13 @@
 -- Made by tools/lend.py of the twin of `store`: do not edit.
-use Rattle.finish.proofs.route_of.Met
-use Rattle.finish.proofs.route_of.Reads
-use Rattle.finish.proofs.route_of.Symbol
-use Rattle.finish.proofs.row_of.Met as Met'
-use Rattle.finish.proofs.row_of.Reads as Reads'
-use Rattle.finish.proofs.row_of.Symbol as Symbol'
-use Rattle.finish.proofs.second_of.Met as Met''
-use Rattle.finish.proofs.second_of.Reads as Reads''
-use Rattle.finish.proofs.second_of.Symbol as Symbol''
+use Rattle.finish.proofs.put_second.Met
+use Rattle.finish.proofs.Lent.put_second.Reads
+use Rattle.finish.proofs.put_second.Symbol
+use Rattle.finish.proofs.route_of.Met as Met'
+use Rattle.finish.proofs.route_of.Reads as Reads'
+use Rattle.finish.proofs.route_of.Symbol as Symbol'
+use Rattle.finish.proofs.row_of.Met as Met''
+use Rattle.finish.proofs.row_of.Reads as Reads''
+use Rattle.finish.proofs.row_of.Symbol as Symbol''
 use Rattle.finish.proofs.store.Code
 use Rattle.finish.proofs.store.Key
 use Rattle.finish.proofs.Lent.store.Kinds
@@ -26,350 +26,308 @@ use contract.Running
 
 abbrev pub Start : Type 0
 Start = Lts.Start (
-  Reads'.Asked,
-  Reads'.Learnt,
-  Reads'5.Asked,
-  Reads'5.Learnt,
   Reads''.Asked,
   Reads''.Learnt,
+  Reads'5.Asked,
+  Reads'5.Learnt,
   Reads.Asked,
   Reads.Learnt,
+  Reads'.Asked,
+  Reads'.Learnt,
   Reads'4.Asked,
   Reads'4.Learnt,
 ) Reads'3.Pre Reads'3.Post
 
 abbrev pub After-put-row-arg : Type 0
 After-put-row-arg = Lts.After-put-row-arg (
-  Reads'.Asked,
-  Reads'.Learnt,
-  Reads'5.Asked,
-  Reads'5.Learnt,
   Reads''.Asked,
   Reads''.Learnt,
+  Reads'5.Asked,
+  Reads'5.Learnt,
   Reads.Asked,
   Reads.Learnt,
+  Reads'.Asked,
+  Reads'.Learnt,
   Reads'4.Asked,
   Reads'4.Learnt,
 ) Reads'3.Pre Reads'3.Post
 
 abbrev pub After-row-of-arg : Type 0
 After-row-of-arg = Lts.After-row-of-arg (
-  Reads'.Asked,
-  Reads'.Learnt,
-  Reads'5.Asked,
-  Reads'5.Learnt,
   Reads''.Asked,
   Reads''.Learnt,
+  Reads'5.Asked,
+  Reads'5.Learnt,
   Reads.Asked,
   Reads.Learnt,
+  Reads'.Asked,
+  Reads'.Learnt,
   Reads'4.Asked,
   Reads'4.Learnt,
 ) Reads'3.Pre Reads'3.Post
 
 abbrev pub After-row-of : Type 0
 After-row-of = Lts.After-row-of (
-  Reads'.Asked,
-  Reads'.Learnt,
-  Reads'5.Asked,
-  Reads'5.Learnt,
   Reads''.Asked,
   Reads''.Learnt,
+  Reads'5.Asked,
+  Reads'5.Learnt,
   Reads.Asked,
   Reads.Learnt,
+  Reads'.Asked,
+  Reads'.Learnt,
   Reads'4.Asked,
   Reads'4.Learnt,
 ) Reads'3.Pre Reads'3.Post
 
 abbrev pub After-put-row : Type 0
 After-put-row = Lts.After-put-row (
-  Reads'.Asked,
-  Reads'.Learnt,
-  Reads'5.Asked,
-  Reads'5.Learnt,
   Reads''.Asked,
   Reads''.Learnt,
+  Reads'5.Asked,
+  Reads'5.Learnt,
   Reads.Asked,
   Reads.Learnt,
+  Reads'.Asked,
+  Reads'.Learnt,
   Reads'4.Asked,
   Reads'4.Learnt,
 ) Reads'3.Pre Reads'3.Post
 
 abbrev pub After-instances : Type 0
 After-instances = Lts.After-instances (
-  Reads'.Asked,
-  Reads'.Learnt,
-  Reads'5.Asked,
-  Reads'5.Learnt,
   Reads''.Asked,
   Reads''.Learnt,
+  Reads'5.Asked,
+  Reads'5.Learnt,
   Reads.Asked,
   Reads.Learnt,
+  Reads'.Asked,
+  Reads'.Learnt,
   Reads'4.Asked,
   Reads'4.Learnt,
 ) Reads'3.Pre Reads'3.Post
 
-abbrev pub After-put-row-arg2 : Type 0
-After-put-row-arg2 = Lts.After-put-row-arg2 (
-  Reads'.Asked,
-  Reads'.Learnt,
-  Reads'5.Asked,
-  Reads'5.Learnt,
+abbrev pub After-put-second-arg : Type 0
+After-put-second-arg = Lts.After-put-second-arg (
   Reads''.Asked,
   Reads''.Learnt,
+  Reads'5.Asked,
+  Reads'5.Learnt,
   Reads.Asked,
   Reads.Learnt,
+  Reads'.Asked,
+  Reads'.Learnt,
   Reads'4.Asked,
   Reads'4.Learnt,
 ) Reads'3.Pre Reads'3.Post
 
-abbrev pub After-second-of-arg : Type 0
-After-second-of-arg = Lts.After-second-of-arg (
-  Reads'.Asked,
-  Reads'.Learnt,
-  Reads'5.Asked,
-  Reads'5.Learnt,
+abbrev pub After-put-second : Type 0
+After-put-second = Lts.After-put-second (
   Reads''.Asked,
   Reads''.Learnt,
-  Reads.Asked,
-  Reads.Learnt,
-  Reads'4.Asked,
-  Reads'4.Learnt,
-) Reads'3.Pre Reads'3.Post
-
-abbrev pub After-second-of : Type 0
-After-second-of = Lts.After-second-of (
-  Reads'.Asked,
-  Reads'.Learnt,
   Reads'5.Asked,
   Reads'5.Learnt,
-  Reads''.Asked,
-  Reads''.Learnt,
   Reads.Asked,
   Reads.Learnt,
-  Reads'4.Asked,
-  Reads'4.Learnt,
-) Reads'3.Pre Reads'3.Post
-
-abbrev pub After-put-row2 : Type 0
-After-put-row2 = Lts.After-put-row2 (
   Reads'.Asked,
   Reads'.Learnt,
-  Reads'5.Asked,
-  Reads'5.Learnt,
-  Reads''.Asked,
-  Reads''.Learnt,
-  Reads.Asked,
-  Reads.Learnt,
   Reads'4.Asked,
   Reads'4.Learnt,
 ) Reads'3.Pre Reads'3.Post
 
 abbrev pub After-instances2 : Type 0
 After-instances2 = Lts.After-instances2 (
-  Reads'.Asked,
-  Reads'.Learnt,
-  Reads'5.Asked,
-  Reads'5.Learnt,
   Reads''.Asked,
   Reads''.Learnt,
+  Reads'5.Asked,
+  Reads'5.Learnt,
   Reads.Asked,
   Reads.Learnt,
+  Reads'.Asked,
+  Reads'.Learnt,
   Reads'4.Asked,
   Reads'4.Learnt,
 ) Reads'3.Pre Reads'3.Post
 
 abbrev pub After-put-route-arg : Type 0
 After-put-route-arg = Lts.After-put-route-arg (
-  Reads'.Asked,
-  Reads'.Learnt,
-  Reads'5.Asked,
-  Reads'5.Learnt,
   Reads''.Asked,
   Reads''.Learnt,
+  Reads'5.Asked,
+  Reads'5.Learnt,
   Reads.Asked,
   Reads.Learnt,
+  Reads'.Asked,
+  Reads'.Learnt,
   Reads'4.Asked,
   Reads'4.Learnt,
 ) Reads'3.Pre Reads'3.Post
 
 abbrev pub After-route-of-arg : Type 0
 After-route-of-arg = Lts.After-route-of-arg (
-  Reads'.Asked,
-  Reads'.Learnt,
-  Reads'5.Asked,
-  Reads'5.Learnt,
   Reads''.Asked,
   Reads''.Learnt,
+  Reads'5.Asked,
+  Reads'5.Learnt,
   Reads.Asked,
   Reads.Learnt,
+  Reads'.Asked,
+  Reads'.Learnt,
   Reads'4.Asked,
   Reads'4.Learnt,
 ) Reads'3.Pre Reads'3.Post
 
 abbrev pub After-route-of : Type 0
 After-route-of = Lts.After-route-of (
-  Reads'.Asked,
-  Reads'.Learnt,
-  Reads'5.Asked,
-  Reads'5.Learnt,
   Reads''.Asked,
   Reads''.Learnt,
+  Reads'5.Asked,
+  Reads'5.Learnt,
   Reads.Asked,
   Reads.Learnt,
+  Reads'.Asked,
+  Reads'.Learnt,
   Reads'4.Asked,
   Reads'4.Learnt,
 ) Reads'3.Pre Reads'3.Post
 
 abbrev pub After-put-route : Type 0
 After-put-route = Lts.After-put-route (
-  Reads'.Asked,
-  Reads'.Learnt,
-  Reads'5.Asked,
-  Reads'5.Learnt,
   Reads''.Asked,
   Reads''.Learnt,
+  Reads'5.Asked,
+  Reads'5.Learnt,
   Reads.Asked,
   Reads.Learnt,
+  Reads'.Asked,
+  Reads'.Learnt,
   Reads'4.Asked,
   Reads'4.Learnt,
 ) Reads'3.Pre Reads'3.Post
 
 abbrev pub After-routes : Type 0
 After-routes = Lts.After-routes (
-  Reads'.Asked,
-  Reads'.Learnt,
-  Reads'5.Asked,
-  Reads'5.Learnt,
   Reads''.Asked,
   Reads''.Learnt,
+  Reads'5.Asked,
+  Reads'5.Learnt,
   Reads.Asked,
   Reads.Learnt,
+  Reads'.Asked,
+  Reads'.Learnt,
   Reads'4.Asked,
   Reads'4.Learnt,
 ) Reads'3.Pre Reads'3.Post
 
 abbrev pub Need-row-of-requires : Type 0
 Need-row-of-requires = Lts.Need-row-of-requires (
-  Reads'.Asked,
-  Reads'.Learnt,
-  Reads'5.Asked,
-  Reads'5.Learnt,
   Reads''.Asked,
   Reads''.Learnt,
+  Reads'5.Asked,
+  Reads'5.Learnt,
   Reads.Asked,
   Reads.Learnt,
+  Reads'.Asked,
+  Reads'.Learnt,
   Reads'4.Asked,
   Reads'4.Learnt,
 ) Reads'3.Pre Reads'3.Post
 
 abbrev pub Need-put-row-requires : Type 0
 Need-put-row-requires = Lts.Need-put-row-requires (
-  Reads'.Asked,
-  Reads'.Learnt,
-  Reads'5.Asked,
-  Reads'5.Learnt,
   Reads''.Asked,
   Reads''.Learnt,
+  Reads'5.Asked,
+  Reads'5.Learnt,
   Reads.Asked,
   Reads.Learnt,
+  Reads'.Asked,
+  Reads'.Learnt,
   Reads'4.Asked,
   Reads'4.Learnt,
 ) Reads'3.Pre Reads'3.Post
 
-abbrev pub Need-second-of-requires : Type 0
-Need-second-of-requires = Lts.Need-second-of-requires (
-  Reads'.Asked,
-  Reads'.Learnt,
-  Reads'5.Asked,
-  Reads'5.Learnt,
+abbrev pub Need-put-second-requires : Type 0
+Need-put-second-requires = Lts.Need-put-second-requires (
   Reads''.Asked,
   Reads''.Learnt,
-  Reads.Asked,
-  Reads.Learnt,
-  Reads'4.Asked,
-  Reads'4.Learnt,
-) Reads'3.Pre Reads'3.Post
-
-abbrev pub Need-put-row-requires-2 : Type 0
-Need-put-row-requires-2 = Lts.Need-put-row-requires-2 (
-  Reads'.Asked,
-  Reads'.Learnt,
   Reads'5.Asked,
   Reads'5.Learnt,
-  Reads''.Asked,
-  Reads''.Learnt,
   Reads.Asked,
   Reads.Learnt,
+  Reads'.Asked,
+  Reads'.Learnt,
   Reads'4.Asked,
   Reads'4.Learnt,
 ) Reads'3.Pre Reads'3.Post
 
 abbrev pub Need-route-of-requires : Type 0
 Need-route-of-requires = Lts.Need-route-of-requires (
-  Reads'.Asked,
-  Reads'.Learnt,
-  Reads'5.Asked,
-  Reads'5.Learnt,
   Reads''.Asked,
   Reads''.Learnt,
+  Reads'5.Asked,
+  Reads'5.Learnt,
   Reads.Asked,
   Reads.Learnt,
+  Reads'.Asked,
+  Reads'.Learnt,
   Reads'4.Asked,
   Reads'4.Learnt,
 ) Reads'3.Pre Reads'3.Post
 
 abbrev pub Need-put-route-requires : Type 0
 Need-put-route-requires = Lts.Need-put-route-requires (
-  Reads'.Asked,
-  Reads'.Learnt,
-  Reads'5.Asked,
-  Reads'5.Learnt,
   Reads''.Asked,
   Reads''.Learnt,
+  Reads'5.Asked,
+  Reads'5.Learnt,
   Reads.Asked,
   Reads.Learnt,
+  Reads'.Asked,
+  Reads'.Learnt,
   Reads'4.Asked,
   Reads'4.Learnt,
 ) Reads'3.Pre Reads'3.Post
 
 abbrev pub Need-same-length : Type 0
 Need-same-length = Lts.Need-same-length (
-  Reads'.Asked,
-  Reads'.Learnt,
-  Reads'5.Asked,
-  Reads'5.Learnt,
   Reads''.Asked,
   Reads''.Learnt,
+  Reads'5.Asked,
+  Reads'5.Learnt,
   Reads.Asked,
   Reads.Learnt,
+  Reads'.Asked,
+  Reads'.Learnt,
   Reads'4.Asked,
   Reads'4.Learnt,
 ) Reads'3.Pre Reads'3.Post
 
 abbrev pub Need-same-length-2 : Type 0
 Need-same-length-2 = Lts.Need-same-length-2 (
-  Reads'.Asked,
-  Reads'.Learnt,
-  Reads'5.Asked,
-  Reads'5.Learnt,
   Reads''.Asked,
   Reads''.Learnt,
+  Reads'5.Asked,
+  Reads'5.Learnt,
   Reads.Asked,
   Reads.Learnt,
+  Reads'.Asked,
+  Reads'.Learnt,
   Reads'4.Asked,
   Reads'4.Learnt,
 ) Reads'3.Pre Reads'3.Post
 
 abbrev pub Need-returns : Type 0
 Need-returns = Lts.Need-returns (
-  Reads'.Asked,
-  Reads'.Learnt,
-  Reads'5.Asked,
-  Reads'5.Learnt,
   Reads''.Asked,
   Reads''.Learnt,
+  Reads'5.Asked,
+  Reads'5.Learnt,
   Reads.Asked,
   Reads.Learnt,
+  Reads'.Asked,
+  Reads'.Learnt,
   Reads'4.Asked,
   Reads'4.Learnt,
 ) Reads'3.Pre Reads'3.Post
@@ -378,58 +336,46 @@ module _ {M : Type 1} where
   pub spec :
       (answer : Need-row-of-requires) →
       (answer : Need-put-row-requires) →
-      (answer : Need-second-of-requires) →
-      (answer : Need-put-row-requires-2) →
+      (answer : Need-put-second-requires) →
       (answer : Need-route-of-requires) →
       (answer : Need-put-route-requires) →
       (answer : Need-same-length) →
       (answer : Need-same-length-2) →
       (answer : Need-returns) →
       Lts.Closed (
-        Reads'.Asked,
-        Reads'.Learnt,
-        Reads'5.Asked,
-        Reads'5.Learnt,
         Reads''.Asked,
         Reads''.Learnt,
+        Reads'5.Asked,
+        Reads'5.Learnt,
         Reads.Asked,
         Reads.Learnt,
+        Reads'.Asked,
+        Reads'.Learnt,
         Reads'4.Asked,
         Reads'4.Learnt,
       ) Reads'3.Pre Reads'3.Post M
-  spec = λ answer answer' answer'' answer'3 answer'4 answer'5 answer'6 answer'7 answer'8. Lts.spec (
-    Reads'.Asked,
-    Reads'.Learnt,
-    Reads'5.Asked,
-    Reads'5.Learnt,
+  spec = λ answer answer' answer'' answer'3 answer'4 answer'5 answer'6 answer'7. Lts.spec (
     Reads''.Asked,
     Reads''.Learnt,
+    Reads'5.Asked,
+    Reads'5.Learnt,
     Reads.Asked,
     Reads.Learnt,
+    Reads'.Asked,
+    Reads'.Learnt,
     Reads'4.Asked,
     Reads'4.Learnt,
-  )
-      Reads'3.Pre
-      Reads'3.Post
-      answer
-      answer'
-      answer''
-      answer'3
-      answer'4
-      answer'5
-      answer'6
-      answer'7
-      answer'8
+  ) Reads'3.Pre Reads'3.Post answer answer' answer'' answer'3 answer'4 answer'5 answer'6 answer'7
 
   pub close : Lts.Closed (
-    Reads'.Asked,
-    Reads'.Learnt,
-    Reads'5.Asked,
-    Reads'5.Learnt,
     Reads''.Asked,
     Reads''.Learnt,
+    Reads'5.Asked,
+    Reads'5.Learnt,
     Reads.Asked,
     Reads.Learnt,
+    Reads'.Asked,
+    Reads'.Learnt,
     Reads'4.Asked,
     Reads'4.Learnt,
   ) Reads'3.Pre Reads'3.Post M → Statement.statement M
@@ -460,13 +406,13 @@ module _ {M : Type 1} where
       (𝓖 .A)
       (Running.givenOf 𝓤 H 𝓜 𝓖)
       (Run.Over 𝓤 H 𝓜 𝓖 𝓡 Code.env)
-      (Reads'.known
+      (Reads''.known
       record { M = M; 𝓤 = 𝓤; H = H; 𝓜 = 𝓜; 𝓖 = 𝓖; 𝓡 = 𝓡 }
       Code.env
-      Symbol'.name
-      Symbol'.routine
+      Symbol''.name
+      Symbol''.routine
       Code.calls-finish·row-of
-      (Met'.met 𝓤 H 𝓜 𝓖 𝓡))
+      (Met''.met 𝓤 H 𝓜 𝓖 𝓡))
       (Reads'5.known
       record { M = M; 𝓤 = 𝓤; H = H; 𝓜 = 𝓜; 𝓖 = 𝓖; 𝓡 = 𝓡 }
       Code.env
@@ -474,20 +420,20 @@ module _ {M : Type 1} where
       Symbol'4.routine
       Code.calls-table·put-row
       (Met'4.met 𝓤 H 𝓜 𝓖 𝓡))
-      (Reads''.known
-      record { M = M; 𝓤 = 𝓤; H = H; 𝓜 = 𝓜; 𝓖 = 𝓖; 𝓡 = 𝓡 }
-      Code.env
-      Symbol''.name
-      Symbol''.routine
-      Code.calls-finish·second-of
-      (Met''.met 𝓤 H 𝓜 𝓖 𝓡))
       (Reads.known
       record { M = M; 𝓤 = 𝓤; H = H; 𝓜 = 𝓜; 𝓖 = 𝓖; 𝓡 = 𝓡 }
       Code.env
       Symbol.name
       Symbol.routine
-      Code.calls-finish·route-of
+      Code.calls-finish·put-second
       (Met.met 𝓤 H 𝓜 𝓖 𝓡))
+      (Reads'.known
+      record { M = M; 𝓤 = 𝓤; H = H; 𝓜 = 𝓜; 𝓖 = 𝓖; 𝓡 = 𝓡 }
+      Code.env
+      Symbol'.name
+      Symbol'.routine
+      Code.calls-finish·route-of
+      (Met'.met 𝓤 H 𝓜 𝓖 𝓡))
       (Reads'4.known
       record { M = M; 𝓤 = 𝓤; H = H; 𝓜 = 𝓜; 𝓖 = 𝓖; 𝓡 = 𝓡 }
       Code.env
