@@ -97,11 +97,11 @@ fn blanks() -> [Target; 8]
 fn first_targets(count: u8, targets: [Target; 8]) -> [Target; 8]
     ensures { λ r. ⌜ r ≡ over (take count targets) (replicate 8 blankTarget) ⌝ }
 {
-    let n = most_8(count) as usize;
-    let mut out = blanks();
-    let mut i: usize = 0;
-    while i < n {
-        out[i] = targets[i];
+    let b = blank();
+    let mut out = targets;
+    let mut i = most_8(count) as usize;
+    while i < 8 {
+        out[i] = b;
         i += 1;
     }
     out

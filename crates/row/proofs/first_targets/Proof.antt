@@ -1,46 +1,52 @@
-use Rattle.row.proofs.Laws.{noTarget, filled}
-use Prim.Native.Nat.{_≤_, _-_, _+_}
+use Prim.Native.Nat.{_≤_, _-_}
 use mathlib.Core.Path.{_≡_, _∙_}
 use mathlib.Core.Bool.{cond}
 use mathlib.Core.List.{_++_}
-use native.Mathlib.Omega.{arith}
 use borrow.Author.Needs.{needs}
 use lib.Dec.{leb}
-use lib.ListN.{length, drop, take, replicate, length-replicate}
-use Rattle.lemmas.proofs.Buffer.{copied-more}
+use lib.ListN.{length, drop, take, replicate}
+use Rattle.lemmas.specs.Written.{over}
+use Rattle.lemmas.proofs.Cases.{cases}
 use Rattle.row.specs.Meaning.{blankTarget}
+use Rattle.row.proofs.Laws.{pad-start, pad-more, pad-end}
 use Rattle.row.proofs.first_targets.Statement.{statement}
 use Rattle.row.proofs.first_targets.Tie as tie
-use Rattle.lemmas.proofs.Cases.{cases}
 
--- The first i are the row's targets, the others blank.
+-- The first i are as they will be, the others as they were handed in.
 abbrev Inv-loop : tie.InvT-loop
-Inv-loop count targets n out₀ i₀ out i =
-    (n ≡ cond (leb count 8) count 8) × (n ≤ 8) × (i ≤ n) × (length targets ≡ 8) × (out ≡ take i targets ++ drop i (replicate 8 blankTarget))
+Inv-loop count b out₀ i₀ out i =
+    (i₀ ≡ cond (leb count 8) count 8)
+    × (i₀ ≤ i)
+    × (i ≤ 8)
+    × (length out₀ ≡ 8)
+    × (b ≡ blankTarget)
+    × (out ≡ take i (over (take count out₀) (replicate 8 blankTarget)) ++ drop i out₀)
 
 abbrev μ-loop : tie.MeasureT-loop
-μ-loop count targets n out₀ i₀ out i = n - i
+μ-loop count b out₀ i₀ out i = 8 - i
+
+blank-requires : tie.Need-blank-requires Inv-loop μ-loop
+blank-requires c κs = search cases
 
 most-8-requires : tie.Need-most-8-requires Inv-loop μ-loop
 most-8-requires c κs = search cases
 
-cast-n : tie.Need-cast-n Inv-loop μ-loop
-cast-n c = search cases
-
-blanks-requires : tie.Need-blanks-requires Inv-loop μ-loop
-blanks-requires c κs = search cases
+cast-i : tie.Need-cast-i Inv-loop μ-loop
+cast-i c = search cases
 
 loop-holds : tie.Need-loop-holds Inv-loop μ-loop
-loop-holds c = (c .before .most-8 .ensures .0, search needs, search needs, search needs, c .blanks .ensures)
+loop-holds c = let a = c .before .before .args in
+    let m = c .most-8 in (
+      m .ensures .0,
+      search needs,
+      m .ensures .1,
+      search needs,
+      c .before .blank .ensures,
+      pad-start (a .count) (a .targets) (search needs) (m .result) (m .ensures .0) (m .ensures .1),
+    )
 
 mul-out : tie.Need-mul-out Inv-loop μ-loop
 mul-out c = search cases
-
-array-copy-out-out : tie.Need-array-copy-out-out Inv-loop μ-loop
-array-copy-out-out c = search cases
-
-mul-out-2 : tie.Need-mul-out-2 Inv-loop μ-loop
-mul-out-2 c = search cases
 
 array-set-from-out : tie.Need-array-set-from-out Inv-loop μ-loop
 array-set-from-out c = search cases
@@ -52,20 +58,20 @@ loop-less : tie.Need-loop-less Inv-loop μ-loop
 loop-less c = search cases
 
 loop-again : tie.Need-loop-again Inv-loop μ-loop
-loop-again c = let a = c .before .before .before .before .before .args in
-    let l = c .before .before .loop in (
+loop-again c = let a = c .before .before .before .before .args in
+    let l = c .before .loop in (
       l .inv .0,
-      l .inv .1,
+      search needs,
       search needs,
       l .inv .3,
-      rw (l .inv .4) (copied-more noTarget (l .i) (a .t2) (replicate 8 blankTarget) (omega arith)
-          (omega (arith, length-replicate 8 blankTarget))),
+      l .inv .4,
+      rw (l .inv .5, l .inv .4) (pad-more (a .count) (a .targets) (l .inv .3) _ (l .inv .0) (search needs) (l .i) (l .inv .1) (c .loop-test .taken)),
     )
 
 returns : tie.Need-returns Inv-loop μ-loop
 returns c = let a = c .before .before .before .before .args in
     let l = c .before .loop in
-    l .inv .4 ∙ filled (a .count) (a .t2) (l .inv .3) (l .i) (replicate 8 blankTarget) (omega arith)
+    l .inv .5 ∙ pad-end (a .count) (a .targets) (l .inv .3) _ (l .inv .0) (search needs) (l .i) (c .loop-test .left)
 
 pub first-targets-spec : {M : Type 1} → statement M
 first-targets-spec =
@@ -73,13 +79,11 @@ first-targets-spec =
     (tie.spec
     Inv-loop
     μ-loop
+    blank-requires
     most-8-requires
-    cast-n
-    blanks-requires
+    cast-i
     loop-holds
     mul-out
-    array-copy-out-out
-    mul-out-2
     array-set-from-out
     add-i
     loop-less
