@@ -8,13 +8,13 @@ use native.Mathlib.Numerals.{add-one}
 use native.Mathlib.Nat.{zero-add}
 use lib.Dec.{eqb, ltb}
 use lib.ListN.{length, take, drop, set, replicate, length-append, length-set, length-replicate, replicate-append-replicate}
-use lib.Seq.{take-at, drop-at, take-append-add, take-length, length-take-le, take-suc-set, append-snoc, paste, set-out}
+use lib.Seq.{take-at, drop-at, take-append-add, take-length, length-take-le, take-suc-set, drop-set-lt, drop-drop, append-snoc, paste, set-out}
 use borrow.Author.Tests.{lt-ltb, le-ltb, ltb-true, ltb-false, eqb-true, eq-eqb, not-false}
 use Rattle.lemmas.proofs.Choice.{true-false, cond-case, or-left, or-right}
 use Rattle.plain.specs.Lists.{any, onceAfter, once}
 use Rattle.plain.specs.Address.{agree}
 use Rattle.plain.specs.Octets.{fields, sum, plenOf, prefixBits, prefixOctets, badArt, sameTarget, mostTargets}
-use Rattle.plain.specs.Blank.{noTarget}
+use Rattle.plain.specs.Blank.{noTarget, Padded}
 use Rattle.plain.specs.declared.Target.{Target}
 use Rattle.art.specs.declared.Targets.{Targets}
 use Rattle.art.specs.declared.Count.{Count}
@@ -107,16 +107,23 @@ module _ {all rest list : List Target} {c : Count} {t : Target} (v : Collected a
 
 -- one more, at the place that is for it
 module _ (c : Count) (list : List Target) (t : Target) (few : c .n ≤ 8) (room : length list ≡ 8) where
+  padded-more : Padded (c .n) list → Padded (c .n + 1) (set list (c .n) t)
+  padded-more p =
+      drop-set-lt (c .n + 1) list (c .n) t (omega arith)
+      ∙ sym (drop-drop 1 (c .n) list)
+      ∙ ap (drop 1) p
+      ∙ drop-drop 1 (c .n) (replicate 8 noTarget)
+
   joined-again : any (sameTarget t) (take (c .n) list) ≡ true → Joined c list t (counted c 9) (set list 9 t)
-  joined-again e = rw (set-out list 9 t (omega arith)) (record { collected = λ all rest v. collected-again v e })
+  joined-again e = rw (set-out list 9 t (omega arith)) (record { collected = λ all rest v. collected-again v e; padded = λ p. p })
 
   joined-more : any (sameTarget t) (take (c .n) list) ≡ false → c .n < 8 → Joined c list t (counted c (c .n)) (set list (c .n) t)
-  joined-more e h = rw (lt-ltb (c .n) 8 h) (record { collected = λ all rest v. collected-more v e h })
+  joined-more e h = rw (lt-ltb (c .n) 8 h) (record { collected = λ all rest v. collected-more v e h; padded = padded-more })
 
   joined-full : any (sameTarget t) (take (c .n) list) ≡ false → c .n ≡ 8 → Joined c list t (counted c (c .n)) (set list (c .n) t)
   joined-full e h =
       rw (set-out list (c .n) t (omega arith), le-ltb (c .n) 8 (omega arith), eq-eqb (c .n) 8 h)
-      (record { collected = λ all rest v. collected-full v e (omega arith) })
+      (record { collected = λ all rest v. collected-full v e (omega arith); padded = λ p. p })
 
   pub joined : Joined c list t (counted c (placeFor (any (sameTarget t) (take (c .n) list)) (c .n)))
       (set list (placeFor (any (sameTarget t) (take (c .n) list)) (c .n)) t)

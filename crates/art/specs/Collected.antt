@@ -7,6 +7,7 @@ use lib.Dec.{ltb, eqb}
 use lib.ListN.{length, take}
 use Rattle.plain.specs.Lists.{onceAfter}
 use Rattle.plain.specs.Octets.{sameTarget, mostTargets}
+use Rattle.plain.specs.Blank.{Padded}
 use Rattle.plain.specs.declared.Target.{Target}
 use Rattle.art.specs.declared.Targets.{Targets}
 use Rattle.art.specs.declared.Count.{Count}
@@ -37,9 +38,10 @@ counted c at =
     cond (ltb at mostTargets) (record { over = c .over; n = at + 1 })
     (cond (eqb at mostTargets) (record { over = true; n = c .n }) c)
 
--- the next target is collected
+-- The next target is collected, and past those that are collected the list stays blank.
 pub record Joined (c : Count) (list : List Target) (t : Target) (r : Count) (after : List Target) : Type 0 where
   pub collected : (all rest : List Target) → Collected all (t ∷ rest) (targetsIn list c) → Collected all rest (targetsIn after r)
+  pub padded : Padded (c .n) list → Padded (r .n) after
 
 -- All are collected: they are held, unless they are over 8.
 pub record Gathered (all : List Target) (ts : Targets) : Type 0 where

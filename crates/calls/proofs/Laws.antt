@@ -281,6 +281,7 @@ module _ (x : Settings) (clock seq t : ℕ) (rows : List InstanceRow) (routes : 
                 replyRoom = l .3;
                 time = l .1;
                 sendable = rw ts-are (record { compr = h .compr; targets = h .few; prefixes = h .short });
+                padded = rw ts-are (gathers .padded);
               }
 
           targets-are : listOf ts ≡ startTargets asking

@@ -7,7 +7,7 @@ use lib.ListN.{length, getD, drop, drop-of-length-le, replicate}
 use Rattle.plain.specs.Lists.{any, once}
 use Rattle.plain.specs.Octets.{sameTarget}
 use Rattle.plain.specs.Request.{wholeBits}
-use Rattle.plain.specs.Blank.{noTarget}
+use Rattle.plain.specs.Blank.{noTarget, Padded}
 use Rattle.plain.specs.declared.Target.{Target}
 use Rattle.lemmas.proofs.Walk.{left-at}
 use Rattle.art.specs.declared.Count.{Count}
@@ -20,6 +20,7 @@ use Rattle.gather.specs.Gathers.{isLong, Gathers}
 pub record Underway (ts rest list : List Target) (c : Count) (long : Bool) : Type 0 where
   pub prefixes : long || any isLong rest ≡ any isLong ts
   pub collected : Collected (once sameTarget (map wholeBits ts)) (map wholeBits rest) (targetsIn list c)
+  pub padded : Padded (c .n) list
 
 or-after : (a b c : Bool) → (a || b) || c ≡ a || (b || c)
 or-after true b c = refl
@@ -30,7 +31,7 @@ or-none true = refl
 or-none false = refl
 
 pub begun : (ts : List Target) → Underway ts (drop 0 ts) (replicate 8 noTarget) noneYet false
-begun ts = record { prefixes = refl; collected = none-collected (map wholeBits ts) }
+begun ts = record { prefixes = refl; collected = none-collected (map wholeBits ts); padded = refl }
 
 step : (ts rest list after : List Target) (c r : Count) (long : Bool) (t : Target) → Joined c list (wholeBits t) r after
     → Underway ts (t ∷ rest) list c long → Underway ts rest after r (long || isLong t)
@@ -38,6 +39,7 @@ unfolding any
 step ts rest list after c r long t j v = record {
   prefixes = or-after long (isLong t) (any isLong rest) ∙ v .prefixes;
   collected = j .collected _ _ (v .collected);
+  padded = j .padded (v .padded);
 }
 
 module _ (ts : List Target) (i : ℕ) (list : List Target) (c : Count) (long : Bool) (v : Underway ts (drop i ts) list c long) where
@@ -57,4 +59,5 @@ module _ (ts : List Target) (i : ℕ) (list : List Target) (c : Count) (long : B
         few = w .few;
         room = w .room;
         held = λ e. w .held e ∙ once-whole ts;
+        padded = u .padded;
       }

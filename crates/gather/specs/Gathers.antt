@@ -9,6 +9,7 @@ use Rattle.plain.specs.Given.{Start}
 use Rattle.plain.specs.Lists.{any, all, once}
 use Rattle.plain.specs.Octets.{sameTarget, mostTargets}
 use Rattle.plain.specs.Answers.{badStart}
+use Rattle.plain.specs.Blank.{Padded}
 use Rattle.plain.specs.Request.{wholeBits, startTargets}
 use Rattle.plain.specs.declared.Target.{Target}
 use Rattle.gather.specs.declared.Gathering.{Gathering}
@@ -25,13 +26,14 @@ abbrev pub heldIn : Gathering → List Target
 heldIn g = take (g .targets .count) (g .targets .list)
 
 -- What the targets `ts` that are handed in come to: "A target listed twice in a request or start .. counts once, at its first place; the 8
--- are counted after that." They are held, with spare bits zero, unless they are over 8.
+-- are counted after that." They are held, with spare bits zero, unless they are over 8. Past those that are held the list is blank.
 pub record Gathers (ts : List Target) (g : Gathering) : Type 0 where
   pub long : g .long ≡ any isLong ts
   pub over : g .targets .over ≡ ltb mostTargets (length (map wholeBits (once sameTarget ts)))
   pub few : g .targets .count ≤ mostTargets
   pub room : length (g .targets .list) ≡ mostTargets
   pub held : g .targets .over ≡ false → heldIn g ≡ map wholeBits (once sameTarget ts)
+  pub padded : Padded (g .targets .count) (g .targets .list)
 
 -- `bad` says whether a start with these targets and these fields is a bad call: "a start with 0 or over 8 targets, a target prefix over
 -- 127, L over 3, Compr over 15, RankLimit over 127"

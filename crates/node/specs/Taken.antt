@@ -6,6 +6,7 @@ use mathlib.Core.List.{List, map}
 use lib.ListN.{length}
 use Rattle.plain.specs.Given.{Settings, Received, Start, State}
 use Rattle.plain.specs.Answers.{answerOf, viewOf, goodInstance, allGood}
+use Rattle.plain.specs.Blank.{Padded}
 use Rattle.plain.specs.Octets.{Message}
 use Rattle.plain.specs.Request.{asked, requestLines, acceptRequest, startLines, acceptStart}
 use Rattle.plain.specs.Reply.{partnerOf}
@@ -36,6 +37,7 @@ pub record TakenStart (clock t : ℕ) (forward reply : List ℕ) (s : Asking) (t
   pub replyRoom : 1236 ≤ length reply
   pub time : t ≤ 2 ^ 40
   pub sendable : Sendable s ts
+  pub padded : Padded (ts .count) (ts .list)
 
 -- "A request", from 9 on
 unfoldable pub requestDecision : Settings → State → ℕ → Received → Message → Decision

@@ -7,9 +7,10 @@ use mathlib.Core.Option.{Option, some, none}
 use native.Mathlib.Omega.{arith}
 use lib.Dec.{leb}
 use lib.ListN.{length, getD, take, drop, set, replicate, length-append, length-take, length-drop, length-replicate, take-append-drop, drop-of-length-le, getD-replicate}
-use lib.Seq.{take-at, take-append-seam, take-append-le, take-all, length-take-le, getD-append-add, getD-drop}
+use lib.Seq.{take-at, drop-at, take-append-seam, take-append-le, take-all, length-take-le, getD-append-add, getD-drop}
 use borrow.Author.Tests.{leb-true, leb-false}
 use Rattle.plain.specs.Given.{RequestRow, ReplyRow, Instance, Route}
+use Rattle.plain.specs.Blank.{Padded}
 use Rattle.plain.specs.declared.Target.{Target}
 use Rattle.lemmas.specs.Written.{over}
 use Rattle.lemmas.proofs.Buffer.{copied-more}
@@ -86,6 +87,17 @@ module _ (count : ℕ) (ts : List Target) (eight : length ts ≡ 8) where
           let h : 8 < count = leb-false count 8 e in
           take-all 8 ts (omega arith) ∙ sym (take-all count ts (omega arith))
 
+  -- a list that is blank past the first `count` is those over blank ones
+  module _ (h : count ≤ 8) where
+    pub length-count : length (take count ts) ≡ count
+    length-count = length-take-le count ts (omega arith)
+
+    pub padded-whole : Padded count ts → over (take count ts) (replicate 8 blankTarget) ≡ ts
+    padded-whole p =
+        ap (λ k. take count ts ++ drop k (replicate 8 blankTarget)) length-count
+        ∙ ap (λ t. take count ts ++ t) (sym p)
+        ∙ take-append-drop count ts
+
   -- what the loop comes to that writes blank targets from place n on
   abbrev padded : List Target
   padded = over (take count ts) (replicate 8 blankTarget)
@@ -115,6 +127,13 @@ module _ (count : ℕ) (ts : List Target) (eight : length ts ≡ 8) where
         ∙ ap (λ t. t ++ drop n ts) (take-at (take n ts) (drop n (replicate 8 blankTarget)) n length-n)
         ∙ take-append-drop n ts
         )
+
+    -- what it comes to is blank past the first n, which are the row's
+    pub pad-blank : Padded n padded
+    pad-blank = ap (drop n) padded-is ∙ drop-at (take n ts) (drop n (replicate 8 blankTarget)) n length-n
+
+    pub pad-first : take n padded ≡ take count ts
+    pad-first = ap (take n) padded-is ∙ take-at (take n ts) (drop n (replicate 8 blankTarget)) n length-n ∙ rw e first-most
 
     at-blank : (k : ℕ) (z : Target) → n + k < 8 → getD padded (n + k) z ≡ blankTarget
     at-blank k z q =

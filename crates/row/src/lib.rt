@@ -6,6 +6,7 @@ ghost use Prim.Native.Nat.{_≤_};
 ghost use lib.Dec.{leb};
 ghost use lib.ListN.{take, replicate};
 ghost use Rattle.lemmas.specs.Written.{over};
+ghost use Rattle.plain.specs.Blank.{Padded};
 ghost use Rattle.row.specs.Meaning.{blankTarget, noRow, noRoute};
 ghost use Rattle.row.specs.Record.{bitOf, untilOf, requestRecord, replyRecord, routeRecord};
 use plain::Target;
@@ -107,6 +108,42 @@ fn first_targets(count: u8, targets: [Target; 8]) -> [Target; 8]
     out
 }
 
+// A request row, of targets that are blank past the count already.
+pub fn padded_request_row(
+    instance: u8,
+    dodagid: [u8; 16],
+    seq: u8,
+    s: bool,
+    h: bool,
+    rank: u16,
+    neighbour: [u8; 16],
+    count: u8,
+    targets: [Target; 8],
+    replied: bool,
+    endless: bool,
+    deadline: u64,
+) -> InstanceRow
+    requires { ⌜ (count ≤ 8) × Padded count targets ⌝ }
+    ensures { λ r. ⌜ r ≡ requestRecord (record { instance = instance; dodagid = dodagid; seq = seq; s = s; h = h; rank = rank; neighbour = neighbour; targets = take count targets; replied = replied; deadline = cond endless none (some deadline) }) ⌝ }
+{
+    InstanceRow {
+        kind: 1,
+        instance,
+        seq,
+        s: bit(s),
+        h: bit(h),
+        replied: bit(replied),
+        endless: bit(endless),
+        count,
+        rank,
+        dodagid,
+        neighbour,
+        targets,
+        deadline: until(endless, deadline),
+    }
+}
+
+// A request row, of the first `count` of any targets.
 pub fn request_row(
     instance: u8,
     dodagid: [u8; 16],
@@ -124,21 +161,20 @@ pub fn request_row(
     ensures { λ r. ⌜ r ≡ requestRecord (record { instance = instance; dodagid = dodagid; seq = seq; s = s; h = h; rank = rank; neighbour = neighbour; targets = take count targets; replied = replied; deadline = cond endless none (some deadline) }) ⌝ }
 {
     let ts = first_targets(count, targets);
-    InstanceRow {
-        kind: 1,
+    padded_request_row(
         instance,
-        seq,
-        s: bit(s),
-        h: bit(h),
-        replied: bit(replied),
-        endless: bit(endless),
-        count: most_8(count),
-        rank,
         dodagid,
+        seq,
+        s,
+        h,
+        rank,
         neighbour,
-        targets: ts,
-        deadline: until(endless, deadline),
-    }
+        most_8(count),
+        ts,
+        replied,
+        endless,
+        deadline,
+    )
 }
 
 pub fn reply_row(

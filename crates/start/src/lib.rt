@@ -15,6 +15,7 @@ ghost use mathlib.Core.Bool.{cond};
 ghost use mathlib.Core.List.{List, []};
 ghost use mathlib.Core.Option.{none};
 ghost use Rattle.plain.specs.Address.{Address};
+ghost use Rattle.plain.specs.Blank.{Padded};
 ghost use Rattle.plain.specs.Given as rules;
 ghost use Rattle.plain.specs.Request.{startRow, startMessage, acceptStart};
 ghost use Rattle.plain.specs.declared.Target as plain;
@@ -52,13 +53,13 @@ pub fn judge(o: Own, s: Asking, taken: bool) -> Answer
 
 // Its row, with our stepped number: all its targets stay, those that are ours too.
 fn start_row(o: Own, seq: u8, t: u64, s: Asking, ts: Targets) -> InstanceRow
-    requires { ⌜ (t ≤ 2 ^ 40) × (ts .count ≤ 8) ⌝ }
+    requires { ⌜ (t ≤ 2 ^ 40) × (ts .count ≤ 8) × Padded (ts .count) (ts .list) ⌝ }
     ensures { λ r. ⌜ r ≡ requestRecord (startRow (settingsOf o) t seq (startOf s []) (listOf ts)) ⌝ }
 {
     let receiving = o.receiving;
     let list = ts.list;
     let end = deadline::of_l(t, s.l);
-    row::request_row(
+    row::padded_request_row(
         s.instance,
         receiving,
         seq,
@@ -133,7 +134,7 @@ pub fn start_post(o: Own, seq: u8, s: Asking, ts: Targets) -> Post
 
 // What a start stores that is answered 0. It stores no route, and no reply row.
 pub fn accepted(o: Own, seq: u8, t: u64, s: Asking, ts: Targets) -> Decided
-    requires { ⌜ (t ≤ 2 ^ 40) × (ts .count ≤ 8) ⌝ }
+    requires { ⌜ (t ≤ 2 ^ 40) × (ts .count ≤ 8) × Padded (ts .count) (ts .list) ⌝ }
     ensures { λ r. ⌜ ((targets : List plain.Target) → Stores {B = rules.RequestRow} (acceptStart (settingsOf o) seq t (startOf s targets) (listOf ts)) none none r) ⌝ }
 {
     let next = sequence::step(seq);

@@ -8,16 +8,16 @@ use Rattle.start.proofs.start_row.Tie as tie
 of-l-requires : tie.Need-of-l-requires
 of-l-requires c κs = search needs
 
-cast-request-row : tie.Need-cast-request-row
-cast-request-row c = search needs
+cast-padded-request-row : tie.Need-cast-padded-request-row
+cast-padded-request-row c = search needs
 
-request-row-requires : tie.Need-request-row-requires
-request-row-requires c κs = search needs
+padded-request-row-requires : tie.Need-padded-request-row-requires
+padded-request-row-requires c κs = search needs
 
 returns : tie.Need-returns
 returns c =
     let s = c .before .before .before .before .before .args in
-    c .request-row .ensures ∙ row-is (settingsOf (s .o)) (s .t) (s .seq) (s .s) (s .ts) (c .before .before .of-l .result) (c .before .before .of-l .ensures .means)
+    c .padded-request-row .ensures ∙ row-is (settingsOf (s .o)) (s .t) (s .seq) (s .s) (s .ts) (c .before .before .of-l .result) (c .before .before .of-l .ensures .means)
 
 pub start-row-spec : {M : Type 1} → statement M
-start-row-spec = tie.close (tie.spec of-l-requires cast-request-row request-row-requires returns)
+start-row-spec = tie.close (tie.spec of-l-requires cast-padded-request-row padded-request-row-requires returns)
