@@ -197,8 +197,8 @@ pub fn finish(
     let q = place::place_route(routes, t, is_routed(*d), l.routed, l.hop);
     if has_room(p, q) {
         store(instances, routes, p, q.hop, d);
-        let n = post::put_post(forward, o, there, vector);
-        let m = post::put_post(reply, o, back, vector);
+        let n = post::put_post(forward, &o, there, vector);
+        let m = post::put_post(reply, &o, back, vector);
         return accepted(own_of(*d), to_of(*there), to_of(*back), t, n, m);
     }
     without_room(clock, seq)

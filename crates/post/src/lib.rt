@@ -108,14 +108,14 @@ fn put_parsed(out: &mut [u8], p: &Post, n: usize, vector: &[[u8; 16]; 16]) -> us
 }
 
 // A message, with our addresses added where it has grown.
-fn put_dio(out: &mut [u8], o: Own, p: &Post, vector: &[[u8; 16]; 16]) -> usize
-    requires { ⌜ Fits (settingsOf o) (now p) (now vector) × (length (now vector) ≡ 16) × (1236 ≤ length (now out)) ⌝ }
-    ensures { λ r. ⌜ Written (octetsOf (postMessage (settingsOf o) (now (p .entry)) (now (vector .entry)))) (now (out .entry)) (now (out .exit)) r ⌝ }
+fn put_dio(out: &mut [u8], o: &Own, p: &Post, vector: &[[u8; 16]; 16]) -> usize
+    requires { ⌜ Fits (settingsOf (now o)) (now p) (now vector) × (length (now vector) ≡ 16) × (1236 ≤ length (now out)) ⌝ }
+    ensures { λ r. ⌜ Written (octetsOf (postMessage (settingsOf (now (o .entry))) (now (p .entry)) (now (vector .entry)))) (now (out .entry)) (now (out .exit)) r ⌝ }
 {
     let received = addresses_of(*p);
     if is_grown(*p) {
-        let n = own::grown_count(o, false, received);
-        let v = own::grown_vector(o, false, received, vector);
+        let n = own::grown_count(*o, false, received);
+        let v = own::grown_vector(*o, false, received, vector);
         return put_parsed(out, p, n, &v);
     }
     put_parsed(out, p, received, vector)
@@ -135,9 +135,9 @@ fn put_route_path(out: &mut [u8], p: &Post, vector: &[[u8; 16]; 16]) -> usize
 }
 
 // What goes into a buffer: its octets at the front, the rest as it was.
-pub fn put_post(out: &mut [u8], o: Own, p: &Post, vector: &[[u8; 16]; 16]) -> usize
-    requires { ⌜ Fits (settingsOf o) (now p) (now vector) × (length (now vector) ≡ 16) × (1236 ≤ length (now out)) ⌝ }
-    ensures { λ r. ⌜ Written (postOctets (settingsOf o) (now (p .entry)) (now (vector .entry))) (now (out .entry)) (now (out .exit)) r ⌝ }
+pub fn put_post(out: &mut [u8], o: &Own, p: &Post, vector: &[[u8; 16]; 16]) -> usize
+    requires { ⌜ Fits (settingsOf (now o)) (now p) (now vector) × (length (now vector) ≡ 16) × (1236 ≤ length (now out)) ⌝ }
+    ensures { λ r. ⌜ Written (postOctets (settingsOf (now (o .entry))) (now (p .entry)) (now (vector .entry))) (now (out .entry)) (now (out .exit)) r ⌝ }
 {
     let what = what_of(*p);
     match what {

@@ -21,18 +21,18 @@ grown-count-requires c = search needs
 
 grown-vector-requires : tie.Need-grown-vector-requires
 grown-vector-requires c κs =
-    let o = c .before .before .before .before .before .before .before in
-    let k = c .before .before .before .before .addresses-of in
-    grown-fits (settingsOf (o .args .o)) (now (o .args .p)) (now (o .args .vector)) (o .pre .0) (o .pre .1) (sym (c .before .before .is-grown .ensures) ∙ c .before .if1 .taken)
+    let o = c .before .before .before .before .before .before .before .before .before in
+    let k = c .before .before .before .before .before .before .addresses-of in
+    grown-fits (settingsOf (now (o .args .o))) (now (o .args .p)) (now (o .args .vector)) (o .pre .0) (o .pre .1) (sym (c .before .before .before .before .is-grown .ensures) ∙ c .before .before .before .if1 .taken)
     (k .result) (k .ensures)
 
 put-parsed-requires : tie.Need-put-parsed-requires
 put-parsed-requires c κs =
-    let o = c .before .before .before .before .before .before .before .before .before .before in
-    let k = c .before .before .before .before .before .before .before .addresses-of in
-    let n = c .before .before .before .grown-count in (
-      grown-sendable (settingsOf (o .args .o)) (now (o .args .p)) (now (o .args .vector)) (o .pre .0) (o .pre .1)
-          (sym (c .before .before .before .before .before .is-grown .ensures) ∙ c .before .before .before .before .if1 .taken) (k .result) (n .result) (k .ensures) (n .ensures),
+    let o = c .before .before .before .before .before .before .before .before .before .before .before .before in
+    let k = c .before .before .before .before .before .before .before .before .before .addresses-of in
+    let n = c .before .before .before .before .grown-count in (
+      grown-sendable (settingsOf (now (o .args .o))) (now (o .args .p)) (now (o .args .vector)) (o .pre .0) (o .pre .1)
+          (sym (c .before .before .before .before .before .before .before .is-grown .ensures) ∙ c .before .before .before .before .before .before .if1 .taken) (k .result) (n .result) (k .ensures) (n .ensures),
       o .pre .0 .targets,
       o .pre .0 .prefixes,
       search needs,
@@ -43,18 +43,18 @@ same-length c = search needs
 
 returns : tie.Need-returns
 returns c =
-    let o = c .before .before .before .before .before .before .before .before .before .before .before .before .before in
-    let k = c .before .before .before .before .before .before .before .before .before .before .addresses-of in
-    let n = c .before .before .before .before .before .before .grown-count in
-    grown-written (settingsOf (o .args .o)) (now (o .args .p)) (now (o .args .vector)) (o .pre .0) (o .pre .1)
-    (sym (c .before .before .before .before .before .before .before .before .is-grown .ensures) ∙ c .before .before .before .before .before .before .before .if1 .taken) (k .result) (n .result) (k .ensures) (n .ensures) _ _ _ _ (c .before .before .before .before .before .grown-vector .ensures)
+    let o = c .before .before .before .before .before .before .before .before .before .before .before .before .before .before .before in
+    let k = c .before .before .before .before .before .before .before .before .before .before .before .before .addresses-of in
+    let n = c .before .before .before .before .before .before .before .grown-count in
+    grown-written (settingsOf (now (o .args .o))) (now (o .args .p)) (now (o .args .vector)) (o .pre .0) (o .pre .1)
+    (sym (c .before .before .before .before .before .before .before .before .before .before .is-grown .ensures) ∙ c .before .before .before .before .before .before .before .before .before .if1 .taken) (k .result) (n .result) (k .ensures) (n .ensures) _ _ _ _ (c .before .before .before .before .before .grown-vector .ensures)
     (c .before .before .put-parsed .ensures)
 
 put-parsed-requires-2 : tie.Need-put-parsed-requires-2
 put-parsed-requires-2 c κs =
     let o = c .before .before .before .before .before .before .before in
     let k = c .before .before .before .before .addresses-of in (
-      plain-sendable (settingsOf (o .args .o)) (now (o .args .p)) (now (o .args .vector)) (o .pre .0) (o .pre .1)
+      plain-sendable (settingsOf (now (o .args .o))) (now (o .args .p)) (now (o .args .vector)) (o .pre .0) (o .pre .1)
           (sym (c .before .before .is-grown .ensures) ∙ c .before .if1 .left) (k .result) (k .ensures),
       o .pre .0 .targets,
       o .pre .0 .prefixes,
@@ -68,7 +68,7 @@ returns-2 : tie.Need-returns-2
 returns-2 c =
     let o = c .before .before .before .before .before .before .before .before .before .before in
     let k = c .before .before .before .before .before .before .before .addresses-of in
-    plain-written (settingsOf (o .args .o)) (now (o .args .p)) (now (o .args .vector)) (o .pre .0) (o .pre .1)
+    plain-written (settingsOf (now (o .args .o))) (now (o .args .p)) (now (o .args .vector)) (o .pre .0) (o .pre .1)
     (sym (c .before .before .before .before .before .is-grown .ensures) ∙ c .before .before .before .before .if1 .left) (k .result) (k .ensures) _ _ _ (c .before .before .put-parsed2 .ensures)
 
 pub put-dio-spec : {M : Type 1} → statement M

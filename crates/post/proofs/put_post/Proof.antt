@@ -35,7 +35,7 @@ returns : tie.Need-returns
 unfolding octetsAs
 returns c =
     let a = c .before .before .before .before .before .args in
-    as-written (settingsOf (a .o)) (now (a .p)) (now (a .vector)) _ _ _ Nothing (sym (c .before .before .what-of .ensures) ∙ c .enum-told .given .1) (written-none _)
+    as-written (settingsOf (now (a .o))) (now (a .p)) (now (a .vector)) _ _ _ Nothing (sym (c .before .before .what-of .ensures) ∙ c .enum-told .given .1) (written-none _)
 
 same-length : tie.Need-same-length
 same-length c = search needs
@@ -44,7 +44,7 @@ returns-2 : tie.Need-returns-2
 unfolding octetsAs
 returns-2 c =
     let a = c .before .before .before .before .before .before .before .before .before .args in
-    as-written (settingsOf (a .o)) (now (a .p)) (now (a .vector)) _ _ _ Dio (sym (c .before .before .before .before .before .before .what-of .ensures) ∙ c .before .before .before .before .enum-told2 .given .1) (c .before .before .put-dio .ensures)
+    as-written (settingsOf (now (a .o))) (now (a .p)) (now (a .vector)) _ _ _ Dio (sym (c .before .before .before .before .before .before .what-of .ensures) ∙ c .before .before .before .before .enum-told2 .given .1) (c .before .before .put-dio .ensures)
 
 same-length-2 : tie.Need-same-length-2
 same-length-2 c = search needs
@@ -53,7 +53,7 @@ returns-3 : tie.Need-returns-3
 unfolding octetsAs
 returns-3 c =
     let a = c .before .before .before .before .before .before .before .before .before .args in
-    as-written (settingsOf (a .o)) (now (a .p)) (now (a .vector)) _ _ _ Path (sym (c .before .before .before .before .before .before .what-of .ensures) ∙ c .before .before .before .before .enum-told3 .given .1) (c .before .before .put-route-path .ensures)
+    as-written (settingsOf (now (a .o))) (now (a .p)) (now (a .vector)) _ _ _ Path (sym (c .before .before .before .before .before .before .what-of .ensures) ∙ c .before .before .before .before .enum-told3 .given .1) (c .before .before .put-route-path .ensures)
 
 pub put-post-spec : {M : Type 1} → statement M
 put-post-spec = tie.close (tie.spec what-of-requires enum-told enum-told-2 put-dio-requires enum-told-3 put-route-path-requires returns same-length returns-2 same-length-2 returns-3)

@@ -1,4 +1,5 @@
 -- Made by tools/lend.py of the twin of `finish`: do not edit.
+use Rattle.own.proofs.Elem.Own as KOwn
 use Rattle.row.proofs.Elem.InstanceRow as KInstanceRow
 use Rattle.row.proofs.Elem.RouteRow as KRouteRow
 use Rattle.decision.proofs.Elem.Decided as KDecided
@@ -10,12 +11,10 @@ use Rattle.finish.proofs.Live
 use Rattle.finish.proofs.Live.Laws as Laws'
 use Rattle.finish.proofs.Outcome
 use Rattle.finish.proofs.Outcome.Laws as Laws''
-use Rattle.own.proofs.Own
-use Rattle.own.proofs.Own.Laws as Laws'3
 use Rattle.place.proofs.Places
-use Rattle.place.proofs.Places.Laws as Laws'4
+use Rattle.place.proofs.Places.Laws as Laws'3
 use Rattle.place.proofs.RoutePlace
-use Rattle.place.proofs.RoutePlace.Laws as Laws'5
+use Rattle.place.proofs.RoutePlace.Laws as Laws'4
 use borrow.Author.Called
 use borrow.Fn.Any
 use borrow.Fn.Call
@@ -38,6 +37,7 @@ use borrow.Rule.Array.Whole
 use borrow.Rule.DerefMove
 use borrow.Rule.Lifetime
 use borrow.Rule.Local
+use borrow.Rule.LocalCopy
 use borrow.Rule.Scalar
 use borrow.Rule.Slice.Know
 use borrow.Rule.Slice.Mut
@@ -47,7 +47,7 @@ use borrow.Rule.Slice.Shared
 use borrow.Rule.Yields
 use borrow.Struct.Reads
 use borrow.Table.Copies
-use borrow.Table.Own as Own'
+use borrow.Table.Own
 use borrow.Table.Reads as Reads'
 use borrow.Table.Referent
 use borrow.Table.Row
@@ -57,7 +57,7 @@ use contract.Lifetimes
 use denote.Array as Array'
 use denote.Exit
 use denote.Struct.Declared
-use denote.Struct.Laws as Laws'6
+use denote.Struct.Laws as Laws'5
 use denote.Triple.Clauses
 use denote.Triple.Statement
 use ghost.Atoms
@@ -82,22 +82,8 @@ ps =
     (MutSlice.pMutS (Referent.rtF (Referent.fInt Syntax.w8)) 2 tt)
     (List._∷_
     (MutSlice.pMutS (Referent.rtF (Referent.fInt Syntax.w8)) 3 tt)
-    (List._∷_ (Value.pVal record {
-      ty = Declared.row Own.the-type;
-      one = Path'.refl;
-      val = Laws'6.val Own.the-type Laws'3.the-laws;
-      tells = Laws'6.tells Own.the-type Laws'3.the-laws;
-      still = Laws'6.still Own.the-type Laws'3.the-copy Exit.yes;
-      row = Rows'.whole (Declared.row Own.the-type);
-      rd = λ x. x;
-      mk = λ x. x;
-    } λ M 𝓤 H A W. record {
-      copies = Laws'6.copy Own.the-type Laws'3.the-copy 𝓤 H A W;
-      lawful = Laws'6.lawful Own.the-type Laws'3.the-laws 𝓤 H A W;
-      makes = Laws'6.makes Own.the-type Laws'3.the-plain 𝓤 H A;
-      in-mem = Local.mem-whole 𝓤 H A W (Declared.row Own.the-type);
-      of-mem = Local.whole-mem 𝓤 H A W (Declared.row Own.the-type);
-    })
+    (List._∷_
+    (KOwn.pk)
     (List._∷_
     (Num.pNum Syntax.w64)
     (List._∷_
@@ -115,16 +101,16 @@ ps =
     (List._∷_ (Value.pVal record {
       ty = Declared.row Live.the-type;
       one = Path'.refl;
-      val = Laws'6.val Live.the-type Laws'.the-laws;
-      tells = Laws'6.tells Live.the-type Laws'.the-laws;
-      still = Laws'6.still Live.the-type Laws'.the-copy Exit.yes;
+      val = Laws'5.val Live.the-type Laws'.the-laws;
+      tells = Laws'5.tells Live.the-type Laws'.the-laws;
+      still = Laws'5.still Live.the-type Laws'.the-copy Exit.yes;
       row = Rows'.whole (Declared.row Live.the-type);
       rd = λ x. x;
       mk = λ x. x;
     } λ M 𝓤 H A W. record {
-      copies = Laws'6.copy Live.the-type Laws'.the-copy 𝓤 H A W;
-      lawful = Laws'6.lawful Live.the-type Laws'.the-laws 𝓤 H A W;
-      makes = Laws'6.makes Live.the-type Laws'.the-plain 𝓤 H A;
+      copies = Laws'5.copy Live.the-type Laws'.the-copy 𝓤 H A W;
+      lawful = Laws'5.lawful Live.the-type Laws'.the-laws 𝓤 H A W;
+      makes = Laws'5.makes Live.the-type Laws'.the-plain 𝓤 H A;
       in-mem = Local.mem-whole 𝓤 H A W (Declared.row Live.the-type);
       of-mem = Local.whole-mem 𝓤 H A W (Declared.row Live.the-type);
     }) List.[]))))))))))))
@@ -133,16 +119,16 @@ abbrev pub r : Kinds.RK 8
 r = Value.rVal record {
   ty = Declared.row Outcome.the-type;
   one = Path'.refl;
-  val = Laws'6.val Outcome.the-type Laws''.the-laws;
-  tells = Laws'6.tells Outcome.the-type Laws''.the-laws;
-  still = Laws'6.still Outcome.the-type Laws''.the-copy Exit.yes;
+  val = Laws'5.val Outcome.the-type Laws''.the-laws;
+  tells = Laws'5.tells Outcome.the-type Laws''.the-laws;
+  still = Laws'5.still Outcome.the-type Laws''.the-copy Exit.yes;
   row = Rows'.whole (Declared.row Outcome.the-type);
   rd = λ x. x;
   mk = λ x. x;
 } λ M 𝓤 H A W. record {
-  copies = Laws'6.copy Outcome.the-type Laws''.the-copy 𝓤 H A W;
-  lawful = Laws'6.lawful Outcome.the-type Laws''.the-laws 𝓤 H A W;
-  makes = Laws'6.makes Outcome.the-type Laws''.the-plain 𝓤 H A;
+  copies = Laws'5.copy Outcome.the-type Laws''.the-copy 𝓤 H A W;
+  lawful = Laws'5.lawful Outcome.the-type Laws''.the-laws 𝓤 H A W;
+  makes = Laws'5.makes Outcome.the-type Laws''.the-plain 𝓤 H A;
   in-mem = Local.mem-whole 𝓤 H A W (Declared.row Outcome.the-type);
   of-mem = Local.whole-mem 𝓤 H A W (Declared.row Outcome.the-type);
 }
@@ -150,6 +136,8 @@ r = Value.rVal record {
 abbrev pub xs : List.List Syntax.Ty
 xs =
     List._∷_
+    (KOwn.spelled)
+    (List._∷_
     (Syntax.tyStruct
     (List._∷_
     112
@@ -252,6 +240,8 @@ xs =
     (Syntax.tyRef Syntax.erased Syntax.mut (Syntax.tyInt Syntax.w8))
     (Syntax.tcons (Syntax.tyInt Syntax.w64) Syntax.tnil)))
     (List._∷_
+    (Syntax.tyRef Syntax.erased Syntax.imm (KOwn.named))
+    (List._∷_
     (Syntax.tyRef Syntax.erased Syntax.mut (Syntax.tyInt Syntax.w8))
     (List._∷_
     (Syntax.tyStruct
@@ -259,6 +249,8 @@ xs =
     (Syntax.tcons
     (Syntax.tyRef Syntax.erased Syntax.mut (Syntax.tyInt Syntax.w8))
     (Syntax.tcons (Syntax.tyInt Syntax.w64) Syntax.tnil)))
+    (List._∷_
+    (Syntax.tyRef Syntax.erased Syntax.imm (KOwn.named))
     (List._∷_
     (Syntax.tyInt Syntax.w8)
     (List._∷_
@@ -373,10 +365,10 @@ xs =
     Syntax.tnil
     (Syntax.ttcons Syntax.tnil (Syntax.ttcons Syntax.tnil Syntax.ttnil)))))
     Syntax.tnil)))
-    (List._∷_ (KPost.spelled) List.[])))))))))))))))))))))))))
+    (List._∷_ (KPost.spelled) List.[]))))))))))))))))))))))))))))
 
 abbrev pub m : Nat.ℕ
-m = 6
+m = 8
 
 abbrev pub ps·0 : List.List (Kinds.PK 0)
 ps·0 = List._∷_ (KDecided.pk) List.[]
@@ -396,16 +388,16 @@ abbrev pub r·1 : Kinds.RK 1
 r·1 = Value.rVal record {
   ty = Declared.row Places.the-type;
   one = Path'.refl;
-  val = Laws'6.val Places.the-type Laws'4.the-laws;
-  tells = Laws'6.tells Places.the-type Laws'4.the-laws;
-  still = Laws'6.still Places.the-type Laws'4.the-copy Exit.yes;
+  val = Laws'5.val Places.the-type Laws'3.the-laws;
+  tells = Laws'5.tells Places.the-type Laws'3.the-laws;
+  still = Laws'5.still Places.the-type Laws'3.the-copy Exit.yes;
   row = Rows'.whole (Declared.row Places.the-type);
   rd = λ x. x;
   mk = λ x. x;
 } λ M 𝓤 H A W. record {
-  copies = Laws'6.copy Places.the-type Laws'4.the-copy 𝓤 H A W;
-  lawful = Laws'6.lawful Places.the-type Laws'4.the-laws 𝓤 H A W;
-  makes = Laws'6.makes Places.the-type Laws'4.the-plain 𝓤 H A;
+  copies = Laws'5.copy Places.the-type Laws'3.the-copy 𝓤 H A W;
+  lawful = Laws'5.lawful Places.the-type Laws'3.the-laws 𝓤 H A W;
+  makes = Laws'5.makes Places.the-type Laws'3.the-plain 𝓤 H A;
   in-mem = Local.mem-whole 𝓤 H A W (Declared.row Places.the-type);
   of-mem = Local.whole-mem 𝓤 H A W (Declared.row Places.the-type);
 }
@@ -428,16 +420,16 @@ abbrev pub r·3 : Kinds.RK 1
 r·3 = Value.rVal record {
   ty = Declared.row RoutePlace.the-type;
   one = Path'.refl;
-  val = Laws'6.val RoutePlace.the-type Laws'5.the-laws;
-  tells = Laws'6.tells RoutePlace.the-type Laws'5.the-laws;
-  still = Laws'6.still RoutePlace.the-type Laws'5.the-copy Exit.yes;
+  val = Laws'5.val RoutePlace.the-type Laws'4.the-laws;
+  tells = Laws'5.tells RoutePlace.the-type Laws'4.the-laws;
+  still = Laws'5.still RoutePlace.the-type Laws'4.the-copy Exit.yes;
   row = Rows'.whole (Declared.row RoutePlace.the-type);
   rd = λ x. x;
   mk = λ x. x;
 } λ M 𝓤 H A W. record {
-  copies = Laws'6.copy RoutePlace.the-type Laws'5.the-copy 𝓤 H A W;
-  lawful = Laws'6.lawful RoutePlace.the-type Laws'5.the-laws 𝓤 H A W;
-  makes = Laws'6.makes RoutePlace.the-type Laws'5.the-plain 𝓤 H A;
+  copies = Laws'5.copy RoutePlace.the-type Laws'4.the-copy 𝓤 H A W;
+  lawful = Laws'5.lawful RoutePlace.the-type Laws'4.the-laws 𝓤 H A W;
+  makes = Laws'5.makes RoutePlace.the-type Laws'4.the-plain 𝓤 H A;
   in-mem = Local.mem-whole 𝓤 H A W (Declared.row RoutePlace.the-type);
   of-mem = Local.whole-mem 𝓤 H A W (Declared.row RoutePlace.the-type);
 }
@@ -446,31 +438,31 @@ abbrev pub ps·4 : List.List (Kinds.PK 0)
 ps·4 = List._∷_ (Value.pVal record {
   ty = Declared.row Places.the-type;
   one = Path'.refl;
-  val = Laws'6.val Places.the-type Laws'4.the-laws;
-  tells = Laws'6.tells Places.the-type Laws'4.the-laws;
-  still = Laws'6.still Places.the-type Laws'4.the-copy Exit.yes;
+  val = Laws'5.val Places.the-type Laws'3.the-laws;
+  tells = Laws'5.tells Places.the-type Laws'3.the-laws;
+  still = Laws'5.still Places.the-type Laws'3.the-copy Exit.yes;
   row = Rows'.whole (Declared.row Places.the-type);
   rd = λ x. x;
   mk = λ x. x;
 } λ M 𝓤 H A W. record {
-  copies = Laws'6.copy Places.the-type Laws'4.the-copy 𝓤 H A W;
-  lawful = Laws'6.lawful Places.the-type Laws'4.the-laws 𝓤 H A W;
-  makes = Laws'6.makes Places.the-type Laws'4.the-plain 𝓤 H A;
+  copies = Laws'5.copy Places.the-type Laws'3.the-copy 𝓤 H A W;
+  lawful = Laws'5.lawful Places.the-type Laws'3.the-laws 𝓤 H A W;
+  makes = Laws'5.makes Places.the-type Laws'3.the-plain 𝓤 H A;
   in-mem = Local.mem-whole 𝓤 H A W (Declared.row Places.the-type);
   of-mem = Local.whole-mem 𝓤 H A W (Declared.row Places.the-type);
 }) (List._∷_ (Value.pVal record {
   ty = Declared.row RoutePlace.the-type;
   one = Path'.refl;
-  val = Laws'6.val RoutePlace.the-type Laws'5.the-laws;
-  tells = Laws'6.tells RoutePlace.the-type Laws'5.the-laws;
-  still = Laws'6.still RoutePlace.the-type Laws'5.the-copy Exit.yes;
+  val = Laws'5.val RoutePlace.the-type Laws'4.the-laws;
+  tells = Laws'5.tells RoutePlace.the-type Laws'4.the-laws;
+  still = Laws'5.still RoutePlace.the-type Laws'4.the-copy Exit.yes;
   row = Rows'.whole (Declared.row RoutePlace.the-type);
   rd = λ x. x;
   mk = λ x. x;
 } λ M 𝓤 H A W. record {
-  copies = Laws'6.copy RoutePlace.the-type Laws'5.the-copy 𝓤 H A W;
-  lawful = Laws'6.lawful RoutePlace.the-type Laws'5.the-laws 𝓤 H A W;
-  makes = Laws'6.makes RoutePlace.the-type Laws'5.the-plain 𝓤 H A;
+  copies = Laws'5.copy RoutePlace.the-type Laws'4.the-copy 𝓤 H A W;
+  lawful = Laws'5.lawful RoutePlace.the-type Laws'4.the-laws 𝓤 H A W;
+  makes = Laws'5.makes RoutePlace.the-type Laws'4.the-plain 𝓤 H A;
   in-mem = Local.mem-whole 𝓤 H A W (Declared.row RoutePlace.the-type);
   of-mem = Local.whole-mem 𝓤 H A W (Declared.row RoutePlace.the-type);
 }) List.[])
@@ -487,16 +479,16 @@ ps·5 =
     (List._∷_ (Value.pVal record {
       ty = Declared.row Places.the-type;
       one = Path'.refl;
-      val = Laws'6.val Places.the-type Laws'4.the-laws;
-      tells = Laws'6.tells Places.the-type Laws'4.the-laws;
-      still = Laws'6.still Places.the-type Laws'4.the-copy Exit.yes;
+      val = Laws'5.val Places.the-type Laws'3.the-laws;
+      tells = Laws'5.tells Places.the-type Laws'3.the-laws;
+      still = Laws'5.still Places.the-type Laws'3.the-copy Exit.yes;
       row = Rows'.whole (Declared.row Places.the-type);
       rd = λ x. x;
       mk = λ x. x;
     } λ M 𝓤 H A W. record {
-      copies = Laws'6.copy Places.the-type Laws'4.the-copy 𝓤 H A W;
-      lawful = Laws'6.lawful Places.the-type Laws'4.the-laws 𝓤 H A W;
-      makes = Laws'6.makes Places.the-type Laws'4.the-plain 𝓤 H A;
+      copies = Laws'5.copy Places.the-type Laws'3.the-copy 𝓤 H A W;
+      lawful = Laws'5.lawful Places.the-type Laws'3.the-laws 𝓤 H A W;
+      makes = Laws'5.makes Places.the-type Laws'3.the-plain 𝓤 H A;
       in-mem = Local.mem-whole 𝓤 H A W (Declared.row Places.the-type);
       of-mem = Local.whole-mem 𝓤 H A W (Declared.row Places.the-type);
     })
@@ -509,33 +501,19 @@ ps·5 =
 abbrev pub r·5 : Kinds.RK 3
 r·5 = Unit'.rUnit
 
-abbrev pub ps·6 : List.List (Kinds.PK 3)
+abbrev pub ps·6 : List.List (Kinds.PK 4)
 ps·6 =
     List._∷_
     (MutSlice.pMutS (Referent.rtF (Referent.fInt Syntax.w8)) 0 tt)
-    (List._∷_ (Value.pVal record {
-      ty = Declared.row Own.the-type;
-      one = Path'.refl;
-      val = Laws'6.val Own.the-type Laws'3.the-laws;
-      tells = Laws'6.tells Own.the-type Laws'3.the-laws;
-      still = Laws'6.still Own.the-type Laws'3.the-copy Exit.yes;
-      row = Rows'.whole (Declared.row Own.the-type);
-      rd = λ x. x;
-      mk = λ x. x;
-    } λ M 𝓤 H A W. record {
-      copies = Laws'6.copy Own.the-type Laws'3.the-copy 𝓤 H A W;
-      lawful = Laws'6.lawful Own.the-type Laws'3.the-laws 𝓤 H A W;
-      makes = Laws'6.makes Own.the-type Laws'3.the-plain 𝓤 H A;
-      in-mem = Local.mem-whole 𝓤 H A W (Declared.row Own.the-type);
-      of-mem = Local.whole-mem 𝓤 H A W (Declared.row Own.the-type);
-    })
     (List._∷_
-    (ShrRef.pShr (KPost.R) 1 tt)
+    (ShrRef.pShr (KOwn.R) 1 tt)
     (List._∷_
-    (ShrRef.pShr (Array'.Array (Array'.Array (Referent.rtF (Referent.fInt Syntax.w8)) 16) 16) 2 tt)
+    (ShrRef.pShr (KPost.R) 2 tt)
+    (List._∷_
+    (ShrRef.pShr (Array'.Array (Array'.Array (Referent.rtF (Referent.fInt Syntax.w8)) 16) 16) 3 tt)
     List.[])))
 
-abbrev pub r·6 : Kinds.RK 3
+abbrev pub r·6 : Kinds.RK 4
 r·6 = Num.rNum Syntax.w64
 
 abbrev pub ps·7 : List.List (Kinds.PK 0)
@@ -551,16 +529,16 @@ abbrev pub r·8 : Kinds.RK 0
 r·8 = Value.rVal record {
   ty = Declared.row Destination.the-type;
   one = Path'.refl;
-  val = Laws'6.val Destination.the-type Laws.the-laws;
-  tells = Laws'6.tells Destination.the-type Laws.the-laws;
-  still = Laws'6.still Destination.the-type Laws.the-copy Exit.yes;
+  val = Laws'5.val Destination.the-type Laws.the-laws;
+  tells = Laws'5.tells Destination.the-type Laws.the-laws;
+  still = Laws'5.still Destination.the-type Laws.the-copy Exit.yes;
   row = Rows'.whole (Declared.row Destination.the-type);
   rd = λ x. x;
   mk = λ x. x;
 } λ M 𝓤 H A W. record {
-  copies = Laws'6.copy Destination.the-type Laws.the-copy 𝓤 H A W;
-  lawful = Laws'6.lawful Destination.the-type Laws.the-laws 𝓤 H A W;
-  makes = Laws'6.makes Destination.the-type Laws.the-plain 𝓤 H A;
+  copies = Laws'5.copy Destination.the-type Laws.the-copy 𝓤 H A W;
+  lawful = Laws'5.lawful Destination.the-type Laws.the-laws 𝓤 H A W;
+  makes = Laws'5.makes Destination.the-type Laws.the-plain 𝓤 H A;
   in-mem = Local.mem-whole 𝓤 H A W (Declared.row Destination.the-type);
   of-mem = Local.whole-mem 𝓤 H A W (Declared.row Destination.the-type);
 }
@@ -569,31 +547,31 @@ abbrev pub ps·9 : List.List (Kinds.PK 0)
 ps·9 = List._∷_ (Num.pNum Syntax.w8) (List._∷_ (Value.pVal record {
   ty = Declared.row Destination.the-type;
   one = Path'.refl;
-  val = Laws'6.val Destination.the-type Laws.the-laws;
-  tells = Laws'6.tells Destination.the-type Laws.the-laws;
-  still = Laws'6.still Destination.the-type Laws.the-copy Exit.yes;
+  val = Laws'5.val Destination.the-type Laws.the-laws;
+  tells = Laws'5.tells Destination.the-type Laws.the-laws;
+  still = Laws'5.still Destination.the-type Laws.the-copy Exit.yes;
   row = Rows'.whole (Declared.row Destination.the-type);
   rd = λ x. x;
   mk = λ x. x;
 } λ M 𝓤 H A W. record {
-  copies = Laws'6.copy Destination.the-type Laws.the-copy 𝓤 H A W;
-  lawful = Laws'6.lawful Destination.the-type Laws.the-laws 𝓤 H A W;
-  makes = Laws'6.makes Destination.the-type Laws.the-plain 𝓤 H A;
+  copies = Laws'5.copy Destination.the-type Laws.the-copy 𝓤 H A W;
+  lawful = Laws'5.lawful Destination.the-type Laws.the-laws 𝓤 H A W;
+  makes = Laws'5.makes Destination.the-type Laws.the-plain 𝓤 H A;
   in-mem = Local.mem-whole 𝓤 H A W (Declared.row Destination.the-type);
   of-mem = Local.whole-mem 𝓤 H A W (Declared.row Destination.the-type);
 }) (List._∷_ (Value.pVal record {
   ty = Declared.row Destination.the-type;
   one = Path'.refl;
-  val = Laws'6.val Destination.the-type Laws.the-laws;
-  tells = Laws'6.tells Destination.the-type Laws.the-laws;
-  still = Laws'6.still Destination.the-type Laws.the-copy Exit.yes;
+  val = Laws'5.val Destination.the-type Laws.the-laws;
+  tells = Laws'5.tells Destination.the-type Laws.the-laws;
+  still = Laws'5.still Destination.the-type Laws.the-copy Exit.yes;
   row = Rows'.whole (Declared.row Destination.the-type);
   rd = λ x. x;
   mk = λ x. x;
 } λ M 𝓤 H A W. record {
-  copies = Laws'6.copy Destination.the-type Laws.the-copy 𝓤 H A W;
-  lawful = Laws'6.lawful Destination.the-type Laws.the-laws 𝓤 H A W;
-  makes = Laws'6.makes Destination.the-type Laws.the-plain 𝓤 H A;
+  copies = Laws'5.copy Destination.the-type Laws.the-copy 𝓤 H A W;
+  lawful = Laws'5.lawful Destination.the-type Laws.the-laws 𝓤 H A W;
+  makes = Laws'5.makes Destination.the-type Laws.the-plain 𝓤 H A;
   in-mem = Local.mem-whole 𝓤 H A W (Declared.row Destination.the-type);
   of-mem = Local.whole-mem 𝓤 H A W (Declared.row Destination.the-type);
 })
@@ -605,16 +583,16 @@ abbrev pub r·9 : Kinds.RK 0
 r·9 = Value.rVal record {
   ty = Declared.row Outcome.the-type;
   one = Path'.refl;
-  val = Laws'6.val Outcome.the-type Laws''.the-laws;
-  tells = Laws'6.tells Outcome.the-type Laws''.the-laws;
-  still = Laws'6.still Outcome.the-type Laws''.the-copy Exit.yes;
+  val = Laws'5.val Outcome.the-type Laws''.the-laws;
+  tells = Laws'5.tells Outcome.the-type Laws''.the-laws;
+  still = Laws'5.still Outcome.the-type Laws''.the-copy Exit.yes;
   row = Rows'.whole (Declared.row Outcome.the-type);
   rd = λ x. x;
   mk = λ x. x;
 } λ M 𝓤 H A W. record {
-  copies = Laws'6.copy Outcome.the-type Laws''.the-copy 𝓤 H A W;
-  lawful = Laws'6.lawful Outcome.the-type Laws''.the-laws 𝓤 H A W;
-  makes = Laws'6.makes Outcome.the-type Laws''.the-plain 𝓤 H A;
+  copies = Laws'5.copy Outcome.the-type Laws''.the-copy 𝓤 H A W;
+  lawful = Laws'5.lawful Outcome.the-type Laws''.the-laws 𝓤 H A W;
+  makes = Laws'5.makes Outcome.the-type Laws''.the-plain 𝓤 H A;
   in-mem = Local.mem-whole 𝓤 H A W (Declared.row Outcome.the-type);
   of-mem = Local.whole-mem 𝓤 H A W (Declared.row Outcome.the-type);
 }
@@ -626,16 +604,16 @@ abbrev pub r·10 : Kinds.RK 0
 r·10 = Value.rVal record {
   ty = Declared.row Outcome.the-type;
   one = Path'.refl;
-  val = Laws'6.val Outcome.the-type Laws''.the-laws;
-  tells = Laws'6.tells Outcome.the-type Laws''.the-laws;
-  still = Laws'6.still Outcome.the-type Laws''.the-copy Exit.yes;
+  val = Laws'5.val Outcome.the-type Laws''.the-laws;
+  tells = Laws'5.tells Outcome.the-type Laws''.the-laws;
+  still = Laws'5.still Outcome.the-type Laws''.the-copy Exit.yes;
   row = Rows'.whole (Declared.row Outcome.the-type);
   rd = λ x. x;
   mk = λ x. x;
 } λ M 𝓤 H A W. record {
-  copies = Laws'6.copy Outcome.the-type Laws''.the-copy 𝓤 H A W;
-  lawful = Laws'6.lawful Outcome.the-type Laws''.the-laws 𝓤 H A W;
-  makes = Laws'6.makes Outcome.the-type Laws''.the-plain 𝓤 H A;
+  copies = Laws'5.copy Outcome.the-type Laws''.the-copy 𝓤 H A W;
+  lawful = Laws'5.lawful Outcome.the-type Laws''.the-laws 𝓤 H A W;
+  makes = Laws'5.makes Outcome.the-type Laws''.the-plain 𝓤 H A;
   in-mem = Local.mem-whole 𝓤 H A W (Declared.row Outcome.the-type);
   of-mem = Local.whole-mem 𝓤 H A W (Declared.row Outcome.the-type);
 }
@@ -671,7 +649,7 @@ hs =
     (List._∷_
     Syntax.valueLocal
     (List._∷_
-    Syntax.valueLocal
+    Syntax.memorySlot
     (List._∷_
     Syntax.valueLocal
     (List._∷_
@@ -720,12 +698,21 @@ hs =
     Syntax.valueLocal
     (List._∷_
     Syntax.valueLocal
-    (List._∷_ Syntax.valueLocal List.[])))))))))))))))))))))))))))))))))))))))
+    (List._∷_
+    Syntax.valueLocal
+    (List._∷_
+    Syntax.valueLocal
+    (List._∷_
+    Syntax.valueLocal
+    (List._∷_ Syntax.valueLocal List.[]))))))))))))))))))))))))))))))))))))))))))
 
 abbrev b0 : Syntax.Body
-b0 =
+b0 = Syntax.assign (Syntax.place 14 List.[]) (Syntax.rvOpd (Syntax.copy (Syntax.place 5 List.[])))
+
+abbrev b1 : Syntax.Body
+b1 =
     Syntax.assign
-    (Syntax.place 18 List.[])
+    (Syntax.place 19 List.[])
     (Syntax.addrOf
     (Syntax.place
     1
@@ -733,51 +720,51 @@ b0 =
     (Syntax.field 0)
     (List._∷_ (Syntax.deref (KInstanceRow.spelled)) List.[]))))
 
-abbrev b1 : Syntax.Body
-b1 =
-    Syntax.assign
-    (Syntax.place 19 List.[])
-    (Syntax.aggregate
-    (List._∷_
-    (Syntax.copy (Syntax.place 18 List.[]))
-    (List._∷_ (Syntax.copy (Syntax.place 1 (List._∷_ (Syntax.field 1) List.[]))) List.[])))
-
 abbrev b2 : Syntax.Body
 b2 =
     Syntax.assign
-    (Syntax.place 21 List.[])
+    (Syntax.place 20 List.[])
+    (Syntax.aggregate
+    (List._∷_
+    (Syntax.copy (Syntax.place 19 List.[]))
+    (List._∷_ (Syntax.copy (Syntax.place 1 (List._∷_ (Syntax.field 1) List.[]))) List.[])))
+
+abbrev b3 : Syntax.Body
+b3 =
+    Syntax.assign
+    (Syntax.place 22 List.[])
     (Syntax.rvOpd
     (Syntax.copy
     (Syntax.place
     10
     (List._∷_ (Syntax.deref (KDecided.spelled)) List.[]))))
 
-abbrev b3 : Syntax.Body
-b3 =
-    Syntax.call
-    "finish::is_replying"
-    (List._∷_ (Syntax.copy (Syntax.place 21 List.[])) List.[])
-    (Syntax.place 20 List.[])
-
 abbrev b4 : Syntax.Body
 b4 =
     Syntax.call
+    "finish::is_replying"
+    (List._∷_ (Syntax.copy (Syntax.place 22 List.[])) List.[])
+    (Syntax.place 21 List.[])
+
+abbrev b5 : Syntax.Body
+b5 =
+    Syntax.call
     "place::place_rows"
     (List._∷_
-    (Syntax.copy (Syntax.place 19 List.[]))
+    (Syntax.copy (Syntax.place 20 List.[]))
     (List._∷_
     (Syntax.copy (Syntax.place 8 List.[]))
     (List._∷_
     (Syntax.copy (Syntax.place 13 (List._∷_ (Syntax.field 0) List.[])))
     (List._∷_
     (Syntax.copy (Syntax.place 13 (List._∷_ (Syntax.field 1) List.[])))
-    (List._∷_ (Syntax.copy (Syntax.place 20 List.[])) List.[])))))
-    (Syntax.place 14 List.[])
+    (List._∷_ (Syntax.copy (Syntax.place 21 List.[])) List.[])))))
+    (Syntax.place 15 List.[])
 
-abbrev b5 : Syntax.Body
-b5 =
+abbrev b6 : Syntax.Body
+b6 =
     Syntax.assign
-    (Syntax.place 22 List.[])
+    (Syntax.place 23 List.[])
     (Syntax.addrOf
     (Syntax.place
     2
@@ -785,60 +772,60 @@ b5 =
     (Syntax.field 0)
     (List._∷_ (Syntax.deref (KRouteRow.spelled)) List.[]))))
 
-abbrev b6 : Syntax.Body
-b6 =
-    Syntax.assign
-    (Syntax.place 23 List.[])
-    (Syntax.aggregate
-    (List._∷_
-    (Syntax.copy (Syntax.place 22 List.[]))
-    (List._∷_ (Syntax.copy (Syntax.place 2 (List._∷_ (Syntax.field 1) List.[]))) List.[])))
-
 abbrev b7 : Syntax.Body
 b7 =
     Syntax.assign
-    (Syntax.place 21 List.[])
+    (Syntax.place 24 List.[])
+    (Syntax.aggregate
+    (List._∷_
+    (Syntax.copy (Syntax.place 23 List.[]))
+    (List._∷_ (Syntax.copy (Syntax.place 2 (List._∷_ (Syntax.field 1) List.[]))) List.[])))
+
+abbrev b8 : Syntax.Body
+b8 =
+    Syntax.assign
+    (Syntax.place 22 List.[])
     (Syntax.rvOpd
     (Syntax.copy
     (Syntax.place
     10
     (List._∷_ (Syntax.deref (KDecided.spelled)) List.[]))))
 
-abbrev b8 : Syntax.Body
-b8 =
-    Syntax.call
-    "finish::is_routed"
-    (List._∷_ (Syntax.copy (Syntax.place 21 List.[])) List.[])
-    (Syntax.place 20 List.[])
-
 abbrev b9 : Syntax.Body
 b9 =
     Syntax.call
-    "place::place_route"
-    (List._∷_
-    (Syntax.copy (Syntax.place 23 List.[]))
-    (List._∷_
-    (Syntax.copy (Syntax.place 8 List.[]))
-    (List._∷_
-    (Syntax.copy (Syntax.place 20 List.[]))
-    (List._∷_
-    (Syntax.copy (Syntax.place 13 (List._∷_ (Syntax.field 2) List.[])))
-    (List._∷_ (Syntax.copy (Syntax.place 13 (List._∷_ (Syntax.field 3) List.[]))) List.[])))))
-    (Syntax.place 15 List.[])
+    "finish::is_routed"
+    (List._∷_ (Syntax.copy (Syntax.place 22 List.[])) List.[])
+    (Syntax.place 21 List.[])
 
 abbrev b10 : Syntax.Body
 b10 =
     Syntax.call
-    "finish::has_room"
+    "place::place_route"
     (List._∷_
-    (Syntax.copy (Syntax.place 14 List.[]))
-    (List._∷_ (Syntax.copy (Syntax.place 15 List.[])) List.[]))
-    (Syntax.place 24 List.[])
+    (Syntax.copy (Syntax.place 24 List.[]))
+    (List._∷_
+    (Syntax.copy (Syntax.place 8 List.[]))
+    (List._∷_
+    (Syntax.copy (Syntax.place 21 List.[]))
+    (List._∷_
+    (Syntax.copy (Syntax.place 13 (List._∷_ (Syntax.field 2) List.[])))
+    (List._∷_ (Syntax.copy (Syntax.place 13 (List._∷_ (Syntax.field 3) List.[]))) List.[])))))
+    (Syntax.place 16 List.[])
 
 abbrev b11 : Syntax.Body
 b11 =
+    Syntax.call
+    "finish::has_room"
+    (List._∷_
+    (Syntax.copy (Syntax.place 15 List.[]))
+    (List._∷_ (Syntax.copy (Syntax.place 16 List.[])) List.[]))
+    (Syntax.place 25 List.[])
+
+abbrev b12 : Syntax.Body
+b12 =
     Syntax.assign
-    (Syntax.place 26 List.[])
+    (Syntax.place 27 List.[])
     (Syntax.addrOf
     (Syntax.place
     1
@@ -846,19 +833,19 @@ b11 =
     (Syntax.field 0)
     (List._∷_ (Syntax.deref (KInstanceRow.spelled)) List.[]))))
 
-abbrev b12 : Syntax.Body
-b12 =
-    Syntax.assign
-    (Syntax.place 27 List.[])
-    (Syntax.aggregate
-    (List._∷_
-    (Syntax.copy (Syntax.place 26 List.[]))
-    (List._∷_ (Syntax.copy (Syntax.place 1 (List._∷_ (Syntax.field 1) List.[]))) List.[])))
-
 abbrev b13 : Syntax.Body
 b13 =
     Syntax.assign
     (Syntax.place 28 List.[])
+    (Syntax.aggregate
+    (List._∷_
+    (Syntax.copy (Syntax.place 27 List.[]))
+    (List._∷_ (Syntax.copy (Syntax.place 1 (List._∷_ (Syntax.field 1) List.[]))) List.[])))
+
+abbrev b14 : Syntax.Body
+b14 =
+    Syntax.assign
+    (Syntax.place 29 List.[])
     (Syntax.addrOf
     (Syntax.place
     2
@@ -866,225 +853,237 @@ b13 =
     (Syntax.field 0)
     (List._∷_ (Syntax.deref (KRouteRow.spelled)) List.[]))))
 
-abbrev b14 : Syntax.Body
-b14 =
-    Syntax.assign
-    (Syntax.place 29 List.[])
-    (Syntax.aggregate
-    (List._∷_
-    (Syntax.copy (Syntax.place 28 List.[]))
-    (List._∷_ (Syntax.copy (Syntax.place 2 (List._∷_ (Syntax.field 1) List.[]))) List.[])))
-
 abbrev b15 : Syntax.Body
 b15 =
-    Syntax.call
-    "finish::store"
-    (List._∷_
-    (Syntax.copy (Syntax.place 27 List.[]))
+    Syntax.assign
+    (Syntax.place 30 List.[])
+    (Syntax.aggregate
     (List._∷_
     (Syntax.copy (Syntax.place 29 List.[]))
-    (List._∷_
-    (Syntax.copy (Syntax.place 14 List.[]))
-    (List._∷_
-    (Syntax.copy (Syntax.place 15 (List._∷_ (Syntax.field 1) List.[])))
-    (List._∷_ (Syntax.copy (Syntax.place 10 List.[])) List.[])))))
-    (Syntax.place 25 List.[])
+    (List._∷_ (Syntax.copy (Syntax.place 2 (List._∷_ (Syntax.field 1) List.[]))) List.[])))
 
 abbrev b16 : Syntax.Body
 b16 =
-    Syntax.assign
-    (Syntax.place 30 List.[])
-    (Syntax.addrOf
-    (Syntax.place
-    3
-    (List._∷_ (Syntax.field 0) (List._∷_ (Syntax.deref (Syntax.tyInt Syntax.w8)) List.[]))))
+    Syntax.call
+    "finish::store"
+    (List._∷_
+    (Syntax.copy (Syntax.place 28 List.[]))
+    (List._∷_
+    (Syntax.copy (Syntax.place 30 List.[]))
+    (List._∷_
+    (Syntax.copy (Syntax.place 15 List.[]))
+    (List._∷_
+    (Syntax.copy (Syntax.place 16 (List._∷_ (Syntax.field 1) List.[])))
+    (List._∷_ (Syntax.copy (Syntax.place 10 List.[])) List.[])))))
+    (Syntax.place 26 List.[])
 
 abbrev b17 : Syntax.Body
 b17 =
     Syntax.assign
     (Syntax.place 31 List.[])
-    (Syntax.aggregate
-    (List._∷_
-    (Syntax.copy (Syntax.place 30 List.[]))
-    (List._∷_ (Syntax.copy (Syntax.place 3 (List._∷_ (Syntax.field 1) List.[]))) List.[])))
+    (Syntax.addrOf
+    (Syntax.place
+    3
+    (List._∷_ (Syntax.field 0) (List._∷_ (Syntax.deref (Syntax.tyInt Syntax.w8)) List.[]))))
 
 abbrev b18 : Syntax.Body
 b18 =
+    Syntax.assign
+    (Syntax.place 32 List.[])
+    (Syntax.aggregate
+    (List._∷_
+    (Syntax.copy (Syntax.place 31 List.[]))
+    (List._∷_ (Syntax.copy (Syntax.place 3 (List._∷_ (Syntax.field 1) List.[]))) List.[])))
+
+abbrev b19 : Syntax.Body
+b19 = Syntax.assign (Syntax.place 33 List.[]) (Syntax.addrOf (Syntax.place 14 List.[]))
+
+abbrev b20 : Syntax.Body
+b20 =
     Syntax.call
     "post::put_post"
     (List._∷_
-    (Syntax.copy (Syntax.place 31 List.[]))
+    (Syntax.copy (Syntax.place 32 List.[]))
     (List._∷_
-    (Syntax.copy (Syntax.place 5 List.[]))
+    (Syntax.copy (Syntax.place 33 List.[]))
     (List._∷_
     (Syntax.copy (Syntax.place 11 List.[]))
     (List._∷_ (Syntax.copy (Syntax.place 9 List.[])) List.[]))))
-    (Syntax.place 16 List.[])
+    (Syntax.place 17 List.[])
 
-abbrev b19 : Syntax.Body
-b19 =
+abbrev b21 : Syntax.Body
+b21 =
     Syntax.assign
-    (Syntax.place 32 List.[])
+    (Syntax.place 34 List.[])
     (Syntax.addrOf
     (Syntax.place
     4
     (List._∷_ (Syntax.field 0) (List._∷_ (Syntax.deref (Syntax.tyInt Syntax.w8)) List.[]))))
 
-abbrev b20 : Syntax.Body
-b20 =
-    Syntax.assign
-    (Syntax.place 33 List.[])
-    (Syntax.aggregate
-    (List._∷_
-    (Syntax.copy (Syntax.place 32 List.[]))
-    (List._∷_ (Syntax.copy (Syntax.place 4 (List._∷_ (Syntax.field 1) List.[]))) List.[])))
-
-abbrev b21 : Syntax.Body
-b21 =
-    Syntax.call
-    "post::put_post"
-    (List._∷_
-    (Syntax.copy (Syntax.place 33 List.[]))
-    (List._∷_
-    (Syntax.copy (Syntax.place 5 List.[]))
-    (List._∷_
-    (Syntax.copy (Syntax.place 12 List.[]))
-    (List._∷_ (Syntax.copy (Syntax.place 9 List.[])) List.[]))))
-    (Syntax.place 17 List.[])
-
 abbrev b22 : Syntax.Body
 b22 =
     Syntax.assign
     (Syntax.place 35 List.[])
+    (Syntax.aggregate
+    (List._∷_
+    (Syntax.copy (Syntax.place 34 List.[]))
+    (List._∷_ (Syntax.copy (Syntax.place 4 (List._∷_ (Syntax.field 1) List.[]))) List.[])))
+
+abbrev b23 : Syntax.Body
+b23 = Syntax.assign (Syntax.place 36 List.[]) (Syntax.addrOf (Syntax.place 14 List.[]))
+
+abbrev b24 : Syntax.Body
+b24 =
+    Syntax.call
+    "post::put_post"
+    (List._∷_
+    (Syntax.copy (Syntax.place 35 List.[]))
+    (List._∷_
+    (Syntax.copy (Syntax.place 36 List.[]))
+    (List._∷_
+    (Syntax.copy (Syntax.place 12 List.[]))
+    (List._∷_ (Syntax.copy (Syntax.place 9 List.[])) List.[]))))
+    (Syntax.place 18 List.[])
+
+abbrev b25 : Syntax.Body
+b25 =
+    Syntax.assign
+    (Syntax.place 38 List.[])
     (Syntax.rvOpd
     (Syntax.copy
     (Syntax.place
     10
     (List._∷_ (Syntax.deref (KDecided.spelled)) List.[]))))
 
-abbrev b23 : Syntax.Body
-b23 =
+abbrev b26 : Syntax.Body
+b26 =
     Syntax.call
     "finish::own_of"
-    (List._∷_ (Syntax.copy (Syntax.place 35 List.[])) List.[])
-    (Syntax.place 34 List.[])
-
-abbrev b24 : Syntax.Body
-b24 =
-    Syntax.assign
+    (List._∷_ (Syntax.copy (Syntax.place 38 List.[])) List.[])
     (Syntax.place 37 List.[])
+
+abbrev b27 : Syntax.Body
+b27 =
+    Syntax.assign
+    (Syntax.place 40 List.[])
     (Syntax.rvOpd
     (Syntax.copy
     (Syntax.place
     11
     (List._∷_ (Syntax.deref (KPost.spelled)) List.[]))))
 
-abbrev b25 : Syntax.Body
-b25 =
+abbrev b28 : Syntax.Body
+b28 =
     Syntax.call
     "finish::to_of"
-    (List._∷_ (Syntax.copy (Syntax.place 37 List.[])) List.[])
-    (Syntax.place 36 List.[])
-
-abbrev b26 : Syntax.Body
-b26 =
-    Syntax.assign
+    (List._∷_ (Syntax.copy (Syntax.place 40 List.[])) List.[])
     (Syntax.place 39 List.[])
+
+abbrev b29 : Syntax.Body
+b29 =
+    Syntax.assign
+    (Syntax.place 42 List.[])
     (Syntax.rvOpd
     (Syntax.copy
     (Syntax.place
     12
     (List._∷_ (Syntax.deref (KPost.spelled)) List.[]))))
 
-abbrev b27 : Syntax.Body
-b27 =
+abbrev b30 : Syntax.Body
+b30 =
     Syntax.call
     "finish::to_of"
-    (List._∷_ (Syntax.copy (Syntax.place 39 List.[])) List.[])
-    (Syntax.place 38 List.[])
+    (List._∷_ (Syntax.copy (Syntax.place 42 List.[])) List.[])
+    (Syntax.place 41 List.[])
 
-abbrev b28 : Syntax.Body
-b28 =
+abbrev b31 : Syntax.Body
+b31 =
     Syntax.call
     "finish::accepted"
     (List._∷_
-    (Syntax.copy (Syntax.place 34 List.[]))
+    (Syntax.copy (Syntax.place 37 List.[]))
     (List._∷_
-    (Syntax.copy (Syntax.place 36 List.[]))
+    (Syntax.copy (Syntax.place 39 List.[]))
     (List._∷_
-    (Syntax.copy (Syntax.place 38 List.[]))
+    (Syntax.copy (Syntax.place 41 List.[]))
     (List._∷_
     (Syntax.copy (Syntax.place 8 List.[]))
     (List._∷_
-    (Syntax.copy (Syntax.place 16 List.[]))
-    (List._∷_ (Syntax.copy (Syntax.place 17 List.[])) List.[]))))))
+    (Syntax.copy (Syntax.place 17 List.[]))
+    (List._∷_ (Syntax.copy (Syntax.place 18 List.[])) List.[]))))))
     (Syntax.place 0 List.[])
 
-abbrev b29 : Syntax.Body
-b29 = Syntax.return
-
-abbrev b30 : Syntax.Body
-b30 = Syntax.seq b28 b29
-
-abbrev b31 : Syntax.Body
-b31 = Syntax.seq b27 b30
-
 abbrev b32 : Syntax.Body
-b32 = Syntax.seq b26 b31
+b32 = Syntax.return
 
 abbrev b33 : Syntax.Body
-b33 = Syntax.seq b25 b32
+b33 = Syntax.seq b31 b32
 
 abbrev b34 : Syntax.Body
-b34 = Syntax.seq b24 b33
+b34 = Syntax.seq b30 b33
 
 abbrev b35 : Syntax.Body
-b35 = Syntax.seq b23 b34
+b35 = Syntax.seq b29 b34
 
 abbrev b36 : Syntax.Body
-b36 = Syntax.seq b22 b35
+b36 = Syntax.seq b28 b35
 
 abbrev b37 : Syntax.Body
-b37 = Syntax.seq b21 b36
+b37 = Syntax.seq b27 b36
 
 abbrev b38 : Syntax.Body
-b38 = Syntax.seq b20 b37
+b38 = Syntax.seq b26 b37
 
 abbrev b39 : Syntax.Body
-b39 = Syntax.seq b19 b38
+b39 = Syntax.seq b25 b38
 
 abbrev b40 : Syntax.Body
-b40 = Syntax.seq b18 b39
+b40 = Syntax.seq b24 b39
 
 abbrev b41 : Syntax.Body
-b41 = Syntax.seq b17 b40
+b41 = Syntax.seq b23 b40
 
 abbrev b42 : Syntax.Body
-b42 = Syntax.seq b16 b41
+b42 = Syntax.seq b22 b41
 
 abbrev b43 : Syntax.Body
-b43 = Syntax.seq b15 b42
+b43 = Syntax.seq b21 b42
 
 abbrev b44 : Syntax.Body
-b44 = Syntax.seq b14 b43
+b44 = Syntax.seq b20 b43
 
 abbrev b45 : Syntax.Body
-b45 = Syntax.seq b13 b44
+b45 = Syntax.seq b19 b44
 
 abbrev b46 : Syntax.Body
-b46 = Syntax.seq b12 b45
+b46 = Syntax.seq b18 b45
 
 abbrev b47 : Syntax.Body
-b47 = Syntax.seq b11 b46
+b47 = Syntax.seq b17 b46
 
 abbrev b48 : Syntax.Body
-b48 = Syntax.skip
+b48 = Syntax.seq b16 b47
 
 abbrev b49 : Syntax.Body
-b49 = Syntax.cond (Syntax.copy (Syntax.place 24 List.[])) b47 b48
+b49 = Syntax.seq b15 b48
 
 abbrev b50 : Syntax.Body
-b50 =
+b50 = Syntax.seq b14 b49
+
+abbrev b51 : Syntax.Body
+b51 = Syntax.seq b13 b50
+
+abbrev b52 : Syntax.Body
+b52 = Syntax.seq b12 b51
+
+abbrev b53 : Syntax.Body
+b53 = Syntax.skip
+
+abbrev b54 : Syntax.Body
+b54 = Syntax.cond (Syntax.copy (Syntax.place 25 List.[])) b52 b53
+
+abbrev b55 : Syntax.Body
+b55 =
     Syntax.call
     "finish::without_room"
     (List._∷_
@@ -1092,50 +1091,53 @@ b50 =
     (List._∷_ (Syntax.copy (Syntax.place 7 List.[])) List.[]))
     (Syntax.place 0 List.[])
 
-abbrev b51 : Syntax.Body
-b51 = Syntax.return
-
-abbrev b52 : Syntax.Body
-b52 = Syntax.seq b50 b51
-
-abbrev b53 : Syntax.Body
-b53 = Syntax.seq b49 b52
-
-abbrev b54 : Syntax.Body
-b54 = Syntax.seq b10 b53
-
-abbrev b55 : Syntax.Body
-b55 = Syntax.seq b9 b54
-
 abbrev b56 : Syntax.Body
-b56 = Syntax.seq b8 b55
+b56 = Syntax.return
 
 abbrev b57 : Syntax.Body
-b57 = Syntax.seq b7 b56
+b57 = Syntax.seq b55 b56
 
 abbrev b58 : Syntax.Body
-b58 = Syntax.seq b6 b57
+b58 = Syntax.seq b54 b57
 
 abbrev b59 : Syntax.Body
-b59 = Syntax.seq b5 b58
+b59 = Syntax.seq b11 b58
 
 abbrev b60 : Syntax.Body
-b60 = Syntax.seq b4 b59
+b60 = Syntax.seq b10 b59
 
 abbrev b61 : Syntax.Body
-b61 = Syntax.seq b3 b60
+b61 = Syntax.seq b9 b60
 
 abbrev b62 : Syntax.Body
-b62 = Syntax.seq b2 b61
+b62 = Syntax.seq b8 b61
 
 abbrev b63 : Syntax.Body
-b63 = Syntax.seq b1 b62
+b63 = Syntax.seq b7 b62
 
 abbrev b64 : Syntax.Body
-b64 = Syntax.seq b0 b63
+b64 = Syntax.seq b6 b63
+
+abbrev b65 : Syntax.Body
+b65 = Syntax.seq b5 b64
+
+abbrev b66 : Syntax.Body
+b66 = Syntax.seq b4 b65
+
+abbrev b67 : Syntax.Body
+b67 = Syntax.seq b3 b66
+
+abbrev b68 : Syntax.Body
+b68 = Syntax.seq b2 b67
+
+abbrev b69 : Syntax.Body
+b69 = Syntax.seq b1 b68
+
+abbrev b70 : Syntax.Body
+b70 = Syntax.seq b0 b69
 
 abbrev pub body : Syntax.Body
-body = b64
+body = b70
 
 abbrev pub Claims : Type 1
 Claims =
@@ -1151,8 +1153,8 @@ Claims =
     Kinds.Out 0 ps·4 r·4 ×
     Kinds.In 3 ps·5 ×
     Kinds.Out 3 ps·5 r·5 ×
-    Kinds.In 3 ps·6 ×
-    Kinds.Out 3 ps·6 r·6 ×
+    Kinds.In 4 ps·6 ×
+    Kinds.Out 4 ps·6 r·6 ×
     Kinds.In 0 ps·7 ×
     Kinds.Out 0 ps·7 r·7 ×
     Kinds.In 0 ps·8 ×
@@ -1417,7 +1419,7 @@ t0 = List._∷_ (
       (Referent.rtF (Referent.fInt Syntax.w8))
       (Syntax.tyRef (Syntax.named 3) Syntax.mut (Syntax.tyInt Syntax.w8))
       3,
-) (List._∷_ (5, Rows'.whole (Declared.row Own.the-type)) (List._∷_ (
+) (List._∷_ (5, KOwn.row) (List._∷_ (
   6,
   Rows'.sc-here (Row.sInt Syntax.w64),
 ) (List._∷_ (7, Rows'.sc-here (Row.sInt Syntax.w8)) (List._∷_ (
@@ -1452,6 +1454,9 @@ t0 = List._∷_ (
       7,
 ) (List._∷_ (13, Rows'.whole (Declared.row Live.the-type)) (List._∷_ (
   14,
+  Rows'.any-gone (KOwn.spelled),
+) (List._∷_ (
+  15,
   Rows'.any-gone
       (Syntax.tyStruct
       (List._∷_
@@ -1476,8 +1481,11 @@ t0 = List._∷_ (
       (Syntax.tcons
       (Syntax.tyInt Syntax.w64)
       (Syntax.tcons (Syntax.tyInt Syntax.w64) Syntax.tnil)))),
-) (List._∷_ (
-  15,
+) List.[])))))))))))))))
+
+abbrev pub t1 : List.List Row.Entry
+t1 = List._∷_ (
+  16,
   Rows'.any-gone
       (Syntax.tyStruct
       (List._∷_
@@ -1506,33 +1514,30 @@ t0 = List._∷_ (
       101
       (List._∷_ 80 (List._∷_ 108 (List._∷_ 97 (List._∷_ 99 (List._∷_ 101 List.[])))))))))))))))))
       (Syntax.tcons Syntax.tyBool (Syntax.tcons (Syntax.tyInt Syntax.w64) Syntax.tnil))),
-) List.[])))))))))))))))
-
-abbrev pub t1 : List.List Row.Entry
-t1 = List._∷_ (16, Rows'.any-gone (Syntax.tyInt Syntax.w64)) (List._∷_ (
-  17,
+) (List._∷_ (17, Rows'.any-gone (Syntax.tyInt Syntax.w64)) (List._∷_ (
+  18,
   Rows'.any-gone (Syntax.tyInt Syntax.w64),
 ) (List._∷_ (
-  18,
+  19,
   Rows'.any-gone
       (Syntax.tyRef Syntax.erased Syntax.imm (KInstanceRow.named)),
 ) (List._∷_ (
-  19,
+  20,
   Rows'.any-gone
       (Syntax.tyStruct
       (List._∷_ 38 (List._∷_ 91 (List._∷_ 93 List.[])))
       (Syntax.tcons
       (Syntax.tyRef Syntax.erased Syntax.imm (KInstanceRow.named))
       (Syntax.tcons (Syntax.tyInt Syntax.w64) Syntax.tnil))),
-) (List._∷_ (20, Rows'.any-gone Syntax.tyBool) (List._∷_ (
-  21,
+) (List._∷_ (21, Rows'.any-gone Syntax.tyBool) (List._∷_ (
+  22,
   Rows'.any-gone (KDecided.spelled),
 ) (List._∷_ (
-  22,
+  23,
   Rows'.any-gone
       (Syntax.tyRef Syntax.erased Syntax.imm (KRouteRow.named)),
 ) (List._∷_ (
-  23,
+  24,
   Rows'.any-gone
       (Syntax.tyStruct
       (List._∷_ 38 (List._∷_ 91 (List._∷_ 93 List.[])))
@@ -1541,13 +1546,13 @@ t1 = List._∷_ (16, Rows'.any-gone (Syntax.tyInt Syntax.w64)) (List._∷_ (
       (Syntax.tcons (Syntax.tyInt Syntax.w64) Syntax.tnil))),
 )
     (List._∷_
-    (24, Rows'.any-gone Syntax.tyBool)
-    (List._∷_ (25, Rows'.any-gone Syntax.tyUnit) (List._∷_ (
-      26,
+    (25, Rows'.any-gone Syntax.tyBool)
+    (List._∷_ (26, Rows'.any-gone Syntax.tyUnit) (List._∷_ (
+      27,
       Rows'.any-gone
           (Syntax.tyRef Syntax.erased Syntax.mut (KInstanceRow.named)),
     ) (List._∷_ (
-      27,
+      28,
       Rows'.any-gone
           (Syntax.tyStruct
           (List._∷_ 38 (List._∷_ 91 (List._∷_ 93 List.[])))
@@ -1555,11 +1560,11 @@ t1 = List._∷_ (16, Rows'.any-gone (Syntax.tyInt Syntax.w64)) (List._∷_ (
           (Syntax.tyRef Syntax.erased Syntax.mut (KInstanceRow.named))
           (Syntax.tcons (Syntax.tyInt Syntax.w64) Syntax.tnil))),
     ) (List._∷_ (
-      28,
+      29,
       Rows'.any-gone
           (Syntax.tyRef Syntax.erased Syntax.mut (KRouteRow.named)),
     ) (List._∷_ (
-      29,
+      30,
       Rows'.any-gone
           (Syntax.tyStruct
           (List._∷_ 38 (List._∷_ 91 (List._∷_ 93 List.[])))
@@ -1567,150 +1572,160 @@ t1 = List._∷_ (16, Rows'.any-gone (Syntax.tyInt Syntax.w64)) (List._∷_ (
           (Syntax.tyRef Syntax.erased Syntax.mut (KRouteRow.named))
           (Syntax.tcons (Syntax.tyInt Syntax.w64) Syntax.tnil))),
     ) (List._∷_ (
-      30,
-      Rows'.any-gone (Syntax.tyRef Syntax.erased Syntax.mut (Syntax.tyInt Syntax.w8)),
-    ) (List._∷_ (
       31,
-      Rows'.any-gone
-          (Syntax.tyStruct
-          (List._∷_ 38 (List._∷_ 91 (List._∷_ 93 List.[])))
-          (Syntax.tcons
-          (Syntax.tyRef Syntax.erased Syntax.mut (Syntax.tyInt Syntax.w8))
-          (Syntax.tcons (Syntax.tyInt Syntax.w64) Syntax.tnil))),
+      Rows'.any-gone (Syntax.tyRef Syntax.erased Syntax.mut (Syntax.tyInt Syntax.w8)),
     ) List.[])))))))))))))))
 
 abbrev pub t2 : List.List Row.Entry
 t2 = List._∷_ (
   32,
-  Rows'.any-gone (Syntax.tyRef Syntax.erased Syntax.mut (Syntax.tyInt Syntax.w8)),
-) (List._∷_ (
-  33,
   Rows'.any-gone
       (Syntax.tyStruct
       (List._∷_ 38 (List._∷_ 91 (List._∷_ 93 List.[])))
       (Syntax.tcons
       (Syntax.tyRef Syntax.erased Syntax.mut (Syntax.tyInt Syntax.w8))
       (Syntax.tcons (Syntax.tyInt Syntax.w64) Syntax.tnil))),
-) (List._∷_ (34, Rows'.any-gone (Syntax.tyInt Syntax.w8)) (List._∷_ (
-  35,
-  Rows'.any-gone (KDecided.spelled),
 ) (List._∷_ (
-  36,
+  33,
   Rows'.any-gone
-      (Syntax.tyStruct
-      (List._∷_
-      97
-      (List._∷_
-      110
-      (List._∷_
-      115
-      (List._∷_
-      119
-      (List._∷_
-      101
-      (List._∷_
-      114
-      (List._∷_
-      58
-      (List._∷_
-      58
-      (List._∷_
-      68
-      (List._∷_
-      101
-      (List._∷_
-      115
-      (List._∷_
-      116
-      (List._∷_
-      105
-      (List._∷_
-      110
-      (List._∷_
-      97
-      (List._∷_ 116 (List._∷_ 105 (List._∷_ 111 (List._∷_ 110 List.[])))))))))))))))))))
-      (Syntax.tcons
-      (Syntax.tyArray (Syntax.tyInt Syntax.w8) 16)
-      (Syntax.tcons
-      (Syntax.tyEnum
-      (List._∷_
-      97
-      (List._∷_
-      110
-      (List._∷_
-      115
-      (List._∷_
-      119
-      (List._∷_
-      101
-      (List._∷_
-      114
-      (List._∷_ 58 (List._∷_ 58 (List._∷_ 87 (List._∷_ 97 (List._∷_ 121 List.[])))))))))))
-      (Syntax.ttcons
-      Syntax.tnil
-      (Syntax.ttcons
-      Syntax.tnil
-      (Syntax.ttcons Syntax.tnil (Syntax.ttcons Syntax.tnil Syntax.ttnil)))))
-      Syntax.tnil))),
-) (List._∷_ (37, Rows'.any-gone (KPost.spelled)) (List._∷_ (
-  38,
-  Rows'.any-gone
-      (Syntax.tyStruct
-      (List._∷_
-      97
-      (List._∷_
-      110
-      (List._∷_
-      115
-      (List._∷_
-      119
-      (List._∷_
-      101
-      (List._∷_
-      114
-      (List._∷_
-      58
-      (List._∷_
-      58
-      (List._∷_
-      68
-      (List._∷_
-      101
-      (List._∷_
-      115
-      (List._∷_
-      116
-      (List._∷_
-      105
-      (List._∷_
-      110
-      (List._∷_
-      97
-      (List._∷_ 116 (List._∷_ 105 (List._∷_ 111 (List._∷_ 110 List.[])))))))))))))))))))
-      (Syntax.tcons
-      (Syntax.tyArray (Syntax.tyInt Syntax.w8) 16)
-      (Syntax.tcons
-      (Syntax.tyEnum
-      (List._∷_
-      97
-      (List._∷_
-      110
-      (List._∷_
-      115
-      (List._∷_
-      119
-      (List._∷_
-      101
-      (List._∷_
-      114
-      (List._∷_ 58 (List._∷_ 58 (List._∷_ 87 (List._∷_ 97 (List._∷_ 121 List.[])))))))))))
-      (Syntax.ttcons
-      Syntax.tnil
-      (Syntax.ttcons
-      Syntax.tnil
-      (Syntax.ttcons Syntax.tnil (Syntax.ttcons Syntax.tnil Syntax.ttnil)))))
-      Syntax.tnil))),
-) (List._∷_ (39, Rows'.any-gone (KPost.spelled)) List.[])))))))
+      (Syntax.tyRef Syntax.erased Syntax.imm (KOwn.named)),
+)
+    (List._∷_ (
+      34,
+      Rows'.any-gone (Syntax.tyRef Syntax.erased Syntax.mut (Syntax.tyInt Syntax.w8)),
+    ) (List._∷_ (
+      35,
+      Rows'.any-gone
+          (Syntax.tyStruct
+          (List._∷_ 38 (List._∷_ 91 (List._∷_ 93 List.[])))
+          (Syntax.tcons
+          (Syntax.tyRef Syntax.erased Syntax.mut (Syntax.tyInt Syntax.w8))
+          (Syntax.tcons (Syntax.tyInt Syntax.w64) Syntax.tnil))),
+    ) (List._∷_ (
+      36,
+      Rows'.any-gone
+          (Syntax.tyRef Syntax.erased Syntax.imm (KOwn.named)),
+    ) (List._∷_ (37, Rows'.any-gone (Syntax.tyInt Syntax.w8)) (List._∷_ (
+      38,
+      Rows'.any-gone (KDecided.spelled),
+    ) (List._∷_ (
+      39,
+      Rows'.any-gone
+          (Syntax.tyStruct
+          (List._∷_
+          97
+          (List._∷_
+          110
+          (List._∷_
+          115
+          (List._∷_
+          119
+          (List._∷_
+          101
+          (List._∷_
+          114
+          (List._∷_
+          58
+          (List._∷_
+          58
+          (List._∷_
+          68
+          (List._∷_
+          101
+          (List._∷_
+          115
+          (List._∷_
+          116
+          (List._∷_
+          105
+          (List._∷_
+          110
+          (List._∷_
+          97
+          (List._∷_ 116 (List._∷_ 105 (List._∷_ 111 (List._∷_ 110 List.[])))))))))))))))))))
+          (Syntax.tcons
+          (Syntax.tyArray (Syntax.tyInt Syntax.w8) 16)
+          (Syntax.tcons
+          (Syntax.tyEnum
+          (List._∷_
+          97
+          (List._∷_
+          110
+          (List._∷_
+          115
+          (List._∷_
+          119
+          (List._∷_
+          101
+          (List._∷_
+          114
+          (List._∷_ 58 (List._∷_ 58 (List._∷_ 87 (List._∷_ 97 (List._∷_ 121 List.[])))))))))))
+          (Syntax.ttcons
+          Syntax.tnil
+          (Syntax.ttcons
+          Syntax.tnil
+          (Syntax.ttcons Syntax.tnil (Syntax.ttcons Syntax.tnil Syntax.ttnil)))))
+          Syntax.tnil))),
+    ) (List._∷_ (40, Rows'.any-gone (KPost.spelled)) (List._∷_ (
+      41,
+      Rows'.any-gone
+          (Syntax.tyStruct
+          (List._∷_
+          97
+          (List._∷_
+          110
+          (List._∷_
+          115
+          (List._∷_
+          119
+          (List._∷_
+          101
+          (List._∷_
+          114
+          (List._∷_
+          58
+          (List._∷_
+          58
+          (List._∷_
+          68
+          (List._∷_
+          101
+          (List._∷_
+          115
+          (List._∷_
+          116
+          (List._∷_
+          105
+          (List._∷_
+          110
+          (List._∷_
+          97
+          (List._∷_ 116 (List._∷_ 105 (List._∷_ 111 (List._∷_ 110 List.[])))))))))))))))))))
+          (Syntax.tcons
+          (Syntax.tyArray (Syntax.tyInt Syntax.w8) 16)
+          (Syntax.tcons
+          (Syntax.tyEnum
+          (List._∷_
+          97
+          (List._∷_
+          110
+          (List._∷_
+          115
+          (List._∷_
+          119
+          (List._∷_
+          101
+          (List._∷_
+          114
+          (List._∷_ 58 (List._∷_ 58 (List._∷_ 87 (List._∷_ 97 (List._∷_ 121 List.[])))))))))))
+          (Syntax.ttcons
+          Syntax.tnil
+          (Syntax.ttcons
+          Syntax.tnil
+          (Syntax.ttcons Syntax.tnil (Syntax.ttcons Syntax.tnil Syntax.ttnil)))))
+          Syntax.tnil))),
+    )
+    (List._∷_ (42, Rows'.any-gone (KPost.spelled)) List.[]))))))))))
 
 abbrev pub t3 : List.List Row.Entry
 t3 = List._∷_ (0, Rows'.whole (Declared.row Outcome.the-type)) (List._∷_ (
@@ -1737,24 +1752,13 @@ t3 = List._∷_ (0, Rows'.whole (Declared.row Outcome.the-type)) (List._∷_ (
       (Referent.rtF (Referent.fInt Syntax.w8))
       (Syntax.tyRef (Syntax.named 3) Syntax.mut (Syntax.tyInt Syntax.w8))
       3,
+) (List._∷_ (5, Rows'.any-gone (KOwn.spelled)) (List._∷_ (
+  6,
+  Rows'.any-gone (Syntax.tyInt Syntax.w64),
+) (List._∷_ (7, Rows'.any-gone (Syntax.tyInt Syntax.w8)) (List._∷_ (
+  8,
+  Rows'.any-gone (Syntax.tyInt Syntax.w64),
 ) (List._∷_ (
-  5,
-  Rows'.any-gone
-      (Syntax.tyStruct
-      (List._∷_
-      111
-      (List._∷_
-      119
-      (List._∷_
-      110
-      (List._∷_ 58 (List._∷_ 58 (List._∷_ 79 (List._∷_ 119 (List._∷_ 110 List.[]))))))))
-      (Syntax.tcons
-      (Syntax.tyArray (Syntax.tyInt Syntax.w8) 16)
-      (Syntax.tcons (Syntax.tyArray (Syntax.tyInt Syntax.w8) 16) Syntax.tnil))),
-) (List._∷_ (6, Rows'.any-gone (Syntax.tyInt Syntax.w64)) (List._∷_ (
-  7,
-  Rows'.any-gone (Syntax.tyInt Syntax.w8),
-) (List._∷_ (8, Rows'.any-gone (Syntax.tyInt Syntax.w64)) (List._∷_ (
   9,
   Rows'.sref
       (Array'.Array (Array'.Array (Referent.rtF (Referent.fInt Syntax.w8)) 16) 16)
@@ -1805,8 +1809,8 @@ t3 = List._∷_ (0, Rows'.whole (Declared.row Outcome.the-type)) (List._∷_ (
       (Syntax.tcons
       (Syntax.tyInt Syntax.w64)
       (Syntax.tcons Syntax.tyBool (Syntax.tcons (Syntax.tyInt Syntax.w64) Syntax.tnil))))),
-) (List._∷_ (
-  14,
+) (List._∷_ (14, Rows'.any-gone (KOwn.spelled)) (List._∷_ (
+  15,
   Rows'.any-gone
       (Syntax.tyStruct
       (List._∷_
@@ -1831,36 +1835,6 @@ t3 = List._∷_ (0, Rows'.whole (Declared.row Outcome.the-type)) (List._∷_ (
       (Syntax.tcons
       (Syntax.tyInt Syntax.w64)
       (Syntax.tcons (Syntax.tyInt Syntax.w64) Syntax.tnil)))),
-) (List._∷_ (
-  15,
-  Rows'.any-gone
-      (Syntax.tyStruct
-      (List._∷_
-      112
-      (List._∷_
-      108
-      (List._∷_
-      97
-      (List._∷_
-      99
-      (List._∷_
-      101
-      (List._∷_
-      58
-      (List._∷_
-      58
-      (List._∷_
-      82
-      (List._∷_
-      111
-      (List._∷_
-      117
-      (List._∷_
-      116
-      (List._∷_
-      101
-      (List._∷_ 80 (List._∷_ 108 (List._∷_ 97 (List._∷_ 99 (List._∷_ 101 List.[])))))))))))))))))
-      (Syntax.tcons Syntax.tyBool (Syntax.tcons (Syntax.tyInt Syntax.w64) Syntax.tnil))),
 ) List.[])))))))))))))))
 
 abbrev pub t4 : List.List Row.Entry
@@ -2096,12 +2070,10 @@ t4 = List._∷_ (
       (Syntax.tcons (Syntax.tyInt Syntax.w8) Syntax.tnil)))))),
 ) (List._∷_ (
   1,
-  Reshare.mslice-owedS
+  Mut.mslice
       (KInstanceRow.R)
       (Syntax.tyRef (Syntax.named 0) Syntax.mut (KInstanceRow.named))
-      0
-      8
-      Row.off,
+      0,
 ) (List._∷_ (
   2,
   Mut.mslice
@@ -2120,7 +2092,7 @@ t4 = List._∷_ (
       (Referent.rtF (Referent.fInt Syntax.w8))
       (Syntax.tyRef (Syntax.named 3) Syntax.mut (Syntax.tyInt Syntax.w8))
       3,
-) (List._∷_ (5, Rows'.whole (Declared.row Own.the-type)) (List._∷_ (
+) (List._∷_ (5, KOwn.row) (List._∷_ (
   6,
   Rows'.sc-here (Row.sInt Syntax.w64),
 ) (List._∷_ (7, Rows'.sc-here (Row.sInt Syntax.w8)) (List._∷_ (
@@ -2155,6 +2127,9 @@ t4 = List._∷_ (
       7,
 ) (List._∷_ (13, Rows'.whole (Declared.row Live.the-type)) (List._∷_ (
   14,
+  KOwn.row,
+) (List._∷_ (
+  15,
   Rows'.any-gone
       (Syntax.tyStruct
       (List._∷_
@@ -2179,6 +2154,299 @@ t4 = List._∷_ (
       (Syntax.tcons
       (Syntax.tyInt Syntax.w64)
       (Syntax.tcons (Syntax.tyInt Syntax.w64) Syntax.tnil)))),
+) List.[])))))))))))))))
+
+abbrev pub t5 : List.List Row.Entry
+t5 = List._∷_ (
+  0,
+  Rows'.any-gone
+      (Syntax.tyStruct
+      (List._∷_
+      102
+      (List._∷_
+      105
+      (List._∷_
+      110
+      (List._∷_
+      105
+      (List._∷_
+      115
+      (List._∷_
+      104
+      (List._∷_
+      58
+      (List._∷_
+      58
+      (List._∷_
+      79
+      (List._∷_
+      117
+      (List._∷_ 116 (List._∷_ 99 (List._∷_ 111 (List._∷_ 109 (List._∷_ 101 List.[])))))))))))))))
+      (Syntax.tcons
+      (Syntax.tyStruct
+      (List._∷_
+      102
+      (List._∷_
+      105
+      (List._∷_
+      110
+      (List._∷_
+      105
+      (List._∷_
+      115
+      (List._∷_
+      104
+      (List._∷_
+      58
+      (List._∷_ 58 (List._∷_ 83 (List._∷_ 101 (List._∷_ 110 (List._∷_ 116 List.[]))))))))))))
+      (Syntax.tcons
+      (Syntax.tyStruct
+      (List._∷_
+      97
+      (List._∷_
+      110
+      (List._∷_
+      115
+      (List._∷_
+      119
+      (List._∷_
+      101
+      (List._∷_
+      114
+      (List._∷_
+      58
+      (List._∷_
+      58
+      (List._∷_
+      68
+      (List._∷_
+      101
+      (List._∷_
+      115
+      (List._∷_
+      116
+      (List._∷_
+      105
+      (List._∷_
+      110
+      (List._∷_
+      97
+      (List._∷_ 116 (List._∷_ 105 (List._∷_ 111 (List._∷_ 110 List.[])))))))))))))))))))
+      (Syntax.tcons
+      (Syntax.tyArray (Syntax.tyInt Syntax.w8) 16)
+      (Syntax.tcons
+      (Syntax.tyEnum
+      (List._∷_
+      97
+      (List._∷_
+      110
+      (List._∷_
+      115
+      (List._∷_
+      119
+      (List._∷_
+      101
+      (List._∷_
+      114
+      (List._∷_ 58 (List._∷_ 58 (List._∷_ 87 (List._∷_ 97 (List._∷_ 121 List.[])))))))))))
+      (Syntax.ttcons
+      Syntax.tnil
+      (Syntax.ttcons
+      Syntax.tnil
+      (Syntax.ttcons Syntax.tnil (Syntax.ttcons Syntax.tnil Syntax.ttnil)))))
+      Syntax.tnil)))
+      (Syntax.tcons (Syntax.tyInt Syntax.w64) Syntax.tnil)))
+      (Syntax.tcons
+      (Syntax.tyInt Syntax.w64)
+      (Syntax.tcons
+      (Syntax.tyStruct
+      (List._∷_
+      102
+      (List._∷_
+      105
+      (List._∷_
+      110
+      (List._∷_
+      105
+      (List._∷_
+      115
+      (List._∷_
+      104
+      (List._∷_
+      58
+      (List._∷_ 58 (List._∷_ 83 (List._∷_ 101 (List._∷_ 110 (List._∷_ 116 List.[]))))))))))))
+      (Syntax.tcons
+      (Syntax.tyStruct
+      (List._∷_
+      97
+      (List._∷_
+      110
+      (List._∷_
+      115
+      (List._∷_
+      119
+      (List._∷_
+      101
+      (List._∷_
+      114
+      (List._∷_
+      58
+      (List._∷_
+      58
+      (List._∷_
+      68
+      (List._∷_
+      101
+      (List._∷_
+      115
+      (List._∷_
+      116
+      (List._∷_
+      105
+      (List._∷_
+      110
+      (List._∷_
+      97
+      (List._∷_ 116 (List._∷_ 105 (List._∷_ 111 (List._∷_ 110 List.[])))))))))))))))))))
+      (Syntax.tcons
+      (Syntax.tyArray (Syntax.tyInt Syntax.w8) 16)
+      (Syntax.tcons
+      (Syntax.tyEnum
+      (List._∷_
+      97
+      (List._∷_
+      110
+      (List._∷_
+      115
+      (List._∷_
+      119
+      (List._∷_
+      101
+      (List._∷_
+      114
+      (List._∷_ 58 (List._∷_ 58 (List._∷_ 87 (List._∷_ 97 (List._∷_ 121 List.[])))))))))))
+      (Syntax.ttcons
+      Syntax.tnil
+      (Syntax.ttcons
+      Syntax.tnil
+      (Syntax.ttcons Syntax.tnil (Syntax.ttcons Syntax.tnil Syntax.ttnil)))))
+      Syntax.tnil)))
+      (Syntax.tcons (Syntax.tyInt Syntax.w64) Syntax.tnil)))
+      (Syntax.tcons
+      (Syntax.tyEnum
+      (List._∷_
+      97
+      (List._∷_
+      110
+      (List._∷_
+      115
+      (List._∷_
+      119
+      (List._∷_
+      101
+      (List._∷_
+      114
+      (List._∷_
+      58
+      (List._∷_
+      58
+      (List._∷_
+      65
+      (List._∷_ 110 (List._∷_ 115 (List._∷_ 119 (List._∷_ 101 (List._∷_ 114 List.[]))))))))))))))
+      (Syntax.ttcons
+      Syntax.tnil
+      (Syntax.ttcons
+      Syntax.tnil
+      (Syntax.ttcons
+      Syntax.tnil
+      (Syntax.ttcons
+      Syntax.tnil
+      (Syntax.ttcons
+      Syntax.tnil
+      (Syntax.ttcons
+      Syntax.tnil
+      (Syntax.ttcons
+      Syntax.tnil
+      (Syntax.ttcons
+      Syntax.tnil
+      (Syntax.ttcons
+      Syntax.tnil
+      (Syntax.ttcons
+      Syntax.tnil
+      (Syntax.ttcons
+      Syntax.tnil
+      (Syntax.ttcons
+      Syntax.tnil
+      (Syntax.ttcons
+      Syntax.tnil
+      (Syntax.ttcons
+      Syntax.tnil
+      (Syntax.ttcons
+      Syntax.tnil
+      (Syntax.ttcons
+      Syntax.tnil
+      (Syntax.ttcons Syntax.tnil (Syntax.ttcons Syntax.tnil Syntax.ttnil)))))))))))))))))))
+      (Syntax.tcons (Syntax.tyInt Syntax.w8) Syntax.tnil)))))),
+) (List._∷_ (
+  1,
+  Mut.mslice
+      (KInstanceRow.R)
+      (Syntax.tyRef (Syntax.named 0) Syntax.mut (KInstanceRow.named))
+      0,
+) (List._∷_ (
+  2,
+  Mut.mslice
+      (KRouteRow.R)
+      (Syntax.tyRef (Syntax.named 1) Syntax.mut (KRouteRow.named))
+      1,
+) (List._∷_ (
+  3,
+  Mut.mslice
+      (Referent.rtF (Referent.fInt Syntax.w8))
+      (Syntax.tyRef (Syntax.named 2) Syntax.mut (Syntax.tyInt Syntax.w8))
+      2,
+) (List._∷_ (
+  4,
+  Mut.mslice
+      (Referent.rtF (Referent.fInt Syntax.w8))
+      (Syntax.tyRef (Syntax.named 3) Syntax.mut (Syntax.tyInt Syntax.w8))
+      3,
+) (List._∷_ (5, Rows'.any-gone (KOwn.spelled)) (List._∷_ (
+  6,
+  Rows'.sc-here (Row.sInt Syntax.w64),
+) (List._∷_ (7, Rows'.sc-here (Row.sInt Syntax.w8)) (List._∷_ (
+  8,
+  Rows'.sc-here (Row.sInt Syntax.w64),
+) (List._∷_ (
+  9,
+  Rows'.sref
+      (Array'.Array (Array'.Array (Referent.rtF (Referent.fInt Syntax.w8)) 16) 16)
+      (Syntax.tyRef
+      (Syntax.named 4)
+      Syntax.imm
+      (Syntax.tyArray (Syntax.tyArray (Syntax.tyInt Syntax.w8) 16) 16))
+      4,
+) (List._∷_ (
+  10,
+  Rows'.sref
+      (KDecided.R)
+      (Syntax.tyRef (Syntax.named 5) Syntax.imm (KDecided.named))
+      5,
+) (List._∷_ (
+  11,
+  Rows'.sref
+      (KPost.R)
+      (Syntax.tyRef (Syntax.named 6) Syntax.imm (KPost.named))
+      6,
+) (List._∷_ (
+  12,
+  Rows'.sref
+      (KPost.R)
+      (Syntax.tyRef (Syntax.named 7) Syntax.imm (KPost.named))
+      7,
+) (List._∷_ (13, Rows'.whole (Declared.row Live.the-type)) (List._∷_ (
+  14,
+  KOwn.row,
 ) (List._∷_ (
   15,
   Rows'.any-gone
@@ -2198,370 +2466,17 @@ t4 = List._∷_ (
       (List._∷_
       58
       (List._∷_
-      82
-      (List._∷_
-      111
-      (List._∷_
-      117
-      (List._∷_
-      116
-      (List._∷_
-      101
-      (List._∷_ 80 (List._∷_ 108 (List._∷_ 97 (List._∷_ 99 (List._∷_ 101 List.[])))))))))))))))))
-      (Syntax.tcons Syntax.tyBool (Syntax.tcons (Syntax.tyInt Syntax.w64) Syntax.tnil))),
+      80
+      (List._∷_ 108 (List._∷_ 97 (List._∷_ 99 (List._∷_ 101 (List._∷_ 115 List.[])))))))))))))
+      (Syntax.tcons
+      Syntax.tyBool
+      (Syntax.tcons
+      (Syntax.tyInt Syntax.w64)
+      (Syntax.tcons (Syntax.tyInt Syntax.w64) Syntax.tnil)))),
 ) List.[])))))))))))))))
 
-abbrev pub t5 : List.List Row.Entry
-t5 = List._∷_ (16, Rows'.any-gone (Syntax.tyInt Syntax.w64)) (List._∷_ (
-  17,
-  Rows'.any-gone (Syntax.tyInt Syntax.w64),
-) (List._∷_ (
-  18,
-  Relend.ssptr
-      (KInstanceRow.R)
-      (Syntax.tyRef Syntax.erased Syntax.imm (KInstanceRow.named))
-      8,
-) (List._∷_ (
-  19,
-  Rows'.any-gone
-      (Syntax.tyStruct
-      (List._∷_ 38 (List._∷_ 91 (List._∷_ 93 List.[])))
-      (Syntax.tcons
-      (Syntax.tyRef Syntax.erased Syntax.imm (KInstanceRow.named))
-      (Syntax.tcons (Syntax.tyInt Syntax.w64) Syntax.tnil))),
-) (List._∷_ (20, Rows'.any-gone Syntax.tyBool) (List._∷_ (
-  21,
-  Rows'.any-gone (KDecided.spelled),
-) (List._∷_ (
-  22,
-  Rows'.any-gone
-      (Syntax.tyRef Syntax.erased Syntax.imm (KRouteRow.named)),
-) (List._∷_ (
-  23,
-  Rows'.any-gone
-      (Syntax.tyStruct
-      (List._∷_ 38 (List._∷_ 91 (List._∷_ 93 List.[])))
-      (Syntax.tcons
-      (Syntax.tyRef Syntax.erased Syntax.imm (KRouteRow.named))
-      (Syntax.tcons (Syntax.tyInt Syntax.w64) Syntax.tnil))),
-)
-    (List._∷_
-    (24, Rows'.any-gone Syntax.tyBool)
-    (List._∷_ (25, Rows'.any-gone Syntax.tyUnit) (List._∷_ (
-      26,
-      Rows'.any-gone
-          (Syntax.tyRef Syntax.erased Syntax.mut (KInstanceRow.named)),
-    ) (List._∷_ (
-      27,
-      Rows'.any-gone
-          (Syntax.tyStruct
-          (List._∷_ 38 (List._∷_ 91 (List._∷_ 93 List.[])))
-          (Syntax.tcons
-          (Syntax.tyRef Syntax.erased Syntax.mut (KInstanceRow.named))
-          (Syntax.tcons (Syntax.tyInt Syntax.w64) Syntax.tnil))),
-    ) (List._∷_ (
-      28,
-      Rows'.any-gone
-          (Syntax.tyRef Syntax.erased Syntax.mut (KRouteRow.named)),
-    ) (List._∷_ (
-      29,
-      Rows'.any-gone
-          (Syntax.tyStruct
-          (List._∷_ 38 (List._∷_ 91 (List._∷_ 93 List.[])))
-          (Syntax.tcons
-          (Syntax.tyRef Syntax.erased Syntax.mut (KRouteRow.named))
-          (Syntax.tcons (Syntax.tyInt Syntax.w64) Syntax.tnil))),
-    ) (List._∷_ (
-      30,
-      Rows'.any-gone (Syntax.tyRef Syntax.erased Syntax.mut (Syntax.tyInt Syntax.w8)),
-    ) (List._∷_ (
-      31,
-      Rows'.any-gone
-          (Syntax.tyStruct
-          (List._∷_ 38 (List._∷_ 91 (List._∷_ 93 List.[])))
-          (Syntax.tcons
-          (Syntax.tyRef Syntax.erased Syntax.mut (Syntax.tyInt Syntax.w8))
-          (Syntax.tcons (Syntax.tyInt Syntax.w64) Syntax.tnil))),
-    ) List.[])))))))))))))))
-
 abbrev pub t6 : List.List Row.Entry
-t6 = List._∷_ (16, Rows'.any-gone (Syntax.tyInt Syntax.w64)) (List._∷_ (
-  17,
-  Rows'.any-gone (Syntax.tyInt Syntax.w64),
-) (List._∷_ (
-  18,
-  Rows'.any-gone
-      (Syntax.tyRef Syntax.erased Syntax.imm (KInstanceRow.named)),
-) (List._∷_ (
-  19,
-  Rows'.sslice
-      (KInstanceRow.R)
-      (Syntax.tyRef Syntax.erased Syntax.imm (KInstanceRow.named))
-      8,
-) (List._∷_ (20, Rows'.any-gone Syntax.tyBool) (List._∷_ (
-  21,
-  Rows'.any-gone (KDecided.spelled),
-) (List._∷_ (
-  22,
-  Rows'.any-gone
-      (Syntax.tyRef Syntax.erased Syntax.imm (KRouteRow.named)),
-) (List._∷_ (
-  23,
-  Rows'.any-gone
-      (Syntax.tyStruct
-      (List._∷_ 38 (List._∷_ 91 (List._∷_ 93 List.[])))
-      (Syntax.tcons
-      (Syntax.tyRef Syntax.erased Syntax.imm (KRouteRow.named))
-      (Syntax.tcons (Syntax.tyInt Syntax.w64) Syntax.tnil))),
-)
-    (List._∷_
-    (24, Rows'.any-gone Syntax.tyBool)
-    (List._∷_ (25, Rows'.any-gone Syntax.tyUnit) (List._∷_ (
-      26,
-      Rows'.any-gone
-          (Syntax.tyRef Syntax.erased Syntax.mut (KInstanceRow.named)),
-    ) (List._∷_ (
-      27,
-      Rows'.any-gone
-          (Syntax.tyStruct
-          (List._∷_ 38 (List._∷_ 91 (List._∷_ 93 List.[])))
-          (Syntax.tcons
-          (Syntax.tyRef Syntax.erased Syntax.mut (KInstanceRow.named))
-          (Syntax.tcons (Syntax.tyInt Syntax.w64) Syntax.tnil))),
-    ) (List._∷_ (
-      28,
-      Rows'.any-gone
-          (Syntax.tyRef Syntax.erased Syntax.mut (KRouteRow.named)),
-    ) (List._∷_ (
-      29,
-      Rows'.any-gone
-          (Syntax.tyStruct
-          (List._∷_ 38 (List._∷_ 91 (List._∷_ 93 List.[])))
-          (Syntax.tcons
-          (Syntax.tyRef Syntax.erased Syntax.mut (KRouteRow.named))
-          (Syntax.tcons (Syntax.tyInt Syntax.w64) Syntax.tnil))),
-    ) (List._∷_ (
-      30,
-      Rows'.any-gone (Syntax.tyRef Syntax.erased Syntax.mut (Syntax.tyInt Syntax.w8)),
-    ) (List._∷_ (
-      31,
-      Rows'.any-gone
-          (Syntax.tyStruct
-          (List._∷_ 38 (List._∷_ 91 (List._∷_ 93 List.[])))
-          (Syntax.tcons
-          (Syntax.tyRef Syntax.erased Syntax.mut (Syntax.tyInt Syntax.w8))
-          (Syntax.tcons (Syntax.tyInt Syntax.w64) Syntax.tnil))),
-    ) List.[])))))))))))))))
-
-abbrev pub t7 : List.List Row.Entry
-t7 = List._∷_ (16, Rows'.any-gone (Syntax.tyInt Syntax.w64)) (List._∷_ (
-  17,
-  Rows'.any-gone (Syntax.tyInt Syntax.w64),
-) (List._∷_ (
-  18,
-  Rows'.any-gone
-      (Syntax.tyRef Syntax.erased Syntax.imm (KInstanceRow.named)),
-) (List._∷_ (
-  19,
-  Rows'.sslice
-      (KInstanceRow.R)
-      (Syntax.tyRef Syntax.erased Syntax.imm (KInstanceRow.named))
-      8,
-) (List._∷_ (20, Rows'.any-gone Syntax.tyBool) (List._∷_ (
-  21,
-  KDecided.row,
-) (List._∷_ (
-  22,
-  Rows'.any-gone
-      (Syntax.tyRef Syntax.erased Syntax.imm (KRouteRow.named)),
-) (List._∷_ (
-  23,
-  Rows'.any-gone
-      (Syntax.tyStruct
-      (List._∷_ 38 (List._∷_ 91 (List._∷_ 93 List.[])))
-      (Syntax.tcons
-      (Syntax.tyRef Syntax.erased Syntax.imm (KRouteRow.named))
-      (Syntax.tcons (Syntax.tyInt Syntax.w64) Syntax.tnil))),
-)
-    (List._∷_
-    (24, Rows'.any-gone Syntax.tyBool)
-    (List._∷_ (25, Rows'.any-gone Syntax.tyUnit) (List._∷_ (
-      26,
-      Rows'.any-gone
-          (Syntax.tyRef Syntax.erased Syntax.mut (KInstanceRow.named)),
-    ) (List._∷_ (
-      27,
-      Rows'.any-gone
-          (Syntax.tyStruct
-          (List._∷_ 38 (List._∷_ 91 (List._∷_ 93 List.[])))
-          (Syntax.tcons
-          (Syntax.tyRef Syntax.erased Syntax.mut (KInstanceRow.named))
-          (Syntax.tcons (Syntax.tyInt Syntax.w64) Syntax.tnil))),
-    ) (List._∷_ (
-      28,
-      Rows'.any-gone
-          (Syntax.tyRef Syntax.erased Syntax.mut (KRouteRow.named)),
-    ) (List._∷_ (
-      29,
-      Rows'.any-gone
-          (Syntax.tyStruct
-          (List._∷_ 38 (List._∷_ 91 (List._∷_ 93 List.[])))
-          (Syntax.tcons
-          (Syntax.tyRef Syntax.erased Syntax.mut (KRouteRow.named))
-          (Syntax.tcons (Syntax.tyInt Syntax.w64) Syntax.tnil))),
-    ) (List._∷_ (
-      30,
-      Rows'.any-gone (Syntax.tyRef Syntax.erased Syntax.mut (Syntax.tyInt Syntax.w8)),
-    ) (List._∷_ (
-      31,
-      Rows'.any-gone
-          (Syntax.tyStruct
-          (List._∷_ 38 (List._∷_ 91 (List._∷_ 93 List.[])))
-          (Syntax.tcons
-          (Syntax.tyRef Syntax.erased Syntax.mut (Syntax.tyInt Syntax.w8))
-          (Syntax.tcons (Syntax.tyInt Syntax.w64) Syntax.tnil))),
-    ) List.[])))))))))))))))
-
-abbrev pub t8 : List.List Row.Entry
-t8 = List._∷_ (16, Rows'.any-gone (Syntax.tyInt Syntax.w64)) (List._∷_ (
-  17,
-  Rows'.any-gone (Syntax.tyInt Syntax.w64),
-) (List._∷_ (
-  18,
-  Rows'.any-gone
-      (Syntax.tyRef Syntax.erased Syntax.imm (KInstanceRow.named)),
-) (List._∷_ (
-  19,
-  Rows'.sslice
-      (KInstanceRow.R)
-      (Syntax.tyRef Syntax.erased Syntax.imm (KInstanceRow.named))
-      8,
-) (List._∷_ (20, Rows'.sc-here Row.sBool) (List._∷_ (
-  21,
-  KDecided.row,
-) (List._∷_ (
-  22,
-  Rows'.any-gone
-      (Syntax.tyRef Syntax.erased Syntax.imm (KRouteRow.named)),
-) (List._∷_ (
-  23,
-  Rows'.any-gone
-      (Syntax.tyStruct
-      (List._∷_ 38 (List._∷_ 91 (List._∷_ 93 List.[])))
-      (Syntax.tcons
-      (Syntax.tyRef Syntax.erased Syntax.imm (KRouteRow.named))
-      (Syntax.tcons (Syntax.tyInt Syntax.w64) Syntax.tnil))),
-)
-    (List._∷_
-    (24, Rows'.any-gone Syntax.tyBool)
-    (List._∷_ (25, Rows'.any-gone Syntax.tyUnit) (List._∷_ (
-      26,
-      Rows'.any-gone
-          (Syntax.tyRef Syntax.erased Syntax.mut (KInstanceRow.named)),
-    ) (List._∷_ (
-      27,
-      Rows'.any-gone
-          (Syntax.tyStruct
-          (List._∷_ 38 (List._∷_ 91 (List._∷_ 93 List.[])))
-          (Syntax.tcons
-          (Syntax.tyRef Syntax.erased Syntax.mut (KInstanceRow.named))
-          (Syntax.tcons (Syntax.tyInt Syntax.w64) Syntax.tnil))),
-    ) (List._∷_ (
-      28,
-      Rows'.any-gone
-          (Syntax.tyRef Syntax.erased Syntax.mut (KRouteRow.named)),
-    ) (List._∷_ (
-      29,
-      Rows'.any-gone
-          (Syntax.tyStruct
-          (List._∷_ 38 (List._∷_ 91 (List._∷_ 93 List.[])))
-          (Syntax.tcons
-          (Syntax.tyRef Syntax.erased Syntax.mut (KRouteRow.named))
-          (Syntax.tcons (Syntax.tyInt Syntax.w64) Syntax.tnil))),
-    ) (List._∷_ (
-      30,
-      Rows'.any-gone (Syntax.tyRef Syntax.erased Syntax.mut (Syntax.tyInt Syntax.w8)),
-    ) (List._∷_ (
-      31,
-      Rows'.any-gone
-          (Syntax.tyStruct
-          (List._∷_ 38 (List._∷_ 91 (List._∷_ 93 List.[])))
-          (Syntax.tcons
-          (Syntax.tyRef Syntax.erased Syntax.mut (Syntax.tyInt Syntax.w8))
-          (Syntax.tcons (Syntax.tyInt Syntax.w64) Syntax.tnil))),
-    ) List.[])))))))))))))))
-
-abbrev pub t9 : List.List Row.Entry
-t9 = List._∷_ (16, Rows'.any-gone (Syntax.tyInt Syntax.w64)) (List._∷_ (
-  17,
-  Rows'.any-gone (Syntax.tyInt Syntax.w64),
-) (List._∷_ (
-  18,
-  Rows'.any-gone
-      (Syntax.tyRef Syntax.erased Syntax.imm (KInstanceRow.named)),
-) (List._∷_ (
-  19,
-  Rows'.sslice
-      (KInstanceRow.R)
-      (Syntax.tyRef Syntax.erased Syntax.imm (KInstanceRow.named))
-      8,
-) (List._∷_ (20, Rows'.sc-here Row.sBool) (List._∷_ (
-  21,
-  Rows'.any-gone (KDecided.spelled),
-) (List._∷_ (
-  22,
-  Rows'.any-gone
-      (Syntax.tyRef Syntax.erased Syntax.imm (KRouteRow.named)),
-) (List._∷_ (
-  23,
-  Rows'.any-gone
-      (Syntax.tyStruct
-      (List._∷_ 38 (List._∷_ 91 (List._∷_ 93 List.[])))
-      (Syntax.tcons
-      (Syntax.tyRef Syntax.erased Syntax.imm (KRouteRow.named))
-      (Syntax.tcons (Syntax.tyInt Syntax.w64) Syntax.tnil))),
-)
-    (List._∷_
-    (24, Rows'.any-gone Syntax.tyBool)
-    (List._∷_ (25, Rows'.any-gone Syntax.tyUnit) (List._∷_ (
-      26,
-      Rows'.any-gone
-          (Syntax.tyRef Syntax.erased Syntax.mut (KInstanceRow.named)),
-    ) (List._∷_ (
-      27,
-      Rows'.any-gone
-          (Syntax.tyStruct
-          (List._∷_ 38 (List._∷_ 91 (List._∷_ 93 List.[])))
-          (Syntax.tcons
-          (Syntax.tyRef Syntax.erased Syntax.mut (KInstanceRow.named))
-          (Syntax.tcons (Syntax.tyInt Syntax.w64) Syntax.tnil))),
-    ) (List._∷_ (
-      28,
-      Rows'.any-gone
-          (Syntax.tyRef Syntax.erased Syntax.mut (KRouteRow.named)),
-    ) (List._∷_ (
-      29,
-      Rows'.any-gone
-          (Syntax.tyStruct
-          (List._∷_ 38 (List._∷_ 91 (List._∷_ 93 List.[])))
-          (Syntax.tcons
-          (Syntax.tyRef Syntax.erased Syntax.mut (KRouteRow.named))
-          (Syntax.tcons (Syntax.tyInt Syntax.w64) Syntax.tnil))),
-    ) (List._∷_ (
-      30,
-      Rows'.any-gone (Syntax.tyRef Syntax.erased Syntax.mut (Syntax.tyInt Syntax.w8)),
-    ) (List._∷_ (
-      31,
-      Rows'.any-gone
-          (Syntax.tyStruct
-          (List._∷_ 38 (List._∷_ 91 (List._∷_ 93 List.[])))
-          (Syntax.tcons
-          (Syntax.tyRef Syntax.erased Syntax.mut (Syntax.tyInt Syntax.w8))
-          (Syntax.tcons (Syntax.tyInt Syntax.w64) Syntax.tnil))),
-    ) List.[])))))))))))))))
-
-abbrev pub t10 : List.List Row.Entry
-t10 = List._∷_ (
+t6 = List._∷_ (
   0,
   Rows'.any-gone
       (Syntax.tyStruct
@@ -2817,7 +2732,7 @@ t10 = List._∷_ (
       (Referent.rtF (Referent.fInt Syntax.w8))
       (Syntax.tyRef (Syntax.named 3) Syntax.mut (Syntax.tyInt Syntax.w8))
       3,
-) (List._∷_ (5, Rows'.whole (Declared.row Own.the-type)) (List._∷_ (
+) (List._∷_ (5, Rows'.any-gone (KOwn.spelled)) (List._∷_ (
   6,
   Rows'.sc-here (Row.sInt Syntax.w64),
 ) (List._∷_ (7, Rows'.sc-here (Row.sInt Syntax.w8)) (List._∷_ (
@@ -2852,9 +2767,38 @@ t10 = List._∷_ (
       7,
 ) (List._∷_ (13, Rows'.whole (Declared.row Live.the-type)) (List._∷_ (
   14,
-  Rows'.whole (Declared.row Places.the-type),
+  KOwn.row,
 ) (List._∷_ (
   15,
+  Rows'.any-gone
+      (Syntax.tyStruct
+      (List._∷_
+      112
+      (List._∷_
+      108
+      (List._∷_
+      97
+      (List._∷_
+      99
+      (List._∷_
+      101
+      (List._∷_
+      58
+      (List._∷_
+      58
+      (List._∷_
+      80
+      (List._∷_ 108 (List._∷_ 97 (List._∷_ 99 (List._∷_ 101 (List._∷_ 115 List.[])))))))))))))
+      (Syntax.tcons
+      Syntax.tyBool
+      (Syntax.tcons
+      (Syntax.tyInt Syntax.w64)
+      (Syntax.tcons (Syntax.tyInt Syntax.w64) Syntax.tnil)))),
+) List.[])))))))))))))))
+
+abbrev pub t7 : List.List Row.Entry
+t7 = List._∷_ (
+  16,
   Rows'.any-gone
       (Syntax.tyStruct
       (List._∷_
@@ -2883,33 +2827,32 @@ t10 = List._∷_ (
       101
       (List._∷_ 80 (List._∷_ 108 (List._∷_ 97 (List._∷_ 99 (List._∷_ 101 List.[])))))))))))))))))
       (Syntax.tcons Syntax.tyBool (Syntax.tcons (Syntax.tyInt Syntax.w64) Syntax.tnil))),
-) List.[])))))))))))))))
-
-abbrev pub t11 : List.List Row.Entry
-t11 = List._∷_ (16, Rows'.any-gone (Syntax.tyInt Syntax.w64)) (List._∷_ (
-  17,
+) (List._∷_ (17, Rows'.any-gone (Syntax.tyInt Syntax.w64)) (List._∷_ (
+  18,
   Rows'.any-gone (Syntax.tyInt Syntax.w64),
 ) (List._∷_ (
-  18,
-  Rows'.any-gone
-      (Syntax.tyRef Syntax.erased Syntax.imm (KInstanceRow.named)),
-) (List._∷_ (
   19,
+  Relend.ssptr
+      (KInstanceRow.R)
+      (Syntax.tyRef Syntax.erased Syntax.imm (KInstanceRow.named))
+      8,
+) (List._∷_ (
+  20,
   Rows'.any-gone
       (Syntax.tyStruct
       (List._∷_ 38 (List._∷_ 91 (List._∷_ 93 List.[])))
       (Syntax.tcons
       (Syntax.tyRef Syntax.erased Syntax.imm (KInstanceRow.named))
       (Syntax.tcons (Syntax.tyInt Syntax.w64) Syntax.tnil))),
-) (List._∷_ (20, Rows'.sc-here Row.sBool) (List._∷_ (
-  21,
+) (List._∷_ (21, Rows'.any-gone Syntax.tyBool) (List._∷_ (
+  22,
   Rows'.any-gone (KDecided.spelled),
 ) (List._∷_ (
-  22,
+  23,
   Rows'.any-gone
       (Syntax.tyRef Syntax.erased Syntax.imm (KRouteRow.named)),
 ) (List._∷_ (
-  23,
+  24,
   Rows'.any-gone
       (Syntax.tyStruct
       (List._∷_ 38 (List._∷_ 91 (List._∷_ 93 List.[])))
@@ -2918,13 +2861,13 @@ t11 = List._∷_ (16, Rows'.any-gone (Syntax.tyInt Syntax.w64)) (List._∷_ (
       (Syntax.tcons (Syntax.tyInt Syntax.w64) Syntax.tnil))),
 )
     (List._∷_
-    (24, Rows'.any-gone Syntax.tyBool)
-    (List._∷_ (25, Rows'.any-gone Syntax.tyUnit) (List._∷_ (
-      26,
+    (25, Rows'.any-gone Syntax.tyBool)
+    (List._∷_ (26, Rows'.any-gone Syntax.tyUnit) (List._∷_ (
+      27,
       Rows'.any-gone
           (Syntax.tyRef Syntax.erased Syntax.mut (KInstanceRow.named)),
     ) (List._∷_ (
-      27,
+      28,
       Rows'.any-gone
           (Syntax.tyStruct
           (List._∷_ 38 (List._∷_ 91 (List._∷_ 93 List.[])))
@@ -2932,11 +2875,11 @@ t11 = List._∷_ (16, Rows'.any-gone (Syntax.tyInt Syntax.w64)) (List._∷_ (
           (Syntax.tyRef Syntax.erased Syntax.mut (KInstanceRow.named))
           (Syntax.tcons (Syntax.tyInt Syntax.w64) Syntax.tnil))),
     ) (List._∷_ (
-      28,
+      29,
       Rows'.any-gone
           (Syntax.tyRef Syntax.erased Syntax.mut (KRouteRow.named)),
     ) (List._∷_ (
-      29,
+      30,
       Rows'.any-gone
           (Syntax.tyStruct
           (List._∷_ 38 (List._∷_ 91 (List._∷_ 93 List.[])))
@@ -2944,16 +2887,372 @@ t11 = List._∷_ (16, Rows'.any-gone (Syntax.tyInt Syntax.w64)) (List._∷_ (
           (Syntax.tyRef Syntax.erased Syntax.mut (KRouteRow.named))
           (Syntax.tcons (Syntax.tyInt Syntax.w64) Syntax.tnil))),
     ) (List._∷_ (
-      30,
-      Rows'.any-gone (Syntax.tyRef Syntax.erased Syntax.mut (Syntax.tyInt Syntax.w8)),
-    ) (List._∷_ (
       31,
+      Rows'.any-gone (Syntax.tyRef Syntax.erased Syntax.mut (Syntax.tyInt Syntax.w8)),
+    ) List.[])))))))))))))))
+
+abbrev pub t8 : List.List Row.Entry
+t8 = List._∷_ (
+  16,
+  Rows'.any-gone
+      (Syntax.tyStruct
+      (List._∷_
+      112
+      (List._∷_
+      108
+      (List._∷_
+      97
+      (List._∷_
+      99
+      (List._∷_
+      101
+      (List._∷_
+      58
+      (List._∷_
+      58
+      (List._∷_
+      82
+      (List._∷_
+      111
+      (List._∷_
+      117
+      (List._∷_
+      116
+      (List._∷_
+      101
+      (List._∷_ 80 (List._∷_ 108 (List._∷_ 97 (List._∷_ 99 (List._∷_ 101 List.[])))))))))))))))))
+      (Syntax.tcons Syntax.tyBool (Syntax.tcons (Syntax.tyInt Syntax.w64) Syntax.tnil))),
+) (List._∷_ (17, Rows'.any-gone (Syntax.tyInt Syntax.w64)) (List._∷_ (
+  18,
+  Rows'.any-gone (Syntax.tyInt Syntax.w64),
+) (List._∷_ (
+  19,
+  Rows'.any-gone
+      (Syntax.tyRef Syntax.erased Syntax.imm (KInstanceRow.named)),
+) (List._∷_ (
+  20,
+  Rows'.sslice
+      (KInstanceRow.R)
+      (Syntax.tyRef Syntax.erased Syntax.imm (KInstanceRow.named))
+      8,
+) (List._∷_ (21, Rows'.any-gone Syntax.tyBool) (List._∷_ (
+  22,
+  Rows'.any-gone (KDecided.spelled),
+) (List._∷_ (
+  23,
+  Rows'.any-gone
+      (Syntax.tyRef Syntax.erased Syntax.imm (KRouteRow.named)),
+) (List._∷_ (
+  24,
+  Rows'.any-gone
+      (Syntax.tyStruct
+      (List._∷_ 38 (List._∷_ 91 (List._∷_ 93 List.[])))
+      (Syntax.tcons
+      (Syntax.tyRef Syntax.erased Syntax.imm (KRouteRow.named))
+      (Syntax.tcons (Syntax.tyInt Syntax.w64) Syntax.tnil))),
+)
+    (List._∷_
+    (25, Rows'.any-gone Syntax.tyBool)
+    (List._∷_ (26, Rows'.any-gone Syntax.tyUnit) (List._∷_ (
+      27,
+      Rows'.any-gone
+          (Syntax.tyRef Syntax.erased Syntax.mut (KInstanceRow.named)),
+    ) (List._∷_ (
+      28,
       Rows'.any-gone
           (Syntax.tyStruct
           (List._∷_ 38 (List._∷_ 91 (List._∷_ 93 List.[])))
           (Syntax.tcons
-          (Syntax.tyRef Syntax.erased Syntax.mut (Syntax.tyInt Syntax.w8))
+          (Syntax.tyRef Syntax.erased Syntax.mut (KInstanceRow.named))
           (Syntax.tcons (Syntax.tyInt Syntax.w64) Syntax.tnil))),
+    ) (List._∷_ (
+      29,
+      Rows'.any-gone
+          (Syntax.tyRef Syntax.erased Syntax.mut (KRouteRow.named)),
+    ) (List._∷_ (
+      30,
+      Rows'.any-gone
+          (Syntax.tyStruct
+          (List._∷_ 38 (List._∷_ 91 (List._∷_ 93 List.[])))
+          (Syntax.tcons
+          (Syntax.tyRef Syntax.erased Syntax.mut (KRouteRow.named))
+          (Syntax.tcons (Syntax.tyInt Syntax.w64) Syntax.tnil))),
+    ) (List._∷_ (
+      31,
+      Rows'.any-gone (Syntax.tyRef Syntax.erased Syntax.mut (Syntax.tyInt Syntax.w8)),
+    ) List.[])))))))))))))))
+
+abbrev pub t9 : List.List Row.Entry
+t9 = List._∷_ (
+  16,
+  Rows'.any-gone
+      (Syntax.tyStruct
+      (List._∷_
+      112
+      (List._∷_
+      108
+      (List._∷_
+      97
+      (List._∷_
+      99
+      (List._∷_
+      101
+      (List._∷_
+      58
+      (List._∷_
+      58
+      (List._∷_
+      82
+      (List._∷_
+      111
+      (List._∷_
+      117
+      (List._∷_
+      116
+      (List._∷_
+      101
+      (List._∷_ 80 (List._∷_ 108 (List._∷_ 97 (List._∷_ 99 (List._∷_ 101 List.[])))))))))))))))))
+      (Syntax.tcons Syntax.tyBool (Syntax.tcons (Syntax.tyInt Syntax.w64) Syntax.tnil))),
+) (List._∷_ (17, Rows'.any-gone (Syntax.tyInt Syntax.w64)) (List._∷_ (
+  18,
+  Rows'.any-gone (Syntax.tyInt Syntax.w64),
+) (List._∷_ (
+  19,
+  Rows'.any-gone
+      (Syntax.tyRef Syntax.erased Syntax.imm (KInstanceRow.named)),
+) (List._∷_ (
+  20,
+  Rows'.sslice
+      (KInstanceRow.R)
+      (Syntax.tyRef Syntax.erased Syntax.imm (KInstanceRow.named))
+      8,
+) (List._∷_ (21, Rows'.any-gone Syntax.tyBool) (List._∷_ (
+  22,
+  KDecided.row,
+) (List._∷_ (
+  23,
+  Rows'.any-gone
+      (Syntax.tyRef Syntax.erased Syntax.imm (KRouteRow.named)),
+) (List._∷_ (
+  24,
+  Rows'.any-gone
+      (Syntax.tyStruct
+      (List._∷_ 38 (List._∷_ 91 (List._∷_ 93 List.[])))
+      (Syntax.tcons
+      (Syntax.tyRef Syntax.erased Syntax.imm (KRouteRow.named))
+      (Syntax.tcons (Syntax.tyInt Syntax.w64) Syntax.tnil))),
+)
+    (List._∷_
+    (25, Rows'.any-gone Syntax.tyBool)
+    (List._∷_ (26, Rows'.any-gone Syntax.tyUnit) (List._∷_ (
+      27,
+      Rows'.any-gone
+          (Syntax.tyRef Syntax.erased Syntax.mut (KInstanceRow.named)),
+    ) (List._∷_ (
+      28,
+      Rows'.any-gone
+          (Syntax.tyStruct
+          (List._∷_ 38 (List._∷_ 91 (List._∷_ 93 List.[])))
+          (Syntax.tcons
+          (Syntax.tyRef Syntax.erased Syntax.mut (KInstanceRow.named))
+          (Syntax.tcons (Syntax.tyInt Syntax.w64) Syntax.tnil))),
+    ) (List._∷_ (
+      29,
+      Rows'.any-gone
+          (Syntax.tyRef Syntax.erased Syntax.mut (KRouteRow.named)),
+    ) (List._∷_ (
+      30,
+      Rows'.any-gone
+          (Syntax.tyStruct
+          (List._∷_ 38 (List._∷_ 91 (List._∷_ 93 List.[])))
+          (Syntax.tcons
+          (Syntax.tyRef Syntax.erased Syntax.mut (KRouteRow.named))
+          (Syntax.tcons (Syntax.tyInt Syntax.w64) Syntax.tnil))),
+    ) (List._∷_ (
+      31,
+      Rows'.any-gone (Syntax.tyRef Syntax.erased Syntax.mut (Syntax.tyInt Syntax.w8)),
+    ) List.[])))))))))))))))
+
+abbrev pub t10 : List.List Row.Entry
+t10 = List._∷_ (
+  16,
+  Rows'.any-gone
+      (Syntax.tyStruct
+      (List._∷_
+      112
+      (List._∷_
+      108
+      (List._∷_
+      97
+      (List._∷_
+      99
+      (List._∷_
+      101
+      (List._∷_
+      58
+      (List._∷_
+      58
+      (List._∷_
+      82
+      (List._∷_
+      111
+      (List._∷_
+      117
+      (List._∷_
+      116
+      (List._∷_
+      101
+      (List._∷_ 80 (List._∷_ 108 (List._∷_ 97 (List._∷_ 99 (List._∷_ 101 List.[])))))))))))))))))
+      (Syntax.tcons Syntax.tyBool (Syntax.tcons (Syntax.tyInt Syntax.w64) Syntax.tnil))),
+) (List._∷_ (17, Rows'.any-gone (Syntax.tyInt Syntax.w64)) (List._∷_ (
+  18,
+  Rows'.any-gone (Syntax.tyInt Syntax.w64),
+) (List._∷_ (
+  19,
+  Rows'.any-gone
+      (Syntax.tyRef Syntax.erased Syntax.imm (KInstanceRow.named)),
+) (List._∷_ (
+  20,
+  Rows'.sslice
+      (KInstanceRow.R)
+      (Syntax.tyRef Syntax.erased Syntax.imm (KInstanceRow.named))
+      8,
+) (List._∷_ (21, Rows'.sc-here Row.sBool) (List._∷_ (
+  22,
+  KDecided.row,
+) (List._∷_ (
+  23,
+  Rows'.any-gone
+      (Syntax.tyRef Syntax.erased Syntax.imm (KRouteRow.named)),
+) (List._∷_ (
+  24,
+  Rows'.any-gone
+      (Syntax.tyStruct
+      (List._∷_ 38 (List._∷_ 91 (List._∷_ 93 List.[])))
+      (Syntax.tcons
+      (Syntax.tyRef Syntax.erased Syntax.imm (KRouteRow.named))
+      (Syntax.tcons (Syntax.tyInt Syntax.w64) Syntax.tnil))),
+)
+    (List._∷_
+    (25, Rows'.any-gone Syntax.tyBool)
+    (List._∷_ (26, Rows'.any-gone Syntax.tyUnit) (List._∷_ (
+      27,
+      Rows'.any-gone
+          (Syntax.tyRef Syntax.erased Syntax.mut (KInstanceRow.named)),
+    ) (List._∷_ (
+      28,
+      Rows'.any-gone
+          (Syntax.tyStruct
+          (List._∷_ 38 (List._∷_ 91 (List._∷_ 93 List.[])))
+          (Syntax.tcons
+          (Syntax.tyRef Syntax.erased Syntax.mut (KInstanceRow.named))
+          (Syntax.tcons (Syntax.tyInt Syntax.w64) Syntax.tnil))),
+    ) (List._∷_ (
+      29,
+      Rows'.any-gone
+          (Syntax.tyRef Syntax.erased Syntax.mut (KRouteRow.named)),
+    ) (List._∷_ (
+      30,
+      Rows'.any-gone
+          (Syntax.tyStruct
+          (List._∷_ 38 (List._∷_ 91 (List._∷_ 93 List.[])))
+          (Syntax.tcons
+          (Syntax.tyRef Syntax.erased Syntax.mut (KRouteRow.named))
+          (Syntax.tcons (Syntax.tyInt Syntax.w64) Syntax.tnil))),
+    ) (List._∷_ (
+      31,
+      Rows'.any-gone (Syntax.tyRef Syntax.erased Syntax.mut (Syntax.tyInt Syntax.w8)),
+    ) List.[])))))))))))))))
+
+abbrev pub t11 : List.List Row.Entry
+t11 = List._∷_ (
+  16,
+  Rows'.any-gone
+      (Syntax.tyStruct
+      (List._∷_
+      112
+      (List._∷_
+      108
+      (List._∷_
+      97
+      (List._∷_
+      99
+      (List._∷_
+      101
+      (List._∷_
+      58
+      (List._∷_
+      58
+      (List._∷_
+      82
+      (List._∷_
+      111
+      (List._∷_
+      117
+      (List._∷_
+      116
+      (List._∷_
+      101
+      (List._∷_ 80 (List._∷_ 108 (List._∷_ 97 (List._∷_ 99 (List._∷_ 101 List.[])))))))))))))))))
+      (Syntax.tcons Syntax.tyBool (Syntax.tcons (Syntax.tyInt Syntax.w64) Syntax.tnil))),
+) (List._∷_ (17, Rows'.any-gone (Syntax.tyInt Syntax.w64)) (List._∷_ (
+  18,
+  Rows'.any-gone (Syntax.tyInt Syntax.w64),
+) (List._∷_ (
+  19,
+  Rows'.any-gone
+      (Syntax.tyRef Syntax.erased Syntax.imm (KInstanceRow.named)),
+) (List._∷_ (
+  20,
+  Rows'.sslice
+      (KInstanceRow.R)
+      (Syntax.tyRef Syntax.erased Syntax.imm (KInstanceRow.named))
+      8,
+) (List._∷_ (21, Rows'.sc-here Row.sBool) (List._∷_ (
+  22,
+  Rows'.any-gone (KDecided.spelled),
+) (List._∷_ (
+  23,
+  Rows'.any-gone
+      (Syntax.tyRef Syntax.erased Syntax.imm (KRouteRow.named)),
+) (List._∷_ (
+  24,
+  Rows'.any-gone
+      (Syntax.tyStruct
+      (List._∷_ 38 (List._∷_ 91 (List._∷_ 93 List.[])))
+      (Syntax.tcons
+      (Syntax.tyRef Syntax.erased Syntax.imm (KRouteRow.named))
+      (Syntax.tcons (Syntax.tyInt Syntax.w64) Syntax.tnil))),
+)
+    (List._∷_
+    (25, Rows'.any-gone Syntax.tyBool)
+    (List._∷_ (26, Rows'.any-gone Syntax.tyUnit) (List._∷_ (
+      27,
+      Rows'.any-gone
+          (Syntax.tyRef Syntax.erased Syntax.mut (KInstanceRow.named)),
+    ) (List._∷_ (
+      28,
+      Rows'.any-gone
+          (Syntax.tyStruct
+          (List._∷_ 38 (List._∷_ 91 (List._∷_ 93 List.[])))
+          (Syntax.tcons
+          (Syntax.tyRef Syntax.erased Syntax.mut (KInstanceRow.named))
+          (Syntax.tcons (Syntax.tyInt Syntax.w64) Syntax.tnil))),
+    ) (List._∷_ (
+      29,
+      Rows'.any-gone
+          (Syntax.tyRef Syntax.erased Syntax.mut (KRouteRow.named)),
+    ) (List._∷_ (
+      30,
+      Rows'.any-gone
+          (Syntax.tyStruct
+          (List._∷_ 38 (List._∷_ 91 (List._∷_ 93 List.[])))
+          (Syntax.tcons
+          (Syntax.tyRef Syntax.erased Syntax.mut (KRouteRow.named))
+          (Syntax.tcons (Syntax.tyInt Syntax.w64) Syntax.tnil))),
+    ) (List._∷_ (
+      31,
+      Rows'.any-gone (Syntax.tyRef Syntax.erased Syntax.mut (Syntax.tyInt Syntax.w8)),
     ) List.[])))))))))))))))
 
 abbrev pub t12 : List.List Row.Entry
@@ -3189,10 +3488,12 @@ t12 = List._∷_ (
       (Syntax.tcons (Syntax.tyInt Syntax.w8) Syntax.tnil)))))),
 ) (List._∷_ (
   1,
-  Mut.mslice
+  Reshare.mslice-owedS
       (KInstanceRow.R)
       (Syntax.tyRef (Syntax.named 0) Syntax.mut (KInstanceRow.named))
-      0,
+      0
+      8
+      Row.off,
 ) (List._∷_ (
   2,
   Mut.mslice
@@ -3211,7 +3512,7 @@ t12 = List._∷_ (
       (Referent.rtF (Referent.fInt Syntax.w8))
       (Syntax.tyRef (Syntax.named 3) Syntax.mut (Syntax.tyInt Syntax.w8))
       3,
-) (List._∷_ (5, Rows'.whole (Declared.row Own.the-type)) (List._∷_ (
+) (List._∷_ (5, Rows'.any-gone (KOwn.spelled)) (List._∷_ (
   6,
   Rows'.sc-here (Row.sInt Syntax.w64),
 ) (List._∷_ (7, Rows'.sc-here (Row.sInt Syntax.w8)) (List._∷_ (
@@ -3246,9 +3547,12 @@ t12 = List._∷_ (
       7,
 ) (List._∷_ (13, Rows'.whole (Declared.row Live.the-type)) (List._∷_ (
   14,
-  Rows'.whole (Declared.row Places.the-type),
-) (List._∷_ (
-  15,
+  KOwn.row,
+) (List._∷_ (15, Rows'.whole (Declared.row Places.the-type)) List.[])))))))))))))))
+
+abbrev pub t13 : List.List Row.Entry
+t13 = List._∷_ (
+  16,
   Rows'.any-gone
       (Syntax.tyStruct
       (List._∷_
@@ -3277,10 +3581,363 @@ t12 = List._∷_ (
       101
       (List._∷_ 80 (List._∷_ 108 (List._∷_ 97 (List._∷_ 99 (List._∷_ 101 List.[])))))))))))))))))
       (Syntax.tcons Syntax.tyBool (Syntax.tcons (Syntax.tyInt Syntax.w64) Syntax.tnil))),
-) List.[])))))))))))))))
+) (List._∷_ (17, Rows'.any-gone (Syntax.tyInt Syntax.w64)) (List._∷_ (
+  18,
+  Rows'.any-gone (Syntax.tyInt Syntax.w64),
+) (List._∷_ (
+  19,
+  Rows'.any-gone
+      (Syntax.tyRef Syntax.erased Syntax.imm (KInstanceRow.named)),
+) (List._∷_ (
+  20,
+  Rows'.any-gone
+      (Syntax.tyStruct
+      (List._∷_ 38 (List._∷_ 91 (List._∷_ 93 List.[])))
+      (Syntax.tcons
+      (Syntax.tyRef Syntax.erased Syntax.imm (KInstanceRow.named))
+      (Syntax.tcons (Syntax.tyInt Syntax.w64) Syntax.tnil))),
+) (List._∷_ (21, Rows'.sc-here Row.sBool) (List._∷_ (
+  22,
+  Rows'.any-gone (KDecided.spelled),
+) (List._∷_ (
+  23,
+  Rows'.any-gone
+      (Syntax.tyRef Syntax.erased Syntax.imm (KRouteRow.named)),
+) (List._∷_ (
+  24,
+  Rows'.any-gone
+      (Syntax.tyStruct
+      (List._∷_ 38 (List._∷_ 91 (List._∷_ 93 List.[])))
+      (Syntax.tcons
+      (Syntax.tyRef Syntax.erased Syntax.imm (KRouteRow.named))
+      (Syntax.tcons (Syntax.tyInt Syntax.w64) Syntax.tnil))),
+)
+    (List._∷_
+    (25, Rows'.any-gone Syntax.tyBool)
+    (List._∷_ (26, Rows'.any-gone Syntax.tyUnit) (List._∷_ (
+      27,
+      Rows'.any-gone
+          (Syntax.tyRef Syntax.erased Syntax.mut (KInstanceRow.named)),
+    ) (List._∷_ (
+      28,
+      Rows'.any-gone
+          (Syntax.tyStruct
+          (List._∷_ 38 (List._∷_ 91 (List._∷_ 93 List.[])))
+          (Syntax.tcons
+          (Syntax.tyRef Syntax.erased Syntax.mut (KInstanceRow.named))
+          (Syntax.tcons (Syntax.tyInt Syntax.w64) Syntax.tnil))),
+    ) (List._∷_ (
+      29,
+      Rows'.any-gone
+          (Syntax.tyRef Syntax.erased Syntax.mut (KRouteRow.named)),
+    ) (List._∷_ (
+      30,
+      Rows'.any-gone
+          (Syntax.tyStruct
+          (List._∷_ 38 (List._∷_ 91 (List._∷_ 93 List.[])))
+          (Syntax.tcons
+          (Syntax.tyRef Syntax.erased Syntax.mut (KRouteRow.named))
+          (Syntax.tcons (Syntax.tyInt Syntax.w64) Syntax.tnil))),
+    ) (List._∷_ (
+      31,
+      Rows'.any-gone (Syntax.tyRef Syntax.erased Syntax.mut (Syntax.tyInt Syntax.w8)),
+    ) List.[])))))))))))))))
 
-abbrev pub t13 : List.List Row.Entry
-t13 = List._∷_ (
+abbrev pub t14 : List.List Row.Entry
+t14 = List._∷_ (
+  0,
+  Rows'.any-gone
+      (Syntax.tyStruct
+      (List._∷_
+      102
+      (List._∷_
+      105
+      (List._∷_
+      110
+      (List._∷_
+      105
+      (List._∷_
+      115
+      (List._∷_
+      104
+      (List._∷_
+      58
+      (List._∷_
+      58
+      (List._∷_
+      79
+      (List._∷_
+      117
+      (List._∷_ 116 (List._∷_ 99 (List._∷_ 111 (List._∷_ 109 (List._∷_ 101 List.[])))))))))))))))
+      (Syntax.tcons
+      (Syntax.tyStruct
+      (List._∷_
+      102
+      (List._∷_
+      105
+      (List._∷_
+      110
+      (List._∷_
+      105
+      (List._∷_
+      115
+      (List._∷_
+      104
+      (List._∷_
+      58
+      (List._∷_ 58 (List._∷_ 83 (List._∷_ 101 (List._∷_ 110 (List._∷_ 116 List.[]))))))))))))
+      (Syntax.tcons
+      (Syntax.tyStruct
+      (List._∷_
+      97
+      (List._∷_
+      110
+      (List._∷_
+      115
+      (List._∷_
+      119
+      (List._∷_
+      101
+      (List._∷_
+      114
+      (List._∷_
+      58
+      (List._∷_
+      58
+      (List._∷_
+      68
+      (List._∷_
+      101
+      (List._∷_
+      115
+      (List._∷_
+      116
+      (List._∷_
+      105
+      (List._∷_
+      110
+      (List._∷_
+      97
+      (List._∷_ 116 (List._∷_ 105 (List._∷_ 111 (List._∷_ 110 List.[])))))))))))))))))))
+      (Syntax.tcons
+      (Syntax.tyArray (Syntax.tyInt Syntax.w8) 16)
+      (Syntax.tcons
+      (Syntax.tyEnum
+      (List._∷_
+      97
+      (List._∷_
+      110
+      (List._∷_
+      115
+      (List._∷_
+      119
+      (List._∷_
+      101
+      (List._∷_
+      114
+      (List._∷_ 58 (List._∷_ 58 (List._∷_ 87 (List._∷_ 97 (List._∷_ 121 List.[])))))))))))
+      (Syntax.ttcons
+      Syntax.tnil
+      (Syntax.ttcons
+      Syntax.tnil
+      (Syntax.ttcons Syntax.tnil (Syntax.ttcons Syntax.tnil Syntax.ttnil)))))
+      Syntax.tnil)))
+      (Syntax.tcons (Syntax.tyInt Syntax.w64) Syntax.tnil)))
+      (Syntax.tcons
+      (Syntax.tyInt Syntax.w64)
+      (Syntax.tcons
+      (Syntax.tyStruct
+      (List._∷_
+      102
+      (List._∷_
+      105
+      (List._∷_
+      110
+      (List._∷_
+      105
+      (List._∷_
+      115
+      (List._∷_
+      104
+      (List._∷_
+      58
+      (List._∷_ 58 (List._∷_ 83 (List._∷_ 101 (List._∷_ 110 (List._∷_ 116 List.[]))))))))))))
+      (Syntax.tcons
+      (Syntax.tyStruct
+      (List._∷_
+      97
+      (List._∷_
+      110
+      (List._∷_
+      115
+      (List._∷_
+      119
+      (List._∷_
+      101
+      (List._∷_
+      114
+      (List._∷_
+      58
+      (List._∷_
+      58
+      (List._∷_
+      68
+      (List._∷_
+      101
+      (List._∷_
+      115
+      (List._∷_
+      116
+      (List._∷_
+      105
+      (List._∷_
+      110
+      (List._∷_
+      97
+      (List._∷_ 116 (List._∷_ 105 (List._∷_ 111 (List._∷_ 110 List.[])))))))))))))))))))
+      (Syntax.tcons
+      (Syntax.tyArray (Syntax.tyInt Syntax.w8) 16)
+      (Syntax.tcons
+      (Syntax.tyEnum
+      (List._∷_
+      97
+      (List._∷_
+      110
+      (List._∷_
+      115
+      (List._∷_
+      119
+      (List._∷_
+      101
+      (List._∷_
+      114
+      (List._∷_ 58 (List._∷_ 58 (List._∷_ 87 (List._∷_ 97 (List._∷_ 121 List.[])))))))))))
+      (Syntax.ttcons
+      Syntax.tnil
+      (Syntax.ttcons
+      Syntax.tnil
+      (Syntax.ttcons Syntax.tnil (Syntax.ttcons Syntax.tnil Syntax.ttnil)))))
+      Syntax.tnil)))
+      (Syntax.tcons (Syntax.tyInt Syntax.w64) Syntax.tnil)))
+      (Syntax.tcons
+      (Syntax.tyEnum
+      (List._∷_
+      97
+      (List._∷_
+      110
+      (List._∷_
+      115
+      (List._∷_
+      119
+      (List._∷_
+      101
+      (List._∷_
+      114
+      (List._∷_
+      58
+      (List._∷_
+      58
+      (List._∷_
+      65
+      (List._∷_ 110 (List._∷_ 115 (List._∷_ 119 (List._∷_ 101 (List._∷_ 114 List.[]))))))))))))))
+      (Syntax.ttcons
+      Syntax.tnil
+      (Syntax.ttcons
+      Syntax.tnil
+      (Syntax.ttcons
+      Syntax.tnil
+      (Syntax.ttcons
+      Syntax.tnil
+      (Syntax.ttcons
+      Syntax.tnil
+      (Syntax.ttcons
+      Syntax.tnil
+      (Syntax.ttcons
+      Syntax.tnil
+      (Syntax.ttcons
+      Syntax.tnil
+      (Syntax.ttcons
+      Syntax.tnil
+      (Syntax.ttcons
+      Syntax.tnil
+      (Syntax.ttcons
+      Syntax.tnil
+      (Syntax.ttcons
+      Syntax.tnil
+      (Syntax.ttcons
+      Syntax.tnil
+      (Syntax.ttcons
+      Syntax.tnil
+      (Syntax.ttcons
+      Syntax.tnil
+      (Syntax.ttcons
+      Syntax.tnil
+      (Syntax.ttcons Syntax.tnil (Syntax.ttcons Syntax.tnil Syntax.ttnil)))))))))))))))))))
+      (Syntax.tcons (Syntax.tyInt Syntax.w8) Syntax.tnil)))))),
+) (List._∷_ (
+  1,
+  Mut.mslice
+      (KInstanceRow.R)
+      (Syntax.tyRef (Syntax.named 0) Syntax.mut (KInstanceRow.named))
+      0,
+) (List._∷_ (
+  2,
+  Mut.mslice
+      (KRouteRow.R)
+      (Syntax.tyRef (Syntax.named 1) Syntax.mut (KRouteRow.named))
+      1,
+) (List._∷_ (
+  3,
+  Mut.mslice
+      (Referent.rtF (Referent.fInt Syntax.w8))
+      (Syntax.tyRef (Syntax.named 2) Syntax.mut (Syntax.tyInt Syntax.w8))
+      2,
+) (List._∷_ (
+  4,
+  Mut.mslice
+      (Referent.rtF (Referent.fInt Syntax.w8))
+      (Syntax.tyRef (Syntax.named 3) Syntax.mut (Syntax.tyInt Syntax.w8))
+      3,
+) (List._∷_ (5, Rows'.any-gone (KOwn.spelled)) (List._∷_ (
+  6,
+  Rows'.sc-here (Row.sInt Syntax.w64),
+) (List._∷_ (7, Rows'.sc-here (Row.sInt Syntax.w8)) (List._∷_ (
+  8,
+  Rows'.sc-here (Row.sInt Syntax.w64),
+) (List._∷_ (
+  9,
+  Rows'.sref
+      (Array'.Array (Array'.Array (Referent.rtF (Referent.fInt Syntax.w8)) 16) 16)
+      (Syntax.tyRef
+      (Syntax.named 4)
+      Syntax.imm
+      (Syntax.tyArray (Syntax.tyArray (Syntax.tyInt Syntax.w8) 16) 16))
+      4,
+) (List._∷_ (
+  10,
+  Rows'.sref
+      (KDecided.R)
+      (Syntax.tyRef (Syntax.named 5) Syntax.imm (KDecided.named))
+      5,
+) (List._∷_ (
+  11,
+  Rows'.sref
+      (KPost.R)
+      (Syntax.tyRef (Syntax.named 6) Syntax.imm (KPost.named))
+      6,
+) (List._∷_ (
+  12,
+  Rows'.sref
+      (KPost.R)
+      (Syntax.tyRef (Syntax.named 7) Syntax.imm (KPost.named))
+      7,
+) (List._∷_ (13, Rows'.whole (Declared.row Live.the-type)) (List._∷_ (
+  14,
+  KOwn.row,
+) (List._∷_ (15, Rows'.whole (Declared.row Places.the-type)) List.[])))))))))))))))
+
+abbrev pub t15 : List.List Row.Entry
+t15 = List._∷_ (
   0,
   Rows'.any-gone
       (Syntax.tyStruct
@@ -3536,7 +4193,7 @@ t13 = List._∷_ (
       (Referent.rtF (Referent.fInt Syntax.w8))
       (Syntax.tyRef (Syntax.named 3) Syntax.mut (Syntax.tyInt Syntax.w8))
       3,
-) (List._∷_ (5, Rows'.whole (Declared.row Own.the-type)) (List._∷_ (
+) (List._∷_ (5, Rows'.any-gone (KOwn.spelled)) (List._∷_ (
   6,
   Rows'.sc-here (Row.sInt Syntax.w64),
 ) (List._∷_ (7, Rows'.sc-here (Row.sInt Syntax.w8)) (List._∷_ (
@@ -3571,9 +4228,12 @@ t13 = List._∷_ (
       7,
 ) (List._∷_ (13, Rows'.whole (Declared.row Live.the-type)) (List._∷_ (
   14,
-  Rows'.whole (Declared.row Places.the-type),
-) (List._∷_ (
-  15,
+  KOwn.row,
+) (List._∷_ (15, Rows'.whole (Declared.row Places.the-type)) List.[])))))))))))))))
+
+abbrev pub t16 : List.List Row.Entry
+t16 = List._∷_ (
+  16,
   Rows'.any-gone
       (Syntax.tyStruct
       (List._∷_
@@ -3602,35 +4262,32 @@ t13 = List._∷_ (
       101
       (List._∷_ 80 (List._∷_ 108 (List._∷_ 97 (List._∷_ 99 (List._∷_ 101 List.[])))))))))))))))))
       (Syntax.tcons Syntax.tyBool (Syntax.tcons (Syntax.tyInt Syntax.w64) Syntax.tnil))),
-) List.[])))))))))))))))
-
-abbrev pub t14 : List.List Row.Entry
-t14 = List._∷_ (16, Rows'.any-gone (Syntax.tyInt Syntax.w64)) (List._∷_ (
-  17,
+) (List._∷_ (17, Rows'.any-gone (Syntax.tyInt Syntax.w64)) (List._∷_ (
+  18,
   Rows'.any-gone (Syntax.tyInt Syntax.w64),
 ) (List._∷_ (
-  18,
+  19,
   Rows'.any-gone
       (Syntax.tyRef Syntax.erased Syntax.imm (KInstanceRow.named)),
 ) (List._∷_ (
-  19,
+  20,
   Rows'.any-gone
       (Syntax.tyStruct
       (List._∷_ 38 (List._∷_ 91 (List._∷_ 93 List.[])))
       (Syntax.tcons
       (Syntax.tyRef Syntax.erased Syntax.imm (KInstanceRow.named))
       (Syntax.tcons (Syntax.tyInt Syntax.w64) Syntax.tnil))),
-) (List._∷_ (20, Rows'.any-gone Syntax.tyBool) (List._∷_ (
-  21,
+) (List._∷_ (21, Rows'.any-gone Syntax.tyBool) (List._∷_ (
+  22,
   Rows'.any-gone (KDecided.spelled),
 ) (List._∷_ (
-  22,
+  23,
   Relend.ssptr
       (KRouteRow.R)
       (Syntax.tyRef Syntax.erased Syntax.imm (KRouteRow.named))
       9,
 ) (List._∷_ (
-  23,
+  24,
   Rows'.any-gone
       (Syntax.tyStruct
       (List._∷_ 38 (List._∷_ 91 (List._∷_ 93 List.[])))
@@ -3639,13 +4296,13 @@ t14 = List._∷_ (16, Rows'.any-gone (Syntax.tyInt Syntax.w64)) (List._∷_ (
       (Syntax.tcons (Syntax.tyInt Syntax.w64) Syntax.tnil))),
 )
     (List._∷_
-    (24, Rows'.any-gone Syntax.tyBool)
-    (List._∷_ (25, Rows'.any-gone Syntax.tyUnit) (List._∷_ (
-      26,
+    (25, Rows'.any-gone Syntax.tyBool)
+    (List._∷_ (26, Rows'.any-gone Syntax.tyUnit) (List._∷_ (
+      27,
       Rows'.any-gone
           (Syntax.tyRef Syntax.erased Syntax.mut (KInstanceRow.named)),
     ) (List._∷_ (
-      27,
+      28,
       Rows'.any-gone
           (Syntax.tyStruct
           (List._∷_ 38 (List._∷_ 91 (List._∷_ 93 List.[])))
@@ -3653,11 +4310,11 @@ t14 = List._∷_ (16, Rows'.any-gone (Syntax.tyInt Syntax.w64)) (List._∷_ (
           (Syntax.tyRef Syntax.erased Syntax.mut (KInstanceRow.named))
           (Syntax.tcons (Syntax.tyInt Syntax.w64) Syntax.tnil))),
     ) (List._∷_ (
-      28,
+      29,
       Rows'.any-gone
           (Syntax.tyRef Syntax.erased Syntax.mut (KRouteRow.named)),
     ) (List._∷_ (
-      29,
+      30,
       Rows'.any-gone
           (Syntax.tyStruct
           (List._∷_ 38 (List._∷_ 91 (List._∷_ 93 List.[])))
@@ -3665,194 +4322,78 @@ t14 = List._∷_ (16, Rows'.any-gone (Syntax.tyInt Syntax.w64)) (List._∷_ (
           (Syntax.tyRef Syntax.erased Syntax.mut (KRouteRow.named))
           (Syntax.tcons (Syntax.tyInt Syntax.w64) Syntax.tnil))),
     ) (List._∷_ (
-      30,
-      Rows'.any-gone (Syntax.tyRef Syntax.erased Syntax.mut (Syntax.tyInt Syntax.w8)),
-    ) (List._∷_ (
       31,
-      Rows'.any-gone
-          (Syntax.tyStruct
-          (List._∷_ 38 (List._∷_ 91 (List._∷_ 93 List.[])))
-          (Syntax.tcons
-          (Syntax.tyRef Syntax.erased Syntax.mut (Syntax.tyInt Syntax.w8))
-          (Syntax.tcons (Syntax.tyInt Syntax.w64) Syntax.tnil))),
-    ) List.[])))))))))))))))
-
-abbrev pub t15 : List.List Row.Entry
-t15 = List._∷_ (16, Rows'.any-gone (Syntax.tyInt Syntax.w64)) (List._∷_ (
-  17,
-  Rows'.any-gone (Syntax.tyInt Syntax.w64),
-) (List._∷_ (
-  18,
-  Rows'.any-gone
-      (Syntax.tyRef Syntax.erased Syntax.imm (KInstanceRow.named)),
-) (List._∷_ (
-  19,
-  Rows'.any-gone
-      (Syntax.tyStruct
-      (List._∷_ 38 (List._∷_ 91 (List._∷_ 93 List.[])))
-      (Syntax.tcons
-      (Syntax.tyRef Syntax.erased Syntax.imm (KInstanceRow.named))
-      (Syntax.tcons (Syntax.tyInt Syntax.w64) Syntax.tnil))),
-) (List._∷_ (20, Rows'.any-gone Syntax.tyBool) (List._∷_ (
-  21,
-  Rows'.any-gone (KDecided.spelled),
-) (List._∷_ (
-  22,
-  Rows'.any-gone
-      (Syntax.tyRef Syntax.erased Syntax.imm (KRouteRow.named)),
-) (List._∷_ (
-  23,
-  Rows'.sslice
-      (KRouteRow.R)
-      (Syntax.tyRef Syntax.erased Syntax.imm (KRouteRow.named))
-      9,
-)
-    (List._∷_
-    (24, Rows'.any-gone Syntax.tyBool)
-    (List._∷_ (25, Rows'.any-gone Syntax.tyUnit) (List._∷_ (
-      26,
-      Rows'.any-gone
-          (Syntax.tyRef Syntax.erased Syntax.mut (KInstanceRow.named)),
-    ) (List._∷_ (
-      27,
-      Rows'.any-gone
-          (Syntax.tyStruct
-          (List._∷_ 38 (List._∷_ 91 (List._∷_ 93 List.[])))
-          (Syntax.tcons
-          (Syntax.tyRef Syntax.erased Syntax.mut (KInstanceRow.named))
-          (Syntax.tcons (Syntax.tyInt Syntax.w64) Syntax.tnil))),
-    ) (List._∷_ (
-      28,
-      Rows'.any-gone
-          (Syntax.tyRef Syntax.erased Syntax.mut (KRouteRow.named)),
-    ) (List._∷_ (
-      29,
-      Rows'.any-gone
-          (Syntax.tyStruct
-          (List._∷_ 38 (List._∷_ 91 (List._∷_ 93 List.[])))
-          (Syntax.tcons
-          (Syntax.tyRef Syntax.erased Syntax.mut (KRouteRow.named))
-          (Syntax.tcons (Syntax.tyInt Syntax.w64) Syntax.tnil))),
-    ) (List._∷_ (
-      30,
       Rows'.any-gone (Syntax.tyRef Syntax.erased Syntax.mut (Syntax.tyInt Syntax.w8)),
-    ) (List._∷_ (
-      31,
-      Rows'.any-gone
-          (Syntax.tyStruct
-          (List._∷_ 38 (List._∷_ 91 (List._∷_ 93 List.[])))
-          (Syntax.tcons
-          (Syntax.tyRef Syntax.erased Syntax.mut (Syntax.tyInt Syntax.w8))
-          (Syntax.tcons (Syntax.tyInt Syntax.w64) Syntax.tnil))),
-    ) List.[])))))))))))))))
-
-abbrev pub t16 : List.List Row.Entry
-t16 = List._∷_ (16, Rows'.any-gone (Syntax.tyInt Syntax.w64)) (List._∷_ (
-  17,
-  Rows'.any-gone (Syntax.tyInt Syntax.w64),
-) (List._∷_ (
-  18,
-  Rows'.any-gone
-      (Syntax.tyRef Syntax.erased Syntax.imm (KInstanceRow.named)),
-) (List._∷_ (
-  19,
-  Rows'.any-gone
-      (Syntax.tyStruct
-      (List._∷_ 38 (List._∷_ 91 (List._∷_ 93 List.[])))
-      (Syntax.tcons
-      (Syntax.tyRef Syntax.erased Syntax.imm (KInstanceRow.named))
-      (Syntax.tcons (Syntax.tyInt Syntax.w64) Syntax.tnil))),
-) (List._∷_ (20, Rows'.any-gone Syntax.tyBool) (List._∷_ (
-  21,
-  KDecided.row,
-) (List._∷_ (
-  22,
-  Rows'.any-gone
-      (Syntax.tyRef Syntax.erased Syntax.imm (KRouteRow.named)),
-) (List._∷_ (
-  23,
-  Rows'.sslice
-      (KRouteRow.R)
-      (Syntax.tyRef Syntax.erased Syntax.imm (KRouteRow.named))
-      9,
-)
-    (List._∷_
-    (24, Rows'.any-gone Syntax.tyBool)
-    (List._∷_ (25, Rows'.any-gone Syntax.tyUnit) (List._∷_ (
-      26,
-      Rows'.any-gone
-          (Syntax.tyRef Syntax.erased Syntax.mut (KInstanceRow.named)),
-    ) (List._∷_ (
-      27,
-      Rows'.any-gone
-          (Syntax.tyStruct
-          (List._∷_ 38 (List._∷_ 91 (List._∷_ 93 List.[])))
-          (Syntax.tcons
-          (Syntax.tyRef Syntax.erased Syntax.mut (KInstanceRow.named))
-          (Syntax.tcons (Syntax.tyInt Syntax.w64) Syntax.tnil))),
-    ) (List._∷_ (
-      28,
-      Rows'.any-gone
-          (Syntax.tyRef Syntax.erased Syntax.mut (KRouteRow.named)),
-    ) (List._∷_ (
-      29,
-      Rows'.any-gone
-          (Syntax.tyStruct
-          (List._∷_ 38 (List._∷_ 91 (List._∷_ 93 List.[])))
-          (Syntax.tcons
-          (Syntax.tyRef Syntax.erased Syntax.mut (KRouteRow.named))
-          (Syntax.tcons (Syntax.tyInt Syntax.w64) Syntax.tnil))),
-    ) (List._∷_ (
-      30,
-      Rows'.any-gone (Syntax.tyRef Syntax.erased Syntax.mut (Syntax.tyInt Syntax.w8)),
-    ) (List._∷_ (
-      31,
-      Rows'.any-gone
-          (Syntax.tyStruct
-          (List._∷_ 38 (List._∷_ 91 (List._∷_ 93 List.[])))
-          (Syntax.tcons
-          (Syntax.tyRef Syntax.erased Syntax.mut (Syntax.tyInt Syntax.w8))
-          (Syntax.tcons (Syntax.tyInt Syntax.w64) Syntax.tnil))),
     ) List.[])))))))))))))))
 
 abbrev pub t17 : List.List Row.Entry
-t17 = List._∷_ (16, Rows'.any-gone (Syntax.tyInt Syntax.w64)) (List._∷_ (
-  17,
+t17 = List._∷_ (
+  16,
+  Rows'.any-gone
+      (Syntax.tyStruct
+      (List._∷_
+      112
+      (List._∷_
+      108
+      (List._∷_
+      97
+      (List._∷_
+      99
+      (List._∷_
+      101
+      (List._∷_
+      58
+      (List._∷_
+      58
+      (List._∷_
+      82
+      (List._∷_
+      111
+      (List._∷_
+      117
+      (List._∷_
+      116
+      (List._∷_
+      101
+      (List._∷_ 80 (List._∷_ 108 (List._∷_ 97 (List._∷_ 99 (List._∷_ 101 List.[])))))))))))))))))
+      (Syntax.tcons Syntax.tyBool (Syntax.tcons (Syntax.tyInt Syntax.w64) Syntax.tnil))),
+) (List._∷_ (17, Rows'.any-gone (Syntax.tyInt Syntax.w64)) (List._∷_ (
+  18,
   Rows'.any-gone (Syntax.tyInt Syntax.w64),
 ) (List._∷_ (
-  18,
+  19,
   Rows'.any-gone
       (Syntax.tyRef Syntax.erased Syntax.imm (KInstanceRow.named)),
 ) (List._∷_ (
-  19,
+  20,
   Rows'.any-gone
       (Syntax.tyStruct
       (List._∷_ 38 (List._∷_ 91 (List._∷_ 93 List.[])))
       (Syntax.tcons
       (Syntax.tyRef Syntax.erased Syntax.imm (KInstanceRow.named))
       (Syntax.tcons (Syntax.tyInt Syntax.w64) Syntax.tnil))),
-) (List._∷_ (20, Rows'.sc-here Row.sBool) (List._∷_ (
-  21,
-  KDecided.row,
-) (List._∷_ (
+) (List._∷_ (21, Rows'.any-gone Syntax.tyBool) (List._∷_ (
   22,
+  Rows'.any-gone (KDecided.spelled),
+) (List._∷_ (
+  23,
   Rows'.any-gone
       (Syntax.tyRef Syntax.erased Syntax.imm (KRouteRow.named)),
 ) (List._∷_ (
-  23,
+  24,
   Rows'.sslice
       (KRouteRow.R)
       (Syntax.tyRef Syntax.erased Syntax.imm (KRouteRow.named))
       9,
 )
     (List._∷_
-    (24, Rows'.any-gone Syntax.tyBool)
-    (List._∷_ (25, Rows'.any-gone Syntax.tyUnit) (List._∷_ (
-      26,
+    (25, Rows'.any-gone Syntax.tyBool)
+    (List._∷_ (26, Rows'.any-gone Syntax.tyUnit) (List._∷_ (
+      27,
       Rows'.any-gone
           (Syntax.tyRef Syntax.erased Syntax.mut (KInstanceRow.named)),
     ) (List._∷_ (
-      27,
+      28,
       Rows'.any-gone
           (Syntax.tyStruct
           (List._∷_ 38 (List._∷_ 91 (List._∷_ 93 List.[])))
@@ -3860,11 +4401,11 @@ t17 = List._∷_ (16, Rows'.any-gone (Syntax.tyInt Syntax.w64)) (List._∷_ (
           (Syntax.tyRef Syntax.erased Syntax.mut (KInstanceRow.named))
           (Syntax.tcons (Syntax.tyInt Syntax.w64) Syntax.tnil))),
     ) (List._∷_ (
-      28,
+      29,
       Rows'.any-gone
           (Syntax.tyRef Syntax.erased Syntax.mut (KRouteRow.named)),
     ) (List._∷_ (
-      29,
+      30,
       Rows'.any-gone
           (Syntax.tyStruct
           (List._∷_ 38 (List._∷_ 91 (List._∷_ 93 List.[])))
@@ -3872,56 +4413,78 @@ t17 = List._∷_ (16, Rows'.any-gone (Syntax.tyInt Syntax.w64)) (List._∷_ (
           (Syntax.tyRef Syntax.erased Syntax.mut (KRouteRow.named))
           (Syntax.tcons (Syntax.tyInt Syntax.w64) Syntax.tnil))),
     ) (List._∷_ (
-      30,
-      Rows'.any-gone (Syntax.tyRef Syntax.erased Syntax.mut (Syntax.tyInt Syntax.w8)),
-    ) (List._∷_ (
       31,
-      Rows'.any-gone
-          (Syntax.tyStruct
-          (List._∷_ 38 (List._∷_ 91 (List._∷_ 93 List.[])))
-          (Syntax.tcons
-          (Syntax.tyRef Syntax.erased Syntax.mut (Syntax.tyInt Syntax.w8))
-          (Syntax.tcons (Syntax.tyInt Syntax.w64) Syntax.tnil))),
+      Rows'.any-gone (Syntax.tyRef Syntax.erased Syntax.mut (Syntax.tyInt Syntax.w8)),
     ) List.[])))))))))))))))
 
 abbrev pub t18 : List.List Row.Entry
-t18 = List._∷_ (16, Rows'.any-gone (Syntax.tyInt Syntax.w64)) (List._∷_ (
-  17,
+t18 = List._∷_ (
+  16,
+  Rows'.any-gone
+      (Syntax.tyStruct
+      (List._∷_
+      112
+      (List._∷_
+      108
+      (List._∷_
+      97
+      (List._∷_
+      99
+      (List._∷_
+      101
+      (List._∷_
+      58
+      (List._∷_
+      58
+      (List._∷_
+      82
+      (List._∷_
+      111
+      (List._∷_
+      117
+      (List._∷_
+      116
+      (List._∷_
+      101
+      (List._∷_ 80 (List._∷_ 108 (List._∷_ 97 (List._∷_ 99 (List._∷_ 101 List.[])))))))))))))))))
+      (Syntax.tcons Syntax.tyBool (Syntax.tcons (Syntax.tyInt Syntax.w64) Syntax.tnil))),
+) (List._∷_ (17, Rows'.any-gone (Syntax.tyInt Syntax.w64)) (List._∷_ (
+  18,
   Rows'.any-gone (Syntax.tyInt Syntax.w64),
 ) (List._∷_ (
-  18,
+  19,
   Rows'.any-gone
       (Syntax.tyRef Syntax.erased Syntax.imm (KInstanceRow.named)),
 ) (List._∷_ (
-  19,
+  20,
   Rows'.any-gone
       (Syntax.tyStruct
       (List._∷_ 38 (List._∷_ 91 (List._∷_ 93 List.[])))
       (Syntax.tcons
       (Syntax.tyRef Syntax.erased Syntax.imm (KInstanceRow.named))
       (Syntax.tcons (Syntax.tyInt Syntax.w64) Syntax.tnil))),
-) (List._∷_ (20, Rows'.sc-here Row.sBool) (List._∷_ (
-  21,
-  Rows'.any-gone (KDecided.spelled),
-) (List._∷_ (
+) (List._∷_ (21, Rows'.any-gone Syntax.tyBool) (List._∷_ (
   22,
+  KDecided.row,
+) (List._∷_ (
+  23,
   Rows'.any-gone
       (Syntax.tyRef Syntax.erased Syntax.imm (KRouteRow.named)),
 ) (List._∷_ (
-  23,
+  24,
   Rows'.sslice
       (KRouteRow.R)
       (Syntax.tyRef Syntax.erased Syntax.imm (KRouteRow.named))
       9,
 )
     (List._∷_
-    (24, Rows'.any-gone Syntax.tyBool)
-    (List._∷_ (25, Rows'.any-gone Syntax.tyUnit) (List._∷_ (
-      26,
+    (25, Rows'.any-gone Syntax.tyBool)
+    (List._∷_ (26, Rows'.any-gone Syntax.tyUnit) (List._∷_ (
+      27,
       Rows'.any-gone
           (Syntax.tyRef Syntax.erased Syntax.mut (KInstanceRow.named)),
     ) (List._∷_ (
-      27,
+      28,
       Rows'.any-gone
           (Syntax.tyStruct
           (List._∷_ 38 (List._∷_ 91 (List._∷_ 93 List.[])))
@@ -3929,11 +4492,11 @@ t18 = List._∷_ (16, Rows'.any-gone (Syntax.tyInt Syntax.w64)) (List._∷_ (
           (Syntax.tyRef Syntax.erased Syntax.mut (KInstanceRow.named))
           (Syntax.tcons (Syntax.tyInt Syntax.w64) Syntax.tnil))),
     ) (List._∷_ (
-      28,
+      29,
       Rows'.any-gone
           (Syntax.tyRef Syntax.erased Syntax.mut (KRouteRow.named)),
     ) (List._∷_ (
-      29,
+      30,
       Rows'.any-gone
           (Syntax.tyStruct
           (List._∷_ 38 (List._∷_ 91 (List._∷_ 93 List.[])))
@@ -3941,1016 +4504,314 @@ t18 = List._∷_ (16, Rows'.any-gone (Syntax.tyInt Syntax.w64)) (List._∷_ (
           (Syntax.tyRef Syntax.erased Syntax.mut (KRouteRow.named))
           (Syntax.tcons (Syntax.tyInt Syntax.w64) Syntax.tnil))),
     ) (List._∷_ (
-      30,
-      Rows'.any-gone (Syntax.tyRef Syntax.erased Syntax.mut (Syntax.tyInt Syntax.w8)),
-    ) (List._∷_ (
       31,
-      Rows'.any-gone
-          (Syntax.tyStruct
-          (List._∷_ 38 (List._∷_ 91 (List._∷_ 93 List.[])))
-          (Syntax.tcons
-          (Syntax.tyRef Syntax.erased Syntax.mut (Syntax.tyInt Syntax.w8))
-          (Syntax.tcons (Syntax.tyInt Syntax.w64) Syntax.tnil))),
+      Rows'.any-gone (Syntax.tyRef Syntax.erased Syntax.mut (Syntax.tyInt Syntax.w8)),
     ) List.[])))))))))))))))
 
 abbrev pub t19 : List.List Row.Entry
 t19 = List._∷_ (
-  0,
+  16,
   Rows'.any-gone
       (Syntax.tyStruct
       (List._∷_
-      102
+      112
       (List._∷_
-      105
+      108
       (List._∷_
-      110
+      97
       (List._∷_
-      105
+      99
       (List._∷_
-      115
-      (List._∷_
-      104
+      101
       (List._∷_
       58
       (List._∷_
       58
       (List._∷_
-      79
+      82
+      (List._∷_
+      111
       (List._∷_
       117
-      (List._∷_ 116 (List._∷_ 99 (List._∷_ 111 (List._∷_ 109 (List._∷_ 101 List.[])))))))))))))))
-      (Syntax.tcons
-      (Syntax.tyStruct
-      (List._∷_
-      102
-      (List._∷_
-      105
-      (List._∷_
-      110
-      (List._∷_
-      105
-      (List._∷_
-      115
-      (List._∷_
-      104
-      (List._∷_
-      58
-      (List._∷_ 58 (List._∷_ 83 (List._∷_ 101 (List._∷_ 110 (List._∷_ 116 List.[]))))))))))))
-      (Syntax.tcons
-      (Syntax.tyStruct
-      (List._∷_
-      97
-      (List._∷_
-      110
-      (List._∷_
-      115
-      (List._∷_
-      119
-      (List._∷_
-      101
-      (List._∷_
-      114
-      (List._∷_
-      58
-      (List._∷_
-      58
-      (List._∷_
-      68
-      (List._∷_
-      101
-      (List._∷_
-      115
       (List._∷_
       116
       (List._∷_
-      105
-      (List._∷_
-      110
-      (List._∷_
-      97
-      (List._∷_ 116 (List._∷_ 105 (List._∷_ 111 (List._∷_ 110 List.[])))))))))))))))))))
-      (Syntax.tcons
-      (Syntax.tyArray (Syntax.tyInt Syntax.w8) 16)
-      (Syntax.tcons
-      (Syntax.tyEnum
-      (List._∷_
-      97
-      (List._∷_
-      110
-      (List._∷_
-      115
-      (List._∷_
-      119
-      (List._∷_
       101
-      (List._∷_
-      114
-      (List._∷_ 58 (List._∷_ 58 (List._∷_ 87 (List._∷_ 97 (List._∷_ 121 List.[])))))))))))
-      (Syntax.ttcons
-      Syntax.tnil
-      (Syntax.ttcons
-      Syntax.tnil
-      (Syntax.ttcons Syntax.tnil (Syntax.ttcons Syntax.tnil Syntax.ttnil)))))
-      Syntax.tnil)))
-      (Syntax.tcons (Syntax.tyInt Syntax.w64) Syntax.tnil)))
-      (Syntax.tcons
-      (Syntax.tyInt Syntax.w64)
-      (Syntax.tcons
-      (Syntax.tyStruct
-      (List._∷_
-      102
-      (List._∷_
-      105
-      (List._∷_
-      110
-      (List._∷_
-      105
-      (List._∷_
-      115
-      (List._∷_
-      104
-      (List._∷_
-      58
-      (List._∷_ 58 (List._∷_ 83 (List._∷_ 101 (List._∷_ 110 (List._∷_ 116 List.[]))))))))))))
-      (Syntax.tcons
-      (Syntax.tyStruct
-      (List._∷_
-      97
-      (List._∷_
-      110
-      (List._∷_
-      115
-      (List._∷_
-      119
-      (List._∷_
-      101
-      (List._∷_
-      114
-      (List._∷_
-      58
-      (List._∷_
-      58
-      (List._∷_
-      68
-      (List._∷_
-      101
-      (List._∷_
-      115
-      (List._∷_
-      116
-      (List._∷_
-      105
-      (List._∷_
-      110
-      (List._∷_
-      97
-      (List._∷_ 116 (List._∷_ 105 (List._∷_ 111 (List._∷_ 110 List.[])))))))))))))))))))
-      (Syntax.tcons
-      (Syntax.tyArray (Syntax.tyInt Syntax.w8) 16)
-      (Syntax.tcons
-      (Syntax.tyEnum
-      (List._∷_
-      97
-      (List._∷_
-      110
-      (List._∷_
-      115
-      (List._∷_
-      119
-      (List._∷_
-      101
-      (List._∷_
-      114
-      (List._∷_ 58 (List._∷_ 58 (List._∷_ 87 (List._∷_ 97 (List._∷_ 121 List.[])))))))))))
-      (Syntax.ttcons
-      Syntax.tnil
-      (Syntax.ttcons
-      Syntax.tnil
-      (Syntax.ttcons Syntax.tnil (Syntax.ttcons Syntax.tnil Syntax.ttnil)))))
-      Syntax.tnil)))
-      (Syntax.tcons (Syntax.tyInt Syntax.w64) Syntax.tnil)))
-      (Syntax.tcons
-      (Syntax.tyEnum
-      (List._∷_
-      97
-      (List._∷_
-      110
-      (List._∷_
-      115
-      (List._∷_
-      119
-      (List._∷_
-      101
-      (List._∷_
-      114
-      (List._∷_
-      58
-      (List._∷_
-      58
-      (List._∷_
-      65
-      (List._∷_ 110 (List._∷_ 115 (List._∷_ 119 (List._∷_ 101 (List._∷_ 114 List.[]))))))))))))))
-      (Syntax.ttcons
-      Syntax.tnil
-      (Syntax.ttcons
-      Syntax.tnil
-      (Syntax.ttcons
-      Syntax.tnil
-      (Syntax.ttcons
-      Syntax.tnil
-      (Syntax.ttcons
-      Syntax.tnil
-      (Syntax.ttcons
-      Syntax.tnil
-      (Syntax.ttcons
-      Syntax.tnil
-      (Syntax.ttcons
-      Syntax.tnil
-      (Syntax.ttcons
-      Syntax.tnil
-      (Syntax.ttcons
-      Syntax.tnil
-      (Syntax.ttcons
-      Syntax.tnil
-      (Syntax.ttcons
-      Syntax.tnil
-      (Syntax.ttcons
-      Syntax.tnil
-      (Syntax.ttcons
-      Syntax.tnil
-      (Syntax.ttcons
-      Syntax.tnil
-      (Syntax.ttcons
-      Syntax.tnil
-      (Syntax.ttcons Syntax.tnil (Syntax.ttcons Syntax.tnil Syntax.ttnil)))))))))))))))))))
-      (Syntax.tcons (Syntax.tyInt Syntax.w8) Syntax.tnil)))))),
-) (List._∷_ (
-  1,
-  Mut.mslice
-      (KInstanceRow.R)
-      (Syntax.tyRef (Syntax.named 0) Syntax.mut (KInstanceRow.named))
-      0,
-) (List._∷_ (
-  2,
-  Reshare.mslice-owedS
-      (KRouteRow.R)
-      (Syntax.tyRef (Syntax.named 1) Syntax.mut (KRouteRow.named))
-      1
-      9
-      Row.off,
-) (List._∷_ (
-  3,
-  Mut.mslice
-      (Referent.rtF (Referent.fInt Syntax.w8))
-      (Syntax.tyRef (Syntax.named 2) Syntax.mut (Syntax.tyInt Syntax.w8))
-      2,
-) (List._∷_ (
-  4,
-  Mut.mslice
-      (Referent.rtF (Referent.fInt Syntax.w8))
-      (Syntax.tyRef (Syntax.named 3) Syntax.mut (Syntax.tyInt Syntax.w8))
-      3,
-) (List._∷_ (5, Rows'.whole (Declared.row Own.the-type)) (List._∷_ (
-  6,
-  Rows'.sc-here (Row.sInt Syntax.w64),
-) (List._∷_ (7, Rows'.sc-here (Row.sInt Syntax.w8)) (List._∷_ (
-  8,
-  Rows'.sc-here (Row.sInt Syntax.w64),
-) (List._∷_ (
-  9,
-  Rows'.sref
-      (Array'.Array (Array'.Array (Referent.rtF (Referent.fInt Syntax.w8)) 16) 16)
-      (Syntax.tyRef
-      (Syntax.named 4)
-      Syntax.imm
-      (Syntax.tyArray (Syntax.tyArray (Syntax.tyInt Syntax.w8) 16) 16))
-      4,
-) (List._∷_ (
-  10,
-  Rows'.sref
-      (KDecided.R)
-      (Syntax.tyRef (Syntax.named 5) Syntax.imm (KDecided.named))
-      5,
-) (List._∷_ (
-  11,
-  Rows'.sref
-      (KPost.R)
-      (Syntax.tyRef (Syntax.named 6) Syntax.imm (KPost.named))
-      6,
-) (List._∷_ (
-  12,
-  Rows'.sref
-      (KPost.R)
-      (Syntax.tyRef (Syntax.named 7) Syntax.imm (KPost.named))
-      7,
-) (List._∷_ (13, Rows'.whole (Declared.row Live.the-type)) (List._∷_ (
-  14,
-  Rows'.whole (Declared.row Places.the-type),
-) (List._∷_ (15, Rows'.whole (Declared.row RoutePlace.the-type)) List.[])))))))))))))))
-
-abbrev pub t20 : List.List Row.Entry
-t20 = List._∷_ (
-  0,
-  Rows'.any-gone
-      (Syntax.tyStruct
-      (List._∷_
-      102
-      (List._∷_
-      105
-      (List._∷_
-      110
-      (List._∷_
-      105
-      (List._∷_
-      115
-      (List._∷_
-      104
-      (List._∷_
-      58
-      (List._∷_
-      58
-      (List._∷_
-      79
-      (List._∷_
-      117
-      (List._∷_ 116 (List._∷_ 99 (List._∷_ 111 (List._∷_ 109 (List._∷_ 101 List.[])))))))))))))))
-      (Syntax.tcons
-      (Syntax.tyStruct
-      (List._∷_
-      102
-      (List._∷_
-      105
-      (List._∷_
-      110
-      (List._∷_
-      105
-      (List._∷_
-      115
-      (List._∷_
-      104
-      (List._∷_
-      58
-      (List._∷_ 58 (List._∷_ 83 (List._∷_ 101 (List._∷_ 110 (List._∷_ 116 List.[]))))))))))))
-      (Syntax.tcons
-      (Syntax.tyStruct
-      (List._∷_
-      97
-      (List._∷_
-      110
-      (List._∷_
-      115
-      (List._∷_
-      119
-      (List._∷_
-      101
-      (List._∷_
-      114
-      (List._∷_
-      58
-      (List._∷_
-      58
-      (List._∷_
-      68
-      (List._∷_
-      101
-      (List._∷_
-      115
-      (List._∷_
-      116
-      (List._∷_
-      105
-      (List._∷_
-      110
-      (List._∷_
-      97
-      (List._∷_ 116 (List._∷_ 105 (List._∷_ 111 (List._∷_ 110 List.[])))))))))))))))))))
-      (Syntax.tcons
-      (Syntax.tyArray (Syntax.tyInt Syntax.w8) 16)
-      (Syntax.tcons
-      (Syntax.tyEnum
-      (List._∷_
-      97
-      (List._∷_
-      110
-      (List._∷_
-      115
-      (List._∷_
-      119
-      (List._∷_
-      101
-      (List._∷_
-      114
-      (List._∷_ 58 (List._∷_ 58 (List._∷_ 87 (List._∷_ 97 (List._∷_ 121 List.[])))))))))))
-      (Syntax.ttcons
-      Syntax.tnil
-      (Syntax.ttcons
-      Syntax.tnil
-      (Syntax.ttcons Syntax.tnil (Syntax.ttcons Syntax.tnil Syntax.ttnil)))))
-      Syntax.tnil)))
-      (Syntax.tcons (Syntax.tyInt Syntax.w64) Syntax.tnil)))
-      (Syntax.tcons
-      (Syntax.tyInt Syntax.w64)
-      (Syntax.tcons
-      (Syntax.tyStruct
-      (List._∷_
-      102
-      (List._∷_
-      105
-      (List._∷_
-      110
-      (List._∷_
-      105
-      (List._∷_
-      115
-      (List._∷_
-      104
-      (List._∷_
-      58
-      (List._∷_ 58 (List._∷_ 83 (List._∷_ 101 (List._∷_ 110 (List._∷_ 116 List.[]))))))))))))
-      (Syntax.tcons
-      (Syntax.tyStruct
-      (List._∷_
-      97
-      (List._∷_
-      110
-      (List._∷_
-      115
-      (List._∷_
-      119
-      (List._∷_
-      101
-      (List._∷_
-      114
-      (List._∷_
-      58
-      (List._∷_
-      58
-      (List._∷_
-      68
-      (List._∷_
-      101
-      (List._∷_
-      115
-      (List._∷_
-      116
-      (List._∷_
-      105
-      (List._∷_
-      110
-      (List._∷_
-      97
-      (List._∷_ 116 (List._∷_ 105 (List._∷_ 111 (List._∷_ 110 List.[])))))))))))))))))))
-      (Syntax.tcons
-      (Syntax.tyArray (Syntax.tyInt Syntax.w8) 16)
-      (Syntax.tcons
-      (Syntax.tyEnum
-      (List._∷_
-      97
-      (List._∷_
-      110
-      (List._∷_
-      115
-      (List._∷_
-      119
-      (List._∷_
-      101
-      (List._∷_
-      114
-      (List._∷_ 58 (List._∷_ 58 (List._∷_ 87 (List._∷_ 97 (List._∷_ 121 List.[])))))))))))
-      (Syntax.ttcons
-      Syntax.tnil
-      (Syntax.ttcons
-      Syntax.tnil
-      (Syntax.ttcons Syntax.tnil (Syntax.ttcons Syntax.tnil Syntax.ttnil)))))
-      Syntax.tnil)))
-      (Syntax.tcons (Syntax.tyInt Syntax.w64) Syntax.tnil)))
-      (Syntax.tcons
-      (Syntax.tyEnum
-      (List._∷_
-      97
-      (List._∷_
-      110
-      (List._∷_
-      115
-      (List._∷_
-      119
-      (List._∷_
-      101
-      (List._∷_
-      114
-      (List._∷_
-      58
-      (List._∷_
-      58
-      (List._∷_
-      65
-      (List._∷_ 110 (List._∷_ 115 (List._∷_ 119 (List._∷_ 101 (List._∷_ 114 List.[]))))))))))))))
-      (Syntax.ttcons
-      Syntax.tnil
-      (Syntax.ttcons
-      Syntax.tnil
-      (Syntax.ttcons
-      Syntax.tnil
-      (Syntax.ttcons
-      Syntax.tnil
-      (Syntax.ttcons
-      Syntax.tnil
-      (Syntax.ttcons
-      Syntax.tnil
-      (Syntax.ttcons
-      Syntax.tnil
-      (Syntax.ttcons
-      Syntax.tnil
-      (Syntax.ttcons
-      Syntax.tnil
-      (Syntax.ttcons
-      Syntax.tnil
-      (Syntax.ttcons
-      Syntax.tnil
-      (Syntax.ttcons
-      Syntax.tnil
-      (Syntax.ttcons
-      Syntax.tnil
-      (Syntax.ttcons
-      Syntax.tnil
-      (Syntax.ttcons
-      Syntax.tnil
-      (Syntax.ttcons
-      Syntax.tnil
-      (Syntax.ttcons Syntax.tnil (Syntax.ttcons Syntax.tnil Syntax.ttnil)))))))))))))))))))
-      (Syntax.tcons (Syntax.tyInt Syntax.w8) Syntax.tnil)))))),
-) (List._∷_ (
-  1,
-  Mut.mslice
-      (KInstanceRow.R)
-      (Syntax.tyRef (Syntax.named 0) Syntax.mut (KInstanceRow.named))
-      0,
-) (List._∷_ (
-  2,
-  Reshare.mslice-owedS
-      (KRouteRow.R)
-      (Syntax.tyRef (Syntax.named 1) Syntax.mut (KRouteRow.named))
-      1
-      9
-      Row.off,
-) (List._∷_ (
-  3,
-  Mut.mslice
-      (Referent.rtF (Referent.fInt Syntax.w8))
-      (Syntax.tyRef (Syntax.named 2) Syntax.mut (Syntax.tyInt Syntax.w8))
-      2,
-) (List._∷_ (
-  4,
-  Mut.mslice
-      (Referent.rtF (Referent.fInt Syntax.w8))
-      (Syntax.tyRef (Syntax.named 3) Syntax.mut (Syntax.tyInt Syntax.w8))
-      3,
-) (List._∷_ (5, Rows'.whole (Declared.row Own.the-type)) (List._∷_ (
-  6,
-  Rows'.sc-here (Row.sInt Syntax.w64),
-) (List._∷_ (7, Rows'.sc-here (Row.sInt Syntax.w8)) (List._∷_ (
-  8,
-  Rows'.sc-here (Row.sInt Syntax.w64),
-) (List._∷_ (
-  9,
-  Rows'.sref
-      (Array'.Array (Array'.Array (Referent.rtF (Referent.fInt Syntax.w8)) 16) 16)
-      (Syntax.tyRef
-      (Syntax.named 4)
-      Syntax.imm
-      (Syntax.tyArray (Syntax.tyArray (Syntax.tyInt Syntax.w8) 16) 16))
-      4,
-) (List._∷_ (
-  10,
-  Rows'.sref
-      (KDecided.R)
-      (Syntax.tyRef (Syntax.named 5) Syntax.imm (KDecided.named))
-      5,
-) (List._∷_ (
-  11,
-  Rows'.sref
-      (KPost.R)
-      (Syntax.tyRef (Syntax.named 6) Syntax.imm (KPost.named))
-      6,
-) (List._∷_ (
-  12,
-  Rows'.sref
-      (KPost.R)
-      (Syntax.tyRef (Syntax.named 7) Syntax.imm (KPost.named))
-      7,
-) (List._∷_ (
-  13,
-  Rows'.any-gone
-      (Syntax.tyStruct
-      (List._∷_
-      102
-      (List._∷_
-      105
-      (List._∷_
-      110
-      (List._∷_
-      105
-      (List._∷_
-      115
-      (List._∷_
-      104
-      (List._∷_
-      58
-      (List._∷_ 58 (List._∷_ 76 (List._∷_ 105 (List._∷_ 118 (List._∷_ 101 List.[]))))))))))))
-      (Syntax.tcons
-      Syntax.tyBool
-      (Syntax.tcons
-      (Syntax.tyInt Syntax.w64)
-      (Syntax.tcons Syntax.tyBool (Syntax.tcons (Syntax.tyInt Syntax.w64) Syntax.tnil))))),
-) (List._∷_ (14, Rows'.whole (Declared.row Places.the-type)) (List._∷_ (
-  15,
-  Rows'.whole (Declared.row RoutePlace.the-type),
-) List.[])))))))))))))))
-
-abbrev pub t21 : List.List Row.Entry
-t21 = List._∷_ (
-  0,
-  Rows'.any-gone
-      (Syntax.tyStruct
-      (List._∷_
-      102
-      (List._∷_
-      105
-      (List._∷_
-      110
-      (List._∷_
-      105
-      (List._∷_
-      115
-      (List._∷_
-      104
-      (List._∷_
-      58
-      (List._∷_
-      58
-      (List._∷_
-      79
-      (List._∷_
-      117
-      (List._∷_ 116 (List._∷_ 99 (List._∷_ 111 (List._∷_ 109 (List._∷_ 101 List.[])))))))))))))))
-      (Syntax.tcons
-      (Syntax.tyStruct
-      (List._∷_
-      102
-      (List._∷_
-      105
-      (List._∷_
-      110
-      (List._∷_
-      105
-      (List._∷_
-      115
-      (List._∷_
-      104
-      (List._∷_
-      58
-      (List._∷_ 58 (List._∷_ 83 (List._∷_ 101 (List._∷_ 110 (List._∷_ 116 List.[]))))))))))))
-      (Syntax.tcons
-      (Syntax.tyStruct
-      (List._∷_
-      97
-      (List._∷_
-      110
-      (List._∷_
-      115
-      (List._∷_
-      119
-      (List._∷_
-      101
-      (List._∷_
-      114
-      (List._∷_
-      58
-      (List._∷_
-      58
-      (List._∷_
-      68
-      (List._∷_
-      101
-      (List._∷_
-      115
-      (List._∷_
-      116
-      (List._∷_
-      105
-      (List._∷_
-      110
-      (List._∷_
-      97
-      (List._∷_ 116 (List._∷_ 105 (List._∷_ 111 (List._∷_ 110 List.[])))))))))))))))))))
-      (Syntax.tcons
-      (Syntax.tyArray (Syntax.tyInt Syntax.w8) 16)
-      (Syntax.tcons
-      (Syntax.tyEnum
-      (List._∷_
-      97
-      (List._∷_
-      110
-      (List._∷_
-      115
-      (List._∷_
-      119
-      (List._∷_
-      101
-      (List._∷_
-      114
-      (List._∷_ 58 (List._∷_ 58 (List._∷_ 87 (List._∷_ 97 (List._∷_ 121 List.[])))))))))))
-      (Syntax.ttcons
-      Syntax.tnil
-      (Syntax.ttcons
-      Syntax.tnil
-      (Syntax.ttcons Syntax.tnil (Syntax.ttcons Syntax.tnil Syntax.ttnil)))))
-      Syntax.tnil)))
-      (Syntax.tcons (Syntax.tyInt Syntax.w64) Syntax.tnil)))
-      (Syntax.tcons
-      (Syntax.tyInt Syntax.w64)
-      (Syntax.tcons
-      (Syntax.tyStruct
-      (List._∷_
-      102
-      (List._∷_
-      105
-      (List._∷_
-      110
-      (List._∷_
-      105
-      (List._∷_
-      115
-      (List._∷_
-      104
-      (List._∷_
-      58
-      (List._∷_ 58 (List._∷_ 83 (List._∷_ 101 (List._∷_ 110 (List._∷_ 116 List.[]))))))))))))
-      (Syntax.tcons
-      (Syntax.tyStruct
-      (List._∷_
-      97
-      (List._∷_
-      110
-      (List._∷_
-      115
-      (List._∷_
-      119
-      (List._∷_
-      101
-      (List._∷_
-      114
-      (List._∷_
-      58
-      (List._∷_
-      58
-      (List._∷_
-      68
-      (List._∷_
-      101
-      (List._∷_
-      115
-      (List._∷_
-      116
-      (List._∷_
-      105
-      (List._∷_
-      110
-      (List._∷_
-      97
-      (List._∷_ 116 (List._∷_ 105 (List._∷_ 111 (List._∷_ 110 List.[])))))))))))))))))))
-      (Syntax.tcons
-      (Syntax.tyArray (Syntax.tyInt Syntax.w8) 16)
-      (Syntax.tcons
-      (Syntax.tyEnum
-      (List._∷_
-      97
-      (List._∷_
-      110
-      (List._∷_
-      115
-      (List._∷_
-      119
-      (List._∷_
-      101
-      (List._∷_
-      114
-      (List._∷_ 58 (List._∷_ 58 (List._∷_ 87 (List._∷_ 97 (List._∷_ 121 List.[])))))))))))
-      (Syntax.ttcons
-      Syntax.tnil
-      (Syntax.ttcons
-      Syntax.tnil
-      (Syntax.ttcons Syntax.tnil (Syntax.ttcons Syntax.tnil Syntax.ttnil)))))
-      Syntax.tnil)))
-      (Syntax.tcons (Syntax.tyInt Syntax.w64) Syntax.tnil)))
-      (Syntax.tcons
-      (Syntax.tyEnum
-      (List._∷_
-      97
-      (List._∷_
-      110
-      (List._∷_
-      115
-      (List._∷_
-      119
-      (List._∷_
-      101
-      (List._∷_
-      114
-      (List._∷_
-      58
-      (List._∷_
-      58
-      (List._∷_
-      65
-      (List._∷_ 110 (List._∷_ 115 (List._∷_ 119 (List._∷_ 101 (List._∷_ 114 List.[]))))))))))))))
-      (Syntax.ttcons
-      Syntax.tnil
-      (Syntax.ttcons
-      Syntax.tnil
-      (Syntax.ttcons
-      Syntax.tnil
-      (Syntax.ttcons
-      Syntax.tnil
-      (Syntax.ttcons
-      Syntax.tnil
-      (Syntax.ttcons
-      Syntax.tnil
-      (Syntax.ttcons
-      Syntax.tnil
-      (Syntax.ttcons
-      Syntax.tnil
-      (Syntax.ttcons
-      Syntax.tnil
-      (Syntax.ttcons
-      Syntax.tnil
-      (Syntax.ttcons
-      Syntax.tnil
-      (Syntax.ttcons
-      Syntax.tnil
-      (Syntax.ttcons
-      Syntax.tnil
-      (Syntax.ttcons
-      Syntax.tnil
-      (Syntax.ttcons
-      Syntax.tnil
-      (Syntax.ttcons
-      Syntax.tnil
-      (Syntax.ttcons Syntax.tnil (Syntax.ttcons Syntax.tnil Syntax.ttnil)))))))))))))))))))
-      (Syntax.tcons (Syntax.tyInt Syntax.w8) Syntax.tnil)))))),
-) (List._∷_ (
-  1,
-  Mut.mslice
-      (KInstanceRow.R)
-      (Syntax.tyRef (Syntax.named 0) Syntax.mut (KInstanceRow.named))
-      0,
-) (List._∷_ (
-  2,
-  Mut.mslice
-      (KRouteRow.R)
-      (Syntax.tyRef (Syntax.named 1) Syntax.mut (KRouteRow.named))
-      1,
-) (List._∷_ (
-  3,
-  Mut.mslice
-      (Referent.rtF (Referent.fInt Syntax.w8))
-      (Syntax.tyRef (Syntax.named 2) Syntax.mut (Syntax.tyInt Syntax.w8))
-      2,
-) (List._∷_ (
-  4,
-  Mut.mslice
-      (Referent.rtF (Referent.fInt Syntax.w8))
-      (Syntax.tyRef (Syntax.named 3) Syntax.mut (Syntax.tyInt Syntax.w8))
-      3,
-) (List._∷_ (5, Rows'.whole (Declared.row Own.the-type)) (List._∷_ (
-  6,
-  Rows'.sc-here (Row.sInt Syntax.w64),
-) (List._∷_ (7, Rows'.sc-here (Row.sInt Syntax.w8)) (List._∷_ (
-  8,
-  Rows'.sc-here (Row.sInt Syntax.w64),
-) (List._∷_ (
-  9,
-  Rows'.sref
-      (Array'.Array (Array'.Array (Referent.rtF (Referent.fInt Syntax.w8)) 16) 16)
-      (Syntax.tyRef
-      (Syntax.named 4)
-      Syntax.imm
-      (Syntax.tyArray (Syntax.tyArray (Syntax.tyInt Syntax.w8) 16) 16))
-      4,
-) (List._∷_ (
-  10,
-  Rows'.sref
-      (KDecided.R)
-      (Syntax.tyRef (Syntax.named 5) Syntax.imm (KDecided.named))
-      5,
-) (List._∷_ (
-  11,
-  Rows'.sref
-      (KPost.R)
-      (Syntax.tyRef (Syntax.named 6) Syntax.imm (KPost.named))
-      6,
-) (List._∷_ (
-  12,
-  Rows'.sref
-      (KPost.R)
-      (Syntax.tyRef (Syntax.named 7) Syntax.imm (KPost.named))
-      7,
-) (List._∷_ (
-  13,
-  Rows'.any-gone
-      (Syntax.tyStruct
-      (List._∷_
-      102
-      (List._∷_
-      105
-      (List._∷_
-      110
-      (List._∷_
-      105
-      (List._∷_
-      115
-      (List._∷_
-      104
-      (List._∷_
-      58
-      (List._∷_ 58 (List._∷_ 76 (List._∷_ 105 (List._∷_ 118 (List._∷_ 101 List.[]))))))))))))
-      (Syntax.tcons
-      Syntax.tyBool
-      (Syntax.tcons
-      (Syntax.tyInt Syntax.w64)
-      (Syntax.tcons Syntax.tyBool (Syntax.tcons (Syntax.tyInt Syntax.w64) Syntax.tnil))))),
-) (List._∷_ (14, Rows'.whole (Declared.row Places.the-type)) (List._∷_ (
-  15,
-  Rows'.whole (Declared.row RoutePlace.the-type),
-) List.[])))))))))))))))
-
-abbrev pub t22 : List.List Row.Entry
-t22 = List._∷_ (16, Rows'.any-gone (Syntax.tyInt Syntax.w64)) (List._∷_ (
-  17,
+      (List._∷_ 80 (List._∷_ 108 (List._∷_ 97 (List._∷_ 99 (List._∷_ 101 List.[])))))))))))))))))
+      (Syntax.tcons Syntax.tyBool (Syntax.tcons (Syntax.tyInt Syntax.w64) Syntax.tnil))),
+) (List._∷_ (17, Rows'.any-gone (Syntax.tyInt Syntax.w64)) (List._∷_ (
+  18,
   Rows'.any-gone (Syntax.tyInt Syntax.w64),
 ) (List._∷_ (
-  18,
+  19,
   Rows'.any-gone
       (Syntax.tyRef Syntax.erased Syntax.imm (KInstanceRow.named)),
 ) (List._∷_ (
-  19,
+  20,
   Rows'.any-gone
       (Syntax.tyStruct
       (List._∷_ 38 (List._∷_ 91 (List._∷_ 93 List.[])))
       (Syntax.tcons
       (Syntax.tyRef Syntax.erased Syntax.imm (KInstanceRow.named))
       (Syntax.tcons (Syntax.tyInt Syntax.w64) Syntax.tnil))),
-) (List._∷_ (20, Rows'.any-gone Syntax.tyBool) (List._∷_ (
-  21,
-  Rows'.any-gone (KDecided.spelled),
-) (List._∷_ (
+) (List._∷_ (21, Rows'.sc-here Row.sBool) (List._∷_ (
   22,
+  KDecided.row,
+) (List._∷_ (
+  23,
   Rows'.any-gone
       (Syntax.tyRef Syntax.erased Syntax.imm (KRouteRow.named)),
 ) (List._∷_ (
+  24,
+  Rows'.sslice
+      (KRouteRow.R)
+      (Syntax.tyRef Syntax.erased Syntax.imm (KRouteRow.named))
+      9,
+)
+    (List._∷_
+    (25, Rows'.any-gone Syntax.tyBool)
+    (List._∷_ (26, Rows'.any-gone Syntax.tyUnit) (List._∷_ (
+      27,
+      Rows'.any-gone
+          (Syntax.tyRef Syntax.erased Syntax.mut (KInstanceRow.named)),
+    ) (List._∷_ (
+      28,
+      Rows'.any-gone
+          (Syntax.tyStruct
+          (List._∷_ 38 (List._∷_ 91 (List._∷_ 93 List.[])))
+          (Syntax.tcons
+          (Syntax.tyRef Syntax.erased Syntax.mut (KInstanceRow.named))
+          (Syntax.tcons (Syntax.tyInt Syntax.w64) Syntax.tnil))),
+    ) (List._∷_ (
+      29,
+      Rows'.any-gone
+          (Syntax.tyRef Syntax.erased Syntax.mut (KRouteRow.named)),
+    ) (List._∷_ (
+      30,
+      Rows'.any-gone
+          (Syntax.tyStruct
+          (List._∷_ 38 (List._∷_ 91 (List._∷_ 93 List.[])))
+          (Syntax.tcons
+          (Syntax.tyRef Syntax.erased Syntax.mut (KRouteRow.named))
+          (Syntax.tcons (Syntax.tyInt Syntax.w64) Syntax.tnil))),
+    ) (List._∷_ (
+      31,
+      Rows'.any-gone (Syntax.tyRef Syntax.erased Syntax.mut (Syntax.tyInt Syntax.w8)),
+    ) List.[])))))))))))))))
+
+abbrev pub t20 : List.List Row.Entry
+t20 = List._∷_ (
+  16,
+  Rows'.any-gone
+      (Syntax.tyStruct
+      (List._∷_
+      112
+      (List._∷_
+      108
+      (List._∷_
+      97
+      (List._∷_
+      99
+      (List._∷_
+      101
+      (List._∷_
+      58
+      (List._∷_
+      58
+      (List._∷_
+      82
+      (List._∷_
+      111
+      (List._∷_
+      117
+      (List._∷_
+      116
+      (List._∷_
+      101
+      (List._∷_ 80 (List._∷_ 108 (List._∷_ 97 (List._∷_ 99 (List._∷_ 101 List.[])))))))))))))))))
+      (Syntax.tcons Syntax.tyBool (Syntax.tcons (Syntax.tyInt Syntax.w64) Syntax.tnil))),
+) (List._∷_ (17, Rows'.any-gone (Syntax.tyInt Syntax.w64)) (List._∷_ (
+  18,
+  Rows'.any-gone (Syntax.tyInt Syntax.w64),
+) (List._∷_ (
+  19,
+  Rows'.any-gone
+      (Syntax.tyRef Syntax.erased Syntax.imm (KInstanceRow.named)),
+) (List._∷_ (
+  20,
+  Rows'.any-gone
+      (Syntax.tyStruct
+      (List._∷_ 38 (List._∷_ 91 (List._∷_ 93 List.[])))
+      (Syntax.tcons
+      (Syntax.tyRef Syntax.erased Syntax.imm (KInstanceRow.named))
+      (Syntax.tcons (Syntax.tyInt Syntax.w64) Syntax.tnil))),
+) (List._∷_ (21, Rows'.sc-here Row.sBool) (List._∷_ (
+  22,
+  Rows'.any-gone (KDecided.spelled),
+) (List._∷_ (
   23,
+  Rows'.any-gone
+      (Syntax.tyRef Syntax.erased Syntax.imm (KRouteRow.named)),
+) (List._∷_ (
+  24,
+  Rows'.sslice
+      (KRouteRow.R)
+      (Syntax.tyRef Syntax.erased Syntax.imm (KRouteRow.named))
+      9,
+)
+    (List._∷_
+    (25, Rows'.any-gone Syntax.tyBool)
+    (List._∷_ (26, Rows'.any-gone Syntax.tyUnit) (List._∷_ (
+      27,
+      Rows'.any-gone
+          (Syntax.tyRef Syntax.erased Syntax.mut (KInstanceRow.named)),
+    ) (List._∷_ (
+      28,
+      Rows'.any-gone
+          (Syntax.tyStruct
+          (List._∷_ 38 (List._∷_ 91 (List._∷_ 93 List.[])))
+          (Syntax.tcons
+          (Syntax.tyRef Syntax.erased Syntax.mut (KInstanceRow.named))
+          (Syntax.tcons (Syntax.tyInt Syntax.w64) Syntax.tnil))),
+    ) (List._∷_ (
+      29,
+      Rows'.any-gone
+          (Syntax.tyRef Syntax.erased Syntax.mut (KRouteRow.named)),
+    ) (List._∷_ (
+      30,
+      Rows'.any-gone
+          (Syntax.tyStruct
+          (List._∷_ 38 (List._∷_ 91 (List._∷_ 93 List.[])))
+          (Syntax.tcons
+          (Syntax.tyRef Syntax.erased Syntax.mut (KRouteRow.named))
+          (Syntax.tcons (Syntax.tyInt Syntax.w64) Syntax.tnil))),
+    ) (List._∷_ (
+      31,
+      Rows'.any-gone (Syntax.tyRef Syntax.erased Syntax.mut (Syntax.tyInt Syntax.w8)),
+    ) List.[])))))))))))))))
+
+abbrev pub t21 : List.List Row.Entry
+t21 = List._∷_ (16, Rows'.whole (Declared.row RoutePlace.the-type)) (List._∷_ (
+  17,
+  Rows'.any-gone (Syntax.tyInt Syntax.w64),
+) (List._∷_ (18, Rows'.any-gone (Syntax.tyInt Syntax.w64)) (List._∷_ (
+  19,
+  Rows'.any-gone
+      (Syntax.tyRef Syntax.erased Syntax.imm (KInstanceRow.named)),
+) (List._∷_ (
+  20,
+  Rows'.any-gone
+      (Syntax.tyStruct
+      (List._∷_ 38 (List._∷_ 91 (List._∷_ 93 List.[])))
+      (Syntax.tcons
+      (Syntax.tyRef Syntax.erased Syntax.imm (KInstanceRow.named))
+      (Syntax.tcons (Syntax.tyInt Syntax.w64) Syntax.tnil))),
+) (List._∷_ (21, Rows'.sc-here Row.sBool) (List._∷_ (
+  22,
+  Rows'.any-gone (KDecided.spelled),
+) (List._∷_ (
+  23,
+  Rows'.any-gone
+      (Syntax.tyRef Syntax.erased Syntax.imm (KRouteRow.named)),
+) (List._∷_ (
+  24,
+  Rows'.sslice
+      (KRouteRow.R)
+      (Syntax.tyRef Syntax.erased Syntax.imm (KRouteRow.named))
+      9,
+)
+    (List._∷_
+    (25, Rows'.any-gone Syntax.tyBool)
+    (List._∷_ (26, Rows'.any-gone Syntax.tyUnit) (List._∷_ (
+      27,
+      Rows'.any-gone
+          (Syntax.tyRef Syntax.erased Syntax.mut (KInstanceRow.named)),
+    ) (List._∷_ (
+      28,
+      Rows'.any-gone
+          (Syntax.tyStruct
+          (List._∷_ 38 (List._∷_ 91 (List._∷_ 93 List.[])))
+          (Syntax.tcons
+          (Syntax.tyRef Syntax.erased Syntax.mut (KInstanceRow.named))
+          (Syntax.tcons (Syntax.tyInt Syntax.w64) Syntax.tnil))),
+    ) (List._∷_ (
+      29,
+      Rows'.any-gone
+          (Syntax.tyRef Syntax.erased Syntax.mut (KRouteRow.named)),
+    ) (List._∷_ (
+      30,
+      Rows'.any-gone
+          (Syntax.tyStruct
+          (List._∷_ 38 (List._∷_ 91 (List._∷_ 93 List.[])))
+          (Syntax.tcons
+          (Syntax.tyRef Syntax.erased Syntax.mut (KRouteRow.named))
+          (Syntax.tcons (Syntax.tyInt Syntax.w64) Syntax.tnil))),
+    ) (List._∷_ (
+      31,
+      Rows'.any-gone (Syntax.tyRef Syntax.erased Syntax.mut (Syntax.tyInt Syntax.w8)),
+    ) List.[])))))))))))))))
+
+abbrev pub t22 : List.List Row.Entry
+t22 = List._∷_ (16, Rows'.whole (Declared.row RoutePlace.the-type)) (List._∷_ (
+  17,
+  Rows'.any-gone (Syntax.tyInt Syntax.w64),
+) (List._∷_ (18, Rows'.any-gone (Syntax.tyInt Syntax.w64)) (List._∷_ (
+  19,
+  Rows'.any-gone
+      (Syntax.tyRef Syntax.erased Syntax.imm (KInstanceRow.named)),
+) (List._∷_ (
+  20,
+  Rows'.any-gone
+      (Syntax.tyStruct
+      (List._∷_ 38 (List._∷_ 91 (List._∷_ 93 List.[])))
+      (Syntax.tcons
+      (Syntax.tyRef Syntax.erased Syntax.imm (KInstanceRow.named))
+      (Syntax.tcons (Syntax.tyInt Syntax.w64) Syntax.tnil))),
+) (List._∷_ (21, Rows'.sc-here Row.sBool) (List._∷_ (
+  22,
+  Rows'.any-gone (KDecided.spelled),
+) (List._∷_ (
+  23,
+  Rows'.any-gone
+      (Syntax.tyRef Syntax.erased Syntax.imm (KRouteRow.named)),
+) (List._∷_ (
+  24,
   Rows'.any-gone
       (Syntax.tyStruct
       (List._∷_ 38 (List._∷_ 91 (List._∷_ 93 List.[])))
       (Syntax.tcons
       (Syntax.tyRef Syntax.erased Syntax.imm (KRouteRow.named))
       (Syntax.tcons (Syntax.tyInt Syntax.w64) Syntax.tnil))),
-) (List._∷_ (24, Rows'.sc-here Row.sBool) (List._∷_ (25, Rows'.any-gone Syntax.tyUnit) (List._∷_ (
-  26,
-  Rows'.any-gone
-      (Syntax.tyRef Syntax.erased Syntax.mut (KInstanceRow.named)),
-) (List._∷_ (
-  27,
-  Rows'.any-gone
-      (Syntax.tyStruct
-      (List._∷_ 38 (List._∷_ 91 (List._∷_ 93 List.[])))
-      (Syntax.tcons
-      (Syntax.tyRef Syntax.erased Syntax.mut (KInstanceRow.named))
-      (Syntax.tcons (Syntax.tyInt Syntax.w64) Syntax.tnil))),
-) (List._∷_ (
-  28,
-  Rows'.any-gone
-      (Syntax.tyRef Syntax.erased Syntax.mut (KRouteRow.named)),
-) (List._∷_ (
-  29,
-  Rows'.any-gone
-      (Syntax.tyStruct
-      (List._∷_ 38 (List._∷_ 91 (List._∷_ 93 List.[])))
-      (Syntax.tcons
-      (Syntax.tyRef Syntax.erased Syntax.mut (KRouteRow.named))
-      (Syntax.tcons (Syntax.tyInt Syntax.w64) Syntax.tnil))),
 )
-    (List._∷_ (
-      30,
-      Rows'.any-gone (Syntax.tyRef Syntax.erased Syntax.mut (Syntax.tyInt Syntax.w8)),
+    (List._∷_
+    (25, Rows'.any-gone Syntax.tyBool)
+    (List._∷_ (26, Rows'.any-gone Syntax.tyUnit) (List._∷_ (
+      27,
+      Rows'.any-gone
+          (Syntax.tyRef Syntax.erased Syntax.mut (KInstanceRow.named)),
     ) (List._∷_ (
-      31,
+      28,
       Rows'.any-gone
           (Syntax.tyStruct
           (List._∷_ 38 (List._∷_ 91 (List._∷_ 93 List.[])))
           (Syntax.tcons
-          (Syntax.tyRef Syntax.erased Syntax.mut (Syntax.tyInt Syntax.w8))
+          (Syntax.tyRef Syntax.erased Syntax.mut (KInstanceRow.named))
           (Syntax.tcons (Syntax.tyInt Syntax.w64) Syntax.tnil))),
+    ) (List._∷_ (
+      29,
+      Rows'.any-gone
+          (Syntax.tyRef Syntax.erased Syntax.mut (KRouteRow.named)),
+    ) (List._∷_ (
+      30,
+      Rows'.any-gone
+          (Syntax.tyStruct
+          (List._∷_ 38 (List._∷_ 91 (List._∷_ 93 List.[])))
+          (Syntax.tcons
+          (Syntax.tyRef Syntax.erased Syntax.mut (KRouteRow.named))
+          (Syntax.tcons (Syntax.tyInt Syntax.w64) Syntax.tnil))),
+    ) (List._∷_ (
+      31,
+      Rows'.any-gone (Syntax.tyRef Syntax.erased Syntax.mut (Syntax.tyInt Syntax.w8)),
     ) List.[])))))))))))))))
 
 abbrev pub t23 : List.List Row.Entry
@@ -5192,10 +5053,12 @@ t23 = List._∷_ (
       0,
 ) (List._∷_ (
   2,
-  Mut.mslice
+  Reshare.mslice-owedS
       (KRouteRow.R)
       (Syntax.tyRef (Syntax.named 1) Syntax.mut (KRouteRow.named))
-      1,
+      1
+      9
+      Row.off,
 ) (List._∷_ (
   3,
   Mut.mslice
@@ -5208,24 +5071,13 @@ t23 = List._∷_ (
       (Referent.rtF (Referent.fInt Syntax.w8))
       (Syntax.tyRef (Syntax.named 3) Syntax.mut (Syntax.tyInt Syntax.w8))
       3,
+) (List._∷_ (5, Rows'.any-gone (KOwn.spelled)) (List._∷_ (
+  6,
+  Rows'.sc-here (Row.sInt Syntax.w64),
+) (List._∷_ (7, Rows'.sc-here (Row.sInt Syntax.w8)) (List._∷_ (
+  8,
+  Rows'.sc-here (Row.sInt Syntax.w64),
 ) (List._∷_ (
-  5,
-  Rows'.any-gone
-      (Syntax.tyStruct
-      (List._∷_
-      111
-      (List._∷_
-      119
-      (List._∷_
-      110
-      (List._∷_ 58 (List._∷_ 58 (List._∷_ 79 (List._∷_ 119 (List._∷_ 110 List.[]))))))))
-      (Syntax.tcons
-      (Syntax.tyArray (Syntax.tyInt Syntax.w8) 16)
-      (Syntax.tcons (Syntax.tyArray (Syntax.tyInt Syntax.w8) 16) Syntax.tnil))),
-) (List._∷_ (6, Rows'.sc-here (Row.sInt Syntax.w64)) (List._∷_ (
-  7,
-  Rows'.sc-here (Row.sInt Syntax.w8),
-) (List._∷_ (8, Rows'.sc-here (Row.sInt Syntax.w64)) (List._∷_ (
   9,
   Rows'.sref
       (Array'.Array (Array'.Array (Referent.rtF (Referent.fInt Syntax.w8)) 16) 16)
@@ -5276,66 +5128,76 @@ t23 = List._∷_ (
       (Syntax.tcons
       (Syntax.tyInt Syntax.w64)
       (Syntax.tcons Syntax.tyBool (Syntax.tcons (Syntax.tyInt Syntax.w64) Syntax.tnil))))),
-) (List._∷_ (
-  14,
-  Rows'.any-gone
-      (Syntax.tyStruct
-      (List._∷_
-      112
-      (List._∷_
-      108
-      (List._∷_
-      97
-      (List._∷_
-      99
-      (List._∷_
-      101
-      (List._∷_
-      58
-      (List._∷_
-      58
-      (List._∷_
-      80
-      (List._∷_ 108 (List._∷_ 97 (List._∷_ 99 (List._∷_ 101 (List._∷_ 115 List.[])))))))))))))
-      (Syntax.tcons
-      Syntax.tyBool
-      (Syntax.tcons
-      (Syntax.tyInt Syntax.w64)
-      (Syntax.tcons (Syntax.tyInt Syntax.w64) Syntax.tnil)))),
-) (List._∷_ (
+) (List._∷_ (14, KOwn.row) (List._∷_ (
   15,
-  Rows'.any-gone
-      (Syntax.tyStruct
-      (List._∷_
-      112
-      (List._∷_
-      108
-      (List._∷_
-      97
-      (List._∷_
-      99
-      (List._∷_
-      101
-      (List._∷_
-      58
-      (List._∷_
-      58
-      (List._∷_
-      82
-      (List._∷_
-      111
-      (List._∷_
-      117
-      (List._∷_
-      116
-      (List._∷_
-      101
-      (List._∷_ 80 (List._∷_ 108 (List._∷_ 97 (List._∷_ 99 (List._∷_ 101 List.[])))))))))))))))))
-      (Syntax.tcons Syntax.tyBool (Syntax.tcons (Syntax.tyInt Syntax.w64) Syntax.tnil))),
+  Rows'.whole (Declared.row Places.the-type),
 ) List.[])))))))))))))))
 
 abbrev pub t24 : List.List Row.Entry
-t24 = List._∷_ (
+t24 = List._∷_ (16, Rows'.whole (Declared.row RoutePlace.the-type)) (List._∷_ (
+  17,
+  Rows'.any-gone (Syntax.tyInt Syntax.w64),
+) (List._∷_ (18, Rows'.any-gone (Syntax.tyInt Syntax.w64)) (List._∷_ (
+  19,
+  Rows'.any-gone
+      (Syntax.tyRef Syntax.erased Syntax.imm (KInstanceRow.named)),
+) (List._∷_ (
+  20,
+  Rows'.any-gone
+      (Syntax.tyStruct
+      (List._∷_ 38 (List._∷_ 91 (List._∷_ 93 List.[])))
+      (Syntax.tcons
+      (Syntax.tyRef Syntax.erased Syntax.imm (KInstanceRow.named))
+      (Syntax.tcons (Syntax.tyInt Syntax.w64) Syntax.tnil))),
+) (List._∷_ (21, Rows'.any-gone Syntax.tyBool) (List._∷_ (
+  22,
+  Rows'.any-gone (KDecided.spelled),
+) (List._∷_ (
+  23,
+  Rows'.any-gone
+      (Syntax.tyRef Syntax.erased Syntax.imm (KRouteRow.named)),
+) (List._∷_ (
+  24,
+  Rows'.any-gone
+      (Syntax.tyStruct
+      (List._∷_ 38 (List._∷_ 91 (List._∷_ 93 List.[])))
+      (Syntax.tcons
+      (Syntax.tyRef Syntax.erased Syntax.imm (KRouteRow.named))
+      (Syntax.tcons (Syntax.tyInt Syntax.w64) Syntax.tnil))),
+)
+    (List._∷_
+    (25, Rows'.any-gone Syntax.tyBool)
+    (List._∷_ (26, Rows'.any-gone Syntax.tyUnit) (List._∷_ (
+      27,
+      Rows'.any-gone
+          (Syntax.tyRef Syntax.erased Syntax.mut (KInstanceRow.named)),
+    ) (List._∷_ (
+      28,
+      Rows'.any-gone
+          (Syntax.tyStruct
+          (List._∷_ 38 (List._∷_ 91 (List._∷_ 93 List.[])))
+          (Syntax.tcons
+          (Syntax.tyRef Syntax.erased Syntax.mut (KInstanceRow.named))
+          (Syntax.tcons (Syntax.tyInt Syntax.w64) Syntax.tnil))),
+    ) (List._∷_ (
+      29,
+      Rows'.any-gone
+          (Syntax.tyRef Syntax.erased Syntax.mut (KRouteRow.named)),
+    ) (List._∷_ (
+      30,
+      Rows'.any-gone
+          (Syntax.tyStruct
+          (List._∷_ 38 (List._∷_ 91 (List._∷_ 93 List.[])))
+          (Syntax.tcons
+          (Syntax.tyRef Syntax.erased Syntax.mut (KRouteRow.named))
+          (Syntax.tcons (Syntax.tyInt Syntax.w64) Syntax.tnil))),
+    ) (List._∷_ (
+      31,
+      Rows'.any-gone (Syntax.tyRef Syntax.erased Syntax.mut (Syntax.tyInt Syntax.w8)),
+    ) List.[])))))))))))))))
+
+abbrev pub t25 : List.List Row.Entry
+t25 = List._∷_ (
   0,
   Rows'.any-gone
       (Syntax.tyStruct
@@ -5567,12 +5429,10 @@ t24 = List._∷_ (
       (Syntax.tcons (Syntax.tyInt Syntax.w8) Syntax.tnil)))))),
 ) (List._∷_ (
   1,
-  Relend.mslice-owed
+  Mut.mslice
       (KInstanceRow.R)
       (Syntax.tyRef (Syntax.named 0) Syntax.mut (KInstanceRow.named))
-      0
-      10
-      Row.off,
+      0,
 ) (List._∷_ (
   2,
   Mut.mslice
@@ -5591,7 +5451,7 @@ t24 = List._∷_ (
       (Referent.rtF (Referent.fInt Syntax.w8))
       (Syntax.tyRef (Syntax.named 3) Syntax.mut (Syntax.tyInt Syntax.w8))
       3,
-) (List._∷_ (5, Rows'.whole (Declared.row Own.the-type)) (List._∷_ (
+) (List._∷_ (5, Rows'.any-gone (KOwn.spelled)) (List._∷_ (
   6,
   Rows'.sc-here (Row.sInt Syntax.w64),
 ) (List._∷_ (7, Rows'.sc-here (Row.sInt Syntax.w8)) (List._∷_ (
@@ -5648,151 +5508,70 @@ t24 = List._∷_ (
       (Syntax.tcons
       (Syntax.tyInt Syntax.w64)
       (Syntax.tcons Syntax.tyBool (Syntax.tcons (Syntax.tyInt Syntax.w64) Syntax.tnil))))),
-) (List._∷_ (14, Rows'.whole (Declared.row Places.the-type)) (List._∷_ (
+) (List._∷_ (14, KOwn.row) (List._∷_ (
   15,
-  Rows'.whole (Declared.row RoutePlace.the-type),
+  Rows'.whole (Declared.row Places.the-type),
 ) List.[])))))))))))))))
 
-abbrev pub t25 : List.List Row.Entry
-t25 = List._∷_ (16, Rows'.any-gone (Syntax.tyInt Syntax.w64)) (List._∷_ (
-  17,
-  Rows'.any-gone (Syntax.tyInt Syntax.w64),
-) (List._∷_ (
-  18,
-  Rows'.any-gone
-      (Syntax.tyRef Syntax.erased Syntax.imm (KInstanceRow.named)),
-) (List._∷_ (
-  19,
-  Rows'.any-gone
-      (Syntax.tyStruct
-      (List._∷_ 38 (List._∷_ 91 (List._∷_ 93 List.[])))
-      (Syntax.tcons
-      (Syntax.tyRef Syntax.erased Syntax.imm (KInstanceRow.named))
-      (Syntax.tcons (Syntax.tyInt Syntax.w64) Syntax.tnil))),
-) (List._∷_ (20, Rows'.any-gone Syntax.tyBool) (List._∷_ (
-  21,
-  Rows'.any-gone (KDecided.spelled),
-) (List._∷_ (
-  22,
-  Rows'.any-gone
-      (Syntax.tyRef Syntax.erased Syntax.imm (KRouteRow.named)),
-) (List._∷_ (
-  23,
-  Rows'.any-gone
-      (Syntax.tyStruct
-      (List._∷_ 38 (List._∷_ 91 (List._∷_ 93 List.[])))
-      (Syntax.tcons
-      (Syntax.tyRef Syntax.erased Syntax.imm (KRouteRow.named))
-      (Syntax.tcons (Syntax.tyInt Syntax.w64) Syntax.tnil))),
-)
-    (List._∷_
-    (24, Rows'.any-gone Syntax.tyBool)
-    (List._∷_ (25, Rows'.any-gone Syntax.tyUnit) (List._∷_ (
-      26,
-      Relend.msptr
-          (KInstanceRow.R)
-          (Syntax.tyRef Syntax.erased Syntax.mut (KInstanceRow.named))
-          10,
-    ) (List._∷_ (
-      27,
-      Rows'.any-gone
-          (Syntax.tyStruct
-          (List._∷_ 38 (List._∷_ 91 (List._∷_ 93 List.[])))
-          (Syntax.tcons
-          (Syntax.tyRef Syntax.erased Syntax.mut (KInstanceRow.named))
-          (Syntax.tcons (Syntax.tyInt Syntax.w64) Syntax.tnil))),
-    ) (List._∷_ (
-      28,
-      Rows'.any-gone
-          (Syntax.tyRef Syntax.erased Syntax.mut (KRouteRow.named)),
-    ) (List._∷_ (
-      29,
-      Rows'.any-gone
-          (Syntax.tyStruct
-          (List._∷_ 38 (List._∷_ 91 (List._∷_ 93 List.[])))
-          (Syntax.tcons
-          (Syntax.tyRef Syntax.erased Syntax.mut (KRouteRow.named))
-          (Syntax.tcons (Syntax.tyInt Syntax.w64) Syntax.tnil))),
-    ) (List._∷_ (
-      30,
-      Rows'.any-gone (Syntax.tyRef Syntax.erased Syntax.mut (Syntax.tyInt Syntax.w8)),
-    ) (List._∷_ (
-      31,
-      Rows'.any-gone
-          (Syntax.tyStruct
-          (List._∷_ 38 (List._∷_ 91 (List._∷_ 93 List.[])))
-          (Syntax.tcons
-          (Syntax.tyRef Syntax.erased Syntax.mut (Syntax.tyInt Syntax.w8))
-          (Syntax.tcons (Syntax.tyInt Syntax.w64) Syntax.tnil))),
-    ) List.[])))))))))))))))
-
 abbrev pub t26 : List.List Row.Entry
-t26 = List._∷_ (16, Rows'.any-gone (Syntax.tyInt Syntax.w64)) (List._∷_ (
+t26 = List._∷_ (16, Rows'.whole (Declared.row RoutePlace.the-type)) (List._∷_ (
   17,
   Rows'.any-gone (Syntax.tyInt Syntax.w64),
-) (List._∷_ (
-  18,
+) (List._∷_ (18, Rows'.any-gone (Syntax.tyInt Syntax.w64)) (List._∷_ (
+  19,
   Rows'.any-gone
       (Syntax.tyRef Syntax.erased Syntax.imm (KInstanceRow.named)),
 ) (List._∷_ (
-  19,
+  20,
   Rows'.any-gone
       (Syntax.tyStruct
       (List._∷_ 38 (List._∷_ 91 (List._∷_ 93 List.[])))
       (Syntax.tcons
       (Syntax.tyRef Syntax.erased Syntax.imm (KInstanceRow.named))
       (Syntax.tcons (Syntax.tyInt Syntax.w64) Syntax.tnil))),
-) (List._∷_ (20, Rows'.any-gone Syntax.tyBool) (List._∷_ (
-  21,
+) (List._∷_ (21, Rows'.any-gone Syntax.tyBool) (List._∷_ (
+  22,
   Rows'.any-gone (KDecided.spelled),
 ) (List._∷_ (
-  22,
+  23,
   Rows'.any-gone
       (Syntax.tyRef Syntax.erased Syntax.imm (KRouteRow.named)),
 ) (List._∷_ (
-  23,
+  24,
   Rows'.any-gone
       (Syntax.tyStruct
       (List._∷_ 38 (List._∷_ 91 (List._∷_ 93 List.[])))
       (Syntax.tcons
       (Syntax.tyRef Syntax.erased Syntax.imm (KRouteRow.named))
       (Syntax.tcons (Syntax.tyInt Syntax.w64) Syntax.tnil))),
+) (List._∷_ (25, Rows'.sc-here Row.sBool) (List._∷_ (26, Rows'.any-gone Syntax.tyUnit) (List._∷_ (
+  27,
+  Rows'.any-gone
+      (Syntax.tyRef Syntax.erased Syntax.mut (KInstanceRow.named)),
+) (List._∷_ (
+  28,
+  Rows'.any-gone
+      (Syntax.tyStruct
+      (List._∷_ 38 (List._∷_ 91 (List._∷_ 93 List.[])))
+      (Syntax.tcons
+      (Syntax.tyRef Syntax.erased Syntax.mut (KInstanceRow.named))
+      (Syntax.tcons (Syntax.tyInt Syntax.w64) Syntax.tnil))),
+) (List._∷_ (
+  29,
+  Rows'.any-gone
+      (Syntax.tyRef Syntax.erased Syntax.mut (KRouteRow.named)),
+) (List._∷_ (
+  30,
+  Rows'.any-gone
+      (Syntax.tyStruct
+      (List._∷_ 38 (List._∷_ 91 (List._∷_ 93 List.[])))
+      (Syntax.tcons
+      (Syntax.tyRef Syntax.erased Syntax.mut (KRouteRow.named))
+      (Syntax.tcons (Syntax.tyInt Syntax.w64) Syntax.tnil))),
 )
-    (List._∷_
-    (24, Rows'.any-gone Syntax.tyBool)
-    (List._∷_ (25, Rows'.any-gone Syntax.tyUnit) (List._∷_ (
-      26,
-      Rows'.any-gone
-          (Syntax.tyRef Syntax.erased Syntax.mut (KInstanceRow.named)),
-    ) (List._∷_ (
-      27,
-      Mut.mslice
-          (KInstanceRow.R)
-          (Syntax.tyRef Syntax.erased Syntax.mut (KInstanceRow.named))
-          10,
-    ) (List._∷_ (
-      28,
-      Rows'.any-gone
-          (Syntax.tyRef Syntax.erased Syntax.mut (KRouteRow.named)),
-    ) (List._∷_ (
-      29,
-      Rows'.any-gone
-          (Syntax.tyStruct
-          (List._∷_ 38 (List._∷_ 91 (List._∷_ 93 List.[])))
-          (Syntax.tcons
-          (Syntax.tyRef Syntax.erased Syntax.mut (KRouteRow.named))
-          (Syntax.tcons (Syntax.tyInt Syntax.w64) Syntax.tnil))),
-    ) (List._∷_ (
-      30,
-      Rows'.any-gone (Syntax.tyRef Syntax.erased Syntax.mut (Syntax.tyInt Syntax.w8)),
-    ) (List._∷_ (
+    (List._∷_ (
       31,
-      Rows'.any-gone
-          (Syntax.tyStruct
-          (List._∷_ 38 (List._∷_ 91 (List._∷_ 93 List.[])))
-          (Syntax.tcons
-          (Syntax.tyRef Syntax.erased Syntax.mut (Syntax.tyInt Syntax.w8))
-          (Syntax.tcons (Syntax.tyInt Syntax.w64) Syntax.tnil))),
+      Rows'.any-gone (Syntax.tyRef Syntax.erased Syntax.mut (Syntax.tyInt Syntax.w8)),
     ) List.[])))))))))))))))
 
 abbrev pub t27 : List.List Row.Entry
@@ -6028,20 +5807,16 @@ t27 = List._∷_ (
       (Syntax.tcons (Syntax.tyInt Syntax.w8) Syntax.tnil)))))),
 ) (List._∷_ (
   1,
-  Relend.mslice-owed
+  Mut.mslice
       (KInstanceRow.R)
       (Syntax.tyRef (Syntax.named 0) Syntax.mut (KInstanceRow.named))
-      0
-      10
-      Row.off,
+      0,
 ) (List._∷_ (
   2,
-  Relend.mslice-owed
+  Mut.mslice
       (KRouteRow.R)
       (Syntax.tyRef (Syntax.named 1) Syntax.mut (KRouteRow.named))
-      1
-      11
-      Row.off,
+      1,
 ) (List._∷_ (
   3,
   Mut.mslice
@@ -6054,7 +5829,7 @@ t27 = List._∷_ (
       (Referent.rtF (Referent.fInt Syntax.w8))
       (Syntax.tyRef (Syntax.named 3) Syntax.mut (Syntax.tyInt Syntax.w8))
       3,
-) (List._∷_ (5, Rows'.whole (Declared.row Own.the-type)) (List._∷_ (
+) (List._∷_ (5, Rows'.any-gone (KOwn.spelled)) (List._∷_ (
   6,
   Rows'.sc-here (Row.sInt Syntax.w64),
 ) (List._∷_ (7, Rows'.sc-here (Row.sInt Syntax.w8)) (List._∷_ (
@@ -6111,107 +5886,378 @@ t27 = List._∷_ (
       (Syntax.tcons
       (Syntax.tyInt Syntax.w64)
       (Syntax.tcons Syntax.tyBool (Syntax.tcons (Syntax.tyInt Syntax.w64) Syntax.tnil))))),
-) (List._∷_ (14, Rows'.whole (Declared.row Places.the-type)) (List._∷_ (
+) (List._∷_ (14, Rows'.any-gone (KOwn.spelled)) (List._∷_ (
   15,
-  Rows'.whole (Declared.row RoutePlace.the-type),
+  Rows'.any-gone
+      (Syntax.tyStruct
+      (List._∷_
+      112
+      (List._∷_
+      108
+      (List._∷_
+      97
+      (List._∷_
+      99
+      (List._∷_
+      101
+      (List._∷_
+      58
+      (List._∷_
+      58
+      (List._∷_
+      80
+      (List._∷_ 108 (List._∷_ 97 (List._∷_ 99 (List._∷_ 101 (List._∷_ 115 List.[])))))))))))))
+      (Syntax.tcons
+      Syntax.tyBool
+      (Syntax.tcons
+      (Syntax.tyInt Syntax.w64)
+      (Syntax.tcons (Syntax.tyInt Syntax.w64) Syntax.tnil)))),
 ) List.[])))))))))))))))
 
 abbrev pub t28 : List.List Row.Entry
-t28 = List._∷_ (16, Rows'.any-gone (Syntax.tyInt Syntax.w64)) (List._∷_ (
-  17,
-  Rows'.any-gone (Syntax.tyInt Syntax.w64),
-) (List._∷_ (
-  18,
-  Rows'.any-gone
-      (Syntax.tyRef Syntax.erased Syntax.imm (KInstanceRow.named)),
-) (List._∷_ (
-  19,
+t28 = List._∷_ (
+  0,
   Rows'.any-gone
       (Syntax.tyStruct
-      (List._∷_ 38 (List._∷_ 91 (List._∷_ 93 List.[])))
+      (List._∷_
+      102
+      (List._∷_
+      105
+      (List._∷_
+      110
+      (List._∷_
+      105
+      (List._∷_
+      115
+      (List._∷_
+      104
+      (List._∷_
+      58
+      (List._∷_
+      58
+      (List._∷_
+      79
+      (List._∷_
+      117
+      (List._∷_ 116 (List._∷_ 99 (List._∷_ 111 (List._∷_ 109 (List._∷_ 101 List.[])))))))))))))))
       (Syntax.tcons
-      (Syntax.tyRef Syntax.erased Syntax.imm (KInstanceRow.named))
-      (Syntax.tcons (Syntax.tyInt Syntax.w64) Syntax.tnil))),
-) (List._∷_ (20, Rows'.any-gone Syntax.tyBool) (List._∷_ (
-  21,
-  Rows'.any-gone (KDecided.spelled),
+      (Syntax.tyStruct
+      (List._∷_
+      102
+      (List._∷_
+      105
+      (List._∷_
+      110
+      (List._∷_
+      105
+      (List._∷_
+      115
+      (List._∷_
+      104
+      (List._∷_
+      58
+      (List._∷_ 58 (List._∷_ 83 (List._∷_ 101 (List._∷_ 110 (List._∷_ 116 List.[]))))))))))))
+      (Syntax.tcons
+      (Syntax.tyStruct
+      (List._∷_
+      97
+      (List._∷_
+      110
+      (List._∷_
+      115
+      (List._∷_
+      119
+      (List._∷_
+      101
+      (List._∷_
+      114
+      (List._∷_
+      58
+      (List._∷_
+      58
+      (List._∷_
+      68
+      (List._∷_
+      101
+      (List._∷_
+      115
+      (List._∷_
+      116
+      (List._∷_
+      105
+      (List._∷_
+      110
+      (List._∷_
+      97
+      (List._∷_ 116 (List._∷_ 105 (List._∷_ 111 (List._∷_ 110 List.[])))))))))))))))))))
+      (Syntax.tcons
+      (Syntax.tyArray (Syntax.tyInt Syntax.w8) 16)
+      (Syntax.tcons
+      (Syntax.tyEnum
+      (List._∷_
+      97
+      (List._∷_
+      110
+      (List._∷_
+      115
+      (List._∷_
+      119
+      (List._∷_
+      101
+      (List._∷_
+      114
+      (List._∷_ 58 (List._∷_ 58 (List._∷_ 87 (List._∷_ 97 (List._∷_ 121 List.[])))))))))))
+      (Syntax.ttcons
+      Syntax.tnil
+      (Syntax.ttcons
+      Syntax.tnil
+      (Syntax.ttcons Syntax.tnil (Syntax.ttcons Syntax.tnil Syntax.ttnil)))))
+      Syntax.tnil)))
+      (Syntax.tcons (Syntax.tyInt Syntax.w64) Syntax.tnil)))
+      (Syntax.tcons
+      (Syntax.tyInt Syntax.w64)
+      (Syntax.tcons
+      (Syntax.tyStruct
+      (List._∷_
+      102
+      (List._∷_
+      105
+      (List._∷_
+      110
+      (List._∷_
+      105
+      (List._∷_
+      115
+      (List._∷_
+      104
+      (List._∷_
+      58
+      (List._∷_ 58 (List._∷_ 83 (List._∷_ 101 (List._∷_ 110 (List._∷_ 116 List.[]))))))))))))
+      (Syntax.tcons
+      (Syntax.tyStruct
+      (List._∷_
+      97
+      (List._∷_
+      110
+      (List._∷_
+      115
+      (List._∷_
+      119
+      (List._∷_
+      101
+      (List._∷_
+      114
+      (List._∷_
+      58
+      (List._∷_
+      58
+      (List._∷_
+      68
+      (List._∷_
+      101
+      (List._∷_
+      115
+      (List._∷_
+      116
+      (List._∷_
+      105
+      (List._∷_
+      110
+      (List._∷_
+      97
+      (List._∷_ 116 (List._∷_ 105 (List._∷_ 111 (List._∷_ 110 List.[])))))))))))))))))))
+      (Syntax.tcons
+      (Syntax.tyArray (Syntax.tyInt Syntax.w8) 16)
+      (Syntax.tcons
+      (Syntax.tyEnum
+      (List._∷_
+      97
+      (List._∷_
+      110
+      (List._∷_
+      115
+      (List._∷_
+      119
+      (List._∷_
+      101
+      (List._∷_
+      114
+      (List._∷_ 58 (List._∷_ 58 (List._∷_ 87 (List._∷_ 97 (List._∷_ 121 List.[])))))))))))
+      (Syntax.ttcons
+      Syntax.tnil
+      (Syntax.ttcons
+      Syntax.tnil
+      (Syntax.ttcons Syntax.tnil (Syntax.ttcons Syntax.tnil Syntax.ttnil)))))
+      Syntax.tnil)))
+      (Syntax.tcons (Syntax.tyInt Syntax.w64) Syntax.tnil)))
+      (Syntax.tcons
+      (Syntax.tyEnum
+      (List._∷_
+      97
+      (List._∷_
+      110
+      (List._∷_
+      115
+      (List._∷_
+      119
+      (List._∷_
+      101
+      (List._∷_
+      114
+      (List._∷_
+      58
+      (List._∷_
+      58
+      (List._∷_
+      65
+      (List._∷_ 110 (List._∷_ 115 (List._∷_ 119 (List._∷_ 101 (List._∷_ 114 List.[]))))))))))))))
+      (Syntax.ttcons
+      Syntax.tnil
+      (Syntax.ttcons
+      Syntax.tnil
+      (Syntax.ttcons
+      Syntax.tnil
+      (Syntax.ttcons
+      Syntax.tnil
+      (Syntax.ttcons
+      Syntax.tnil
+      (Syntax.ttcons
+      Syntax.tnil
+      (Syntax.ttcons
+      Syntax.tnil
+      (Syntax.ttcons
+      Syntax.tnil
+      (Syntax.ttcons
+      Syntax.tnil
+      (Syntax.ttcons
+      Syntax.tnil
+      (Syntax.ttcons
+      Syntax.tnil
+      (Syntax.ttcons
+      Syntax.tnil
+      (Syntax.ttcons
+      Syntax.tnil
+      (Syntax.ttcons
+      Syntax.tnil
+      (Syntax.ttcons
+      Syntax.tnil
+      (Syntax.ttcons
+      Syntax.tnil
+      (Syntax.ttcons Syntax.tnil (Syntax.ttcons Syntax.tnil Syntax.ttnil)))))))))))))))))))
+      (Syntax.tcons (Syntax.tyInt Syntax.w8) Syntax.tnil)))))),
 ) (List._∷_ (
-  22,
-  Rows'.any-gone
-      (Syntax.tyRef Syntax.erased Syntax.imm (KRouteRow.named)),
+  1,
+  Relend.mslice-owed
+      (KInstanceRow.R)
+      (Syntax.tyRef (Syntax.named 0) Syntax.mut (KInstanceRow.named))
+      0
+      10
+      Row.off,
 ) (List._∷_ (
-  23,
+  2,
+  Mut.mslice
+      (KRouteRow.R)
+      (Syntax.tyRef (Syntax.named 1) Syntax.mut (KRouteRow.named))
+      1,
+) (List._∷_ (
+  3,
+  Mut.mslice
+      (Referent.rtF (Referent.fInt Syntax.w8))
+      (Syntax.tyRef (Syntax.named 2) Syntax.mut (Syntax.tyInt Syntax.w8))
+      2,
+) (List._∷_ (
+  4,
+  Mut.mslice
+      (Referent.rtF (Referent.fInt Syntax.w8))
+      (Syntax.tyRef (Syntax.named 3) Syntax.mut (Syntax.tyInt Syntax.w8))
+      3,
+) (List._∷_ (5, Rows'.any-gone (KOwn.spelled)) (List._∷_ (
+  6,
+  Rows'.sc-here (Row.sInt Syntax.w64),
+) (List._∷_ (7, Rows'.sc-here (Row.sInt Syntax.w8)) (List._∷_ (
+  8,
+  Rows'.sc-here (Row.sInt Syntax.w64),
+) (List._∷_ (
+  9,
+  Rows'.sref
+      (Array'.Array (Array'.Array (Referent.rtF (Referent.fInt Syntax.w8)) 16) 16)
+      (Syntax.tyRef
+      (Syntax.named 4)
+      Syntax.imm
+      (Syntax.tyArray (Syntax.tyArray (Syntax.tyInt Syntax.w8) 16) 16))
+      4,
+) (List._∷_ (
+  10,
+  Rows'.sref
+      (KDecided.R)
+      (Syntax.tyRef (Syntax.named 5) Syntax.imm (KDecided.named))
+      5,
+) (List._∷_ (
+  11,
+  Rows'.sref
+      (KPost.R)
+      (Syntax.tyRef (Syntax.named 6) Syntax.imm (KPost.named))
+      6,
+) (List._∷_ (
+  12,
+  Rows'.sref
+      (KPost.R)
+      (Syntax.tyRef (Syntax.named 7) Syntax.imm (KPost.named))
+      7,
+) (List._∷_ (
+  13,
   Rows'.any-gone
       (Syntax.tyStruct
-      (List._∷_ 38 (List._∷_ 91 (List._∷_ 93 List.[])))
+      (List._∷_
+      102
+      (List._∷_
+      105
+      (List._∷_
+      110
+      (List._∷_
+      105
+      (List._∷_
+      115
+      (List._∷_
+      104
+      (List._∷_
+      58
+      (List._∷_ 58 (List._∷_ 76 (List._∷_ 105 (List._∷_ 118 (List._∷_ 101 List.[]))))))))))))
       (Syntax.tcons
-      (Syntax.tyRef Syntax.erased Syntax.imm (KRouteRow.named))
-      (Syntax.tcons (Syntax.tyInt Syntax.w64) Syntax.tnil))),
-)
-    (List._∷_
-    (24, Rows'.any-gone Syntax.tyBool)
-    (List._∷_ (25, Rows'.any-gone Syntax.tyUnit) (List._∷_ (
-      26,
-      Rows'.any-gone
-          (Syntax.tyRef Syntax.erased Syntax.mut (KInstanceRow.named)),
-    ) (List._∷_ (
-      27,
-      Mut.mslice
-          (KInstanceRow.R)
-          (Syntax.tyRef Syntax.erased Syntax.mut (KInstanceRow.named))
-          10,
-    ) (List._∷_ (
-      28,
-      Relend.msptr
-          (KRouteRow.R)
-          (Syntax.tyRef Syntax.erased Syntax.mut (KRouteRow.named))
-          11,
-    ) (List._∷_ (
-      29,
-      Rows'.any-gone
-          (Syntax.tyStruct
-          (List._∷_ 38 (List._∷_ 91 (List._∷_ 93 List.[])))
-          (Syntax.tcons
-          (Syntax.tyRef Syntax.erased Syntax.mut (KRouteRow.named))
-          (Syntax.tcons (Syntax.tyInt Syntax.w64) Syntax.tnil))),
-    ) (List._∷_ (
-      30,
-      Rows'.any-gone (Syntax.tyRef Syntax.erased Syntax.mut (Syntax.tyInt Syntax.w8)),
-    ) (List._∷_ (
-      31,
-      Rows'.any-gone
-          (Syntax.tyStruct
-          (List._∷_ 38 (List._∷_ 91 (List._∷_ 93 List.[])))
-          (Syntax.tcons
-          (Syntax.tyRef Syntax.erased Syntax.mut (Syntax.tyInt Syntax.w8))
-          (Syntax.tcons (Syntax.tyInt Syntax.w64) Syntax.tnil))),
-    ) List.[])))))))))))))))
+      Syntax.tyBool
+      (Syntax.tcons
+      (Syntax.tyInt Syntax.w64)
+      (Syntax.tcons Syntax.tyBool (Syntax.tcons (Syntax.tyInt Syntax.w64) Syntax.tnil))))),
+) (List._∷_ (14, KOwn.row) (List._∷_ (
+  15,
+  Rows'.whole (Declared.row Places.the-type),
+) List.[])))))))))))))))
 
 abbrev pub t29 : List.List Row.Entry
-t29 = List._∷_ (16, Rows'.any-gone (Syntax.tyInt Syntax.w64)) (List._∷_ (
+t29 = List._∷_ (16, Rows'.whole (Declared.row RoutePlace.the-type)) (List._∷_ (
   17,
   Rows'.any-gone (Syntax.tyInt Syntax.w64),
-) (List._∷_ (
-  18,
+) (List._∷_ (18, Rows'.any-gone (Syntax.tyInt Syntax.w64)) (List._∷_ (
+  19,
   Rows'.any-gone
       (Syntax.tyRef Syntax.erased Syntax.imm (KInstanceRow.named)),
 ) (List._∷_ (
-  19,
+  20,
   Rows'.any-gone
       (Syntax.tyStruct
       (List._∷_ 38 (List._∷_ 91 (List._∷_ 93 List.[])))
       (Syntax.tcons
       (Syntax.tyRef Syntax.erased Syntax.imm (KInstanceRow.named))
       (Syntax.tcons (Syntax.tyInt Syntax.w64) Syntax.tnil))),
-) (List._∷_ (20, Rows'.any-gone Syntax.tyBool) (List._∷_ (
-  21,
+) (List._∷_ (21, Rows'.any-gone Syntax.tyBool) (List._∷_ (
+  22,
   Rows'.any-gone (KDecided.spelled),
 ) (List._∷_ (
-  22,
+  23,
   Rows'.any-gone
       (Syntax.tyRef Syntax.erased Syntax.imm (KRouteRow.named)),
 ) (List._∷_ (
-  23,
+  24,
   Rows'.any-gone
       (Syntax.tyStruct
       (List._∷_ 38 (List._∷_ 91 (List._∷_ 93 List.[])))
@@ -6220,101 +6266,97 @@ t29 = List._∷_ (16, Rows'.any-gone (Syntax.tyInt Syntax.w64)) (List._∷_ (
       (Syntax.tcons (Syntax.tyInt Syntax.w64) Syntax.tnil))),
 )
     (List._∷_
-    (24, Rows'.any-gone Syntax.tyBool)
-    (List._∷_ (25, Rows'.any-gone Syntax.tyUnit) (List._∷_ (
-      26,
-      Rows'.any-gone
-          (Syntax.tyRef Syntax.erased Syntax.mut (KInstanceRow.named)),
-    ) (List._∷_ (
+    (25, Rows'.any-gone Syntax.tyBool)
+    (List._∷_ (26, Rows'.any-gone Syntax.tyUnit) (List._∷_ (
       27,
-      Mut.mslice
+      Relend.msptr
           (KInstanceRow.R)
           (Syntax.tyRef Syntax.erased Syntax.mut (KInstanceRow.named))
           10,
     ) (List._∷_ (
       28,
+      Rows'.any-gone
+          (Syntax.tyStruct
+          (List._∷_ 38 (List._∷_ 91 (List._∷_ 93 List.[])))
+          (Syntax.tcons
+          (Syntax.tyRef Syntax.erased Syntax.mut (KInstanceRow.named))
+          (Syntax.tcons (Syntax.tyInt Syntax.w64) Syntax.tnil))),
+    ) (List._∷_ (
+      29,
       Rows'.any-gone
           (Syntax.tyRef Syntax.erased Syntax.mut (KRouteRow.named)),
     ) (List._∷_ (
-      29,
-      Mut.mslice
-          (KRouteRow.R)
-          (Syntax.tyRef Syntax.erased Syntax.mut (KRouteRow.named))
-          11,
-    ) (List._∷_ (
       30,
-      Rows'.any-gone (Syntax.tyRef Syntax.erased Syntax.mut (Syntax.tyInt Syntax.w8)),
-    ) (List._∷_ (
-      31,
       Rows'.any-gone
           (Syntax.tyStruct
           (List._∷_ 38 (List._∷_ 91 (List._∷_ 93 List.[])))
           (Syntax.tcons
-          (Syntax.tyRef Syntax.erased Syntax.mut (Syntax.tyInt Syntax.w8))
+          (Syntax.tyRef Syntax.erased Syntax.mut (KRouteRow.named))
           (Syntax.tcons (Syntax.tyInt Syntax.w64) Syntax.tnil))),
+    ) (List._∷_ (
+      31,
+      Rows'.any-gone (Syntax.tyRef Syntax.erased Syntax.mut (Syntax.tyInt Syntax.w8)),
     ) List.[])))))))))))))))
 
 abbrev pub t30 : List.List Row.Entry
-t30 = List._∷_ (16, Rows'.any-gone (Syntax.tyInt Syntax.w64)) (List._∷_ (
+t30 = List._∷_ (16, Rows'.whole (Declared.row RoutePlace.the-type)) (List._∷_ (
   17,
   Rows'.any-gone (Syntax.tyInt Syntax.w64),
-) (List._∷_ (
-  18,
+) (List._∷_ (18, Rows'.any-gone (Syntax.tyInt Syntax.w64)) (List._∷_ (
+  19,
   Rows'.any-gone
       (Syntax.tyRef Syntax.erased Syntax.imm (KInstanceRow.named)),
 ) (List._∷_ (
-  19,
+  20,
   Rows'.any-gone
       (Syntax.tyStruct
       (List._∷_ 38 (List._∷_ 91 (List._∷_ 93 List.[])))
       (Syntax.tcons
       (Syntax.tyRef Syntax.erased Syntax.imm (KInstanceRow.named))
       (Syntax.tcons (Syntax.tyInt Syntax.w64) Syntax.tnil))),
-) (List._∷_ (20, Rows'.any-gone Syntax.tyBool) (List._∷_ (
-  21,
+) (List._∷_ (21, Rows'.any-gone Syntax.tyBool) (List._∷_ (
+  22,
   Rows'.any-gone (KDecided.spelled),
 ) (List._∷_ (
-  22,
+  23,
   Rows'.any-gone
       (Syntax.tyRef Syntax.erased Syntax.imm (KRouteRow.named)),
 ) (List._∷_ (
-  23,
+  24,
   Rows'.any-gone
       (Syntax.tyStruct
       (List._∷_ 38 (List._∷_ 91 (List._∷_ 93 List.[])))
       (Syntax.tcons
       (Syntax.tyRef Syntax.erased Syntax.imm (KRouteRow.named))
       (Syntax.tcons (Syntax.tyInt Syntax.w64) Syntax.tnil))),
-) (List._∷_ (24, Rows'.any-gone Syntax.tyBool) (List._∷_ (25, Rows'.sc-here Row.sUnit) (List._∷_ (
-  26,
-  Rows'.any-gone
-      (Syntax.tyRef Syntax.erased Syntax.mut (KInstanceRow.named)),
-) (List._∷_ (
-  27,
-  Mut.msleft
-      (KInstanceRow.R)
-      (Syntax.tyRef Syntax.erased Syntax.mut (KInstanceRow.named)),
-) (List._∷_ (
-  28,
-  Rows'.any-gone
-      (Syntax.tyRef Syntax.erased Syntax.mut (KRouteRow.named)),
-) (List._∷_ (
-  29,
-  Mut.msleft
-      (KRouteRow.R)
-      (Syntax.tyRef Syntax.erased Syntax.mut (KRouteRow.named)),
 )
-    (List._∷_ (
-      30,
-      Rows'.any-gone (Syntax.tyRef Syntax.erased Syntax.mut (Syntax.tyInt Syntax.w8)),
+    (List._∷_
+    (25, Rows'.any-gone Syntax.tyBool)
+    (List._∷_ (26, Rows'.any-gone Syntax.tyUnit) (List._∷_ (
+      27,
+      Rows'.any-gone
+          (Syntax.tyRef Syntax.erased Syntax.mut (KInstanceRow.named)),
     ) (List._∷_ (
-      31,
+      28,
+      Mut.mslice
+          (KInstanceRow.R)
+          (Syntax.tyRef Syntax.erased Syntax.mut (KInstanceRow.named))
+          10,
+    ) (List._∷_ (
+      29,
+      Rows'.any-gone
+          (Syntax.tyRef Syntax.erased Syntax.mut (KRouteRow.named)),
+    ) (List._∷_ (
+      30,
       Rows'.any-gone
           (Syntax.tyStruct
           (List._∷_ 38 (List._∷_ 91 (List._∷_ 93 List.[])))
           (Syntax.tcons
-          (Syntax.tyRef Syntax.erased Syntax.mut (Syntax.tyInt Syntax.w8))
+          (Syntax.tyRef Syntax.erased Syntax.mut (KRouteRow.named))
           (Syntax.tcons (Syntax.tyInt Syntax.w64) Syntax.tnil))),
+    ) (List._∷_ (
+      31,
+      Rows'.any-gone (Syntax.tyRef Syntax.erased Syntax.mut (Syntax.tyInt Syntax.w8)),
     ) List.[])))))))))))))))
 
 abbrev pub t31 : List.List Row.Entry
@@ -6576,7 +6618,7 @@ t31 = List._∷_ (
       (Referent.rtF (Referent.fInt Syntax.w8))
       (Syntax.tyRef (Syntax.named 3) Syntax.mut (Syntax.tyInt Syntax.w8))
       3,
-) (List._∷_ (5, Rows'.whole (Declared.row Own.the-type)) (List._∷_ (
+) (List._∷_ (5, Rows'.any-gone (KOwn.spelled)) (List._∷_ (
   6,
   Rows'.sc-here (Row.sInt Syntax.w64),
 ) (List._∷_ (7, Rows'.sc-here (Row.sInt Syntax.w8)) (List._∷_ (
@@ -6633,36 +6675,190 @@ t31 = List._∷_ (
       (Syntax.tcons
       (Syntax.tyInt Syntax.w64)
       (Syntax.tcons Syntax.tyBool (Syntax.tcons (Syntax.tyInt Syntax.w64) Syntax.tnil))))),
-) (List._∷_ (
-  14,
-  Rows'.any-gone
-      (Syntax.tyStruct
-      (List._∷_
-      112
-      (List._∷_
-      108
-      (List._∷_
-      97
-      (List._∷_
-      99
-      (List._∷_
-      101
-      (List._∷_
-      58
-      (List._∷_
-      58
-      (List._∷_
-      80
-      (List._∷_ 108 (List._∷_ 97 (List._∷_ 99 (List._∷_ 101 (List._∷_ 115 List.[])))))))))))))
-      (Syntax.tcons
-      Syntax.tyBool
-      (Syntax.tcons
-      (Syntax.tyInt Syntax.w64)
-      (Syntax.tcons (Syntax.tyInt Syntax.w64) Syntax.tnil)))),
-) (List._∷_ (15, Rows'.whole (Declared.row RoutePlace.the-type)) List.[])))))))))))))))
+) (List._∷_ (14, KOwn.row) (List._∷_ (
+  15,
+  Rows'.whole (Declared.row Places.the-type),
+) List.[])))))))))))))))
 
 abbrev pub t32 : List.List Row.Entry
-t32 = List._∷_ (
+t32 = List._∷_ (16, Rows'.whole (Declared.row RoutePlace.the-type)) (List._∷_ (
+  17,
+  Rows'.any-gone (Syntax.tyInt Syntax.w64),
+) (List._∷_ (18, Rows'.any-gone (Syntax.tyInt Syntax.w64)) (List._∷_ (
+  19,
+  Rows'.any-gone
+      (Syntax.tyRef Syntax.erased Syntax.imm (KInstanceRow.named)),
+) (List._∷_ (
+  20,
+  Rows'.any-gone
+      (Syntax.tyStruct
+      (List._∷_ 38 (List._∷_ 91 (List._∷_ 93 List.[])))
+      (Syntax.tcons
+      (Syntax.tyRef Syntax.erased Syntax.imm (KInstanceRow.named))
+      (Syntax.tcons (Syntax.tyInt Syntax.w64) Syntax.tnil))),
+) (List._∷_ (21, Rows'.any-gone Syntax.tyBool) (List._∷_ (
+  22,
+  Rows'.any-gone (KDecided.spelled),
+) (List._∷_ (
+  23,
+  Rows'.any-gone
+      (Syntax.tyRef Syntax.erased Syntax.imm (KRouteRow.named)),
+) (List._∷_ (
+  24,
+  Rows'.any-gone
+      (Syntax.tyStruct
+      (List._∷_ 38 (List._∷_ 91 (List._∷_ 93 List.[])))
+      (Syntax.tcons
+      (Syntax.tyRef Syntax.erased Syntax.imm (KRouteRow.named))
+      (Syntax.tcons (Syntax.tyInt Syntax.w64) Syntax.tnil))),
+)
+    (List._∷_
+    (25, Rows'.any-gone Syntax.tyBool)
+    (List._∷_ (26, Rows'.any-gone Syntax.tyUnit) (List._∷_ (
+      27,
+      Rows'.any-gone
+          (Syntax.tyRef Syntax.erased Syntax.mut (KInstanceRow.named)),
+    ) (List._∷_ (
+      28,
+      Mut.mslice
+          (KInstanceRow.R)
+          (Syntax.tyRef Syntax.erased Syntax.mut (KInstanceRow.named))
+          10,
+    ) (List._∷_ (
+      29,
+      Relend.msptr
+          (KRouteRow.R)
+          (Syntax.tyRef Syntax.erased Syntax.mut (KRouteRow.named))
+          11,
+    ) (List._∷_ (
+      30,
+      Rows'.any-gone
+          (Syntax.tyStruct
+          (List._∷_ 38 (List._∷_ 91 (List._∷_ 93 List.[])))
+          (Syntax.tcons
+          (Syntax.tyRef Syntax.erased Syntax.mut (KRouteRow.named))
+          (Syntax.tcons (Syntax.tyInt Syntax.w64) Syntax.tnil))),
+    ) (List._∷_ (
+      31,
+      Rows'.any-gone (Syntax.tyRef Syntax.erased Syntax.mut (Syntax.tyInt Syntax.w8)),
+    ) List.[])))))))))))))))
+
+abbrev pub t33 : List.List Row.Entry
+t33 = List._∷_ (16, Rows'.whole (Declared.row RoutePlace.the-type)) (List._∷_ (
+  17,
+  Rows'.any-gone (Syntax.tyInt Syntax.w64),
+) (List._∷_ (18, Rows'.any-gone (Syntax.tyInt Syntax.w64)) (List._∷_ (
+  19,
+  Rows'.any-gone
+      (Syntax.tyRef Syntax.erased Syntax.imm (KInstanceRow.named)),
+) (List._∷_ (
+  20,
+  Rows'.any-gone
+      (Syntax.tyStruct
+      (List._∷_ 38 (List._∷_ 91 (List._∷_ 93 List.[])))
+      (Syntax.tcons
+      (Syntax.tyRef Syntax.erased Syntax.imm (KInstanceRow.named))
+      (Syntax.tcons (Syntax.tyInt Syntax.w64) Syntax.tnil))),
+) (List._∷_ (21, Rows'.any-gone Syntax.tyBool) (List._∷_ (
+  22,
+  Rows'.any-gone (KDecided.spelled),
+) (List._∷_ (
+  23,
+  Rows'.any-gone
+      (Syntax.tyRef Syntax.erased Syntax.imm (KRouteRow.named)),
+) (List._∷_ (
+  24,
+  Rows'.any-gone
+      (Syntax.tyStruct
+      (List._∷_ 38 (List._∷_ 91 (List._∷_ 93 List.[])))
+      (Syntax.tcons
+      (Syntax.tyRef Syntax.erased Syntax.imm (KRouteRow.named))
+      (Syntax.tcons (Syntax.tyInt Syntax.w64) Syntax.tnil))),
+)
+    (List._∷_
+    (25, Rows'.any-gone Syntax.tyBool)
+    (List._∷_ (26, Rows'.any-gone Syntax.tyUnit) (List._∷_ (
+      27,
+      Rows'.any-gone
+          (Syntax.tyRef Syntax.erased Syntax.mut (KInstanceRow.named)),
+    ) (List._∷_ (
+      28,
+      Mut.mslice
+          (KInstanceRow.R)
+          (Syntax.tyRef Syntax.erased Syntax.mut (KInstanceRow.named))
+          10,
+    ) (List._∷_ (
+      29,
+      Rows'.any-gone
+          (Syntax.tyRef Syntax.erased Syntax.mut (KRouteRow.named)),
+    ) (List._∷_ (
+      30,
+      Mut.mslice
+          (KRouteRow.R)
+          (Syntax.tyRef Syntax.erased Syntax.mut (KRouteRow.named))
+          11,
+    ) (List._∷_ (
+      31,
+      Rows'.any-gone (Syntax.tyRef Syntax.erased Syntax.mut (Syntax.tyInt Syntax.w8)),
+    ) List.[])))))))))))))))
+
+abbrev pub t34 : List.List Row.Entry
+t34 = List._∷_ (16, Rows'.whole (Declared.row RoutePlace.the-type)) (List._∷_ (
+  17,
+  Rows'.any-gone (Syntax.tyInt Syntax.w64),
+) (List._∷_ (18, Rows'.any-gone (Syntax.tyInt Syntax.w64)) (List._∷_ (
+  19,
+  Rows'.any-gone
+      (Syntax.tyRef Syntax.erased Syntax.imm (KInstanceRow.named)),
+) (List._∷_ (
+  20,
+  Rows'.any-gone
+      (Syntax.tyStruct
+      (List._∷_ 38 (List._∷_ 91 (List._∷_ 93 List.[])))
+      (Syntax.tcons
+      (Syntax.tyRef Syntax.erased Syntax.imm (KInstanceRow.named))
+      (Syntax.tcons (Syntax.tyInt Syntax.w64) Syntax.tnil))),
+) (List._∷_ (21, Rows'.any-gone Syntax.tyBool) (List._∷_ (
+  22,
+  Rows'.any-gone (KDecided.spelled),
+) (List._∷_ (
+  23,
+  Rows'.any-gone
+      (Syntax.tyRef Syntax.erased Syntax.imm (KRouteRow.named)),
+) (List._∷_ (
+  24,
+  Rows'.any-gone
+      (Syntax.tyStruct
+      (List._∷_ 38 (List._∷_ 91 (List._∷_ 93 List.[])))
+      (Syntax.tcons
+      (Syntax.tyRef Syntax.erased Syntax.imm (KRouteRow.named))
+      (Syntax.tcons (Syntax.tyInt Syntax.w64) Syntax.tnil))),
+) (List._∷_ (25, Rows'.any-gone Syntax.tyBool) (List._∷_ (26, Rows'.sc-here Row.sUnit) (List._∷_ (
+  27,
+  Rows'.any-gone
+      (Syntax.tyRef Syntax.erased Syntax.mut (KInstanceRow.named)),
+) (List._∷_ (
+  28,
+  Mut.msleft
+      (KInstanceRow.R)
+      (Syntax.tyRef Syntax.erased Syntax.mut (KInstanceRow.named)),
+) (List._∷_ (
+  29,
+  Rows'.any-gone
+      (Syntax.tyRef Syntax.erased Syntax.mut (KRouteRow.named)),
+) (List._∷_ (
+  30,
+  Mut.msleft
+      (KRouteRow.R)
+      (Syntax.tyRef Syntax.erased Syntax.mut (KRouteRow.named)),
+)
+    (List._∷_ (
+      31,
+      Rows'.any-gone (Syntax.tyRef Syntax.erased Syntax.mut (Syntax.tyInt Syntax.w8)),
+    ) List.[])))))))))))))))
+
+abbrev pub t35 : List.List Row.Entry
+t35 = List._∷_ (
   0,
   Rows'.any-gone
       (Syntax.tyStruct
@@ -6920,7 +7116,7 @@ t32 = List._∷_ (
       (Referent.rtF (Referent.fInt Syntax.w8))
       (Syntax.tyRef (Syntax.named 3) Syntax.mut (Syntax.tyInt Syntax.w8))
       3,
-) (List._∷_ (5, Rows'.whole (Declared.row Own.the-type)) (List._∷_ (
+) (List._∷_ (5, Rows'.any-gone (KOwn.spelled)) (List._∷_ (
   6,
   Rows'.sc-here (Row.sInt Syntax.w64),
 ) (List._∷_ (7, Rows'.sc-here (Row.sInt Syntax.w8)) (List._∷_ (
@@ -6977,8 +7173,8 @@ t32 = List._∷_ (
       (Syntax.tcons
       (Syntax.tyInt Syntax.w64)
       (Syntax.tcons Syntax.tyBool (Syntax.tcons (Syntax.tyInt Syntax.w64) Syntax.tnil))))),
-) (List._∷_ (
-  14,
+) (List._∷_ (14, KOwn.row) (List._∷_ (
+  15,
   Rows'.any-gone
       (Syntax.tyStruct
       (List._∷_
@@ -7003,8 +7199,11 @@ t32 = List._∷_ (
       (Syntax.tcons
       (Syntax.tyInt Syntax.w64)
       (Syntax.tcons (Syntax.tyInt Syntax.w64) Syntax.tnil)))),
-) (List._∷_ (
-  15,
+) List.[])))))))))))))))
+
+abbrev pub t36 : List.List Row.Entry
+t36 = List._∷_ (
+  16,
   Rows'.any-gone
       (Syntax.tyStruct
       (List._∷_
@@ -7033,33 +7232,115 @@ t32 = List._∷_ (
       101
       (List._∷_ 80 (List._∷_ 108 (List._∷_ 97 (List._∷_ 99 (List._∷_ 101 List.[])))))))))))))))))
       (Syntax.tcons Syntax.tyBool (Syntax.tcons (Syntax.tyInt Syntax.w64) Syntax.tnil))),
-) List.[])))))))))))))))
-
-abbrev pub t33 : List.List Row.Entry
-t33 = List._∷_ (16, Rows'.any-gone (Syntax.tyInt Syntax.w64)) (List._∷_ (
-  17,
+) (List._∷_ (17, Rows'.any-gone (Syntax.tyInt Syntax.w64)) (List._∷_ (
+  18,
   Rows'.any-gone (Syntax.tyInt Syntax.w64),
 ) (List._∷_ (
-  18,
+  19,
   Rows'.any-gone
       (Syntax.tyRef Syntax.erased Syntax.imm (KInstanceRow.named)),
 ) (List._∷_ (
-  19,
+  20,
   Rows'.any-gone
       (Syntax.tyStruct
       (List._∷_ 38 (List._∷_ 91 (List._∷_ 93 List.[])))
       (Syntax.tcons
       (Syntax.tyRef Syntax.erased Syntax.imm (KInstanceRow.named))
       (Syntax.tcons (Syntax.tyInt Syntax.w64) Syntax.tnil))),
-) (List._∷_ (20, Rows'.any-gone Syntax.tyBool) (List._∷_ (
-  21,
+) (List._∷_ (21, Rows'.any-gone Syntax.tyBool) (List._∷_ (
+  22,
   Rows'.any-gone (KDecided.spelled),
 ) (List._∷_ (
-  22,
+  23,
   Rows'.any-gone
       (Syntax.tyRef Syntax.erased Syntax.imm (KRouteRow.named)),
 ) (List._∷_ (
+  24,
+  Rows'.any-gone
+      (Syntax.tyStruct
+      (List._∷_ 38 (List._∷_ 91 (List._∷_ 93 List.[])))
+      (Syntax.tcons
+      (Syntax.tyRef Syntax.erased Syntax.imm (KRouteRow.named))
+      (Syntax.tcons (Syntax.tyInt Syntax.w64) Syntax.tnil))),
+) (List._∷_ (25, Rows'.any-gone Syntax.tyBool) (List._∷_ (26, Rows'.sc-here Row.sUnit) (List._∷_ (
+  27,
+  Rows'.any-gone
+      (Syntax.tyRef Syntax.erased Syntax.mut (KInstanceRow.named)),
+) (List._∷_ (
+  28,
+  Mut.msleft
+      (KInstanceRow.R)
+      (Syntax.tyRef Syntax.erased Syntax.mut (KInstanceRow.named)),
+) (List._∷_ (
+  29,
+  Rows'.any-gone
+      (Syntax.tyRef Syntax.erased Syntax.mut (KRouteRow.named)),
+) (List._∷_ (
+  30,
+  Mut.msleft
+      (KRouteRow.R)
+      (Syntax.tyRef Syntax.erased Syntax.mut (KRouteRow.named)),
+)
+    (List._∷_ (
+      31,
+      Rows'.any-gone (Syntax.tyRef Syntax.erased Syntax.mut (Syntax.tyInt Syntax.w8)),
+    ) List.[])))))))))))))))
+
+abbrev pub t37 : List.List Row.Entry
+t37 = List._∷_ (
+  16,
+  Rows'.any-gone
+      (Syntax.tyStruct
+      (List._∷_
+      112
+      (List._∷_
+      108
+      (List._∷_
+      97
+      (List._∷_
+      99
+      (List._∷_
+      101
+      (List._∷_
+      58
+      (List._∷_
+      58
+      (List._∷_
+      82
+      (List._∷_
+      111
+      (List._∷_
+      117
+      (List._∷_
+      116
+      (List._∷_
+      101
+      (List._∷_ 80 (List._∷_ 108 (List._∷_ 97 (List._∷_ 99 (List._∷_ 101 List.[])))))))))))))))))
+      (Syntax.tcons Syntax.tyBool (Syntax.tcons (Syntax.tyInt Syntax.w64) Syntax.tnil))),
+) (List._∷_ (17, Rows'.any-gone (Syntax.tyInt Syntax.w64)) (List._∷_ (
+  18,
+  Rows'.any-gone (Syntax.tyInt Syntax.w64),
+) (List._∷_ (
+  19,
+  Rows'.any-gone
+      (Syntax.tyRef Syntax.erased Syntax.imm (KInstanceRow.named)),
+) (List._∷_ (
+  20,
+  Rows'.any-gone
+      (Syntax.tyStruct
+      (List._∷_ 38 (List._∷_ 91 (List._∷_ 93 List.[])))
+      (Syntax.tcons
+      (Syntax.tyRef Syntax.erased Syntax.imm (KInstanceRow.named))
+      (Syntax.tcons (Syntax.tyInt Syntax.w64) Syntax.tnil))),
+) (List._∷_ (21, Rows'.any-gone Syntax.tyBool) (List._∷_ (
+  22,
+  Rows'.any-gone (KDecided.spelled),
+) (List._∷_ (
   23,
+  Rows'.any-gone
+      (Syntax.tyRef Syntax.erased Syntax.imm (KRouteRow.named)),
+) (List._∷_ (
+  24,
   Rows'.any-gone
       (Syntax.tyStruct
       (List._∷_ 38 (List._∷_ 91 (List._∷_ 93 List.[])))
@@ -7068,40 +7349,32 @@ t33 = List._∷_ (16, Rows'.any-gone (Syntax.tyInt Syntax.w64)) (List._∷_ (
       (Syntax.tcons (Syntax.tyInt Syntax.w64) Syntax.tnil))),
 )
     (List._∷_
-    (24, Rows'.any-gone Syntax.tyBool)
-    (List._∷_ (25, Rows'.any-gone Syntax.tyUnit) (List._∷_ (
-      26,
+    (25, Rows'.any-gone Syntax.tyBool)
+    (List._∷_ (26, Rows'.any-gone Syntax.tyUnit) (List._∷_ (
+      27,
       Rows'.any-gone
           (Syntax.tyRef Syntax.erased Syntax.mut (KInstanceRow.named)),
     ) (List._∷_ (
-      27,
+      28,
       Mut.msleft
           (KInstanceRow.R)
           (Syntax.tyRef Syntax.erased Syntax.mut (KInstanceRow.named)),
     ) (List._∷_ (
-      28,
+      29,
       Rows'.any-gone
           (Syntax.tyRef Syntax.erased Syntax.mut (KRouteRow.named)),
     ) (List._∷_ (
-      29,
+      30,
       Mut.msleft
           (KRouteRow.R)
           (Syntax.tyRef Syntax.erased Syntax.mut (KRouteRow.named)),
     ) (List._∷_ (
-      30,
-      Rows'.any-gone (Syntax.tyRef Syntax.erased Syntax.mut (Syntax.tyInt Syntax.w8)),
-    ) (List._∷_ (
       31,
-      Rows'.any-gone
-          (Syntax.tyStruct
-          (List._∷_ 38 (List._∷_ 91 (List._∷_ 93 List.[])))
-          (Syntax.tcons
-          (Syntax.tyRef Syntax.erased Syntax.mut (Syntax.tyInt Syntax.w8))
-          (Syntax.tcons (Syntax.tyInt Syntax.w64) Syntax.tnil))),
+      Rows'.any-gone (Syntax.tyRef Syntax.erased Syntax.mut (Syntax.tyInt Syntax.w8)),
     ) List.[])))))))))))))))
 
-abbrev pub t34 : List.List Row.Entry
-t34 = List._∷_ (
+abbrev pub t38 : List.List Row.Entry
+t38 = List._∷_ (
   0,
   Rows'.any-gone
       (Syntax.tyStruct
@@ -7357,7 +7630,7 @@ t34 = List._∷_ (
       (Referent.rtF (Referent.fInt Syntax.w8))
       (Syntax.tyRef (Syntax.named 3) Syntax.mut (Syntax.tyInt Syntax.w8))
       3,
-) (List._∷_ (5, Rows'.whole (Declared.row Own.the-type)) (List._∷_ (
+) (List._∷_ (5, Rows'.any-gone (KOwn.spelled)) (List._∷_ (
   6,
   Rows'.sc-here (Row.sInt Syntax.w64),
 ) (List._∷_ (7, Rows'.sc-here (Row.sInt Syntax.w8)) (List._∷_ (
@@ -7414,8 +7687,8 @@ t34 = List._∷_ (
       (Syntax.tcons
       (Syntax.tyInt Syntax.w64)
       (Syntax.tcons Syntax.tyBool (Syntax.tcons (Syntax.tyInt Syntax.w64) Syntax.tnil))))),
-) (List._∷_ (
-  14,
+) (List._∷_ (14, KOwn.row) (List._∷_ (
+  15,
   Rows'.any-gone
       (Syntax.tyStruct
       (List._∷_
@@ -7440,8 +7713,11 @@ t34 = List._∷_ (
       (Syntax.tcons
       (Syntax.tyInt Syntax.w64)
       (Syntax.tcons (Syntax.tyInt Syntax.w64) Syntax.tnil)))),
-) (List._∷_ (
-  15,
+) List.[])))))))))))))))
+
+abbrev pub t39 : List.List Row.Entry
+t39 = List._∷_ (
+  16,
   Rows'.any-gone
       (Syntax.tyStruct
       (List._∷_
@@ -7470,33 +7746,30 @@ t34 = List._∷_ (
       101
       (List._∷_ 80 (List._∷_ 108 (List._∷_ 97 (List._∷_ 99 (List._∷_ 101 List.[])))))))))))))))))
       (Syntax.tcons Syntax.tyBool (Syntax.tcons (Syntax.tyInt Syntax.w64) Syntax.tnil))),
-) List.[])))))))))))))))
-
-abbrev pub t35 : List.List Row.Entry
-t35 = List._∷_ (16, Rows'.any-gone (Syntax.tyInt Syntax.w64)) (List._∷_ (
-  17,
+) (List._∷_ (17, Rows'.any-gone (Syntax.tyInt Syntax.w64)) (List._∷_ (
+  18,
   Rows'.any-gone (Syntax.tyInt Syntax.w64),
 ) (List._∷_ (
-  18,
+  19,
   Rows'.any-gone
       (Syntax.tyRef Syntax.erased Syntax.imm (KInstanceRow.named)),
 ) (List._∷_ (
-  19,
+  20,
   Rows'.any-gone
       (Syntax.tyStruct
       (List._∷_ 38 (List._∷_ 91 (List._∷_ 93 List.[])))
       (Syntax.tcons
       (Syntax.tyRef Syntax.erased Syntax.imm (KInstanceRow.named))
       (Syntax.tcons (Syntax.tyInt Syntax.w64) Syntax.tnil))),
-) (List._∷_ (20, Rows'.any-gone Syntax.tyBool) (List._∷_ (
-  21,
+) (List._∷_ (21, Rows'.any-gone Syntax.tyBool) (List._∷_ (
+  22,
   Rows'.any-gone (KDecided.spelled),
 ) (List._∷_ (
-  22,
+  23,
   Rows'.any-gone
       (Syntax.tyRef Syntax.erased Syntax.imm (KRouteRow.named)),
 ) (List._∷_ (
-  23,
+  24,
   Rows'.any-gone
       (Syntax.tyStruct
       (List._∷_ 38 (List._∷_ 91 (List._∷_ 93 List.[])))
@@ -7505,13 +7778,13 @@ t35 = List._∷_ (16, Rows'.any-gone (Syntax.tyInt Syntax.w64)) (List._∷_ (
       (Syntax.tcons (Syntax.tyInt Syntax.w64) Syntax.tnil))),
 )
     (List._∷_
-    (24, Rows'.any-gone Syntax.tyBool)
-    (List._∷_ (25, Rows'.any-gone Syntax.tyUnit) (List._∷_ (
-      26,
+    (25, Rows'.any-gone Syntax.tyBool)
+    (List._∷_ (26, Rows'.any-gone Syntax.tyUnit) (List._∷_ (
+      27,
       Rows'.any-gone
           (Syntax.tyRef Syntax.erased Syntax.mut (KInstanceRow.named)),
     ) (List._∷_ (
-      27,
+      28,
       Rows'.any-gone
           (Syntax.tyStruct
           (List._∷_ 38 (List._∷_ 91 (List._∷_ 93 List.[])))
@@ -7519,29 +7792,21 @@ t35 = List._∷_ (16, Rows'.any-gone (Syntax.tyInt Syntax.w64)) (List._∷_ (
           (Syntax.tyRef Syntax.erased Syntax.mut (KInstanceRow.named))
           (Syntax.tcons (Syntax.tyInt Syntax.w64) Syntax.tnil))),
     ) (List._∷_ (
-      28,
+      29,
       Rows'.any-gone
           (Syntax.tyRef Syntax.erased Syntax.mut (KRouteRow.named)),
     ) (List._∷_ (
-      29,
+      30,
       Mut.msleft
           (KRouteRow.R)
           (Syntax.tyRef Syntax.erased Syntax.mut (KRouteRow.named)),
     ) (List._∷_ (
-      30,
-      Rows'.any-gone (Syntax.tyRef Syntax.erased Syntax.mut (Syntax.tyInt Syntax.w8)),
-    ) (List._∷_ (
       31,
-      Rows'.any-gone
-          (Syntax.tyStruct
-          (List._∷_ 38 (List._∷_ 91 (List._∷_ 93 List.[])))
-          (Syntax.tcons
-          (Syntax.tyRef Syntax.erased Syntax.mut (Syntax.tyInt Syntax.w8))
-          (Syntax.tcons (Syntax.tyInt Syntax.w64) Syntax.tnil))),
+      Rows'.any-gone (Syntax.tyRef Syntax.erased Syntax.mut (Syntax.tyInt Syntax.w8)),
     ) List.[])))))))))))))))
 
-abbrev pub t36 : List.List Row.Entry
-t36 = List._∷_ (
+abbrev pub t40 : List.List Row.Entry
+t40 = List._∷_ (
   0,
   Rows'.any-gone
       (Syntax.tyStruct
@@ -7795,7 +8060,7 @@ t36 = List._∷_ (
       (Referent.rtF (Referent.fInt Syntax.w8))
       (Syntax.tyRef (Syntax.named 3) Syntax.mut (Syntax.tyInt Syntax.w8))
       3,
-) (List._∷_ (5, Rows'.whole (Declared.row Own.the-type)) (List._∷_ (
+) (List._∷_ (5, Rows'.any-gone (KOwn.spelled)) (List._∷_ (
   6,
   Rows'.sc-here (Row.sInt Syntax.w64),
 ) (List._∷_ (7, Rows'.sc-here (Row.sInt Syntax.w8)) (List._∷_ (
@@ -7852,8 +8117,8 @@ t36 = List._∷_ (
       (Syntax.tcons
       (Syntax.tyInt Syntax.w64)
       (Syntax.tcons Syntax.tyBool (Syntax.tcons (Syntax.tyInt Syntax.w64) Syntax.tnil))))),
-) (List._∷_ (
-  14,
+) (List._∷_ (14, KOwn.row) (List._∷_ (
+  15,
   Rows'.any-gone
       (Syntax.tyStruct
       (List._∷_
@@ -7878,40 +8143,10 @@ t36 = List._∷_ (
       (Syntax.tcons
       (Syntax.tyInt Syntax.w64)
       (Syntax.tcons (Syntax.tyInt Syntax.w64) Syntax.tnil)))),
-) (List._∷_ (
-  15,
-  Rows'.any-gone
-      (Syntax.tyStruct
-      (List._∷_
-      112
-      (List._∷_
-      108
-      (List._∷_
-      97
-      (List._∷_
-      99
-      (List._∷_
-      101
-      (List._∷_
-      58
-      (List._∷_
-      58
-      (List._∷_
-      82
-      (List._∷_
-      111
-      (List._∷_
-      117
-      (List._∷_
-      116
-      (List._∷_
-      101
-      (List._∷_ 80 (List._∷_ 108 (List._∷_ 97 (List._∷_ 99 (List._∷_ 101 List.[])))))))))))))))))
-      (Syntax.tcons Syntax.tyBool (Syntax.tcons (Syntax.tyInt Syntax.w64) Syntax.tnil))),
 ) List.[])))))))))))))))
 
-abbrev pub t37 : List.List Row.Entry
-t37 = List._∷_ (
+abbrev pub t41 : List.List Row.Entry
+t41 = List._∷_ (
   0,
   Rows'.any-gone
       (Syntax.tyStruct
@@ -8167,7 +8402,7 @@ t37 = List._∷_ (
       (Referent.rtF (Referent.fInt Syntax.w8))
       (Syntax.tyRef (Syntax.named 3) Syntax.mut (Syntax.tyInt Syntax.w8))
       3,
-) (List._∷_ (5, Rows'.whole (Declared.row Own.the-type)) (List._∷_ (
+) (List._∷_ (5, Rows'.any-gone (KOwn.spelled)) (List._∷_ (
   6,
   Rows'.sc-here (Row.sInt Syntax.w64),
 ) (List._∷_ (7, Rows'.sc-here (Row.sInt Syntax.w8)) (List._∷_ (
@@ -8224,8 +8459,8 @@ t37 = List._∷_ (
       (Syntax.tcons
       (Syntax.tyInt Syntax.w64)
       (Syntax.tcons Syntax.tyBool (Syntax.tcons (Syntax.tyInt Syntax.w64) Syntax.tnil))))),
-) (List._∷_ (
-  14,
+) (List._∷_ (14, KOwn.row) (List._∷_ (
+  15,
   Rows'.any-gone
       (Syntax.tyStruct
       (List._∷_
@@ -8250,8 +8485,11 @@ t37 = List._∷_ (
       (Syntax.tcons
       (Syntax.tyInt Syntax.w64)
       (Syntax.tcons (Syntax.tyInt Syntax.w64) Syntax.tnil)))),
-) (List._∷_ (
-  15,
+) List.[])))))))))))))))
+
+abbrev pub t42 : List.List Row.Entry
+t42 = List._∷_ (
+  16,
   Rows'.any-gone
       (Syntax.tyStruct
       (List._∷_
@@ -8280,33 +8518,30 @@ t37 = List._∷_ (
       101
       (List._∷_ 80 (List._∷_ 108 (List._∷_ 97 (List._∷_ 99 (List._∷_ 101 List.[])))))))))))))))))
       (Syntax.tcons Syntax.tyBool (Syntax.tcons (Syntax.tyInt Syntax.w64) Syntax.tnil))),
-) List.[])))))))))))))))
-
-abbrev pub t38 : List.List Row.Entry
-t38 = List._∷_ (16, Rows'.any-gone (Syntax.tyInt Syntax.w64)) (List._∷_ (
-  17,
+) (List._∷_ (17, Rows'.any-gone (Syntax.tyInt Syntax.w64)) (List._∷_ (
+  18,
   Rows'.any-gone (Syntax.tyInt Syntax.w64),
 ) (List._∷_ (
-  18,
+  19,
   Rows'.any-gone
       (Syntax.tyRef Syntax.erased Syntax.imm (KInstanceRow.named)),
 ) (List._∷_ (
-  19,
+  20,
   Rows'.any-gone
       (Syntax.tyStruct
       (List._∷_ 38 (List._∷_ 91 (List._∷_ 93 List.[])))
       (Syntax.tcons
       (Syntax.tyRef Syntax.erased Syntax.imm (KInstanceRow.named))
       (Syntax.tcons (Syntax.tyInt Syntax.w64) Syntax.tnil))),
-) (List._∷_ (20, Rows'.any-gone Syntax.tyBool) (List._∷_ (
-  21,
+) (List._∷_ (21, Rows'.any-gone Syntax.tyBool) (List._∷_ (
+  22,
   Rows'.any-gone (KDecided.spelled),
 ) (List._∷_ (
-  22,
+  23,
   Rows'.any-gone
       (Syntax.tyRef Syntax.erased Syntax.imm (KRouteRow.named)),
 ) (List._∷_ (
-  23,
+  24,
   Rows'.any-gone
       (Syntax.tyStruct
       (List._∷_ 38 (List._∷_ 91 (List._∷_ 93 List.[])))
@@ -8315,13 +8550,13 @@ t38 = List._∷_ (16, Rows'.any-gone (Syntax.tyInt Syntax.w64)) (List._∷_ (
       (Syntax.tcons (Syntax.tyInt Syntax.w64) Syntax.tnil))),
 )
     (List._∷_
-    (24, Rows'.any-gone Syntax.tyBool)
-    (List._∷_ (25, Rows'.any-gone Syntax.tyUnit) (List._∷_ (
-      26,
+    (25, Rows'.any-gone Syntax.tyBool)
+    (List._∷_ (26, Rows'.any-gone Syntax.tyUnit) (List._∷_ (
+      27,
       Rows'.any-gone
           (Syntax.tyRef Syntax.erased Syntax.mut (KInstanceRow.named)),
     ) (List._∷_ (
-      27,
+      28,
       Rows'.any-gone
           (Syntax.tyStruct
           (List._∷_ 38 (List._∷_ 91 (List._∷_ 93 List.[])))
@@ -8329,11 +8564,11 @@ t38 = List._∷_ (16, Rows'.any-gone (Syntax.tyInt Syntax.w64)) (List._∷_ (
           (Syntax.tyRef Syntax.erased Syntax.mut (KInstanceRow.named))
           (Syntax.tcons (Syntax.tyInt Syntax.w64) Syntax.tnil))),
     ) (List._∷_ (
-      28,
+      29,
       Rows'.any-gone
           (Syntax.tyRef Syntax.erased Syntax.mut (KRouteRow.named)),
     ) (List._∷_ (
-      29,
+      30,
       Rows'.any-gone
           (Syntax.tyStruct
           (List._∷_ 38 (List._∷_ 91 (List._∷_ 93 List.[])))
@@ -8341,231 +8576,164 @@ t38 = List._∷_ (16, Rows'.any-gone (Syntax.tyInt Syntax.w64)) (List._∷_ (
           (Syntax.tyRef Syntax.erased Syntax.mut (KRouteRow.named))
           (Syntax.tcons (Syntax.tyInt Syntax.w64) Syntax.tnil))),
     ) (List._∷_ (
-      30,
+      31,
       Relend.msptr
           (Referent.rtF (Referent.fInt Syntax.w8))
           (Syntax.tyRef Syntax.erased Syntax.mut (Syntax.tyInt Syntax.w8))
           12,
+    ) List.[])))))))))))))))
+
+abbrev pub t43 : List.List Row.Entry
+t43 = List._∷_ (
+  32,
+  Mut.mslice
+      (Referent.rtF (Referent.fInt Syntax.w8))
+      (Syntax.tyRef Syntax.erased Syntax.mut (Syntax.tyInt Syntax.w8))
+      12,
+) (List._∷_ (
+  33,
+  Rows'.any-gone
+      (Syntax.tyRef Syntax.erased Syntax.imm (KOwn.named)),
+)
+    (List._∷_ (
+      34,
+      Rows'.any-gone (Syntax.tyRef Syntax.erased Syntax.mut (Syntax.tyInt Syntax.w8)),
     ) (List._∷_ (
-      31,
+      35,
       Rows'.any-gone
           (Syntax.tyStruct
           (List._∷_ 38 (List._∷_ 91 (List._∷_ 93 List.[])))
           (Syntax.tcons
           (Syntax.tyRef Syntax.erased Syntax.mut (Syntax.tyInt Syntax.w8))
           (Syntax.tcons (Syntax.tyInt Syntax.w64) Syntax.tnil))),
-    ) List.[])))))))))))))))
+    ) (List._∷_ (
+      36,
+      Rows'.any-gone
+          (Syntax.tyRef Syntax.erased Syntax.imm (KOwn.named)),
+    ) (List._∷_ (37, Rows'.any-gone (Syntax.tyInt Syntax.w8)) (List._∷_ (
+      38,
+      Rows'.any-gone (KDecided.spelled),
+    ) (List._∷_ (
+      39,
+      Rows'.any-gone
+          (Syntax.tyStruct
+          (List._∷_
+          97
+          (List._∷_
+          110
+          (List._∷_
+          115
+          (List._∷_
+          119
+          (List._∷_
+          101
+          (List._∷_
+          114
+          (List._∷_
+          58
+          (List._∷_
+          58
+          (List._∷_
+          68
+          (List._∷_
+          101
+          (List._∷_
+          115
+          (List._∷_
+          116
+          (List._∷_
+          105
+          (List._∷_
+          110
+          (List._∷_
+          97
+          (List._∷_ 116 (List._∷_ 105 (List._∷_ 111 (List._∷_ 110 List.[])))))))))))))))))))
+          (Syntax.tcons
+          (Syntax.tyArray (Syntax.tyInt Syntax.w8) 16)
+          (Syntax.tcons
+          (Syntax.tyEnum
+          (List._∷_
+          97
+          (List._∷_
+          110
+          (List._∷_
+          115
+          (List._∷_
+          119
+          (List._∷_
+          101
+          (List._∷_
+          114
+          (List._∷_ 58 (List._∷_ 58 (List._∷_ 87 (List._∷_ 97 (List._∷_ 121 List.[])))))))))))
+          (Syntax.ttcons
+          Syntax.tnil
+          (Syntax.ttcons
+          Syntax.tnil
+          (Syntax.ttcons Syntax.tnil (Syntax.ttcons Syntax.tnil Syntax.ttnil)))))
+          Syntax.tnil))),
+    ) (List._∷_ (40, Rows'.any-gone (KPost.spelled)) (List._∷_ (
+      41,
+      Rows'.any-gone
+          (Syntax.tyStruct
+          (List._∷_
+          97
+          (List._∷_
+          110
+          (List._∷_
+          115
+          (List._∷_
+          119
+          (List._∷_
+          101
+          (List._∷_
+          114
+          (List._∷_
+          58
+          (List._∷_
+          58
+          (List._∷_
+          68
+          (List._∷_
+          101
+          (List._∷_
+          115
+          (List._∷_
+          116
+          (List._∷_
+          105
+          (List._∷_
+          110
+          (List._∷_
+          97
+          (List._∷_ 116 (List._∷_ 105 (List._∷_ 111 (List._∷_ 110 List.[])))))))))))))))))))
+          (Syntax.tcons
+          (Syntax.tyArray (Syntax.tyInt Syntax.w8) 16)
+          (Syntax.tcons
+          (Syntax.tyEnum
+          (List._∷_
+          97
+          (List._∷_
+          110
+          (List._∷_
+          115
+          (List._∷_
+          119
+          (List._∷_
+          101
+          (List._∷_
+          114
+          (List._∷_ 58 (List._∷_ 58 (List._∷_ 87 (List._∷_ 97 (List._∷_ 121 List.[])))))))))))
+          (Syntax.ttcons
+          Syntax.tnil
+          (Syntax.ttcons
+          Syntax.tnil
+          (Syntax.ttcons Syntax.tnil (Syntax.ttcons Syntax.tnil Syntax.ttnil)))))
+          Syntax.tnil))),
+    )
+    (List._∷_ (42, Rows'.any-gone (KPost.spelled)) List.[]))))))))))
 
-abbrev pub t39 : List.List Row.Entry
-t39 = List._∷_ (16, Rows'.any-gone (Syntax.tyInt Syntax.w64)) (List._∷_ (
-  17,
-  Rows'.any-gone (Syntax.tyInt Syntax.w64),
-) (List._∷_ (
-  18,
-  Rows'.any-gone
-      (Syntax.tyRef Syntax.erased Syntax.imm (KInstanceRow.named)),
-) (List._∷_ (
-  19,
-  Rows'.any-gone
-      (Syntax.tyStruct
-      (List._∷_ 38 (List._∷_ 91 (List._∷_ 93 List.[])))
-      (Syntax.tcons
-      (Syntax.tyRef Syntax.erased Syntax.imm (KInstanceRow.named))
-      (Syntax.tcons (Syntax.tyInt Syntax.w64) Syntax.tnil))),
-) (List._∷_ (20, Rows'.any-gone Syntax.tyBool) (List._∷_ (
-  21,
-  Rows'.any-gone (KDecided.spelled),
-) (List._∷_ (
-  22,
-  Rows'.any-gone
-      (Syntax.tyRef Syntax.erased Syntax.imm (KRouteRow.named)),
-) (List._∷_ (
-  23,
-  Rows'.any-gone
-      (Syntax.tyStruct
-      (List._∷_ 38 (List._∷_ 91 (List._∷_ 93 List.[])))
-      (Syntax.tcons
-      (Syntax.tyRef Syntax.erased Syntax.imm (KRouteRow.named))
-      (Syntax.tcons (Syntax.tyInt Syntax.w64) Syntax.tnil))),
-)
-    (List._∷_
-    (24, Rows'.any-gone Syntax.tyBool)
-    (List._∷_ (25, Rows'.any-gone Syntax.tyUnit) (List._∷_ (
-      26,
-      Rows'.any-gone
-          (Syntax.tyRef Syntax.erased Syntax.mut (KInstanceRow.named)),
-    ) (List._∷_ (
-      27,
-      Rows'.any-gone
-          (Syntax.tyStruct
-          (List._∷_ 38 (List._∷_ 91 (List._∷_ 93 List.[])))
-          (Syntax.tcons
-          (Syntax.tyRef Syntax.erased Syntax.mut (KInstanceRow.named))
-          (Syntax.tcons (Syntax.tyInt Syntax.w64) Syntax.tnil))),
-    ) (List._∷_ (
-      28,
-      Rows'.any-gone
-          (Syntax.tyRef Syntax.erased Syntax.mut (KRouteRow.named)),
-    ) (List._∷_ (
-      29,
-      Rows'.any-gone
-          (Syntax.tyStruct
-          (List._∷_ 38 (List._∷_ 91 (List._∷_ 93 List.[])))
-          (Syntax.tcons
-          (Syntax.tyRef Syntax.erased Syntax.mut (KRouteRow.named))
-          (Syntax.tcons (Syntax.tyInt Syntax.w64) Syntax.tnil))),
-    ) (List._∷_ (
-      30,
-      Rows'.any-gone (Syntax.tyRef Syntax.erased Syntax.mut (Syntax.tyInt Syntax.w8)),
-    ) (List._∷_ (
-      31,
-      Mut.mslice
-          (Referent.rtF (Referent.fInt Syntax.w8))
-          (Syntax.tyRef Syntax.erased Syntax.mut (Syntax.tyInt Syntax.w8))
-          12,
-    ) List.[])))))))))))))))
-
-abbrev pub t40 : List.List Row.Entry
-t40 = List._∷_ (16, Rows'.sc-here (Row.sInt Syntax.w64)) (List._∷_ (
-  17,
-  Rows'.any-gone (Syntax.tyInt Syntax.w64),
-) (List._∷_ (
-  18,
-  Rows'.any-gone
-      (Syntax.tyRef Syntax.erased Syntax.imm (KInstanceRow.named)),
-) (List._∷_ (
-  19,
-  Rows'.any-gone
-      (Syntax.tyStruct
-      (List._∷_ 38 (List._∷_ 91 (List._∷_ 93 List.[])))
-      (Syntax.tcons
-      (Syntax.tyRef Syntax.erased Syntax.imm (KInstanceRow.named))
-      (Syntax.tcons (Syntax.tyInt Syntax.w64) Syntax.tnil))),
-) (List._∷_ (20, Rows'.any-gone Syntax.tyBool) (List._∷_ (
-  21,
-  Rows'.any-gone (KDecided.spelled),
-) (List._∷_ (
-  22,
-  Rows'.any-gone
-      (Syntax.tyRef Syntax.erased Syntax.imm (KRouteRow.named)),
-) (List._∷_ (
-  23,
-  Rows'.any-gone
-      (Syntax.tyStruct
-      (List._∷_ 38 (List._∷_ 91 (List._∷_ 93 List.[])))
-      (Syntax.tcons
-      (Syntax.tyRef Syntax.erased Syntax.imm (KRouteRow.named))
-      (Syntax.tcons (Syntax.tyInt Syntax.w64) Syntax.tnil))),
-)
-    (List._∷_
-    (24, Rows'.any-gone Syntax.tyBool)
-    (List._∷_ (25, Rows'.any-gone Syntax.tyUnit) (List._∷_ (
-      26,
-      Rows'.any-gone
-          (Syntax.tyRef Syntax.erased Syntax.mut (KInstanceRow.named)),
-    ) (List._∷_ (
-      27,
-      Rows'.any-gone
-          (Syntax.tyStruct
-          (List._∷_ 38 (List._∷_ 91 (List._∷_ 93 List.[])))
-          (Syntax.tcons
-          (Syntax.tyRef Syntax.erased Syntax.mut (KInstanceRow.named))
-          (Syntax.tcons (Syntax.tyInt Syntax.w64) Syntax.tnil))),
-    ) (List._∷_ (
-      28,
-      Rows'.any-gone
-          (Syntax.tyRef Syntax.erased Syntax.mut (KRouteRow.named)),
-    ) (List._∷_ (
-      29,
-      Rows'.any-gone
-          (Syntax.tyStruct
-          (List._∷_ 38 (List._∷_ 91 (List._∷_ 93 List.[])))
-          (Syntax.tcons
-          (Syntax.tyRef Syntax.erased Syntax.mut (KRouteRow.named))
-          (Syntax.tcons (Syntax.tyInt Syntax.w64) Syntax.tnil))),
-    ) (List._∷_ (
-      30,
-      Rows'.any-gone (Syntax.tyRef Syntax.erased Syntax.mut (Syntax.tyInt Syntax.w8)),
-    ) (List._∷_ (
-      31,
-      Mut.msleft
-          (Referent.rtF (Referent.fInt Syntax.w8))
-          (Syntax.tyRef Syntax.erased Syntax.mut (Syntax.tyInt Syntax.w8)),
-    ) List.[])))))))))))))))
-
-abbrev pub t41 : List.List Row.Entry
-t41 = List._∷_ (16, Rows'.sc-here (Row.sInt Syntax.w64)) (List._∷_ (
-  17,
-  Rows'.any-gone (Syntax.tyInt Syntax.w64),
-) (List._∷_ (
-  18,
-  Rows'.any-gone
-      (Syntax.tyRef Syntax.erased Syntax.imm (KInstanceRow.named)),
-) (List._∷_ (
-  19,
-  Rows'.any-gone
-      (Syntax.tyStruct
-      (List._∷_ 38 (List._∷_ 91 (List._∷_ 93 List.[])))
-      (Syntax.tcons
-      (Syntax.tyRef Syntax.erased Syntax.imm (KInstanceRow.named))
-      (Syntax.tcons (Syntax.tyInt Syntax.w64) Syntax.tnil))),
-) (List._∷_ (20, Rows'.any-gone Syntax.tyBool) (List._∷_ (
-  21,
-  Rows'.any-gone (KDecided.spelled),
-) (List._∷_ (
-  22,
-  Rows'.any-gone
-      (Syntax.tyRef Syntax.erased Syntax.imm (KRouteRow.named)),
-) (List._∷_ (
-  23,
-  Rows'.any-gone
-      (Syntax.tyStruct
-      (List._∷_ 38 (List._∷_ 91 (List._∷_ 93 List.[])))
-      (Syntax.tcons
-      (Syntax.tyRef Syntax.erased Syntax.imm (KRouteRow.named))
-      (Syntax.tcons (Syntax.tyInt Syntax.w64) Syntax.tnil))),
-)
-    (List._∷_
-    (24, Rows'.any-gone Syntax.tyBool)
-    (List._∷_ (25, Rows'.any-gone Syntax.tyUnit) (List._∷_ (
-      26,
-      Rows'.any-gone
-          (Syntax.tyRef Syntax.erased Syntax.mut (KInstanceRow.named)),
-    ) (List._∷_ (
-      27,
-      Rows'.any-gone
-          (Syntax.tyStruct
-          (List._∷_ 38 (List._∷_ 91 (List._∷_ 93 List.[])))
-          (Syntax.tcons
-          (Syntax.tyRef Syntax.erased Syntax.mut (KInstanceRow.named))
-          (Syntax.tcons (Syntax.tyInt Syntax.w64) Syntax.tnil))),
-    ) (List._∷_ (
-      28,
-      Rows'.any-gone
-          (Syntax.tyRef Syntax.erased Syntax.mut (KRouteRow.named)),
-    ) (List._∷_ (
-      29,
-      Rows'.any-gone
-          (Syntax.tyStruct
-          (List._∷_ 38 (List._∷_ 91 (List._∷_ 93 List.[])))
-          (Syntax.tcons
-          (Syntax.tyRef Syntax.erased Syntax.mut (KRouteRow.named))
-          (Syntax.tcons (Syntax.tyInt Syntax.w64) Syntax.tnil))),
-    ) (List._∷_ (
-      30,
-      Rows'.any-gone (Syntax.tyRef Syntax.erased Syntax.mut (Syntax.tyInt Syntax.w8)),
-    ) (List._∷_ (
-      31,
-      Rows'.any-gone
-          (Syntax.tyStruct
-          (List._∷_ 38 (List._∷_ 91 (List._∷_ 93 List.[])))
-          (Syntax.tcons
-          (Syntax.tyRef Syntax.erased Syntax.mut (Syntax.tyInt Syntax.w8))
-          (Syntax.tcons (Syntax.tyInt Syntax.w64) Syntax.tnil))),
-    ) List.[])))))))))))))))
-
-abbrev pub t42 : List.List Row.Entry
-t42 = List._∷_ (
+abbrev pub t44 : List.List Row.Entry
+t44 = List._∷_ (
   0,
   Rows'.any-gone
       (Syntax.tyStruct
@@ -8809,19 +8977,19 @@ t42 = List._∷_ (
       1,
 ) (List._∷_ (
   3,
-  Mut.mslice
-      (Referent.rtF (Referent.fInt Syntax.w8))
-      (Syntax.tyRef (Syntax.named 2) Syntax.mut (Syntax.tyInt Syntax.w8))
-      2,
-) (List._∷_ (
-  4,
   Relend.mslice-owed
       (Referent.rtF (Referent.fInt Syntax.w8))
-      (Syntax.tyRef (Syntax.named 3) Syntax.mut (Syntax.tyInt Syntax.w8))
-      3
-      13
+      (Syntax.tyRef (Syntax.named 2) Syntax.mut (Syntax.tyInt Syntax.w8))
+      2
+      12
       Row.off,
-) (List._∷_ (5, Rows'.whole (Declared.row Own.the-type)) (List._∷_ (
+) (List._∷_ (
+  4,
+  Mut.mslice
+      (Referent.rtF (Referent.fInt Syntax.w8))
+      (Syntax.tyRef (Syntax.named 3) Syntax.mut (Syntax.tyInt Syntax.w8))
+      3,
+) (List._∷_ (5, Rows'.any-gone (KOwn.spelled)) (List._∷_ (
   6,
   Rows'.sc-here (Row.sInt Syntax.w64),
 ) (List._∷_ (7, Rows'.sc-here (Row.sInt Syntax.w8)) (List._∷_ (
@@ -8880,6 +9048,13 @@ t42 = List._∷_ (
       (Syntax.tcons Syntax.tyBool (Syntax.tcons (Syntax.tyInt Syntax.w64) Syntax.tnil))))),
 ) (List._∷_ (
   14,
+  Rows'.sc-shr
+      (KOwn.row)
+      (KOwn.R)
+      (λ x. x)
+      13,
+) (List._∷_ (
+  15,
   Rows'.any-gone
       (Syntax.tyStruct
       (List._∷_
@@ -8904,8 +9079,162 @@ t42 = List._∷_ (
       (Syntax.tcons
       (Syntax.tyInt Syntax.w64)
       (Syntax.tcons (Syntax.tyInt Syntax.w64) Syntax.tnil)))),
+) List.[])))))))))))))))
+
+abbrev pub t45 : List.List Row.Entry
+t45 = List._∷_ (
+  32,
+  Mut.mslice
+      (Referent.rtF (Referent.fInt Syntax.w8))
+      (Syntax.tyRef Syntax.erased Syntax.mut (Syntax.tyInt Syntax.w8))
+      12,
 ) (List._∷_ (
-  15,
+  33,
+  Rows'.sref
+      (KOwn.R)
+      (Syntax.tyRef Syntax.erased Syntax.imm (KOwn.named))
+      13,
+)
+    (List._∷_ (
+      34,
+      Rows'.any-gone (Syntax.tyRef Syntax.erased Syntax.mut (Syntax.tyInt Syntax.w8)),
+    ) (List._∷_ (
+      35,
+      Rows'.any-gone
+          (Syntax.tyStruct
+          (List._∷_ 38 (List._∷_ 91 (List._∷_ 93 List.[])))
+          (Syntax.tcons
+          (Syntax.tyRef Syntax.erased Syntax.mut (Syntax.tyInt Syntax.w8))
+          (Syntax.tcons (Syntax.tyInt Syntax.w64) Syntax.tnil))),
+    ) (List._∷_ (
+      36,
+      Rows'.any-gone
+          (Syntax.tyRef Syntax.erased Syntax.imm (KOwn.named)),
+    ) (List._∷_ (37, Rows'.any-gone (Syntax.tyInt Syntax.w8)) (List._∷_ (
+      38,
+      Rows'.any-gone (KDecided.spelled),
+    ) (List._∷_ (
+      39,
+      Rows'.any-gone
+          (Syntax.tyStruct
+          (List._∷_
+          97
+          (List._∷_
+          110
+          (List._∷_
+          115
+          (List._∷_
+          119
+          (List._∷_
+          101
+          (List._∷_
+          114
+          (List._∷_
+          58
+          (List._∷_
+          58
+          (List._∷_
+          68
+          (List._∷_
+          101
+          (List._∷_
+          115
+          (List._∷_
+          116
+          (List._∷_
+          105
+          (List._∷_
+          110
+          (List._∷_
+          97
+          (List._∷_ 116 (List._∷_ 105 (List._∷_ 111 (List._∷_ 110 List.[])))))))))))))))))))
+          (Syntax.tcons
+          (Syntax.tyArray (Syntax.tyInt Syntax.w8) 16)
+          (Syntax.tcons
+          (Syntax.tyEnum
+          (List._∷_
+          97
+          (List._∷_
+          110
+          (List._∷_
+          115
+          (List._∷_
+          119
+          (List._∷_
+          101
+          (List._∷_
+          114
+          (List._∷_ 58 (List._∷_ 58 (List._∷_ 87 (List._∷_ 97 (List._∷_ 121 List.[])))))))))))
+          (Syntax.ttcons
+          Syntax.tnil
+          (Syntax.ttcons
+          Syntax.tnil
+          (Syntax.ttcons Syntax.tnil (Syntax.ttcons Syntax.tnil Syntax.ttnil)))))
+          Syntax.tnil))),
+    ) (List._∷_ (40, Rows'.any-gone (KPost.spelled)) (List._∷_ (
+      41,
+      Rows'.any-gone
+          (Syntax.tyStruct
+          (List._∷_
+          97
+          (List._∷_
+          110
+          (List._∷_
+          115
+          (List._∷_
+          119
+          (List._∷_
+          101
+          (List._∷_
+          114
+          (List._∷_
+          58
+          (List._∷_
+          58
+          (List._∷_
+          68
+          (List._∷_
+          101
+          (List._∷_
+          115
+          (List._∷_
+          116
+          (List._∷_
+          105
+          (List._∷_
+          110
+          (List._∷_
+          97
+          (List._∷_ 116 (List._∷_ 105 (List._∷_ 111 (List._∷_ 110 List.[])))))))))))))))))))
+          (Syntax.tcons
+          (Syntax.tyArray (Syntax.tyInt Syntax.w8) 16)
+          (Syntax.tcons
+          (Syntax.tyEnum
+          (List._∷_
+          97
+          (List._∷_
+          110
+          (List._∷_
+          115
+          (List._∷_
+          119
+          (List._∷_
+          101
+          (List._∷_
+          114
+          (List._∷_ 58 (List._∷_ 58 (List._∷_ 87 (List._∷_ 97 (List._∷_ 121 List.[])))))))))))
+          (Syntax.ttcons
+          Syntax.tnil
+          (Syntax.ttcons
+          Syntax.tnil
+          (Syntax.ttcons Syntax.tnil (Syntax.ttcons Syntax.tnil Syntax.ttnil)))))
+          Syntax.tnil))),
+    )
+    (List._∷_ (42, Rows'.any-gone (KPost.spelled)) List.[]))))))))))
+
+abbrev pub t46 : List.List Row.Entry
+t46 = List._∷_ (
+  16,
   Rows'.any-gone
       (Syntax.tyStruct
       (List._∷_
@@ -8934,300 +9263,30 @@ t42 = List._∷_ (
       101
       (List._∷_ 80 (List._∷_ 108 (List._∷_ 97 (List._∷_ 99 (List._∷_ 101 List.[])))))))))))))))))
       (Syntax.tcons Syntax.tyBool (Syntax.tcons (Syntax.tyInt Syntax.w64) Syntax.tnil))),
-) List.[])))))))))))))))
-
-abbrev pub t43 : List.List Row.Entry
-t43 = List._∷_ (
-  32,
-  Relend.msptr
-      (Referent.rtF (Referent.fInt Syntax.w8))
-      (Syntax.tyRef Syntax.erased Syntax.mut (Syntax.tyInt Syntax.w8))
-      13,
-) (List._∷_ (
-  33,
-  Rows'.any-gone
-      (Syntax.tyStruct
-      (List._∷_ 38 (List._∷_ 91 (List._∷_ 93 List.[])))
-      (Syntax.tcons
-      (Syntax.tyRef Syntax.erased Syntax.mut (Syntax.tyInt Syntax.w8))
-      (Syntax.tcons (Syntax.tyInt Syntax.w64) Syntax.tnil))),
-) (List._∷_ (34, Rows'.any-gone (Syntax.tyInt Syntax.w8)) (List._∷_ (
-  35,
-  Rows'.any-gone (KDecided.spelled),
-) (List._∷_ (
-  36,
-  Rows'.any-gone
-      (Syntax.tyStruct
-      (List._∷_
-      97
-      (List._∷_
-      110
-      (List._∷_
-      115
-      (List._∷_
-      119
-      (List._∷_
-      101
-      (List._∷_
-      114
-      (List._∷_
-      58
-      (List._∷_
-      58
-      (List._∷_
-      68
-      (List._∷_
-      101
-      (List._∷_
-      115
-      (List._∷_
-      116
-      (List._∷_
-      105
-      (List._∷_
-      110
-      (List._∷_
-      97
-      (List._∷_ 116 (List._∷_ 105 (List._∷_ 111 (List._∷_ 110 List.[])))))))))))))))))))
-      (Syntax.tcons
-      (Syntax.tyArray (Syntax.tyInt Syntax.w8) 16)
-      (Syntax.tcons
-      (Syntax.tyEnum
-      (List._∷_
-      97
-      (List._∷_
-      110
-      (List._∷_
-      115
-      (List._∷_
-      119
-      (List._∷_
-      101
-      (List._∷_
-      114
-      (List._∷_ 58 (List._∷_ 58 (List._∷_ 87 (List._∷_ 97 (List._∷_ 121 List.[])))))))))))
-      (Syntax.ttcons
-      Syntax.tnil
-      (Syntax.ttcons
-      Syntax.tnil
-      (Syntax.ttcons Syntax.tnil (Syntax.ttcons Syntax.tnil Syntax.ttnil)))))
-      Syntax.tnil))),
-) (List._∷_ (37, Rows'.any-gone (KPost.spelled)) (List._∷_ (
-  38,
-  Rows'.any-gone
-      (Syntax.tyStruct
-      (List._∷_
-      97
-      (List._∷_
-      110
-      (List._∷_
-      115
-      (List._∷_
-      119
-      (List._∷_
-      101
-      (List._∷_
-      114
-      (List._∷_
-      58
-      (List._∷_
-      58
-      (List._∷_
-      68
-      (List._∷_
-      101
-      (List._∷_
-      115
-      (List._∷_
-      116
-      (List._∷_
-      105
-      (List._∷_
-      110
-      (List._∷_
-      97
-      (List._∷_ 116 (List._∷_ 105 (List._∷_ 111 (List._∷_ 110 List.[])))))))))))))))))))
-      (Syntax.tcons
-      (Syntax.tyArray (Syntax.tyInt Syntax.w8) 16)
-      (Syntax.tcons
-      (Syntax.tyEnum
-      (List._∷_
-      97
-      (List._∷_
-      110
-      (List._∷_
-      115
-      (List._∷_
-      119
-      (List._∷_
-      101
-      (List._∷_
-      114
-      (List._∷_ 58 (List._∷_ 58 (List._∷_ 87 (List._∷_ 97 (List._∷_ 121 List.[])))))))))))
-      (Syntax.ttcons
-      Syntax.tnil
-      (Syntax.ttcons
-      Syntax.tnil
-      (Syntax.ttcons Syntax.tnil (Syntax.ttcons Syntax.tnil Syntax.ttnil)))))
-      Syntax.tnil))),
-) (List._∷_ (39, Rows'.any-gone (KPost.spelled)) List.[])))))))
-
-abbrev pub t44 : List.List Row.Entry
-t44 = List._∷_ (
-  32,
-  Rows'.any-gone (Syntax.tyRef Syntax.erased Syntax.mut (Syntax.tyInt Syntax.w8)),
-) (List._∷_ (
-  33,
-  Mut.mslice
-      (Referent.rtF (Referent.fInt Syntax.w8))
-      (Syntax.tyRef Syntax.erased Syntax.mut (Syntax.tyInt Syntax.w8))
-      13,
-) (List._∷_ (34, Rows'.any-gone (Syntax.tyInt Syntax.w8)) (List._∷_ (
-  35,
-  Rows'.any-gone (KDecided.spelled),
-) (List._∷_ (
-  36,
-  Rows'.any-gone
-      (Syntax.tyStruct
-      (List._∷_
-      97
-      (List._∷_
-      110
-      (List._∷_
-      115
-      (List._∷_
-      119
-      (List._∷_
-      101
-      (List._∷_
-      114
-      (List._∷_
-      58
-      (List._∷_
-      58
-      (List._∷_
-      68
-      (List._∷_
-      101
-      (List._∷_
-      115
-      (List._∷_
-      116
-      (List._∷_
-      105
-      (List._∷_
-      110
-      (List._∷_
-      97
-      (List._∷_ 116 (List._∷_ 105 (List._∷_ 111 (List._∷_ 110 List.[])))))))))))))))))))
-      (Syntax.tcons
-      (Syntax.tyArray (Syntax.tyInt Syntax.w8) 16)
-      (Syntax.tcons
-      (Syntax.tyEnum
-      (List._∷_
-      97
-      (List._∷_
-      110
-      (List._∷_
-      115
-      (List._∷_
-      119
-      (List._∷_
-      101
-      (List._∷_
-      114
-      (List._∷_ 58 (List._∷_ 58 (List._∷_ 87 (List._∷_ 97 (List._∷_ 121 List.[])))))))))))
-      (Syntax.ttcons
-      Syntax.tnil
-      (Syntax.ttcons
-      Syntax.tnil
-      (Syntax.ttcons Syntax.tnil (Syntax.ttcons Syntax.tnil Syntax.ttnil)))))
-      Syntax.tnil))),
-) (List._∷_ (37, Rows'.any-gone (KPost.spelled)) (List._∷_ (
-  38,
-  Rows'.any-gone
-      (Syntax.tyStruct
-      (List._∷_
-      97
-      (List._∷_
-      110
-      (List._∷_
-      115
-      (List._∷_
-      119
-      (List._∷_
-      101
-      (List._∷_
-      114
-      (List._∷_
-      58
-      (List._∷_
-      58
-      (List._∷_
-      68
-      (List._∷_
-      101
-      (List._∷_
-      115
-      (List._∷_
-      116
-      (List._∷_
-      105
-      (List._∷_
-      110
-      (List._∷_
-      97
-      (List._∷_ 116 (List._∷_ 105 (List._∷_ 111 (List._∷_ 110 List.[])))))))))))))))))))
-      (Syntax.tcons
-      (Syntax.tyArray (Syntax.tyInt Syntax.w8) 16)
-      (Syntax.tcons
-      (Syntax.tyEnum
-      (List._∷_
-      97
-      (List._∷_
-      110
-      (List._∷_
-      115
-      (List._∷_
-      119
-      (List._∷_
-      101
-      (List._∷_
-      114
-      (List._∷_ 58 (List._∷_ 58 (List._∷_ 87 (List._∷_ 97 (List._∷_ 121 List.[])))))))))))
-      (Syntax.ttcons
-      Syntax.tnil
-      (Syntax.ttcons
-      Syntax.tnil
-      (Syntax.ttcons Syntax.tnil (Syntax.ttcons Syntax.tnil Syntax.ttnil)))))
-      Syntax.tnil))),
-) (List._∷_ (39, Rows'.any-gone (KPost.spelled)) List.[])))))))
-
-abbrev pub t45 : List.List Row.Entry
-t45 = List._∷_ (16, Rows'.sc-here (Row.sInt Syntax.w64)) (List._∷_ (
-  17,
-  Rows'.sc-here (Row.sInt Syntax.w64),
-) (List._∷_ (
+) (List._∷_ (17, Rows'.sc-here (Row.sInt Syntax.w64)) (List._∷_ (
   18,
+  Rows'.any-gone (Syntax.tyInt Syntax.w64),
+) (List._∷_ (
+  19,
   Rows'.any-gone
       (Syntax.tyRef Syntax.erased Syntax.imm (KInstanceRow.named)),
 ) (List._∷_ (
-  19,
+  20,
   Rows'.any-gone
       (Syntax.tyStruct
       (List._∷_ 38 (List._∷_ 91 (List._∷_ 93 List.[])))
       (Syntax.tcons
       (Syntax.tyRef Syntax.erased Syntax.imm (KInstanceRow.named))
       (Syntax.tcons (Syntax.tyInt Syntax.w64) Syntax.tnil))),
-) (List._∷_ (20, Rows'.any-gone Syntax.tyBool) (List._∷_ (
-  21,
+) (List._∷_ (21, Rows'.any-gone Syntax.tyBool) (List._∷_ (
+  22,
   Rows'.any-gone (KDecided.spelled),
 ) (List._∷_ (
-  22,
+  23,
   Rows'.any-gone
       (Syntax.tyRef Syntax.erased Syntax.imm (KRouteRow.named)),
 ) (List._∷_ (
-  23,
+  24,
   Rows'.any-gone
       (Syntax.tyStruct
       (List._∷_ 38 (List._∷_ 91 (List._∷_ 93 List.[])))
@@ -9236,13 +9295,13 @@ t45 = List._∷_ (16, Rows'.sc-here (Row.sInt Syntax.w64)) (List._∷_ (
       (Syntax.tcons (Syntax.tyInt Syntax.w64) Syntax.tnil))),
 )
     (List._∷_
-    (24, Rows'.any-gone Syntax.tyBool)
-    (List._∷_ (25, Rows'.any-gone Syntax.tyUnit) (List._∷_ (
-      26,
+    (25, Rows'.any-gone Syntax.tyBool)
+    (List._∷_ (26, Rows'.any-gone Syntax.tyUnit) (List._∷_ (
+      27,
       Rows'.any-gone
           (Syntax.tyRef Syntax.erased Syntax.mut (KInstanceRow.named)),
     ) (List._∷_ (
-      27,
+      28,
       Rows'.any-gone
           (Syntax.tyStruct
           (List._∷_ 38 (List._∷_ 91 (List._∷_ 93 List.[])))
@@ -9250,11 +9309,11 @@ t45 = List._∷_ (16, Rows'.sc-here (Row.sInt Syntax.w64)) (List._∷_ (
           (Syntax.tyRef Syntax.erased Syntax.mut (KInstanceRow.named))
           (Syntax.tcons (Syntax.tyInt Syntax.w64) Syntax.tnil))),
     ) (List._∷_ (
-      28,
+      29,
       Rows'.any-gone
           (Syntax.tyRef Syntax.erased Syntax.mut (KRouteRow.named)),
     ) (List._∷_ (
-      29,
+      30,
       Rows'.any-gone
           (Syntax.tyStruct
           (List._∷_ 38 (List._∷_ 91 (List._∷_ 93 List.[])))
@@ -9262,150 +9321,657 @@ t45 = List._∷_ (16, Rows'.sc-here (Row.sInt Syntax.w64)) (List._∷_ (
           (Syntax.tyRef Syntax.erased Syntax.mut (KRouteRow.named))
           (Syntax.tcons (Syntax.tyInt Syntax.w64) Syntax.tnil))),
     ) (List._∷_ (
-      30,
+      31,
+      Rows'.any-gone (Syntax.tyRef Syntax.erased Syntax.mut (Syntax.tyInt Syntax.w8)),
+    ) List.[])))))))))))))))
+
+abbrev pub t47 : List.List Row.Entry
+t47 = List._∷_ (
+  32,
+  Mut.msleft
+      (Referent.rtF (Referent.fInt Syntax.w8))
+      (Syntax.tyRef Syntax.erased Syntax.mut (Syntax.tyInt Syntax.w8)),
+) (List._∷_ (
+  33,
+  Rows'.sref
+      (KOwn.R)
+      (Syntax.tyRef Syntax.erased Syntax.imm (KOwn.named))
+      13,
+)
+    (List._∷_ (
+      34,
       Rows'.any-gone (Syntax.tyRef Syntax.erased Syntax.mut (Syntax.tyInt Syntax.w8)),
     ) (List._∷_ (
-      31,
+      35,
       Rows'.any-gone
           (Syntax.tyStruct
           (List._∷_ 38 (List._∷_ 91 (List._∷_ 93 List.[])))
           (Syntax.tcons
           (Syntax.tyRef Syntax.erased Syntax.mut (Syntax.tyInt Syntax.w8))
           (Syntax.tcons (Syntax.tyInt Syntax.w64) Syntax.tnil))),
-    ) List.[])))))))))))))))
+    ) (List._∷_ (
+      36,
+      Rows'.any-gone
+          (Syntax.tyRef Syntax.erased Syntax.imm (KOwn.named)),
+    ) (List._∷_ (37, Rows'.any-gone (Syntax.tyInt Syntax.w8)) (List._∷_ (
+      38,
+      Rows'.any-gone (KDecided.spelled),
+    ) (List._∷_ (
+      39,
+      Rows'.any-gone
+          (Syntax.tyStruct
+          (List._∷_
+          97
+          (List._∷_
+          110
+          (List._∷_
+          115
+          (List._∷_
+          119
+          (List._∷_
+          101
+          (List._∷_
+          114
+          (List._∷_
+          58
+          (List._∷_
+          58
+          (List._∷_
+          68
+          (List._∷_
+          101
+          (List._∷_
+          115
+          (List._∷_
+          116
+          (List._∷_
+          105
+          (List._∷_
+          110
+          (List._∷_
+          97
+          (List._∷_ 116 (List._∷_ 105 (List._∷_ 111 (List._∷_ 110 List.[])))))))))))))))))))
+          (Syntax.tcons
+          (Syntax.tyArray (Syntax.tyInt Syntax.w8) 16)
+          (Syntax.tcons
+          (Syntax.tyEnum
+          (List._∷_
+          97
+          (List._∷_
+          110
+          (List._∷_
+          115
+          (List._∷_
+          119
+          (List._∷_
+          101
+          (List._∷_
+          114
+          (List._∷_ 58 (List._∷_ 58 (List._∷_ 87 (List._∷_ 97 (List._∷_ 121 List.[])))))))))))
+          (Syntax.ttcons
+          Syntax.tnil
+          (Syntax.ttcons
+          Syntax.tnil
+          (Syntax.ttcons Syntax.tnil (Syntax.ttcons Syntax.tnil Syntax.ttnil)))))
+          Syntax.tnil))),
+    ) (List._∷_ (40, Rows'.any-gone (KPost.spelled)) (List._∷_ (
+      41,
+      Rows'.any-gone
+          (Syntax.tyStruct
+          (List._∷_
+          97
+          (List._∷_
+          110
+          (List._∷_
+          115
+          (List._∷_
+          119
+          (List._∷_
+          101
+          (List._∷_
+          114
+          (List._∷_
+          58
+          (List._∷_
+          58
+          (List._∷_
+          68
+          (List._∷_
+          101
+          (List._∷_
+          115
+          (List._∷_
+          116
+          (List._∷_
+          105
+          (List._∷_
+          110
+          (List._∷_
+          97
+          (List._∷_ 116 (List._∷_ 105 (List._∷_ 111 (List._∷_ 110 List.[])))))))))))))))))))
+          (Syntax.tcons
+          (Syntax.tyArray (Syntax.tyInt Syntax.w8) 16)
+          (Syntax.tcons
+          (Syntax.tyEnum
+          (List._∷_
+          97
+          (List._∷_
+          110
+          (List._∷_
+          115
+          (List._∷_
+          119
+          (List._∷_
+          101
+          (List._∷_
+          114
+          (List._∷_ 58 (List._∷_ 58 (List._∷_ 87 (List._∷_ 97 (List._∷_ 121 List.[])))))))))))
+          (Syntax.ttcons
+          Syntax.tnil
+          (Syntax.ttcons
+          Syntax.tnil
+          (Syntax.ttcons Syntax.tnil (Syntax.ttcons Syntax.tnil Syntax.ttnil)))))
+          Syntax.tnil))),
+    )
+    (List._∷_ (42, Rows'.any-gone (KPost.spelled)) List.[]))))))))))
 
-abbrev pub t46 : List.List Row.Entry
-t46 = List._∷_ (
+abbrev pub t48 : List.List Row.Entry
+t48 = List._∷_ (
   32,
-  Rows'.any-gone (Syntax.tyRef Syntax.erased Syntax.mut (Syntax.tyInt Syntax.w8)),
-) (List._∷_ (
-  33,
   Mut.msleft
       (Referent.rtF (Referent.fInt Syntax.w8))
       (Syntax.tyRef Syntax.erased Syntax.mut (Syntax.tyInt Syntax.w8)),
-) (List._∷_ (34, Rows'.any-gone (Syntax.tyInt Syntax.w8)) (List._∷_ (
-  35,
-  Rows'.any-gone (KDecided.spelled),
 ) (List._∷_ (
-  36,
+  33,
   Rows'.any-gone
-      (Syntax.tyStruct
-      (List._∷_
-      97
-      (List._∷_
-      110
-      (List._∷_
-      115
-      (List._∷_
-      119
-      (List._∷_
-      101
-      (List._∷_
-      114
-      (List._∷_
-      58
-      (List._∷_
-      58
-      (List._∷_
-      68
-      (List._∷_
-      101
-      (List._∷_
-      115
-      (List._∷_
-      116
-      (List._∷_
-      105
-      (List._∷_
-      110
-      (List._∷_
-      97
-      (List._∷_ 116 (List._∷_ 105 (List._∷_ 111 (List._∷_ 110 List.[])))))))))))))))))))
-      (Syntax.tcons
-      (Syntax.tyArray (Syntax.tyInt Syntax.w8) 16)
-      (Syntax.tcons
-      (Syntax.tyEnum
-      (List._∷_
-      97
-      (List._∷_
-      110
-      (List._∷_
-      115
-      (List._∷_
-      119
-      (List._∷_
-      101
-      (List._∷_
-      114
-      (List._∷_ 58 (List._∷_ 58 (List._∷_ 87 (List._∷_ 97 (List._∷_ 121 List.[])))))))))))
-      (Syntax.ttcons
-      Syntax.tnil
-      (Syntax.ttcons
-      Syntax.tnil
-      (Syntax.ttcons Syntax.tnil (Syntax.ttcons Syntax.tnil Syntax.ttnil)))))
-      Syntax.tnil))),
-) (List._∷_ (37, Rows'.any-gone (KPost.spelled)) (List._∷_ (
-  38,
-  Rows'.any-gone
-      (Syntax.tyStruct
-      (List._∷_
-      97
-      (List._∷_
-      110
-      (List._∷_
-      115
-      (List._∷_
-      119
-      (List._∷_
-      101
-      (List._∷_
-      114
-      (List._∷_
-      58
-      (List._∷_
-      58
-      (List._∷_
-      68
-      (List._∷_
-      101
-      (List._∷_
-      115
-      (List._∷_
-      116
-      (List._∷_
-      105
-      (List._∷_
-      110
-      (List._∷_
-      97
-      (List._∷_ 116 (List._∷_ 105 (List._∷_ 111 (List._∷_ 110 List.[])))))))))))))))))))
-      (Syntax.tcons
-      (Syntax.tyArray (Syntax.tyInt Syntax.w8) 16)
-      (Syntax.tcons
-      (Syntax.tyEnum
-      (List._∷_
-      97
-      (List._∷_
-      110
-      (List._∷_
-      115
-      (List._∷_
-      119
-      (List._∷_
-      101
-      (List._∷_
-      114
-      (List._∷_ 58 (List._∷_ 58 (List._∷_ 87 (List._∷_ 97 (List._∷_ 121 List.[])))))))))))
-      (Syntax.ttcons
-      Syntax.tnil
-      (Syntax.ttcons
-      Syntax.tnil
-      (Syntax.ttcons Syntax.tnil (Syntax.ttcons Syntax.tnil Syntax.ttnil)))))
-      Syntax.tnil))),
-) (List._∷_ (39, Rows'.any-gone (KPost.spelled)) List.[])))))))
+      (Syntax.tyRef Syntax.erased Syntax.imm (KOwn.named)),
+)
+    (List._∷_ (
+      34,
+      Rows'.any-gone (Syntax.tyRef Syntax.erased Syntax.mut (Syntax.tyInt Syntax.w8)),
+    ) (List._∷_ (
+      35,
+      Rows'.any-gone
+          (Syntax.tyStruct
+          (List._∷_ 38 (List._∷_ 91 (List._∷_ 93 List.[])))
+          (Syntax.tcons
+          (Syntax.tyRef Syntax.erased Syntax.mut (Syntax.tyInt Syntax.w8))
+          (Syntax.tcons (Syntax.tyInt Syntax.w64) Syntax.tnil))),
+    ) (List._∷_ (
+      36,
+      Rows'.any-gone
+          (Syntax.tyRef Syntax.erased Syntax.imm (KOwn.named)),
+    ) (List._∷_ (37, Rows'.any-gone (Syntax.tyInt Syntax.w8)) (List._∷_ (
+      38,
+      Rows'.any-gone (KDecided.spelled),
+    ) (List._∷_ (
+      39,
+      Rows'.any-gone
+          (Syntax.tyStruct
+          (List._∷_
+          97
+          (List._∷_
+          110
+          (List._∷_
+          115
+          (List._∷_
+          119
+          (List._∷_
+          101
+          (List._∷_
+          114
+          (List._∷_
+          58
+          (List._∷_
+          58
+          (List._∷_
+          68
+          (List._∷_
+          101
+          (List._∷_
+          115
+          (List._∷_
+          116
+          (List._∷_
+          105
+          (List._∷_
+          110
+          (List._∷_
+          97
+          (List._∷_ 116 (List._∷_ 105 (List._∷_ 111 (List._∷_ 110 List.[])))))))))))))))))))
+          (Syntax.tcons
+          (Syntax.tyArray (Syntax.tyInt Syntax.w8) 16)
+          (Syntax.tcons
+          (Syntax.tyEnum
+          (List._∷_
+          97
+          (List._∷_
+          110
+          (List._∷_
+          115
+          (List._∷_
+          119
+          (List._∷_
+          101
+          (List._∷_
+          114
+          (List._∷_ 58 (List._∷_ 58 (List._∷_ 87 (List._∷_ 97 (List._∷_ 121 List.[])))))))))))
+          (Syntax.ttcons
+          Syntax.tnil
+          (Syntax.ttcons
+          Syntax.tnil
+          (Syntax.ttcons Syntax.tnil (Syntax.ttcons Syntax.tnil Syntax.ttnil)))))
+          Syntax.tnil))),
+    ) (List._∷_ (40, Rows'.any-gone (KPost.spelled)) (List._∷_ (
+      41,
+      Rows'.any-gone
+          (Syntax.tyStruct
+          (List._∷_
+          97
+          (List._∷_
+          110
+          (List._∷_
+          115
+          (List._∷_
+          119
+          (List._∷_
+          101
+          (List._∷_
+          114
+          (List._∷_
+          58
+          (List._∷_
+          58
+          (List._∷_
+          68
+          (List._∷_
+          101
+          (List._∷_
+          115
+          (List._∷_
+          116
+          (List._∷_
+          105
+          (List._∷_
+          110
+          (List._∷_
+          97
+          (List._∷_ 116 (List._∷_ 105 (List._∷_ 111 (List._∷_ 110 List.[])))))))))))))))))))
+          (Syntax.tcons
+          (Syntax.tyArray (Syntax.tyInt Syntax.w8) 16)
+          (Syntax.tcons
+          (Syntax.tyEnum
+          (List._∷_
+          97
+          (List._∷_
+          110
+          (List._∷_
+          115
+          (List._∷_
+          119
+          (List._∷_
+          101
+          (List._∷_
+          114
+          (List._∷_ 58 (List._∷_ 58 (List._∷_ 87 (List._∷_ 97 (List._∷_ 121 List.[])))))))))))
+          (Syntax.ttcons
+          Syntax.tnil
+          (Syntax.ttcons
+          Syntax.tnil
+          (Syntax.ttcons Syntax.tnil (Syntax.ttcons Syntax.tnil Syntax.ttnil)))))
+          Syntax.tnil))),
+    )
+    (List._∷_ (42, Rows'.any-gone (KPost.spelled)) List.[]))))))))))
 
-abbrev pub t47 : List.List Row.Entry
-t47 = List._∷_ (
+abbrev pub t49 : List.List Row.Entry
+t49 = List._∷_ (
+  0,
+  Rows'.any-gone
+      (Syntax.tyStruct
+      (List._∷_
+      102
+      (List._∷_
+      105
+      (List._∷_
+      110
+      (List._∷_
+      105
+      (List._∷_
+      115
+      (List._∷_
+      104
+      (List._∷_
+      58
+      (List._∷_
+      58
+      (List._∷_
+      79
+      (List._∷_
+      117
+      (List._∷_ 116 (List._∷_ 99 (List._∷_ 111 (List._∷_ 109 (List._∷_ 101 List.[])))))))))))))))
+      (Syntax.tcons
+      (Syntax.tyStruct
+      (List._∷_
+      102
+      (List._∷_
+      105
+      (List._∷_
+      110
+      (List._∷_
+      105
+      (List._∷_
+      115
+      (List._∷_
+      104
+      (List._∷_
+      58
+      (List._∷_ 58 (List._∷_ 83 (List._∷_ 101 (List._∷_ 110 (List._∷_ 116 List.[]))))))))))))
+      (Syntax.tcons
+      (Syntax.tyStruct
+      (List._∷_
+      97
+      (List._∷_
+      110
+      (List._∷_
+      115
+      (List._∷_
+      119
+      (List._∷_
+      101
+      (List._∷_
+      114
+      (List._∷_
+      58
+      (List._∷_
+      58
+      (List._∷_
+      68
+      (List._∷_
+      101
+      (List._∷_
+      115
+      (List._∷_
+      116
+      (List._∷_
+      105
+      (List._∷_
+      110
+      (List._∷_
+      97
+      (List._∷_ 116 (List._∷_ 105 (List._∷_ 111 (List._∷_ 110 List.[])))))))))))))))))))
+      (Syntax.tcons
+      (Syntax.tyArray (Syntax.tyInt Syntax.w8) 16)
+      (Syntax.tcons
+      (Syntax.tyEnum
+      (List._∷_
+      97
+      (List._∷_
+      110
+      (List._∷_
+      115
+      (List._∷_
+      119
+      (List._∷_
+      101
+      (List._∷_
+      114
+      (List._∷_ 58 (List._∷_ 58 (List._∷_ 87 (List._∷_ 97 (List._∷_ 121 List.[])))))))))))
+      (Syntax.ttcons
+      Syntax.tnil
+      (Syntax.ttcons
+      Syntax.tnil
+      (Syntax.ttcons Syntax.tnil (Syntax.ttcons Syntax.tnil Syntax.ttnil)))))
+      Syntax.tnil)))
+      (Syntax.tcons (Syntax.tyInt Syntax.w64) Syntax.tnil)))
+      (Syntax.tcons
+      (Syntax.tyInt Syntax.w64)
+      (Syntax.tcons
+      (Syntax.tyStruct
+      (List._∷_
+      102
+      (List._∷_
+      105
+      (List._∷_
+      110
+      (List._∷_
+      105
+      (List._∷_
+      115
+      (List._∷_
+      104
+      (List._∷_
+      58
+      (List._∷_ 58 (List._∷_ 83 (List._∷_ 101 (List._∷_ 110 (List._∷_ 116 List.[]))))))))))))
+      (Syntax.tcons
+      (Syntax.tyStruct
+      (List._∷_
+      97
+      (List._∷_
+      110
+      (List._∷_
+      115
+      (List._∷_
+      119
+      (List._∷_
+      101
+      (List._∷_
+      114
+      (List._∷_
+      58
+      (List._∷_
+      58
+      (List._∷_
+      68
+      (List._∷_
+      101
+      (List._∷_
+      115
+      (List._∷_
+      116
+      (List._∷_
+      105
+      (List._∷_
+      110
+      (List._∷_
+      97
+      (List._∷_ 116 (List._∷_ 105 (List._∷_ 111 (List._∷_ 110 List.[])))))))))))))))))))
+      (Syntax.tcons
+      (Syntax.tyArray (Syntax.tyInt Syntax.w8) 16)
+      (Syntax.tcons
+      (Syntax.tyEnum
+      (List._∷_
+      97
+      (List._∷_
+      110
+      (List._∷_
+      115
+      (List._∷_
+      119
+      (List._∷_
+      101
+      (List._∷_
+      114
+      (List._∷_ 58 (List._∷_ 58 (List._∷_ 87 (List._∷_ 97 (List._∷_ 121 List.[])))))))))))
+      (Syntax.ttcons
+      Syntax.tnil
+      (Syntax.ttcons
+      Syntax.tnil
+      (Syntax.ttcons Syntax.tnil (Syntax.ttcons Syntax.tnil Syntax.ttnil)))))
+      Syntax.tnil)))
+      (Syntax.tcons (Syntax.tyInt Syntax.w64) Syntax.tnil)))
+      (Syntax.tcons
+      (Syntax.tyEnum
+      (List._∷_
+      97
+      (List._∷_
+      110
+      (List._∷_
+      115
+      (List._∷_
+      119
+      (List._∷_
+      101
+      (List._∷_
+      114
+      (List._∷_
+      58
+      (List._∷_
+      58
+      (List._∷_
+      65
+      (List._∷_ 110 (List._∷_ 115 (List._∷_ 119 (List._∷_ 101 (List._∷_ 114 List.[]))))))))))))))
+      (Syntax.ttcons
+      Syntax.tnil
+      (Syntax.ttcons
+      Syntax.tnil
+      (Syntax.ttcons
+      Syntax.tnil
+      (Syntax.ttcons
+      Syntax.tnil
+      (Syntax.ttcons
+      Syntax.tnil
+      (Syntax.ttcons
+      Syntax.tnil
+      (Syntax.ttcons
+      Syntax.tnil
+      (Syntax.ttcons
+      Syntax.tnil
+      (Syntax.ttcons
+      Syntax.tnil
+      (Syntax.ttcons
+      Syntax.tnil
+      (Syntax.ttcons
+      Syntax.tnil
+      (Syntax.ttcons
+      Syntax.tnil
+      (Syntax.ttcons
+      Syntax.tnil
+      (Syntax.ttcons
+      Syntax.tnil
+      (Syntax.ttcons
+      Syntax.tnil
+      (Syntax.ttcons
+      Syntax.tnil
+      (Syntax.ttcons Syntax.tnil (Syntax.ttcons Syntax.tnil Syntax.ttnil)))))))))))))))))))
+      (Syntax.tcons (Syntax.tyInt Syntax.w8) Syntax.tnil)))))),
+) (List._∷_ (
+  1,
+  Mut.mslice
+      (KInstanceRow.R)
+      (Syntax.tyRef (Syntax.named 0) Syntax.mut (KInstanceRow.named))
+      0,
+) (List._∷_ (
+  2,
+  Mut.mslice
+      (KRouteRow.R)
+      (Syntax.tyRef (Syntax.named 1) Syntax.mut (KRouteRow.named))
+      1,
+) (List._∷_ (
+  3,
+  Mut.mslice
+      (Referent.rtF (Referent.fInt Syntax.w8))
+      (Syntax.tyRef (Syntax.named 2) Syntax.mut (Syntax.tyInt Syntax.w8))
+      2,
+) (List._∷_ (
+  4,
+  Mut.mslice
+      (Referent.rtF (Referent.fInt Syntax.w8))
+      (Syntax.tyRef (Syntax.named 3) Syntax.mut (Syntax.tyInt Syntax.w8))
+      3,
+) (List._∷_ (5, Rows'.any-gone (KOwn.spelled)) (List._∷_ (
+  6,
+  Rows'.sc-here (Row.sInt Syntax.w64),
+) (List._∷_ (7, Rows'.sc-here (Row.sInt Syntax.w8)) (List._∷_ (
+  8,
+  Rows'.sc-here (Row.sInt Syntax.w64),
+) (List._∷_ (
+  9,
+  Rows'.sref
+      (Array'.Array (Array'.Array (Referent.rtF (Referent.fInt Syntax.w8)) 16) 16)
+      (Syntax.tyRef
+      (Syntax.named 4)
+      Syntax.imm
+      (Syntax.tyArray (Syntax.tyArray (Syntax.tyInt Syntax.w8) 16) 16))
+      4,
+) (List._∷_ (
+  10,
+  Rows'.sref
+      (KDecided.R)
+      (Syntax.tyRef (Syntax.named 5) Syntax.imm (KDecided.named))
+      5,
+) (List._∷_ (
+  11,
+  Rows'.sref
+      (KPost.R)
+      (Syntax.tyRef (Syntax.named 6) Syntax.imm (KPost.named))
+      6,
+) (List._∷_ (
+  12,
+  Rows'.sref
+      (KPost.R)
+      (Syntax.tyRef (Syntax.named 7) Syntax.imm (KPost.named))
+      7,
+) (List._∷_ (
+  13,
+  Rows'.any-gone
+      (Syntax.tyStruct
+      (List._∷_
+      102
+      (List._∷_
+      105
+      (List._∷_
+      110
+      (List._∷_
+      105
+      (List._∷_
+      115
+      (List._∷_
+      104
+      (List._∷_
+      58
+      (List._∷_ 58 (List._∷_ 76 (List._∷_ 105 (List._∷_ 118 (List._∷_ 101 List.[]))))))))))))
+      (Syntax.tcons
+      Syntax.tyBool
+      (Syntax.tcons
+      (Syntax.tyInt Syntax.w64)
+      (Syntax.tcons Syntax.tyBool (Syntax.tcons (Syntax.tyInt Syntax.w64) Syntax.tnil))))),
+) (List._∷_ (
+  14,
+  Rows'.sc-shr
+      (KOwn.row)
+      (KOwn.R)
+      (λ x. x)
+      13,
+) (List._∷_ (
+  15,
+  Rows'.any-gone
+      (Syntax.tyStruct
+      (List._∷_
+      112
+      (List._∷_
+      108
+      (List._∷_
+      97
+      (List._∷_
+      99
+      (List._∷_
+      101
+      (List._∷_
+      58
+      (List._∷_
+      58
+      (List._∷_
+      80
+      (List._∷_ 108 (List._∷_ 97 (List._∷_ 99 (List._∷_ 101 (List._∷_ 115 List.[])))))))))))))
+      (Syntax.tcons
+      Syntax.tyBool
+      (Syntax.tcons
+      (Syntax.tyInt Syntax.w64)
+      (Syntax.tcons (Syntax.tyInt Syntax.w64) Syntax.tnil)))),
+) List.[])))))))))))))))
+
+abbrev pub t50 : List.List Row.Entry
+t50 = List._∷_ (
   0,
   Rows'.any-gone
       (Syntax.tyStruct
@@ -9659,26 +10225,15 @@ t47 = List._∷_ (
       (Referent.rtF (Referent.fInt Syntax.w8))
       (Syntax.tyRef (Syntax.named 3) Syntax.mut (Syntax.tyInt Syntax.w8))
       3
-      13
+      14
       Row.off,
+) (List._∷_ (5, Rows'.any-gone (KOwn.spelled)) (List._∷_ (
+  6,
+  Rows'.sc-here (Row.sInt Syntax.w64),
+) (List._∷_ (7, Rows'.sc-here (Row.sInt Syntax.w8)) (List._∷_ (
+  8,
+  Rows'.sc-here (Row.sInt Syntax.w64),
 ) (List._∷_ (
-  5,
-  Rows'.any-gone
-      (Syntax.tyStruct
-      (List._∷_
-      111
-      (List._∷_
-      119
-      (List._∷_
-      110
-      (List._∷_ 58 (List._∷_ 58 (List._∷_ 79 (List._∷_ 119 (List._∷_ 110 List.[]))))))))
-      (Syntax.tcons
-      (Syntax.tyArray (Syntax.tyInt Syntax.w8) 16)
-      (Syntax.tcons (Syntax.tyArray (Syntax.tyInt Syntax.w8) 16) Syntax.tnil))),
-) (List._∷_ (6, Rows'.sc-here (Row.sInt Syntax.w64)) (List._∷_ (
-  7,
-  Rows'.sc-here (Row.sInt Syntax.w8),
-) (List._∷_ (8, Rows'.sc-here (Row.sInt Syntax.w64)) (List._∷_ (
   9,
   Rows'.sref
       (Array'.Array (Array'.Array (Referent.rtF (Referent.fInt Syntax.w8)) 16) 16)
@@ -9729,8 +10284,8 @@ t47 = List._∷_ (
       (Syntax.tcons
       (Syntax.tyInt Syntax.w64)
       (Syntax.tcons Syntax.tyBool (Syntax.tcons (Syntax.tyInt Syntax.w64) Syntax.tnil))))),
-) (List._∷_ (
-  14,
+) (List._∷_ (14, KOwn.row) (List._∷_ (
+  15,
   Rows'.any-gone
       (Syntax.tyStruct
       (List._∷_
@@ -9755,512 +10310,44 @@ t47 = List._∷_ (
       (Syntax.tcons
       (Syntax.tyInt Syntax.w64)
       (Syntax.tcons (Syntax.tyInt Syntax.w64) Syntax.tnil)))),
-) (List._∷_ (
-  15,
-  Rows'.any-gone
-      (Syntax.tyStruct
-      (List._∷_
-      112
-      (List._∷_
-      108
-      (List._∷_
-      97
-      (List._∷_
-      99
-      (List._∷_
-      101
-      (List._∷_
-      58
-      (List._∷_
-      58
-      (List._∷_
-      82
-      (List._∷_
-      111
-      (List._∷_
-      117
-      (List._∷_
-      116
-      (List._∷_
-      101
-      (List._∷_ 80 (List._∷_ 108 (List._∷_ 97 (List._∷_ 99 (List._∷_ 101 List.[])))))))))))))))))
-      (Syntax.tcons Syntax.tyBool (Syntax.tcons (Syntax.tyInt Syntax.w64) Syntax.tnil))),
 ) List.[])))))))))))))))
-
-abbrev pub t48 : List.List Row.Entry
-t48 = List._∷_ (
-  32,
-  Rows'.any-gone (Syntax.tyRef Syntax.erased Syntax.mut (Syntax.tyInt Syntax.w8)),
-) (List._∷_ (
-  33,
-  Rows'.any-gone
-      (Syntax.tyStruct
-      (List._∷_ 38 (List._∷_ 91 (List._∷_ 93 List.[])))
-      (Syntax.tcons
-      (Syntax.tyRef Syntax.erased Syntax.mut (Syntax.tyInt Syntax.w8))
-      (Syntax.tcons (Syntax.tyInt Syntax.w64) Syntax.tnil))),
-) (List._∷_ (34, Rows'.any-gone (Syntax.tyInt Syntax.w8)) (List._∷_ (
-  35,
-  KDecided.row,
-) (List._∷_ (
-  36,
-  Rows'.any-gone
-      (Syntax.tyStruct
-      (List._∷_
-      97
-      (List._∷_
-      110
-      (List._∷_
-      115
-      (List._∷_
-      119
-      (List._∷_
-      101
-      (List._∷_
-      114
-      (List._∷_
-      58
-      (List._∷_
-      58
-      (List._∷_
-      68
-      (List._∷_
-      101
-      (List._∷_
-      115
-      (List._∷_
-      116
-      (List._∷_
-      105
-      (List._∷_
-      110
-      (List._∷_
-      97
-      (List._∷_ 116 (List._∷_ 105 (List._∷_ 111 (List._∷_ 110 List.[])))))))))))))))))))
-      (Syntax.tcons
-      (Syntax.tyArray (Syntax.tyInt Syntax.w8) 16)
-      (Syntax.tcons
-      (Syntax.tyEnum
-      (List._∷_
-      97
-      (List._∷_
-      110
-      (List._∷_
-      115
-      (List._∷_
-      119
-      (List._∷_
-      101
-      (List._∷_
-      114
-      (List._∷_ 58 (List._∷_ 58 (List._∷_ 87 (List._∷_ 97 (List._∷_ 121 List.[])))))))))))
-      (Syntax.ttcons
-      Syntax.tnil
-      (Syntax.ttcons
-      Syntax.tnil
-      (Syntax.ttcons Syntax.tnil (Syntax.ttcons Syntax.tnil Syntax.ttnil)))))
-      Syntax.tnil))),
-) (List._∷_ (37, Rows'.any-gone (KPost.spelled)) (List._∷_ (
-  38,
-  Rows'.any-gone
-      (Syntax.tyStruct
-      (List._∷_
-      97
-      (List._∷_
-      110
-      (List._∷_
-      115
-      (List._∷_
-      119
-      (List._∷_
-      101
-      (List._∷_
-      114
-      (List._∷_
-      58
-      (List._∷_
-      58
-      (List._∷_
-      68
-      (List._∷_
-      101
-      (List._∷_
-      115
-      (List._∷_
-      116
-      (List._∷_
-      105
-      (List._∷_
-      110
-      (List._∷_
-      97
-      (List._∷_ 116 (List._∷_ 105 (List._∷_ 111 (List._∷_ 110 List.[])))))))))))))))))))
-      (Syntax.tcons
-      (Syntax.tyArray (Syntax.tyInt Syntax.w8) 16)
-      (Syntax.tcons
-      (Syntax.tyEnum
-      (List._∷_
-      97
-      (List._∷_
-      110
-      (List._∷_
-      115
-      (List._∷_
-      119
-      (List._∷_
-      101
-      (List._∷_
-      114
-      (List._∷_ 58 (List._∷_ 58 (List._∷_ 87 (List._∷_ 97 (List._∷_ 121 List.[])))))))))))
-      (Syntax.ttcons
-      Syntax.tnil
-      (Syntax.ttcons
-      Syntax.tnil
-      (Syntax.ttcons Syntax.tnil (Syntax.ttcons Syntax.tnil Syntax.ttnil)))))
-      Syntax.tnil))),
-) (List._∷_ (39, Rows'.any-gone (KPost.spelled)) List.[])))))))
-
-abbrev pub t49 : List.List Row.Entry
-t49 = List._∷_ (
-  32,
-  Rows'.any-gone (Syntax.tyRef Syntax.erased Syntax.mut (Syntax.tyInt Syntax.w8)),
-) (List._∷_ (
-  33,
-  Rows'.any-gone
-      (Syntax.tyStruct
-      (List._∷_ 38 (List._∷_ 91 (List._∷_ 93 List.[])))
-      (Syntax.tcons
-      (Syntax.tyRef Syntax.erased Syntax.mut (Syntax.tyInt Syntax.w8))
-      (Syntax.tcons (Syntax.tyInt Syntax.w64) Syntax.tnil))),
-) (List._∷_ (34, Rows'.sc-here (Row.sInt Syntax.w8)) (List._∷_ (
-  35,
-  KDecided.row,
-) (List._∷_ (
-  36,
-  Rows'.any-gone
-      (Syntax.tyStruct
-      (List._∷_
-      97
-      (List._∷_
-      110
-      (List._∷_
-      115
-      (List._∷_
-      119
-      (List._∷_
-      101
-      (List._∷_
-      114
-      (List._∷_
-      58
-      (List._∷_
-      58
-      (List._∷_
-      68
-      (List._∷_
-      101
-      (List._∷_
-      115
-      (List._∷_
-      116
-      (List._∷_
-      105
-      (List._∷_
-      110
-      (List._∷_
-      97
-      (List._∷_ 116 (List._∷_ 105 (List._∷_ 111 (List._∷_ 110 List.[])))))))))))))))))))
-      (Syntax.tcons
-      (Syntax.tyArray (Syntax.tyInt Syntax.w8) 16)
-      (Syntax.tcons
-      (Syntax.tyEnum
-      (List._∷_
-      97
-      (List._∷_
-      110
-      (List._∷_
-      115
-      (List._∷_
-      119
-      (List._∷_
-      101
-      (List._∷_
-      114
-      (List._∷_ 58 (List._∷_ 58 (List._∷_ 87 (List._∷_ 97 (List._∷_ 121 List.[])))))))))))
-      (Syntax.ttcons
-      Syntax.tnil
-      (Syntax.ttcons
-      Syntax.tnil
-      (Syntax.ttcons Syntax.tnil (Syntax.ttcons Syntax.tnil Syntax.ttnil)))))
-      Syntax.tnil))),
-) (List._∷_ (37, Rows'.any-gone (KPost.spelled)) (List._∷_ (
-  38,
-  Rows'.any-gone
-      (Syntax.tyStruct
-      (List._∷_
-      97
-      (List._∷_
-      110
-      (List._∷_
-      115
-      (List._∷_
-      119
-      (List._∷_
-      101
-      (List._∷_
-      114
-      (List._∷_
-      58
-      (List._∷_
-      58
-      (List._∷_
-      68
-      (List._∷_
-      101
-      (List._∷_
-      115
-      (List._∷_
-      116
-      (List._∷_
-      105
-      (List._∷_
-      110
-      (List._∷_
-      97
-      (List._∷_ 116 (List._∷_ 105 (List._∷_ 111 (List._∷_ 110 List.[])))))))))))))))))))
-      (Syntax.tcons
-      (Syntax.tyArray (Syntax.tyInt Syntax.w8) 16)
-      (Syntax.tcons
-      (Syntax.tyEnum
-      (List._∷_
-      97
-      (List._∷_
-      110
-      (List._∷_
-      115
-      (List._∷_
-      119
-      (List._∷_
-      101
-      (List._∷_
-      114
-      (List._∷_ 58 (List._∷_ 58 (List._∷_ 87 (List._∷_ 97 (List._∷_ 121 List.[])))))))))))
-      (Syntax.ttcons
-      Syntax.tnil
-      (Syntax.ttcons
-      Syntax.tnil
-      (Syntax.ttcons Syntax.tnil (Syntax.ttcons Syntax.tnil Syntax.ttnil)))))
-      Syntax.tnil))),
-) (List._∷_ (39, Rows'.any-gone (KPost.spelled)) List.[])))))))
-
-abbrev pub t50 : List.List Row.Entry
-t50 = List._∷_ (
-  32,
-  Rows'.any-gone (Syntax.tyRef Syntax.erased Syntax.mut (Syntax.tyInt Syntax.w8)),
-) (List._∷_ (
-  33,
-  Rows'.any-gone
-      (Syntax.tyStruct
-      (List._∷_ 38 (List._∷_ 91 (List._∷_ 93 List.[])))
-      (Syntax.tcons
-      (Syntax.tyRef Syntax.erased Syntax.mut (Syntax.tyInt Syntax.w8))
-      (Syntax.tcons (Syntax.tyInt Syntax.w64) Syntax.tnil))),
-) (List._∷_ (34, Rows'.sc-here (Row.sInt Syntax.w8)) (List._∷_ (
-  35,
-  Rows'.any-gone (KDecided.spelled),
-) (List._∷_ (
-  36,
-  Rows'.any-gone
-      (Syntax.tyStruct
-      (List._∷_
-      97
-      (List._∷_
-      110
-      (List._∷_
-      115
-      (List._∷_
-      119
-      (List._∷_
-      101
-      (List._∷_
-      114
-      (List._∷_
-      58
-      (List._∷_
-      58
-      (List._∷_
-      68
-      (List._∷_
-      101
-      (List._∷_
-      115
-      (List._∷_
-      116
-      (List._∷_
-      105
-      (List._∷_
-      110
-      (List._∷_
-      97
-      (List._∷_ 116 (List._∷_ 105 (List._∷_ 111 (List._∷_ 110 List.[])))))))))))))))))))
-      (Syntax.tcons
-      (Syntax.tyArray (Syntax.tyInt Syntax.w8) 16)
-      (Syntax.tcons
-      (Syntax.tyEnum
-      (List._∷_
-      97
-      (List._∷_
-      110
-      (List._∷_
-      115
-      (List._∷_
-      119
-      (List._∷_
-      101
-      (List._∷_
-      114
-      (List._∷_ 58 (List._∷_ 58 (List._∷_ 87 (List._∷_ 97 (List._∷_ 121 List.[])))))))))))
-      (Syntax.ttcons
-      Syntax.tnil
-      (Syntax.ttcons
-      Syntax.tnil
-      (Syntax.ttcons Syntax.tnil (Syntax.ttcons Syntax.tnil Syntax.ttnil)))))
-      Syntax.tnil))),
-) (List._∷_ (37, Rows'.any-gone (KPost.spelled)) (List._∷_ (
-  38,
-  Rows'.any-gone
-      (Syntax.tyStruct
-      (List._∷_
-      97
-      (List._∷_
-      110
-      (List._∷_
-      115
-      (List._∷_
-      119
-      (List._∷_
-      101
-      (List._∷_
-      114
-      (List._∷_
-      58
-      (List._∷_
-      58
-      (List._∷_
-      68
-      (List._∷_
-      101
-      (List._∷_
-      115
-      (List._∷_
-      116
-      (List._∷_
-      105
-      (List._∷_
-      110
-      (List._∷_
-      97
-      (List._∷_ 116 (List._∷_ 105 (List._∷_ 111 (List._∷_ 110 List.[])))))))))))))))))))
-      (Syntax.tcons
-      (Syntax.tyArray (Syntax.tyInt Syntax.w8) 16)
-      (Syntax.tcons
-      (Syntax.tyEnum
-      (List._∷_
-      97
-      (List._∷_
-      110
-      (List._∷_
-      115
-      (List._∷_
-      119
-      (List._∷_
-      101
-      (List._∷_
-      114
-      (List._∷_ 58 (List._∷_ 58 (List._∷_ 87 (List._∷_ 97 (List._∷_ 121 List.[])))))))))))
-      (Syntax.ttcons
-      Syntax.tnil
-      (Syntax.ttcons
-      Syntax.tnil
-      (Syntax.ttcons Syntax.tnil (Syntax.ttcons Syntax.tnil Syntax.ttnil)))))
-      Syntax.tnil))),
-) (List._∷_ (39, Rows'.any-gone (KPost.spelled)) List.[])))))))
 
 abbrev pub t51 : List.List Row.Entry
 t51 = List._∷_ (
   32,
-  Rows'.any-gone (Syntax.tyRef Syntax.erased Syntax.mut (Syntax.tyInt Syntax.w8)),
-) (List._∷_ (
-  33,
   Rows'.any-gone
       (Syntax.tyStruct
       (List._∷_ 38 (List._∷_ 91 (List._∷_ 93 List.[])))
       (Syntax.tcons
       (Syntax.tyRef Syntax.erased Syntax.mut (Syntax.tyInt Syntax.w8))
       (Syntax.tcons (Syntax.tyInt Syntax.w64) Syntax.tnil))),
-) (List._∷_ (34, Rows'.sc-here (Row.sInt Syntax.w8)) (List._∷_ (
+) (List._∷_ (
+  33,
+  Rows'.any-gone
+      (Syntax.tyRef Syntax.erased Syntax.imm (KOwn.named)),
+) (List._∷_ (
+  34,
+  Relend.msptr
+      (Referent.rtF (Referent.fInt Syntax.w8))
+      (Syntax.tyRef Syntax.erased Syntax.mut (Syntax.tyInt Syntax.w8))
+      14,
+) (List._∷_ (
   35,
-  Rows'.any-gone (KDecided.spelled),
+  Rows'.any-gone
+      (Syntax.tyStruct
+      (List._∷_ 38 (List._∷_ 91 (List._∷_ 93 List.[])))
+      (Syntax.tcons
+      (Syntax.tyRef Syntax.erased Syntax.mut (Syntax.tyInt Syntax.w8))
+      (Syntax.tcons (Syntax.tyInt Syntax.w64) Syntax.tnil))),
 ) (List._∷_ (
   36,
   Rows'.any-gone
-      (Syntax.tyStruct
-      (List._∷_
-      97
-      (List._∷_
-      110
-      (List._∷_
-      115
-      (List._∷_
-      119
-      (List._∷_
-      101
-      (List._∷_
-      114
-      (List._∷_
-      58
-      (List._∷_
-      58
-      (List._∷_
-      68
-      (List._∷_
-      101
-      (List._∷_
-      115
-      (List._∷_
-      116
-      (List._∷_
-      105
-      (List._∷_
-      110
-      (List._∷_
-      97
-      (List._∷_ 116 (List._∷_ 105 (List._∷_ 111 (List._∷_ 110 List.[])))))))))))))))))))
-      (Syntax.tcons
-      (Syntax.tyArray (Syntax.tyInt Syntax.w8) 16)
-      (Syntax.tcons
-      (Syntax.tyEnum
-      (List._∷_
-      97
-      (List._∷_
-      110
-      (List._∷_
-      115
-      (List._∷_
-      119
-      (List._∷_
-      101
-      (List._∷_
-      114
-      (List._∷_ 58 (List._∷_ 58 (List._∷_ 87 (List._∷_ 97 (List._∷_ 121 List.[])))))))))))
-      (Syntax.ttcons
-      Syntax.tnil
-      (Syntax.ttcons
-      Syntax.tnil
-      (Syntax.ttcons Syntax.tnil (Syntax.ttcons Syntax.tnil Syntax.ttnil)))))
-      Syntax.tnil))),
-) (List._∷_ (37, KPost.row) (List._∷_ (
+      (Syntax.tyRef Syntax.erased Syntax.imm (KOwn.named)),
+) (List._∷_ (37, Rows'.any-gone (Syntax.tyInt Syntax.w8)) (List._∷_ (
   38,
+  Rows'.any-gone (KDecided.spelled),
+) (List._∷_ (
+  39,
   Rows'.any-gone
       (Syntax.tyStruct
       (List._∷_
@@ -10317,107 +10404,259 @@ t51 = List._∷_ (
       Syntax.tnil
       (Syntax.ttcons Syntax.tnil (Syntax.ttcons Syntax.tnil Syntax.ttnil)))))
       Syntax.tnil))),
-) (List._∷_ (39, Rows'.any-gone (KPost.spelled)) List.[])))))))
+) (List._∷_ (40, Rows'.any-gone (KPost.spelled)) (List._∷_ (
+  41,
+  Rows'.any-gone
+      (Syntax.tyStruct
+      (List._∷_
+      97
+      (List._∷_
+      110
+      (List._∷_
+      115
+      (List._∷_
+      119
+      (List._∷_
+      101
+      (List._∷_
+      114
+      (List._∷_
+      58
+      (List._∷_
+      58
+      (List._∷_
+      68
+      (List._∷_
+      101
+      (List._∷_
+      115
+      (List._∷_
+      116
+      (List._∷_
+      105
+      (List._∷_
+      110
+      (List._∷_
+      97
+      (List._∷_ 116 (List._∷_ 105 (List._∷_ 111 (List._∷_ 110 List.[])))))))))))))))))))
+      (Syntax.tcons
+      (Syntax.tyArray (Syntax.tyInt Syntax.w8) 16)
+      (Syntax.tcons
+      (Syntax.tyEnum
+      (List._∷_
+      97
+      (List._∷_
+      110
+      (List._∷_
+      115
+      (List._∷_
+      119
+      (List._∷_
+      101
+      (List._∷_
+      114
+      (List._∷_ 58 (List._∷_ 58 (List._∷_ 87 (List._∷_ 97 (List._∷_ 121 List.[])))))))))))
+      (Syntax.ttcons
+      Syntax.tnil
+      (Syntax.ttcons
+      Syntax.tnil
+      (Syntax.ttcons Syntax.tnil (Syntax.ttcons Syntax.tnil Syntax.ttnil)))))
+      Syntax.tnil))),
+) (List._∷_ (42, Rows'.any-gone (KPost.spelled)) List.[]))))))))))
 
 abbrev pub t52 : List.List Row.Entry
 t52 = List._∷_ (
   32,
-  Rows'.any-gone (Syntax.tyRef Syntax.erased Syntax.mut (Syntax.tyInt Syntax.w8)),
-) (List._∷_ (
-  33,
   Rows'.any-gone
       (Syntax.tyStruct
       (List._∷_ 38 (List._∷_ 91 (List._∷_ 93 List.[])))
       (Syntax.tcons
       (Syntax.tyRef Syntax.erased Syntax.mut (Syntax.tyInt Syntax.w8))
       (Syntax.tcons (Syntax.tyInt Syntax.w64) Syntax.tnil))),
-) (List._∷_ (34, Rows'.sc-here (Row.sInt Syntax.w8)) (List._∷_ (
-  35,
-  Rows'.any-gone (KDecided.spelled),
-) (List._∷_ (36, Rows'.whole (Declared.row Destination.the-type)) (List._∷_ (
-  37,
-  KPost.row,
 ) (List._∷_ (
-  38,
+  33,
   Rows'.any-gone
-      (Syntax.tyStruct
-      (List._∷_
-      97
-      (List._∷_
-      110
-      (List._∷_
-      115
-      (List._∷_
-      119
-      (List._∷_
-      101
-      (List._∷_
-      114
-      (List._∷_
-      58
-      (List._∷_
-      58
-      (List._∷_
-      68
-      (List._∷_
-      101
-      (List._∷_
-      115
-      (List._∷_
-      116
-      (List._∷_
-      105
-      (List._∷_
-      110
-      (List._∷_
-      97
-      (List._∷_ 116 (List._∷_ 105 (List._∷_ 111 (List._∷_ 110 List.[])))))))))))))))))))
-      (Syntax.tcons
-      (Syntax.tyArray (Syntax.tyInt Syntax.w8) 16)
-      (Syntax.tcons
-      (Syntax.tyEnum
-      (List._∷_
-      97
-      (List._∷_
-      110
-      (List._∷_
-      115
-      (List._∷_
-      119
-      (List._∷_
-      101
-      (List._∷_
-      114
-      (List._∷_ 58 (List._∷_ 58 (List._∷_ 87 (List._∷_ 97 (List._∷_ 121 List.[])))))))))))
-      (Syntax.ttcons
-      Syntax.tnil
-      (Syntax.ttcons
-      Syntax.tnil
-      (Syntax.ttcons Syntax.tnil (Syntax.ttcons Syntax.tnil Syntax.ttnil)))))
-      Syntax.tnil))),
-) (List._∷_ (39, Rows'.any-gone (KPost.spelled)) List.[])))))))
+      (Syntax.tyRef Syntax.erased Syntax.imm (KOwn.named)),
+)
+    (List._∷_ (
+      34,
+      Rows'.any-gone (Syntax.tyRef Syntax.erased Syntax.mut (Syntax.tyInt Syntax.w8)),
+    ) (List._∷_ (
+      35,
+      Mut.mslice
+          (Referent.rtF (Referent.fInt Syntax.w8))
+          (Syntax.tyRef Syntax.erased Syntax.mut (Syntax.tyInt Syntax.w8))
+          14,
+    ) (List._∷_ (
+      36,
+      Rows'.any-gone
+          (Syntax.tyRef Syntax.erased Syntax.imm (KOwn.named)),
+    ) (List._∷_ (37, Rows'.any-gone (Syntax.tyInt Syntax.w8)) (List._∷_ (
+      38,
+      Rows'.any-gone (KDecided.spelled),
+    ) (List._∷_ (
+      39,
+      Rows'.any-gone
+          (Syntax.tyStruct
+          (List._∷_
+          97
+          (List._∷_
+          110
+          (List._∷_
+          115
+          (List._∷_
+          119
+          (List._∷_
+          101
+          (List._∷_
+          114
+          (List._∷_
+          58
+          (List._∷_
+          58
+          (List._∷_
+          68
+          (List._∷_
+          101
+          (List._∷_
+          115
+          (List._∷_
+          116
+          (List._∷_
+          105
+          (List._∷_
+          110
+          (List._∷_
+          97
+          (List._∷_ 116 (List._∷_ 105 (List._∷_ 111 (List._∷_ 110 List.[])))))))))))))))))))
+          (Syntax.tcons
+          (Syntax.tyArray (Syntax.tyInt Syntax.w8) 16)
+          (Syntax.tcons
+          (Syntax.tyEnum
+          (List._∷_
+          97
+          (List._∷_
+          110
+          (List._∷_
+          115
+          (List._∷_
+          119
+          (List._∷_
+          101
+          (List._∷_
+          114
+          (List._∷_ 58 (List._∷_ 58 (List._∷_ 87 (List._∷_ 97 (List._∷_ 121 List.[])))))))))))
+          (Syntax.ttcons
+          Syntax.tnil
+          (Syntax.ttcons
+          Syntax.tnil
+          (Syntax.ttcons Syntax.tnil (Syntax.ttcons Syntax.tnil Syntax.ttnil)))))
+          Syntax.tnil))),
+    ) (List._∷_ (40, Rows'.any-gone (KPost.spelled)) (List._∷_ (
+      41,
+      Rows'.any-gone
+          (Syntax.tyStruct
+          (List._∷_
+          97
+          (List._∷_
+          110
+          (List._∷_
+          115
+          (List._∷_
+          119
+          (List._∷_
+          101
+          (List._∷_
+          114
+          (List._∷_
+          58
+          (List._∷_
+          58
+          (List._∷_
+          68
+          (List._∷_
+          101
+          (List._∷_
+          115
+          (List._∷_
+          116
+          (List._∷_
+          105
+          (List._∷_
+          110
+          (List._∷_
+          97
+          (List._∷_ 116 (List._∷_ 105 (List._∷_ 111 (List._∷_ 110 List.[])))))))))))))))))))
+          (Syntax.tcons
+          (Syntax.tyArray (Syntax.tyInt Syntax.w8) 16)
+          (Syntax.tcons
+          (Syntax.tyEnum
+          (List._∷_
+          97
+          (List._∷_
+          110
+          (List._∷_
+          115
+          (List._∷_
+          119
+          (List._∷_
+          101
+          (List._∷_
+          114
+          (List._∷_ 58 (List._∷_ 58 (List._∷_ 87 (List._∷_ 97 (List._∷_ 121 List.[])))))))))))
+          (Syntax.ttcons
+          Syntax.tnil
+          (Syntax.ttcons
+          Syntax.tnil
+          (Syntax.ttcons Syntax.tnil (Syntax.ttcons Syntax.tnil Syntax.ttnil)))))
+          Syntax.tnil))),
+    )
+    (List._∷_ (42, Rows'.any-gone (KPost.spelled)) List.[]))))))))))
 
 abbrev pub t53 : List.List Row.Entry
 t53 = List._∷_ (
-  32,
-  Rows'.any-gone (Syntax.tyRef Syntax.erased Syntax.mut (Syntax.tyInt Syntax.w8)),
-) (List._∷_ (
-  33,
+  0,
   Rows'.any-gone
       (Syntax.tyStruct
-      (List._∷_ 38 (List._∷_ 91 (List._∷_ 93 List.[])))
+      (List._∷_
+      102
+      (List._∷_
+      105
+      (List._∷_
+      110
+      (List._∷_
+      105
+      (List._∷_
+      115
+      (List._∷_
+      104
+      (List._∷_
+      58
+      (List._∷_
+      58
+      (List._∷_
+      79
+      (List._∷_
+      117
+      (List._∷_ 116 (List._∷_ 99 (List._∷_ 111 (List._∷_ 109 (List._∷_ 101 List.[])))))))))))))))
       (Syntax.tcons
-      (Syntax.tyRef Syntax.erased Syntax.mut (Syntax.tyInt Syntax.w8))
-      (Syntax.tcons (Syntax.tyInt Syntax.w64) Syntax.tnil))),
-) (List._∷_ (34, Rows'.sc-here (Row.sInt Syntax.w8)) (List._∷_ (
-  35,
-  Rows'.any-gone (KDecided.spelled),
-) (List._∷_ (36, Rows'.whole (Declared.row Destination.the-type)) (List._∷_ (
-  37,
-  Rows'.any-gone (KPost.spelled),
-) (List._∷_ (
-  38,
-  Rows'.any-gone
+      (Syntax.tyStruct
+      (List._∷_
+      102
+      (List._∷_
+      105
+      (List._∷_
+      110
+      (List._∷_
+      105
+      (List._∷_
+      115
+      (List._∷_
+      104
+      (List._∷_
+      58
+      (List._∷_ 58 (List._∷_ 83 (List._∷_ 101 (List._∷_ 110 (List._∷_ 116 List.[]))))))))))))
+      (Syntax.tcons
       (Syntax.tyStruct
       (List._∷_
       97
@@ -10472,254 +10711,411 @@ t53 = List._∷_ (
       (Syntax.ttcons
       Syntax.tnil
       (Syntax.ttcons Syntax.tnil (Syntax.ttcons Syntax.tnil Syntax.ttnil)))))
-      Syntax.tnil))),
-) (List._∷_ (39, Rows'.any-gone (KPost.spelled)) List.[])))))))
+      Syntax.tnil)))
+      (Syntax.tcons (Syntax.tyInt Syntax.w64) Syntax.tnil)))
+      (Syntax.tcons
+      (Syntax.tyInt Syntax.w64)
+      (Syntax.tcons
+      (Syntax.tyStruct
+      (List._∷_
+      102
+      (List._∷_
+      105
+      (List._∷_
+      110
+      (List._∷_
+      105
+      (List._∷_
+      115
+      (List._∷_
+      104
+      (List._∷_
+      58
+      (List._∷_ 58 (List._∷_ 83 (List._∷_ 101 (List._∷_ 110 (List._∷_ 116 List.[]))))))))))))
+      (Syntax.tcons
+      (Syntax.tyStruct
+      (List._∷_
+      97
+      (List._∷_
+      110
+      (List._∷_
+      115
+      (List._∷_
+      119
+      (List._∷_
+      101
+      (List._∷_
+      114
+      (List._∷_
+      58
+      (List._∷_
+      58
+      (List._∷_
+      68
+      (List._∷_
+      101
+      (List._∷_
+      115
+      (List._∷_
+      116
+      (List._∷_
+      105
+      (List._∷_
+      110
+      (List._∷_
+      97
+      (List._∷_ 116 (List._∷_ 105 (List._∷_ 111 (List._∷_ 110 List.[])))))))))))))))))))
+      (Syntax.tcons
+      (Syntax.tyArray (Syntax.tyInt Syntax.w8) 16)
+      (Syntax.tcons
+      (Syntax.tyEnum
+      (List._∷_
+      97
+      (List._∷_
+      110
+      (List._∷_
+      115
+      (List._∷_
+      119
+      (List._∷_
+      101
+      (List._∷_
+      114
+      (List._∷_ 58 (List._∷_ 58 (List._∷_ 87 (List._∷_ 97 (List._∷_ 121 List.[])))))))))))
+      (Syntax.ttcons
+      Syntax.tnil
+      (Syntax.ttcons
+      Syntax.tnil
+      (Syntax.ttcons Syntax.tnil (Syntax.ttcons Syntax.tnil Syntax.ttnil)))))
+      Syntax.tnil)))
+      (Syntax.tcons (Syntax.tyInt Syntax.w64) Syntax.tnil)))
+      (Syntax.tcons
+      (Syntax.tyEnum
+      (List._∷_
+      97
+      (List._∷_
+      110
+      (List._∷_
+      115
+      (List._∷_
+      119
+      (List._∷_
+      101
+      (List._∷_
+      114
+      (List._∷_
+      58
+      (List._∷_
+      58
+      (List._∷_
+      65
+      (List._∷_ 110 (List._∷_ 115 (List._∷_ 119 (List._∷_ 101 (List._∷_ 114 List.[]))))))))))))))
+      (Syntax.ttcons
+      Syntax.tnil
+      (Syntax.ttcons
+      Syntax.tnil
+      (Syntax.ttcons
+      Syntax.tnil
+      (Syntax.ttcons
+      Syntax.tnil
+      (Syntax.ttcons
+      Syntax.tnil
+      (Syntax.ttcons
+      Syntax.tnil
+      (Syntax.ttcons
+      Syntax.tnil
+      (Syntax.ttcons
+      Syntax.tnil
+      (Syntax.ttcons
+      Syntax.tnil
+      (Syntax.ttcons
+      Syntax.tnil
+      (Syntax.ttcons
+      Syntax.tnil
+      (Syntax.ttcons
+      Syntax.tnil
+      (Syntax.ttcons
+      Syntax.tnil
+      (Syntax.ttcons
+      Syntax.tnil
+      (Syntax.ttcons
+      Syntax.tnil
+      (Syntax.ttcons
+      Syntax.tnil
+      (Syntax.ttcons Syntax.tnil (Syntax.ttcons Syntax.tnil Syntax.ttnil)))))))))))))))))))
+      (Syntax.tcons (Syntax.tyInt Syntax.w8) Syntax.tnil)))))),
+) (List._∷_ (
+  1,
+  Mut.mslice
+      (KInstanceRow.R)
+      (Syntax.tyRef (Syntax.named 0) Syntax.mut (KInstanceRow.named))
+      0,
+) (List._∷_ (
+  2,
+  Mut.mslice
+      (KRouteRow.R)
+      (Syntax.tyRef (Syntax.named 1) Syntax.mut (KRouteRow.named))
+      1,
+) (List._∷_ (
+  3,
+  Mut.mslice
+      (Referent.rtF (Referent.fInt Syntax.w8))
+      (Syntax.tyRef (Syntax.named 2) Syntax.mut (Syntax.tyInt Syntax.w8))
+      2,
+) (List._∷_ (
+  4,
+  Relend.mslice-owed
+      (Referent.rtF (Referent.fInt Syntax.w8))
+      (Syntax.tyRef (Syntax.named 3) Syntax.mut (Syntax.tyInt Syntax.w8))
+      3
+      14
+      Row.off,
+) (List._∷_ (5, Rows'.any-gone (KOwn.spelled)) (List._∷_ (
+  6,
+  Rows'.sc-here (Row.sInt Syntax.w64),
+) (List._∷_ (7, Rows'.sc-here (Row.sInt Syntax.w8)) (List._∷_ (
+  8,
+  Rows'.sc-here (Row.sInt Syntax.w64),
+) (List._∷_ (
+  9,
+  Rows'.sref
+      (Array'.Array (Array'.Array (Referent.rtF (Referent.fInt Syntax.w8)) 16) 16)
+      (Syntax.tyRef
+      (Syntax.named 4)
+      Syntax.imm
+      (Syntax.tyArray (Syntax.tyArray (Syntax.tyInt Syntax.w8) 16) 16))
+      4,
+) (List._∷_ (
+  10,
+  Rows'.sref
+      (KDecided.R)
+      (Syntax.tyRef (Syntax.named 5) Syntax.imm (KDecided.named))
+      5,
+) (List._∷_ (
+  11,
+  Rows'.sref
+      (KPost.R)
+      (Syntax.tyRef (Syntax.named 6) Syntax.imm (KPost.named))
+      6,
+) (List._∷_ (
+  12,
+  Rows'.sref
+      (KPost.R)
+      (Syntax.tyRef (Syntax.named 7) Syntax.imm (KPost.named))
+      7,
+) (List._∷_ (
+  13,
+  Rows'.any-gone
+      (Syntax.tyStruct
+      (List._∷_
+      102
+      (List._∷_
+      105
+      (List._∷_
+      110
+      (List._∷_
+      105
+      (List._∷_
+      115
+      (List._∷_
+      104
+      (List._∷_
+      58
+      (List._∷_ 58 (List._∷_ 76 (List._∷_ 105 (List._∷_ 118 (List._∷_ 101 List.[]))))))))))))
+      (Syntax.tcons
+      Syntax.tyBool
+      (Syntax.tcons
+      (Syntax.tyInt Syntax.w64)
+      (Syntax.tcons Syntax.tyBool (Syntax.tcons (Syntax.tyInt Syntax.w64) Syntax.tnil))))),
+) (List._∷_ (
+  14,
+  Rows'.sc-shr
+      (KOwn.row)
+      (KOwn.R)
+      (λ x. x)
+      15,
+) (List._∷_ (
+  15,
+  Rows'.any-gone
+      (Syntax.tyStruct
+      (List._∷_
+      112
+      (List._∷_
+      108
+      (List._∷_
+      97
+      (List._∷_
+      99
+      (List._∷_
+      101
+      (List._∷_
+      58
+      (List._∷_
+      58
+      (List._∷_
+      80
+      (List._∷_ 108 (List._∷_ 97 (List._∷_ 99 (List._∷_ 101 (List._∷_ 115 List.[])))))))))))))
+      (Syntax.tcons
+      Syntax.tyBool
+      (Syntax.tcons
+      (Syntax.tyInt Syntax.w64)
+      (Syntax.tcons (Syntax.tyInt Syntax.w64) Syntax.tnil)))),
+) List.[])))))))))))))))
 
 abbrev pub t54 : List.List Row.Entry
 t54 = List._∷_ (
   32,
-  Rows'.any-gone (Syntax.tyRef Syntax.erased Syntax.mut (Syntax.tyInt Syntax.w8)),
-) (List._∷_ (
-  33,
   Rows'.any-gone
       (Syntax.tyStruct
       (List._∷_ 38 (List._∷_ 91 (List._∷_ 93 List.[])))
       (Syntax.tcons
       (Syntax.tyRef Syntax.erased Syntax.mut (Syntax.tyInt Syntax.w8))
       (Syntax.tcons (Syntax.tyInt Syntax.w64) Syntax.tnil))),
-) (List._∷_ (34, Rows'.sc-here (Row.sInt Syntax.w8)) (List._∷_ (
-  35,
-  Rows'.any-gone (KDecided.spelled),
-) (List._∷_ (36, Rows'.whole (Declared.row Destination.the-type)) (List._∷_ (
-  37,
-  Rows'.any-gone (KPost.spelled),
 ) (List._∷_ (
-  38,
+  33,
   Rows'.any-gone
-      (Syntax.tyStruct
-      (List._∷_
-      97
-      (List._∷_
-      110
-      (List._∷_
-      115
-      (List._∷_
-      119
-      (List._∷_
-      101
-      (List._∷_
-      114
-      (List._∷_
-      58
-      (List._∷_
-      58
-      (List._∷_
-      68
-      (List._∷_
-      101
-      (List._∷_
-      115
-      (List._∷_
-      116
-      (List._∷_
-      105
-      (List._∷_
-      110
-      (List._∷_
-      97
-      (List._∷_ 116 (List._∷_ 105 (List._∷_ 111 (List._∷_ 110 List.[])))))))))))))))))))
-      (Syntax.tcons
-      (Syntax.tyArray (Syntax.tyInt Syntax.w8) 16)
-      (Syntax.tcons
-      (Syntax.tyEnum
-      (List._∷_
-      97
-      (List._∷_
-      110
-      (List._∷_
-      115
-      (List._∷_
-      119
-      (List._∷_
-      101
-      (List._∷_
-      114
-      (List._∷_ 58 (List._∷_ 58 (List._∷_ 87 (List._∷_ 97 (List._∷_ 121 List.[])))))))))))
-      (Syntax.ttcons
-      Syntax.tnil
-      (Syntax.ttcons
-      Syntax.tnil
-      (Syntax.ttcons Syntax.tnil (Syntax.ttcons Syntax.tnil Syntax.ttnil)))))
-      Syntax.tnil))),
-) (List._∷_ (39, KPost.row) List.[])))))))
+      (Syntax.tyRef Syntax.erased Syntax.imm (KOwn.named)),
+)
+    (List._∷_ (
+      34,
+      Rows'.any-gone (Syntax.tyRef Syntax.erased Syntax.mut (Syntax.tyInt Syntax.w8)),
+    ) (List._∷_ (
+      35,
+      Mut.mslice
+          (Referent.rtF (Referent.fInt Syntax.w8))
+          (Syntax.tyRef Syntax.erased Syntax.mut (Syntax.tyInt Syntax.w8))
+          14,
+    ) (List._∷_ (
+      36,
+      Rows'.sref
+          (KOwn.R)
+          (Syntax.tyRef Syntax.erased Syntax.imm (KOwn.named))
+          15,
+    ) (List._∷_ (37, Rows'.any-gone (Syntax.tyInt Syntax.w8)) (List._∷_ (
+      38,
+      Rows'.any-gone (KDecided.spelled),
+    ) (List._∷_ (
+      39,
+      Rows'.any-gone
+          (Syntax.tyStruct
+          (List._∷_
+          97
+          (List._∷_
+          110
+          (List._∷_
+          115
+          (List._∷_
+          119
+          (List._∷_
+          101
+          (List._∷_
+          114
+          (List._∷_
+          58
+          (List._∷_
+          58
+          (List._∷_
+          68
+          (List._∷_
+          101
+          (List._∷_
+          115
+          (List._∷_
+          116
+          (List._∷_
+          105
+          (List._∷_
+          110
+          (List._∷_
+          97
+          (List._∷_ 116 (List._∷_ 105 (List._∷_ 111 (List._∷_ 110 List.[])))))))))))))))))))
+          (Syntax.tcons
+          (Syntax.tyArray (Syntax.tyInt Syntax.w8) 16)
+          (Syntax.tcons
+          (Syntax.tyEnum
+          (List._∷_
+          97
+          (List._∷_
+          110
+          (List._∷_
+          115
+          (List._∷_
+          119
+          (List._∷_
+          101
+          (List._∷_
+          114
+          (List._∷_ 58 (List._∷_ 58 (List._∷_ 87 (List._∷_ 97 (List._∷_ 121 List.[])))))))))))
+          (Syntax.ttcons
+          Syntax.tnil
+          (Syntax.ttcons
+          Syntax.tnil
+          (Syntax.ttcons Syntax.tnil (Syntax.ttcons Syntax.tnil Syntax.ttnil)))))
+          Syntax.tnil))),
+    ) (List._∷_ (40, Rows'.any-gone (KPost.spelled)) (List._∷_ (
+      41,
+      Rows'.any-gone
+          (Syntax.tyStruct
+          (List._∷_
+          97
+          (List._∷_
+          110
+          (List._∷_
+          115
+          (List._∷_
+          119
+          (List._∷_
+          101
+          (List._∷_
+          114
+          (List._∷_
+          58
+          (List._∷_
+          58
+          (List._∷_
+          68
+          (List._∷_
+          101
+          (List._∷_
+          115
+          (List._∷_
+          116
+          (List._∷_
+          105
+          (List._∷_
+          110
+          (List._∷_
+          97
+          (List._∷_ 116 (List._∷_ 105 (List._∷_ 111 (List._∷_ 110 List.[])))))))))))))))))))
+          (Syntax.tcons
+          (Syntax.tyArray (Syntax.tyInt Syntax.w8) 16)
+          (Syntax.tcons
+          (Syntax.tyEnum
+          (List._∷_
+          97
+          (List._∷_
+          110
+          (List._∷_
+          115
+          (List._∷_
+          119
+          (List._∷_
+          101
+          (List._∷_
+          114
+          (List._∷_ 58 (List._∷_ 58 (List._∷_ 87 (List._∷_ 97 (List._∷_ 121 List.[])))))))))))
+          (Syntax.ttcons
+          Syntax.tnil
+          (Syntax.ttcons
+          Syntax.tnil
+          (Syntax.ttcons Syntax.tnil (Syntax.ttcons Syntax.tnil Syntax.ttnil)))))
+          Syntax.tnil))),
+    )
+    (List._∷_ (42, Rows'.any-gone (KPost.spelled)) List.[]))))))))))
 
 abbrev pub t55 : List.List Row.Entry
 t55 = List._∷_ (
-  32,
-  Rows'.any-gone (Syntax.tyRef Syntax.erased Syntax.mut (Syntax.tyInt Syntax.w8)),
-) (List._∷_ (
-  33,
-  Rows'.any-gone
-      (Syntax.tyStruct
-      (List._∷_ 38 (List._∷_ 91 (List._∷_ 93 List.[])))
-      (Syntax.tcons
-      (Syntax.tyRef Syntax.erased Syntax.mut (Syntax.tyInt Syntax.w8))
-      (Syntax.tcons (Syntax.tyInt Syntax.w64) Syntax.tnil))),
-) (List._∷_ (34, Rows'.sc-here (Row.sInt Syntax.w8)) (List._∷_ (
-  35,
-  Rows'.any-gone (KDecided.spelled),
-) (List._∷_ (36, Rows'.whole (Declared.row Destination.the-type)) (List._∷_ (
-  37,
-  Rows'.any-gone (KPost.spelled),
-) (List._∷_ (38, Rows'.whole (Declared.row Destination.the-type)) (List._∷_ (
-  39,
-  KPost.row,
-) List.[])))))))
-
-abbrev pub t56 : List.List Row.Entry
-t56 = List._∷_ (
-  32,
-  Rows'.any-gone (Syntax.tyRef Syntax.erased Syntax.mut (Syntax.tyInt Syntax.w8)),
-) (List._∷_ (
-  33,
-  Rows'.any-gone
-      (Syntax.tyStruct
-      (List._∷_ 38 (List._∷_ 91 (List._∷_ 93 List.[])))
-      (Syntax.tcons
-      (Syntax.tyRef Syntax.erased Syntax.mut (Syntax.tyInt Syntax.w8))
-      (Syntax.tcons (Syntax.tyInt Syntax.w64) Syntax.tnil))),
-) (List._∷_ (34, Rows'.sc-here (Row.sInt Syntax.w8)) (List._∷_ (
-  35,
-  Rows'.any-gone (KDecided.spelled),
-) (List._∷_ (36, Rows'.whole (Declared.row Destination.the-type)) (List._∷_ (
-  37,
-  Rows'.any-gone (KPost.spelled),
-) (List._∷_ (38, Rows'.whole (Declared.row Destination.the-type)) (List._∷_ (
-  39,
-  Rows'.any-gone (KPost.spelled),
-) List.[])))))))
-
-abbrev pub t57 : List.List Row.Entry
-t57 = List._∷_ (0, Rows'.whole (Declared.row Outcome.the-type)) (List._∷_ (
-  1,
-  Mut.mslice
-      (KInstanceRow.R)
-      (Syntax.tyRef (Syntax.named 0) Syntax.mut (KInstanceRow.named))
-      0,
-) (List._∷_ (
-  2,
-  Mut.mslice
-      (KRouteRow.R)
-      (Syntax.tyRef (Syntax.named 1) Syntax.mut (KRouteRow.named))
-      1,
-) (List._∷_ (
-  3,
-  Mut.mslice
-      (Referent.rtF (Referent.fInt Syntax.w8))
-      (Syntax.tyRef (Syntax.named 2) Syntax.mut (Syntax.tyInt Syntax.w8))
-      2,
-) (List._∷_ (
-  4,
-  Mut.mslice
-      (Referent.rtF (Referent.fInt Syntax.w8))
-      (Syntax.tyRef (Syntax.named 3) Syntax.mut (Syntax.tyInt Syntax.w8))
-      3,
-) (List._∷_ (
-  5,
-  Rows'.any-gone
-      (Syntax.tyStruct
-      (List._∷_
-      111
-      (List._∷_
-      119
-      (List._∷_
-      110
-      (List._∷_ 58 (List._∷_ 58 (List._∷_ 79 (List._∷_ 119 (List._∷_ 110 List.[]))))))))
-      (Syntax.tcons
-      (Syntax.tyArray (Syntax.tyInt Syntax.w8) 16)
-      (Syntax.tcons (Syntax.tyArray (Syntax.tyInt Syntax.w8) 16) Syntax.tnil))),
-) (List._∷_ (6, Rows'.sc-here (Row.sInt Syntax.w64)) (List._∷_ (
-  7,
-  Rows'.sc-here (Row.sInt Syntax.w8),
-) (List._∷_ (8, Rows'.sc-here (Row.sInt Syntax.w64)) (List._∷_ (
-  9,
-  Rows'.sref
-      (Array'.Array (Array'.Array (Referent.rtF (Referent.fInt Syntax.w8)) 16) 16)
-      (Syntax.tyRef
-      (Syntax.named 4)
-      Syntax.imm
-      (Syntax.tyArray (Syntax.tyArray (Syntax.tyInt Syntax.w8) 16) 16))
-      4,
-) (List._∷_ (
-  10,
-  Rows'.sref
-      (KDecided.R)
-      (Syntax.tyRef (Syntax.named 5) Syntax.imm (KDecided.named))
-      5,
-) (List._∷_ (
-  11,
-  Rows'.sref
-      (KPost.R)
-      (Syntax.tyRef (Syntax.named 6) Syntax.imm (KPost.named))
-      6,
-) (List._∷_ (
-  12,
-  Rows'.sref
-      (KPost.R)
-      (Syntax.tyRef (Syntax.named 7) Syntax.imm (KPost.named))
-      7,
-) (List._∷_ (
-  13,
-  Rows'.any-gone
-      (Syntax.tyStruct
-      (List._∷_
-      102
-      (List._∷_
-      105
-      (List._∷_
-      110
-      (List._∷_
-      105
-      (List._∷_
-      115
-      (List._∷_
-      104
-      (List._∷_
-      58
-      (List._∷_ 58 (List._∷_ 76 (List._∷_ 105 (List._∷_ 118 (List._∷_ 101 List.[]))))))))))))
-      (Syntax.tcons
-      Syntax.tyBool
-      (Syntax.tcons
-      (Syntax.tyInt Syntax.w64)
-      (Syntax.tcons Syntax.tyBool (Syntax.tcons (Syntax.tyInt Syntax.w64) Syntax.tnil))))),
-) (List._∷_ (
-  14,
-  Rows'.any-gone
-      (Syntax.tyStruct
-      (List._∷_
-      112
-      (List._∷_
-      108
-      (List._∷_
-      97
-      (List._∷_
-      99
-      (List._∷_
-      101
-      (List._∷_
-      58
-      (List._∷_
-      58
-      (List._∷_
-      80
-      (List._∷_ 108 (List._∷_ 97 (List._∷_ 99 (List._∷_ 101 (List._∷_ 115 List.[])))))))))))))
-      (Syntax.tcons
-      Syntax.tyBool
-      (Syntax.tcons
-      (Syntax.tyInt Syntax.w64)
-      (Syntax.tcons (Syntax.tyInt Syntax.w64) Syntax.tnil)))),
-) (List._∷_ (
-  15,
+  16,
   Rows'.any-gone
       (Syntax.tyStruct
       (List._∷_
@@ -10748,436 +11144,30 @@ t57 = List._∷_ (0, Rows'.whole (Declared.row Outcome.the-type)) (List._∷_ (
       101
       (List._∷_ 80 (List._∷_ 108 (List._∷_ 97 (List._∷_ 99 (List._∷_ 101 List.[])))))))))))))))))
       (Syntax.tcons Syntax.tyBool (Syntax.tcons (Syntax.tyInt Syntax.w64) Syntax.tnil))),
-) List.[])))))))))))))))
-
-abbrev pub t58 : List.List Row.Entry
-t58 = List._∷_ (
-  32,
-  Rows'.any-gone (Syntax.tyRef Syntax.erased Syntax.mut (Syntax.tyInt Syntax.w8)),
-) (List._∷_ (
-  33,
-  Rows'.any-gone
-      (Syntax.tyStruct
-      (List._∷_ 38 (List._∷_ 91 (List._∷_ 93 List.[])))
-      (Syntax.tcons
-      (Syntax.tyRef Syntax.erased Syntax.mut (Syntax.tyInt Syntax.w8))
-      (Syntax.tcons (Syntax.tyInt Syntax.w64) Syntax.tnil))),
-) (List._∷_ (34, Rows'.any-gone (Syntax.tyInt Syntax.w8)) (List._∷_ (
-  35,
-  Rows'.any-gone (KDecided.spelled),
-) (List._∷_ (36, Rows'.whole (Declared.row Destination.the-type)) (List._∷_ (
-  37,
-  Rows'.any-gone (KPost.spelled),
-) (List._∷_ (38, Rows'.whole (Declared.row Destination.the-type)) (List._∷_ (
-  39,
-  Rows'.any-gone (KPost.spelled),
-) List.[])))))))
-
-abbrev pub t59 : List.List Row.Entry
-t59 = List._∷_ (
-  32,
-  Rows'.any-gone (Syntax.tyRef Syntax.erased Syntax.mut (Syntax.tyInt Syntax.w8)),
-) (List._∷_ (
-  33,
-  Rows'.any-gone
-      (Syntax.tyStruct
-      (List._∷_ 38 (List._∷_ 91 (List._∷_ 93 List.[])))
-      (Syntax.tcons
-      (Syntax.tyRef Syntax.erased Syntax.mut (Syntax.tyInt Syntax.w8))
-      (Syntax.tcons (Syntax.tyInt Syntax.w64) Syntax.tnil))),
-) (List._∷_ (34, Rows'.any-gone (Syntax.tyInt Syntax.w8)) (List._∷_ (
-  35,
-  Rows'.any-gone (KDecided.spelled),
-) (List._∷_ (
-  36,
-  Rows'.any-gone
-      (Syntax.tyStruct
-      (List._∷_
-      97
-      (List._∷_
-      110
-      (List._∷_
-      115
-      (List._∷_
-      119
-      (List._∷_
-      101
-      (List._∷_
-      114
-      (List._∷_
-      58
-      (List._∷_
-      58
-      (List._∷_
-      68
-      (List._∷_
-      101
-      (List._∷_
-      115
-      (List._∷_
-      116
-      (List._∷_
-      105
-      (List._∷_
-      110
-      (List._∷_
-      97
-      (List._∷_ 116 (List._∷_ 105 (List._∷_ 111 (List._∷_ 110 List.[])))))))))))))))))))
-      (Syntax.tcons
-      (Syntax.tyArray (Syntax.tyInt Syntax.w8) 16)
-      (Syntax.tcons
-      (Syntax.tyEnum
-      (List._∷_
-      97
-      (List._∷_
-      110
-      (List._∷_
-      115
-      (List._∷_
-      119
-      (List._∷_
-      101
-      (List._∷_
-      114
-      (List._∷_ 58 (List._∷_ 58 (List._∷_ 87 (List._∷_ 97 (List._∷_ 121 List.[])))))))))))
-      (Syntax.ttcons
-      Syntax.tnil
-      (Syntax.ttcons
-      Syntax.tnil
-      (Syntax.ttcons Syntax.tnil (Syntax.ttcons Syntax.tnil Syntax.ttnil)))))
-      Syntax.tnil))),
-) (List._∷_ (37, Rows'.any-gone (KPost.spelled)) (List._∷_ (
-  38,
-  Rows'.whole (Declared.row Destination.the-type),
-) (List._∷_ (39, Rows'.any-gone (KPost.spelled)) List.[])))))))
-
-abbrev pub t60 : List.List Row.Entry
-t60 = List._∷_ (0, Rows'.whole (Declared.row Outcome.the-type)) (List._∷_ (
-  1,
-  Mut.mslice
-      (KInstanceRow.R)
-      (Syntax.tyRef (Syntax.named 0) Syntax.mut (KInstanceRow.named))
-      0,
-) (List._∷_ (
-  2,
-  Mut.mslice
-      (KRouteRow.R)
-      (Syntax.tyRef (Syntax.named 1) Syntax.mut (KRouteRow.named))
-      1,
-) (List._∷_ (
-  3,
-  Mut.mslice
-      (Referent.rtF (Referent.fInt Syntax.w8))
-      (Syntax.tyRef (Syntax.named 2) Syntax.mut (Syntax.tyInt Syntax.w8))
-      2,
-) (List._∷_ (
-  4,
-  Mut.mslice
-      (Referent.rtF (Referent.fInt Syntax.w8))
-      (Syntax.tyRef (Syntax.named 3) Syntax.mut (Syntax.tyInt Syntax.w8))
-      3,
-) (List._∷_ (
-  5,
-  Rows'.any-gone
-      (Syntax.tyStruct
-      (List._∷_
-      111
-      (List._∷_
-      119
-      (List._∷_
-      110
-      (List._∷_ 58 (List._∷_ 58 (List._∷_ 79 (List._∷_ 119 (List._∷_ 110 List.[]))))))))
-      (Syntax.tcons
-      (Syntax.tyArray (Syntax.tyInt Syntax.w8) 16)
-      (Syntax.tcons (Syntax.tyArray (Syntax.tyInt Syntax.w8) 16) Syntax.tnil))),
-) (List._∷_ (6, Rows'.any-gone (Syntax.tyInt Syntax.w64)) (List._∷_ (
-  7,
-  Rows'.sc-here (Row.sInt Syntax.w8),
-) (List._∷_ (8, Rows'.sc-here (Row.sInt Syntax.w64)) (List._∷_ (
-  9,
-  Rows'.sref
-      (Array'.Array (Array'.Array (Referent.rtF (Referent.fInt Syntax.w8)) 16) 16)
-      (Syntax.tyRef
-      (Syntax.named 4)
-      Syntax.imm
-      (Syntax.tyArray (Syntax.tyArray (Syntax.tyInt Syntax.w8) 16) 16))
-      4,
-) (List._∷_ (
-  10,
-  Rows'.sref
-      (KDecided.R)
-      (Syntax.tyRef (Syntax.named 5) Syntax.imm (KDecided.named))
-      5,
-) (List._∷_ (
-  11,
-  Rows'.sref
-      (KPost.R)
-      (Syntax.tyRef (Syntax.named 6) Syntax.imm (KPost.named))
-      6,
-) (List._∷_ (
-  12,
-  Rows'.sref
-      (KPost.R)
-      (Syntax.tyRef (Syntax.named 7) Syntax.imm (KPost.named))
-      7,
-) (List._∷_ (
-  13,
-  Rows'.any-gone
-      (Syntax.tyStruct
-      (List._∷_
-      102
-      (List._∷_
-      105
-      (List._∷_
-      110
-      (List._∷_
-      105
-      (List._∷_
-      115
-      (List._∷_
-      104
-      (List._∷_
-      58
-      (List._∷_ 58 (List._∷_ 76 (List._∷_ 105 (List._∷_ 118 (List._∷_ 101 List.[]))))))))))))
-      (Syntax.tcons
-      Syntax.tyBool
-      (Syntax.tcons
-      (Syntax.tyInt Syntax.w64)
-      (Syntax.tcons Syntax.tyBool (Syntax.tcons (Syntax.tyInt Syntax.w64) Syntax.tnil))))),
-) (List._∷_ (
-  14,
-  Rows'.any-gone
-      (Syntax.tyStruct
-      (List._∷_
-      112
-      (List._∷_
-      108
-      (List._∷_
-      97
-      (List._∷_
-      99
-      (List._∷_
-      101
-      (List._∷_
-      58
-      (List._∷_
-      58
-      (List._∷_
-      80
-      (List._∷_ 108 (List._∷_ 97 (List._∷_ 99 (List._∷_ 101 (List._∷_ 115 List.[])))))))))))))
-      (Syntax.tcons
-      Syntax.tyBool
-      (Syntax.tcons
-      (Syntax.tyInt Syntax.w64)
-      (Syntax.tcons (Syntax.tyInt Syntax.w64) Syntax.tnil)))),
-) (List._∷_ (
-  15,
-  Rows'.any-gone
-      (Syntax.tyStruct
-      (List._∷_
-      112
-      (List._∷_
-      108
-      (List._∷_
-      97
-      (List._∷_
-      99
-      (List._∷_
-      101
-      (List._∷_
-      58
-      (List._∷_
-      58
-      (List._∷_
-      82
-      (List._∷_
-      111
-      (List._∷_
-      117
-      (List._∷_
-      116
-      (List._∷_
-      101
-      (List._∷_ 80 (List._∷_ 108 (List._∷_ 97 (List._∷_ 99 (List._∷_ 101 List.[])))))))))))))))))
-      (Syntax.tcons Syntax.tyBool (Syntax.tcons (Syntax.tyInt Syntax.w64) Syntax.tnil))),
-) List.[])))))))))))))))
-
-abbrev pub t61 : List.List Row.Entry
-t61 = List._∷_ (0, Rows'.whole (Declared.row Outcome.the-type)) (List._∷_ (
-  1,
-  Mut.mslice
-      (KInstanceRow.R)
-      (Syntax.tyRef (Syntax.named 0) Syntax.mut (KInstanceRow.named))
-      0,
-) (List._∷_ (
-  2,
-  Mut.mslice
-      (KRouteRow.R)
-      (Syntax.tyRef (Syntax.named 1) Syntax.mut (KRouteRow.named))
-      1,
-) (List._∷_ (
-  3,
-  Mut.mslice
-      (Referent.rtF (Referent.fInt Syntax.w8))
-      (Syntax.tyRef (Syntax.named 2) Syntax.mut (Syntax.tyInt Syntax.w8))
-      2,
-) (List._∷_ (
-  4,
-  Mut.mslice
-      (Referent.rtF (Referent.fInt Syntax.w8))
-      (Syntax.tyRef (Syntax.named 3) Syntax.mut (Syntax.tyInt Syntax.w8))
-      3,
-) (List._∷_ (
-  5,
-  Rows'.any-gone
-      (Syntax.tyStruct
-      (List._∷_
-      111
-      (List._∷_
-      119
-      (List._∷_
-      110
-      (List._∷_ 58 (List._∷_ 58 (List._∷_ 79 (List._∷_ 119 (List._∷_ 110 List.[]))))))))
-      (Syntax.tcons
-      (Syntax.tyArray (Syntax.tyInt Syntax.w8) 16)
-      (Syntax.tcons (Syntax.tyArray (Syntax.tyInt Syntax.w8) 16) Syntax.tnil))),
-) (List._∷_ (6, Rows'.any-gone (Syntax.tyInt Syntax.w64)) (List._∷_ (
-  7,
-  Rows'.any-gone (Syntax.tyInt Syntax.w8),
-) (List._∷_ (8, Rows'.sc-here (Row.sInt Syntax.w64)) (List._∷_ (
-  9,
-  Rows'.sref
-      (Array'.Array (Array'.Array (Referent.rtF (Referent.fInt Syntax.w8)) 16) 16)
-      (Syntax.tyRef
-      (Syntax.named 4)
-      Syntax.imm
-      (Syntax.tyArray (Syntax.tyArray (Syntax.tyInt Syntax.w8) 16) 16))
-      4,
-) (List._∷_ (
-  10,
-  Rows'.sref
-      (KDecided.R)
-      (Syntax.tyRef (Syntax.named 5) Syntax.imm (KDecided.named))
-      5,
-) (List._∷_ (
-  11,
-  Rows'.sref
-      (KPost.R)
-      (Syntax.tyRef (Syntax.named 6) Syntax.imm (KPost.named))
-      6,
-) (List._∷_ (
-  12,
-  Rows'.sref
-      (KPost.R)
-      (Syntax.tyRef (Syntax.named 7) Syntax.imm (KPost.named))
-      7,
-) (List._∷_ (
-  13,
-  Rows'.any-gone
-      (Syntax.tyStruct
-      (List._∷_
-      102
-      (List._∷_
-      105
-      (List._∷_
-      110
-      (List._∷_
-      105
-      (List._∷_
-      115
-      (List._∷_
-      104
-      (List._∷_
-      58
-      (List._∷_ 58 (List._∷_ 76 (List._∷_ 105 (List._∷_ 118 (List._∷_ 101 List.[]))))))))))))
-      (Syntax.tcons
-      Syntax.tyBool
-      (Syntax.tcons
-      (Syntax.tyInt Syntax.w64)
-      (Syntax.tcons Syntax.tyBool (Syntax.tcons (Syntax.tyInt Syntax.w64) Syntax.tnil))))),
-) (List._∷_ (
-  14,
-  Rows'.any-gone
-      (Syntax.tyStruct
-      (List._∷_
-      112
-      (List._∷_
-      108
-      (List._∷_
-      97
-      (List._∷_
-      99
-      (List._∷_
-      101
-      (List._∷_
-      58
-      (List._∷_
-      58
-      (List._∷_
-      80
-      (List._∷_ 108 (List._∷_ 97 (List._∷_ 99 (List._∷_ 101 (List._∷_ 115 List.[])))))))))))))
-      (Syntax.tcons
-      Syntax.tyBool
-      (Syntax.tcons
-      (Syntax.tyInt Syntax.w64)
-      (Syntax.tcons (Syntax.tyInt Syntax.w64) Syntax.tnil)))),
-) (List._∷_ (
-  15,
-  Rows'.any-gone
-      (Syntax.tyStruct
-      (List._∷_
-      112
-      (List._∷_
-      108
-      (List._∷_
-      97
-      (List._∷_
-      99
-      (List._∷_
-      101
-      (List._∷_
-      58
-      (List._∷_
-      58
-      (List._∷_
-      82
-      (List._∷_
-      111
-      (List._∷_
-      117
-      (List._∷_
-      116
-      (List._∷_
-      101
-      (List._∷_ 80 (List._∷_ 108 (List._∷_ 97 (List._∷_ 99 (List._∷_ 101 List.[])))))))))))))))))
-      (Syntax.tcons Syntax.tyBool (Syntax.tcons (Syntax.tyInt Syntax.w64) Syntax.tnil))),
-) List.[])))))))))))))))
-
-abbrev pub t62 : List.List Row.Entry
-t62 = List._∷_ (16, Rows'.any-gone (Syntax.tyInt Syntax.w64)) (List._∷_ (
-  17,
+) (List._∷_ (17, Rows'.sc-here (Row.sInt Syntax.w64)) (List._∷_ (
+  18,
   Rows'.sc-here (Row.sInt Syntax.w64),
 ) (List._∷_ (
-  18,
+  19,
   Rows'.any-gone
       (Syntax.tyRef Syntax.erased Syntax.imm (KInstanceRow.named)),
 ) (List._∷_ (
-  19,
+  20,
   Rows'.any-gone
       (Syntax.tyStruct
       (List._∷_ 38 (List._∷_ 91 (List._∷_ 93 List.[])))
       (Syntax.tcons
       (Syntax.tyRef Syntax.erased Syntax.imm (KInstanceRow.named))
       (Syntax.tcons (Syntax.tyInt Syntax.w64) Syntax.tnil))),
-) (List._∷_ (20, Rows'.any-gone Syntax.tyBool) (List._∷_ (
-  21,
+) (List._∷_ (21, Rows'.any-gone Syntax.tyBool) (List._∷_ (
+  22,
   Rows'.any-gone (KDecided.spelled),
 ) (List._∷_ (
-  22,
+  23,
   Rows'.any-gone
       (Syntax.tyRef Syntax.erased Syntax.imm (KRouteRow.named)),
 ) (List._∷_ (
-  23,
+  24,
   Rows'.any-gone
       (Syntax.tyStruct
       (List._∷_ 38 (List._∷_ 91 (List._∷_ 93 List.[])))
@@ -11186,13 +11176,13 @@ t62 = List._∷_ (16, Rows'.any-gone (Syntax.tyInt Syntax.w64)) (List._∷_ (
       (Syntax.tcons (Syntax.tyInt Syntax.w64) Syntax.tnil))),
 )
     (List._∷_
-    (24, Rows'.any-gone Syntax.tyBool)
-    (List._∷_ (25, Rows'.any-gone Syntax.tyUnit) (List._∷_ (
-      26,
+    (25, Rows'.any-gone Syntax.tyBool)
+    (List._∷_ (26, Rows'.any-gone Syntax.tyUnit) (List._∷_ (
+      27,
       Rows'.any-gone
           (Syntax.tyRef Syntax.erased Syntax.mut (KInstanceRow.named)),
     ) (List._∷_ (
-      27,
+      28,
       Rows'.any-gone
           (Syntax.tyStruct
           (List._∷_ 38 (List._∷_ 91 (List._∷_ 93 List.[])))
@@ -11200,11 +11190,11 @@ t62 = List._∷_ (16, Rows'.any-gone (Syntax.tyInt Syntax.w64)) (List._∷_ (
           (Syntax.tyRef Syntax.erased Syntax.mut (KInstanceRow.named))
           (Syntax.tcons (Syntax.tyInt Syntax.w64) Syntax.tnil))),
     ) (List._∷_ (
-      28,
+      29,
       Rows'.any-gone
           (Syntax.tyRef Syntax.erased Syntax.mut (KRouteRow.named)),
     ) (List._∷_ (
-      29,
+      30,
       Rows'.any-gone
           (Syntax.tyStruct
           (List._∷_ 38 (List._∷_ 91 (List._∷_ 93 List.[])))
@@ -11212,348 +11202,310 @@ t62 = List._∷_ (16, Rows'.any-gone (Syntax.tyInt Syntax.w64)) (List._∷_ (
           (Syntax.tyRef Syntax.erased Syntax.mut (KRouteRow.named))
           (Syntax.tcons (Syntax.tyInt Syntax.w64) Syntax.tnil))),
     ) (List._∷_ (
-      30,
-      Rows'.any-gone (Syntax.tyRef Syntax.erased Syntax.mut (Syntax.tyInt Syntax.w8)),
-    ) (List._∷_ (
       31,
-      Rows'.any-gone
-          (Syntax.tyStruct
-          (List._∷_ 38 (List._∷_ 91 (List._∷_ 93 List.[])))
-          (Syntax.tcons
-          (Syntax.tyRef Syntax.erased Syntax.mut (Syntax.tyInt Syntax.w8))
-          (Syntax.tcons (Syntax.tyInt Syntax.w64) Syntax.tnil))),
+      Rows'.any-gone (Syntax.tyRef Syntax.erased Syntax.mut (Syntax.tyInt Syntax.w8)),
     ) List.[])))))))))))))))
 
-abbrev pub t63 : List.List Row.Entry
-t63 = List._∷_ (
-  0,
+abbrev pub t56 : List.List Row.Entry
+t56 = List._∷_ (
+  32,
   Rows'.any-gone
       (Syntax.tyStruct
-      (List._∷_
-      102
-      (List._∷_
-      105
-      (List._∷_
-      110
-      (List._∷_
-      105
-      (List._∷_
-      115
-      (List._∷_
-      104
-      (List._∷_
-      58
-      (List._∷_
-      58
-      (List._∷_
-      79
-      (List._∷_
-      117
-      (List._∷_ 116 (List._∷_ 99 (List._∷_ 111 (List._∷_ 109 (List._∷_ 101 List.[])))))))))))))))
+      (List._∷_ 38 (List._∷_ 91 (List._∷_ 93 List.[])))
       (Syntax.tcons
-      (Syntax.tyStruct
-      (List._∷_
-      102
-      (List._∷_
-      105
-      (List._∷_
-      110
-      (List._∷_
-      105
-      (List._∷_
-      115
-      (List._∷_
-      104
-      (List._∷_
-      58
-      (List._∷_ 58 (List._∷_ 83 (List._∷_ 101 (List._∷_ 110 (List._∷_ 116 List.[]))))))))))))
-      (Syntax.tcons
-      (Syntax.tyStruct
-      (List._∷_
-      97
-      (List._∷_
-      110
-      (List._∷_
-      115
-      (List._∷_
-      119
-      (List._∷_
-      101
-      (List._∷_
-      114
-      (List._∷_
-      58
-      (List._∷_
-      58
-      (List._∷_
-      68
-      (List._∷_
-      101
-      (List._∷_
-      115
-      (List._∷_
-      116
-      (List._∷_
-      105
-      (List._∷_
-      110
-      (List._∷_
-      97
-      (List._∷_ 116 (List._∷_ 105 (List._∷_ 111 (List._∷_ 110 List.[])))))))))))))))))))
-      (Syntax.tcons
-      (Syntax.tyArray (Syntax.tyInt Syntax.w8) 16)
-      (Syntax.tcons
-      (Syntax.tyEnum
-      (List._∷_
-      97
-      (List._∷_
-      110
-      (List._∷_
-      115
-      (List._∷_
-      119
-      (List._∷_
-      101
-      (List._∷_
-      114
-      (List._∷_ 58 (List._∷_ 58 (List._∷_ 87 (List._∷_ 97 (List._∷_ 121 List.[])))))))))))
-      (Syntax.ttcons
-      Syntax.tnil
-      (Syntax.ttcons
-      Syntax.tnil
-      (Syntax.ttcons Syntax.tnil (Syntax.ttcons Syntax.tnil Syntax.ttnil)))))
-      Syntax.tnil)))
-      (Syntax.tcons (Syntax.tyInt Syntax.w64) Syntax.tnil)))
-      (Syntax.tcons
-      (Syntax.tyInt Syntax.w64)
-      (Syntax.tcons
-      (Syntax.tyStruct
-      (List._∷_
-      102
-      (List._∷_
-      105
-      (List._∷_
-      110
-      (List._∷_
-      105
-      (List._∷_
-      115
-      (List._∷_
-      104
-      (List._∷_
-      58
-      (List._∷_ 58 (List._∷_ 83 (List._∷_ 101 (List._∷_ 110 (List._∷_ 116 List.[]))))))))))))
-      (Syntax.tcons
-      (Syntax.tyStruct
-      (List._∷_
-      97
-      (List._∷_
-      110
-      (List._∷_
-      115
-      (List._∷_
-      119
-      (List._∷_
-      101
-      (List._∷_
-      114
-      (List._∷_
-      58
-      (List._∷_
-      58
-      (List._∷_
-      68
-      (List._∷_
-      101
-      (List._∷_
-      115
-      (List._∷_
-      116
-      (List._∷_
-      105
-      (List._∷_
-      110
-      (List._∷_
-      97
-      (List._∷_ 116 (List._∷_ 105 (List._∷_ 111 (List._∷_ 110 List.[])))))))))))))))))))
-      (Syntax.tcons
-      (Syntax.tyArray (Syntax.tyInt Syntax.w8) 16)
-      (Syntax.tcons
-      (Syntax.tyEnum
-      (List._∷_
-      97
-      (List._∷_
-      110
-      (List._∷_
-      115
-      (List._∷_
-      119
-      (List._∷_
-      101
-      (List._∷_
-      114
-      (List._∷_ 58 (List._∷_ 58 (List._∷_ 87 (List._∷_ 97 (List._∷_ 121 List.[])))))))))))
-      (Syntax.ttcons
-      Syntax.tnil
-      (Syntax.ttcons
-      Syntax.tnil
-      (Syntax.ttcons Syntax.tnil (Syntax.ttcons Syntax.tnil Syntax.ttnil)))))
-      Syntax.tnil)))
-      (Syntax.tcons (Syntax.tyInt Syntax.w64) Syntax.tnil)))
-      (Syntax.tcons
-      (Syntax.tyEnum
-      (List._∷_
-      97
-      (List._∷_
-      110
-      (List._∷_
-      115
-      (List._∷_
-      119
-      (List._∷_
-      101
-      (List._∷_
-      114
-      (List._∷_
-      58
-      (List._∷_
-      58
-      (List._∷_
-      65
-      (List._∷_ 110 (List._∷_ 115 (List._∷_ 119 (List._∷_ 101 (List._∷_ 114 List.[]))))))))))))))
-      (Syntax.ttcons
-      Syntax.tnil
-      (Syntax.ttcons
-      Syntax.tnil
-      (Syntax.ttcons
-      Syntax.tnil
-      (Syntax.ttcons
-      Syntax.tnil
-      (Syntax.ttcons
-      Syntax.tnil
-      (Syntax.ttcons
-      Syntax.tnil
-      (Syntax.ttcons
-      Syntax.tnil
-      (Syntax.ttcons
-      Syntax.tnil
-      (Syntax.ttcons
-      Syntax.tnil
-      (Syntax.ttcons
-      Syntax.tnil
-      (Syntax.ttcons
-      Syntax.tnil
-      (Syntax.ttcons
-      Syntax.tnil
-      (Syntax.ttcons
-      Syntax.tnil
-      (Syntax.ttcons
-      Syntax.tnil
-      (Syntax.ttcons
-      Syntax.tnil
-      (Syntax.ttcons
-      Syntax.tnil
-      (Syntax.ttcons Syntax.tnil (Syntax.ttcons Syntax.tnil Syntax.ttnil)))))))))))))))))))
-      (Syntax.tcons (Syntax.tyInt Syntax.w8) Syntax.tnil)))))),
+      (Syntax.tyRef Syntax.erased Syntax.mut (Syntax.tyInt Syntax.w8))
+      (Syntax.tcons (Syntax.tyInt Syntax.w64) Syntax.tnil))),
 ) (List._∷_ (
-  1,
-  Mut.mslice
-      (KInstanceRow.R)
-      (Syntax.tyRef (Syntax.named 0) Syntax.mut (KInstanceRow.named))
-      0,
-) (List._∷_ (
-  2,
-  Mut.mslice
-      (KRouteRow.R)
-      (Syntax.tyRef (Syntax.named 1) Syntax.mut (KRouteRow.named))
-      1,
-) (List._∷_ (
-  3,
-  Mut.mslice
-      (Referent.rtF (Referent.fInt Syntax.w8))
-      (Syntax.tyRef (Syntax.named 2) Syntax.mut (Syntax.tyInt Syntax.w8))
-      2,
-) (List._∷_ (
-  4,
-  Mut.mslice
-      (Referent.rtF (Referent.fInt Syntax.w8))
-      (Syntax.tyRef (Syntax.named 3) Syntax.mut (Syntax.tyInt Syntax.w8))
-      3,
-) (List._∷_ (
-  5,
+  33,
   Rows'.any-gone
-      (Syntax.tyStruct
-      (List._∷_
-      111
-      (List._∷_
-      119
-      (List._∷_
-      110
-      (List._∷_ 58 (List._∷_ 58 (List._∷_ 79 (List._∷_ 119 (List._∷_ 110 List.[]))))))))
-      (Syntax.tcons
-      (Syntax.tyArray (Syntax.tyInt Syntax.w8) 16)
-      (Syntax.tcons (Syntax.tyArray (Syntax.tyInt Syntax.w8) 16) Syntax.tnil))),
-) (List._∷_ (6, Rows'.sc-here (Row.sInt Syntax.w64)) (List._∷_ (
-  7,
-  Rows'.sc-here (Row.sInt Syntax.w8),
-) (List._∷_ (8, Rows'.sc-here (Row.sInt Syntax.w64)) (List._∷_ (
-  9,
-  Rows'.sref
-      (Array'.Array (Array'.Array (Referent.rtF (Referent.fInt Syntax.w8)) 16) 16)
-      (Syntax.tyRef
-      (Syntax.named 4)
-      Syntax.imm
-      (Syntax.tyArray (Syntax.tyArray (Syntax.tyInt Syntax.w8) 16) 16))
-      4,
-) (List._∷_ (
-  10,
-  Rows'.sref
-      (KDecided.R)
-      (Syntax.tyRef (Syntax.named 5) Syntax.imm (KDecided.named))
-      5,
-) (List._∷_ (
-  11,
-  Rows'.sref
-      (KPost.R)
-      (Syntax.tyRef (Syntax.named 6) Syntax.imm (KPost.named))
-      6,
-) (List._∷_ (
-  12,
-  Rows'.sref
-      (KPost.R)
-      (Syntax.tyRef (Syntax.named 7) Syntax.imm (KPost.named))
-      7,
-) (List._∷_ (
-  13,
-  Rows'.any-gone
-      (Syntax.tyStruct
-      (List._∷_
-      102
-      (List._∷_
-      105
-      (List._∷_
-      110
-      (List._∷_
-      105
-      (List._∷_
-      115
-      (List._∷_
-      104
-      (List._∷_
-      58
-      (List._∷_ 58 (List._∷_ 76 (List._∷_ 105 (List._∷_ 118 (List._∷_ 101 List.[]))))))))))))
-      (Syntax.tcons
-      Syntax.tyBool
-      (Syntax.tcons
-      (Syntax.tyInt Syntax.w64)
-      (Syntax.tcons Syntax.tyBool (Syntax.tcons (Syntax.tyInt Syntax.w64) Syntax.tnil))))),
-) (List._∷_ (14, Rows'.whole (Declared.row Places.the-type)) (List._∷_ (
-  15,
-  Rows'.whole (Declared.row RoutePlace.the-type),
-) List.[])))))))))))))))
+      (Syntax.tyRef Syntax.erased Syntax.imm (KOwn.named)),
+)
+    (List._∷_ (
+      34,
+      Rows'.any-gone (Syntax.tyRef Syntax.erased Syntax.mut (Syntax.tyInt Syntax.w8)),
+    ) (List._∷_ (
+      35,
+      Mut.msleft
+          (Referent.rtF (Referent.fInt Syntax.w8))
+          (Syntax.tyRef Syntax.erased Syntax.mut (Syntax.tyInt Syntax.w8)),
+    ) (List._∷_ (
+      36,
+      Rows'.sref
+          (KOwn.R)
+          (Syntax.tyRef Syntax.erased Syntax.imm (KOwn.named))
+          15,
+    ) (List._∷_ (37, Rows'.any-gone (Syntax.tyInt Syntax.w8)) (List._∷_ (
+      38,
+      Rows'.any-gone (KDecided.spelled),
+    ) (List._∷_ (
+      39,
+      Rows'.any-gone
+          (Syntax.tyStruct
+          (List._∷_
+          97
+          (List._∷_
+          110
+          (List._∷_
+          115
+          (List._∷_
+          119
+          (List._∷_
+          101
+          (List._∷_
+          114
+          (List._∷_
+          58
+          (List._∷_
+          58
+          (List._∷_
+          68
+          (List._∷_
+          101
+          (List._∷_
+          115
+          (List._∷_
+          116
+          (List._∷_
+          105
+          (List._∷_
+          110
+          (List._∷_
+          97
+          (List._∷_ 116 (List._∷_ 105 (List._∷_ 111 (List._∷_ 110 List.[])))))))))))))))))))
+          (Syntax.tcons
+          (Syntax.tyArray (Syntax.tyInt Syntax.w8) 16)
+          (Syntax.tcons
+          (Syntax.tyEnum
+          (List._∷_
+          97
+          (List._∷_
+          110
+          (List._∷_
+          115
+          (List._∷_
+          119
+          (List._∷_
+          101
+          (List._∷_
+          114
+          (List._∷_ 58 (List._∷_ 58 (List._∷_ 87 (List._∷_ 97 (List._∷_ 121 List.[])))))))))))
+          (Syntax.ttcons
+          Syntax.tnil
+          (Syntax.ttcons
+          Syntax.tnil
+          (Syntax.ttcons Syntax.tnil (Syntax.ttcons Syntax.tnil Syntax.ttnil)))))
+          Syntax.tnil))),
+    ) (List._∷_ (40, Rows'.any-gone (KPost.spelled)) (List._∷_ (
+      41,
+      Rows'.any-gone
+          (Syntax.tyStruct
+          (List._∷_
+          97
+          (List._∷_
+          110
+          (List._∷_
+          115
+          (List._∷_
+          119
+          (List._∷_
+          101
+          (List._∷_
+          114
+          (List._∷_
+          58
+          (List._∷_
+          58
+          (List._∷_
+          68
+          (List._∷_
+          101
+          (List._∷_
+          115
+          (List._∷_
+          116
+          (List._∷_
+          105
+          (List._∷_
+          110
+          (List._∷_
+          97
+          (List._∷_ 116 (List._∷_ 105 (List._∷_ 111 (List._∷_ 110 List.[])))))))))))))))))))
+          (Syntax.tcons
+          (Syntax.tyArray (Syntax.tyInt Syntax.w8) 16)
+          (Syntax.tcons
+          (Syntax.tyEnum
+          (List._∷_
+          97
+          (List._∷_
+          110
+          (List._∷_
+          115
+          (List._∷_
+          119
+          (List._∷_
+          101
+          (List._∷_
+          114
+          (List._∷_ 58 (List._∷_ 58 (List._∷_ 87 (List._∷_ 97 (List._∷_ 121 List.[])))))))))))
+          (Syntax.ttcons
+          Syntax.tnil
+          (Syntax.ttcons
+          Syntax.tnil
+          (Syntax.ttcons Syntax.tnil (Syntax.ttcons Syntax.tnil Syntax.ttnil)))))
+          Syntax.tnil))),
+    )
+    (List._∷_ (42, Rows'.any-gone (KPost.spelled)) List.[]))))))))))
 
-abbrev pub t64 : List.List Row.Entry
-t64 = List._∷_ (
+abbrev pub t57 : List.List Row.Entry
+t57 = List._∷_ (
+  32,
+  Rows'.any-gone
+      (Syntax.tyStruct
+      (List._∷_ 38 (List._∷_ 91 (List._∷_ 93 List.[])))
+      (Syntax.tcons
+      (Syntax.tyRef Syntax.erased Syntax.mut (Syntax.tyInt Syntax.w8))
+      (Syntax.tcons (Syntax.tyInt Syntax.w64) Syntax.tnil))),
+) (List._∷_ (
+  33,
+  Rows'.any-gone
+      (Syntax.tyRef Syntax.erased Syntax.imm (KOwn.named)),
+)
+    (List._∷_ (
+      34,
+      Rows'.any-gone (Syntax.tyRef Syntax.erased Syntax.mut (Syntax.tyInt Syntax.w8)),
+    ) (List._∷_ (
+      35,
+      Mut.msleft
+          (Referent.rtF (Referent.fInt Syntax.w8))
+          (Syntax.tyRef Syntax.erased Syntax.mut (Syntax.tyInt Syntax.w8)),
+    ) (List._∷_ (
+      36,
+      Rows'.any-gone
+          (Syntax.tyRef Syntax.erased Syntax.imm (KOwn.named)),
+    ) (List._∷_ (37, Rows'.any-gone (Syntax.tyInt Syntax.w8)) (List._∷_ (
+      38,
+      Rows'.any-gone (KDecided.spelled),
+    ) (List._∷_ (
+      39,
+      Rows'.any-gone
+          (Syntax.tyStruct
+          (List._∷_
+          97
+          (List._∷_
+          110
+          (List._∷_
+          115
+          (List._∷_
+          119
+          (List._∷_
+          101
+          (List._∷_
+          114
+          (List._∷_
+          58
+          (List._∷_
+          58
+          (List._∷_
+          68
+          (List._∷_
+          101
+          (List._∷_
+          115
+          (List._∷_
+          116
+          (List._∷_
+          105
+          (List._∷_
+          110
+          (List._∷_
+          97
+          (List._∷_ 116 (List._∷_ 105 (List._∷_ 111 (List._∷_ 110 List.[])))))))))))))))))))
+          (Syntax.tcons
+          (Syntax.tyArray (Syntax.tyInt Syntax.w8) 16)
+          (Syntax.tcons
+          (Syntax.tyEnum
+          (List._∷_
+          97
+          (List._∷_
+          110
+          (List._∷_
+          115
+          (List._∷_
+          119
+          (List._∷_
+          101
+          (List._∷_
+          114
+          (List._∷_ 58 (List._∷_ 58 (List._∷_ 87 (List._∷_ 97 (List._∷_ 121 List.[])))))))))))
+          (Syntax.ttcons
+          Syntax.tnil
+          (Syntax.ttcons
+          Syntax.tnil
+          (Syntax.ttcons Syntax.tnil (Syntax.ttcons Syntax.tnil Syntax.ttnil)))))
+          Syntax.tnil))),
+    ) (List._∷_ (40, Rows'.any-gone (KPost.spelled)) (List._∷_ (
+      41,
+      Rows'.any-gone
+          (Syntax.tyStruct
+          (List._∷_
+          97
+          (List._∷_
+          110
+          (List._∷_
+          115
+          (List._∷_
+          119
+          (List._∷_
+          101
+          (List._∷_
+          114
+          (List._∷_
+          58
+          (List._∷_
+          58
+          (List._∷_
+          68
+          (List._∷_
+          101
+          (List._∷_
+          115
+          (List._∷_
+          116
+          (List._∷_
+          105
+          (List._∷_
+          110
+          (List._∷_
+          97
+          (List._∷_ 116 (List._∷_ 105 (List._∷_ 111 (List._∷_ 110 List.[])))))))))))))))))))
+          (Syntax.tcons
+          (Syntax.tyArray (Syntax.tyInt Syntax.w8) 16)
+          (Syntax.tcons
+          (Syntax.tyEnum
+          (List._∷_
+          97
+          (List._∷_
+          110
+          (List._∷_
+          115
+          (List._∷_
+          119
+          (List._∷_
+          101
+          (List._∷_
+          114
+          (List._∷_ 58 (List._∷_ 58 (List._∷_ 87 (List._∷_ 97 (List._∷_ 121 List.[])))))))))))
+          (Syntax.ttcons
+          Syntax.tnil
+          (Syntax.ttcons
+          Syntax.tnil
+          (Syntax.ttcons Syntax.tnil (Syntax.ttcons Syntax.tnil Syntax.ttnil)))))
+          Syntax.tnil))),
+    )
+    (List._∷_ (42, Rows'.any-gone (KPost.spelled)) List.[]))))))))))
+
+abbrev pub t58 : List.List Row.Entry
+t58 = List._∷_ (
   0,
   Rows'.any-gone
       (Syntax.tyStruct
@@ -11807,24 +11759,13 @@ t64 = List._∷_ (
       (Referent.rtF (Referent.fInt Syntax.w8))
       (Syntax.tyRef (Syntax.named 3) Syntax.mut (Syntax.tyInt Syntax.w8))
       3,
+) (List._∷_ (5, Rows'.any-gone (KOwn.spelled)) (List._∷_ (
+  6,
+  Rows'.sc-here (Row.sInt Syntax.w64),
+) (List._∷_ (7, Rows'.sc-here (Row.sInt Syntax.w8)) (List._∷_ (
+  8,
+  Rows'.sc-here (Row.sInt Syntax.w64),
 ) (List._∷_ (
-  5,
-  Rows'.any-gone
-      (Syntax.tyStruct
-      (List._∷_
-      111
-      (List._∷_
-      119
-      (List._∷_
-      110
-      (List._∷_ 58 (List._∷_ 58 (List._∷_ 79 (List._∷_ 119 (List._∷_ 110 List.[]))))))))
-      (Syntax.tcons
-      (Syntax.tyArray (Syntax.tyInt Syntax.w8) 16)
-      (Syntax.tcons (Syntax.tyArray (Syntax.tyInt Syntax.w8) 16) Syntax.tnil))),
-) (List._∷_ (6, Rows'.sc-here (Row.sInt Syntax.w64)) (List._∷_ (
-  7,
-  Rows'.sc-here (Row.sInt Syntax.w8),
-) (List._∷_ (8, Rows'.sc-here (Row.sInt Syntax.w64)) (List._∷_ (
   9,
   Rows'.sref
       (Array'.Array (Array'.Array (Referent.rtF (Referent.fInt Syntax.w8)) 16) 16)
@@ -11877,6 +11818,13 @@ t64 = List._∷_ (
       (Syntax.tcons Syntax.tyBool (Syntax.tcons (Syntax.tyInt Syntax.w64) Syntax.tnil))))),
 ) (List._∷_ (
   14,
+  Rows'.sc-shr
+      (KOwn.row)
+      (KOwn.R)
+      (λ x. x)
+      15,
+) (List._∷_ (
+  15,
   Rows'.any-gone
       (Syntax.tyStruct
       (List._∷_
@@ -11901,7 +11849,1945 @@ t64 = List._∷_ (
       (Syntax.tcons
       (Syntax.tyInt Syntax.w64)
       (Syntax.tcons (Syntax.tyInt Syntax.w64) Syntax.tnil)))),
-) (List._∷_ (15, Rows'.whole (Declared.row RoutePlace.the-type)) List.[])))))))))))))))
+) List.[])))))))))))))))
+
+abbrev pub t59 : List.List Row.Entry
+t59 = List._∷_ (
+  32,
+  Rows'.any-gone
+      (Syntax.tyStruct
+      (List._∷_ 38 (List._∷_ 91 (List._∷_ 93 List.[])))
+      (Syntax.tcons
+      (Syntax.tyRef Syntax.erased Syntax.mut (Syntax.tyInt Syntax.w8))
+      (Syntax.tcons (Syntax.tyInt Syntax.w64) Syntax.tnil))),
+) (List._∷_ (
+  33,
+  Rows'.any-gone
+      (Syntax.tyRef Syntax.erased Syntax.imm (KOwn.named)),
+)
+    (List._∷_ (
+      34,
+      Rows'.any-gone (Syntax.tyRef Syntax.erased Syntax.mut (Syntax.tyInt Syntax.w8)),
+    ) (List._∷_ (
+      35,
+      Rows'.any-gone
+          (Syntax.tyStruct
+          (List._∷_ 38 (List._∷_ 91 (List._∷_ 93 List.[])))
+          (Syntax.tcons
+          (Syntax.tyRef Syntax.erased Syntax.mut (Syntax.tyInt Syntax.w8))
+          (Syntax.tcons (Syntax.tyInt Syntax.w64) Syntax.tnil))),
+    ) (List._∷_ (
+      36,
+      Rows'.any-gone
+          (Syntax.tyRef Syntax.erased Syntax.imm (KOwn.named)),
+    ) (List._∷_ (37, Rows'.any-gone (Syntax.tyInt Syntax.w8)) (List._∷_ (
+      38,
+      KDecided.row,
+    ) (List._∷_ (
+      39,
+      Rows'.any-gone
+          (Syntax.tyStruct
+          (List._∷_
+          97
+          (List._∷_
+          110
+          (List._∷_
+          115
+          (List._∷_
+          119
+          (List._∷_
+          101
+          (List._∷_
+          114
+          (List._∷_
+          58
+          (List._∷_
+          58
+          (List._∷_
+          68
+          (List._∷_
+          101
+          (List._∷_
+          115
+          (List._∷_
+          116
+          (List._∷_
+          105
+          (List._∷_
+          110
+          (List._∷_
+          97
+          (List._∷_ 116 (List._∷_ 105 (List._∷_ 111 (List._∷_ 110 List.[])))))))))))))))))))
+          (Syntax.tcons
+          (Syntax.tyArray (Syntax.tyInt Syntax.w8) 16)
+          (Syntax.tcons
+          (Syntax.tyEnum
+          (List._∷_
+          97
+          (List._∷_
+          110
+          (List._∷_
+          115
+          (List._∷_
+          119
+          (List._∷_
+          101
+          (List._∷_
+          114
+          (List._∷_ 58 (List._∷_ 58 (List._∷_ 87 (List._∷_ 97 (List._∷_ 121 List.[])))))))))))
+          (Syntax.ttcons
+          Syntax.tnil
+          (Syntax.ttcons
+          Syntax.tnil
+          (Syntax.ttcons Syntax.tnil (Syntax.ttcons Syntax.tnil Syntax.ttnil)))))
+          Syntax.tnil))),
+    ) (List._∷_ (40, Rows'.any-gone (KPost.spelled)) (List._∷_ (
+      41,
+      Rows'.any-gone
+          (Syntax.tyStruct
+          (List._∷_
+          97
+          (List._∷_
+          110
+          (List._∷_
+          115
+          (List._∷_
+          119
+          (List._∷_
+          101
+          (List._∷_
+          114
+          (List._∷_
+          58
+          (List._∷_
+          58
+          (List._∷_
+          68
+          (List._∷_
+          101
+          (List._∷_
+          115
+          (List._∷_
+          116
+          (List._∷_
+          105
+          (List._∷_
+          110
+          (List._∷_
+          97
+          (List._∷_ 116 (List._∷_ 105 (List._∷_ 111 (List._∷_ 110 List.[])))))))))))))))))))
+          (Syntax.tcons
+          (Syntax.tyArray (Syntax.tyInt Syntax.w8) 16)
+          (Syntax.tcons
+          (Syntax.tyEnum
+          (List._∷_
+          97
+          (List._∷_
+          110
+          (List._∷_
+          115
+          (List._∷_
+          119
+          (List._∷_
+          101
+          (List._∷_
+          114
+          (List._∷_ 58 (List._∷_ 58 (List._∷_ 87 (List._∷_ 97 (List._∷_ 121 List.[])))))))))))
+          (Syntax.ttcons
+          Syntax.tnil
+          (Syntax.ttcons
+          Syntax.tnil
+          (Syntax.ttcons Syntax.tnil (Syntax.ttcons Syntax.tnil Syntax.ttnil)))))
+          Syntax.tnil))),
+    )
+    (List._∷_ (42, Rows'.any-gone (KPost.spelled)) List.[]))))))))))
+
+abbrev pub t60 : List.List Row.Entry
+t60 = List._∷_ (
+  32,
+  Rows'.any-gone
+      (Syntax.tyStruct
+      (List._∷_ 38 (List._∷_ 91 (List._∷_ 93 List.[])))
+      (Syntax.tcons
+      (Syntax.tyRef Syntax.erased Syntax.mut (Syntax.tyInt Syntax.w8))
+      (Syntax.tcons (Syntax.tyInt Syntax.w64) Syntax.tnil))),
+) (List._∷_ (
+  33,
+  Rows'.any-gone
+      (Syntax.tyRef Syntax.erased Syntax.imm (KOwn.named)),
+)
+    (List._∷_ (
+      34,
+      Rows'.any-gone (Syntax.tyRef Syntax.erased Syntax.mut (Syntax.tyInt Syntax.w8)),
+    ) (List._∷_ (
+      35,
+      Rows'.any-gone
+          (Syntax.tyStruct
+          (List._∷_ 38 (List._∷_ 91 (List._∷_ 93 List.[])))
+          (Syntax.tcons
+          (Syntax.tyRef Syntax.erased Syntax.mut (Syntax.tyInt Syntax.w8))
+          (Syntax.tcons (Syntax.tyInt Syntax.w64) Syntax.tnil))),
+    ) (List._∷_ (
+      36,
+      Rows'.any-gone
+          (Syntax.tyRef Syntax.erased Syntax.imm (KOwn.named)),
+    ) (List._∷_ (37, Rows'.sc-here (Row.sInt Syntax.w8)) (List._∷_ (
+      38,
+      KDecided.row,
+    ) (List._∷_ (
+      39,
+      Rows'.any-gone
+          (Syntax.tyStruct
+          (List._∷_
+          97
+          (List._∷_
+          110
+          (List._∷_
+          115
+          (List._∷_
+          119
+          (List._∷_
+          101
+          (List._∷_
+          114
+          (List._∷_
+          58
+          (List._∷_
+          58
+          (List._∷_
+          68
+          (List._∷_
+          101
+          (List._∷_
+          115
+          (List._∷_
+          116
+          (List._∷_
+          105
+          (List._∷_
+          110
+          (List._∷_
+          97
+          (List._∷_ 116 (List._∷_ 105 (List._∷_ 111 (List._∷_ 110 List.[])))))))))))))))))))
+          (Syntax.tcons
+          (Syntax.tyArray (Syntax.tyInt Syntax.w8) 16)
+          (Syntax.tcons
+          (Syntax.tyEnum
+          (List._∷_
+          97
+          (List._∷_
+          110
+          (List._∷_
+          115
+          (List._∷_
+          119
+          (List._∷_
+          101
+          (List._∷_
+          114
+          (List._∷_ 58 (List._∷_ 58 (List._∷_ 87 (List._∷_ 97 (List._∷_ 121 List.[])))))))))))
+          (Syntax.ttcons
+          Syntax.tnil
+          (Syntax.ttcons
+          Syntax.tnil
+          (Syntax.ttcons Syntax.tnil (Syntax.ttcons Syntax.tnil Syntax.ttnil)))))
+          Syntax.tnil))),
+    ) (List._∷_ (40, Rows'.any-gone (KPost.spelled)) (List._∷_ (
+      41,
+      Rows'.any-gone
+          (Syntax.tyStruct
+          (List._∷_
+          97
+          (List._∷_
+          110
+          (List._∷_
+          115
+          (List._∷_
+          119
+          (List._∷_
+          101
+          (List._∷_
+          114
+          (List._∷_
+          58
+          (List._∷_
+          58
+          (List._∷_
+          68
+          (List._∷_
+          101
+          (List._∷_
+          115
+          (List._∷_
+          116
+          (List._∷_
+          105
+          (List._∷_
+          110
+          (List._∷_
+          97
+          (List._∷_ 116 (List._∷_ 105 (List._∷_ 111 (List._∷_ 110 List.[])))))))))))))))))))
+          (Syntax.tcons
+          (Syntax.tyArray (Syntax.tyInt Syntax.w8) 16)
+          (Syntax.tcons
+          (Syntax.tyEnum
+          (List._∷_
+          97
+          (List._∷_
+          110
+          (List._∷_
+          115
+          (List._∷_
+          119
+          (List._∷_
+          101
+          (List._∷_
+          114
+          (List._∷_ 58 (List._∷_ 58 (List._∷_ 87 (List._∷_ 97 (List._∷_ 121 List.[])))))))))))
+          (Syntax.ttcons
+          Syntax.tnil
+          (Syntax.ttcons
+          Syntax.tnil
+          (Syntax.ttcons Syntax.tnil (Syntax.ttcons Syntax.tnil Syntax.ttnil)))))
+          Syntax.tnil))),
+    )
+    (List._∷_ (42, Rows'.any-gone (KPost.spelled)) List.[]))))))))))
+
+abbrev pub t61 : List.List Row.Entry
+t61 = List._∷_ (
+  32,
+  Rows'.any-gone
+      (Syntax.tyStruct
+      (List._∷_ 38 (List._∷_ 91 (List._∷_ 93 List.[])))
+      (Syntax.tcons
+      (Syntax.tyRef Syntax.erased Syntax.mut (Syntax.tyInt Syntax.w8))
+      (Syntax.tcons (Syntax.tyInt Syntax.w64) Syntax.tnil))),
+) (List._∷_ (
+  33,
+  Rows'.any-gone
+      (Syntax.tyRef Syntax.erased Syntax.imm (KOwn.named)),
+)
+    (List._∷_ (
+      34,
+      Rows'.any-gone (Syntax.tyRef Syntax.erased Syntax.mut (Syntax.tyInt Syntax.w8)),
+    ) (List._∷_ (
+      35,
+      Rows'.any-gone
+          (Syntax.tyStruct
+          (List._∷_ 38 (List._∷_ 91 (List._∷_ 93 List.[])))
+          (Syntax.tcons
+          (Syntax.tyRef Syntax.erased Syntax.mut (Syntax.tyInt Syntax.w8))
+          (Syntax.tcons (Syntax.tyInt Syntax.w64) Syntax.tnil))),
+    ) (List._∷_ (
+      36,
+      Rows'.any-gone
+          (Syntax.tyRef Syntax.erased Syntax.imm (KOwn.named)),
+    ) (List._∷_ (37, Rows'.sc-here (Row.sInt Syntax.w8)) (List._∷_ (
+      38,
+      Rows'.any-gone (KDecided.spelled),
+    ) (List._∷_ (
+      39,
+      Rows'.any-gone
+          (Syntax.tyStruct
+          (List._∷_
+          97
+          (List._∷_
+          110
+          (List._∷_
+          115
+          (List._∷_
+          119
+          (List._∷_
+          101
+          (List._∷_
+          114
+          (List._∷_
+          58
+          (List._∷_
+          58
+          (List._∷_
+          68
+          (List._∷_
+          101
+          (List._∷_
+          115
+          (List._∷_
+          116
+          (List._∷_
+          105
+          (List._∷_
+          110
+          (List._∷_
+          97
+          (List._∷_ 116 (List._∷_ 105 (List._∷_ 111 (List._∷_ 110 List.[])))))))))))))))))))
+          (Syntax.tcons
+          (Syntax.tyArray (Syntax.tyInt Syntax.w8) 16)
+          (Syntax.tcons
+          (Syntax.tyEnum
+          (List._∷_
+          97
+          (List._∷_
+          110
+          (List._∷_
+          115
+          (List._∷_
+          119
+          (List._∷_
+          101
+          (List._∷_
+          114
+          (List._∷_ 58 (List._∷_ 58 (List._∷_ 87 (List._∷_ 97 (List._∷_ 121 List.[])))))))))))
+          (Syntax.ttcons
+          Syntax.tnil
+          (Syntax.ttcons
+          Syntax.tnil
+          (Syntax.ttcons Syntax.tnil (Syntax.ttcons Syntax.tnil Syntax.ttnil)))))
+          Syntax.tnil))),
+    ) (List._∷_ (40, Rows'.any-gone (KPost.spelled)) (List._∷_ (
+      41,
+      Rows'.any-gone
+          (Syntax.tyStruct
+          (List._∷_
+          97
+          (List._∷_
+          110
+          (List._∷_
+          115
+          (List._∷_
+          119
+          (List._∷_
+          101
+          (List._∷_
+          114
+          (List._∷_
+          58
+          (List._∷_
+          58
+          (List._∷_
+          68
+          (List._∷_
+          101
+          (List._∷_
+          115
+          (List._∷_
+          116
+          (List._∷_
+          105
+          (List._∷_
+          110
+          (List._∷_
+          97
+          (List._∷_ 116 (List._∷_ 105 (List._∷_ 111 (List._∷_ 110 List.[])))))))))))))))))))
+          (Syntax.tcons
+          (Syntax.tyArray (Syntax.tyInt Syntax.w8) 16)
+          (Syntax.tcons
+          (Syntax.tyEnum
+          (List._∷_
+          97
+          (List._∷_
+          110
+          (List._∷_
+          115
+          (List._∷_
+          119
+          (List._∷_
+          101
+          (List._∷_
+          114
+          (List._∷_ 58 (List._∷_ 58 (List._∷_ 87 (List._∷_ 97 (List._∷_ 121 List.[])))))))))))
+          (Syntax.ttcons
+          Syntax.tnil
+          (Syntax.ttcons
+          Syntax.tnil
+          (Syntax.ttcons Syntax.tnil (Syntax.ttcons Syntax.tnil Syntax.ttnil)))))
+          Syntax.tnil))),
+    )
+    (List._∷_ (42, Rows'.any-gone (KPost.spelled)) List.[]))))))))))
+
+abbrev pub t62 : List.List Row.Entry
+t62 = List._∷_ (
+  32,
+  Rows'.any-gone
+      (Syntax.tyStruct
+      (List._∷_ 38 (List._∷_ 91 (List._∷_ 93 List.[])))
+      (Syntax.tcons
+      (Syntax.tyRef Syntax.erased Syntax.mut (Syntax.tyInt Syntax.w8))
+      (Syntax.tcons (Syntax.tyInt Syntax.w64) Syntax.tnil))),
+) (List._∷_ (
+  33,
+  Rows'.any-gone
+      (Syntax.tyRef Syntax.erased Syntax.imm (KOwn.named)),
+)
+    (List._∷_ (
+      34,
+      Rows'.any-gone (Syntax.tyRef Syntax.erased Syntax.mut (Syntax.tyInt Syntax.w8)),
+    ) (List._∷_ (
+      35,
+      Rows'.any-gone
+          (Syntax.tyStruct
+          (List._∷_ 38 (List._∷_ 91 (List._∷_ 93 List.[])))
+          (Syntax.tcons
+          (Syntax.tyRef Syntax.erased Syntax.mut (Syntax.tyInt Syntax.w8))
+          (Syntax.tcons (Syntax.tyInt Syntax.w64) Syntax.tnil))),
+    ) (List._∷_ (
+      36,
+      Rows'.any-gone
+          (Syntax.tyRef Syntax.erased Syntax.imm (KOwn.named)),
+    ) (List._∷_ (37, Rows'.sc-here (Row.sInt Syntax.w8)) (List._∷_ (
+      38,
+      Rows'.any-gone (KDecided.spelled),
+    ) (List._∷_ (
+      39,
+      Rows'.any-gone
+          (Syntax.tyStruct
+          (List._∷_
+          97
+          (List._∷_
+          110
+          (List._∷_
+          115
+          (List._∷_
+          119
+          (List._∷_
+          101
+          (List._∷_
+          114
+          (List._∷_
+          58
+          (List._∷_
+          58
+          (List._∷_
+          68
+          (List._∷_
+          101
+          (List._∷_
+          115
+          (List._∷_
+          116
+          (List._∷_
+          105
+          (List._∷_
+          110
+          (List._∷_
+          97
+          (List._∷_ 116 (List._∷_ 105 (List._∷_ 111 (List._∷_ 110 List.[])))))))))))))))))))
+          (Syntax.tcons
+          (Syntax.tyArray (Syntax.tyInt Syntax.w8) 16)
+          (Syntax.tcons
+          (Syntax.tyEnum
+          (List._∷_
+          97
+          (List._∷_
+          110
+          (List._∷_
+          115
+          (List._∷_
+          119
+          (List._∷_
+          101
+          (List._∷_
+          114
+          (List._∷_ 58 (List._∷_ 58 (List._∷_ 87 (List._∷_ 97 (List._∷_ 121 List.[])))))))))))
+          (Syntax.ttcons
+          Syntax.tnil
+          (Syntax.ttcons
+          Syntax.tnil
+          (Syntax.ttcons Syntax.tnil (Syntax.ttcons Syntax.tnil Syntax.ttnil)))))
+          Syntax.tnil))),
+    ) (List._∷_ (40, KPost.row) (List._∷_ (
+      41,
+      Rows'.any-gone
+          (Syntax.tyStruct
+          (List._∷_
+          97
+          (List._∷_
+          110
+          (List._∷_
+          115
+          (List._∷_
+          119
+          (List._∷_
+          101
+          (List._∷_
+          114
+          (List._∷_
+          58
+          (List._∷_
+          58
+          (List._∷_
+          68
+          (List._∷_
+          101
+          (List._∷_
+          115
+          (List._∷_
+          116
+          (List._∷_
+          105
+          (List._∷_
+          110
+          (List._∷_
+          97
+          (List._∷_ 116 (List._∷_ 105 (List._∷_ 111 (List._∷_ 110 List.[])))))))))))))))))))
+          (Syntax.tcons
+          (Syntax.tyArray (Syntax.tyInt Syntax.w8) 16)
+          (Syntax.tcons
+          (Syntax.tyEnum
+          (List._∷_
+          97
+          (List._∷_
+          110
+          (List._∷_
+          115
+          (List._∷_
+          119
+          (List._∷_
+          101
+          (List._∷_
+          114
+          (List._∷_ 58 (List._∷_ 58 (List._∷_ 87 (List._∷_ 97 (List._∷_ 121 List.[])))))))))))
+          (Syntax.ttcons
+          Syntax.tnil
+          (Syntax.ttcons
+          Syntax.tnil
+          (Syntax.ttcons Syntax.tnil (Syntax.ttcons Syntax.tnil Syntax.ttnil)))))
+          Syntax.tnil))),
+    )
+    (List._∷_ (42, Rows'.any-gone (KPost.spelled)) List.[]))))))))))
+
+abbrev pub t63 : List.List Row.Entry
+t63 = List._∷_ (
+  32,
+  Rows'.any-gone
+      (Syntax.tyStruct
+      (List._∷_ 38 (List._∷_ 91 (List._∷_ 93 List.[])))
+      (Syntax.tcons
+      (Syntax.tyRef Syntax.erased Syntax.mut (Syntax.tyInt Syntax.w8))
+      (Syntax.tcons (Syntax.tyInt Syntax.w64) Syntax.tnil))),
+) (List._∷_ (
+  33,
+  Rows'.any-gone
+      (Syntax.tyRef Syntax.erased Syntax.imm (KOwn.named)),
+)
+    (List._∷_ (
+      34,
+      Rows'.any-gone (Syntax.tyRef Syntax.erased Syntax.mut (Syntax.tyInt Syntax.w8)),
+    ) (List._∷_ (
+      35,
+      Rows'.any-gone
+          (Syntax.tyStruct
+          (List._∷_ 38 (List._∷_ 91 (List._∷_ 93 List.[])))
+          (Syntax.tcons
+          (Syntax.tyRef Syntax.erased Syntax.mut (Syntax.tyInt Syntax.w8))
+          (Syntax.tcons (Syntax.tyInt Syntax.w64) Syntax.tnil))),
+    ) (List._∷_ (
+      36,
+      Rows'.any-gone
+          (Syntax.tyRef Syntax.erased Syntax.imm (KOwn.named)),
+    ) (List._∷_ (37, Rows'.sc-here (Row.sInt Syntax.w8)) (List._∷_ (
+      38,
+      Rows'.any-gone (KDecided.spelled),
+    ) (List._∷_ (39, Rows'.whole (Declared.row Destination.the-type)) (List._∷_ (
+      40,
+      KPost.row,
+    ) (List._∷_ (
+      41,
+      Rows'.any-gone
+          (Syntax.tyStruct
+          (List._∷_
+          97
+          (List._∷_
+          110
+          (List._∷_
+          115
+          (List._∷_
+          119
+          (List._∷_
+          101
+          (List._∷_
+          114
+          (List._∷_
+          58
+          (List._∷_
+          58
+          (List._∷_
+          68
+          (List._∷_
+          101
+          (List._∷_
+          115
+          (List._∷_
+          116
+          (List._∷_
+          105
+          (List._∷_
+          110
+          (List._∷_
+          97
+          (List._∷_ 116 (List._∷_ 105 (List._∷_ 111 (List._∷_ 110 List.[])))))))))))))))))))
+          (Syntax.tcons
+          (Syntax.tyArray (Syntax.tyInt Syntax.w8) 16)
+          (Syntax.tcons
+          (Syntax.tyEnum
+          (List._∷_
+          97
+          (List._∷_
+          110
+          (List._∷_
+          115
+          (List._∷_
+          119
+          (List._∷_
+          101
+          (List._∷_
+          114
+          (List._∷_ 58 (List._∷_ 58 (List._∷_ 87 (List._∷_ 97 (List._∷_ 121 List.[])))))))))))
+          (Syntax.ttcons
+          Syntax.tnil
+          (Syntax.ttcons
+          Syntax.tnil
+          (Syntax.ttcons Syntax.tnil (Syntax.ttcons Syntax.tnil Syntax.ttnil)))))
+          Syntax.tnil))),
+    )
+    (List._∷_ (42, Rows'.any-gone (KPost.spelled)) List.[]))))))))))
+
+abbrev pub t64 : List.List Row.Entry
+t64 = List._∷_ (
+  32,
+  Rows'.any-gone
+      (Syntax.tyStruct
+      (List._∷_ 38 (List._∷_ 91 (List._∷_ 93 List.[])))
+      (Syntax.tcons
+      (Syntax.tyRef Syntax.erased Syntax.mut (Syntax.tyInt Syntax.w8))
+      (Syntax.tcons (Syntax.tyInt Syntax.w64) Syntax.tnil))),
+) (List._∷_ (
+  33,
+  Rows'.any-gone
+      (Syntax.tyRef Syntax.erased Syntax.imm (KOwn.named)),
+)
+    (List._∷_ (
+      34,
+      Rows'.any-gone (Syntax.tyRef Syntax.erased Syntax.mut (Syntax.tyInt Syntax.w8)),
+    ) (List._∷_ (
+      35,
+      Rows'.any-gone
+          (Syntax.tyStruct
+          (List._∷_ 38 (List._∷_ 91 (List._∷_ 93 List.[])))
+          (Syntax.tcons
+          (Syntax.tyRef Syntax.erased Syntax.mut (Syntax.tyInt Syntax.w8))
+          (Syntax.tcons (Syntax.tyInt Syntax.w64) Syntax.tnil))),
+    ) (List._∷_ (
+      36,
+      Rows'.any-gone
+          (Syntax.tyRef Syntax.erased Syntax.imm (KOwn.named)),
+    ) (List._∷_ (37, Rows'.sc-here (Row.sInt Syntax.w8)) (List._∷_ (
+      38,
+      Rows'.any-gone (KDecided.spelled),
+    ) (List._∷_ (39, Rows'.whole (Declared.row Destination.the-type)) (List._∷_ (
+      40,
+      Rows'.any-gone (KPost.spelled),
+    ) (List._∷_ (
+      41,
+      Rows'.any-gone
+          (Syntax.tyStruct
+          (List._∷_
+          97
+          (List._∷_
+          110
+          (List._∷_
+          115
+          (List._∷_
+          119
+          (List._∷_
+          101
+          (List._∷_
+          114
+          (List._∷_
+          58
+          (List._∷_
+          58
+          (List._∷_
+          68
+          (List._∷_
+          101
+          (List._∷_
+          115
+          (List._∷_
+          116
+          (List._∷_
+          105
+          (List._∷_
+          110
+          (List._∷_
+          97
+          (List._∷_ 116 (List._∷_ 105 (List._∷_ 111 (List._∷_ 110 List.[])))))))))))))))))))
+          (Syntax.tcons
+          (Syntax.tyArray (Syntax.tyInt Syntax.w8) 16)
+          (Syntax.tcons
+          (Syntax.tyEnum
+          (List._∷_
+          97
+          (List._∷_
+          110
+          (List._∷_
+          115
+          (List._∷_
+          119
+          (List._∷_
+          101
+          (List._∷_
+          114
+          (List._∷_ 58 (List._∷_ 58 (List._∷_ 87 (List._∷_ 97 (List._∷_ 121 List.[])))))))))))
+          (Syntax.ttcons
+          Syntax.tnil
+          (Syntax.ttcons
+          Syntax.tnil
+          (Syntax.ttcons Syntax.tnil (Syntax.ttcons Syntax.tnil Syntax.ttnil)))))
+          Syntax.tnil))),
+    )
+    (List._∷_ (42, Rows'.any-gone (KPost.spelled)) List.[]))))))))))
+
+abbrev pub t65 : List.List Row.Entry
+t65 = List._∷_ (
+  32,
+  Rows'.any-gone
+      (Syntax.tyStruct
+      (List._∷_ 38 (List._∷_ 91 (List._∷_ 93 List.[])))
+      (Syntax.tcons
+      (Syntax.tyRef Syntax.erased Syntax.mut (Syntax.tyInt Syntax.w8))
+      (Syntax.tcons (Syntax.tyInt Syntax.w64) Syntax.tnil))),
+) (List._∷_ (
+  33,
+  Rows'.any-gone
+      (Syntax.tyRef Syntax.erased Syntax.imm (KOwn.named)),
+)
+    (List._∷_ (
+      34,
+      Rows'.any-gone (Syntax.tyRef Syntax.erased Syntax.mut (Syntax.tyInt Syntax.w8)),
+    ) (List._∷_ (
+      35,
+      Rows'.any-gone
+          (Syntax.tyStruct
+          (List._∷_ 38 (List._∷_ 91 (List._∷_ 93 List.[])))
+          (Syntax.tcons
+          (Syntax.tyRef Syntax.erased Syntax.mut (Syntax.tyInt Syntax.w8))
+          (Syntax.tcons (Syntax.tyInt Syntax.w64) Syntax.tnil))),
+    ) (List._∷_ (
+      36,
+      Rows'.any-gone
+          (Syntax.tyRef Syntax.erased Syntax.imm (KOwn.named)),
+    ) (List._∷_ (37, Rows'.sc-here (Row.sInt Syntax.w8)) (List._∷_ (
+      38,
+      Rows'.any-gone (KDecided.spelled),
+    ) (List._∷_ (39, Rows'.whole (Declared.row Destination.the-type)) (List._∷_ (
+      40,
+      Rows'.any-gone (KPost.spelled),
+    ) (List._∷_ (
+      41,
+      Rows'.any-gone
+          (Syntax.tyStruct
+          (List._∷_
+          97
+          (List._∷_
+          110
+          (List._∷_
+          115
+          (List._∷_
+          119
+          (List._∷_
+          101
+          (List._∷_
+          114
+          (List._∷_
+          58
+          (List._∷_
+          58
+          (List._∷_
+          68
+          (List._∷_
+          101
+          (List._∷_
+          115
+          (List._∷_
+          116
+          (List._∷_
+          105
+          (List._∷_
+          110
+          (List._∷_
+          97
+          (List._∷_ 116 (List._∷_ 105 (List._∷_ 111 (List._∷_ 110 List.[])))))))))))))))))))
+          (Syntax.tcons
+          (Syntax.tyArray (Syntax.tyInt Syntax.w8) 16)
+          (Syntax.tcons
+          (Syntax.tyEnum
+          (List._∷_
+          97
+          (List._∷_
+          110
+          (List._∷_
+          115
+          (List._∷_
+          119
+          (List._∷_
+          101
+          (List._∷_
+          114
+          (List._∷_ 58 (List._∷_ 58 (List._∷_ 87 (List._∷_ 97 (List._∷_ 121 List.[])))))))))))
+          (Syntax.ttcons
+          Syntax.tnil
+          (Syntax.ttcons
+          Syntax.tnil
+          (Syntax.ttcons Syntax.tnil (Syntax.ttcons Syntax.tnil Syntax.ttnil)))))
+          Syntax.tnil))),
+    ) (List._∷_ (42, KPost.row) List.[]))))))))))
+
+abbrev pub t66 : List.List Row.Entry
+t66 = List._∷_ (
+  32,
+  Rows'.any-gone
+      (Syntax.tyStruct
+      (List._∷_ 38 (List._∷_ 91 (List._∷_ 93 List.[])))
+      (Syntax.tcons
+      (Syntax.tyRef Syntax.erased Syntax.mut (Syntax.tyInt Syntax.w8))
+      (Syntax.tcons (Syntax.tyInt Syntax.w64) Syntax.tnil))),
+) (List._∷_ (
+  33,
+  Rows'.any-gone
+      (Syntax.tyRef Syntax.erased Syntax.imm (KOwn.named)),
+)
+    (List._∷_ (
+      34,
+      Rows'.any-gone (Syntax.tyRef Syntax.erased Syntax.mut (Syntax.tyInt Syntax.w8)),
+    ) (List._∷_ (
+      35,
+      Rows'.any-gone
+          (Syntax.tyStruct
+          (List._∷_ 38 (List._∷_ 91 (List._∷_ 93 List.[])))
+          (Syntax.tcons
+          (Syntax.tyRef Syntax.erased Syntax.mut (Syntax.tyInt Syntax.w8))
+          (Syntax.tcons (Syntax.tyInt Syntax.w64) Syntax.tnil))),
+    ) (List._∷_ (
+      36,
+      Rows'.any-gone
+          (Syntax.tyRef Syntax.erased Syntax.imm (KOwn.named)),
+    ) (List._∷_ (37, Rows'.sc-here (Row.sInt Syntax.w8)) (List._∷_ (
+      38,
+      Rows'.any-gone (KDecided.spelled),
+    ) (List._∷_ (39, Rows'.whole (Declared.row Destination.the-type)) (List._∷_ (
+      40,
+      Rows'.any-gone (KPost.spelled),
+    ) (List._∷_ (41, Rows'.whole (Declared.row Destination.the-type)) (List._∷_ (
+      42,
+      KPost.row,
+    ) List.[]))))))))))
+
+abbrev pub t67 : List.List Row.Entry
+t67 = List._∷_ (
+  32,
+  Rows'.any-gone
+      (Syntax.tyStruct
+      (List._∷_ 38 (List._∷_ 91 (List._∷_ 93 List.[])))
+      (Syntax.tcons
+      (Syntax.tyRef Syntax.erased Syntax.mut (Syntax.tyInt Syntax.w8))
+      (Syntax.tcons (Syntax.tyInt Syntax.w64) Syntax.tnil))),
+) (List._∷_ (
+  33,
+  Rows'.any-gone
+      (Syntax.tyRef Syntax.erased Syntax.imm (KOwn.named)),
+)
+    (List._∷_ (
+      34,
+      Rows'.any-gone (Syntax.tyRef Syntax.erased Syntax.mut (Syntax.tyInt Syntax.w8)),
+    ) (List._∷_ (
+      35,
+      Rows'.any-gone
+          (Syntax.tyStruct
+          (List._∷_ 38 (List._∷_ 91 (List._∷_ 93 List.[])))
+          (Syntax.tcons
+          (Syntax.tyRef Syntax.erased Syntax.mut (Syntax.tyInt Syntax.w8))
+          (Syntax.tcons (Syntax.tyInt Syntax.w64) Syntax.tnil))),
+    ) (List._∷_ (
+      36,
+      Rows'.any-gone
+          (Syntax.tyRef Syntax.erased Syntax.imm (KOwn.named)),
+    ) (List._∷_ (37, Rows'.sc-here (Row.sInt Syntax.w8)) (List._∷_ (
+      38,
+      Rows'.any-gone (KDecided.spelled),
+    ) (List._∷_ (39, Rows'.whole (Declared.row Destination.the-type)) (List._∷_ (
+      40,
+      Rows'.any-gone (KPost.spelled),
+    ) (List._∷_ (41, Rows'.whole (Declared.row Destination.the-type)) (List._∷_ (
+      42,
+      Rows'.any-gone (KPost.spelled),
+    ) List.[]))))))))))
+
+abbrev pub t68 : List.List Row.Entry
+t68 = List._∷_ (0, Rows'.whole (Declared.row Outcome.the-type)) (List._∷_ (
+  1,
+  Mut.mslice
+      (KInstanceRow.R)
+      (Syntax.tyRef (Syntax.named 0) Syntax.mut (KInstanceRow.named))
+      0,
+) (List._∷_ (
+  2,
+  Mut.mslice
+      (KRouteRow.R)
+      (Syntax.tyRef (Syntax.named 1) Syntax.mut (KRouteRow.named))
+      1,
+) (List._∷_ (
+  3,
+  Mut.mslice
+      (Referent.rtF (Referent.fInt Syntax.w8))
+      (Syntax.tyRef (Syntax.named 2) Syntax.mut (Syntax.tyInt Syntax.w8))
+      2,
+) (List._∷_ (
+  4,
+  Mut.mslice
+      (Referent.rtF (Referent.fInt Syntax.w8))
+      (Syntax.tyRef (Syntax.named 3) Syntax.mut (Syntax.tyInt Syntax.w8))
+      3,
+) (List._∷_ (5, Rows'.any-gone (KOwn.spelled)) (List._∷_ (
+  6,
+  Rows'.sc-here (Row.sInt Syntax.w64),
+) (List._∷_ (7, Rows'.sc-here (Row.sInt Syntax.w8)) (List._∷_ (
+  8,
+  Rows'.sc-here (Row.sInt Syntax.w64),
+) (List._∷_ (
+  9,
+  Rows'.sref
+      (Array'.Array (Array'.Array (Referent.rtF (Referent.fInt Syntax.w8)) 16) 16)
+      (Syntax.tyRef
+      (Syntax.named 4)
+      Syntax.imm
+      (Syntax.tyArray (Syntax.tyArray (Syntax.tyInt Syntax.w8) 16) 16))
+      4,
+) (List._∷_ (
+  10,
+  Rows'.sref
+      (KDecided.R)
+      (Syntax.tyRef (Syntax.named 5) Syntax.imm (KDecided.named))
+      5,
+) (List._∷_ (
+  11,
+  Rows'.sref
+      (KPost.R)
+      (Syntax.tyRef (Syntax.named 6) Syntax.imm (KPost.named))
+      6,
+) (List._∷_ (
+  12,
+  Rows'.sref
+      (KPost.R)
+      (Syntax.tyRef (Syntax.named 7) Syntax.imm (KPost.named))
+      7,
+) (List._∷_ (
+  13,
+  Rows'.any-gone
+      (Syntax.tyStruct
+      (List._∷_
+      102
+      (List._∷_
+      105
+      (List._∷_
+      110
+      (List._∷_
+      105
+      (List._∷_
+      115
+      (List._∷_
+      104
+      (List._∷_
+      58
+      (List._∷_ 58 (List._∷_ 76 (List._∷_ 105 (List._∷_ 118 (List._∷_ 101 List.[]))))))))))))
+      (Syntax.tcons
+      Syntax.tyBool
+      (Syntax.tcons
+      (Syntax.tyInt Syntax.w64)
+      (Syntax.tcons Syntax.tyBool (Syntax.tcons (Syntax.tyInt Syntax.w64) Syntax.tnil))))),
+) (List._∷_ (14, Rows'.any-gone (KOwn.spelled)) (List._∷_ (
+  15,
+  Rows'.any-gone
+      (Syntax.tyStruct
+      (List._∷_
+      112
+      (List._∷_
+      108
+      (List._∷_
+      97
+      (List._∷_
+      99
+      (List._∷_
+      101
+      (List._∷_
+      58
+      (List._∷_
+      58
+      (List._∷_
+      80
+      (List._∷_ 108 (List._∷_ 97 (List._∷_ 99 (List._∷_ 101 (List._∷_ 115 List.[])))))))))))))
+      (Syntax.tcons
+      Syntax.tyBool
+      (Syntax.tcons
+      (Syntax.tyInt Syntax.w64)
+      (Syntax.tcons (Syntax.tyInt Syntax.w64) Syntax.tnil)))),
+) List.[])))))))))))))))
+
+abbrev pub t69 : List.List Row.Entry
+t69 = List._∷_ (
+  32,
+  Rows'.any-gone
+      (Syntax.tyStruct
+      (List._∷_ 38 (List._∷_ 91 (List._∷_ 93 List.[])))
+      (Syntax.tcons
+      (Syntax.tyRef Syntax.erased Syntax.mut (Syntax.tyInt Syntax.w8))
+      (Syntax.tcons (Syntax.tyInt Syntax.w64) Syntax.tnil))),
+) (List._∷_ (
+  33,
+  Rows'.any-gone
+      (Syntax.tyRef Syntax.erased Syntax.imm (KOwn.named)),
+)
+    (List._∷_ (
+      34,
+      Rows'.any-gone (Syntax.tyRef Syntax.erased Syntax.mut (Syntax.tyInt Syntax.w8)),
+    ) (List._∷_ (
+      35,
+      Rows'.any-gone
+          (Syntax.tyStruct
+          (List._∷_ 38 (List._∷_ 91 (List._∷_ 93 List.[])))
+          (Syntax.tcons
+          (Syntax.tyRef Syntax.erased Syntax.mut (Syntax.tyInt Syntax.w8))
+          (Syntax.tcons (Syntax.tyInt Syntax.w64) Syntax.tnil))),
+    ) (List._∷_ (
+      36,
+      Rows'.any-gone
+          (Syntax.tyRef Syntax.erased Syntax.imm (KOwn.named)),
+    ) (List._∷_ (37, Rows'.any-gone (Syntax.tyInt Syntax.w8)) (List._∷_ (
+      38,
+      Rows'.any-gone (KDecided.spelled),
+    ) (List._∷_ (39, Rows'.whole (Declared.row Destination.the-type)) (List._∷_ (
+      40,
+      Rows'.any-gone (KPost.spelled),
+    ) (List._∷_ (41, Rows'.whole (Declared.row Destination.the-type)) (List._∷_ (
+      42,
+      Rows'.any-gone (KPost.spelled),
+    ) List.[]))))))))))
+
+abbrev pub t70 : List.List Row.Entry
+t70 = List._∷_ (
+  32,
+  Rows'.any-gone
+      (Syntax.tyStruct
+      (List._∷_ 38 (List._∷_ 91 (List._∷_ 93 List.[])))
+      (Syntax.tcons
+      (Syntax.tyRef Syntax.erased Syntax.mut (Syntax.tyInt Syntax.w8))
+      (Syntax.tcons (Syntax.tyInt Syntax.w64) Syntax.tnil))),
+) (List._∷_ (
+  33,
+  Rows'.any-gone
+      (Syntax.tyRef Syntax.erased Syntax.imm (KOwn.named)),
+)
+    (List._∷_ (
+      34,
+      Rows'.any-gone (Syntax.tyRef Syntax.erased Syntax.mut (Syntax.tyInt Syntax.w8)),
+    ) (List._∷_ (
+      35,
+      Rows'.any-gone
+          (Syntax.tyStruct
+          (List._∷_ 38 (List._∷_ 91 (List._∷_ 93 List.[])))
+          (Syntax.tcons
+          (Syntax.tyRef Syntax.erased Syntax.mut (Syntax.tyInt Syntax.w8))
+          (Syntax.tcons (Syntax.tyInt Syntax.w64) Syntax.tnil))),
+    ) (List._∷_ (
+      36,
+      Rows'.any-gone
+          (Syntax.tyRef Syntax.erased Syntax.imm (KOwn.named)),
+    ) (List._∷_ (37, Rows'.any-gone (Syntax.tyInt Syntax.w8)) (List._∷_ (
+      38,
+      Rows'.any-gone (KDecided.spelled),
+    ) (List._∷_ (
+      39,
+      Rows'.any-gone
+          (Syntax.tyStruct
+          (List._∷_
+          97
+          (List._∷_
+          110
+          (List._∷_
+          115
+          (List._∷_
+          119
+          (List._∷_
+          101
+          (List._∷_
+          114
+          (List._∷_
+          58
+          (List._∷_
+          58
+          (List._∷_
+          68
+          (List._∷_
+          101
+          (List._∷_
+          115
+          (List._∷_
+          116
+          (List._∷_
+          105
+          (List._∷_
+          110
+          (List._∷_
+          97
+          (List._∷_ 116 (List._∷_ 105 (List._∷_ 111 (List._∷_ 110 List.[])))))))))))))))))))
+          (Syntax.tcons
+          (Syntax.tyArray (Syntax.tyInt Syntax.w8) 16)
+          (Syntax.tcons
+          (Syntax.tyEnum
+          (List._∷_
+          97
+          (List._∷_
+          110
+          (List._∷_
+          115
+          (List._∷_
+          119
+          (List._∷_
+          101
+          (List._∷_
+          114
+          (List._∷_ 58 (List._∷_ 58 (List._∷_ 87 (List._∷_ 97 (List._∷_ 121 List.[])))))))))))
+          (Syntax.ttcons
+          Syntax.tnil
+          (Syntax.ttcons
+          Syntax.tnil
+          (Syntax.ttcons Syntax.tnil (Syntax.ttcons Syntax.tnil Syntax.ttnil)))))
+          Syntax.tnil))),
+    ) (List._∷_ (40, Rows'.any-gone (KPost.spelled)) (List._∷_ (
+      41,
+      Rows'.whole (Declared.row Destination.the-type),
+    )
+    (List._∷_ (42, Rows'.any-gone (KPost.spelled)) List.[]))))))))))
+
+abbrev pub t71 : List.List Row.Entry
+t71 = List._∷_ (0, Rows'.whole (Declared.row Outcome.the-type)) (List._∷_ (
+  1,
+  Mut.mslice
+      (KInstanceRow.R)
+      (Syntax.tyRef (Syntax.named 0) Syntax.mut (KInstanceRow.named))
+      0,
+) (List._∷_ (
+  2,
+  Mut.mslice
+      (KRouteRow.R)
+      (Syntax.tyRef (Syntax.named 1) Syntax.mut (KRouteRow.named))
+      1,
+) (List._∷_ (
+  3,
+  Mut.mslice
+      (Referent.rtF (Referent.fInt Syntax.w8))
+      (Syntax.tyRef (Syntax.named 2) Syntax.mut (Syntax.tyInt Syntax.w8))
+      2,
+) (List._∷_ (
+  4,
+  Mut.mslice
+      (Referent.rtF (Referent.fInt Syntax.w8))
+      (Syntax.tyRef (Syntax.named 3) Syntax.mut (Syntax.tyInt Syntax.w8))
+      3,
+) (List._∷_ (5, Rows'.any-gone (KOwn.spelled)) (List._∷_ (
+  6,
+  Rows'.any-gone (Syntax.tyInt Syntax.w64),
+) (List._∷_ (7, Rows'.sc-here (Row.sInt Syntax.w8)) (List._∷_ (
+  8,
+  Rows'.sc-here (Row.sInt Syntax.w64),
+) (List._∷_ (
+  9,
+  Rows'.sref
+      (Array'.Array (Array'.Array (Referent.rtF (Referent.fInt Syntax.w8)) 16) 16)
+      (Syntax.tyRef
+      (Syntax.named 4)
+      Syntax.imm
+      (Syntax.tyArray (Syntax.tyArray (Syntax.tyInt Syntax.w8) 16) 16))
+      4,
+) (List._∷_ (
+  10,
+  Rows'.sref
+      (KDecided.R)
+      (Syntax.tyRef (Syntax.named 5) Syntax.imm (KDecided.named))
+      5,
+) (List._∷_ (
+  11,
+  Rows'.sref
+      (KPost.R)
+      (Syntax.tyRef (Syntax.named 6) Syntax.imm (KPost.named))
+      6,
+) (List._∷_ (
+  12,
+  Rows'.sref
+      (KPost.R)
+      (Syntax.tyRef (Syntax.named 7) Syntax.imm (KPost.named))
+      7,
+) (List._∷_ (
+  13,
+  Rows'.any-gone
+      (Syntax.tyStruct
+      (List._∷_
+      102
+      (List._∷_
+      105
+      (List._∷_
+      110
+      (List._∷_
+      105
+      (List._∷_
+      115
+      (List._∷_
+      104
+      (List._∷_
+      58
+      (List._∷_ 58 (List._∷_ 76 (List._∷_ 105 (List._∷_ 118 (List._∷_ 101 List.[]))))))))))))
+      (Syntax.tcons
+      Syntax.tyBool
+      (Syntax.tcons
+      (Syntax.tyInt Syntax.w64)
+      (Syntax.tcons Syntax.tyBool (Syntax.tcons (Syntax.tyInt Syntax.w64) Syntax.tnil))))),
+) (List._∷_ (14, Rows'.any-gone (KOwn.spelled)) (List._∷_ (
+  15,
+  Rows'.any-gone
+      (Syntax.tyStruct
+      (List._∷_
+      112
+      (List._∷_
+      108
+      (List._∷_
+      97
+      (List._∷_
+      99
+      (List._∷_
+      101
+      (List._∷_
+      58
+      (List._∷_
+      58
+      (List._∷_
+      80
+      (List._∷_ 108 (List._∷_ 97 (List._∷_ 99 (List._∷_ 101 (List._∷_ 115 List.[])))))))))))))
+      (Syntax.tcons
+      Syntax.tyBool
+      (Syntax.tcons
+      (Syntax.tyInt Syntax.w64)
+      (Syntax.tcons (Syntax.tyInt Syntax.w64) Syntax.tnil)))),
+) List.[])))))))))))))))
+
+abbrev pub t72 : List.List Row.Entry
+t72 = List._∷_ (0, Rows'.whole (Declared.row Outcome.the-type)) (List._∷_ (
+  1,
+  Mut.mslice
+      (KInstanceRow.R)
+      (Syntax.tyRef (Syntax.named 0) Syntax.mut (KInstanceRow.named))
+      0,
+) (List._∷_ (
+  2,
+  Mut.mslice
+      (KRouteRow.R)
+      (Syntax.tyRef (Syntax.named 1) Syntax.mut (KRouteRow.named))
+      1,
+) (List._∷_ (
+  3,
+  Mut.mslice
+      (Referent.rtF (Referent.fInt Syntax.w8))
+      (Syntax.tyRef (Syntax.named 2) Syntax.mut (Syntax.tyInt Syntax.w8))
+      2,
+) (List._∷_ (
+  4,
+  Mut.mslice
+      (Referent.rtF (Referent.fInt Syntax.w8))
+      (Syntax.tyRef (Syntax.named 3) Syntax.mut (Syntax.tyInt Syntax.w8))
+      3,
+) (List._∷_ (5, Rows'.any-gone (KOwn.spelled)) (List._∷_ (
+  6,
+  Rows'.any-gone (Syntax.tyInt Syntax.w64),
+) (List._∷_ (7, Rows'.any-gone (Syntax.tyInt Syntax.w8)) (List._∷_ (
+  8,
+  Rows'.sc-here (Row.sInt Syntax.w64),
+) (List._∷_ (
+  9,
+  Rows'.sref
+      (Array'.Array (Array'.Array (Referent.rtF (Referent.fInt Syntax.w8)) 16) 16)
+      (Syntax.tyRef
+      (Syntax.named 4)
+      Syntax.imm
+      (Syntax.tyArray (Syntax.tyArray (Syntax.tyInt Syntax.w8) 16) 16))
+      4,
+) (List._∷_ (
+  10,
+  Rows'.sref
+      (KDecided.R)
+      (Syntax.tyRef (Syntax.named 5) Syntax.imm (KDecided.named))
+      5,
+) (List._∷_ (
+  11,
+  Rows'.sref
+      (KPost.R)
+      (Syntax.tyRef (Syntax.named 6) Syntax.imm (KPost.named))
+      6,
+) (List._∷_ (
+  12,
+  Rows'.sref
+      (KPost.R)
+      (Syntax.tyRef (Syntax.named 7) Syntax.imm (KPost.named))
+      7,
+) (List._∷_ (
+  13,
+  Rows'.any-gone
+      (Syntax.tyStruct
+      (List._∷_
+      102
+      (List._∷_
+      105
+      (List._∷_
+      110
+      (List._∷_
+      105
+      (List._∷_
+      115
+      (List._∷_
+      104
+      (List._∷_
+      58
+      (List._∷_ 58 (List._∷_ 76 (List._∷_ 105 (List._∷_ 118 (List._∷_ 101 List.[]))))))))))))
+      (Syntax.tcons
+      Syntax.tyBool
+      (Syntax.tcons
+      (Syntax.tyInt Syntax.w64)
+      (Syntax.tcons Syntax.tyBool (Syntax.tcons (Syntax.tyInt Syntax.w64) Syntax.tnil))))),
+) (List._∷_ (14, Rows'.any-gone (KOwn.spelled)) (List._∷_ (
+  15,
+  Rows'.any-gone
+      (Syntax.tyStruct
+      (List._∷_
+      112
+      (List._∷_
+      108
+      (List._∷_
+      97
+      (List._∷_
+      99
+      (List._∷_
+      101
+      (List._∷_
+      58
+      (List._∷_
+      58
+      (List._∷_
+      80
+      (List._∷_ 108 (List._∷_ 97 (List._∷_ 99 (List._∷_ 101 (List._∷_ 115 List.[])))))))))))))
+      (Syntax.tcons
+      Syntax.tyBool
+      (Syntax.tcons
+      (Syntax.tyInt Syntax.w64)
+      (Syntax.tcons (Syntax.tyInt Syntax.w64) Syntax.tnil)))),
+) List.[])))))))))))))))
+
+abbrev pub t73 : List.List Row.Entry
+t73 = List._∷_ (
+  16,
+  Rows'.any-gone
+      (Syntax.tyStruct
+      (List._∷_
+      112
+      (List._∷_
+      108
+      (List._∷_
+      97
+      (List._∷_
+      99
+      (List._∷_
+      101
+      (List._∷_
+      58
+      (List._∷_
+      58
+      (List._∷_
+      82
+      (List._∷_
+      111
+      (List._∷_
+      117
+      (List._∷_
+      116
+      (List._∷_
+      101
+      (List._∷_ 80 (List._∷_ 108 (List._∷_ 97 (List._∷_ 99 (List._∷_ 101 List.[])))))))))))))))))
+      (Syntax.tcons Syntax.tyBool (Syntax.tcons (Syntax.tyInt Syntax.w64) Syntax.tnil))),
+) (List._∷_ (17, Rows'.any-gone (Syntax.tyInt Syntax.w64)) (List._∷_ (
+  18,
+  Rows'.sc-here (Row.sInt Syntax.w64),
+) (List._∷_ (
+  19,
+  Rows'.any-gone
+      (Syntax.tyRef Syntax.erased Syntax.imm (KInstanceRow.named)),
+) (List._∷_ (
+  20,
+  Rows'.any-gone
+      (Syntax.tyStruct
+      (List._∷_ 38 (List._∷_ 91 (List._∷_ 93 List.[])))
+      (Syntax.tcons
+      (Syntax.tyRef Syntax.erased Syntax.imm (KInstanceRow.named))
+      (Syntax.tcons (Syntax.tyInt Syntax.w64) Syntax.tnil))),
+) (List._∷_ (21, Rows'.any-gone Syntax.tyBool) (List._∷_ (
+  22,
+  Rows'.any-gone (KDecided.spelled),
+) (List._∷_ (
+  23,
+  Rows'.any-gone
+      (Syntax.tyRef Syntax.erased Syntax.imm (KRouteRow.named)),
+) (List._∷_ (
+  24,
+  Rows'.any-gone
+      (Syntax.tyStruct
+      (List._∷_ 38 (List._∷_ 91 (List._∷_ 93 List.[])))
+      (Syntax.tcons
+      (Syntax.tyRef Syntax.erased Syntax.imm (KRouteRow.named))
+      (Syntax.tcons (Syntax.tyInt Syntax.w64) Syntax.tnil))),
+)
+    (List._∷_
+    (25, Rows'.any-gone Syntax.tyBool)
+    (List._∷_ (26, Rows'.any-gone Syntax.tyUnit) (List._∷_ (
+      27,
+      Rows'.any-gone
+          (Syntax.tyRef Syntax.erased Syntax.mut (KInstanceRow.named)),
+    ) (List._∷_ (
+      28,
+      Rows'.any-gone
+          (Syntax.tyStruct
+          (List._∷_ 38 (List._∷_ 91 (List._∷_ 93 List.[])))
+          (Syntax.tcons
+          (Syntax.tyRef Syntax.erased Syntax.mut (KInstanceRow.named))
+          (Syntax.tcons (Syntax.tyInt Syntax.w64) Syntax.tnil))),
+    ) (List._∷_ (
+      29,
+      Rows'.any-gone
+          (Syntax.tyRef Syntax.erased Syntax.mut (KRouteRow.named)),
+    ) (List._∷_ (
+      30,
+      Rows'.any-gone
+          (Syntax.tyStruct
+          (List._∷_ 38 (List._∷_ 91 (List._∷_ 93 List.[])))
+          (Syntax.tcons
+          (Syntax.tyRef Syntax.erased Syntax.mut (KRouteRow.named))
+          (Syntax.tcons (Syntax.tyInt Syntax.w64) Syntax.tnil))),
+    ) (List._∷_ (
+      31,
+      Rows'.any-gone (Syntax.tyRef Syntax.erased Syntax.mut (Syntax.tyInt Syntax.w8)),
+    ) List.[])))))))))))))))
+
+abbrev pub t74 : List.List Row.Entry
+t74 = List._∷_ (
+  0,
+  Rows'.any-gone
+      (Syntax.tyStruct
+      (List._∷_
+      102
+      (List._∷_
+      105
+      (List._∷_
+      110
+      (List._∷_
+      105
+      (List._∷_
+      115
+      (List._∷_
+      104
+      (List._∷_
+      58
+      (List._∷_
+      58
+      (List._∷_
+      79
+      (List._∷_
+      117
+      (List._∷_ 116 (List._∷_ 99 (List._∷_ 111 (List._∷_ 109 (List._∷_ 101 List.[])))))))))))))))
+      (Syntax.tcons
+      (Syntax.tyStruct
+      (List._∷_
+      102
+      (List._∷_
+      105
+      (List._∷_
+      110
+      (List._∷_
+      105
+      (List._∷_
+      115
+      (List._∷_
+      104
+      (List._∷_
+      58
+      (List._∷_ 58 (List._∷_ 83 (List._∷_ 101 (List._∷_ 110 (List._∷_ 116 List.[]))))))))))))
+      (Syntax.tcons
+      (Syntax.tyStruct
+      (List._∷_
+      97
+      (List._∷_
+      110
+      (List._∷_
+      115
+      (List._∷_
+      119
+      (List._∷_
+      101
+      (List._∷_
+      114
+      (List._∷_
+      58
+      (List._∷_
+      58
+      (List._∷_
+      68
+      (List._∷_
+      101
+      (List._∷_
+      115
+      (List._∷_
+      116
+      (List._∷_
+      105
+      (List._∷_
+      110
+      (List._∷_
+      97
+      (List._∷_ 116 (List._∷_ 105 (List._∷_ 111 (List._∷_ 110 List.[])))))))))))))))))))
+      (Syntax.tcons
+      (Syntax.tyArray (Syntax.tyInt Syntax.w8) 16)
+      (Syntax.tcons
+      (Syntax.tyEnum
+      (List._∷_
+      97
+      (List._∷_
+      110
+      (List._∷_
+      115
+      (List._∷_
+      119
+      (List._∷_
+      101
+      (List._∷_
+      114
+      (List._∷_ 58 (List._∷_ 58 (List._∷_ 87 (List._∷_ 97 (List._∷_ 121 List.[])))))))))))
+      (Syntax.ttcons
+      Syntax.tnil
+      (Syntax.ttcons
+      Syntax.tnil
+      (Syntax.ttcons Syntax.tnil (Syntax.ttcons Syntax.tnil Syntax.ttnil)))))
+      Syntax.tnil)))
+      (Syntax.tcons (Syntax.tyInt Syntax.w64) Syntax.tnil)))
+      (Syntax.tcons
+      (Syntax.tyInt Syntax.w64)
+      (Syntax.tcons
+      (Syntax.tyStruct
+      (List._∷_
+      102
+      (List._∷_
+      105
+      (List._∷_
+      110
+      (List._∷_
+      105
+      (List._∷_
+      115
+      (List._∷_
+      104
+      (List._∷_
+      58
+      (List._∷_ 58 (List._∷_ 83 (List._∷_ 101 (List._∷_ 110 (List._∷_ 116 List.[]))))))))))))
+      (Syntax.tcons
+      (Syntax.tyStruct
+      (List._∷_
+      97
+      (List._∷_
+      110
+      (List._∷_
+      115
+      (List._∷_
+      119
+      (List._∷_
+      101
+      (List._∷_
+      114
+      (List._∷_
+      58
+      (List._∷_
+      58
+      (List._∷_
+      68
+      (List._∷_
+      101
+      (List._∷_
+      115
+      (List._∷_
+      116
+      (List._∷_
+      105
+      (List._∷_
+      110
+      (List._∷_
+      97
+      (List._∷_ 116 (List._∷_ 105 (List._∷_ 111 (List._∷_ 110 List.[])))))))))))))))))))
+      (Syntax.tcons
+      (Syntax.tyArray (Syntax.tyInt Syntax.w8) 16)
+      (Syntax.tcons
+      (Syntax.tyEnum
+      (List._∷_
+      97
+      (List._∷_
+      110
+      (List._∷_
+      115
+      (List._∷_
+      119
+      (List._∷_
+      101
+      (List._∷_
+      114
+      (List._∷_ 58 (List._∷_ 58 (List._∷_ 87 (List._∷_ 97 (List._∷_ 121 List.[])))))))))))
+      (Syntax.ttcons
+      Syntax.tnil
+      (Syntax.ttcons
+      Syntax.tnil
+      (Syntax.ttcons Syntax.tnil (Syntax.ttcons Syntax.tnil Syntax.ttnil)))))
+      Syntax.tnil)))
+      (Syntax.tcons (Syntax.tyInt Syntax.w64) Syntax.tnil)))
+      (Syntax.tcons
+      (Syntax.tyEnum
+      (List._∷_
+      97
+      (List._∷_
+      110
+      (List._∷_
+      115
+      (List._∷_
+      119
+      (List._∷_
+      101
+      (List._∷_
+      114
+      (List._∷_
+      58
+      (List._∷_
+      58
+      (List._∷_
+      65
+      (List._∷_ 110 (List._∷_ 115 (List._∷_ 119 (List._∷_ 101 (List._∷_ 114 List.[]))))))))))))))
+      (Syntax.ttcons
+      Syntax.tnil
+      (Syntax.ttcons
+      Syntax.tnil
+      (Syntax.ttcons
+      Syntax.tnil
+      (Syntax.ttcons
+      Syntax.tnil
+      (Syntax.ttcons
+      Syntax.tnil
+      (Syntax.ttcons
+      Syntax.tnil
+      (Syntax.ttcons
+      Syntax.tnil
+      (Syntax.ttcons
+      Syntax.tnil
+      (Syntax.ttcons
+      Syntax.tnil
+      (Syntax.ttcons
+      Syntax.tnil
+      (Syntax.ttcons
+      Syntax.tnil
+      (Syntax.ttcons
+      Syntax.tnil
+      (Syntax.ttcons
+      Syntax.tnil
+      (Syntax.ttcons
+      Syntax.tnil
+      (Syntax.ttcons
+      Syntax.tnil
+      (Syntax.ttcons
+      Syntax.tnil
+      (Syntax.ttcons Syntax.tnil (Syntax.ttcons Syntax.tnil Syntax.ttnil)))))))))))))))))))
+      (Syntax.tcons (Syntax.tyInt Syntax.w8) Syntax.tnil)))))),
+) (List._∷_ (
+  1,
+  Mut.mslice
+      (KInstanceRow.R)
+      (Syntax.tyRef (Syntax.named 0) Syntax.mut (KInstanceRow.named))
+      0,
+) (List._∷_ (
+  2,
+  Mut.mslice
+      (KRouteRow.R)
+      (Syntax.tyRef (Syntax.named 1) Syntax.mut (KRouteRow.named))
+      1,
+) (List._∷_ (
+  3,
+  Mut.mslice
+      (Referent.rtF (Referent.fInt Syntax.w8))
+      (Syntax.tyRef (Syntax.named 2) Syntax.mut (Syntax.tyInt Syntax.w8))
+      2,
+) (List._∷_ (
+  4,
+  Mut.mslice
+      (Referent.rtF (Referent.fInt Syntax.w8))
+      (Syntax.tyRef (Syntax.named 3) Syntax.mut (Syntax.tyInt Syntax.w8))
+      3,
+) (List._∷_ (5, Rows'.any-gone (KOwn.spelled)) (List._∷_ (
+  6,
+  Rows'.sc-here (Row.sInt Syntax.w64),
+) (List._∷_ (7, Rows'.sc-here (Row.sInt Syntax.w8)) (List._∷_ (
+  8,
+  Rows'.sc-here (Row.sInt Syntax.w64),
+) (List._∷_ (
+  9,
+  Rows'.sref
+      (Array'.Array (Array'.Array (Referent.rtF (Referent.fInt Syntax.w8)) 16) 16)
+      (Syntax.tyRef
+      (Syntax.named 4)
+      Syntax.imm
+      (Syntax.tyArray (Syntax.tyArray (Syntax.tyInt Syntax.w8) 16) 16))
+      4,
+) (List._∷_ (
+  10,
+  Rows'.sref
+      (KDecided.R)
+      (Syntax.tyRef (Syntax.named 5) Syntax.imm (KDecided.named))
+      5,
+) (List._∷_ (
+  11,
+  Rows'.sref
+      (KPost.R)
+      (Syntax.tyRef (Syntax.named 6) Syntax.imm (KPost.named))
+      6,
+) (List._∷_ (
+  12,
+  Rows'.sref
+      (KPost.R)
+      (Syntax.tyRef (Syntax.named 7) Syntax.imm (KPost.named))
+      7,
+) (List._∷_ (
+  13,
+  Rows'.any-gone
+      (Syntax.tyStruct
+      (List._∷_
+      102
+      (List._∷_
+      105
+      (List._∷_
+      110
+      (List._∷_
+      105
+      (List._∷_
+      115
+      (List._∷_
+      104
+      (List._∷_
+      58
+      (List._∷_ 58 (List._∷_ 76 (List._∷_ 105 (List._∷_ 118 (List._∷_ 101 List.[]))))))))))))
+      (Syntax.tcons
+      Syntax.tyBool
+      (Syntax.tcons
+      (Syntax.tyInt Syntax.w64)
+      (Syntax.tcons Syntax.tyBool (Syntax.tcons (Syntax.tyInt Syntax.w64) Syntax.tnil))))),
+) (List._∷_ (14, Rows'.any-gone (KOwn.spelled)) (List._∷_ (
+  15,
+  Rows'.whole (Declared.row Places.the-type),
+) List.[])))))))))))))))
+
+abbrev pub t75 : List.List Row.Entry
+t75 = List._∷_ (
+  16,
+  Rows'.any-gone
+      (Syntax.tyStruct
+      (List._∷_
+      112
+      (List._∷_
+      108
+      (List._∷_
+      97
+      (List._∷_
+      99
+      (List._∷_
+      101
+      (List._∷_
+      58
+      (List._∷_
+      58
+      (List._∷_
+      82
+      (List._∷_
+      111
+      (List._∷_
+      117
+      (List._∷_
+      116
+      (List._∷_
+      101
+      (List._∷_ 80 (List._∷_ 108 (List._∷_ 97 (List._∷_ 99 (List._∷_ 101 List.[])))))))))))))))))
+      (Syntax.tcons Syntax.tyBool (Syntax.tcons (Syntax.tyInt Syntax.w64) Syntax.tnil))),
+) (List._∷_ (17, Rows'.any-gone (Syntax.tyInt Syntax.w64)) (List._∷_ (
+  18,
+  Rows'.any-gone (Syntax.tyInt Syntax.w64),
+) (List._∷_ (
+  19,
+  Rows'.any-gone
+      (Syntax.tyRef Syntax.erased Syntax.imm (KInstanceRow.named)),
+) (List._∷_ (
+  20,
+  Rows'.any-gone
+      (Syntax.tyStruct
+      (List._∷_ 38 (List._∷_ 91 (List._∷_ 93 List.[])))
+      (Syntax.tcons
+      (Syntax.tyRef Syntax.erased Syntax.imm (KInstanceRow.named))
+      (Syntax.tcons (Syntax.tyInt Syntax.w64) Syntax.tnil))),
+) (List._∷_ (21, Rows'.any-gone Syntax.tyBool) (List._∷_ (
+  22,
+  Rows'.any-gone (KDecided.spelled),
+) (List._∷_ (
+  23,
+  Rows'.any-gone
+      (Syntax.tyRef Syntax.erased Syntax.imm (KRouteRow.named)),
+) (List._∷_ (
+  24,
+  Rows'.any-gone
+      (Syntax.tyStruct
+      (List._∷_ 38 (List._∷_ 91 (List._∷_ 93 List.[])))
+      (Syntax.tcons
+      (Syntax.tyRef Syntax.erased Syntax.imm (KRouteRow.named))
+      (Syntax.tcons (Syntax.tyInt Syntax.w64) Syntax.tnil))),
+) (List._∷_ (25, Rows'.sc-here Row.sBool) (List._∷_ (26, Rows'.any-gone Syntax.tyUnit) (List._∷_ (
+  27,
+  Rows'.any-gone
+      (Syntax.tyRef Syntax.erased Syntax.mut (KInstanceRow.named)),
+) (List._∷_ (
+  28,
+  Rows'.any-gone
+      (Syntax.tyStruct
+      (List._∷_ 38 (List._∷_ 91 (List._∷_ 93 List.[])))
+      (Syntax.tcons
+      (Syntax.tyRef Syntax.erased Syntax.mut (KInstanceRow.named))
+      (Syntax.tcons (Syntax.tyInt Syntax.w64) Syntax.tnil))),
+) (List._∷_ (
+  29,
+  Rows'.any-gone
+      (Syntax.tyRef Syntax.erased Syntax.mut (KRouteRow.named)),
+) (List._∷_ (
+  30,
+  Rows'.any-gone
+      (Syntax.tyStruct
+      (List._∷_ 38 (List._∷_ 91 (List._∷_ 93 List.[])))
+      (Syntax.tcons
+      (Syntax.tyRef Syntax.erased Syntax.mut (KRouteRow.named))
+      (Syntax.tcons (Syntax.tyInt Syntax.w64) Syntax.tnil))),
+)
+    (List._∷_ (
+      31,
+      Rows'.any-gone (Syntax.tyRef Syntax.erased Syntax.mut (Syntax.tyInt Syntax.w8)),
+    ) List.[])))))))))))))))
 
 abbrev pub T0 : Row.Cx
 T0 = record { locals = List._++_ t0 (List._++_ t1 t2); slots = List.[] }
@@ -11915,218 +13801,242 @@ T2 = record { locals = List._++_ t0 (List._++_ t1 t2); slots = List.[] }
 abbrev pub T3 : Row.Cx
 T3 = record { locals = List._++_ t0 (List._++_ t1 t2); slots = List.[] }
 
-abbrev pub T5 : Row.Cx
-T5 = record { locals = List._++_ t4 (List._++_ t5 t2); slots = List.[] }
+abbrev pub T4 : Row.Cx
+T4 = record { locals = List._++_ t4 (List._++_ t1 t2); slots = List.[] }
 
-abbrev pub T6 : Row.Cx
-T6 = record { locals = List._++_ t4 (List._++_ t6 t2); slots = List.[] }
+abbrev pub T5 : Row.Cx
+T5 = record { locals = List._++_ t5 (List._++_ t1 t2); slots = List.[] }
 
 abbrev pub T7 : Row.Cx
-T7 = record { locals = List._++_ t4 (List._++_ t7 t2); slots = List.[] }
+T7 = record { locals = List._++_ t6 (List._++_ t7 t2); slots = List.[] }
 
 abbrev pub T8 : Row.Cx
-T8 = record { locals = List._++_ t4 (List._++_ t8 t2); slots = List.[] }
+T8 = record { locals = List._++_ t6 (List._++_ t8 t2); slots = List.[] }
 
 abbrev pub T9 : Row.Cx
-T9 = record { locals = List._++_ t4 (List._++_ t9 t2); slots = List.[] }
+T9 = record { locals = List._++_ t6 (List._++_ t9 t2); slots = List.[] }
 
 abbrev pub T10 : Row.Cx
-T10 = record { locals = List._++_ t10 (List._++_ t9 t2); slots = List.[] }
+T10 = record { locals = List._++_ t6 (List._++_ t10 t2); slots = List.[] }
 
 abbrev pub T11 : Row.Cx
-T11 = record { locals = List._++_ t10 (List._++_ t11 t2); slots = List.[] }
+T11 = record { locals = List._++_ t6 (List._++_ t11 t2); slots = List.[] }
 
 abbrev pub T12 : Row.Cx
-T12 = record { locals = List._++_ t10 (List._++_ t1 t2); slots = List.[] }
+T12 = record { locals = List._++_ t12 (List._++_ t11 t2); slots = List.[] }
+
+abbrev pub T13 : Row.Cx
+T13 = record { locals = List._++_ t12 (List._++_ t13 t2); slots = List.[] }
 
 abbrev pub T14 : Row.Cx
 T14 = record { locals = List._++_ t12 (List._++_ t1 t2); slots = List.[] }
 
-abbrev pub T17 : Row.Cx
-T17 = record { locals = List._++_ t13 (List._++_ t14 t2); slots = List.[] }
-
-abbrev pub T18 : Row.Cx
-T18 = record { locals = List._++_ t13 (List._++_ t15 t2); slots = List.[] }
+abbrev pub T16 : Row.Cx
+T16 = record { locals = List._++_ t14 (List._++_ t1 t2); slots = List.[] }
 
 abbrev pub T19 : Row.Cx
-T19 = record { locals = List._++_ t13 (List._++_ t16 t2); slots = List.[] }
+T19 = record { locals = List._++_ t15 (List._++_ t16 t2); slots = List.[] }
 
 abbrev pub T20 : Row.Cx
-T20 = record { locals = List._++_ t13 (List._++_ t17 t2); slots = List.[] }
+T20 = record { locals = List._++_ t15 (List._++_ t17 t2); slots = List.[] }
 
 abbrev pub T21 : Row.Cx
-T21 = record { locals = List._++_ t13 (List._++_ t18 t2); slots = List.[] }
+T21 = record { locals = List._++_ t15 (List._++_ t18 t2); slots = List.[] }
 
 abbrev pub T22 : Row.Cx
-T22 = record { locals = List._++_ t19 (List._++_ t18 t2); slots = List.[] }
+T22 = record { locals = List._++_ t15 (List._++_ t19 t2); slots = List.[] }
 
 abbrev pub T23 : Row.Cx
-T23 = record { locals = List._++_ t19 (List._++_ t11 t2); slots = List.[] }
+T23 = record { locals = List._++_ t15 (List._++_ t20 t2); slots = List.[] }
 
 abbrev pub T24 : Row.Cx
-T24 = record { locals = List._++_ t20 (List._++_ t11 t2); slots = List.[] }
+T24 = record { locals = List._++_ t15 (List._++_ t21 t2); slots = List.[] }
 
 abbrev pub T25 : Row.Cx
-T25 = record { locals = List._++_ t20 (List._++_ t1 t2); slots = List.[] }
+T25 = record { locals = List._++_ t15 (List._++_ t22 t2); slots = List.[] }
+
+abbrev pub T26 : Row.Cx
+T26 = record { locals = List._++_ t23 (List._++_ t22 t2); slots = List.[] }
 
 abbrev pub T27 : Row.Cx
-T27 = record { locals = List._++_ t21 (List._++_ t1 t2); slots = List.[] }
+T27 = record { locals = List._++_ t23 (List._++_ t24 t2); slots = List.[] }
 
 abbrev pub T29 : Row.Cx
-T29 = record { locals = List._++_ t21 (List._++_ t22 t2); slots = List.[] }
-
-abbrev pub T30 : Row.Cx
-T30 = record { locals = List._++_ t23 (List._++_ t1 t2); slots = List.[] }
+T29 = record { locals = List._++_ t25 (List._++_ t24 t2); slots = List.[] }
 
 abbrev pub T31 : Row.Cx
-T31 = record { locals = List._++_ t21 (List._++_ t1 t2); slots = List.[] }
+T31 = record { locals = List._++_ t25 (List._++_ t26 t2); slots = List.[] }
+
+abbrev pub T32 : Row.Cx
+T32 = record { locals = List._++_ t27 (List._++_ t1 t2); slots = List.[] }
 
 abbrev pub T33 : Row.Cx
-T33 = record { locals = List._++_ t24 (List._++_ t25 t2); slots = List.[] }
+T33 = record { locals = List._++_ t25 (List._++_ t24 t2); slots = List.[] }
 
-abbrev pub T34 : Row.Cx
-T34 = record { locals = List._++_ t24 (List._++_ t26 t2); slots = List.[] }
+abbrev pub T35 : Row.Cx
+T35 = record { locals = List._++_ t28 (List._++_ t29 t2); slots = List.[] }
 
 abbrev pub T36 : Row.Cx
-T36 = record { locals = List._++_ t27 (List._++_ t28 t2); slots = List.[] }
-
-abbrev pub T37 : Row.Cx
-T37 = record { locals = List._++_ t27 (List._++_ t29 t2); slots = List.[] }
+T36 = record { locals = List._++_ t28 (List._++_ t30 t2); slots = List.[] }
 
 abbrev pub T38 : Row.Cx
-T38 = record { locals = List._++_ t27 (List._++_ t30 t2); slots = List.[] }
+T38 = record { locals = List._++_ t31 (List._++_ t32 t2); slots = List.[] }
 
 abbrev pub T39 : Row.Cx
-T39 = record { locals = List._++_ t31 (List._++_ t30 t2); slots = List.[] }
+T39 = record { locals = List._++_ t31 (List._++_ t33 t2); slots = List.[] }
 
 abbrev pub T40 : Row.Cx
-T40 = record { locals = List._++_ t32 (List._++_ t30 t2); slots = List.[] }
+T40 = record { locals = List._++_ t31 (List._++_ t34 t2); slots = List.[] }
 
 abbrev pub T41 : Row.Cx
-T41 = record { locals = List._++_ t32 (List._++_ t33 t2); slots = List.[] }
+T41 = record { locals = List._++_ t35 (List._++_ t34 t2); slots = List.[] }
+
+abbrev pub T42 : Row.Cx
+T42 = record { locals = List._++_ t35 (List._++_ t36 t2); slots = List.[] }
 
 abbrev pub T43 : Row.Cx
-T43 = record { locals = List._++_ t34 (List._++_ t35 t2); slots = List.[] }
+T43 = record { locals = List._++_ t35 (List._++_ t37 t2); slots = List.[] }
 
-abbrev pub T46 : Row.Cx
-T46 = record { locals = List._++_ t36 (List._++_ t1 t2); slots = List.[] }
+abbrev pub T45 : Row.Cx
+T45 = record { locals = List._++_ t38 (List._++_ t39 t2); slots = List.[] }
 
-abbrev pub T49 : Row.Cx
-T49 = record { locals = List._++_ t37 (List._++_ t38 t2); slots = List.[] }
-
-abbrev pub T50 : Row.Cx
-T50 = record { locals = List._++_ t37 (List._++_ t39 t2); slots = List.[] }
+abbrev pub T48 : Row.Cx
+T48 = record { locals = List._++_ t40 (List._++_ t1 t2); slots = List.[] }
 
 abbrev pub T51 : Row.Cx
-T51 = record { locals = List._++_ t37 (List._++_ t40 t2); slots = List.[] }
+T51 = record { locals = List._++_ t41 (List._++_ t42 t2); slots = List.[] }
 
-abbrev pub T53 : Row.Cx
-T53 = record { locals = List._++_ t36 (List._++_ t41 t2); slots = List.[] }
+abbrev pub T52 : Row.Cx
+T52 = record { locals = List._++_ t41 (List._++_ t1 t43); slots = List.[] }
 
 abbrev pub T54 : Row.Cx
-T54 = record { locals = List._++_ t36 (List._++_ t41 t2); slots = List.[] }
+T54 = record { locals = List._++_ t44 (List._++_ t1 t45); slots = List.[] }
 
-abbrev pub T57 : Row.Cx
-T57 = record { locals = List._++_ t42 (List._++_ t41 t43); slots = List.[] }
+abbrev pub T55 : Row.Cx
+T55 = record { locals = List._++_ t44 (List._++_ t46 t47); slots = List.[] }
+
+abbrev pub T56 : Row.Cx
+T56 = record { locals = List._++_ t44 (List._++_ t46 t48); slots = List.[] }
 
 abbrev pub T58 : Row.Cx
-T58 = record { locals = List._++_ t42 (List._++_ t41 t44); slots = List.[] }
+T58 = record { locals = List._++_ t49 (List._++_ t46 t2); slots = List.[] }
 
 abbrev pub T59 : Row.Cx
-T59 = record { locals = List._++_ t42 (List._++_ t45 t46); slots = List.[] }
-
-abbrev pub T60 : Row.Cx
-T60 = record { locals = List._++_ t47 (List._++_ t45 t46); slots = List.[] }
+T59 = record { locals = List._++_ t49 (List._++_ t46 t2); slots = List.[] }
 
 abbrev pub T62 : Row.Cx
-T62 = record { locals = List._++_ t23 (List._++_ t45 t2); slots = List.[] }
-
-abbrev pub T63 : Row.Cx
-T63 = record { locals = List._++_ t23 (List._++_ t45 t2); slots = List.[] }
+T62 = record { locals = List._++_ t40 (List._++_ t46 t2); slots = List.[] }
 
 abbrev pub T65 : Row.Cx
-T65 = record { locals = List._++_ t23 (List._++_ t45 t48); slots = List.[] }
+T65 = record { locals = List._++_ t50 (List._++_ t46 t51); slots = List.[] }
 
 abbrev pub T66 : Row.Cx
-T66 = record { locals = List._++_ t23 (List._++_ t45 t49); slots = List.[] }
-
-abbrev pub T67 : Row.Cx
-T67 = record { locals = List._++_ t23 (List._++_ t45 t50); slots = List.[] }
+T66 = record { locals = List._++_ t50 (List._++_ t46 t52); slots = List.[] }
 
 abbrev pub T68 : Row.Cx
-T68 = record { locals = List._++_ t23 (List._++_ t45 t51); slots = List.[] }
+T68 = record { locals = List._++_ t53 (List._++_ t46 t54); slots = List.[] }
 
 abbrev pub T69 : Row.Cx
-T69 = record { locals = List._++_ t23 (List._++_ t45 t52); slots = List.[] }
+T69 = record { locals = List._++_ t53 (List._++_ t55 t56); slots = List.[] }
 
 abbrev pub T70 : Row.Cx
-T70 = record { locals = List._++_ t23 (List._++_ t45 t53); slots = List.[] }
-
-abbrev pub T71 : Row.Cx
-T71 = record { locals = List._++_ t23 (List._++_ t45 t54); slots = List.[] }
+T70 = record { locals = List._++_ t53 (List._++_ t55 t57); slots = List.[] }
 
 abbrev pub T72 : Row.Cx
-T72 = record { locals = List._++_ t23 (List._++_ t45 t55); slots = List.[] }
+T72 = record { locals = List._++_ t58 (List._++_ t55 t2); slots = List.[] }
 
 abbrev pub T73 : Row.Cx
-T73 = record { locals = List._++_ t23 (List._++_ t45 t56); slots = List.[] }
-
-abbrev pub T74 : Row.Cx
-T74 = record { locals = List._++_ t57 (List._++_ t45 t56); slots = List.[] }
-
-abbrev pub T75 : Row.Cx
-T75 = record { locals = List._++_ t57 (List._++_ t45 t58); slots = List.[] }
+T73 = record { locals = List._++_ t58 (List._++_ t55 t2); slots = List.[] }
 
 abbrev pub T76 : Row.Cx
-T76 = record { locals = List._++_ t57 (List._++_ t45 t59); slots = List.[] }
-
-abbrev pub T77 : Row.Cx
-T77 = record { locals = List._++_ t57 (List._++_ t45 t2); slots = List.[] }
+T76 = record { locals = List._++_ t40 (List._++_ t55 t2); slots = List.[] }
 
 abbrev pub T78 : Row.Cx
-T78 = record { locals = List._++_ t60 (List._++_ t45 t2); slots = List.[] }
+T78 = record { locals = List._++_ t27 (List._++_ t55 t2); slots = List.[] }
 
 abbrev pub T79 : Row.Cx
-T79 = record { locals = List._++_ t61 (List._++_ t45 t2); slots = List.[] }
+T79 = record { locals = List._++_ t27 (List._++_ t55 t59); slots = List.[] }
 
 abbrev pub T80 : Row.Cx
-T80 = record { locals = List._++_ t3 (List._++_ t45 t2); slots = List.[] }
+T80 = record { locals = List._++_ t27 (List._++_ t55 t60); slots = List.[] }
 
 abbrev pub T81 : Row.Cx
-T81 = record { locals = List._++_ t3 (List._++_ t62 t2); slots = List.[] }
+T81 = record { locals = List._++_ t27 (List._++_ t55 t61); slots = List.[] }
 
 abbrev pub T82 : Row.Cx
-T82 = record { locals = List._++_ t3 (List._++_ t1 t2); slots = List.[] }
+T82 = record { locals = List._++_ t27 (List._++_ t55 t62); slots = List.[] }
 
 abbrev pub T83 : Row.Cx
-T83 = record { locals = List._++_ t63 (List._++_ t22 t2); slots = List.[] }
+T83 = record { locals = List._++_ t27 (List._++_ t55 t63); slots = List.[] }
 
 abbrev pub T84 : Row.Cx
-T84 = record { locals = List._++_ t64 (List._++_ t22 t2); slots = List.[] }
+T84 = record { locals = List._++_ t27 (List._++_ t55 t64); slots = List.[] }
 
 abbrev pub T85 : Row.Cx
-T85 = record { locals = List._++_ t23 (List._++_ t22 t2); slots = List.[] }
+T85 = record { locals = List._++_ t27 (List._++_ t55 t65); slots = List.[] }
 
 abbrev pub T86 : Row.Cx
-T86 = record { locals = List._++_ t23 (List._++_ t1 t2); slots = List.[] }
+T86 = record { locals = List._++_ t27 (List._++_ t55 t66); slots = List.[] }
 
 abbrev pub T87 : Row.Cx
-T87 = record { locals = List._++_ t57 (List._++_ t1 t2); slots = List.[] }
+T87 = record { locals = List._++_ t27 (List._++_ t55 t67); slots = List.[] }
 
 abbrev pub T88 : Row.Cx
-T88 = record { locals = List._++_ t60 (List._++_ t1 t2); slots = List.[] }
+T88 = record { locals = List._++_ t68 (List._++_ t55 t67); slots = List.[] }
 
 abbrev pub T89 : Row.Cx
-T89 = record { locals = List._++_ t61 (List._++_ t1 t2); slots = List.[] }
+T89 = record { locals = List._++_ t68 (List._++_ t55 t69); slots = List.[] }
 
 abbrev pub T90 : Row.Cx
-T90 = record { locals = List._++_ t3 (List._++_ t1 t2); slots = List.[] }
+T90 = record { locals = List._++_ t68 (List._++_ t55 t70); slots = List.[] }
+
+abbrev pub T91 : Row.Cx
+T91 = record { locals = List._++_ t68 (List._++_ t55 t2); slots = List.[] }
+
+abbrev pub T92 : Row.Cx
+T92 = record { locals = List._++_ t71 (List._++_ t55 t2); slots = List.[] }
+
+abbrev pub T93 : Row.Cx
+T93 = record { locals = List._++_ t72 (List._++_ t55 t2); slots = List.[] }
+
+abbrev pub T94 : Row.Cx
+T94 = record { locals = List._++_ t3 (List._++_ t55 t2); slots = List.[] }
+
+abbrev pub T95 : Row.Cx
+T95 = record { locals = List._++_ t3 (List._++_ t73 t2); slots = List.[] }
+
+abbrev pub T96 : Row.Cx
+T96 = record { locals = List._++_ t3 (List._++_ t1 t2); slots = List.[] }
+
+abbrev pub T97 : Row.Cx
+T97 = record { locals = List._++_ t74 (List._++_ t26 t2); slots = List.[] }
+
+abbrev pub T98 : Row.Cx
+T98 = record { locals = List._++_ t27 (List._++_ t26 t2); slots = List.[] }
+
+abbrev pub T99 : Row.Cx
+T99 = record { locals = List._++_ t27 (List._++_ t75 t2); slots = List.[] }
+
+abbrev pub T100 : Row.Cx
+T100 = record { locals = List._++_ t27 (List._++_ t1 t2); slots = List.[] }
+
+abbrev pub T101 : Row.Cx
+T101 = record { locals = List._++_ t68 (List._++_ t1 t2); slots = List.[] }
+
+abbrev pub T102 : Row.Cx
+T102 = record { locals = List._++_ t71 (List._++_ t1 t2); slots = List.[] }
+
+abbrev pub T103 : Row.Cx
+T103 = record { locals = List._++_ t72 (List._++_ t1 t2); slots = List.[] }
+
+abbrev pub T104 : Row.Cx
+T104 = record { locals = List._++_ t3 (List._++_ t1 t2); slots = List.[] }
 
 abbrev pub O0 : Typed.Outs
 O0 = record { next = Option.none; exits = List.[]; returns = Option.some T1 }
 
 abbrev pub O1 : Typed.Outs
-O1 = Typed.withNext (Option.some T30) O0
+O1 = Typed.withNext (Option.some T32) O0
 
 module _ (claims· : Claims) where
   abbrev s0 : Typed.Gives T0 T2
@@ -12153,13 +14063,29 @@ module _ (claims· : Claims) where
       0
       λ x. x
 
-  abbrev s3 : Typed.Gives T3 T5
-  s3 =
+  abbrev s2 : Typed.Mo T3 → Typed.Mo T4
+  s2 =
+      LocalCopy.n-val-copy
+      T3
+      5
+      14
+      (KOwn.R)
+      (KOwn.row)
+      (KOwn.row)
+      (λ x. x)
+      (λ x. x)
+      λ x. x
+
+  abbrev s3 : Typed.Mo T4 → Typed.Mo T5
+  s3 = Scalar.n-room T4 5 (KOwn.spelled)
+
+  abbrev s5 : Typed.Gives T5 T7
+  s5 =
       Reshare.k-sl-reshare
       (KInstanceRow.R)
-      T3
+      T5
       1
-      18
+      19
       0
       8
       (Syntax.tyRef (Syntax.named 0) Syntax.mut (KInstanceRow.named))
@@ -12167,14 +14093,14 @@ module _ (claims· : Claims) where
       Row.off
       λ x. x
 
-  abbrev s4 : Typed.Asks T5 T6
-  s4 =
+  abbrev s6 : Typed.Asks T7 T8
+  s6 =
       Relend.k-sl-aggregate
       (KInstanceRow.R)
       (Relend.asShr (KInstanceRow.R))
-      T5
-      18
+      T7
       19
+      20
       8
       (Syntax.tyRef Syntax.erased Syntax.imm (KInstanceRow.named))
       (Syntax.tyRef Syntax.erased Syntax.imm (KInstanceRow.named))
@@ -12187,12 +14113,12 @@ module _ (claims· : Claims) where
       λ v. Shared.lenV
       (v .0))
 
-  abbrev s5 : Typed.Gives T6 T7
-  s5 =
+  abbrev s7 : Typed.Gives T8 T9
+  s7 =
       DerefMove.k-ref-read-copy
-      T6
+      T8
       10
-      21
+      22
       5
       (KDecided.R)
       (Rows'.sref
@@ -12206,19 +14132,19 @@ module _ (claims· : Claims) where
       (λ x. x)
       λ x. Unit
 
-  abbrev s6 : Typed.Both T7 T8
-  s6 = Call.callB ps·0 r·0 (claims· .0) (claims· .1) T7 (
-    record { pos = 21; st = List.[]; d = 0; at = λ x. x },
-    tt,
-  ) 20 List.[] Syntax.tyBool
-
-  abbrev s7 : Typed.Mo T8 → Typed.Mo T9
-  s7 = Scalar.n-room T8 21 (KDecided.spelled)
-
   abbrev s8 : Typed.Both T9 T10
-  s8 = Call.callB ps·1 r·1 (claims· .2) (claims· .3) T9 (
+  s8 = Call.callB ps·0 r·0 (claims· .0) (claims· .1) T9 (
+    record { pos = 22; st = List.[]; d = 0; at = λ x. x },
+    tt,
+  ) 21 List.[] Syntax.tyBool
+
+  abbrev s9 : Typed.Mo T10 → Typed.Mo T11
+  s9 = Scalar.n-room T10 22 (KDecided.spelled)
+
+  abbrev s10 : Typed.Both T11 T12
+  s10 = Call.callB ps·1 r·1 (claims· .2) (claims· .3) T11 (
     record {
-      pos = 19;
+      pos = 20;
       ty = Syntax.tyRef Syntax.erased Syntax.imm (KInstanceRow.named);
       ref = λ x. x;
     },
@@ -12228,12 +14154,12 @@ module _ (claims· : Claims) where
         Bool.bFld 13 (List._∷_ (Syntax.field 0) List.[]) 0 λ x. Live.struct .as-values x .0,
         (
           Num.vFld 13 (List._∷_ (Syntax.field 1) List.[]) 8 λ x. Live.struct .as-values x .1 .0,
-          (Bool.bAt 20 λ x. x, tt),
+          (Bool.bAt 21 λ x. x, tt),
         ),
       ),
     ),
   )
-      14
+      15
       (List._∷_ 8 List.[])
       (Syntax.tyStruct
       (List._∷_
@@ -12259,25 +14185,25 @@ module _ (claims· : Claims) where
       (Syntax.tyInt Syntax.w64)
       (Syntax.tcons (Syntax.tyInt Syntax.w64) Syntax.tnil))))
 
-  abbrev s9 : Typed.Mo T10 → Typed.Mo T11
-  s9 =
+  abbrev s11 : Typed.Mo T12 → Typed.Mo T13
+  s11 =
       Scalar.n-room
-      T10
-      19
+      T12
+      20
       (Syntax.tyStruct
       (List._∷_ 38 (List._∷_ 91 (List._∷_ 93 List.[])))
       (Syntax.tcons
       (Syntax.tyRef Syntax.erased Syntax.imm (KInstanceRow.named))
       (Syntax.tcons (Syntax.tyInt Syntax.w64) Syntax.tnil)))
 
-  abbrev s10 : Typed.Mo T11 → Typed.Mo T12
-  s10 = Scalar.n-room T11 20 Syntax.tyBool
+  abbrev s12 : Typed.Mo T13 → Typed.Mo T14
+  s12 = Scalar.n-room T13 21 Syntax.tyBool
 
-  abbrev s12 : Typed.Mo T12 → Typed.Mo T14
-  s12 =
+  abbrev s14 : Typed.Mo T14 → Typed.Mo T16
+  s14 =
       Reshare.n-back-sl-shr
       (KInstanceRow.R)
-      T12
+      T14
       1
       0
       8
@@ -12285,13 +14211,13 @@ module _ (claims· : Claims) where
       Row.off
       λ x. x
 
-  abbrev s15 : Typed.Gives T14 T17
-  s15 =
+  abbrev s17 : Typed.Gives T16 T19
+  s17 =
       Reshare.k-sl-reshare
       (KRouteRow.R)
-      T14
+      T16
       2
-      22
+      23
       1
       9
       (Syntax.tyRef (Syntax.named 1) Syntax.mut (KRouteRow.named))
@@ -12299,14 +14225,14 @@ module _ (claims· : Claims) where
       Row.off
       λ x. x
 
-  abbrev s16 : Typed.Asks T17 T18
-  s16 =
+  abbrev s18 : Typed.Asks T19 T20
+  s18 =
       Relend.k-sl-aggregate
       (KRouteRow.R)
       (Relend.asShr (KRouteRow.R))
-      T17
-      22
+      T19
       23
+      24
       9
       (Syntax.tyRef Syntax.erased Syntax.imm (KRouteRow.named))
       (Syntax.tyRef Syntax.erased Syntax.imm (KRouteRow.named))
@@ -12319,12 +14245,12 @@ module _ (claims· : Claims) where
       λ v. Shared.lenV
       (v .0))
 
-  abbrev s17 : Typed.Gives T18 T19
-  s17 =
+  abbrev s19 : Typed.Gives T20 T21
+  s19 =
       DerefMove.k-ref-read-copy
-      T18
+      T20
       10
-      21
+      22
       5
       (KDecided.R)
       (Rows'.sref
@@ -12338,26 +14264,26 @@ module _ (claims· : Claims) where
       (λ x. x)
       λ x. Unit
 
-  abbrev s18 : Typed.Both T19 T20
-  s18 = Call.callB ps·2 r·2 (claims· .4) (claims· .5) T19 (
-    record { pos = 21; st = List.[]; d = 0; at = λ x. x },
-    tt,
-  ) 20 List.[] Syntax.tyBool
-
-  abbrev s19 : Typed.Mo T20 → Typed.Mo T21
-  s19 = Scalar.n-room T20 21 (KDecided.spelled)
-
   abbrev s20 : Typed.Both T21 T22
-  s20 = Call.callB ps·3 r·3 (claims· .6) (claims· .7) T21 (
+  s20 = Call.callB ps·2 r·2 (claims· .4) (claims· .5) T21 (
+    record { pos = 22; st = List.[]; d = 0; at = λ x. x },
+    tt,
+  ) 21 List.[] Syntax.tyBool
+
+  abbrev s21 : Typed.Mo T22 → Typed.Mo T23
+  s21 = Scalar.n-room T22 22 (KDecided.spelled)
+
+  abbrev s22 : Typed.Both T23 T24
+  s22 = Call.callB ps·3 r·3 (claims· .6) (claims· .7) T23 (
     record {
-      pos = 23;
+      pos = 24;
       ty = Syntax.tyRef Syntax.erased Syntax.imm (KRouteRow.named);
       ref = λ x. x;
     },
     (
       Num.vAt 8 λ x. x,
       (
-        Bool.bAt 20 λ x. x,
+        Bool.bAt 21 λ x. x,
         (
           Bool.bFld
               13
@@ -12378,7 +14304,7 @@ module _ (claims· : Claims) where
       ),
     ),
   )
-      15
+      16
       (List._∷_ 9 List.[])
       (Syntax.tyStruct
       (List._∷_
@@ -12408,21 +14334,21 @@ module _ (claims· : Claims) where
       (List._∷_ 80 (List._∷_ 108 (List._∷_ 97 (List._∷_ 99 (List._∷_ 101 List.[])))))))))))))))))
       (Syntax.tcons Syntax.tyBool (Syntax.tcons (Syntax.tyInt Syntax.w64) Syntax.tnil)))
 
-  abbrev s21 : Typed.Mo T22 → Typed.Mo T23
-  s21 =
+  abbrev s23 : Typed.Mo T24 → Typed.Mo T25
+  s23 =
       Scalar.n-room
-      T22
-      23
+      T24
+      24
       (Syntax.tyStruct
       (List._∷_ 38 (List._∷_ 91 (List._∷_ 93 List.[])))
       (Syntax.tcons
       (Syntax.tyRef Syntax.erased Syntax.imm (KRouteRow.named))
       (Syntax.tcons (Syntax.tyInt Syntax.w64) Syntax.tnil)))
 
-  abbrev s22 : Typed.Mo T23 → Typed.Mo T24
-  s22 =
+  abbrev s24 : Typed.Mo T25 → Typed.Mo T26
+  s24 =
       Scalar.n-room
-      T23
+      T25
       13
       (Syntax.tyStruct
       (List._∷_
@@ -12446,14 +14372,14 @@ module _ (claims· : Claims) where
       (Syntax.tyInt Syntax.w64)
       (Syntax.tcons Syntax.tyBool (Syntax.tcons (Syntax.tyInt Syntax.w64) Syntax.tnil)))))
 
-  abbrev s23 : Typed.Mo T24 → Typed.Mo T25
-  s23 = Scalar.n-room T24 20 Syntax.tyBool
+  abbrev s25 : Typed.Mo T26 → Typed.Mo T27
+  s25 = Scalar.n-room T26 21 Syntax.tyBool
 
-  abbrev s25 : Typed.Mo T25 → Typed.Mo T27
-  s25 =
+  abbrev s27 : Typed.Mo T27 → Typed.Mo T29
+  s27 =
       Reshare.n-back-sl-shr
       (KRouteRow.R)
-      T25
+      T27
       2
       1
       9
@@ -12461,22 +14387,22 @@ module _ (claims· : Claims) where
       Row.off
       λ x. x
 
-  abbrev s27 : Typed.Both T27 T29
-  s27 = Call.callB ps·4 r·4 (claims· .8) (claims· .9) T27 (
-    record { pos = 14; st = List.[]; d = 0; at = λ x. x },
-    (record { pos = 15; st = List.[]; d = 0; at = λ x. x }, tt),
-  ) 24 List.[] Syntax.tyBool
+  abbrev s29 : Typed.Both T29 T31
+  s29 = Call.callB ps·4 r·4 (claims· .8) (claims· .9) T29 (
+    record { pos = 15; st = List.[]; d = 0; at = λ x. x },
+    (record { pos = 16; st = List.[]; d = 0; at = λ x. x }, tt),
+  ) 25 List.[] Syntax.tyBool
 
-  abbrev s28 : Typed.Mo T29 → Typed.Mo T31
-  s28 = Scalar.n-room T29 24 Syntax.tyBool
+  abbrev s30 : Typed.Mo T31 → Typed.Mo T33
+  s30 = Scalar.n-room T31 25 Syntax.tyBool
 
-  abbrev s30 : Typed.Gives T31 T33
-  s30 =
+  abbrev s32 : Typed.Gives T33 T35
+  s32 =
       Relend.k-sl-relend
       (KInstanceRow.R)
-      T31
+      T33
       1
-      26
+      27
       0
       10
       (Syntax.tyRef (Syntax.named 0) Syntax.mut (KInstanceRow.named))
@@ -12484,14 +14410,14 @@ module _ (claims· : Claims) where
       Row.off
       λ x. x
 
-  abbrev s31 : Typed.Asks T33 T34
-  s31 =
+  abbrev s33 : Typed.Asks T35 T36
+  s33 =
       Relend.k-sl-aggregate
       (KInstanceRow.R)
       (Relend.asMut (KInstanceRow.R))
-      T33
-      26
+      T35
       27
+      28
       10
       (Syntax.tyRef Syntax.erased Syntax.mut (KInstanceRow.named))
       (Syntax.tyRef Syntax.erased Syntax.mut (KInstanceRow.named))
@@ -12504,13 +14430,13 @@ module _ (claims· : Claims) where
       λ v. Shared.lenV
       (v .0))
 
-  abbrev s33 : Typed.Gives T34 T36
-  s33 =
+  abbrev s35 : Typed.Gives T36 T38
+  s35 =
       Relend.k-sl-relend
       (KRouteRow.R)
-      T34
+      T36
       2
-      28
+      29
       1
       11
       (Syntax.tyRef (Syntax.named 1) Syntax.mut (KRouteRow.named))
@@ -12518,14 +14444,14 @@ module _ (claims· : Claims) where
       Row.off
       λ x. x
 
-  abbrev s34 : Typed.Asks T36 T37
-  s34 =
+  abbrev s36 : Typed.Asks T38 T39
+  s36 =
       Relend.k-sl-aggregate
       (KRouteRow.R)
       (Relend.asMut (KRouteRow.R))
-      T36
-      28
+      T38
       29
+      30
       11
       (Syntax.tyRef Syntax.erased Syntax.mut (KRouteRow.named))
       (Syntax.tyRef Syntax.erased Syntax.mut (KRouteRow.named))
@@ -12538,24 +14464,24 @@ module _ (claims· : Claims) where
       λ v. Shared.lenV
       (v .0))
 
-  abbrev s35 : Typed.Both T37 T38
-  s35 = Call.callB ps·5 r·5 (claims· .10) (claims· .11) T37 (
+  abbrev s37 : Typed.Both T39 T40
+  s37 = Call.callB ps·5 r·5 (claims· .10) (claims· .11) T39 (
     record {
-      pos = 27;
+      pos = 28;
       ty = Syntax.tyRef Syntax.erased Syntax.mut (KInstanceRow.named);
       ref = λ x. x;
     },
     (
       record {
-        pos = 29;
+        pos = 30;
         ty = Syntax.tyRef Syntax.erased Syntax.mut (KRouteRow.named);
         ref = λ x. x;
       },
       (
-        record { pos = 14; st = List.[]; d = 0; at = λ x. x },
+        record { pos = 15; st = List.[]; d = 0; at = λ x. x },
         (
           Num.vFld
-              15
+              16
               (List._∷_ (Syntax.field 1) List.[])
               8
               λ x. RoutePlace.struct .as-values
@@ -12574,13 +14500,13 @@ module _ (claims· : Claims) where
         ),
       ),
     ),
-  ) 25 (List._∷_ 10 (List._∷_ 11 (List._∷_ 5 List.[]))) Syntax.tyUnit
+  ) 26 (List._∷_ 10 (List._∷_ 11 (List._∷_ 5 List.[]))) Syntax.tyUnit
 
-  abbrev s36 : Typed.Mo T38 → Typed.Mo T39
-  s36 =
+  abbrev s38 : Typed.Mo T40 → Typed.Mo T41
+  s38 =
       Scalar.n-room
-      T38
-      14
+      T40
+      15
       (Syntax.tyStruct
       (List._∷_
       112
@@ -12605,11 +14531,11 @@ module _ (claims· : Claims) where
       (Syntax.tyInt Syntax.w64)
       (Syntax.tcons (Syntax.tyInt Syntax.w64) Syntax.tnil))))
 
-  abbrev s37 : Typed.Mo T39 → Typed.Mo T40
-  s37 =
+  abbrev s39 : Typed.Mo T41 → Typed.Mo T42
+  s39 =
       Scalar.n-room
-      T39
-      15
+      T41
+      16
       (Syntax.tyStruct
       (List._∷_
       112
@@ -12638,15 +14564,15 @@ module _ (claims· : Claims) where
       (List._∷_ 80 (List._∷_ 108 (List._∷_ 97 (List._∷_ 99 (List._∷_ 101 List.[])))))))))))))))))
       (Syntax.tcons Syntax.tyBool (Syntax.tcons (Syntax.tyInt Syntax.w64) Syntax.tnil)))
 
-  abbrev s38 : Typed.Mo T40 → Typed.Mo T41
-  s38 = Scalar.n-room T40 25 Syntax.tyUnit
+  abbrev s40 : Typed.Mo T42 → Typed.Mo T43
+  s40 = Scalar.n-room T42 26 Syntax.tyUnit
 
-  abbrev s40 : Typed.Both T41 T43
-  s40 =
+  abbrev s42 : Typed.Both T43 T45
+  s42 =
       Relend.k-back-sl
       (KInstanceRow.R)
-      T41
-      27
+      T43
+      28
       1
       0
       10
@@ -12656,12 +14582,12 @@ module _ (claims· : Claims) where
       (λ x. x)
       λ x. x
 
-  abbrev s43 : Typed.Both T43 T46
-  s43 =
+  abbrev s45 : Typed.Both T45 T48
+  s45 =
       Relend.k-back-sl
       (KRouteRow.R)
-      T43
-      29
+      T45
+      30
       2
       1
       11
@@ -12671,13 +14597,13 @@ module _ (claims· : Claims) where
       (λ x. x)
       λ x. x
 
-  abbrev s46 : Typed.Gives T46 T49
-  s46 =
+  abbrev s48 : Typed.Gives T48 T51
+  s48 =
       Relend.k-sl-relend
       (Referent.rtF (Referent.fInt Syntax.w8))
-      T46
+      T48
       3
-      30
+      31
       2
       12
       (Syntax.tyRef (Syntax.named 2) Syntax.mut (Syntax.tyInt Syntax.w8))
@@ -12685,14 +14611,14 @@ module _ (claims· : Claims) where
       Row.off
       λ x. x
 
-  abbrev s47 : Typed.Asks T49 T50
-  s47 =
+  abbrev s49 : Typed.Asks T51 T52
+  s49 =
       Relend.k-sl-aggregate
       (Referent.rtF (Referent.fInt Syntax.w8))
       (Relend.asMut (Referent.rtF (Referent.fInt Syntax.w8)))
-      T49
-      30
+      T51
       31
+      32
       12
       (Syntax.tyRef Syntax.erased Syntax.mut (Syntax.tyInt Syntax.w8))
       (Syntax.tyRef Syntax.erased Syntax.mut (Syntax.tyInt Syntax.w8))
@@ -12705,15 +14631,30 @@ module _ (claims· : Claims) where
       λ v. Shared.lenV
       (v .0))
 
-  abbrev s48 : Typed.Both T50 T51
-  s48 = Call.callB ps·6 r·6 (claims· .12) (claims· .13) T50 (
+  abbrev s51 : Typed.Gives T52 T54
+  s51 =
+      Local.k-sc-share
+      T52
+      14
+      33
+      13
+      (KOwn.R)
+      (Syntax.tyRef Syntax.erased Syntax.imm (KOwn.named))
+      λ x. x
+
+  abbrev s52 : Typed.Both T54 T55
+  s52 = Call.callB ps·6 r·6 (claims· .12) (claims· .13) T54 (
     record {
-      pos = 31;
+      pos = 32;
       ty = Syntax.tyRef Syntax.erased Syntax.mut (Syntax.tyInt Syntax.w8);
       ref = λ x. x;
     },
     (
-      record { pos = 5; st = List.[]; d = 0; at = λ x. x },
+      record {
+        pos = 33;
+        ty = Syntax.tyRef Syntax.erased Syntax.imm (KOwn.named);
+        ref = λ x. x;
+      },
       (
         record {
           pos = 11;
@@ -12736,14 +14677,21 @@ module _ (claims· : Claims) where
         ),
       ),
     ),
-  ) 16 (List._∷_ 12 (List._∷_ 6 (List._∷_ 4 List.[]))) (Syntax.tyInt Syntax.w64)
+  ) 17 (List._∷_ 12 (List._∷_ 13 (List._∷_ 6 (List._∷_ 4 List.[])))) (Syntax.tyInt Syntax.w64)
 
-  abbrev s50 : Typed.Both T51 T53
-  s50 =
+  abbrev s53 : Typed.Mo T55 → Typed.Mo T56
+  s53 =
+      Scalar.n-room
+      T55
+      33
+      (Syntax.tyRef Syntax.erased Syntax.imm (KOwn.named))
+
+  abbrev s55 : Typed.Both T56 T58
+  s55 =
       Relend.k-back-sl
       (Referent.rtF (Referent.fInt Syntax.w8))
-      T51
-      31
+      T56
+      32
       3
       2
       12
@@ -12753,11 +14701,11 @@ module _ (claims· : Claims) where
       (λ x. x)
       λ x. x
 
-  abbrev s51 : Typed.Gives T53 T54
-  s51 =
+  abbrev s56 : Typed.Gives T58 T59
+  s56 =
       Know.k-sl-known
       (Referent.fInt Syntax.w8)
-      T53
+      T58
       3
       2
       (Syntax.tyRef (Syntax.named 2) Syntax.mut (Syntax.tyInt Syntax.w8))
@@ -12765,29 +14713,32 @@ module _ (claims· : Claims) where
       0
       λ x. x
 
-  abbrev s54 : Typed.Gives T54 T57
-  s54 =
+  abbrev s59 : Typed.Mo T59 → Typed.Mo T62
+  s59 = Local.n-back-shr T59 14 13 (KOwn.row) λ x. x
+
+  abbrev s62 : Typed.Gives T62 T65
+  s62 =
       Relend.k-sl-relend
       (Referent.rtF (Referent.fInt Syntax.w8))
-      T54
+      T62
       4
-      32
+      34
       3
-      13
+      14
       (Syntax.tyRef (Syntax.named 3) Syntax.mut (Syntax.tyInt Syntax.w8))
       (Syntax.tyRef Syntax.erased Syntax.mut (Syntax.tyInt Syntax.w8))
       Row.off
       λ x. x
 
-  abbrev s55 : Typed.Asks T57 T58
-  s55 =
+  abbrev s63 : Typed.Asks T65 T66
+  s63 =
       Relend.k-sl-aggregate
       (Referent.rtF (Referent.fInt Syntax.w8))
       (Relend.asMut (Referent.rtF (Referent.fInt Syntax.w8)))
-      T57
-      32
-      33
-      13
+      T65
+      34
+      35
+      14
       (Syntax.tyRef Syntax.erased Syntax.mut (Syntax.tyInt Syntax.w8))
       (Syntax.tyRef Syntax.erased Syntax.mut (Syntax.tyInt Syntax.w8))
       (λ x. x)
@@ -12799,15 +14750,30 @@ module _ (claims· : Claims) where
       λ v. Shared.lenV
       (v .0))
 
-  abbrev s56 : Typed.Both T58 T59
-  s56 = Call.callB ps·6 r·6 (claims· .12) (claims· .13) T58 (
+  abbrev s65 : Typed.Gives T66 T68
+  s65 =
+      Local.k-sc-share
+      T66
+      14
+      36
+      15
+      (KOwn.R)
+      (Syntax.tyRef Syntax.erased Syntax.imm (KOwn.named))
+      λ x. x
+
+  abbrev s66 : Typed.Both T68 T69
+  s66 = Call.callB ps·6 r·6 (claims· .12) (claims· .13) T68 (
     record {
-      pos = 33;
+      pos = 35;
       ty = Syntax.tyRef Syntax.erased Syntax.mut (Syntax.tyInt Syntax.w8);
       ref = λ x. x;
     },
     (
-      record { pos = 5; st = List.[]; d = 0; at = λ x. x },
+      record {
+        pos = 36;
+        ty = Syntax.tyRef Syntax.erased Syntax.imm (KOwn.named);
+        ref = λ x. x;
+      },
       (
         record {
           pos = 12;
@@ -12830,45 +14796,35 @@ module _ (claims· : Claims) where
         ),
       ),
     ),
-  ) 17 (List._∷_ 13 (List._∷_ 7 (List._∷_ 4 List.[]))) (Syntax.tyInt Syntax.w64)
+  ) 18 (List._∷_ 14 (List._∷_ 15 (List._∷_ 7 (List._∷_ 4 List.[])))) (Syntax.tyInt Syntax.w64)
 
-  abbrev s57 : Typed.Mo T59 → Typed.Mo T60
-  s57 =
+  abbrev s67 : Typed.Mo T69 → Typed.Mo T70
+  s67 =
       Scalar.n-room
-      T59
-      5
-      (Syntax.tyStruct
-      (List._∷_
-      111
-      (List._∷_
-      119
-      (List._∷_
-      110
-      (List._∷_ 58 (List._∷_ 58 (List._∷_ 79 (List._∷_ 119 (List._∷_ 110 List.[]))))))))
-      (Syntax.tcons
-      (Syntax.tyArray (Syntax.tyInt Syntax.w8) 16)
-      (Syntax.tcons (Syntax.tyArray (Syntax.tyInt Syntax.w8) 16) Syntax.tnil)))
+      T69
+      36
+      (Syntax.tyRef Syntax.erased Syntax.imm (KOwn.named))
 
-  abbrev s59 : Typed.Both T60 T62
-  s59 =
+  abbrev s69 : Typed.Both T70 T72
+  s69 =
       Relend.k-back-sl
       (Referent.rtF (Referent.fInt Syntax.w8))
-      T60
-      33
+      T70
+      35
       4
       3
-      13
+      14
       (Syntax.tyRef (Syntax.named 3) Syntax.mut (Syntax.tyInt Syntax.w8))
       (Syntax.tyRef Syntax.erased Syntax.mut (Syntax.tyInt Syntax.w8))
       Row.off
       (λ x. x)
       λ x. x
 
-  abbrev s60 : Typed.Gives T62 T63
-  s60 =
+  abbrev s70 : Typed.Gives T72 T73
+  s70 =
       Know.k-sl-known
       (Referent.fInt Syntax.w8)
-      T62
+      T72
       4
       3
       (Syntax.tyRef (Syntax.named 3) Syntax.mut (Syntax.tyInt Syntax.w8))
@@ -12876,12 +14832,18 @@ module _ (claims· : Claims) where
       0
       λ x. x
 
-  abbrev s62 : Typed.Gives T63 T65
-  s62 =
+  abbrev s73 : Typed.Mo T73 → Typed.Mo T76
+  s73 = Local.n-back-shr T73 14 15 (KOwn.row) λ x. x
+
+  abbrev s75 : Typed.Mo T76 → Typed.Mo T78
+  s75 = Scalar.n-room T76 14 (KOwn.spelled)
+
+  abbrev s76 : Typed.Gives T78 T79
+  s76 =
       DerefMove.k-ref-read-copy
-      T63
+      T78
       10
-      35
+      38
       5
       (KDecided.R)
       (Rows'.sref
@@ -12895,21 +14857,21 @@ module _ (claims· : Claims) where
       (λ x. x)
       λ x. Unit
 
-  abbrev s63 : Typed.Both T65 T66
-  s63 = Call.callB ps·7 r·7 (claims· .14) (claims· .15) T65 (
-    record { pos = 35; st = List.[]; d = 0; at = λ x. x },
+  abbrev s77 : Typed.Both T79 T80
+  s77 = Call.callB ps·7 r·7 (claims· .14) (claims· .15) T79 (
+    record { pos = 38; st = List.[]; d = 0; at = λ x. x },
     tt,
-  ) 34 List.[] (Syntax.tyInt Syntax.w8)
+  ) 37 List.[] (Syntax.tyInt Syntax.w8)
 
-  abbrev s64 : Typed.Mo T66 → Typed.Mo T67
-  s64 = Scalar.n-room T66 35 (KDecided.spelled)
+  abbrev s78 : Typed.Mo T80 → Typed.Mo T81
+  s78 = Scalar.n-room T80 38 (KDecided.spelled)
 
-  abbrev s65 : Typed.Gives T67 T68
-  s65 =
+  abbrev s79 : Typed.Gives T81 T82
+  s79 =
       DerefMove.k-ref-read-copy
-      T67
+      T81
       11
-      37
+      40
       6
       (KPost.R)
       (Rows'.sref
@@ -12923,12 +14885,12 @@ module _ (claims· : Claims) where
       (λ x. x)
       λ x. Unit
 
-  abbrev s66 : Typed.Both T68 T69
-  s66 = Call.callB ps·8 r·8 (claims· .16) (claims· .17) T68 (
-    record { pos = 37; st = List.[]; d = 0; at = λ x. x },
+  abbrev s80 : Typed.Both T82 T83
+  s80 = Call.callB ps·8 r·8 (claims· .16) (claims· .17) T82 (
+    record { pos = 40; st = List.[]; d = 0; at = λ x. x },
     tt,
   )
-      36
+      39
       List.[]
       (Syntax.tyStruct
       (List._∷_
@@ -12986,15 +14948,15 @@ module _ (claims· : Claims) where
       (Syntax.ttcons Syntax.tnil (Syntax.ttcons Syntax.tnil Syntax.ttnil)))))
       Syntax.tnil)))
 
-  abbrev s67 : Typed.Mo T69 → Typed.Mo T70
-  s67 = Scalar.n-room T69 37 (KPost.spelled)
+  abbrev s81 : Typed.Mo T83 → Typed.Mo T84
+  s81 = Scalar.n-room T83 40 (KPost.spelled)
 
-  abbrev s68 : Typed.Gives T70 T71
-  s68 =
+  abbrev s82 : Typed.Gives T84 T85
+  s82 =
       DerefMove.k-ref-read-copy
-      T70
+      T84
       12
-      39
+      42
       7
       (KPost.R)
       (Rows'.sref
@@ -13008,12 +14970,12 @@ module _ (claims· : Claims) where
       (λ x. x)
       λ x. Unit
 
-  abbrev s69 : Typed.Both T71 T72
-  s69 = Call.callB ps·8 r·8 (claims· .16) (claims· .17) T71 (
-    record { pos = 39; st = List.[]; d = 0; at = λ x. x },
+  abbrev s83 : Typed.Both T85 T86
+  s83 = Call.callB ps·8 r·8 (claims· .16) (claims· .17) T85 (
+    record { pos = 42; st = List.[]; d = 0; at = λ x. x },
     tt,
   )
-      38
+      41
       List.[]
       (Syntax.tyStruct
       (List._∷_
@@ -13071,17 +15033,17 @@ module _ (claims· : Claims) where
       (Syntax.ttcons Syntax.tnil (Syntax.ttcons Syntax.tnil Syntax.ttnil)))))
       Syntax.tnil)))
 
-  abbrev s70 : Typed.Mo T72 → Typed.Mo T73
-  s70 = Scalar.n-room T72 39 (KPost.spelled)
+  abbrev s84 : Typed.Mo T86 → Typed.Mo T87
+  s84 = Scalar.n-room T86 42 (KPost.spelled)
 
-  abbrev s71 : Typed.Both T73 T74
-  s71 = Call.callB ps·9 r·9 (claims· .18) (claims· .19) T73 (
-    Num.vAt 34 λ x. x,
+  abbrev s85 : Typed.Both T87 T88
+  s85 = Call.callB ps·9 r·9 (claims· .18) (claims· .19) T87 (
+    Num.vAt 37 λ x. x,
     (
-      record { pos = 36; st = List.[]; d = 0; at = λ x. x },
+      record { pos = 39; st = List.[]; d = 0; at = λ x. x },
       (
-        record { pos = 38; st = List.[]; d = 0; at = λ x. x },
-        (Num.vAt 8 λ x. x, (Num.vAt 16 λ x. x, (Num.vAt 17 λ x. x, tt))),
+        record { pos = 41; st = List.[]; d = 0; at = λ x. x },
+        (Num.vAt 8 λ x. x, (Num.vAt 17 λ x. x, (Num.vAt 18 λ x. x, tt))),
       ),
     ),
   )
@@ -13315,14 +15277,14 @@ module _ (claims· : Claims) where
       (Syntax.ttcons Syntax.tnil (Syntax.ttcons Syntax.tnil Syntax.ttnil)))))))))))))))))))
       (Syntax.tcons (Syntax.tyInt Syntax.w8) Syntax.tnil))))))
 
-  abbrev s72 : Typed.Mo T74 → Typed.Mo T75
-  s72 = Scalar.n-room T74 34 (Syntax.tyInt Syntax.w8)
+  abbrev s86 : Typed.Mo T88 → Typed.Mo T89
+  s86 = Scalar.n-room T88 37 (Syntax.tyInt Syntax.w8)
 
-  abbrev s73 : Typed.Mo T75 → Typed.Mo T76
-  s73 =
+  abbrev s87 : Typed.Mo T89 → Typed.Mo T90
+  s87 =
       Scalar.n-room
-      T75
-      36
+      T89
+      39
       (Syntax.tyStruct
       (List._∷_
       97
@@ -13379,11 +15341,11 @@ module _ (claims· : Claims) where
       (Syntax.ttcons Syntax.tnil (Syntax.ttcons Syntax.tnil Syntax.ttnil)))))
       Syntax.tnil)))
 
-  abbrev s74 : Typed.Mo T76 → Typed.Mo T77
-  s74 =
+  abbrev s88 : Typed.Mo T90 → Typed.Mo T91
+  s88 =
       Scalar.n-room
-      T76
-      38
+      T90
+      41
       (Syntax.tyStruct
       (List._∷_
       97
@@ -13440,43 +15402,29 @@ module _ (claims· : Claims) where
       (Syntax.ttcons Syntax.tnil (Syntax.ttcons Syntax.tnil Syntax.ttnil)))))
       Syntax.tnil)))
 
-  abbrev s75 : Typed.Mo T77 → Typed.Mo T78
-  s75 = Scalar.n-room T77 6 (Syntax.tyInt Syntax.w64)
+  abbrev s89 : Typed.Mo T91 → Typed.Mo T92
+  s89 = Scalar.n-room T91 6 (Syntax.tyInt Syntax.w64)
 
-  abbrev s76 : Typed.Mo T78 → Typed.Mo T79
-  s76 = Scalar.n-room T78 7 (Syntax.tyInt Syntax.w8)
+  abbrev s90 : Typed.Mo T92 → Typed.Mo T93
+  s90 = Scalar.n-room T92 7 (Syntax.tyInt Syntax.w8)
 
-  abbrev s77 : Typed.Mo T79 → Typed.Mo T80
-  s77 = Scalar.n-room T79 8 (Syntax.tyInt Syntax.w64)
+  abbrev s91 : Typed.Mo T93 → Typed.Mo T94
+  s91 = Scalar.n-room T93 8 (Syntax.tyInt Syntax.w64)
 
-  abbrev s78 : Typed.Mo T80 → Typed.Mo T81
-  s78 = Scalar.n-room T80 16 (Syntax.tyInt Syntax.w64)
+  abbrev s92 : Typed.Mo T94 → Typed.Mo T95
+  s92 = Scalar.n-room T94 17 (Syntax.tyInt Syntax.w64)
 
-  abbrev s79 : Typed.Mo T81 → Typed.Mo T82
-  s79 = Scalar.n-room T81 17 (Syntax.tyInt Syntax.w64)
+  abbrev s93 : Typed.Mo T95 → Typed.Mo T96
+  s93 = Scalar.n-room T95 18 (Syntax.tyInt Syntax.w64)
 
-  abbrev s80 : Typed.Mo T29 → Typed.Mo T83
-  s80 =
+  abbrev s94 : Typed.Mo T31 → Typed.Mo T97
+  s94 = Scalar.n-room T31 14 (KOwn.spelled)
+
+  abbrev s95 : Typed.Mo T97 → Typed.Mo T98
+  s95 =
       Scalar.n-room
-      T29
-      5
-      (Syntax.tyStruct
-      (List._∷_
-      111
-      (List._∷_
-      119
-      (List._∷_
-      110
-      (List._∷_ 58 (List._∷_ 58 (List._∷_ 79 (List._∷_ 119 (List._∷_ 110 List.[]))))))))
-      (Syntax.tcons
-      (Syntax.tyArray (Syntax.tyInt Syntax.w8) 16)
-      (Syntax.tcons (Syntax.tyArray (Syntax.tyInt Syntax.w8) 16) Syntax.tnil)))
-
-  abbrev s81 : Typed.Mo T83 → Typed.Mo T84
-  s81 =
-      Scalar.n-room
-      T83
-      14
+      T97
+      15
       (Syntax.tyStruct
       (List._∷_
       112
@@ -13501,11 +15449,11 @@ module _ (claims· : Claims) where
       (Syntax.tyInt Syntax.w64)
       (Syntax.tcons (Syntax.tyInt Syntax.w64) Syntax.tnil))))
 
-  abbrev s82 : Typed.Mo T84 → Typed.Mo T85
-  s82 =
+  abbrev s96 : Typed.Mo T98 → Typed.Mo T99
+  s96 =
       Scalar.n-room
-      T84
-      15
+      T98
+      16
       (Syntax.tyStruct
       (List._∷_
       112
@@ -13534,11 +15482,11 @@ module _ (claims· : Claims) where
       (List._∷_ 80 (List._∷_ 108 (List._∷_ 97 (List._∷_ 99 (List._∷_ 101 List.[])))))))))))))))))
       (Syntax.tcons Syntax.tyBool (Syntax.tcons (Syntax.tyInt Syntax.w64) Syntax.tnil)))
 
-  abbrev s83 : Typed.Mo T85 → Typed.Mo T86
-  s83 = Scalar.n-room T85 24 Syntax.tyBool
+  abbrev s97 : Typed.Mo T99 → Typed.Mo T100
+  s97 = Scalar.n-room T99 25 Syntax.tyBool
 
-  abbrev s84 : Typed.Both T30 T87
-  s84 = Call.callB ps·10 r·10 (claims· .20) (claims· .21) T30 (
+  abbrev s98 : Typed.Both T32 T101
+  s98 = Call.callB ps·10 r·10 (claims· .20) (claims· .21) T32 (
     Num.vAt 6 λ x. x,
     (Num.vAt 7 λ x. x, tt),
   )
@@ -13772,14 +15720,14 @@ module _ (claims· : Claims) where
       (Syntax.ttcons Syntax.tnil (Syntax.ttcons Syntax.tnil Syntax.ttnil)))))))))))))))))))
       (Syntax.tcons (Syntax.tyInt Syntax.w8) Syntax.tnil))))))
 
-  abbrev s85 : Typed.Mo T87 → Typed.Mo T88
-  s85 = Scalar.n-room T87 6 (Syntax.tyInt Syntax.w64)
+  abbrev s99 : Typed.Mo T101 → Typed.Mo T102
+  s99 = Scalar.n-room T101 6 (Syntax.tyInt Syntax.w64)
 
-  abbrev s86 : Typed.Mo T88 → Typed.Mo T89
-  s86 = Scalar.n-room T88 7 (Syntax.tyInt Syntax.w8)
+  abbrev s100 : Typed.Mo T102 → Typed.Mo T103
+  s100 = Scalar.n-room T102 7 (Syntax.tyInt Syntax.w8)
 
-  abbrev s87 : Typed.Mo T89 → Typed.Mo T90
-  s87 = Scalar.n-room T89 8 (Syntax.tyInt Syntax.w64)
+  abbrev s101 : Typed.Mo T103 → Typed.Mo T104
+  s101 = Scalar.n-room T103 8 (Syntax.tyInt Syntax.w64)
 
   module _ (Pre· : (κs : Lifetimes.Lfts 8) → Kinds.Dens κs ps → Type 0)
       (Post· : (κs : Lifetimes.Lfts 8) → (a : Kinds.Dens κs ps) → Kinds.Plain 8 ps r κs) where
@@ -13793,7 +15741,7 @@ module _ (claims· : Claims) where
           (claims· .5) "finish::is_routed") (known3 : Plain.Known 𝓤 H A W 𝓣 1 ps·3 r·3 (claims· .6)
           (claims· .7) "place::place_route") (known4 : Plain.Known 𝓤 H A W 𝓣 0 ps·4 r·4
           (claims· .8) (claims· .9) "finish::has_room") (known5 : Plain.Known 𝓤 H A W 𝓣 3 ps·5 r·5
-          (claims· .10) (claims· .11) "finish::store") (known6 : Plain.Known 𝓤 H A W 𝓣 3 ps·6 r·6
+          (claims· .10) (claims· .11) "finish::store") (known6 : Plain.Known 𝓤 H A W 𝓣 4 ps·6 r·6
           (claims· .12) (claims· .13) "post::put_post") (known7 : Plain.Known 𝓤 H A W 𝓣 0 ps·7 r·7
           (claims· .14) (claims· .15) "finish::own_of") (known8 : Plain.Known 𝓤 H A W 𝓣 0 ps·8 r·8
           (claims· .16) (claims· .17) "finish::to_of") (known9 : Plain.Known 𝓤 H A W 𝓣 0 ps·9 r·9
@@ -13803,287 +15751,329 @@ module _ (claims· : Claims) where
           Post·)
 
     module _ where
-      abbrev at0 : Typed.TF T82 O1
+      abbrev at0 : Typed.TF T96 O1
       at0 = Typed.atRet O1
 
-      abbrev at1 : Typed.TF T81 O1
-      at1 = λ Ψ. Typed.pass T81 T82 s79 (at0 Ψ)
+      abbrev at1 : Typed.TF T95 O1
+      at1 = λ Ψ. Typed.pass T95 T96 s93 (at0 Ψ)
 
-      abbrev at2 : Typed.TF T80 O1
-      at2 = λ Ψ. Typed.pass T80 T81 s78 (at1 Ψ)
+      abbrev at2 : Typed.TF T94 O1
+      at2 = λ Ψ. Typed.pass T94 T95 s92 (at1 Ψ)
 
-      abbrev at3 : Typed.TF T79 O1
-      at3 = λ Ψ. Typed.pass T79 T80 s77 (at2 Ψ)
+      abbrev at3 : Typed.TF T93 O1
+      at3 = λ Ψ. Typed.pass T93 T94 s91 (at2 Ψ)
 
-      abbrev at4 : Typed.TF T78 O1
-      at4 = λ Ψ. Typed.pass T78 T79 s76 (at3 Ψ)
+      abbrev at4 : Typed.TF T92 O1
+      at4 = λ Ψ. Typed.pass T92 T93 s90 (at3 Ψ)
 
-      abbrev at5 : Typed.TF T77 O1
-      at5 = λ Ψ. Typed.pass T77 T78 s75 (at4 Ψ)
+      abbrev at5 : Typed.TF T91 O1
+      at5 = λ Ψ. Typed.pass T91 T92 s89 (at4 Ψ)
 
-      abbrev at6 : Typed.TF T76 O1
-      at6 = λ Ψ. Typed.pass T76 T77 s74 (at5 Ψ)
+      abbrev at6 : Typed.TF T90 O1
+      at6 = λ Ψ. Typed.pass T90 T91 s88 (at5 Ψ)
 
-      abbrev at7 : Typed.TF T75 O1
-      at7 = λ Ψ. Typed.pass T75 T76 s73 (at6 Ψ)
+      abbrev at7 : Typed.TF T89 O1
+      at7 = λ Ψ. Typed.pass T89 T90 s87 (at6 Ψ)
 
-      abbrev at8 : Typed.TF T74 O1
-      at8 = λ Ψ. Typed.pass T74 T75 s72 (at7 Ψ)
+      abbrev at8 : Typed.TF T88 O1
+      at8 = λ Ψ. Typed.pass T88 T89 s86 (at7 Ψ)
 
-      abbrev at9 : Typed.TF T73 O1
-      at9 = λ Ψ. Typed.both s71 (at8 Ψ)
+      abbrev at9 : Typed.TF T87 O1
+      at9 = λ Ψ. Typed.both s85 (at8 Ψ)
 
-      abbrev at10 : Typed.TF T72 O1
-      at10 = λ Ψ. Typed.pass T72 T73 s70 (at9 Ψ)
+      abbrev at10 : Typed.TF T86 O1
+      at10 = λ Ψ. Typed.pass T86 T87 s84 (at9 Ψ)
 
-      abbrev at11 : Typed.TF T71 O1
-      at11 = λ Ψ. Typed.both s69 (at10 Ψ)
+      abbrev at11 : Typed.TF T85 O1
+      at11 = λ Ψ. Typed.both s83 (at10 Ψ)
 
-      abbrev at12 : Typed.TF T70 O1
-      at12 = λ Ψ. Typed.give s68 (at11 Ψ)
+      abbrev at12 : Typed.TF T84 O1
+      at12 = λ Ψ. Typed.give s82 (at11 Ψ)
 
-      abbrev at13 : Typed.TF T69 O1
-      at13 = λ Ψ. Typed.pass T69 T70 s67 (at12 Ψ)
+      abbrev at13 : Typed.TF T83 O1
+      at13 = λ Ψ. Typed.pass T83 T84 s81 (at12 Ψ)
 
-      abbrev at14 : Typed.TF T68 O1
-      at14 = λ Ψ. Typed.both s66 (at13 Ψ)
+      abbrev at14 : Typed.TF T82 O1
+      at14 = λ Ψ. Typed.both s80 (at13 Ψ)
 
-      abbrev at15 : Typed.TF T67 O1
-      at15 = λ Ψ. Typed.give s65 (at14 Ψ)
+      abbrev at15 : Typed.TF T81 O1
+      at15 = λ Ψ. Typed.give s79 (at14 Ψ)
 
-      abbrev at16 : Typed.TF T66 O1
-      at16 = λ Ψ. Typed.pass T66 T67 s64 (at15 Ψ)
+      abbrev at16 : Typed.TF T80 O1
+      at16 = λ Ψ. Typed.pass T80 T81 s78 (at15 Ψ)
 
-      abbrev at17 : Typed.TF T65 O1
-      at17 = λ Ψ. Typed.both s63 (at16 Ψ)
+      abbrev at17 : Typed.TF T79 O1
+      at17 = λ Ψ. Typed.both s77 (at16 Ψ)
 
-      abbrev at18 : Typed.TF T63 O1
-      at18 = λ Ψ. Typed.give s62 (at17 Ψ)
+      abbrev at18 : Typed.TF T78 O1
+      at18 = λ Ψ. Typed.give s76 (at17 Ψ)
 
-      abbrev at19 : Typed.TF T63 O1
-      at19 = λ Ψ. at18 Ψ
+      abbrev at19 : Typed.TF T76 O1
+      at19 = λ Ψ. Typed.pass T76 T78 s75 (at18 Ψ)
 
-      abbrev at20 : Typed.TF T62 O1
-      at20 = λ Ψ. Typed.give s60 (at19 Ψ)
+      abbrev at20 : Typed.TF T76 O1
+      at20 = λ Ψ. at19 Ψ
 
-      abbrev at21 : Typed.TF T60 O1
-      at21 = λ Ψ. Typed.both s59 (at20 Ψ)
+      abbrev at21 : Typed.TF T73 O1
+      at21 = λ Ψ. Typed.pass T73 T76 s73 (at20 Ψ)
 
-      abbrev at22 : Typed.TF T60 O1
+      abbrev at22 : Typed.TF T73 O1
       at22 = λ Ψ. at21 Ψ
 
-      abbrev at23 : Typed.TF T59 O1
-      at23 = λ Ψ. Typed.pass T59 T60 s57 (at22 Ψ)
+      abbrev at23 : Typed.TF T73 O1
+      at23 = λ Ψ. at22 Ψ
 
-      abbrev at24 : Typed.TF T58 O1
-      at24 = λ Ψ. Typed.both s56 (at23 Ψ)
+      abbrev at24 : Typed.TF T72 O1
+      at24 = λ Ψ. Typed.give s70 (at23 Ψ)
 
-      abbrev at25 : Typed.TF T57 O1
-      at25 = λ Ψ. Typed.ask s55 (at24 Ψ)
+      abbrev at25 : Typed.TF T70 O1
+      at25 = λ Ψ. Typed.both s69 (at24 Ψ)
 
-      abbrev at26 : Typed.TF T54 O1
-      at26 = λ Ψ. Typed.give s54 (at25 Ψ)
+      abbrev at26 : Typed.TF T70 O1
+      at26 = λ Ψ. at25 Ψ
 
-      abbrev at27 : Typed.TF T54 O1
-      at27 = λ Ψ. at26 Ψ
+      abbrev at27 : Typed.TF T69 O1
+      at27 = λ Ψ. Typed.pass T69 T70 s67 (at26 Ψ)
 
-      abbrev at28 : Typed.TF T54 O1
-      at28 = λ Ψ. at27 Ψ
+      abbrev at28 : Typed.TF T68 O1
+      at28 = λ Ψ. Typed.both s66 (at27 Ψ)
 
-      abbrev at29 : Typed.TF T53 O1
-      at29 = λ Ψ. Typed.give s51 (at28 Ψ)
+      abbrev at29 : Typed.TF T66 O1
+      at29 = λ Ψ. Typed.give s65 (at28 Ψ)
 
-      abbrev at30 : Typed.TF T51 O1
-      at30 = λ Ψ. Typed.both s50 (at29 Ψ)
+      abbrev at30 : Typed.TF T66 O1
+      at30 = λ Ψ. at29 Ψ
 
-      abbrev at31 : Typed.TF T51 O1
-      at31 = λ Ψ. at30 Ψ
+      abbrev at31 : Typed.TF T65 O1
+      at31 = λ Ψ. Typed.ask s63 (at30 Ψ)
 
-      abbrev at32 : Typed.TF T50 O1
-      at32 = λ Ψ. Typed.both s48 (at31 Ψ)
+      abbrev at32 : Typed.TF T62 O1
+      at32 = λ Ψ. Typed.give s62 (at31 Ψ)
 
-      abbrev at33 : Typed.TF T49 O1
-      at33 = λ Ψ. Typed.ask s47 (at32 Ψ)
+      abbrev at33 : Typed.TF T62 O1
+      at33 = λ Ψ. at32 Ψ
 
-      abbrev at34 : Typed.TF T46 O1
-      at34 = λ Ψ. Typed.give s46 (at33 Ψ)
+      abbrev at34 : Typed.TF T62 O1
+      at34 = λ Ψ. at33 Ψ
 
-      abbrev at35 : Typed.TF T46 O1
-      at35 = λ Ψ. at34 Ψ
+      abbrev at35 : Typed.TF T59 O1
+      at35 = λ Ψ. Typed.pass T59 T62 s59 (at34 Ψ)
 
-      abbrev at36 : Typed.TF T46 O1
+      abbrev at36 : Typed.TF T59 O1
       at36 = λ Ψ. at35 Ψ
 
-      abbrev at37 : Typed.TF T43 O1
-      at37 = λ Ψ. Typed.both s43 (at36 Ψ)
+      abbrev at37 : Typed.TF T59 O1
+      at37 = λ Ψ. at36 Ψ
 
-      abbrev at38 : Typed.TF T43 O1
-      at38 = λ Ψ. at37 Ψ
+      abbrev at38 : Typed.TF T58 O1
+      at38 = λ Ψ. Typed.give s56 (at37 Ψ)
 
-      abbrev at39 : Typed.TF T43 O1
-      at39 = λ Ψ. at38 Ψ
+      abbrev at39 : Typed.TF T56 O1
+      at39 = λ Ψ. Typed.both s55 (at38 Ψ)
 
-      abbrev at40 : Typed.TF T41 O1
-      at40 = λ Ψ. Typed.both s40 (at39 Ψ)
+      abbrev at40 : Typed.TF T56 O1
+      at40 = λ Ψ. at39 Ψ
 
-      abbrev at41 : Typed.TF T41 O1
-      at41 = λ Ψ. at40 Ψ
+      abbrev at41 : Typed.TF T55 O1
+      at41 = λ Ψ. Typed.pass T55 T56 s53 (at40 Ψ)
 
-      abbrev at42 : Typed.TF T40 O1
-      at42 = λ Ψ. Typed.pass T40 T41 s38 (at41 Ψ)
+      abbrev at42 : Typed.TF T54 O1
+      at42 = λ Ψ. Typed.both s52 (at41 Ψ)
 
-      abbrev at43 : Typed.TF T39 O1
-      at43 = λ Ψ. Typed.pass T39 T40 s37 (at42 Ψ)
+      abbrev at43 : Typed.TF T52 O1
+      at43 = λ Ψ. Typed.give s51 (at42 Ψ)
 
-      abbrev at44 : Typed.TF T38 O1
-      at44 = λ Ψ. Typed.pass T38 T39 s36 (at43 Ψ)
+      abbrev at44 : Typed.TF T52 O1
+      at44 = λ Ψ. at43 Ψ
 
-      abbrev at45 : Typed.TF T37 O1
-      at45 = λ Ψ. Typed.both s35 (at44 Ψ)
+      abbrev at45 : Typed.TF T51 O1
+      at45 = λ Ψ. Typed.ask s49 (at44 Ψ)
 
-      abbrev at46 : Typed.TF T36 O1
-      at46 = λ Ψ. Typed.ask s34 (at45 Ψ)
+      abbrev at46 : Typed.TF T48 O1
+      at46 = λ Ψ. Typed.give s48 (at45 Ψ)
 
-      abbrev at47 : Typed.TF T34 O1
-      at47 = λ Ψ. Typed.give s33 (at46 Ψ)
+      abbrev at47 : Typed.TF T48 O1
+      at47 = λ Ψ. at46 Ψ
 
-      abbrev at48 : Typed.TF T34 O1
+      abbrev at48 : Typed.TF T48 O1
       at48 = λ Ψ. at47 Ψ
 
-      abbrev at49 : Typed.TF T33 O1
-      at49 = λ Ψ. Typed.ask s31 (at48 Ψ)
+      abbrev at49 : Typed.TF T45 O1
+      at49 = λ Ψ. Typed.both s45 (at48 Ψ)
 
-      abbrev at50 : Typed.TF T31 O1
-      at50 = λ Ψ. Typed.give s30 (at49 Ψ)
+      abbrev at50 : Typed.TF T45 O1
+      at50 = λ Ψ. at49 Ψ
 
-      abbrev at51 : Typed.TF T31 O1
+      abbrev at51 : Typed.TF T45 O1
       at51 = λ Ψ. at50 Ψ
 
-      abbrev at52 : Typed.TF T29 O1
-      at52 = λ Ψ. Typed.pass T29 T31 s28 (at51 Ψ)
+      abbrev at52 : Typed.TF T43 O1
+      at52 = λ Ψ. Typed.both s42 (at51 Ψ)
 
-      abbrev at53 : Typed.TF T86 O1
-      at53 = Typed.atNext O1
+      abbrev at53 : Typed.TF T43 O1
+      at53 = λ Ψ. at52 Ψ
 
-      abbrev at54 : Typed.TF T85 O1
-      at54 = λ Ψ. Typed.pass T85 T86 s83 (at53 Ψ)
+      abbrev at54 : Typed.TF T42 O1
+      at54 = λ Ψ. Typed.pass T42 T43 s40 (at53 Ψ)
 
-      abbrev at55 : Typed.TF T84 O1
-      at55 = λ Ψ. Typed.pass T84 T85 s82 (at54 Ψ)
+      abbrev at55 : Typed.TF T41 O1
+      at55 = λ Ψ. Typed.pass T41 T42 s39 (at54 Ψ)
 
-      abbrev at56 : Typed.TF T83 O1
-      at56 = λ Ψ. Typed.pass T83 T84 s81 (at55 Ψ)
+      abbrev at56 : Typed.TF T40 O1
+      at56 = λ Ψ. Typed.pass T40 T41 s38 (at55 Ψ)
 
-      abbrev at57 : Typed.TF T29 O1
-      at57 = λ Ψ. Typed.pass T29 T83 s80 (at56 Ψ)
+      abbrev at57 : Typed.TF T39 O1
+      at57 = λ Ψ. Typed.both s37 (at56 Ψ)
 
-      abbrev at58 : Typed.TF T29 O1
-      at58 = Scalar.Φcond T29 O1 24 (λ x. x) at52 at57
+      abbrev at58 : Typed.TF T38 O1
+      at58 = λ Ψ. Typed.ask s36 (at57 Ψ)
 
-      abbrev at59 : Typed.TF T90 O0
-      at59 = Typed.atRet O0
+      abbrev at59 : Typed.TF T36 O1
+      at59 = λ Ψ. Typed.give s35 (at58 Ψ)
 
-      abbrev at60 : Typed.TF T89 O0
-      at60 = λ Ψ. Typed.pass T89 T90 s87 (at59 Ψ)
+      abbrev at60 : Typed.TF T36 O1
+      at60 = λ Ψ. at59 Ψ
 
-      abbrev at61 : Typed.TF T88 O0
-      at61 = λ Ψ. Typed.pass T88 T89 s86 (at60 Ψ)
+      abbrev at61 : Typed.TF T35 O1
+      at61 = λ Ψ. Typed.ask s33 (at60 Ψ)
 
-      abbrev at62 : Typed.TF T87 O0
-      at62 = λ Ψ. Typed.pass T87 T88 s85 (at61 Ψ)
+      abbrev at62 : Typed.TF T33 O1
+      at62 = λ Ψ. Typed.give s32 (at61 Ψ)
 
-      abbrev at63 : Typed.TF T30 O0
-      at63 = λ Ψ. Typed.both s84 (at62 Ψ)
+      abbrev at63 : Typed.TF T33 O1
+      at63 = λ Ψ. at62 Ψ
 
-      abbrev at64 : Typed.TF T29 O0
-      at64 = λ Ψ. at58 (Typed.wantNext T30 O0 (at63 Ψ) Ψ)
+      abbrev at64 : Typed.TF T31 O1
+      at64 = λ Ψ. Typed.pass T31 T33 s30 (at63 Ψ)
 
-      abbrev at65 : Typed.TF T27 O0
-      at65 = λ Ψ. Typed.both s27 (at64 Ψ)
+      abbrev at65 : Typed.TF T100 O1
+      at65 = Typed.atNext O1
 
-      abbrev at66 : Typed.TF T27 O0
-      at66 = λ Ψ. at65 Ψ
+      abbrev at66 : Typed.TF T99 O1
+      at66 = λ Ψ. Typed.pass T99 T100 s97 (at65 Ψ)
 
-      abbrev at67 : Typed.TF T25 O0
-      at67 = λ Ψ. Typed.pass T25 T27 s25 (at66 Ψ)
+      abbrev at67 : Typed.TF T98 O1
+      at67 = λ Ψ. Typed.pass T98 T99 s96 (at66 Ψ)
 
-      abbrev at68 : Typed.TF T25 O0
-      at68 = λ Ψ. at67 Ψ
+      abbrev at68 : Typed.TF T97 O1
+      at68 = λ Ψ. Typed.pass T97 T98 s95 (at67 Ψ)
 
-      abbrev at69 : Typed.TF T24 O0
-      at69 = λ Ψ. Typed.pass T24 T25 s23 (at68 Ψ)
+      abbrev at69 : Typed.TF T31 O1
+      at69 = λ Ψ. Typed.pass T31 T97 s94 (at68 Ψ)
 
-      abbrev at70 : Typed.TF T23 O0
-      at70 = λ Ψ. Typed.pass T23 T24 s22 (at69 Ψ)
+      abbrev at70 : Typed.TF T31 O1
+      at70 = Scalar.Φcond T31 O1 25 (λ x. x) at64 at69
 
-      abbrev at71 : Typed.TF T22 O0
-      at71 = λ Ψ. Typed.pass T22 T23 s21 (at70 Ψ)
+      abbrev at71 : Typed.TF T104 O0
+      at71 = Typed.atRet O0
 
-      abbrev at72 : Typed.TF T21 O0
-      at72 = λ Ψ. Typed.both s20 (at71 Ψ)
+      abbrev at72 : Typed.TF T103 O0
+      at72 = λ Ψ. Typed.pass T103 T104 s101 (at71 Ψ)
 
-      abbrev at73 : Typed.TF T20 O0
-      at73 = λ Ψ. Typed.pass T20 T21 s19 (at72 Ψ)
+      abbrev at73 : Typed.TF T102 O0
+      at73 = λ Ψ. Typed.pass T102 T103 s100 (at72 Ψ)
 
-      abbrev at74 : Typed.TF T19 O0
-      at74 = λ Ψ. Typed.both s18 (at73 Ψ)
+      abbrev at74 : Typed.TF T101 O0
+      at74 = λ Ψ. Typed.pass T101 T102 s99 (at73 Ψ)
 
-      abbrev at75 : Typed.TF T18 O0
-      at75 = λ Ψ. Typed.give s17 (at74 Ψ)
+      abbrev at75 : Typed.TF T32 O0
+      at75 = λ Ψ. Typed.both s98 (at74 Ψ)
 
-      abbrev at76 : Typed.TF T17 O0
-      at76 = λ Ψ. Typed.ask s16 (at75 Ψ)
+      abbrev at76 : Typed.TF T31 O0
+      at76 = λ Ψ. at70 (Typed.wantNext T32 O0 (at75 Ψ) Ψ)
 
-      abbrev at77 : Typed.TF T14 O0
-      at77 = λ Ψ. Typed.give s15 (at76 Ψ)
+      abbrev at77 : Typed.TF T29 O0
+      at77 = λ Ψ. Typed.both s29 (at76 Ψ)
 
-      abbrev at78 : Typed.TF T14 O0
+      abbrev at78 : Typed.TF T29 O0
       at78 = λ Ψ. at77 Ψ
 
-      abbrev at79 : Typed.TF T14 O0
-      at79 = λ Ψ. at78 Ψ
+      abbrev at79 : Typed.TF T27 O0
+      at79 = λ Ψ. Typed.pass T27 T29 s27 (at78 Ψ)
 
-      abbrev at80 : Typed.TF T12 O0
-      at80 = λ Ψ. Typed.pass T12 T14 s12 (at79 Ψ)
+      abbrev at80 : Typed.TF T27 O0
+      at80 = λ Ψ. at79 Ψ
 
-      abbrev at81 : Typed.TF T12 O0
-      at81 = λ Ψ. at80 Ψ
+      abbrev at81 : Typed.TF T26 O0
+      at81 = λ Ψ. Typed.pass T26 T27 s25 (at80 Ψ)
 
-      abbrev at82 : Typed.TF T11 O0
-      at82 = λ Ψ. Typed.pass T11 T12 s10 (at81 Ψ)
+      abbrev at82 : Typed.TF T25 O0
+      at82 = λ Ψ. Typed.pass T25 T26 s24 (at81 Ψ)
 
-      abbrev at83 : Typed.TF T10 O0
-      at83 = λ Ψ. Typed.pass T10 T11 s9 (at82 Ψ)
+      abbrev at83 : Typed.TF T24 O0
+      at83 = λ Ψ. Typed.pass T24 T25 s23 (at82 Ψ)
 
-      abbrev at84 : Typed.TF T9 O0
-      at84 = λ Ψ. Typed.both s8 (at83 Ψ)
+      abbrev at84 : Typed.TF T23 O0
+      at84 = λ Ψ. Typed.both s22 (at83 Ψ)
 
-      abbrev at85 : Typed.TF T8 O0
-      at85 = λ Ψ. Typed.pass T8 T9 s7 (at84 Ψ)
+      abbrev at85 : Typed.TF T22 O0
+      at85 = λ Ψ. Typed.pass T22 T23 s21 (at84 Ψ)
 
-      abbrev at86 : Typed.TF T7 O0
-      at86 = λ Ψ. Typed.both s6 (at85 Ψ)
+      abbrev at86 : Typed.TF T21 O0
+      at86 = λ Ψ. Typed.both s20 (at85 Ψ)
 
-      abbrev at87 : Typed.TF T6 O0
-      at87 = λ Ψ. Typed.give s5 (at86 Ψ)
+      abbrev at87 : Typed.TF T20 O0
+      at87 = λ Ψ. Typed.give s19 (at86 Ψ)
 
-      abbrev at88 : Typed.TF T5 O0
-      at88 = λ Ψ. Typed.ask s4 (at87 Ψ)
+      abbrev at88 : Typed.TF T19 O0
+      at88 = λ Ψ. Typed.ask s18 (at87 Ψ)
 
-      abbrev at89 : Typed.TF T3 O0
-      at89 = λ Ψ. Typed.give s3 (at88 Ψ)
+      abbrev at89 : Typed.TF T16 O0
+      at89 = λ Ψ. Typed.give s17 (at88 Ψ)
 
-      abbrev at90 : Typed.TF T3 O0
+      abbrev at90 : Typed.TF T16 O0
       at90 = λ Ψ. at89 Ψ
 
-      abbrev at91 : Typed.TF T2 O0
-      at91 = λ Ψ. Typed.give s1 (at90 Ψ)
+      abbrev at91 : Typed.TF T16 O0
+      at91 = λ Ψ. at90 Ψ
 
-      abbrev at92 : Typed.TF T0 O0
-      at92 = λ Ψ. Typed.give s0 (at91 Ψ)
+      abbrev at92 : Typed.TF T14 O0
+      at92 = λ Ψ. Typed.pass T14 T16 s14 (at91 Ψ)
+
+      abbrev at93 : Typed.TF T14 O0
+      at93 = λ Ψ. at92 Ψ
+
+      abbrev at94 : Typed.TF T13 O0
+      at94 = λ Ψ. Typed.pass T13 T14 s12 (at93 Ψ)
+
+      abbrev at95 : Typed.TF T12 O0
+      at95 = λ Ψ. Typed.pass T12 T13 s11 (at94 Ψ)
+
+      abbrev at96 : Typed.TF T11 O0
+      at96 = λ Ψ. Typed.both s10 (at95 Ψ)
+
+      abbrev at97 : Typed.TF T10 O0
+      at97 = λ Ψ. Typed.pass T10 T11 s9 (at96 Ψ)
+
+      abbrev at98 : Typed.TF T9 O0
+      at98 = λ Ψ. Typed.both s8 (at97 Ψ)
+
+      abbrev at99 : Typed.TF T8 O0
+      at99 = λ Ψ. Typed.give s7 (at98 Ψ)
+
+      abbrev at100 : Typed.TF T7 O0
+      at100 = λ Ψ. Typed.ask s6 (at99 Ψ)
+
+      abbrev at101 : Typed.TF T5 O0
+      at101 = λ Ψ. Typed.give s5 (at100 Ψ)
+
+      abbrev at102 : Typed.TF T5 O0
+      at102 = λ Ψ. at101 Ψ
+
+      abbrev at103 : Typed.TF T4 O0
+      at103 = λ Ψ. Typed.pass T4 T5 s3 (at102 Ψ)
+
+      abbrev at104 : Typed.TF T3 O0
+      at104 = λ Ψ. Typed.pass T3 T4 s2 (at103 Ψ)
+
+      abbrev at105 : Typed.TF T2 O0
+      at105 = λ Ψ. Typed.give s1 (at104 Ψ)
+
+      abbrev at106 : Typed.TF T0 O0
+      at106 = λ Ψ. Typed.give s0 (at105 Ψ)
 
       abbrev pub Φ : Typed.TF T0 O0
-      Φ = at92
+      Φ = at106
 
       module _ {M : Type 1} (𝓤 : URA.URA M) (H : Wp.Heap 𝓤) (A : Atoms.Atoms 𝓤)
           (W : Kit.Given 𝓤 H A) (𝓣 : Wp.Tables 𝓤 H) where
@@ -14095,15 +16085,15 @@ module _ (claims· : Claims) where
             Plain.Known 𝓤 H A W 𝓣 1 ps·3 r·3 (claims· .6) (claims· .7) "place::place_route" ×
             Plain.Known 𝓤 H A W 𝓣 0 ps·4 r·4 (claims· .8) (claims· .9) "finish::has_room" ×
             Plain.Known 𝓤 H A W 𝓣 3 ps·5 r·5 (claims· .10) (claims· .11) "finish::store" ×
-            Plain.Known 𝓤 H A W 𝓣 3 ps·6 r·6 (claims· .12) (claims· .13) "post::put_post" ×
+            Plain.Known 𝓤 H A W 𝓣 4 ps·6 r·6 (claims· .12) (claims· .13) "post::put_post" ×
             Plain.Known 𝓤 H A W 𝓣 0 ps·7 r·7 (claims· .14) (claims· .15) "finish::own_of" ×
             Plain.Known 𝓤 H A W 𝓣 0 ps·8 r·8 (claims· .16) (claims· .17) "finish::to_of" ×
             Plain.Known 𝓤 H A W 𝓣 0 ps·9 r·9 (claims· .18) (claims· .19) "finish::accepted" ×
             Plain.Known 𝓤 H A W 𝓣 0 ps·10 r·10 (claims· .20) (claims· .21) "finish::without_room"
 
       module _ (κs : Lifetimes.Lfts 8) (qs : Lifetimes.Shares 8) where
-        abbrev g4 : List.List Row.Entry
-        g4 = List._∷_ (
+        abbrev g6 : List.List Row.Entry
+        g6 = List._∷_ (
           0,
           Rows'.any-gone
               (Syntax.tyStruct
@@ -14373,7 +16363,7 @@ module _ (claims· : Claims) where
               (Referent.rtF (Referent.fInt Syntax.w8))
               (Syntax.tyRef (Syntax.named 3) Syntax.mut (Syntax.tyInt Syntax.w8))
               3,
-        ) (List._∷_ (5, Rows'.whole (Declared.row Own.the-type)) (List._∷_ (
+        ) (List._∷_ (5, Rows'.any-gone (KOwn.spelled)) (List._∷_ (
           6,
           Rows'.sc-here (Row.sInt Syntax.w64),
         ) (List._∷_ (7, Rows'.sc-here (Row.sInt Syntax.w8)) (List._∷_ (
@@ -14417,6 +16407,9 @@ module _ (claims· : Claims) where
               7,
         ) (List._∷_ (13, Rows'.whole (Declared.row Live.the-type)) (List._∷_ (
           14,
+          KOwn.row,
+        ) (List._∷_ (
+          15,
           Rows'.any-gone
               (Syntax.tyStruct
               (List._∷_
@@ -14443,42 +16436,10 @@ module _ (claims· : Claims) where
               (Syntax.tcons
               (Syntax.tyInt Syntax.w64)
               (Syntax.tcons (Syntax.tyInt Syntax.w64) Syntax.tnil)))),
-        ) (List._∷_ (
-          15,
-          Rows'.any-gone
-              (Syntax.tyStruct
-              (List._∷_
-              112
-              (List._∷_
-              108
-              (List._∷_
-              97
-              (List._∷_
-              99
-              (List._∷_
-              101
-              (List._∷_
-              58
-              (List._∷_
-              58
-              (List._∷_
-              82
-              (List._∷_
-              111
-              (List._∷_
-              117
-              (List._∷_
-              116
-              (List._∷_
-              101
-              (List._∷_
-              80
-              (List._∷_ 108 (List._∷_ 97 (List._∷_ 99 (List._∷_ 101 List.[])))))))))))))))))
-              (Syntax.tcons Syntax.tyBool (Syntax.tcons (Syntax.tyInt Syntax.w64) Syntax.tnil))),
         ) List.[])))))))))))))))
 
-        abbrev g10 : List.List Row.Entry
-        g10 = List._∷_ (
+        abbrev g12 : List.List Row.Entry
+        g12 = List._∷_ (
           0,
           Rows'.any-gone
               (Syntax.tyStruct
@@ -14748,7 +16709,7 @@ module _ (claims· : Claims) where
               (Referent.rtF (Referent.fInt Syntax.w8))
               (Syntax.tyRef (Syntax.named 3) Syntax.mut (Syntax.tyInt Syntax.w8))
               3,
-        ) (List._∷_ (5, Rows'.whole (Declared.row Own.the-type)) (List._∷_ (
+        ) (List._∷_ (5, Rows'.any-gone (KOwn.spelled)) (List._∷_ (
           6,
           Rows'.sc-here (Row.sInt Syntax.w64),
         ) (List._∷_ (7, Rows'.sc-here (Row.sInt Syntax.w8)) (List._∷_ (
@@ -14792,43 +16753,11 @@ module _ (claims· : Claims) where
               7,
         ) (List._∷_ (13, Rows'.whole (Declared.row Live.the-type)) (List._∷_ (
           14,
-          Rows'.whole (Declared.row Places.the-type),
-        ) (List._∷_ (
-          15,
-          Rows'.any-gone
-              (Syntax.tyStruct
-              (List._∷_
-              112
-              (List._∷_
-              108
-              (List._∷_
-              97
-              (List._∷_
-              99
-              (List._∷_
-              101
-              (List._∷_
-              58
-              (List._∷_
-              58
-              (List._∷_
-              82
-              (List._∷_
-              111
-              (List._∷_
-              117
-              (List._∷_
-              116
-              (List._∷_
-              101
-              (List._∷_
-              80
-              (List._∷_ 108 (List._∷_ 97 (List._∷_ 99 (List._∷_ 101 List.[])))))))))))))))))
-              (Syntax.tcons Syntax.tyBool (Syntax.tcons (Syntax.tyInt Syntax.w64) Syntax.tnil))),
-        ) List.[])))))))))))))))
+          KOwn.row,
+        ) (List._∷_ (15, Rows'.whole (Declared.row Places.the-type)) List.[])))))))))))))))
 
-        abbrev g13 : List.List Row.Entry
-        g13 = List._∷_ (
+        abbrev g15 : List.List Row.Entry
+        g15 = List._∷_ (
           0,
           Rows'.any-gone
               (Syntax.tyStruct
@@ -15098,7 +17027,7 @@ module _ (claims· : Claims) where
               (Referent.rtF (Referent.fInt Syntax.w8))
               (Syntax.tyRef (Syntax.named 3) Syntax.mut (Syntax.tyInt Syntax.w8))
               3,
-        ) (List._∷_ (5, Rows'.whole (Declared.row Own.the-type)) (List._∷_ (
+        ) (List._∷_ (5, Rows'.any-gone (KOwn.spelled)) (List._∷_ (
           6,
           Rows'.sc-here (Row.sInt Syntax.w64),
         ) (List._∷_ (7, Rows'.sc-here (Row.sInt Syntax.w8)) (List._∷_ (
@@ -15142,43 +17071,11 @@ module _ (claims· : Claims) where
               7,
         ) (List._∷_ (13, Rows'.whole (Declared.row Live.the-type)) (List._∷_ (
           14,
-          Rows'.whole (Declared.row Places.the-type),
-        ) (List._∷_ (
-          15,
-          Rows'.any-gone
-              (Syntax.tyStruct
-              (List._∷_
-              112
-              (List._∷_
-              108
-              (List._∷_
-              97
-              (List._∷_
-              99
-              (List._∷_
-              101
-              (List._∷_
-              58
-              (List._∷_
-              58
-              (List._∷_
-              82
-              (List._∷_
-              111
-              (List._∷_
-              117
-              (List._∷_
-              116
-              (List._∷_
-              101
-              (List._∷_
-              80
-              (List._∷_ 108 (List._∷_ 97 (List._∷_ 99 (List._∷_ 101 List.[])))))))))))))))))
-              (Syntax.tcons Syntax.tyBool (Syntax.tcons (Syntax.tyInt Syntax.w64) Syntax.tnil))),
-        ) List.[])))))))))))))))
+          KOwn.row,
+        ) (List._∷_ (15, Rows'.whole (Declared.row Places.the-type)) List.[])))))))))))))))
 
-        abbrev g19 : List.List Row.Entry
-        g19 = List._∷_ (
+        abbrev g23 : List.List Row.Entry
+        g23 = List._∷_ (
           0,
           Rows'.any-gone
               (Syntax.tyStruct
@@ -15448,325 +17345,7 @@ module _ (claims· : Claims) where
               (Referent.rtF (Referent.fInt Syntax.w8))
               (Syntax.tyRef (Syntax.named 3) Syntax.mut (Syntax.tyInt Syntax.w8))
               3,
-        ) (List._∷_ (5, Rows'.whole (Declared.row Own.the-type)) (List._∷_ (
-          6,
-          Rows'.sc-here (Row.sInt Syntax.w64),
-        ) (List._∷_ (7, Rows'.sc-here (Row.sInt Syntax.w8)) (List._∷_ (
-          8,
-          Rows'.sc-here (Row.sInt Syntax.w64),
-        ) (List._∷_ (
-          9,
-          Rows'.sref
-              (Array'.Array (Array'.Array (Referent.rtF (Referent.fInt Syntax.w8)) 16) 16)
-              (Syntax.tyRef
-              (Syntax.named 4)
-              Syntax.imm
-              (Syntax.tyArray (Syntax.tyArray (Syntax.tyInt Syntax.w8) 16) 16))
-              4,
-        ) (List._∷_ (
-          10,
-          Rows'.sref
-              (KDecided.R)
-              (Syntax.tyRef
-              (Syntax.named 5)
-              Syntax.imm
-              (KDecided.named))
-              5,
-        ) (List._∷_ (
-          11,
-          Rows'.sref
-              (KPost.R)
-              (Syntax.tyRef
-              (Syntax.named 6)
-              Syntax.imm
-              (KPost.named))
-              6,
-        ) (List._∷_ (
-          12,
-          Rows'.sref
-              (KPost.R)
-              (Syntax.tyRef
-              (Syntax.named 7)
-              Syntax.imm
-              (KPost.named))
-              7,
-        ) (List._∷_ (13, Rows'.whole (Declared.row Live.the-type)) (List._∷_ (
-          14,
-          Rows'.whole (Declared.row Places.the-type),
-        ) (List._∷_ (15, Rows'.whole (Declared.row RoutePlace.the-type)) List.[])))))))))))))))
-
-        abbrev g20 : List.List Row.Entry
-        g20 = List._∷_ (
-          0,
-          Rows'.any-gone
-              (Syntax.tyStruct
-              (List._∷_
-              102
-              (List._∷_
-              105
-              (List._∷_
-              110
-              (List._∷_
-              105
-              (List._∷_
-              115
-              (List._∷_
-              104
-              (List._∷_
-              58
-              (List._∷_
-              58
-              (List._∷_
-              79
-              (List._∷_
-              117
-              (List._∷_
-              116
-              (List._∷_ 99 (List._∷_ 111 (List._∷_ 109 (List._∷_ 101 List.[])))))))))))))))
-              (Syntax.tcons
-              (Syntax.tyStruct
-              (List._∷_
-              102
-              (List._∷_
-              105
-              (List._∷_
-              110
-              (List._∷_
-              105
-              (List._∷_
-              115
-              (List._∷_
-              104
-              (List._∷_
-              58
-              (List._∷_
-              58
-              (List._∷_ 83 (List._∷_ 101 (List._∷_ 110 (List._∷_ 116 List.[]))))))))))))
-              (Syntax.tcons
-              (Syntax.tyStruct
-              (List._∷_
-              97
-              (List._∷_
-              110
-              (List._∷_
-              115
-              (List._∷_
-              119
-              (List._∷_
-              101
-              (List._∷_
-              114
-              (List._∷_
-              58
-              (List._∷_
-              58
-              (List._∷_
-              68
-              (List._∷_
-              101
-              (List._∷_
-              115
-              (List._∷_
-              116
-              (List._∷_
-              105
-              (List._∷_
-              110
-              (List._∷_
-              97
-              (List._∷_ 116 (List._∷_ 105 (List._∷_ 111 (List._∷_ 110 List.[])))))))))))))))))))
-              (Syntax.tcons
-              (Syntax.tyArray (Syntax.tyInt Syntax.w8) 16)
-              (Syntax.tcons
-              (Syntax.tyEnum
-              (List._∷_
-              97
-              (List._∷_
-              110
-              (List._∷_
-              115
-              (List._∷_
-              119
-              (List._∷_
-              101
-              (List._∷_
-              114
-              (List._∷_ 58 (List._∷_ 58 (List._∷_ 87 (List._∷_ 97 (List._∷_ 121 List.[])))))))))))
-              (Syntax.ttcons
-              Syntax.tnil
-              (Syntax.ttcons
-              Syntax.tnil
-              (Syntax.ttcons Syntax.tnil (Syntax.ttcons Syntax.tnil Syntax.ttnil)))))
-              Syntax.tnil)))
-              (Syntax.tcons (Syntax.tyInt Syntax.w64) Syntax.tnil)))
-              (Syntax.tcons
-              (Syntax.tyInt Syntax.w64)
-              (Syntax.tcons
-              (Syntax.tyStruct
-              (List._∷_
-              102
-              (List._∷_
-              105
-              (List._∷_
-              110
-              (List._∷_
-              105
-              (List._∷_
-              115
-              (List._∷_
-              104
-              (List._∷_
-              58
-              (List._∷_
-              58
-              (List._∷_ 83 (List._∷_ 101 (List._∷_ 110 (List._∷_ 116 List.[]))))))))))))
-              (Syntax.tcons
-              (Syntax.tyStruct
-              (List._∷_
-              97
-              (List._∷_
-              110
-              (List._∷_
-              115
-              (List._∷_
-              119
-              (List._∷_
-              101
-              (List._∷_
-              114
-              (List._∷_
-              58
-              (List._∷_
-              58
-              (List._∷_
-              68
-              (List._∷_
-              101
-              (List._∷_
-              115
-              (List._∷_
-              116
-              (List._∷_
-              105
-              (List._∷_
-              110
-              (List._∷_
-              97
-              (List._∷_ 116 (List._∷_ 105 (List._∷_ 111 (List._∷_ 110 List.[])))))))))))))))))))
-              (Syntax.tcons
-              (Syntax.tyArray (Syntax.tyInt Syntax.w8) 16)
-              (Syntax.tcons
-              (Syntax.tyEnum
-              (List._∷_
-              97
-              (List._∷_
-              110
-              (List._∷_
-              115
-              (List._∷_
-              119
-              (List._∷_
-              101
-              (List._∷_
-              114
-              (List._∷_ 58 (List._∷_ 58 (List._∷_ 87 (List._∷_ 97 (List._∷_ 121 List.[])))))))))))
-              (Syntax.ttcons
-              Syntax.tnil
-              (Syntax.ttcons
-              Syntax.tnil
-              (Syntax.ttcons Syntax.tnil (Syntax.ttcons Syntax.tnil Syntax.ttnil)))))
-              Syntax.tnil)))
-              (Syntax.tcons (Syntax.tyInt Syntax.w64) Syntax.tnil)))
-              (Syntax.tcons
-              (Syntax.tyEnum
-              (List._∷_
-              97
-              (List._∷_
-              110
-              (List._∷_
-              115
-              (List._∷_
-              119
-              (List._∷_
-              101
-              (List._∷_
-              114
-              (List._∷_
-              58
-              (List._∷_
-              58
-              (List._∷_
-              65
-              (List._∷_
-              110
-              (List._∷_ 115 (List._∷_ 119 (List._∷_ 101 (List._∷_ 114 List.[]))))))))))))))
-              (Syntax.ttcons
-              Syntax.tnil
-              (Syntax.ttcons
-              Syntax.tnil
-              (Syntax.ttcons
-              Syntax.tnil
-              (Syntax.ttcons
-              Syntax.tnil
-              (Syntax.ttcons
-              Syntax.tnil
-              (Syntax.ttcons
-              Syntax.tnil
-              (Syntax.ttcons
-              Syntax.tnil
-              (Syntax.ttcons
-              Syntax.tnil
-              (Syntax.ttcons
-              Syntax.tnil
-              (Syntax.ttcons
-              Syntax.tnil
-              (Syntax.ttcons
-              Syntax.tnil
-              (Syntax.ttcons
-              Syntax.tnil
-              (Syntax.ttcons
-              Syntax.tnil
-              (Syntax.ttcons
-              Syntax.tnil
-              (Syntax.ttcons
-              Syntax.tnil
-              (Syntax.ttcons
-              Syntax.tnil
-              (Syntax.ttcons Syntax.tnil (Syntax.ttcons Syntax.tnil Syntax.ttnil)))))))))))))))))))
-              (Syntax.tcons (Syntax.tyInt Syntax.w8) Syntax.tnil)))))),
-        ) (List._∷_ (
-          1,
-          Mut.mslice
-              (KInstanceRow.R)
-              (Syntax.tyRef
-              (Syntax.named 0)
-              Syntax.mut
-              (KInstanceRow.named))
-              0,
-        ) (List._∷_ (
-          2,
-          Reshare.mslice-owedS
-              (KRouteRow.R)
-              (Syntax.tyRef
-              (Syntax.named 1)
-              Syntax.mut
-              (KRouteRow.named))
-              1
-              9
-              (Row.lease (κs .1 .0) (qs .1 .0)),
-        ) (List._∷_ (
-          3,
-          Mut.mslice
-              (Referent.rtF (Referent.fInt Syntax.w8))
-              (Syntax.tyRef (Syntax.named 2) Syntax.mut (Syntax.tyInt Syntax.w8))
-              2,
-        ) (List._∷_ (
-          4,
-          Mut.mslice
-              (Referent.rtF (Referent.fInt Syntax.w8))
-              (Syntax.tyRef (Syntax.named 3) Syntax.mut (Syntax.tyInt Syntax.w8))
-              3,
-        ) (List._∷_ (5, Rows'.whole (Declared.row Own.the-type)) (List._∷_ (
+        ) (List._∷_ (5, Rows'.any-gone (KOwn.spelled)) (List._∷_ (
           6,
           Rows'.sc-here (Row.sInt Syntax.w64),
         ) (List._∷_ (7, Rows'.sc-here (Row.sInt Syntax.w8)) (List._∷_ (
@@ -15834,13 +17413,13 @@ module _ (claims· : Claims) where
               (Syntax.tcons
               (Syntax.tyInt Syntax.w64)
               (Syntax.tcons Syntax.tyBool (Syntax.tcons (Syntax.tyInt Syntax.w64) Syntax.tnil))))),
-        ) (List._∷_ (14, Rows'.whole (Declared.row Places.the-type)) (List._∷_ (
+        ) (List._∷_ (14, KOwn.row) (List._∷_ (
           15,
-          Rows'.whole (Declared.row RoutePlace.the-type),
+          Rows'.whole (Declared.row Places.the-type),
         ) List.[])))))))))))))))
 
-        abbrev g24 : List.List Row.Entry
-        g24 = List._∷_ (
+        abbrev g28 : List.List Row.Entry
+        g28 = List._∷_ (
           0,
           Rows'.any-gone
               (Syntax.tyStruct
@@ -16110,7 +17689,7 @@ module _ (claims· : Claims) where
               (Referent.rtF (Referent.fInt Syntax.w8))
               (Syntax.tyRef (Syntax.named 3) Syntax.mut (Syntax.tyInt Syntax.w8))
               3,
-        ) (List._∷_ (5, Rows'.whole (Declared.row Own.the-type)) (List._∷_ (
+        ) (List._∷_ (5, Rows'.any-gone (KOwn.spelled)) (List._∷_ (
           6,
           Rows'.sc-here (Row.sInt Syntax.w64),
         ) (List._∷_ (7, Rows'.sc-here (Row.sInt Syntax.w8)) (List._∷_ (
@@ -16178,355 +17757,9 @@ module _ (claims· : Claims) where
               (Syntax.tcons
               (Syntax.tyInt Syntax.w64)
               (Syntax.tcons Syntax.tyBool (Syntax.tcons (Syntax.tyInt Syntax.w64) Syntax.tnil))))),
-        ) (List._∷_ (14, Rows'.whole (Declared.row Places.the-type)) (List._∷_ (
+        ) (List._∷_ (14, KOwn.row) (List._∷_ (
           15,
-          Rows'.whole (Declared.row RoutePlace.the-type),
-        ) List.[])))))))))))))))
-
-        abbrev g27 : List.List Row.Entry
-        g27 = List._∷_ (
-          0,
-          Rows'.any-gone
-              (Syntax.tyStruct
-              (List._∷_
-              102
-              (List._∷_
-              105
-              (List._∷_
-              110
-              (List._∷_
-              105
-              (List._∷_
-              115
-              (List._∷_
-              104
-              (List._∷_
-              58
-              (List._∷_
-              58
-              (List._∷_
-              79
-              (List._∷_
-              117
-              (List._∷_
-              116
-              (List._∷_ 99 (List._∷_ 111 (List._∷_ 109 (List._∷_ 101 List.[])))))))))))))))
-              (Syntax.tcons
-              (Syntax.tyStruct
-              (List._∷_
-              102
-              (List._∷_
-              105
-              (List._∷_
-              110
-              (List._∷_
-              105
-              (List._∷_
-              115
-              (List._∷_
-              104
-              (List._∷_
-              58
-              (List._∷_
-              58
-              (List._∷_ 83 (List._∷_ 101 (List._∷_ 110 (List._∷_ 116 List.[]))))))))))))
-              (Syntax.tcons
-              (Syntax.tyStruct
-              (List._∷_
-              97
-              (List._∷_
-              110
-              (List._∷_
-              115
-              (List._∷_
-              119
-              (List._∷_
-              101
-              (List._∷_
-              114
-              (List._∷_
-              58
-              (List._∷_
-              58
-              (List._∷_
-              68
-              (List._∷_
-              101
-              (List._∷_
-              115
-              (List._∷_
-              116
-              (List._∷_
-              105
-              (List._∷_
-              110
-              (List._∷_
-              97
-              (List._∷_ 116 (List._∷_ 105 (List._∷_ 111 (List._∷_ 110 List.[])))))))))))))))))))
-              (Syntax.tcons
-              (Syntax.tyArray (Syntax.tyInt Syntax.w8) 16)
-              (Syntax.tcons
-              (Syntax.tyEnum
-              (List._∷_
-              97
-              (List._∷_
-              110
-              (List._∷_
-              115
-              (List._∷_
-              119
-              (List._∷_
-              101
-              (List._∷_
-              114
-              (List._∷_ 58 (List._∷_ 58 (List._∷_ 87 (List._∷_ 97 (List._∷_ 121 List.[])))))))))))
-              (Syntax.ttcons
-              Syntax.tnil
-              (Syntax.ttcons
-              Syntax.tnil
-              (Syntax.ttcons Syntax.tnil (Syntax.ttcons Syntax.tnil Syntax.ttnil)))))
-              Syntax.tnil)))
-              (Syntax.tcons (Syntax.tyInt Syntax.w64) Syntax.tnil)))
-              (Syntax.tcons
-              (Syntax.tyInt Syntax.w64)
-              (Syntax.tcons
-              (Syntax.tyStruct
-              (List._∷_
-              102
-              (List._∷_
-              105
-              (List._∷_
-              110
-              (List._∷_
-              105
-              (List._∷_
-              115
-              (List._∷_
-              104
-              (List._∷_
-              58
-              (List._∷_
-              58
-              (List._∷_ 83 (List._∷_ 101 (List._∷_ 110 (List._∷_ 116 List.[]))))))))))))
-              (Syntax.tcons
-              (Syntax.tyStruct
-              (List._∷_
-              97
-              (List._∷_
-              110
-              (List._∷_
-              115
-              (List._∷_
-              119
-              (List._∷_
-              101
-              (List._∷_
-              114
-              (List._∷_
-              58
-              (List._∷_
-              58
-              (List._∷_
-              68
-              (List._∷_
-              101
-              (List._∷_
-              115
-              (List._∷_
-              116
-              (List._∷_
-              105
-              (List._∷_
-              110
-              (List._∷_
-              97
-              (List._∷_ 116 (List._∷_ 105 (List._∷_ 111 (List._∷_ 110 List.[])))))))))))))))))))
-              (Syntax.tcons
-              (Syntax.tyArray (Syntax.tyInt Syntax.w8) 16)
-              (Syntax.tcons
-              (Syntax.tyEnum
-              (List._∷_
-              97
-              (List._∷_
-              110
-              (List._∷_
-              115
-              (List._∷_
-              119
-              (List._∷_
-              101
-              (List._∷_
-              114
-              (List._∷_ 58 (List._∷_ 58 (List._∷_ 87 (List._∷_ 97 (List._∷_ 121 List.[])))))))))))
-              (Syntax.ttcons
-              Syntax.tnil
-              (Syntax.ttcons
-              Syntax.tnil
-              (Syntax.ttcons Syntax.tnil (Syntax.ttcons Syntax.tnil Syntax.ttnil)))))
-              Syntax.tnil)))
-              (Syntax.tcons (Syntax.tyInt Syntax.w64) Syntax.tnil)))
-              (Syntax.tcons
-              (Syntax.tyEnum
-              (List._∷_
-              97
-              (List._∷_
-              110
-              (List._∷_
-              115
-              (List._∷_
-              119
-              (List._∷_
-              101
-              (List._∷_
-              114
-              (List._∷_
-              58
-              (List._∷_
-              58
-              (List._∷_
-              65
-              (List._∷_
-              110
-              (List._∷_ 115 (List._∷_ 119 (List._∷_ 101 (List._∷_ 114 List.[]))))))))))))))
-              (Syntax.ttcons
-              Syntax.tnil
-              (Syntax.ttcons
-              Syntax.tnil
-              (Syntax.ttcons
-              Syntax.tnil
-              (Syntax.ttcons
-              Syntax.tnil
-              (Syntax.ttcons
-              Syntax.tnil
-              (Syntax.ttcons
-              Syntax.tnil
-              (Syntax.ttcons
-              Syntax.tnil
-              (Syntax.ttcons
-              Syntax.tnil
-              (Syntax.ttcons
-              Syntax.tnil
-              (Syntax.ttcons
-              Syntax.tnil
-              (Syntax.ttcons
-              Syntax.tnil
-              (Syntax.ttcons
-              Syntax.tnil
-              (Syntax.ttcons
-              Syntax.tnil
-              (Syntax.ttcons
-              Syntax.tnil
-              (Syntax.ttcons
-              Syntax.tnil
-              (Syntax.ttcons
-              Syntax.tnil
-              (Syntax.ttcons Syntax.tnil (Syntax.ttcons Syntax.tnil Syntax.ttnil)))))))))))))))))))
-              (Syntax.tcons (Syntax.tyInt Syntax.w8) Syntax.tnil)))))),
-        ) (List._∷_ (
-          1,
-          Relend.mslice-owed
-              (KInstanceRow.R)
-              (Syntax.tyRef
-              (Syntax.named 0)
-              Syntax.mut
-              (KInstanceRow.named))
-              0
-              10
-              (Row.lease (κs .0) (qs .0)),
-        ) (List._∷_ (
-          2,
-          Relend.mslice-owed
-              (KRouteRow.R)
-              (Syntax.tyRef
-              (Syntax.named 1)
-              Syntax.mut
-              (KRouteRow.named))
-              1
-              11
-              (Row.lease (κs .1 .0) (qs .1 .0)),
-        ) (List._∷_ (
-          3,
-          Mut.mslice
-              (Referent.rtF (Referent.fInt Syntax.w8))
-              (Syntax.tyRef (Syntax.named 2) Syntax.mut (Syntax.tyInt Syntax.w8))
-              2,
-        ) (List._∷_ (
-          4,
-          Mut.mslice
-              (Referent.rtF (Referent.fInt Syntax.w8))
-              (Syntax.tyRef (Syntax.named 3) Syntax.mut (Syntax.tyInt Syntax.w8))
-              3,
-        ) (List._∷_ (5, Rows'.whole (Declared.row Own.the-type)) (List._∷_ (
-          6,
-          Rows'.sc-here (Row.sInt Syntax.w64),
-        ) (List._∷_ (7, Rows'.sc-here (Row.sInt Syntax.w8)) (List._∷_ (
-          8,
-          Rows'.sc-here (Row.sInt Syntax.w64),
-        ) (List._∷_ (
-          9,
-          Rows'.sref
-              (Array'.Array (Array'.Array (Referent.rtF (Referent.fInt Syntax.w8)) 16) 16)
-              (Syntax.tyRef
-              (Syntax.named 4)
-              Syntax.imm
-              (Syntax.tyArray (Syntax.tyArray (Syntax.tyInt Syntax.w8) 16) 16))
-              4,
-        ) (List._∷_ (
-          10,
-          Rows'.sref
-              (KDecided.R)
-              (Syntax.tyRef
-              (Syntax.named 5)
-              Syntax.imm
-              (KDecided.named))
-              5,
-        ) (List._∷_ (
-          11,
-          Rows'.sref
-              (KPost.R)
-              (Syntax.tyRef
-              (Syntax.named 6)
-              Syntax.imm
-              (KPost.named))
-              6,
-        ) (List._∷_ (
-          12,
-          Rows'.sref
-              (KPost.R)
-              (Syntax.tyRef
-              (Syntax.named 7)
-              Syntax.imm
-              (KPost.named))
-              7,
-        ) (List._∷_ (
-          13,
-          Rows'.any-gone
-              (Syntax.tyStruct
-              (List._∷_
-              102
-              (List._∷_
-              105
-              (List._∷_
-              110
-              (List._∷_
-              105
-              (List._∷_
-              115
-              (List._∷_
-              104
-              (List._∷_
-              58
-              (List._∷_
-              58
-              (List._∷_ 76 (List._∷_ 105 (List._∷_ 118 (List._∷_ 101 List.[]))))))))))))
-              (Syntax.tcons
-              Syntax.tyBool
-              (Syntax.tcons
-              (Syntax.tyInt Syntax.w64)
-              (Syntax.tcons Syntax.tyBool (Syntax.tcons (Syntax.tyInt Syntax.w64) Syntax.tnil))))),
-        ) (List._∷_ (14, Rows'.whole (Declared.row Places.the-type)) (List._∷_ (
-          15,
-          Rows'.whole (Declared.row RoutePlace.the-type),
+          Rows'.whole (Declared.row Places.the-type),
         ) List.[])))))))))))))))
 
         abbrev g31 : List.List Row.Entry
@@ -16802,7 +18035,7 @@ module _ (claims· : Claims) where
               (Referent.rtF (Referent.fInt Syntax.w8))
               (Syntax.tyRef (Syntax.named 3) Syntax.mut (Syntax.tyInt Syntax.w8))
               3,
-        ) (List._∷_ (5, Rows'.whole (Declared.row Own.the-type)) (List._∷_ (
+        ) (List._∷_ (5, Rows'.any-gone (KOwn.spelled)) (List._∷_ (
           6,
           Rows'.sc-here (Row.sInt Syntax.w64),
         ) (List._∷_ (7, Rows'.sc-here (Row.sInt Syntax.w8)) (List._∷_ (
@@ -16870,38 +18103,13 @@ module _ (claims· : Claims) where
               (Syntax.tcons
               (Syntax.tyInt Syntax.w64)
               (Syntax.tcons Syntax.tyBool (Syntax.tcons (Syntax.tyInt Syntax.w64) Syntax.tnil))))),
-        ) (List._∷_ (
-          14,
-          Rows'.any-gone
-              (Syntax.tyStruct
-              (List._∷_
-              112
-              (List._∷_
-              108
-              (List._∷_
-              97
-              (List._∷_
-              99
-              (List._∷_
-              101
-              (List._∷_
-              58
-              (List._∷_
-              58
-              (List._∷_
-              80
-              (List._∷_
-              108
-              (List._∷_ 97 (List._∷_ 99 (List._∷_ 101 (List._∷_ 115 List.[])))))))))))))
-              (Syntax.tcons
-              Syntax.tyBool
-              (Syntax.tcons
-              (Syntax.tyInt Syntax.w64)
-              (Syntax.tcons (Syntax.tyInt Syntax.w64) Syntax.tnil)))),
-        ) (List._∷_ (15, Rows'.whole (Declared.row RoutePlace.the-type)) List.[])))))))))))))))
+        ) (List._∷_ (14, KOwn.row) (List._∷_ (
+          15,
+          Rows'.whole (Declared.row Places.the-type),
+        ) List.[])))))))))))))))
 
-        abbrev g32 : List.List Row.Entry
-        g32 = List._∷_ (
+        abbrev g35 : List.List Row.Entry
+        g35 = List._∷_ (
           0,
           Rows'.any-gone
               (Syntax.tyStruct
@@ -17173,7 +18381,7 @@ module _ (claims· : Claims) where
               (Referent.rtF (Referent.fInt Syntax.w8))
               (Syntax.tyRef (Syntax.named 3) Syntax.mut (Syntax.tyInt Syntax.w8))
               3,
-        ) (List._∷_ (5, Rows'.whole (Declared.row Own.the-type)) (List._∷_ (
+        ) (List._∷_ (5, Rows'.any-gone (KOwn.spelled)) (List._∷_ (
           6,
           Rows'.sc-here (Row.sInt Syntax.w64),
         ) (List._∷_ (7, Rows'.sc-here (Row.sInt Syntax.w8)) (List._∷_ (
@@ -17241,8 +18449,8 @@ module _ (claims· : Claims) where
               (Syntax.tcons
               (Syntax.tyInt Syntax.w64)
               (Syntax.tcons Syntax.tyBool (Syntax.tcons (Syntax.tyInt Syntax.w64) Syntax.tnil))))),
-        ) (List._∷_ (
-          14,
+        ) (List._∷_ (14, KOwn.row) (List._∷_ (
+          15,
           Rows'.any-gone
               (Syntax.tyStruct
               (List._∷_
@@ -17269,42 +18477,10 @@ module _ (claims· : Claims) where
               (Syntax.tcons
               (Syntax.tyInt Syntax.w64)
               (Syntax.tcons (Syntax.tyInt Syntax.w64) Syntax.tnil)))),
-        ) (List._∷_ (
-          15,
-          Rows'.any-gone
-              (Syntax.tyStruct
-              (List._∷_
-              112
-              (List._∷_
-              108
-              (List._∷_
-              97
-              (List._∷_
-              99
-              (List._∷_
-              101
-              (List._∷_
-              58
-              (List._∷_
-              58
-              (List._∷_
-              82
-              (List._∷_
-              111
-              (List._∷_
-              117
-              (List._∷_
-              116
-              (List._∷_
-              101
-              (List._∷_
-              80
-              (List._∷_ 108 (List._∷_ 97 (List._∷_ 99 (List._∷_ 101 List.[])))))))))))))))))
-              (Syntax.tcons Syntax.tyBool (Syntax.tcons (Syntax.tyInt Syntax.w64) Syntax.tnil))),
         ) List.[])))))))))))))))
 
-        abbrev g34 : List.List Row.Entry
-        g34 = List._∷_ (
+        abbrev g38 : List.List Row.Entry
+        g38 = List._∷_ (
           0,
           Rows'.any-gone
               (Syntax.tyStruct
@@ -17574,7 +18750,7 @@ module _ (claims· : Claims) where
               (Referent.rtF (Referent.fInt Syntax.w8))
               (Syntax.tyRef (Syntax.named 3) Syntax.mut (Syntax.tyInt Syntax.w8))
               3,
-        ) (List._∷_ (5, Rows'.whole (Declared.row Own.the-type)) (List._∷_ (
+        ) (List._∷_ (5, Rows'.any-gone (KOwn.spelled)) (List._∷_ (
           6,
           Rows'.sc-here (Row.sInt Syntax.w64),
         ) (List._∷_ (7, Rows'.sc-here (Row.sInt Syntax.w8)) (List._∷_ (
@@ -17642,8 +18818,8 @@ module _ (claims· : Claims) where
               (Syntax.tcons
               (Syntax.tyInt Syntax.w64)
               (Syntax.tcons Syntax.tyBool (Syntax.tcons (Syntax.tyInt Syntax.w64) Syntax.tnil))))),
-        ) (List._∷_ (
-          14,
+        ) (List._∷_ (14, KOwn.row) (List._∷_ (
+          15,
           Rows'.any-gone
               (Syntax.tyStruct
               (List._∷_
@@ -17670,42 +18846,10 @@ module _ (claims· : Claims) where
               (Syntax.tcons
               (Syntax.tyInt Syntax.w64)
               (Syntax.tcons (Syntax.tyInt Syntax.w64) Syntax.tnil)))),
-        ) (List._∷_ (
-          15,
-          Rows'.any-gone
-              (Syntax.tyStruct
-              (List._∷_
-              112
-              (List._∷_
-              108
-              (List._∷_
-              97
-              (List._∷_
-              99
-              (List._∷_
-              101
-              (List._∷_
-              58
-              (List._∷_
-              58
-              (List._∷_
-              82
-              (List._∷_
-              111
-              (List._∷_
-              117
-              (List._∷_
-              116
-              (List._∷_
-              101
-              (List._∷_
-              80
-              (List._∷_ 108 (List._∷_ 97 (List._∷_ 99 (List._∷_ 101 List.[])))))))))))))))))
-              (Syntax.tcons Syntax.tyBool (Syntax.tcons (Syntax.tyInt Syntax.w64) Syntax.tnil))),
         ) List.[])))))))))))))))
 
-        abbrev g37 : List.List Row.Entry
-        g37 = List._∷_ (
+        abbrev g41 : List.List Row.Entry
+        g41 = List._∷_ (
           0,
           Rows'.any-gone
               (Syntax.tyStruct
@@ -17975,7 +19119,376 @@ module _ (claims· : Claims) where
               (Referent.rtF (Referent.fInt Syntax.w8))
               (Syntax.tyRef (Syntax.named 3) Syntax.mut (Syntax.tyInt Syntax.w8))
               3,
-        ) (List._∷_ (5, Rows'.whole (Declared.row Own.the-type)) (List._∷_ (
+        ) (List._∷_ (5, Rows'.any-gone (KOwn.spelled)) (List._∷_ (
+          6,
+          Rows'.sc-here (Row.sInt Syntax.w64),
+        ) (List._∷_ (7, Rows'.sc-here (Row.sInt Syntax.w8)) (List._∷_ (
+          8,
+          Rows'.sc-here (Row.sInt Syntax.w64),
+        ) (List._∷_ (
+          9,
+          Rows'.sref
+              (Array'.Array (Array'.Array (Referent.rtF (Referent.fInt Syntax.w8)) 16) 16)
+              (Syntax.tyRef
+              (Syntax.named 4)
+              Syntax.imm
+              (Syntax.tyArray (Syntax.tyArray (Syntax.tyInt Syntax.w8) 16) 16))
+              4,
+        ) (List._∷_ (
+          10,
+          Rows'.sref
+              (KDecided.R)
+              (Syntax.tyRef
+              (Syntax.named 5)
+              Syntax.imm
+              (KDecided.named))
+              5,
+        ) (List._∷_ (
+          11,
+          Rows'.sref
+              (KPost.R)
+              (Syntax.tyRef
+              (Syntax.named 6)
+              Syntax.imm
+              (KPost.named))
+              6,
+        ) (List._∷_ (
+          12,
+          Rows'.sref
+              (KPost.R)
+              (Syntax.tyRef
+              (Syntax.named 7)
+              Syntax.imm
+              (KPost.named))
+              7,
+        ) (List._∷_ (
+          13,
+          Rows'.any-gone
+              (Syntax.tyStruct
+              (List._∷_
+              102
+              (List._∷_
+              105
+              (List._∷_
+              110
+              (List._∷_
+              105
+              (List._∷_
+              115
+              (List._∷_
+              104
+              (List._∷_
+              58
+              (List._∷_
+              58
+              (List._∷_ 76 (List._∷_ 105 (List._∷_ 118 (List._∷_ 101 List.[]))))))))))))
+              (Syntax.tcons
+              Syntax.tyBool
+              (Syntax.tcons
+              (Syntax.tyInt Syntax.w64)
+              (Syntax.tcons Syntax.tyBool (Syntax.tcons (Syntax.tyInt Syntax.w64) Syntax.tnil))))),
+        ) (List._∷_ (14, KOwn.row) (List._∷_ (
+          15,
+          Rows'.any-gone
+              (Syntax.tyStruct
+              (List._∷_
+              112
+              (List._∷_
+              108
+              (List._∷_
+              97
+              (List._∷_
+              99
+              (List._∷_
+              101
+              (List._∷_
+              58
+              (List._∷_
+              58
+              (List._∷_
+              80
+              (List._∷_
+              108
+              (List._∷_ 97 (List._∷_ 99 (List._∷_ 101 (List._∷_ 115 List.[])))))))))))))
+              (Syntax.tcons
+              Syntax.tyBool
+              (Syntax.tcons
+              (Syntax.tyInt Syntax.w64)
+              (Syntax.tcons (Syntax.tyInt Syntax.w64) Syntax.tnil)))),
+        ) List.[])))))))))))))))
+
+        abbrev g44 : List.List Row.Entry
+        g44 = List._∷_ (
+          0,
+          Rows'.any-gone
+              (Syntax.tyStruct
+              (List._∷_
+              102
+              (List._∷_
+              105
+              (List._∷_
+              110
+              (List._∷_
+              105
+              (List._∷_
+              115
+              (List._∷_
+              104
+              (List._∷_
+              58
+              (List._∷_
+              58
+              (List._∷_
+              79
+              (List._∷_
+              117
+              (List._∷_
+              116
+              (List._∷_ 99 (List._∷_ 111 (List._∷_ 109 (List._∷_ 101 List.[])))))))))))))))
+              (Syntax.tcons
+              (Syntax.tyStruct
+              (List._∷_
+              102
+              (List._∷_
+              105
+              (List._∷_
+              110
+              (List._∷_
+              105
+              (List._∷_
+              115
+              (List._∷_
+              104
+              (List._∷_
+              58
+              (List._∷_
+              58
+              (List._∷_ 83 (List._∷_ 101 (List._∷_ 110 (List._∷_ 116 List.[]))))))))))))
+              (Syntax.tcons
+              (Syntax.tyStruct
+              (List._∷_
+              97
+              (List._∷_
+              110
+              (List._∷_
+              115
+              (List._∷_
+              119
+              (List._∷_
+              101
+              (List._∷_
+              114
+              (List._∷_
+              58
+              (List._∷_
+              58
+              (List._∷_
+              68
+              (List._∷_
+              101
+              (List._∷_
+              115
+              (List._∷_
+              116
+              (List._∷_
+              105
+              (List._∷_
+              110
+              (List._∷_
+              97
+              (List._∷_ 116 (List._∷_ 105 (List._∷_ 111 (List._∷_ 110 List.[])))))))))))))))))))
+              (Syntax.tcons
+              (Syntax.tyArray (Syntax.tyInt Syntax.w8) 16)
+              (Syntax.tcons
+              (Syntax.tyEnum
+              (List._∷_
+              97
+              (List._∷_
+              110
+              (List._∷_
+              115
+              (List._∷_
+              119
+              (List._∷_
+              101
+              (List._∷_
+              114
+              (List._∷_ 58 (List._∷_ 58 (List._∷_ 87 (List._∷_ 97 (List._∷_ 121 List.[])))))))))))
+              (Syntax.ttcons
+              Syntax.tnil
+              (Syntax.ttcons
+              Syntax.tnil
+              (Syntax.ttcons Syntax.tnil (Syntax.ttcons Syntax.tnil Syntax.ttnil)))))
+              Syntax.tnil)))
+              (Syntax.tcons (Syntax.tyInt Syntax.w64) Syntax.tnil)))
+              (Syntax.tcons
+              (Syntax.tyInt Syntax.w64)
+              (Syntax.tcons
+              (Syntax.tyStruct
+              (List._∷_
+              102
+              (List._∷_
+              105
+              (List._∷_
+              110
+              (List._∷_
+              105
+              (List._∷_
+              115
+              (List._∷_
+              104
+              (List._∷_
+              58
+              (List._∷_
+              58
+              (List._∷_ 83 (List._∷_ 101 (List._∷_ 110 (List._∷_ 116 List.[]))))))))))))
+              (Syntax.tcons
+              (Syntax.tyStruct
+              (List._∷_
+              97
+              (List._∷_
+              110
+              (List._∷_
+              115
+              (List._∷_
+              119
+              (List._∷_
+              101
+              (List._∷_
+              114
+              (List._∷_
+              58
+              (List._∷_
+              58
+              (List._∷_
+              68
+              (List._∷_
+              101
+              (List._∷_
+              115
+              (List._∷_
+              116
+              (List._∷_
+              105
+              (List._∷_
+              110
+              (List._∷_
+              97
+              (List._∷_ 116 (List._∷_ 105 (List._∷_ 111 (List._∷_ 110 List.[])))))))))))))))))))
+              (Syntax.tcons
+              (Syntax.tyArray (Syntax.tyInt Syntax.w8) 16)
+              (Syntax.tcons
+              (Syntax.tyEnum
+              (List._∷_
+              97
+              (List._∷_
+              110
+              (List._∷_
+              115
+              (List._∷_
+              119
+              (List._∷_
+              101
+              (List._∷_
+              114
+              (List._∷_ 58 (List._∷_ 58 (List._∷_ 87 (List._∷_ 97 (List._∷_ 121 List.[])))))))))))
+              (Syntax.ttcons
+              Syntax.tnil
+              (Syntax.ttcons
+              Syntax.tnil
+              (Syntax.ttcons Syntax.tnil (Syntax.ttcons Syntax.tnil Syntax.ttnil)))))
+              Syntax.tnil)))
+              (Syntax.tcons (Syntax.tyInt Syntax.w64) Syntax.tnil)))
+              (Syntax.tcons
+              (Syntax.tyEnum
+              (List._∷_
+              97
+              (List._∷_
+              110
+              (List._∷_
+              115
+              (List._∷_
+              119
+              (List._∷_
+              101
+              (List._∷_
+              114
+              (List._∷_
+              58
+              (List._∷_
+              58
+              (List._∷_
+              65
+              (List._∷_
+              110
+              (List._∷_ 115 (List._∷_ 119 (List._∷_ 101 (List._∷_ 114 List.[]))))))))))))))
+              (Syntax.ttcons
+              Syntax.tnil
+              (Syntax.ttcons
+              Syntax.tnil
+              (Syntax.ttcons
+              Syntax.tnil
+              (Syntax.ttcons
+              Syntax.tnil
+              (Syntax.ttcons
+              Syntax.tnil
+              (Syntax.ttcons
+              Syntax.tnil
+              (Syntax.ttcons
+              Syntax.tnil
+              (Syntax.ttcons
+              Syntax.tnil
+              (Syntax.ttcons
+              Syntax.tnil
+              (Syntax.ttcons
+              Syntax.tnil
+              (Syntax.ttcons
+              Syntax.tnil
+              (Syntax.ttcons
+              Syntax.tnil
+              (Syntax.ttcons
+              Syntax.tnil
+              (Syntax.ttcons
+              Syntax.tnil
+              (Syntax.ttcons
+              Syntax.tnil
+              (Syntax.ttcons
+              Syntax.tnil
+              (Syntax.ttcons Syntax.tnil (Syntax.ttcons Syntax.tnil Syntax.ttnil)))))))))))))))))))
+              (Syntax.tcons (Syntax.tyInt Syntax.w8) Syntax.tnil)))))),
+        ) (List._∷_ (
+          1,
+          Mut.mslice
+              (KInstanceRow.R)
+              (Syntax.tyRef
+              (Syntax.named 0)
+              Syntax.mut
+              (KInstanceRow.named))
+              0,
+        ) (List._∷_ (
+          2,
+          Mut.mslice
+              (KRouteRow.R)
+              (Syntax.tyRef
+              (Syntax.named 1)
+              Syntax.mut
+              (KRouteRow.named))
+              1,
+        ) (List._∷_ (
+          3,
+          Relend.mslice-owed
+              (Referent.rtF (Referent.fInt Syntax.w8))
+              (Syntax.tyRef (Syntax.named 2) Syntax.mut (Syntax.tyInt Syntax.w8))
+              2
+              12
+              (Row.lease (κs .1 .1 .0) (qs .1 .1 .0)),
+        ) (List._∷_ (
+          4,
+          Mut.mslice
+              (Referent.rtF (Referent.fInt Syntax.w8))
+              (Syntax.tyRef (Syntax.named 3) Syntax.mut (Syntax.tyInt Syntax.w8))
+              3,
+        ) (List._∷_ (5, Rows'.any-gone (KOwn.spelled)) (List._∷_ (
           6,
           Rows'.sc-here (Row.sInt Syntax.w64),
         ) (List._∷_ (7, Rows'.sc-here (Row.sInt Syntax.w8)) (List._∷_ (
@@ -18045,6 +19558,13 @@ module _ (claims· : Claims) where
               (Syntax.tcons Syntax.tyBool (Syntax.tcons (Syntax.tyInt Syntax.w64) Syntax.tnil))))),
         ) (List._∷_ (
           14,
+          Rows'.sc-shr
+              (KOwn.row)
+              (KOwn.R)
+              (λ x. x)
+              13,
+        ) (List._∷_ (
+          15,
           Rows'.any-gone
               (Syntax.tyStruct
               (List._∷_
@@ -18071,42 +19591,10 @@ module _ (claims· : Claims) where
               (Syntax.tcons
               (Syntax.tyInt Syntax.w64)
               (Syntax.tcons (Syntax.tyInt Syntax.w64) Syntax.tnil)))),
-        ) (List._∷_ (
-          15,
-          Rows'.any-gone
-              (Syntax.tyStruct
-              (List._∷_
-              112
-              (List._∷_
-              108
-              (List._∷_
-              97
-              (List._∷_
-              99
-              (List._∷_
-              101
-              (List._∷_
-              58
-              (List._∷_
-              58
-              (List._∷_
-              82
-              (List._∷_
-              111
-              (List._∷_
-              117
-              (List._∷_
-              116
-              (List._∷_
-              101
-              (List._∷_
-              80
-              (List._∷_ 108 (List._∷_ 97 (List._∷_ 99 (List._∷_ 101 List.[])))))))))))))))))
-              (Syntax.tcons Syntax.tyBool (Syntax.tcons (Syntax.tyInt Syntax.w64) Syntax.tnil))),
         ) List.[])))))))))))))))
 
-        abbrev g42 : List.List Row.Entry
-        g42 = List._∷_ (
+        abbrev g50 : List.List Row.Entry
+        g50 = List._∷_ (
           0,
           Rows'.any-gone
               (Syntax.tyStruct
@@ -18374,9 +19862,9 @@ module _ (claims· : Claims) where
               (Referent.rtF (Referent.fInt Syntax.w8))
               (Syntax.tyRef (Syntax.named 3) Syntax.mut (Syntax.tyInt Syntax.w8))
               3
-              13
+              14
               (Row.lease (κs .1 .1 .1 .0) (qs .1 .1 .1 .0)),
-        ) (List._∷_ (5, Rows'.whole (Declared.row Own.the-type)) (List._∷_ (
+        ) (List._∷_ (5, Rows'.any-gone (KOwn.spelled)) (List._∷_ (
           6,
           Rows'.sc-here (Row.sInt Syntax.w64),
         ) (List._∷_ (7, Rows'.sc-here (Row.sInt Syntax.w8)) (List._∷_ (
@@ -18444,8 +19932,8 @@ module _ (claims· : Claims) where
               (Syntax.tcons
               (Syntax.tyInt Syntax.w64)
               (Syntax.tcons Syntax.tyBool (Syntax.tcons (Syntax.tyInt Syntax.w64) Syntax.tnil))))),
-        ) (List._∷_ (
-          14,
+        ) (List._∷_ (14, KOwn.row) (List._∷_ (
+          15,
           Rows'.any-gone
               (Syntax.tyStruct
               (List._∷_
@@ -18472,42 +19960,10 @@ module _ (claims· : Claims) where
               (Syntax.tcons
               (Syntax.tyInt Syntax.w64)
               (Syntax.tcons (Syntax.tyInt Syntax.w64) Syntax.tnil)))),
-        ) (List._∷_ (
-          15,
-          Rows'.any-gone
-              (Syntax.tyStruct
-              (List._∷_
-              112
-              (List._∷_
-              108
-              (List._∷_
-              97
-              (List._∷_
-              99
-              (List._∷_
-              101
-              (List._∷_
-              58
-              (List._∷_
-              58
-              (List._∷_
-              82
-              (List._∷_
-              111
-              (List._∷_
-              117
-              (List._∷_
-              116
-              (List._∷_
-              101
-              (List._∷_
-              80
-              (List._∷_ 108 (List._∷_ 97 (List._∷_ 99 (List._∷_ 101 List.[])))))))))))))))))
-              (Syntax.tcons Syntax.tyBool (Syntax.tcons (Syntax.tyInt Syntax.w64) Syntax.tnil))),
         ) List.[])))))))))))))))
 
-        abbrev g47 : List.List Row.Entry
-        g47 = List._∷_ (
+        abbrev g53 : List.List Row.Entry
+        g53 = List._∷_ (
           0,
           Rows'.any-gone
               (Syntax.tyStruct
@@ -18775,26 +20231,15 @@ module _ (claims· : Claims) where
               (Referent.rtF (Referent.fInt Syntax.w8))
               (Syntax.tyRef (Syntax.named 3) Syntax.mut (Syntax.tyInt Syntax.w8))
               3
-              13
+              14
               (Row.lease (κs .1 .1 .1 .0) (qs .1 .1 .1 .0)),
+        ) (List._∷_ (5, Rows'.any-gone (KOwn.spelled)) (List._∷_ (
+          6,
+          Rows'.sc-here (Row.sInt Syntax.w64),
+        ) (List._∷_ (7, Rows'.sc-here (Row.sInt Syntax.w8)) (List._∷_ (
+          8,
+          Rows'.sc-here (Row.sInt Syntax.w64),
         ) (List._∷_ (
-          5,
-          Rows'.any-gone
-              (Syntax.tyStruct
-              (List._∷_
-              111
-              (List._∷_
-              119
-              (List._∷_
-              110
-              (List._∷_ 58 (List._∷_ 58 (List._∷_ 79 (List._∷_ 119 (List._∷_ 110 List.[]))))))))
-              (Syntax.tcons
-              (Syntax.tyArray (Syntax.tyInt Syntax.w8) 16)
-              (Syntax.tcons (Syntax.tyArray (Syntax.tyInt Syntax.w8) 16) Syntax.tnil))),
-        ) (List._∷_ (6, Rows'.sc-here (Row.sInt Syntax.w64)) (List._∷_ (
-          7,
-          Rows'.sc-here (Row.sInt Syntax.w8),
-        ) (List._∷_ (8, Rows'.sc-here (Row.sInt Syntax.w64)) (List._∷_ (
           9,
           Rows'.sref
               (Array'.Array (Array'.Array (Referent.rtF (Referent.fInt Syntax.w8)) 16) 16)
@@ -18858,6 +20303,13 @@ module _ (claims· : Claims) where
               (Syntax.tcons Syntax.tyBool (Syntax.tcons (Syntax.tyInt Syntax.w64) Syntax.tnil))))),
         ) (List._∷_ (
           14,
+          Rows'.sc-shr
+              (KOwn.row)
+              (KOwn.R)
+              (λ x. x)
+              15,
+        ) (List._∷_ (
+          15,
           Rows'.any-gone
               (Syntax.tyStruct
               (List._∷_
@@ -18884,38 +20336,6 @@ module _ (claims· : Claims) where
               (Syntax.tcons
               (Syntax.tyInt Syntax.w64)
               (Syntax.tcons (Syntax.tyInt Syntax.w64) Syntax.tnil)))),
-        ) (List._∷_ (
-          15,
-          Rows'.any-gone
-              (Syntax.tyStruct
-              (List._∷_
-              112
-              (List._∷_
-              108
-              (List._∷_
-              97
-              (List._∷_
-              99
-              (List._∷_
-              101
-              (List._∷_
-              58
-              (List._∷_
-              58
-              (List._∷_
-              82
-              (List._∷_
-              111
-              (List._∷_
-              117
-              (List._∷_
-              116
-              (List._∷_
-              101
-              (List._∷_
-              80
-              (List._∷_ 108 (List._∷_ 97 (List._∷_ 99 (List._∷_ 101 List.[])))))))))))))))))
-              (Syntax.tcons Syntax.tyBool (Syntax.tcons (Syntax.tyInt Syntax.w64) Syntax.tnil))),
         ) List.[])))))))))))))))
 
         abbrev G0 : Row.Cx
@@ -18943,7 +20363,11 @@ module _ (claims· : Claims) where
               Row.off
               (List._∷_
               Row.off
-              (List._∷_ Row.off (List._∷_ Row.off (List._∷_ Row.off List.[])))))))))))));
+              (List._∷_
+              Row.off
+              (List._∷_
+              Row.off
+              (List._∷_ Row.off (List._∷_ Row.off (List._∷_ Row.off List.[])))))))))))))));
         }
 
         abbrev G1 : Row.Cx
@@ -18971,7 +20395,11 @@ module _ (claims· : Claims) where
               Row.off
               (List._∷_
               Row.off
-              (List._∷_ Row.off (List._∷_ Row.off (List._∷_ Row.off List.[])))))))))))));
+              (List._∷_
+              Row.off
+              (List._∷_
+              Row.off
+              (List._∷_ Row.off (List._∷_ Row.off (List._∷_ Row.off List.[])))))))))))))));
         }
 
         abbrev G2 : Row.Cx
@@ -18999,7 +20427,11 @@ module _ (claims· : Claims) where
               Row.off
               (List._∷_
               Row.off
-              (List._∷_ Row.off (List._∷_ Row.off (List._∷_ Row.off List.[])))))))))))));
+              (List._∷_
+              Row.off
+              (List._∷_
+              Row.off
+              (List._∷_ Row.off (List._∷_ Row.off (List._∷_ Row.off List.[])))))))))))))));
         }
 
         abbrev G3 : Row.Cx
@@ -19027,12 +20459,16 @@ module _ (claims· : Claims) where
               Row.off
               (List._∷_
               Row.off
-              (List._∷_ Row.off (List._∷_ Row.off (List._∷_ Row.off List.[])))))))))))));
+              (List._∷_
+              Row.off
+              (List._∷_
+              Row.off
+              (List._∷_ Row.off (List._∷_ Row.off (List._∷_ Row.off List.[])))))))))))))));
         }
 
         abbrev G4 : Row.Cx
         G4 = record {
-          locals = List._++_ t0 (List._++_ t1 t2);
+          locals = List._++_ t4 (List._++_ t1 t2);
           slots = List._∷_
               (Row.lease (κs .0) (qs .0))
               (List._∷_
@@ -19050,19 +20486,23 @@ module _ (claims· : Claims) where
               (List._∷_
               (Row.lease (κs .1 .1 .1 .1 .1 .1 .1 .0) (qs .1 .1 .1 .1 .1 .1 .1 .0))
               (List._∷_
-              Row.alive
+              Row.off
+              (List._∷_
+              Row.off
               (List._∷_
               Row.off
               (List._∷_
               Row.off
-              (List._∷_ Row.off (List._∷_ Row.off (List._∷_ Row.off List.[])))))))))))));
+              (List._∷_
+              Row.off
+              (List._∷_ Row.off (List._∷_ Row.off (List._∷_ Row.off List.[])))))))))))))));
         }
 
         abbrev G5 : Row.Cx
         G5 = record {
-          locals = List._++_ g4 (List._++_ t5 t2);
+          locals = List._++_ t5 (List._++_ t1 t2);
           slots = List._∷_
-              Row.off
+              (Row.lease (κs .0) (qs .0))
               (List._∷_
               (Row.lease (κs .1 .0) (qs .1 .0))
               (List._∷_
@@ -19078,19 +20518,23 @@ module _ (claims· : Claims) where
               (List._∷_
               (Row.lease (κs .1 .1 .1 .1 .1 .1 .1 .0) (qs .1 .1 .1 .1 .1 .1 .1 .0))
               (List._∷_
-              Row.alive
+              Row.off
+              (List._∷_
+              Row.off
               (List._∷_
               Row.off
               (List._∷_
               Row.off
-              (List._∷_ Row.off (List._∷_ Row.off (List._∷_ Row.off List.[])))))))))))));
+              (List._∷_
+              Row.off
+              (List._∷_ Row.off (List._∷_ Row.off (List._∷_ Row.off List.[])))))))))))))));
         }
 
         abbrev G6 : Row.Cx
         G6 = record {
-          locals = List._++_ g4 (List._++_ t6 t2);
+          locals = List._++_ t5 (List._++_ t1 t2);
           slots = List._∷_
-              Row.off
+              (Row.lease (κs .0) (qs .0))
               (List._∷_
               (Row.lease (κs .1 .0) (qs .1 .0))
               (List._∷_
@@ -19111,12 +20555,16 @@ module _ (claims· : Claims) where
               Row.off
               (List._∷_
               Row.off
-              (List._∷_ Row.off (List._∷_ Row.off (List._∷_ Row.off List.[])))))))))))));
+              (List._∷_
+              Row.off
+              (List._∷_
+              Row.off
+              (List._∷_ Row.off (List._∷_ Row.off (List._∷_ Row.off List.[])))))))))))))));
         }
 
         abbrev G7 : Row.Cx
         G7 = record {
-          locals = List._++_ g4 (List._++_ t7 t2);
+          locals = List._++_ g6 (List._++_ t7 t2);
           slots = List._∷_
               Row.off
               (List._∷_
@@ -19139,12 +20587,16 @@ module _ (claims· : Claims) where
               Row.off
               (List._∷_
               Row.off
-              (List._∷_ Row.off (List._∷_ Row.off (List._∷_ Row.off List.[])))))))))))));
+              (List._∷_
+              Row.off
+              (List._∷_
+              Row.off
+              (List._∷_ Row.off (List._∷_ Row.off (List._∷_ Row.off List.[])))))))))))))));
         }
 
         abbrev G8 : Row.Cx
         G8 = record {
-          locals = List._++_ g4 (List._++_ t8 t2);
+          locals = List._++_ g6 (List._++_ t8 t2);
           slots = List._∷_
               Row.off
               (List._∷_
@@ -19167,12 +20619,16 @@ module _ (claims· : Claims) where
               Row.off
               (List._∷_
               Row.off
-              (List._∷_ Row.off (List._∷_ Row.off (List._∷_ Row.off List.[])))))))))))));
+              (List._∷_
+              Row.off
+              (List._∷_
+              Row.off
+              (List._∷_ Row.off (List._∷_ Row.off (List._∷_ Row.off List.[])))))))))))))));
         }
 
         abbrev G9 : Row.Cx
         G9 = record {
-          locals = List._++_ g4 (List._++_ t9 t2);
+          locals = List._++_ g6 (List._++_ t9 t2);
           slots = List._∷_
               Row.off
               (List._∷_
@@ -19195,12 +20651,16 @@ module _ (claims· : Claims) where
               Row.off
               (List._∷_
               Row.off
-              (List._∷_ Row.off (List._∷_ Row.off (List._∷_ Row.off List.[])))))))))))));
+              (List._∷_
+              Row.off
+              (List._∷_
+              Row.off
+              (List._∷_ Row.off (List._∷_ Row.off (List._∷_ Row.off List.[])))))))))))))));
         }
 
         abbrev G10 : Row.Cx
         G10 = record {
-          locals = List._++_ g10 (List._++_ t9 t2);
+          locals = List._++_ g6 (List._++_ t10 t2);
           slots = List._∷_
               Row.off
               (List._∷_
@@ -19223,12 +20683,16 @@ module _ (claims· : Claims) where
               Row.off
               (List._∷_
               Row.off
-              (List._∷_ Row.off (List._∷_ Row.off (List._∷_ Row.off List.[])))))))))))));
+              (List._∷_
+              Row.off
+              (List._∷_
+              Row.off
+              (List._∷_ Row.off (List._∷_ Row.off (List._∷_ Row.off List.[])))))))))))))));
         }
 
         abbrev G11 : Row.Cx
         G11 = record {
-          locals = List._++_ g10 (List._++_ t11 t2);
+          locals = List._++_ g6 (List._++_ t11 t2);
           slots = List._∷_
               Row.off
               (List._∷_
@@ -19251,12 +20715,16 @@ module _ (claims· : Claims) where
               Row.off
               (List._∷_
               Row.off
-              (List._∷_ Row.off (List._∷_ Row.off (List._∷_ Row.off List.[])))))))))))));
+              (List._∷_
+              Row.off
+              (List._∷_
+              Row.off
+              (List._∷_ Row.off (List._∷_ Row.off (List._∷_ Row.off List.[])))))))))))))));
         }
 
         abbrev G12 : Row.Cx
         G12 = record {
-          locals = List._++_ g10 (List._++_ t1 t2);
+          locals = List._++_ g12 (List._++_ t11 t2);
           slots = List._∷_
               Row.off
               (List._∷_
@@ -19279,12 +20747,16 @@ module _ (claims· : Claims) where
               Row.off
               (List._∷_
               Row.off
-              (List._∷_ Row.off (List._∷_ Row.off (List._∷_ Row.off List.[])))))))))))));
+              (List._∷_
+              Row.off
+              (List._∷_
+              Row.off
+              (List._∷_ Row.off (List._∷_ Row.off (List._∷_ Row.off List.[])))))))))))))));
         }
 
         abbrev G13 : Row.Cx
         G13 = record {
-          locals = List._++_ g10 (List._++_ t1 t2);
+          locals = List._++_ g12 (List._++_ t13 t2);
           slots = List._∷_
               Row.off
               (List._∷_
@@ -19302,19 +20774,23 @@ module _ (claims· : Claims) where
               (List._∷_
               (Row.lease (κs .1 .1 .1 .1 .1 .1 .1 .0) (qs .1 .1 .1 .1 .1 .1 .1 .0))
               (List._∷_
-              Row.dead
+              Row.alive
               (List._∷_
               Row.off
               (List._∷_
               Row.off
-              (List._∷_ Row.off (List._∷_ Row.off (List._∷_ Row.off List.[])))))))))))));
+              (List._∷_
+              Row.off
+              (List._∷_
+              Row.off
+              (List._∷_ Row.off (List._∷_ Row.off (List._∷_ Row.off List.[])))))))))))))));
         }
 
         abbrev G14 : Row.Cx
         G14 = record {
-          locals = List._++_ t12 (List._++_ t1 t2);
+          locals = List._++_ g12 (List._++_ t1 t2);
           slots = List._∷_
-              (Row.lease (κs .0) (qs .0))
+              Row.off
               (List._∷_
               (Row.lease (κs .1 .0) (qs .1 .0))
               (List._∷_
@@ -19330,19 +20806,23 @@ module _ (claims· : Claims) where
               (List._∷_
               (Row.lease (κs .1 .1 .1 .1 .1 .1 .1 .0) (qs .1 .1 .1 .1 .1 .1 .1 .0))
               (List._∷_
-              Row.dead
+              Row.alive
               (List._∷_
               Row.off
               (List._∷_
               Row.off
-              (List._∷_ Row.off (List._∷_ Row.off (List._∷_ Row.off List.[])))))))))))));
+              (List._∷_
+              Row.off
+              (List._∷_
+              Row.off
+              (List._∷_ Row.off (List._∷_ Row.off (List._∷_ Row.off List.[])))))))))))))));
         }
 
         abbrev G15 : Row.Cx
         G15 = record {
-          locals = List._++_ t12 (List._++_ t1 t2);
+          locals = List._++_ g12 (List._++_ t1 t2);
           slots = List._∷_
-              (Row.lease (κs .0) (qs .0))
+              Row.off
               (List._∷_
               (Row.lease (κs .1 .0) (qs .1 .0))
               (List._∷_
@@ -19358,17 +20838,21 @@ module _ (claims· : Claims) where
               (List._∷_
               (Row.lease (κs .1 .1 .1 .1 .1 .1 .1 .0) (qs .1 .1 .1 .1 .1 .1 .1 .0))
               (List._∷_
+              Row.dead
+              (List._∷_
+              Row.off
+              (List._∷_
               Row.off
               (List._∷_
               Row.off
               (List._∷_
               Row.off
-              (List._∷_ Row.off (List._∷_ Row.off (List._∷_ Row.off List.[])))))))))))));
+              (List._∷_ Row.off (List._∷_ Row.off (List._∷_ Row.off List.[])))))))))))))));
         }
 
         abbrev G16 : Row.Cx
         G16 = record {
-          locals = List._++_ t12 (List._++_ t1 t2);
+          locals = List._++_ t14 (List._++_ t1 t2);
           slots = List._∷_
               (Row.lease (κs .0) (qs .0))
               (List._∷_
@@ -19386,21 +20870,25 @@ module _ (claims· : Claims) where
               (List._∷_
               (Row.lease (κs .1 .1 .1 .1 .1 .1 .1 .0) (qs .1 .1 .1 .1 .1 .1 .1 .0))
               (List._∷_
-              Row.off
-              (List._∷_
-              Row.alive
+              Row.dead
               (List._∷_
               Row.off
-              (List._∷_ Row.off (List._∷_ Row.off (List._∷_ Row.off List.[])))))))))))));
+              (List._∷_
+              Row.off
+              (List._∷_
+              Row.off
+              (List._∷_
+              Row.off
+              (List._∷_ Row.off (List._∷_ Row.off (List._∷_ Row.off List.[])))))))))))))));
         }
 
         abbrev G17 : Row.Cx
         G17 = record {
-          locals = List._++_ g13 (List._++_ t14 t2);
+          locals = List._++_ t14 (List._++_ t1 t2);
           slots = List._∷_
               (Row.lease (κs .0) (qs .0))
               (List._∷_
-              Row.off
+              (Row.lease (κs .1 .0) (qs .1 .0))
               (List._∷_
               (Row.lease (κs .1 .1 .0) (qs .1 .1 .0))
               (List._∷_
@@ -19416,19 +20904,23 @@ module _ (claims· : Claims) where
               (List._∷_
               Row.off
               (List._∷_
-              Row.alive
+              Row.off
               (List._∷_
               Row.off
-              (List._∷_ Row.off (List._∷_ Row.off (List._∷_ Row.off List.[])))))))))))));
+              (List._∷_
+              Row.off
+              (List._∷_
+              Row.off
+              (List._∷_ Row.off (List._∷_ Row.off (List._∷_ Row.off List.[])))))))))))))));
         }
 
         abbrev G18 : Row.Cx
         G18 = record {
-          locals = List._++_ g13 (List._++_ t15 t2);
+          locals = List._++_ t14 (List._++_ t1 t2);
           slots = List._∷_
               (Row.lease (κs .0) (qs .0))
               (List._∷_
-              Row.off
+              (Row.lease (κs .1 .0) (qs .1 .0))
               (List._∷_
               (Row.lease (κs .1 .1 .0) (qs .1 .1 .0))
               (List._∷_
@@ -19447,12 +20939,16 @@ module _ (claims· : Claims) where
               Row.alive
               (List._∷_
               Row.off
-              (List._∷_ Row.off (List._∷_ Row.off (List._∷_ Row.off List.[])))))))))))));
+              (List._∷_
+              Row.off
+              (List._∷_
+              Row.off
+              (List._∷_ Row.off (List._∷_ Row.off (List._∷_ Row.off List.[])))))))))))))));
         }
 
         abbrev G19 : Row.Cx
         G19 = record {
-          locals = List._++_ g13 (List._++_ t16 t2);
+          locals = List._++_ g15 (List._++_ t16 t2);
           slots = List._∷_
               (Row.lease (κs .0) (qs .0))
               (List._∷_
@@ -19475,12 +20971,16 @@ module _ (claims· : Claims) where
               Row.alive
               (List._∷_
               Row.off
-              (List._∷_ Row.off (List._∷_ Row.off (List._∷_ Row.off List.[])))))))))))));
+              (List._∷_
+              Row.off
+              (List._∷_
+              Row.off
+              (List._∷_ Row.off (List._∷_ Row.off (List._∷_ Row.off List.[])))))))))))))));
         }
 
         abbrev G20 : Row.Cx
         G20 = record {
-          locals = List._++_ g13 (List._++_ t17 t2);
+          locals = List._++_ g15 (List._++_ t17 t2);
           slots = List._∷_
               (Row.lease (κs .0) (qs .0))
               (List._∷_
@@ -19503,12 +21003,16 @@ module _ (claims· : Claims) where
               Row.alive
               (List._∷_
               Row.off
-              (List._∷_ Row.off (List._∷_ Row.off (List._∷_ Row.off List.[])))))))))))));
+              (List._∷_
+              Row.off
+              (List._∷_
+              Row.off
+              (List._∷_ Row.off (List._∷_ Row.off (List._∷_ Row.off List.[])))))))))))))));
         }
 
         abbrev G21 : Row.Cx
         G21 = record {
-          locals = List._++_ g13 (List._++_ t18 t2);
+          locals = List._++_ g15 (List._++_ t18 t2);
           slots = List._∷_
               (Row.lease (κs .0) (qs .0))
               (List._∷_
@@ -19531,12 +21035,16 @@ module _ (claims· : Claims) where
               Row.alive
               (List._∷_
               Row.off
-              (List._∷_ Row.off (List._∷_ Row.off (List._∷_ Row.off List.[])))))))))))));
+              (List._∷_
+              Row.off
+              (List._∷_
+              Row.off
+              (List._∷_ Row.off (List._∷_ Row.off (List._∷_ Row.off List.[])))))))))))))));
         }
 
         abbrev G22 : Row.Cx
         G22 = record {
-          locals = List._++_ g19 (List._++_ t18 t2);
+          locals = List._++_ g15 (List._++_ t19 t2);
           slots = List._∷_
               (Row.lease (κs .0) (qs .0))
               (List._∷_
@@ -19559,12 +21067,16 @@ module _ (claims· : Claims) where
               Row.alive
               (List._∷_
               Row.off
-              (List._∷_ Row.off (List._∷_ Row.off (List._∷_ Row.off List.[])))))))))))));
+              (List._∷_
+              Row.off
+              (List._∷_
+              Row.off
+              (List._∷_ Row.off (List._∷_ Row.off (List._∷_ Row.off List.[])))))))))))))));
         }
 
         abbrev G23 : Row.Cx
         G23 = record {
-          locals = List._++_ g19 (List._++_ t11 t2);
+          locals = List._++_ g15 (List._++_ t20 t2);
           slots = List._∷_
               (Row.lease (κs .0) (qs .0))
               (List._∷_
@@ -19587,12 +21099,16 @@ module _ (claims· : Claims) where
               Row.alive
               (List._∷_
               Row.off
-              (List._∷_ Row.off (List._∷_ Row.off (List._∷_ Row.off List.[])))))))))))));
+              (List._∷_
+              Row.off
+              (List._∷_
+              Row.off
+              (List._∷_ Row.off (List._∷_ Row.off (List._∷_ Row.off List.[])))))))))))))));
         }
 
         abbrev G24 : Row.Cx
         G24 = record {
-          locals = List._++_ g20 (List._++_ t11 t2);
+          locals = List._++_ g15 (List._++_ t21 t2);
           slots = List._∷_
               (Row.lease (κs .0) (qs .0))
               (List._∷_
@@ -19615,12 +21131,16 @@ module _ (claims· : Claims) where
               Row.alive
               (List._∷_
               Row.off
-              (List._∷_ Row.off (List._∷_ Row.off (List._∷_ Row.off List.[])))))))))))));
+              (List._∷_
+              Row.off
+              (List._∷_
+              Row.off
+              (List._∷_ Row.off (List._∷_ Row.off (List._∷_ Row.off List.[])))))))))))))));
         }
 
         abbrev G25 : Row.Cx
         G25 = record {
-          locals = List._++_ g20 (List._++_ t1 t2);
+          locals = List._++_ g15 (List._++_ t22 t2);
           slots = List._∷_
               (Row.lease (κs .0) (qs .0))
               (List._∷_
@@ -19643,12 +21163,16 @@ module _ (claims· : Claims) where
               Row.alive
               (List._∷_
               Row.off
-              (List._∷_ Row.off (List._∷_ Row.off (List._∷_ Row.off List.[])))))))))))));
+              (List._∷_
+              Row.off
+              (List._∷_
+              Row.off
+              (List._∷_ Row.off (List._∷_ Row.off (List._∷_ Row.off List.[])))))))))))))));
         }
 
         abbrev G26 : Row.Cx
         G26 = record {
-          locals = List._++_ g20 (List._++_ t1 t2);
+          locals = List._++_ g23 (List._++_ t22 t2);
           slots = List._∷_
               (Row.lease (κs .0) (qs .0))
               (List._∷_
@@ -19668,19 +21192,23 @@ module _ (claims· : Claims) where
               (List._∷_
               Row.off
               (List._∷_
-              Row.dead
+              Row.alive
               (List._∷_
               Row.off
-              (List._∷_ Row.off (List._∷_ Row.off (List._∷_ Row.off List.[])))))))))))));
+              (List._∷_
+              Row.off
+              (List._∷_
+              Row.off
+              (List._∷_ Row.off (List._∷_ Row.off (List._∷_ Row.off List.[])))))))))))))));
         }
 
         abbrev G27 : Row.Cx
         G27 = record {
-          locals = List._++_ t21 (List._++_ t1 t2);
+          locals = List._++_ g23 (List._++_ t24 t2);
           slots = List._∷_
               (Row.lease (κs .0) (qs .0))
               (List._∷_
-              (Row.lease (κs .1 .0) (qs .1 .0))
+              Row.off
               (List._∷_
               (Row.lease (κs .1 .1 .0) (qs .1 .1 .0))
               (List._∷_
@@ -19696,19 +21224,23 @@ module _ (claims· : Claims) where
               (List._∷_
               Row.off
               (List._∷_
-              Row.dead
+              Row.alive
               (List._∷_
               Row.off
-              (List._∷_ Row.off (List._∷_ Row.off (List._∷_ Row.off List.[])))))))))))));
+              (List._∷_
+              Row.off
+              (List._∷_
+              Row.off
+              (List._∷_ Row.off (List._∷_ Row.off (List._∷_ Row.off List.[])))))))))))))));
         }
 
         abbrev G28 : Row.Cx
         G28 = record {
-          locals = List._++_ t21 (List._++_ t1 t2);
+          locals = List._++_ g23 (List._++_ t24 t2);
           slots = List._∷_
               (Row.lease (κs .0) (qs .0))
               (List._∷_
-              (Row.lease (κs .1 .0) (qs .1 .0))
+              Row.off
               (List._∷_
               (Row.lease (κs .1 .1 .0) (qs .1 .1 .0))
               (List._∷_
@@ -19724,15 +21256,19 @@ module _ (claims· : Claims) where
               (List._∷_
               Row.off
               (List._∷_
+              Row.dead
+              (List._∷_
               Row.off
               (List._∷_
               Row.off
-              (List._∷_ Row.off (List._∷_ Row.off (List._∷_ Row.off List.[])))))))))))));
+              (List._∷_
+              Row.off
+              (List._∷_ Row.off (List._∷_ Row.off (List._∷_ Row.off List.[])))))))))))))));
         }
 
         abbrev G29 : Row.Cx
         G29 = record {
-          locals = List._++_ t21 (List._++_ t22 t2);
+          locals = List._++_ t25 (List._++_ t24 t2);
           slots = List._∷_
               (Row.lease (κs .0) (qs .0))
               (List._∷_
@@ -19752,15 +21288,19 @@ module _ (claims· : Claims) where
               (List._∷_
               Row.off
               (List._∷_
+              Row.dead
+              (List._∷_
               Row.off
               (List._∷_
               Row.off
-              (List._∷_ Row.off (List._∷_ Row.off (List._∷_ Row.off List.[])))))))))))));
+              (List._∷_
+              Row.off
+              (List._∷_ Row.off (List._∷_ Row.off (List._∷_ Row.off List.[])))))))))))))));
         }
 
         abbrev G30 : Row.Cx
         G30 = record {
-          locals = List._++_ t23 (List._++_ t1 t2);
+          locals = List._++_ t25 (List._++_ t24 t2);
           slots = List._∷_
               (Row.lease (κs .0) (qs .0))
               (List._∷_
@@ -19783,12 +21323,16 @@ module _ (claims· : Claims) where
               Row.off
               (List._∷_
               Row.off
-              (List._∷_ Row.off (List._∷_ Row.off (List._∷_ Row.off List.[])))))))))))));
+              (List._∷_
+              Row.off
+              (List._∷_
+              Row.off
+              (List._∷_ Row.off (List._∷_ Row.off (List._∷_ Row.off List.[])))))))))))))));
         }
 
         abbrev G31 : Row.Cx
         G31 = record {
-          locals = List._++_ t21 (List._++_ t1 t2);
+          locals = List._++_ t25 (List._++_ t26 t2);
           slots = List._∷_
               (Row.lease (κs .0) (qs .0))
               (List._∷_
@@ -19811,12 +21355,16 @@ module _ (claims· : Claims) where
               Row.off
               (List._∷_
               Row.off
-              (List._∷_ Row.off (List._∷_ Row.off (List._∷_ Row.off List.[])))))))))))));
+              (List._∷_
+              Row.off
+              (List._∷_
+              Row.off
+              (List._∷_ Row.off (List._∷_ Row.off (List._∷_ Row.off List.[])))))))))))))));
         }
 
         abbrev G32 : Row.Cx
         G32 = record {
-          locals = List._++_ t21 (List._++_ t1 t2);
+          locals = List._++_ t27 (List._++_ t1 t2);
           slots = List._∷_
               (Row.lease (κs .0) (qs .0))
               (List._∷_
@@ -19838,15 +21386,19 @@ module _ (claims· : Claims) where
               (List._∷_
               Row.off
               (List._∷_
-              Row.alive
-              (List._∷_ Row.off (List._∷_ Row.off (List._∷_ Row.off List.[])))))))))))));
+              Row.off
+              (List._∷_
+              Row.off
+              (List._∷_
+              Row.off
+              (List._∷_ Row.off (List._∷_ Row.off (List._∷_ Row.off List.[])))))))))))))));
         }
 
         abbrev G33 : Row.Cx
         G33 = record {
-          locals = List._++_ g24 (List._++_ t25 t2);
+          locals = List._++_ t25 (List._++_ t24 t2);
           slots = List._∷_
-              Row.off
+              (Row.lease (κs .0) (qs .0))
               (List._∷_
               (Row.lease (κs .1 .0) (qs .1 .0))
               (List._∷_
@@ -19866,15 +21418,19 @@ module _ (claims· : Claims) where
               (List._∷_
               Row.off
               (List._∷_
-              Row.alive
-              (List._∷_ Row.off (List._∷_ Row.off (List._∷_ Row.off List.[])))))))))))));
+              Row.off
+              (List._∷_
+              Row.off
+              (List._∷_
+              Row.off
+              (List._∷_ Row.off (List._∷_ Row.off (List._∷_ Row.off List.[])))))))))))))));
         }
 
         abbrev G34 : Row.Cx
         G34 = record {
-          locals = List._++_ g24 (List._++_ t26 t2);
+          locals = List._++_ t25 (List._++_ t24 t2);
           slots = List._∷_
-              Row.off
+              (Row.lease (κs .0) (qs .0))
               (List._∷_
               (Row.lease (κs .1 .0) (qs .1 .0))
               (List._∷_
@@ -19895,12 +21451,16 @@ module _ (claims· : Claims) where
               Row.off
               (List._∷_
               Row.alive
-              (List._∷_ Row.off (List._∷_ Row.off (List._∷_ Row.off List.[])))))))))))));
+              (List._∷_
+              Row.off
+              (List._∷_
+              Row.off
+              (List._∷_ Row.off (List._∷_ Row.off (List._∷_ Row.off List.[])))))))))))))));
         }
 
         abbrev G35 : Row.Cx
         G35 = record {
-          locals = List._++_ g24 (List._++_ t26 t2);
+          locals = List._++_ g28 (List._++_ t29 t2);
           slots = List._∷_
               Row.off
               (List._∷_
@@ -19923,16 +21483,20 @@ module _ (claims· : Claims) where
               Row.off
               (List._∷_
               Row.alive
-              (List._∷_ Row.alive (List._∷_ Row.off (List._∷_ Row.off List.[])))))))))))));
+              (List._∷_
+              Row.off
+              (List._∷_
+              Row.off
+              (List._∷_ Row.off (List._∷_ Row.off (List._∷_ Row.off List.[])))))))))))))));
         }
 
         abbrev G36 : Row.Cx
         G36 = record {
-          locals = List._++_ g27 (List._++_ t28 t2);
+          locals = List._++_ g28 (List._++_ t30 t2);
           slots = List._∷_
               Row.off
               (List._∷_
-              Row.off
+              (Row.lease (κs .1 .0) (qs .1 .0))
               (List._∷_
               (Row.lease (κs .1 .1 .0) (qs .1 .1 .0))
               (List._∷_
@@ -19951,16 +21515,20 @@ module _ (claims· : Claims) where
               Row.off
               (List._∷_
               Row.alive
-              (List._∷_ Row.alive (List._∷_ Row.off (List._∷_ Row.off List.[])))))))))))));
+              (List._∷_
+              Row.off
+              (List._∷_
+              Row.off
+              (List._∷_ Row.off (List._∷_ Row.off (List._∷_ Row.off List.[])))))))))))))));
         }
 
         abbrev G37 : Row.Cx
         G37 = record {
-          locals = List._++_ g27 (List._++_ t29 t2);
+          locals = List._++_ g28 (List._++_ t30 t2);
           slots = List._∷_
               Row.off
               (List._∷_
-              Row.off
+              (Row.lease (κs .1 .0) (qs .1 .0))
               (List._∷_
               (Row.lease (κs .1 .1 .0) (qs .1 .1 .0))
               (List._∷_
@@ -19979,12 +21547,16 @@ module _ (claims· : Claims) where
               Row.off
               (List._∷_
               Row.alive
-              (List._∷_ Row.alive (List._∷_ Row.off (List._∷_ Row.off List.[])))))))))))));
+              (List._∷_
+              Row.alive
+              (List._∷_
+              Row.off
+              (List._∷_ Row.off (List._∷_ Row.off (List._∷_ Row.off List.[])))))))))))))));
         }
 
         abbrev G38 : Row.Cx
         G38 = record {
-          locals = List._++_ g27 (List._++_ t30 t2);
+          locals = List._++_ g31 (List._++_ t32 t2);
           slots = List._∷_
               Row.off
               (List._∷_
@@ -20007,12 +21579,16 @@ module _ (claims· : Claims) where
               Row.off
               (List._∷_
               Row.alive
-              (List._∷_ Row.alive (List._∷_ Row.off (List._∷_ Row.off List.[])))))))))))));
+              (List._∷_
+              Row.alive
+              (List._∷_
+              Row.off
+              (List._∷_ Row.off (List._∷_ Row.off (List._∷_ Row.off List.[])))))))))))))));
         }
 
         abbrev G39 : Row.Cx
         G39 = record {
-          locals = List._++_ g31 (List._++_ t30 t2);
+          locals = List._++_ g31 (List._++_ t33 t2);
           slots = List._∷_
               Row.off
               (List._∷_
@@ -20035,12 +21611,16 @@ module _ (claims· : Claims) where
               Row.off
               (List._∷_
               Row.alive
-              (List._∷_ Row.alive (List._∷_ Row.off (List._∷_ Row.off List.[])))))))))))));
+              (List._∷_
+              Row.alive
+              (List._∷_
+              Row.off
+              (List._∷_ Row.off (List._∷_ Row.off (List._∷_ Row.off List.[])))))))))))))));
         }
 
         abbrev G40 : Row.Cx
         G40 = record {
-          locals = List._++_ g32 (List._++_ t30 t2);
+          locals = List._++_ g31 (List._++_ t34 t2);
           slots = List._∷_
               Row.off
               (List._∷_
@@ -20063,12 +21643,16 @@ module _ (claims· : Claims) where
               Row.off
               (List._∷_
               Row.alive
-              (List._∷_ Row.alive (List._∷_ Row.off (List._∷_ Row.off List.[])))))))))))));
+              (List._∷_
+              Row.alive
+              (List._∷_
+              Row.off
+              (List._∷_ Row.off (List._∷_ Row.off (List._∷_ Row.off List.[])))))))))))))));
         }
 
         abbrev G41 : Row.Cx
         G41 = record {
-          locals = List._++_ g32 (List._++_ t33 t2);
+          locals = List._++_ g35 (List._++_ t34 t2);
           slots = List._∷_
               Row.off
               (List._∷_
@@ -20091,12 +21675,16 @@ module _ (claims· : Claims) where
               Row.off
               (List._∷_
               Row.alive
-              (List._∷_ Row.alive (List._∷_ Row.off (List._∷_ Row.off List.[])))))))))))));
+              (List._∷_
+              Row.alive
+              (List._∷_
+              Row.off
+              (List._∷_ Row.off (List._∷_ Row.off (List._∷_ Row.off List.[])))))))))))))));
         }
 
         abbrev G42 : Row.Cx
         G42 = record {
-          locals = List._++_ g32 (List._++_ t33 t2);
+          locals = List._++_ g35 (List._++_ t36 t2);
           slots = List._∷_
               Row.off
               (List._∷_
@@ -20118,13 +21706,81 @@ module _ (claims· : Claims) where
               (List._∷_
               Row.off
               (List._∷_
-              Row.dead
-              (List._∷_ Row.alive (List._∷_ Row.off (List._∷_ Row.off List.[])))))))))))));
+              Row.alive
+              (List._∷_
+              Row.alive
+              (List._∷_
+              Row.off
+              (List._∷_ Row.off (List._∷_ Row.off (List._∷_ Row.off List.[])))))))))))))));
         }
 
         abbrev G43 : Row.Cx
         G43 = record {
-          locals = List._++_ g34 (List._++_ t35 t2);
+          locals = List._++_ g35 (List._++_ t37 t2);
+          slots = List._∷_
+              Row.off
+              (List._∷_
+              Row.off
+              (List._∷_
+              (Row.lease (κs .1 .1 .0) (qs .1 .1 .0))
+              (List._∷_
+              (Row.lease (κs .1 .1 .1 .0) (qs .1 .1 .1 .0))
+              (List._∷_
+              (Row.lease (κs .1 .1 .1 .1 .0) (qs .1 .1 .1 .1 .0))
+              (List._∷_
+              (Row.lease (κs .1 .1 .1 .1 .1 .0) (qs .1 .1 .1 .1 .1 .0))
+              (List._∷_
+              (Row.lease (κs .1 .1 .1 .1 .1 .1 .0) (qs .1 .1 .1 .1 .1 .1 .0))
+              (List._∷_
+              (Row.lease (κs .1 .1 .1 .1 .1 .1 .1 .0) (qs .1 .1 .1 .1 .1 .1 .1 .0))
+              (List._∷_
+              Row.off
+              (List._∷_
+              Row.off
+              (List._∷_
+              Row.alive
+              (List._∷_
+              Row.alive
+              (List._∷_
+              Row.off
+              (List._∷_ Row.off (List._∷_ Row.off (List._∷_ Row.off List.[])))))))))))))));
+        }
+
+        abbrev G44 : Row.Cx
+        G44 = record {
+          locals = List._++_ g35 (List._++_ t37 t2);
+          slots = List._∷_
+              Row.off
+              (List._∷_
+              Row.off
+              (List._∷_
+              (Row.lease (κs .1 .1 .0) (qs .1 .1 .0))
+              (List._∷_
+              (Row.lease (κs .1 .1 .1 .0) (qs .1 .1 .1 .0))
+              (List._∷_
+              (Row.lease (κs .1 .1 .1 .1 .0) (qs .1 .1 .1 .1 .0))
+              (List._∷_
+              (Row.lease (κs .1 .1 .1 .1 .1 .0) (qs .1 .1 .1 .1 .1 .0))
+              (List._∷_
+              (Row.lease (κs .1 .1 .1 .1 .1 .1 .0) (qs .1 .1 .1 .1 .1 .1 .0))
+              (List._∷_
+              (Row.lease (κs .1 .1 .1 .1 .1 .1 .1 .0) (qs .1 .1 .1 .1 .1 .1 .1 .0))
+              (List._∷_
+              Row.off
+              (List._∷_
+              Row.off
+              (List._∷_
+              Row.dead
+              (List._∷_
+              Row.alive
+              (List._∷_
+              Row.off
+              (List._∷_ Row.off (List._∷_ Row.off (List._∷_ Row.off List.[])))))))))))))));
+        }
+
+        abbrev G45 : Row.Cx
+        G45 = record {
+          locals = List._++_ g38 (List._++_ t39 t2);
           slots = List._∷_
               (Row.lease (κs .0) (qs .0))
               (List._∷_
@@ -20147,72 +21803,20 @@ module _ (claims· : Claims) where
               Row.off
               (List._∷_
               Row.dead
-              (List._∷_ Row.alive (List._∷_ Row.off (List._∷_ Row.off List.[])))))))))))));
-        }
-
-        abbrev G44 : Row.Cx
-        G44 = record {
-          locals = List._++_ g34 (List._++_ t35 t2);
-          slots = List._∷_
-              (Row.lease (κs .0) (qs .0))
+              (List._∷_
+              Row.alive
               (List._∷_
               Row.off
-              (List._∷_
-              (Row.lease (κs .1 .1 .0) (qs .1 .1 .0))
-              (List._∷_
-              (Row.lease (κs .1 .1 .1 .0) (qs .1 .1 .1 .0))
-              (List._∷_
-              (Row.lease (κs .1 .1 .1 .1 .0) (qs .1 .1 .1 .1 .0))
-              (List._∷_
-              (Row.lease (κs .1 .1 .1 .1 .1 .0) (qs .1 .1 .1 .1 .1 .0))
-              (List._∷_
-              (Row.lease (κs .1 .1 .1 .1 .1 .1 .0) (qs .1 .1 .1 .1 .1 .1 .0))
-              (List._∷_
-              (Row.lease (κs .1 .1 .1 .1 .1 .1 .1 .0) (qs .1 .1 .1 .1 .1 .1 .1 .0))
-              (List._∷_
-              Row.off
-              (List._∷_
-              Row.off
-              (List._∷_
-              Row.off
-              (List._∷_ Row.alive (List._∷_ Row.off (List._∷_ Row.off List.[])))))))))))));
-        }
-
-        abbrev G45 : Row.Cx
-        G45 = record {
-          locals = List._++_ g34 (List._++_ t35 t2);
-          slots = List._∷_
-              (Row.lease (κs .0) (qs .0))
-              (List._∷_
-              Row.off
-              (List._∷_
-              (Row.lease (κs .1 .1 .0) (qs .1 .1 .0))
-              (List._∷_
-              (Row.lease (κs .1 .1 .1 .0) (qs .1 .1 .1 .0))
-              (List._∷_
-              (Row.lease (κs .1 .1 .1 .1 .0) (qs .1 .1 .1 .1 .0))
-              (List._∷_
-              (Row.lease (κs .1 .1 .1 .1 .1 .0) (qs .1 .1 .1 .1 .1 .0))
-              (List._∷_
-              (Row.lease (κs .1 .1 .1 .1 .1 .1 .0) (qs .1 .1 .1 .1 .1 .1 .0))
-              (List._∷_
-              (Row.lease (κs .1 .1 .1 .1 .1 .1 .1 .0) (qs .1 .1 .1 .1 .1 .1 .1 .0))
-              (List._∷_
-              Row.off
-              (List._∷_
-              Row.off
-              (List._∷_
-              Row.off
-              (List._∷_ Row.dead (List._∷_ Row.off (List._∷_ Row.off List.[])))))))))))));
+              (List._∷_ Row.off (List._∷_ Row.off (List._∷_ Row.off List.[])))))))))))))));
         }
 
         abbrev G46 : Row.Cx
         G46 = record {
-          locals = List._++_ t36 (List._++_ t1 t2);
+          locals = List._++_ g38 (List._++_ t39 t2);
           slots = List._∷_
               (Row.lease (κs .0) (qs .0))
               (List._∷_
-              (Row.lease (κs .1 .0) (qs .1 .0))
+              Row.off
               (List._∷_
               (Row.lease (κs .1 .1 .0) (qs .1 .1 .0))
               (List._∷_
@@ -20231,16 +21835,20 @@ module _ (claims· : Claims) where
               Row.off
               (List._∷_
               Row.off
-              (List._∷_ Row.dead (List._∷_ Row.off (List._∷_ Row.off List.[])))))))))))));
+              (List._∷_
+              Row.alive
+              (List._∷_
+              Row.off
+              (List._∷_ Row.off (List._∷_ Row.off (List._∷_ Row.off List.[])))))))))))))));
         }
 
         abbrev G47 : Row.Cx
         G47 = record {
-          locals = List._++_ t36 (List._++_ t1 t2);
+          locals = List._++_ g38 (List._++_ t39 t2);
           slots = List._∷_
               (Row.lease (κs .0) (qs .0))
               (List._∷_
-              (Row.lease (κs .1 .0) (qs .1 .0))
+              Row.off
               (List._∷_
               (Row.lease (κs .1 .1 .0) (qs .1 .1 .0))
               (List._∷_
@@ -20259,12 +21867,16 @@ module _ (claims· : Claims) where
               Row.off
               (List._∷_
               Row.off
-              (List._∷_ Row.off (List._∷_ Row.off (List._∷_ Row.off List.[])))))))))))));
+              (List._∷_
+              Row.dead
+              (List._∷_
+              Row.off
+              (List._∷_ Row.off (List._∷_ Row.off (List._∷_ Row.off List.[])))))))))))))));
         }
 
         abbrev G48 : Row.Cx
         G48 = record {
-          locals = List._++_ t36 (List._++_ t1 t2);
+          locals = List._++_ t40 (List._++_ t1 t2);
           slots = List._∷_
               (Row.lease (κs .0) (qs .0))
               (List._∷_
@@ -20287,18 +21899,22 @@ module _ (claims· : Claims) where
               Row.off
               (List._∷_
               Row.off
-              (List._∷_ Row.off (List._∷_ Row.alive (List._∷_ Row.off List.[])))))))))))));
+              (List._∷_
+              Row.dead
+              (List._∷_
+              Row.off
+              (List._∷_ Row.off (List._∷_ Row.off (List._∷_ Row.off List.[])))))))))))))));
         }
 
         abbrev G49 : Row.Cx
         G49 = record {
-          locals = List._++_ g37 (List._++_ t38 t2);
+          locals = List._++_ t40 (List._++_ t1 t2);
           slots = List._∷_
               (Row.lease (κs .0) (qs .0))
               (List._∷_
               (Row.lease (κs .1 .0) (qs .1 .0))
               (List._∷_
-              Row.off
+              (Row.lease (κs .1 .1 .0) (qs .1 .1 .0))
               (List._∷_
               (Row.lease (κs .1 .1 .1 .0) (qs .1 .1 .1 .0))
               (List._∷_
@@ -20315,18 +21931,22 @@ module _ (claims· : Claims) where
               Row.off
               (List._∷_
               Row.off
-              (List._∷_ Row.off (List._∷_ Row.alive (List._∷_ Row.off List.[])))))))))))));
+              (List._∷_
+              Row.off
+              (List._∷_
+              Row.off
+              (List._∷_ Row.off (List._∷_ Row.off (List._∷_ Row.off List.[])))))))))))))));
         }
 
         abbrev G50 : Row.Cx
         G50 = record {
-          locals = List._++_ g37 (List._++_ t39 t2);
+          locals = List._++_ t40 (List._++_ t1 t2);
           slots = List._∷_
               (Row.lease (κs .0) (qs .0))
               (List._∷_
               (Row.lease (κs .1 .0) (qs .1 .0))
               (List._∷_
-              Row.off
+              (Row.lease (κs .1 .1 .0) (qs .1 .1 .0))
               (List._∷_
               (Row.lease (κs .1 .1 .1 .0) (qs .1 .1 .1 .0))
               (List._∷_
@@ -20343,12 +21963,16 @@ module _ (claims· : Claims) where
               Row.off
               (List._∷_
               Row.off
-              (List._∷_ Row.off (List._∷_ Row.alive (List._∷_ Row.off List.[])))))))))))));
+              (List._∷_
+              Row.off
+              (List._∷_
+              Row.alive
+              (List._∷_ Row.off (List._∷_ Row.off (List._∷_ Row.off List.[])))))))))))))));
         }
 
         abbrev G51 : Row.Cx
         G51 = record {
-          locals = List._++_ g37 (List._++_ t40 t2);
+          locals = List._++_ g41 (List._++_ t42 t2);
           slots = List._∷_
               (Row.lease (κs .0) (qs .0))
               (List._∷_
@@ -20371,12 +21995,16 @@ module _ (claims· : Claims) where
               Row.off
               (List._∷_
               Row.off
-              (List._∷_ Row.off (List._∷_ Row.alive (List._∷_ Row.off List.[])))))))))))));
+              (List._∷_
+              Row.off
+              (List._∷_
+              Row.alive
+              (List._∷_ Row.off (List._∷_ Row.off (List._∷_ Row.off List.[])))))))))))))));
         }
 
         abbrev G52 : Row.Cx
         G52 = record {
-          locals = List._++_ g37 (List._++_ t40 t2);
+          locals = List._++_ g41 (List._++_ t1 t43);
           slots = List._∷_
               (Row.lease (κs .0) (qs .0))
               (List._∷_
@@ -20399,18 +22027,22 @@ module _ (claims· : Claims) where
               Row.off
               (List._∷_
               Row.off
-              (List._∷_ Row.off (List._∷_ Row.dead (List._∷_ Row.off List.[])))))))))))));
+              (List._∷_
+              Row.off
+              (List._∷_
+              Row.alive
+              (List._∷_ Row.off (List._∷_ Row.off (List._∷_ Row.off List.[])))))))))))))));
         }
 
         abbrev G53 : Row.Cx
         G53 = record {
-          locals = List._++_ t36 (List._++_ t41 t2);
+          locals = List._++_ g41 (List._++_ t1 t43);
           slots = List._∷_
               (Row.lease (κs .0) (qs .0))
               (List._∷_
               (Row.lease (κs .1 .0) (qs .1 .0))
               (List._∷_
-              (Row.lease (κs .1 .1 .0) (qs .1 .1 .0))
+              Row.off
               (List._∷_
               (Row.lease (κs .1 .1 .1 .0) (qs .1 .1 .1 .0))
               (List._∷_
@@ -20427,18 +22059,22 @@ module _ (claims· : Claims) where
               Row.off
               (List._∷_
               Row.off
-              (List._∷_ Row.off (List._∷_ Row.dead (List._∷_ Row.off List.[])))))))))))));
+              (List._∷_
+              Row.off
+              (List._∷_
+              Row.alive
+              (List._∷_ Row.alive (List._∷_ Row.off (List._∷_ Row.off List.[])))))))))))))));
         }
 
         abbrev G54 : Row.Cx
         G54 = record {
-          locals = List._++_ t36 (List._++_ t41 t2);
+          locals = List._++_ g44 (List._++_ t1 t45);
           slots = List._∷_
               (Row.lease (κs .0) (qs .0))
               (List._∷_
               (Row.lease (κs .1 .0) (qs .1 .0))
               (List._∷_
-              (Row.lease (κs .1 .1 .0) (qs .1 .1 .0))
+              Row.off
               (List._∷_
               (Row.lease (κs .1 .1 .1 .0) (qs .1 .1 .1 .0))
               (List._∷_
@@ -20455,18 +22091,22 @@ module _ (claims· : Claims) where
               Row.off
               (List._∷_
               Row.off
-              (List._∷_ Row.off (List._∷_ Row.dead (List._∷_ Row.off List.[])))))))))))));
+              (List._∷_
+              Row.off
+              (List._∷_
+              Row.alive
+              (List._∷_ Row.alive (List._∷_ Row.off (List._∷_ Row.off List.[])))))))))))))));
         }
 
         abbrev G55 : Row.Cx
         G55 = record {
-          locals = List._++_ t36 (List._++_ t41 t2);
+          locals = List._++_ g44 (List._++_ t46 t47);
           slots = List._∷_
               (Row.lease (κs .0) (qs .0))
               (List._∷_
               (Row.lease (κs .1 .0) (qs .1 .0))
               (List._∷_
-              (Row.lease (κs .1 .1 .0) (qs .1 .1 .0))
+              Row.off
               (List._∷_
               (Row.lease (κs .1 .1 .1 .0) (qs .1 .1 .1 .0))
               (List._∷_
@@ -20483,18 +22123,22 @@ module _ (claims· : Claims) where
               Row.off
               (List._∷_
               Row.off
-              (List._∷_ Row.off (List._∷_ Row.off (List._∷_ Row.off List.[])))))))))))));
+              (List._∷_
+              Row.off
+              (List._∷_
+              Row.alive
+              (List._∷_ Row.alive (List._∷_ Row.off (List._∷_ Row.off List.[])))))))))))))));
         }
 
         abbrev G56 : Row.Cx
         G56 = record {
-          locals = List._++_ t36 (List._++_ t41 t2);
+          locals = List._++_ g44 (List._++_ t46 t48);
           slots = List._∷_
               (Row.lease (κs .0) (qs .0))
               (List._∷_
               (Row.lease (κs .1 .0) (qs .1 .0))
               (List._∷_
-              (Row.lease (κs .1 .1 .0) (qs .1 .1 .0))
+              Row.off
               (List._∷_
               (Row.lease (κs .1 .1 .1 .0) (qs .1 .1 .1 .0))
               (List._∷_
@@ -20511,20 +22155,24 @@ module _ (claims· : Claims) where
               Row.off
               (List._∷_
               Row.off
-              (List._∷_ Row.off (List._∷_ Row.off (List._∷_ Row.alive List.[])))))))))))));
+              (List._∷_
+              Row.off
+              (List._∷_
+              Row.alive
+              (List._∷_ Row.alive (List._∷_ Row.off (List._∷_ Row.off List.[])))))))))))))));
         }
 
         abbrev G57 : Row.Cx
         G57 = record {
-          locals = List._++_ g42 (List._++_ t41 t43);
+          locals = List._++_ g44 (List._++_ t46 t48);
           slots = List._∷_
               (Row.lease (κs .0) (qs .0))
               (List._∷_
               (Row.lease (κs .1 .0) (qs .1 .0))
               (List._∷_
-              (Row.lease (κs .1 .1 .0) (qs .1 .1 .0))
-              (List._∷_
               Row.off
+              (List._∷_
+              (Row.lease (κs .1 .1 .1 .0) (qs .1 .1 .1 .0))
               (List._∷_
               (Row.lease (κs .1 .1 .1 .1 .0) (qs .1 .1 .1 .1 .0))
               (List._∷_
@@ -20539,12 +22187,16 @@ module _ (claims· : Claims) where
               Row.off
               (List._∷_
               Row.off
-              (List._∷_ Row.off (List._∷_ Row.off (List._∷_ Row.alive List.[])))))))))))));
+              (List._∷_
+              Row.off
+              (List._∷_
+              Row.dead
+              (List._∷_ Row.alive (List._∷_ Row.off (List._∷_ Row.off List.[])))))))))))))));
         }
 
         abbrev G58 : Row.Cx
         G58 = record {
-          locals = List._++_ g42 (List._++_ t41 t44);
+          locals = List._++_ t49 (List._++_ t46 t2);
           slots = List._∷_
               (Row.lease (κs .0) (qs .0))
               (List._∷_
@@ -20552,7 +22204,7 @@ module _ (claims· : Claims) where
               (List._∷_
               (Row.lease (κs .1 .1 .0) (qs .1 .1 .0))
               (List._∷_
-              Row.off
+              (Row.lease (κs .1 .1 .1 .0) (qs .1 .1 .1 .0))
               (List._∷_
               (Row.lease (κs .1 .1 .1 .1 .0) (qs .1 .1 .1 .1 .0))
               (List._∷_
@@ -20567,12 +22219,16 @@ module _ (claims· : Claims) where
               Row.off
               (List._∷_
               Row.off
-              (List._∷_ Row.off (List._∷_ Row.off (List._∷_ Row.alive List.[])))))))))))));
+              (List._∷_
+              Row.off
+              (List._∷_
+              Row.dead
+              (List._∷_ Row.alive (List._∷_ Row.off (List._∷_ Row.off List.[])))))))))))))));
         }
 
         abbrev G59 : Row.Cx
         G59 = record {
-          locals = List._++_ g42 (List._++_ t45 t46);
+          locals = List._++_ t49 (List._++_ t46 t2);
           slots = List._∷_
               (Row.lease (κs .0) (qs .0))
               (List._∷_
@@ -20580,7 +22236,7 @@ module _ (claims· : Claims) where
               (List._∷_
               (Row.lease (κs .1 .1 .0) (qs .1 .1 .0))
               (List._∷_
-              Row.off
+              (Row.lease (κs .1 .1 .1 .0) (qs .1 .1 .1 .0))
               (List._∷_
               (Row.lease (κs .1 .1 .1 .1 .0) (qs .1 .1 .1 .1 .0))
               (List._∷_
@@ -20595,12 +22251,16 @@ module _ (claims· : Claims) where
               Row.off
               (List._∷_
               Row.off
-              (List._∷_ Row.off (List._∷_ Row.off (List._∷_ Row.alive List.[])))))))))))));
+              (List._∷_
+              Row.off
+              (List._∷_
+              Row.dead
+              (List._∷_ Row.alive (List._∷_ Row.off (List._∷_ Row.off List.[])))))))))))))));
         }
 
         abbrev G60 : Row.Cx
         G60 = record {
-          locals = List._++_ g47 (List._++_ t45 t46);
+          locals = List._++_ t49 (List._++_ t46 t2);
           slots = List._∷_
               (Row.lease (κs .0) (qs .0))
               (List._∷_
@@ -20608,7 +22268,7 @@ module _ (claims· : Claims) where
               (List._∷_
               (Row.lease (κs .1 .1 .0) (qs .1 .1 .0))
               (List._∷_
-              Row.off
+              (Row.lease (κs .1 .1 .1 .0) (qs .1 .1 .1 .0))
               (List._∷_
               (Row.lease (κs .1 .1 .1 .1 .0) (qs .1 .1 .1 .1 .0))
               (List._∷_
@@ -20623,12 +22283,16 @@ module _ (claims· : Claims) where
               Row.off
               (List._∷_
               Row.off
-              (List._∷_ Row.off (List._∷_ Row.off (List._∷_ Row.alive List.[])))))))))))));
+              (List._∷_
+              Row.off
+              (List._∷_
+              Row.off
+              (List._∷_ Row.alive (List._∷_ Row.off (List._∷_ Row.off List.[])))))))))))))));
         }
 
         abbrev G61 : Row.Cx
         G61 = record {
-          locals = List._++_ g47 (List._++_ t45 t46);
+          locals = List._++_ t49 (List._++_ t46 t2);
           slots = List._∷_
               (Row.lease (κs .0) (qs .0))
               (List._∷_
@@ -20636,7 +22300,7 @@ module _ (claims· : Claims) where
               (List._∷_
               (Row.lease (κs .1 .1 .0) (qs .1 .1 .0))
               (List._∷_
-              Row.off
+              (Row.lease (κs .1 .1 .1 .0) (qs .1 .1 .1 .0))
               (List._∷_
               (Row.lease (κs .1 .1 .1 .1 .0) (qs .1 .1 .1 .1 .0))
               (List._∷_
@@ -20651,12 +22315,16 @@ module _ (claims· : Claims) where
               Row.off
               (List._∷_
               Row.off
-              (List._∷_ Row.off (List._∷_ Row.off (List._∷_ Row.dead List.[])))))))))))));
+              (List._∷_
+              Row.off
+              (List._∷_
+              Row.off
+              (List._∷_ Row.dead (List._∷_ Row.off (List._∷_ Row.off List.[])))))))))))))));
         }
 
         abbrev G62 : Row.Cx
         G62 = record {
-          locals = List._++_ t23 (List._++_ t45 t2);
+          locals = List._++_ t40 (List._++_ t46 t2);
           slots = List._∷_
               (Row.lease (κs .0) (qs .0))
               (List._∷_
@@ -20679,12 +22347,16 @@ module _ (claims· : Claims) where
               Row.off
               (List._∷_
               Row.off
-              (List._∷_ Row.off (List._∷_ Row.off (List._∷_ Row.dead List.[])))))))))))));
+              (List._∷_
+              Row.off
+              (List._∷_
+              Row.off
+              (List._∷_ Row.dead (List._∷_ Row.off (List._∷_ Row.off List.[])))))))))))))));
         }
 
         abbrev G63 : Row.Cx
         G63 = record {
-          locals = List._++_ t23 (List._++_ t45 t2);
+          locals = List._++_ t40 (List._++_ t46 t2);
           slots = List._∷_
               (Row.lease (κs .0) (qs .0))
               (List._∷_
@@ -20707,12 +22379,16 @@ module _ (claims· : Claims) where
               Row.off
               (List._∷_
               Row.off
-              (List._∷_ Row.off (List._∷_ Row.off (List._∷_ Row.dead List.[])))))))))))));
+              (List._∷_
+              Row.off
+              (List._∷_
+              Row.off
+              (List._∷_ Row.off (List._∷_ Row.off (List._∷_ Row.off List.[])))))))))))))));
         }
 
         abbrev G64 : Row.Cx
         G64 = record {
-          locals = List._++_ t23 (List._++_ t45 t2);
+          locals = List._++_ t40 (List._++_ t46 t2);
           slots = List._∷_
               (Row.lease (κs .0) (qs .0))
               (List._∷_
@@ -20735,12 +22411,16 @@ module _ (claims· : Claims) where
               Row.off
               (List._∷_
               Row.off
-              (List._∷_ Row.off (List._∷_ Row.off (List._∷_ Row.off List.[])))))))))))));
+              (List._∷_
+              Row.off
+              (List._∷_
+              Row.off
+              (List._∷_ Row.off (List._∷_ Row.alive (List._∷_ Row.off List.[])))))))))))))));
         }
 
         abbrev G65 : Row.Cx
         G65 = record {
-          locals = List._++_ t23 (List._++_ t45 t48);
+          locals = List._++_ g50 (List._++_ t46 t51);
           slots = List._∷_
               (Row.lease (κs .0) (qs .0))
               (List._∷_
@@ -20748,7 +22428,7 @@ module _ (claims· : Claims) where
               (List._∷_
               (Row.lease (κs .1 .1 .0) (qs .1 .1 .0))
               (List._∷_
-              (Row.lease (κs .1 .1 .1 .0) (qs .1 .1 .1 .0))
+              Row.off
               (List._∷_
               (Row.lease (κs .1 .1 .1 .1 .0) (qs .1 .1 .1 .1 .0))
               (List._∷_
@@ -20763,12 +22443,16 @@ module _ (claims· : Claims) where
               Row.off
               (List._∷_
               Row.off
-              (List._∷_ Row.off (List._∷_ Row.off (List._∷_ Row.off List.[])))))))))))));
+              (List._∷_
+              Row.off
+              (List._∷_
+              Row.off
+              (List._∷_ Row.off (List._∷_ Row.alive (List._∷_ Row.off List.[])))))))))))))));
         }
 
         abbrev G66 : Row.Cx
         G66 = record {
-          locals = List._++_ t23 (List._++_ t45 t49);
+          locals = List._++_ g50 (List._++_ t46 t52);
           slots = List._∷_
               (Row.lease (κs .0) (qs .0))
               (List._∷_
@@ -20776,7 +22460,7 @@ module _ (claims· : Claims) where
               (List._∷_
               (Row.lease (κs .1 .1 .0) (qs .1 .1 .0))
               (List._∷_
-              (Row.lease (κs .1 .1 .1 .0) (qs .1 .1 .1 .0))
+              Row.off
               (List._∷_
               (Row.lease (κs .1 .1 .1 .1 .0) (qs .1 .1 .1 .1 .0))
               (List._∷_
@@ -20791,12 +22475,16 @@ module _ (claims· : Claims) where
               Row.off
               (List._∷_
               Row.off
-              (List._∷_ Row.off (List._∷_ Row.off (List._∷_ Row.off List.[])))))))))))));
+              (List._∷_
+              Row.off
+              (List._∷_
+              Row.off
+              (List._∷_ Row.off (List._∷_ Row.alive (List._∷_ Row.off List.[])))))))))))))));
         }
 
         abbrev G67 : Row.Cx
         G67 = record {
-          locals = List._++_ t23 (List._++_ t45 t50);
+          locals = List._++_ g50 (List._++_ t46 t52);
           slots = List._∷_
               (Row.lease (κs .0) (qs .0))
               (List._∷_
@@ -20804,7 +22492,7 @@ module _ (claims· : Claims) where
               (List._∷_
               (Row.lease (κs .1 .1 .0) (qs .1 .1 .0))
               (List._∷_
-              (Row.lease (κs .1 .1 .1 .0) (qs .1 .1 .1 .0))
+              Row.off
               (List._∷_
               (Row.lease (κs .1 .1 .1 .1 .0) (qs .1 .1 .1 .1 .0))
               (List._∷_
@@ -20819,12 +22507,16 @@ module _ (claims· : Claims) where
               Row.off
               (List._∷_
               Row.off
-              (List._∷_ Row.off (List._∷_ Row.off (List._∷_ Row.off List.[])))))))))))));
+              (List._∷_
+              Row.off
+              (List._∷_
+              Row.off
+              (List._∷_ Row.off (List._∷_ Row.alive (List._∷_ Row.alive List.[])))))))))))))));
         }
 
         abbrev G68 : Row.Cx
         G68 = record {
-          locals = List._++_ t23 (List._++_ t45 t51);
+          locals = List._++_ g53 (List._++_ t46 t54);
           slots = List._∷_
               (Row.lease (κs .0) (qs .0))
               (List._∷_
@@ -20832,7 +22524,7 @@ module _ (claims· : Claims) where
               (List._∷_
               (Row.lease (κs .1 .1 .0) (qs .1 .1 .0))
               (List._∷_
-              (Row.lease (κs .1 .1 .1 .0) (qs .1 .1 .1 .0))
+              Row.off
               (List._∷_
               (Row.lease (κs .1 .1 .1 .1 .0) (qs .1 .1 .1 .1 .0))
               (List._∷_
@@ -20847,12 +22539,16 @@ module _ (claims· : Claims) where
               Row.off
               (List._∷_
               Row.off
-              (List._∷_ Row.off (List._∷_ Row.off (List._∷_ Row.off List.[])))))))))))));
+              (List._∷_
+              Row.off
+              (List._∷_
+              Row.off
+              (List._∷_ Row.off (List._∷_ Row.alive (List._∷_ Row.alive List.[])))))))))))))));
         }
 
         abbrev G69 : Row.Cx
         G69 = record {
-          locals = List._++_ t23 (List._++_ t45 t52);
+          locals = List._++_ g53 (List._++_ t55 t56);
           slots = List._∷_
               (Row.lease (κs .0) (qs .0))
               (List._∷_
@@ -20860,7 +22556,7 @@ module _ (claims· : Claims) where
               (List._∷_
               (Row.lease (κs .1 .1 .0) (qs .1 .1 .0))
               (List._∷_
-              (Row.lease (κs .1 .1 .1 .0) (qs .1 .1 .1 .0))
+              Row.off
               (List._∷_
               (Row.lease (κs .1 .1 .1 .1 .0) (qs .1 .1 .1 .1 .0))
               (List._∷_
@@ -20875,12 +22571,16 @@ module _ (claims· : Claims) where
               Row.off
               (List._∷_
               Row.off
-              (List._∷_ Row.off (List._∷_ Row.off (List._∷_ Row.off List.[])))))))))))));
+              (List._∷_
+              Row.off
+              (List._∷_
+              Row.off
+              (List._∷_ Row.off (List._∷_ Row.alive (List._∷_ Row.alive List.[])))))))))))))));
         }
 
         abbrev G70 : Row.Cx
         G70 = record {
-          locals = List._++_ t23 (List._++_ t45 t53);
+          locals = List._++_ g53 (List._++_ t55 t57);
           slots = List._∷_
               (Row.lease (κs .0) (qs .0))
               (List._∷_
@@ -20888,7 +22588,7 @@ module _ (claims· : Claims) where
               (List._∷_
               (Row.lease (κs .1 .1 .0) (qs .1 .1 .0))
               (List._∷_
-              (Row.lease (κs .1 .1 .1 .0) (qs .1 .1 .1 .0))
+              Row.off
               (List._∷_
               (Row.lease (κs .1 .1 .1 .1 .0) (qs .1 .1 .1 .1 .0))
               (List._∷_
@@ -20903,12 +22603,16 @@ module _ (claims· : Claims) where
               Row.off
               (List._∷_
               Row.off
-              (List._∷_ Row.off (List._∷_ Row.off (List._∷_ Row.off List.[])))))))))))));
+              (List._∷_
+              Row.off
+              (List._∷_
+              Row.off
+              (List._∷_ Row.off (List._∷_ Row.alive (List._∷_ Row.alive List.[])))))))))))))));
         }
 
         abbrev G71 : Row.Cx
         G71 = record {
-          locals = List._++_ t23 (List._++_ t45 t54);
+          locals = List._++_ g53 (List._++_ t55 t57);
           slots = List._∷_
               (Row.lease (κs .0) (qs .0))
               (List._∷_
@@ -20916,7 +22620,7 @@ module _ (claims· : Claims) where
               (List._∷_
               (Row.lease (κs .1 .1 .0) (qs .1 .1 .0))
               (List._∷_
-              (Row.lease (κs .1 .1 .1 .0) (qs .1 .1 .1 .0))
+              Row.off
               (List._∷_
               (Row.lease (κs .1 .1 .1 .1 .0) (qs .1 .1 .1 .1 .0))
               (List._∷_
@@ -20931,12 +22635,16 @@ module _ (claims· : Claims) where
               Row.off
               (List._∷_
               Row.off
-              (List._∷_ Row.off (List._∷_ Row.off (List._∷_ Row.off List.[])))))))))))));
+              (List._∷_
+              Row.off
+              (List._∷_
+              Row.off
+              (List._∷_ Row.off (List._∷_ Row.dead (List._∷_ Row.alive List.[])))))))))))))));
         }
 
         abbrev G72 : Row.Cx
         G72 = record {
-          locals = List._++_ t23 (List._++_ t45 t55);
+          locals = List._++_ t58 (List._++_ t55 t2);
           slots = List._∷_
               (Row.lease (κs .0) (qs .0))
               (List._∷_
@@ -20959,12 +22667,16 @@ module _ (claims· : Claims) where
               Row.off
               (List._∷_
               Row.off
-              (List._∷_ Row.off (List._∷_ Row.off (List._∷_ Row.off List.[])))))))))))));
+              (List._∷_
+              Row.off
+              (List._∷_
+              Row.off
+              (List._∷_ Row.off (List._∷_ Row.dead (List._∷_ Row.alive List.[])))))))))))))));
         }
 
         abbrev G73 : Row.Cx
         G73 = record {
-          locals = List._++_ t23 (List._++_ t45 t56);
+          locals = List._++_ t58 (List._++_ t55 t2);
           slots = List._∷_
               (Row.lease (κs .0) (qs .0))
               (List._∷_
@@ -20987,12 +22699,16 @@ module _ (claims· : Claims) where
               Row.off
               (List._∷_
               Row.off
-              (List._∷_ Row.off (List._∷_ Row.off (List._∷_ Row.off List.[])))))))))))));
+              (List._∷_
+              Row.off
+              (List._∷_
+              Row.off
+              (List._∷_ Row.off (List._∷_ Row.dead (List._∷_ Row.alive List.[])))))))))))))));
         }
 
         abbrev G74 : Row.Cx
         G74 = record {
-          locals = List._++_ t57 (List._++_ t45 t56);
+          locals = List._++_ t58 (List._++_ t55 t2);
           slots = List._∷_
               (Row.lease (κs .0) (qs .0))
               (List._∷_
@@ -21015,12 +22731,16 @@ module _ (claims· : Claims) where
               Row.off
               (List._∷_
               Row.off
-              (List._∷_ Row.off (List._∷_ Row.off (List._∷_ Row.off List.[])))))))))))));
+              (List._∷_
+              Row.off
+              (List._∷_
+              Row.off
+              (List._∷_ Row.off (List._∷_ Row.off (List._∷_ Row.alive List.[])))))))))))))));
         }
 
         abbrev G75 : Row.Cx
         G75 = record {
-          locals = List._++_ t57 (List._++_ t45 t58);
+          locals = List._++_ t58 (List._++_ t55 t2);
           slots = List._∷_
               (Row.lease (κs .0) (qs .0))
               (List._∷_
@@ -21043,12 +22763,16 @@ module _ (claims· : Claims) where
               Row.off
               (List._∷_
               Row.off
-              (List._∷_ Row.off (List._∷_ Row.off (List._∷_ Row.off List.[])))))))))))));
+              (List._∷_
+              Row.off
+              (List._∷_
+              Row.off
+              (List._∷_ Row.off (List._∷_ Row.off (List._∷_ Row.dead List.[])))))))))))))));
         }
 
         abbrev G76 : Row.Cx
         G76 = record {
-          locals = List._++_ t57 (List._++_ t45 t59);
+          locals = List._++_ t40 (List._++_ t55 t2);
           slots = List._∷_
               (Row.lease (κs .0) (qs .0))
               (List._∷_
@@ -21071,12 +22795,16 @@ module _ (claims· : Claims) where
               Row.off
               (List._∷_
               Row.off
-              (List._∷_ Row.off (List._∷_ Row.off (List._∷_ Row.off List.[])))))))))))));
+              (List._∷_
+              Row.off
+              (List._∷_
+              Row.off
+              (List._∷_ Row.off (List._∷_ Row.off (List._∷_ Row.dead List.[])))))))))))))));
         }
 
         abbrev G77 : Row.Cx
         G77 = record {
-          locals = List._++_ t57 (List._++_ t45 t2);
+          locals = List._++_ t40 (List._++_ t55 t2);
           slots = List._∷_
               (Row.lease (κs .0) (qs .0))
               (List._∷_
@@ -21099,12 +22827,16 @@ module _ (claims· : Claims) where
               Row.off
               (List._∷_
               Row.off
-              (List._∷_ Row.off (List._∷_ Row.off (List._∷_ Row.off List.[])))))))))))));
+              (List._∷_
+              Row.off
+              (List._∷_
+              Row.off
+              (List._∷_ Row.off (List._∷_ Row.off (List._∷_ Row.off List.[])))))))))))))));
         }
 
         abbrev G78 : Row.Cx
         G78 = record {
-          locals = List._++_ t60 (List._++_ t45 t2);
+          locals = List._++_ t27 (List._++_ t55 t2);
           slots = List._∷_
               (Row.lease (κs .0) (qs .0))
               (List._∷_
@@ -21127,12 +22859,16 @@ module _ (claims· : Claims) where
               Row.off
               (List._∷_
               Row.off
-              (List._∷_ Row.off (List._∷_ Row.off (List._∷_ Row.off List.[])))))))))))));
+              (List._∷_
+              Row.off
+              (List._∷_
+              Row.off
+              (List._∷_ Row.off (List._∷_ Row.off (List._∷_ Row.off List.[])))))))))))))));
         }
 
         abbrev G79 : Row.Cx
         G79 = record {
-          locals = List._++_ t61 (List._++_ t45 t2);
+          locals = List._++_ t27 (List._++_ t55 t59);
           slots = List._∷_
               (Row.lease (κs .0) (qs .0))
               (List._∷_
@@ -21155,12 +22891,16 @@ module _ (claims· : Claims) where
               Row.off
               (List._∷_
               Row.off
-              (List._∷_ Row.off (List._∷_ Row.off (List._∷_ Row.off List.[])))))))))))));
+              (List._∷_
+              Row.off
+              (List._∷_
+              Row.off
+              (List._∷_ Row.off (List._∷_ Row.off (List._∷_ Row.off List.[])))))))))))))));
         }
 
         abbrev G80 : Row.Cx
         G80 = record {
-          locals = List._++_ t3 (List._++_ t45 t2);
+          locals = List._++_ t27 (List._++_ t55 t60);
           slots = List._∷_
               (Row.lease (κs .0) (qs .0))
               (List._∷_
@@ -21183,12 +22923,16 @@ module _ (claims· : Claims) where
               Row.off
               (List._∷_
               Row.off
-              (List._∷_ Row.off (List._∷_ Row.off (List._∷_ Row.off List.[])))))))))))));
+              (List._∷_
+              Row.off
+              (List._∷_
+              Row.off
+              (List._∷_ Row.off (List._∷_ Row.off (List._∷_ Row.off List.[])))))))))))))));
         }
 
         abbrev G81 : Row.Cx
         G81 = record {
-          locals = List._++_ t3 (List._++_ t62 t2);
+          locals = List._++_ t27 (List._++_ t55 t61);
           slots = List._∷_
               (Row.lease (κs .0) (qs .0))
               (List._∷_
@@ -21211,12 +22955,16 @@ module _ (claims· : Claims) where
               Row.off
               (List._∷_
               Row.off
-              (List._∷_ Row.off (List._∷_ Row.off (List._∷_ Row.off List.[])))))))))))));
+              (List._∷_
+              Row.off
+              (List._∷_
+              Row.off
+              (List._∷_ Row.off (List._∷_ Row.off (List._∷_ Row.off List.[])))))))))))))));
         }
 
         abbrev G82 : Row.Cx
         G82 = record {
-          locals = List._++_ t3 (List._++_ t1 t2);
+          locals = List._++_ t27 (List._++_ t55 t62);
           slots = List._∷_
               (Row.lease (κs .0) (qs .0))
               (List._∷_
@@ -21239,12 +22987,16 @@ module _ (claims· : Claims) where
               Row.off
               (List._∷_
               Row.off
-              (List._∷_ Row.off (List._∷_ Row.off (List._∷_ Row.off List.[])))))))))))));
+              (List._∷_
+              Row.off
+              (List._∷_
+              Row.off
+              (List._∷_ Row.off (List._∷_ Row.off (List._∷_ Row.off List.[])))))))))))))));
         }
 
         abbrev G83 : Row.Cx
         G83 = record {
-          locals = List._++_ t63 (List._++_ t22 t2);
+          locals = List._++_ t27 (List._++_ t55 t63);
           slots = List._∷_
               (Row.lease (κs .0) (qs .0))
               (List._∷_
@@ -21267,12 +23019,16 @@ module _ (claims· : Claims) where
               Row.off
               (List._∷_
               Row.off
-              (List._∷_ Row.off (List._∷_ Row.off (List._∷_ Row.off List.[])))))))))))));
+              (List._∷_
+              Row.off
+              (List._∷_
+              Row.off
+              (List._∷_ Row.off (List._∷_ Row.off (List._∷_ Row.off List.[])))))))))))))));
         }
 
         abbrev G84 : Row.Cx
         G84 = record {
-          locals = List._++_ t64 (List._++_ t22 t2);
+          locals = List._++_ t27 (List._++_ t55 t64);
           slots = List._∷_
               (Row.lease (κs .0) (qs .0))
               (List._∷_
@@ -21295,12 +23051,16 @@ module _ (claims· : Claims) where
               Row.off
               (List._∷_
               Row.off
-              (List._∷_ Row.off (List._∷_ Row.off (List._∷_ Row.off List.[])))))))))))));
+              (List._∷_
+              Row.off
+              (List._∷_
+              Row.off
+              (List._∷_ Row.off (List._∷_ Row.off (List._∷_ Row.off List.[])))))))))))))));
         }
 
         abbrev G85 : Row.Cx
         G85 = record {
-          locals = List._++_ t23 (List._++_ t22 t2);
+          locals = List._++_ t27 (List._++_ t55 t65);
           slots = List._∷_
               (Row.lease (κs .0) (qs .0))
               (List._∷_
@@ -21323,12 +23083,16 @@ module _ (claims· : Claims) where
               Row.off
               (List._∷_
               Row.off
-              (List._∷_ Row.off (List._∷_ Row.off (List._∷_ Row.off List.[])))))))))))));
+              (List._∷_
+              Row.off
+              (List._∷_
+              Row.off
+              (List._∷_ Row.off (List._∷_ Row.off (List._∷_ Row.off List.[])))))))))))))));
         }
 
         abbrev G86 : Row.Cx
         G86 = record {
-          locals = List._++_ t23 (List._++_ t1 t2);
+          locals = List._++_ t27 (List._++_ t55 t66);
           slots = List._∷_
               (Row.lease (κs .0) (qs .0))
               (List._∷_
@@ -21351,12 +23115,16 @@ module _ (claims· : Claims) where
               Row.off
               (List._∷_
               Row.off
-              (List._∷_ Row.off (List._∷_ Row.off (List._∷_ Row.off List.[])))))))))))));
+              (List._∷_
+              Row.off
+              (List._∷_
+              Row.off
+              (List._∷_ Row.off (List._∷_ Row.off (List._∷_ Row.off List.[])))))))))))))));
         }
 
         abbrev G87 : Row.Cx
         G87 = record {
-          locals = List._++_ t57 (List._++_ t1 t2);
+          locals = List._++_ t27 (List._++_ t55 t67);
           slots = List._∷_
               (Row.lease (κs .0) (qs .0))
               (List._∷_
@@ -21379,12 +23147,16 @@ module _ (claims· : Claims) where
               Row.off
               (List._∷_
               Row.off
-              (List._∷_ Row.off (List._∷_ Row.off (List._∷_ Row.off List.[])))))))))))));
+              (List._∷_
+              Row.off
+              (List._∷_
+              Row.off
+              (List._∷_ Row.off (List._∷_ Row.off (List._∷_ Row.off List.[])))))))))))))));
         }
 
         abbrev G88 : Row.Cx
         G88 = record {
-          locals = List._++_ t60 (List._++_ t1 t2);
+          locals = List._++_ t68 (List._++_ t55 t67);
           slots = List._∷_
               (Row.lease (κs .0) (qs .0))
               (List._∷_
@@ -21407,12 +23179,16 @@ module _ (claims· : Claims) where
               Row.off
               (List._∷_
               Row.off
-              (List._∷_ Row.off (List._∷_ Row.off (List._∷_ Row.off List.[])))))))))))));
+              (List._∷_
+              Row.off
+              (List._∷_
+              Row.off
+              (List._∷_ Row.off (List._∷_ Row.off (List._∷_ Row.off List.[])))))))))))))));
         }
 
         abbrev G89 : Row.Cx
         G89 = record {
-          locals = List._++_ t61 (List._++_ t1 t2);
+          locals = List._++_ t68 (List._++_ t55 t69);
           slots = List._∷_
               (Row.lease (κs .0) (qs .0))
               (List._∷_
@@ -21435,11 +23211,207 @@ module _ (claims· : Claims) where
               Row.off
               (List._∷_
               Row.off
-              (List._∷_ Row.off (List._∷_ Row.off (List._∷_ Row.off List.[])))))))))))));
+              (List._∷_
+              Row.off
+              (List._∷_
+              Row.off
+              (List._∷_ Row.off (List._∷_ Row.off (List._∷_ Row.off List.[])))))))))))))));
         }
 
         abbrev G90 : Row.Cx
         G90 = record {
+          locals = List._++_ t68 (List._++_ t55 t70);
+          slots = List._∷_
+              (Row.lease (κs .0) (qs .0))
+              (List._∷_
+              (Row.lease (κs .1 .0) (qs .1 .0))
+              (List._∷_
+              (Row.lease (κs .1 .1 .0) (qs .1 .1 .0))
+              (List._∷_
+              (Row.lease (κs .1 .1 .1 .0) (qs .1 .1 .1 .0))
+              (List._∷_
+              (Row.lease (κs .1 .1 .1 .1 .0) (qs .1 .1 .1 .1 .0))
+              (List._∷_
+              (Row.lease (κs .1 .1 .1 .1 .1 .0) (qs .1 .1 .1 .1 .1 .0))
+              (List._∷_
+              (Row.lease (κs .1 .1 .1 .1 .1 .1 .0) (qs .1 .1 .1 .1 .1 .1 .0))
+              (List._∷_
+              (Row.lease (κs .1 .1 .1 .1 .1 .1 .1 .0) (qs .1 .1 .1 .1 .1 .1 .1 .0))
+              (List._∷_
+              Row.off
+              (List._∷_
+              Row.off
+              (List._∷_
+              Row.off
+              (List._∷_
+              Row.off
+              (List._∷_
+              Row.off
+              (List._∷_ Row.off (List._∷_ Row.off (List._∷_ Row.off List.[])))))))))))))));
+        }
+
+        abbrev G91 : Row.Cx
+        G91 = record {
+          locals = List._++_ t68 (List._++_ t55 t2);
+          slots = List._∷_
+              (Row.lease (κs .0) (qs .0))
+              (List._∷_
+              (Row.lease (κs .1 .0) (qs .1 .0))
+              (List._∷_
+              (Row.lease (κs .1 .1 .0) (qs .1 .1 .0))
+              (List._∷_
+              (Row.lease (κs .1 .1 .1 .0) (qs .1 .1 .1 .0))
+              (List._∷_
+              (Row.lease (κs .1 .1 .1 .1 .0) (qs .1 .1 .1 .1 .0))
+              (List._∷_
+              (Row.lease (κs .1 .1 .1 .1 .1 .0) (qs .1 .1 .1 .1 .1 .0))
+              (List._∷_
+              (Row.lease (κs .1 .1 .1 .1 .1 .1 .0) (qs .1 .1 .1 .1 .1 .1 .0))
+              (List._∷_
+              (Row.lease (κs .1 .1 .1 .1 .1 .1 .1 .0) (qs .1 .1 .1 .1 .1 .1 .1 .0))
+              (List._∷_
+              Row.off
+              (List._∷_
+              Row.off
+              (List._∷_
+              Row.off
+              (List._∷_
+              Row.off
+              (List._∷_
+              Row.off
+              (List._∷_ Row.off (List._∷_ Row.off (List._∷_ Row.off List.[])))))))))))))));
+        }
+
+        abbrev G92 : Row.Cx
+        G92 = record {
+          locals = List._++_ t71 (List._++_ t55 t2);
+          slots = List._∷_
+              (Row.lease (κs .0) (qs .0))
+              (List._∷_
+              (Row.lease (κs .1 .0) (qs .1 .0))
+              (List._∷_
+              (Row.lease (κs .1 .1 .0) (qs .1 .1 .0))
+              (List._∷_
+              (Row.lease (κs .1 .1 .1 .0) (qs .1 .1 .1 .0))
+              (List._∷_
+              (Row.lease (κs .1 .1 .1 .1 .0) (qs .1 .1 .1 .1 .0))
+              (List._∷_
+              (Row.lease (κs .1 .1 .1 .1 .1 .0) (qs .1 .1 .1 .1 .1 .0))
+              (List._∷_
+              (Row.lease (κs .1 .1 .1 .1 .1 .1 .0) (qs .1 .1 .1 .1 .1 .1 .0))
+              (List._∷_
+              (Row.lease (κs .1 .1 .1 .1 .1 .1 .1 .0) (qs .1 .1 .1 .1 .1 .1 .1 .0))
+              (List._∷_
+              Row.off
+              (List._∷_
+              Row.off
+              (List._∷_
+              Row.off
+              (List._∷_
+              Row.off
+              (List._∷_
+              Row.off
+              (List._∷_ Row.off (List._∷_ Row.off (List._∷_ Row.off List.[])))))))))))))));
+        }
+
+        abbrev G93 : Row.Cx
+        G93 = record {
+          locals = List._++_ t72 (List._++_ t55 t2);
+          slots = List._∷_
+              (Row.lease (κs .0) (qs .0))
+              (List._∷_
+              (Row.lease (κs .1 .0) (qs .1 .0))
+              (List._∷_
+              (Row.lease (κs .1 .1 .0) (qs .1 .1 .0))
+              (List._∷_
+              (Row.lease (κs .1 .1 .1 .0) (qs .1 .1 .1 .0))
+              (List._∷_
+              (Row.lease (κs .1 .1 .1 .1 .0) (qs .1 .1 .1 .1 .0))
+              (List._∷_
+              (Row.lease (κs .1 .1 .1 .1 .1 .0) (qs .1 .1 .1 .1 .1 .0))
+              (List._∷_
+              (Row.lease (κs .1 .1 .1 .1 .1 .1 .0) (qs .1 .1 .1 .1 .1 .1 .0))
+              (List._∷_
+              (Row.lease (κs .1 .1 .1 .1 .1 .1 .1 .0) (qs .1 .1 .1 .1 .1 .1 .1 .0))
+              (List._∷_
+              Row.off
+              (List._∷_
+              Row.off
+              (List._∷_
+              Row.off
+              (List._∷_
+              Row.off
+              (List._∷_
+              Row.off
+              (List._∷_ Row.off (List._∷_ Row.off (List._∷_ Row.off List.[])))))))))))))));
+        }
+
+        abbrev G94 : Row.Cx
+        G94 = record {
+          locals = List._++_ t3 (List._++_ t55 t2);
+          slots = List._∷_
+              (Row.lease (κs .0) (qs .0))
+              (List._∷_
+              (Row.lease (κs .1 .0) (qs .1 .0))
+              (List._∷_
+              (Row.lease (κs .1 .1 .0) (qs .1 .1 .0))
+              (List._∷_
+              (Row.lease (κs .1 .1 .1 .0) (qs .1 .1 .1 .0))
+              (List._∷_
+              (Row.lease (κs .1 .1 .1 .1 .0) (qs .1 .1 .1 .1 .0))
+              (List._∷_
+              (Row.lease (κs .1 .1 .1 .1 .1 .0) (qs .1 .1 .1 .1 .1 .0))
+              (List._∷_
+              (Row.lease (κs .1 .1 .1 .1 .1 .1 .0) (qs .1 .1 .1 .1 .1 .1 .0))
+              (List._∷_
+              (Row.lease (κs .1 .1 .1 .1 .1 .1 .1 .0) (qs .1 .1 .1 .1 .1 .1 .1 .0))
+              (List._∷_
+              Row.off
+              (List._∷_
+              Row.off
+              (List._∷_
+              Row.off
+              (List._∷_
+              Row.off
+              (List._∷_
+              Row.off
+              (List._∷_ Row.off (List._∷_ Row.off (List._∷_ Row.off List.[])))))))))))))));
+        }
+
+        abbrev G95 : Row.Cx
+        G95 = record {
+          locals = List._++_ t3 (List._++_ t73 t2);
+          slots = List._∷_
+              (Row.lease (κs .0) (qs .0))
+              (List._∷_
+              (Row.lease (κs .1 .0) (qs .1 .0))
+              (List._∷_
+              (Row.lease (κs .1 .1 .0) (qs .1 .1 .0))
+              (List._∷_
+              (Row.lease (κs .1 .1 .1 .0) (qs .1 .1 .1 .0))
+              (List._∷_
+              (Row.lease (κs .1 .1 .1 .1 .0) (qs .1 .1 .1 .1 .0))
+              (List._∷_
+              (Row.lease (κs .1 .1 .1 .1 .1 .0) (qs .1 .1 .1 .1 .1 .0))
+              (List._∷_
+              (Row.lease (κs .1 .1 .1 .1 .1 .1 .0) (qs .1 .1 .1 .1 .1 .1 .0))
+              (List._∷_
+              (Row.lease (κs .1 .1 .1 .1 .1 .1 .1 .0) (qs .1 .1 .1 .1 .1 .1 .1 .0))
+              (List._∷_
+              Row.off
+              (List._∷_
+              Row.off
+              (List._∷_
+              Row.off
+              (List._∷_
+              Row.off
+              (List._∷_
+              Row.off
+              (List._∷_ Row.off (List._∷_ Row.off (List._∷_ Row.off List.[])))))))))))))));
+        }
+
+        abbrev G96 : Row.Cx
+        G96 = record {
           locals = List._++_ t3 (List._++_ t1 t2);
           slots = List._∷_
               (Row.lease (κs .0) (qs .0))
@@ -21463,14 +23435,274 @@ module _ (claims· : Claims) where
               Row.off
               (List._∷_
               Row.off
-              (List._∷_ Row.off (List._∷_ Row.off (List._∷_ Row.off List.[])))))))))))));
+              (List._∷_
+              Row.off
+              (List._∷_
+              Row.off
+              (List._∷_ Row.off (List._∷_ Row.off (List._∷_ Row.off List.[])))))))))))))));
+        }
+
+        abbrev G97 : Row.Cx
+        G97 = record {
+          locals = List._++_ t74 (List._++_ t26 t2);
+          slots = List._∷_
+              (Row.lease (κs .0) (qs .0))
+              (List._∷_
+              (Row.lease (κs .1 .0) (qs .1 .0))
+              (List._∷_
+              (Row.lease (κs .1 .1 .0) (qs .1 .1 .0))
+              (List._∷_
+              (Row.lease (κs .1 .1 .1 .0) (qs .1 .1 .1 .0))
+              (List._∷_
+              (Row.lease (κs .1 .1 .1 .1 .0) (qs .1 .1 .1 .1 .0))
+              (List._∷_
+              (Row.lease (κs .1 .1 .1 .1 .1 .0) (qs .1 .1 .1 .1 .1 .0))
+              (List._∷_
+              (Row.lease (κs .1 .1 .1 .1 .1 .1 .0) (qs .1 .1 .1 .1 .1 .1 .0))
+              (List._∷_
+              (Row.lease (κs .1 .1 .1 .1 .1 .1 .1 .0) (qs .1 .1 .1 .1 .1 .1 .1 .0))
+              (List._∷_
+              Row.off
+              (List._∷_
+              Row.off
+              (List._∷_
+              Row.off
+              (List._∷_
+              Row.off
+              (List._∷_
+              Row.off
+              (List._∷_ Row.off (List._∷_ Row.off (List._∷_ Row.off List.[])))))))))))))));
+        }
+
+        abbrev G98 : Row.Cx
+        G98 = record {
+          locals = List._++_ t27 (List._++_ t26 t2);
+          slots = List._∷_
+              (Row.lease (κs .0) (qs .0))
+              (List._∷_
+              (Row.lease (κs .1 .0) (qs .1 .0))
+              (List._∷_
+              (Row.lease (κs .1 .1 .0) (qs .1 .1 .0))
+              (List._∷_
+              (Row.lease (κs .1 .1 .1 .0) (qs .1 .1 .1 .0))
+              (List._∷_
+              (Row.lease (κs .1 .1 .1 .1 .0) (qs .1 .1 .1 .1 .0))
+              (List._∷_
+              (Row.lease (κs .1 .1 .1 .1 .1 .0) (qs .1 .1 .1 .1 .1 .0))
+              (List._∷_
+              (Row.lease (κs .1 .1 .1 .1 .1 .1 .0) (qs .1 .1 .1 .1 .1 .1 .0))
+              (List._∷_
+              (Row.lease (κs .1 .1 .1 .1 .1 .1 .1 .0) (qs .1 .1 .1 .1 .1 .1 .1 .0))
+              (List._∷_
+              Row.off
+              (List._∷_
+              Row.off
+              (List._∷_
+              Row.off
+              (List._∷_
+              Row.off
+              (List._∷_
+              Row.off
+              (List._∷_ Row.off (List._∷_ Row.off (List._∷_ Row.off List.[])))))))))))))));
+        }
+
+        abbrev G99 : Row.Cx
+        G99 = record {
+          locals = List._++_ t27 (List._++_ t75 t2);
+          slots = List._∷_
+              (Row.lease (κs .0) (qs .0))
+              (List._∷_
+              (Row.lease (κs .1 .0) (qs .1 .0))
+              (List._∷_
+              (Row.lease (κs .1 .1 .0) (qs .1 .1 .0))
+              (List._∷_
+              (Row.lease (κs .1 .1 .1 .0) (qs .1 .1 .1 .0))
+              (List._∷_
+              (Row.lease (κs .1 .1 .1 .1 .0) (qs .1 .1 .1 .1 .0))
+              (List._∷_
+              (Row.lease (κs .1 .1 .1 .1 .1 .0) (qs .1 .1 .1 .1 .1 .0))
+              (List._∷_
+              (Row.lease (κs .1 .1 .1 .1 .1 .1 .0) (qs .1 .1 .1 .1 .1 .1 .0))
+              (List._∷_
+              (Row.lease (κs .1 .1 .1 .1 .1 .1 .1 .0) (qs .1 .1 .1 .1 .1 .1 .1 .0))
+              (List._∷_
+              Row.off
+              (List._∷_
+              Row.off
+              (List._∷_
+              Row.off
+              (List._∷_
+              Row.off
+              (List._∷_
+              Row.off
+              (List._∷_ Row.off (List._∷_ Row.off (List._∷_ Row.off List.[])))))))))))))));
+        }
+
+        abbrev G100 : Row.Cx
+        G100 = record {
+          locals = List._++_ t27 (List._++_ t1 t2);
+          slots = List._∷_
+              (Row.lease (κs .0) (qs .0))
+              (List._∷_
+              (Row.lease (κs .1 .0) (qs .1 .0))
+              (List._∷_
+              (Row.lease (κs .1 .1 .0) (qs .1 .1 .0))
+              (List._∷_
+              (Row.lease (κs .1 .1 .1 .0) (qs .1 .1 .1 .0))
+              (List._∷_
+              (Row.lease (κs .1 .1 .1 .1 .0) (qs .1 .1 .1 .1 .0))
+              (List._∷_
+              (Row.lease (κs .1 .1 .1 .1 .1 .0) (qs .1 .1 .1 .1 .1 .0))
+              (List._∷_
+              (Row.lease (κs .1 .1 .1 .1 .1 .1 .0) (qs .1 .1 .1 .1 .1 .1 .0))
+              (List._∷_
+              (Row.lease (κs .1 .1 .1 .1 .1 .1 .1 .0) (qs .1 .1 .1 .1 .1 .1 .1 .0))
+              (List._∷_
+              Row.off
+              (List._∷_
+              Row.off
+              (List._∷_
+              Row.off
+              (List._∷_
+              Row.off
+              (List._∷_
+              Row.off
+              (List._∷_ Row.off (List._∷_ Row.off (List._∷_ Row.off List.[])))))))))))))));
+        }
+
+        abbrev G101 : Row.Cx
+        G101 = record {
+          locals = List._++_ t68 (List._++_ t1 t2);
+          slots = List._∷_
+              (Row.lease (κs .0) (qs .0))
+              (List._∷_
+              (Row.lease (κs .1 .0) (qs .1 .0))
+              (List._∷_
+              (Row.lease (κs .1 .1 .0) (qs .1 .1 .0))
+              (List._∷_
+              (Row.lease (κs .1 .1 .1 .0) (qs .1 .1 .1 .0))
+              (List._∷_
+              (Row.lease (κs .1 .1 .1 .1 .0) (qs .1 .1 .1 .1 .0))
+              (List._∷_
+              (Row.lease (κs .1 .1 .1 .1 .1 .0) (qs .1 .1 .1 .1 .1 .0))
+              (List._∷_
+              (Row.lease (κs .1 .1 .1 .1 .1 .1 .0) (qs .1 .1 .1 .1 .1 .1 .0))
+              (List._∷_
+              (Row.lease (κs .1 .1 .1 .1 .1 .1 .1 .0) (qs .1 .1 .1 .1 .1 .1 .1 .0))
+              (List._∷_
+              Row.off
+              (List._∷_
+              Row.off
+              (List._∷_
+              Row.off
+              (List._∷_
+              Row.off
+              (List._∷_
+              Row.off
+              (List._∷_ Row.off (List._∷_ Row.off (List._∷_ Row.off List.[])))))))))))))));
+        }
+
+        abbrev G102 : Row.Cx
+        G102 = record {
+          locals = List._++_ t71 (List._++_ t1 t2);
+          slots = List._∷_
+              (Row.lease (κs .0) (qs .0))
+              (List._∷_
+              (Row.lease (κs .1 .0) (qs .1 .0))
+              (List._∷_
+              (Row.lease (κs .1 .1 .0) (qs .1 .1 .0))
+              (List._∷_
+              (Row.lease (κs .1 .1 .1 .0) (qs .1 .1 .1 .0))
+              (List._∷_
+              (Row.lease (κs .1 .1 .1 .1 .0) (qs .1 .1 .1 .1 .0))
+              (List._∷_
+              (Row.lease (κs .1 .1 .1 .1 .1 .0) (qs .1 .1 .1 .1 .1 .0))
+              (List._∷_
+              (Row.lease (κs .1 .1 .1 .1 .1 .1 .0) (qs .1 .1 .1 .1 .1 .1 .0))
+              (List._∷_
+              (Row.lease (κs .1 .1 .1 .1 .1 .1 .1 .0) (qs .1 .1 .1 .1 .1 .1 .1 .0))
+              (List._∷_
+              Row.off
+              (List._∷_
+              Row.off
+              (List._∷_
+              Row.off
+              (List._∷_
+              Row.off
+              (List._∷_
+              Row.off
+              (List._∷_ Row.off (List._∷_ Row.off (List._∷_ Row.off List.[])))))))))))))));
+        }
+
+        abbrev G103 : Row.Cx
+        G103 = record {
+          locals = List._++_ t72 (List._++_ t1 t2);
+          slots = List._∷_
+              (Row.lease (κs .0) (qs .0))
+              (List._∷_
+              (Row.lease (κs .1 .0) (qs .1 .0))
+              (List._∷_
+              (Row.lease (κs .1 .1 .0) (qs .1 .1 .0))
+              (List._∷_
+              (Row.lease (κs .1 .1 .1 .0) (qs .1 .1 .1 .0))
+              (List._∷_
+              (Row.lease (κs .1 .1 .1 .1 .0) (qs .1 .1 .1 .1 .0))
+              (List._∷_
+              (Row.lease (κs .1 .1 .1 .1 .1 .0) (qs .1 .1 .1 .1 .1 .0))
+              (List._∷_
+              (Row.lease (κs .1 .1 .1 .1 .1 .1 .0) (qs .1 .1 .1 .1 .1 .1 .0))
+              (List._∷_
+              (Row.lease (κs .1 .1 .1 .1 .1 .1 .1 .0) (qs .1 .1 .1 .1 .1 .1 .1 .0))
+              (List._∷_
+              Row.off
+              (List._∷_
+              Row.off
+              (List._∷_
+              Row.off
+              (List._∷_
+              Row.off
+              (List._∷_
+              Row.off
+              (List._∷_ Row.off (List._∷_ Row.off (List._∷_ Row.off List.[])))))))))))))));
+        }
+
+        abbrev G104 : Row.Cx
+        G104 = record {
+          locals = List._++_ t3 (List._++_ t1 t2);
+          slots = List._∷_
+              (Row.lease (κs .0) (qs .0))
+              (List._∷_
+              (Row.lease (κs .1 .0) (qs .1 .0))
+              (List._∷_
+              (Row.lease (κs .1 .1 .0) (qs .1 .1 .0))
+              (List._∷_
+              (Row.lease (κs .1 .1 .1 .0) (qs .1 .1 .1 .0))
+              (List._∷_
+              (Row.lease (κs .1 .1 .1 .1 .0) (qs .1 .1 .1 .1 .0))
+              (List._∷_
+              (Row.lease (κs .1 .1 .1 .1 .1 .0) (qs .1 .1 .1 .1 .1 .0))
+              (List._∷_
+              (Row.lease (κs .1 .1 .1 .1 .1 .1 .0) (qs .1 .1 .1 .1 .1 .1 .0))
+              (List._∷_
+              (Row.lease (κs .1 .1 .1 .1 .1 .1 .1 .0) (qs .1 .1 .1 .1 .1 .1 .1 .0))
+              (List._∷_
+              Row.off
+              (List._∷_
+              Row.off
+              (List._∷_
+              Row.off
+              (List._∷_
+              Row.off
+              (List._∷_
+              Row.off
+              (List._∷_ Row.off (List._∷_ Row.off (List._∷_ Row.off List.[])))))))))))))));
         }
 
         abbrev Δ0 : Typed.Outs
         Δ0 = record { next = Option.none; exits = List.[]; returns = Option.some G1 }
 
         abbrev Δ1 : Typed.Outs
-        Δ1 = Typed.withNext (Option.some G30) Δ0
+        Δ1 = Typed.withNext (Option.some G32) Δ0
 
         module _ {M : Type 1} (𝓤 : URA.URA M) (H : Wp.Heap 𝓤) (A : Atoms.Atoms 𝓤)
             (W : Kit.Given 𝓤 H A) (𝓣 : Wp.Tables 𝓤 H) (known : Knowns 𝓤 H A W 𝓣)
@@ -21478,10 +23710,10 @@ module _ (claims· : Claims) where
           abbrev E : Wp.Env 𝓤 H
           E = Frame.EnvOf 𝓤 H (List._∷_ (Kinds.tyR r) (Enter.tysP ps xs)) bs
 
-          d0 : Typed.Typed 𝓤 H A 𝓣 E G82 b29 Δ1 at0
+          d0 : Typed.Typed 𝓤 H A 𝓣 E G96 b32 Δ1 at0
           d0 = Typed.t-return 𝓤 H A W 𝓣 E Δ1 tt
 
-          d1 : Typed.Typed 𝓤 H A 𝓣 E G81 b29 Δ1 at1
+          d1 : Typed.Typed 𝓤 H A 𝓣 E G95 b32 Δ1 at1
           d1 =
               Typed.g-pre
               𝓤
@@ -21490,11 +23722,11 @@ module _ (claims· : Claims) where
               W
               𝓣
               E
-              G81
-              G82
-              b29
+              G95
+              G96
+              b32
               Δ1
-              (Typed.pass T81 T82 s79)
+              (Typed.pass T95 T96 s93)
               at0
               (Scalar.g-room
               𝓤
@@ -21502,13 +23734,13 @@ module _ (claims· : Claims) where
               A
               W
               E
-              G81
-              17
+              G95
+              18
               (Syntax.tyInt Syntax.w64)
               (Scalar.room-sc 𝓤 H A W (Row.sInt Syntax.w64)))
               d0
 
-          d2 : Typed.Typed 𝓤 H A 𝓣 E G80 b29 Δ1 at2
+          d2 : Typed.Typed 𝓤 H A 𝓣 E G94 b32 Δ1 at2
           d2 =
               Typed.g-pre
               𝓤
@@ -21517,11 +23749,11 @@ module _ (claims· : Claims) where
               W
               𝓣
               E
-              G80
-              G81
-              b29
+              G94
+              G95
+              b32
               Δ1
-              (Typed.pass T80 T81 s78)
+              (Typed.pass T94 T95 s92)
               at1
               (Scalar.g-room
               𝓤
@@ -21529,13 +23761,13 @@ module _ (claims· : Claims) where
               A
               W
               E
-              G80
-              16
+              G94
+              17
               (Syntax.tyInt Syntax.w64)
               (Scalar.room-sc 𝓤 H A W (Row.sInt Syntax.w64)))
               d1
 
-          d3 : Typed.Typed 𝓤 H A 𝓣 E G79 b29 Δ1 at3
+          d3 : Typed.Typed 𝓤 H A 𝓣 E G93 b32 Δ1 at3
           d3 =
               Typed.g-pre
               𝓤
@@ -21544,11 +23776,11 @@ module _ (claims· : Claims) where
               W
               𝓣
               E
-              G79
-              G80
-              b29
+              G93
+              G94
+              b32
               Δ1
-              (Typed.pass T79 T80 s77)
+              (Typed.pass T93 T94 s91)
               at2
               (Scalar.g-room
               𝓤
@@ -21556,13 +23788,13 @@ module _ (claims· : Claims) where
               A
               W
               E
-              G79
+              G93
               8
               (Syntax.tyInt Syntax.w64)
               (Scalar.room-sc 𝓤 H A W (Row.sInt Syntax.w64)))
               d2
 
-          d4 : Typed.Typed 𝓤 H A 𝓣 E G78 b29 Δ1 at4
+          d4 : Typed.Typed 𝓤 H A 𝓣 E G92 b32 Δ1 at4
           d4 =
               Typed.g-pre
               𝓤
@@ -21571,11 +23803,11 @@ module _ (claims· : Claims) where
               W
               𝓣
               E
-              G78
-              G79
-              b29
+              G92
+              G93
+              b32
               Δ1
-              (Typed.pass T78 T79 s76)
+              (Typed.pass T92 T93 s90)
               at3
               (Scalar.g-room
               𝓤
@@ -21583,13 +23815,13 @@ module _ (claims· : Claims) where
               A
               W
               E
-              G78
+              G92
               7
               (Syntax.tyInt Syntax.w8)
               (Scalar.room-sc 𝓤 H A W (Row.sInt Syntax.w8)))
               d3
 
-          d5 : Typed.Typed 𝓤 H A 𝓣 E G77 b29 Δ1 at5
+          d5 : Typed.Typed 𝓤 H A 𝓣 E G91 b32 Δ1 at5
           d5 =
               Typed.g-pre
               𝓤
@@ -21598,11 +23830,11 @@ module _ (claims· : Claims) where
               W
               𝓣
               E
-              G77
-              G78
-              b29
+              G91
+              G92
+              b32
               Δ1
-              (Typed.pass T77 T78 s75)
+              (Typed.pass T91 T92 s89)
               at4
               (Scalar.g-room
               𝓤
@@ -21610,13 +23842,13 @@ module _ (claims· : Claims) where
               A
               W
               E
-              G77
+              G91
               6
               (Syntax.tyInt Syntax.w64)
               (Scalar.room-sc 𝓤 H A W (Row.sInt Syntax.w64)))
               d4
 
-          d6 : Typed.Typed 𝓤 H A 𝓣 E G76 b29 Δ1 at6
+          d6 : Typed.Typed 𝓤 H A 𝓣 E G90 b32 Δ1 at6
           d6 =
               Typed.g-pre
               𝓤
@@ -21625,11 +23857,11 @@ module _ (claims· : Claims) where
               W
               𝓣
               E
-              G76
-              G77
-              b29
+              G90
+              G91
+              b32
               Δ1
-              (Typed.pass T76 T77 s74)
+              (Typed.pass T90 T91 s88)
               at5
               (Scalar.g-room
               𝓤
@@ -21637,8 +23869,8 @@ module _ (claims· : Claims) where
               A
               W
               E
-              G76
-              38
+              G90
+              41
               (Syntax.tyStruct
               (List._∷_
               97
@@ -21758,7 +23990,7 @@ module _ (claims· : Claims) where
               Path'.refl))
               d5
 
-          d7 : Typed.Typed 𝓤 H A 𝓣 E G75 b29 Δ1 at7
+          d7 : Typed.Typed 𝓤 H A 𝓣 E G89 b32 Δ1 at7
           d7 =
               Typed.g-pre
               𝓤
@@ -21767,11 +23999,11 @@ module _ (claims· : Claims) where
               W
               𝓣
               E
-              G75
-              G76
-              b29
+              G89
+              G90
+              b32
               Δ1
-              (Typed.pass T75 T76 s73)
+              (Typed.pass T89 T90 s87)
               at6
               (Scalar.g-room
               𝓤
@@ -21779,8 +24011,8 @@ module _ (claims· : Claims) where
               A
               W
               E
-              G75
-              36
+              G89
+              39
               (Syntax.tyStruct
               (List._∷_
               97
@@ -21900,7 +24132,7 @@ module _ (claims· : Claims) where
               Path'.refl))
               d6
 
-          d8 : Typed.Typed 𝓤 H A 𝓣 E G74 b29 Δ1 at8
+          d8 : Typed.Typed 𝓤 H A 𝓣 E G88 b32 Δ1 at8
           d8 =
               Typed.g-pre
               𝓤
@@ -21909,11 +24141,11 @@ module _ (claims· : Claims) where
               W
               𝓣
               E
-              G74
-              G75
-              b29
+              G88
+              G89
+              b32
               Δ1
-              (Typed.pass T74 T75 s72)
+              (Typed.pass T88 T89 s86)
               at7
               (Scalar.g-room
               𝓤
@@ -21921,13 +24153,13 @@ module _ (claims· : Claims) where
               A
               W
               E
-              G74
-              34
+              G88
+              37
               (Syntax.tyInt Syntax.w8)
               (Scalar.room-sc 𝓤 H A W (Row.sInt Syntax.w8)))
               d7
 
-          d9 : Typed.Typed 𝓤 H A 𝓣 E G73 b30 Δ1 at9
+          d9 : Typed.Typed 𝓤 H A 𝓣 E G87 b33 Δ1 at9
           d9 =
               Typed.s-seq
               𝓤
@@ -21936,12 +24168,12 @@ module _ (claims· : Claims) where
               W
               𝓣
               E
-              G73
-              G74
-              b28
-              b29
+              G87
+              G88
+              b31
+              b32
               Δ1
-              (Typed.both s71)
+              (Typed.both s85)
               at8
               (Plain.t-call-plain
               𝓤
@@ -21958,19 +24190,19 @@ module _ (claims· : Claims) where
               (known .9)
               E
               (λ pos β. β)
-              G73 (
-                Num.vAt 34 λ x. x,
+              G87 (
+                Num.vAt 37 λ x. x,
                 (
-                  record { pos = 36; st = List.[]; d = 0; at = λ x. x },
+                  record { pos = 39; st = List.[]; d = 0; at = λ x. x },
                   (
-                    record { pos = 38; st = List.[]; d = 0; at = λ x. x },
-                    (Num.vAt 8 λ x. x, (Num.vAt 16 λ x. x, (Num.vAt 17 λ x. x, tt))),
+                    record { pos = 41; st = List.[]; d = 0; at = λ x. x },
+                    (Num.vAt 8 λ x. x, (Num.vAt 17 λ x. x, (Num.vAt 18 λ x. x, tt))),
                   ),
                 ),
               )
               0
               List.[]
-              (Call.sub-id 𝓤 H A W (G73 .slots)) (
+              (Call.sub-id 𝓤 H A W (G87 .slots)) (
                 (Scalar.reads-sc 𝓤 H A W (Row.sInt Syntax.w8), Path'.refl),
                 (
                   (
@@ -22287,7 +24519,7 @@ module _ (claims· : Claims) where
               Path'.refl)
               d8
 
-          d10 : Typed.Typed 𝓤 H A 𝓣 E G72 b30 Δ1 at10
+          d10 : Typed.Typed 𝓤 H A 𝓣 E G86 b33 Δ1 at10
           d10 =
               Typed.g-pre
               𝓤
@@ -22296,11 +24528,11 @@ module _ (claims· : Claims) where
               W
               𝓣
               E
-              G72
-              G73
-              b30
+              G86
+              G87
+              b33
               Δ1
-              (Typed.pass T72 T73 s70)
+              (Typed.pass T86 T87 s84)
               at9
               (Scalar.g-room
               𝓤
@@ -22308,13 +24540,13 @@ module _ (claims· : Claims) where
               A
               W
               E
-              G72
-              39
+              G86
+              42
               (KPost.spelled)
               (KPost.room 𝓤 H A W))
               d9
 
-          d11 : Typed.Typed 𝓤 H A 𝓣 E G71 b31 Δ1 at11
+          d11 : Typed.Typed 𝓤 H A 𝓣 E G85 b34 Δ1 at11
           d11 =
               Typed.s-seq
               𝓤
@@ -22323,12 +24555,12 @@ module _ (claims· : Claims) where
               W
               𝓣
               E
-              G71
-              G72
-              b27
+              G85
+              G86
               b30
+              b33
               Δ1
-              (Typed.both s69)
+              (Typed.both s83)
               at10
               (Plain.t-call-plain
               𝓤
@@ -22345,11 +24577,11 @@ module _ (claims· : Claims) where
               (known .8)
               E
               (λ pos β. β)
-              G71
-              (record { pos = 39; st = List.[]; d = 0; at = λ x. x }, tt)
-              38
+              G85
+              (record { pos = 42; st = List.[]; d = 0; at = λ x. x }, tt)
+              41
               List.[]
-              (Call.sub-id 𝓤 H A W (G71 .slots)) (
+              (Call.sub-id 𝓤 H A W (G85 .slots)) (
                 (
                   KPost.yields 𝓤 H A W,
                   Path'.refl,
@@ -22419,7 +24651,7 @@ module _ (claims· : Claims) where
               Path'.refl)
               d10
 
-          d12 : Typed.Typed 𝓤 H A 𝓣 E G70 b32 Δ1 at12
+          d12 : Typed.Typed 𝓤 H A 𝓣 E G84 b35 Δ1 at12
           d12 =
               Typed.s-seq
               𝓤
@@ -22428,12 +24660,12 @@ module _ (claims· : Claims) where
               W
               𝓣
               E
-              G70
-              G71
-              b26
-              b31
+              G84
+              G85
+              b29
+              b34
               Δ1
-              (Typed.give s68)
+              (Typed.give s82)
               at11
               (DerefMove.t-sref-read-copy
               𝓤
@@ -22443,9 +24675,9 @@ module _ (claims· : Claims) where
               E
               𝓣
               (λ ρ. Unit)
-              G70
+              G84
               12
-              39
+              42
               7
               (KPost.R)
               (Syntax.tyRef
@@ -22472,7 +24704,7 @@ module _ (claims· : Claims) where
               H
               A
               (KPost.R))
-              (Own'.told-none 𝓤 H A (G70 .slots))
+              (Own.told-none 𝓤 H A (G84 .slots))
               (Copies.halves
               𝓤
               H
@@ -22509,7 +24741,7 @@ module _ (claims· : Claims) where
               Path'.refl)
               d11
 
-          d13 : Typed.Typed 𝓤 H A 𝓣 E G69 b32 Δ1 at13
+          d13 : Typed.Typed 𝓤 H A 𝓣 E G83 b35 Δ1 at13
           d13 =
               Typed.g-pre
               𝓤
@@ -22518,11 +24750,11 @@ module _ (claims· : Claims) where
               W
               𝓣
               E
-              G69
-              G70
-              b32
+              G83
+              G84
+              b35
               Δ1
-              (Typed.pass T69 T70 s67)
+              (Typed.pass T83 T84 s81)
               at12
               (Scalar.g-room
               𝓤
@@ -22530,13 +24762,13 @@ module _ (claims· : Claims) where
               A
               W
               E
-              G69
-              37
+              G83
+              40
               (KPost.spelled)
               (KPost.room 𝓤 H A W))
               d12
 
-          d14 : Typed.Typed 𝓤 H A 𝓣 E G68 b33 Δ1 at14
+          d14 : Typed.Typed 𝓤 H A 𝓣 E G82 b36 Δ1 at14
           d14 =
               Typed.s-seq
               𝓤
@@ -22545,12 +24777,12 @@ module _ (claims· : Claims) where
               W
               𝓣
               E
-              G68
-              G69
-              b25
-              b32
+              G82
+              G83
+              b28
+              b35
               Δ1
-              (Typed.both s66)
+              (Typed.both s80)
               at13
               (Plain.t-call-plain
               𝓤
@@ -22567,11 +24799,11 @@ module _ (claims· : Claims) where
               (known .8)
               E
               (λ pos β. β)
-              G68
-              (record { pos = 37; st = List.[]; d = 0; at = λ x. x }, tt)
-              36
+              G82
+              (record { pos = 40; st = List.[]; d = 0; at = λ x. x }, tt)
+              39
               List.[]
-              (Call.sub-id 𝓤 H A W (G68 .slots)) (
+              (Call.sub-id 𝓤 H A W (G82 .slots)) (
                 (
                   KPost.yields 𝓤 H A W,
                   Path'.refl,
@@ -22641,7 +24873,7 @@ module _ (claims· : Claims) where
               Path'.refl)
               d13
 
-          d15 : Typed.Typed 𝓤 H A 𝓣 E G67 b34 Δ1 at15
+          d15 : Typed.Typed 𝓤 H A 𝓣 E G81 b37 Δ1 at15
           d15 =
               Typed.s-seq
               𝓤
@@ -22650,12 +24882,12 @@ module _ (claims· : Claims) where
               W
               𝓣
               E
-              G67
-              G68
-              b24
-              b33
+              G81
+              G82
+              b27
+              b36
               Δ1
-              (Typed.give s65)
+              (Typed.give s79)
               at14
               (DerefMove.t-sref-read-copy
               𝓤
@@ -22665,9 +24897,9 @@ module _ (claims· : Claims) where
               E
               𝓣
               (λ ρ. Unit)
-              G67
+              G81
               11
-              37
+              40
               6
               (KPost.R)
               (Syntax.tyRef
@@ -22694,7 +24926,7 @@ module _ (claims· : Claims) where
               H
               A
               (KPost.R))
-              (Own'.told-none 𝓤 H A (G67 .slots))
+              (Own.told-none 𝓤 H A (G81 .slots))
               (Copies.halves
               𝓤
               H
@@ -22731,7 +24963,7 @@ module _ (claims· : Claims) where
               Path'.refl)
               d14
 
-          d16 : Typed.Typed 𝓤 H A 𝓣 E G66 b34 Δ1 at16
+          d16 : Typed.Typed 𝓤 H A 𝓣 E G80 b37 Δ1 at16
           d16 =
               Typed.g-pre
               𝓤
@@ -22740,11 +24972,11 @@ module _ (claims· : Claims) where
               W
               𝓣
               E
-              G66
-              G67
-              b34
+              G80
+              G81
+              b37
               Δ1
-              (Typed.pass T66 T67 s64)
+              (Typed.pass T80 T81 s78)
               at15
               (Scalar.g-room
               𝓤
@@ -22752,13 +24984,13 @@ module _ (claims· : Claims) where
               A
               W
               E
-              G66
-              35
+              G80
+              38
               (KDecided.spelled)
               (KDecided.room 𝓤 H A W))
               d15
 
-          d17 : Typed.Typed 𝓤 H A 𝓣 E G65 b35 Δ1 at17
+          d17 : Typed.Typed 𝓤 H A 𝓣 E G79 b38 Δ1 at17
           d17 =
               Typed.s-seq
               𝓤
@@ -22767,12 +24999,12 @@ module _ (claims· : Claims) where
               W
               𝓣
               E
-              G65
-              G66
-              b23
-              b34
+              G79
+              G80
+              b26
+              b37
               Δ1
-              (Typed.both s63)
+              (Typed.both s77)
               at16
               (Plain.t-call-plain
               𝓤
@@ -22789,11 +25021,11 @@ module _ (claims· : Claims) where
               (known .7)
               E
               (λ pos β. β)
-              G65
-              (record { pos = 35; st = List.[]; d = 0; at = λ x. x }, tt)
-              34
+              G79
+              (record { pos = 38; st = List.[]; d = 0; at = λ x. x }, tt)
+              37
               List.[]
-              (Call.sub-id 𝓤 H A W (G65 .slots)) (
+              (Call.sub-id 𝓤 H A W (G79 .slots)) (
                 (
                   KDecided.yields 𝓤 H A W,
                   Path'.refl,
@@ -22805,7 +25037,7 @@ module _ (claims· : Claims) where
               Path'.refl)
               d16
 
-          d18 : Typed.Typed 𝓤 H A 𝓣 E G64 b36 Δ1 at18
+          d18 : Typed.Typed 𝓤 H A 𝓣 E G78 b39 Δ1 at18
           d18 =
               Typed.s-seq
               𝓤
@@ -22814,12 +25046,12 @@ module _ (claims· : Claims) where
               W
               𝓣
               E
-              G64
-              G65
-              b22
-              b35
+              G78
+              G79
+              b25
+              b38
               Δ1
-              (Typed.give s62)
+              (Typed.give s76)
               at17
               (DerefMove.t-sref-read-copy
               𝓤
@@ -22829,9 +25061,9 @@ module _ (claims· : Claims) where
               E
               𝓣
               (λ ρ. Unit)
-              G64
+              G78
               10
-              35
+              38
               5
               (KDecided.R)
               (Syntax.tyRef
@@ -22858,7 +25090,7 @@ module _ (claims· : Claims) where
               H
               A
               (KDecided.R))
-              (Own'.told-none 𝓤 H A (G64 .slots))
+              (Own.told-none 𝓤 H A (G78 .slots))
               (Copies.halves
               𝓤
               H
@@ -22895,7 +25127,7 @@ module _ (claims· : Claims) where
               Path'.refl)
               d17
 
-          d19 : Typed.Typed 𝓤 H A 𝓣 E G63 b36 Δ1 at19
+          d19 : Typed.Typed 𝓤 H A 𝓣 E G77 b39 Δ1 at19
           d19 =
               Typed.g-pre
               𝓤
@@ -22904,16 +25136,25 @@ module _ (claims· : Claims) where
               W
               𝓣
               E
-              G63
-              G64
-              b36
+              G77
+              G78
+              b39
               Δ1
-              (λ Ψ. Ψ)
+              (Typed.pass T76 T78 s75)
               at18
-              (Lifetime.g-forget 𝓤 H A W E G63 13 Row.dead Path'.refl)
+              (Scalar.g-room
+              𝓤
+              H
+              A
+              W
+              E
+              G77
+              14
+              (KOwn.spelled)
+              (KOwn.room 𝓤 H A W))
               d18
 
-          d20 : Typed.Typed 𝓤 H A 𝓣 E G62 b36 Δ1 at20
+          d20 : Typed.Typed 𝓤 H A 𝓣 E G76 b39 Δ1 at20
           d20 =
               Typed.g-pre
               𝓤
@@ -22922,12 +25163,116 @@ module _ (claims· : Claims) where
               W
               𝓣
               E
-              G62
-              G63
-              b36
+              G76
+              G77
+              b39
               Δ1
-              (Typed.give s60)
+              (λ Ψ. Ψ)
               at19
+              (Lifetime.g-forget 𝓤 H A W E G76 15 Row.dead Path'.refl)
+              d19
+
+          d21 : Typed.Typed 𝓤 H A 𝓣 E G75 b39 Δ1 at21
+          d21 =
+              Typed.g-pre
+              𝓤
+              H
+              A
+              W
+              𝓣
+              E
+              G75
+              G76
+              b39
+              Δ1
+              (Typed.pass T73 T76 s73)
+              at20
+              (Local.g-back-shr
+              𝓤
+              H
+              A
+              W
+              E
+              G75
+              14
+              15
+              (KOwn.row)
+              (KOwn.R)
+              (λ x. x)
+              (λ x. x)
+              (Reads'.as-is
+              𝓤
+              H
+              A
+              (Rows'.sc-shr
+              (KOwn.row)
+              (KOwn.R)
+              (λ x. x)
+              15))
+              (Local.home-of
+              𝓤
+              H
+              A
+              (KOwn.row)
+              (KOwn.R)
+              (λ x. x)
+              (λ x. x)
+              (KOwn.of-mem 𝓤 H A W)
+              λ x k. Path'.refl)
+              Path'.refl)
+              d20
+
+          d22 : Typed.Typed 𝓤 H A 𝓣 E G74 b39 Δ1 at22
+          d22 =
+              Typed.g-pre
+              𝓤
+              H
+              A
+              W
+              𝓣
+              E
+              G74
+              G75
+              b39
+              Δ1
+              (λ Ψ. Ψ)
+              at21
+              (Lifetime.g-end 𝓤 H A W E G74 15 Path'.refl)
+              d21
+
+          d23 : Typed.Typed 𝓤 H A 𝓣 E G73 b39 Δ1 at23
+          d23 =
+              Typed.g-pre
+              𝓤
+              H
+              A
+              W
+              𝓣
+              E
+              G73
+              G74
+              b39
+              Δ1
+              (λ Ψ. Ψ)
+              at22
+              (Lifetime.g-forget 𝓤 H A W E G73 14 Row.dead Path'.refl)
+              d22
+
+          d24 : Typed.Typed 𝓤 H A 𝓣 E G72 b39 Δ1 at24
+          d24 =
+              Typed.g-pre
+              𝓤
+              H
+              A
+              W
+              𝓣
+              E
+              G72
+              G73
+              b39
+              Δ1
+              (Typed.give s70)
+              at23
               (Know.g-sl-known
               𝓤
               H
@@ -22935,7 +25280,7 @@ module _ (claims· : Claims) where
               W
               (Referent.fInt Syntax.w8)
               E
-              G62
+              G72
               4
               3
               (Syntax.tyRef (Syntax.named 3) Syntax.mut (Syntax.tyInt Syntax.w8))
@@ -22953,10 +25298,10 @@ module _ (claims· : Claims) where
               3))
               Path'.refl
               tt)
-              d19
+              d23
 
-          d21 : Typed.Typed 𝓤 H A 𝓣 E G61 b36 Δ1 at21
-          d21 =
+          d25 : Typed.Typed 𝓤 H A 𝓣 E G71 b39 Δ1 at25
+          d25 =
               Typed.g-pre
               𝓤
               H
@@ -22964,12 +25309,12 @@ module _ (claims· : Claims) where
               W
               𝓣
               E
-              G61
-              G62
-              b36
+              G71
+              G72
+              b39
               Δ1
-              (Typed.both s59)
-              at20
+              (Typed.both s69)
+              at24
               (Relend.g-back-sl
               𝓤
               H
@@ -22977,11 +25322,11 @@ module _ (claims· : Claims) where
               W
               E
               (Referent.rtF (Referent.fInt Syntax.w8))
-              G61
-              33
+              G71
+              35
               4
               3
-              13
+              14
               (Syntax.tyRef (Syntax.named 3) Syntax.mut (Syntax.tyInt Syntax.w8))
               (Syntax.tyRef Syntax.erased Syntax.mut (Syntax.tyInt Syntax.w8))
               (Row.lease (κs .1 .1 .1 .0) (qs .1 .1 .1 .0))
@@ -23002,14 +25347,14 @@ module _ (claims· : Claims) where
               (Referent.rtF (Referent.fInt Syntax.w8))
               (Syntax.tyRef (Syntax.named 3) Syntax.mut (Syntax.tyInt Syntax.w8))
               3
-              13
+              14
               (Row.lease (κs .1 .1 .1 .0) (qs .1 .1 .1 .0))))
               Path'.refl
               Path'.refl)
-              d20
+              d24
 
-          d22 : Typed.Typed 𝓤 H A 𝓣 E G60 b36 Δ1 at22
-          d22 =
+          d26 : Typed.Typed 𝓤 H A 𝓣 E G70 b39 Δ1 at26
+          d26 =
               Typed.g-pre
               𝓤
               H
@@ -23017,17 +25362,17 @@ module _ (claims· : Claims) where
               W
               𝓣
               E
-              G60
-              G61
-              b36
+              G70
+              G71
+              b39
               Δ1
               (λ Ψ. Ψ)
-              at21
-              (Lifetime.g-end 𝓤 H A W E G60 13 Path'.refl)
-              d21
+              at25
+              (Lifetime.g-end 𝓤 H A W E G70 14 Path'.refl)
+              d25
 
-          d23 : Typed.Typed 𝓤 H A 𝓣 E G59 b36 Δ1 at23
-          d23 =
+          d27 : Typed.Typed 𝓤 H A 𝓣 E G69 b39 Δ1 at27
+          d27 =
               Typed.g-pre
               𝓤
               H
@@ -23035,53 +25380,36 @@ module _ (claims· : Claims) where
               W
               𝓣
               E
-              G59
-              G60
-              b36
+              G69
+              G70
+              b39
               Δ1
-              (Typed.pass T59 T60 s57)
-              at22
-              (Scalar.g-room
+              (Typed.pass T69 T70 s67)
+              at26
+              (Local.g-drop-sref
               𝓤
               H
               A
               W
               E
-              G59
-              5
-              (Syntax.tyStruct
-              (List._∷_
-              111
-              (List._∷_
-              119
-              (List._∷_
-              110
-              (List._∷_ 58 (List._∷_ 58 (List._∷_ 79 (List._∷_ 119 (List._∷_ 110 List.[]))))))))
-              (Syntax.tcons
-              (Syntax.tyArray (Syntax.tyInt Syntax.w8) 16)
-              (Syntax.tcons (Syntax.tyArray (Syntax.tyInt Syntax.w8) 16) Syntax.tnil)))
-              (Local.room-whole
+              G69
+              36
+              15
+              (KOwn.R)
+              (Syntax.tyRef Syntax.erased Syntax.imm (KOwn.named))
+              (λ x. x)
+              (Reads'.as-is
               𝓤
               H
               A
-              W
-              (Declared.row Own.the-type)
-              (Syntax.tyStruct
-              (List._∷_
-              111
-              (List._∷_
-              119
-              (List._∷_
-              110
-              (List._∷_ 58 (List._∷_ 58 (List._∷_ 79 (List._∷_ 119 (List._∷_ 110 List.[]))))))))
-              (Syntax.tcons
-              (Syntax.tyArray (Syntax.tyInt Syntax.w8) 16)
-              (Syntax.tcons (Syntax.tyArray (Syntax.tyInt Syntax.w8) 16) Syntax.tnil)))
-              Path'.refl))
-              d22
+              (Rows'.sref
+              (KOwn.R)
+              (Syntax.tyRef Syntax.erased Syntax.imm (KOwn.named))
+              15)))
+              d26
 
-          d24 : Typed.Typed 𝓤 H A 𝓣 E G58 b37 Δ1 at24
-          d24 =
+          d28 : Typed.Typed 𝓤 H A 𝓣 E G68 b40 Δ1 at28
+          d28 =
               Typed.s-seq
               𝓤
               H
@@ -23089,20 +25417,20 @@ module _ (claims· : Claims) where
               W
               𝓣
               E
-              G58
-              G59
-              b21
-              b36
+              G68
+              G69
+              b24
+              b39
               Δ1
-              (Typed.both s56)
-              at23
+              (Typed.both s66)
+              at27
               (Plain.t-call-plain
               𝓤
               H
               A
               W
               𝓣
-              3
+              4
               ps·6
               r·6
               (claims· .12)
@@ -23111,14 +25439,21 @@ module _ (claims· : Claims) where
               (known .6)
               E
               (λ pos β. β)
-              G58 (
+              G68 (
                 record {
-                  pos = 33;
+                  pos = 35;
                   ty = Syntax.tyRef Syntax.erased Syntax.mut (Syntax.tyInt Syntax.w8);
                   ref = λ x. x;
                 },
                 (
-                  record { pos = 5; st = List.[]; d = 0; at = λ x. x },
+                  record {
+                    pos = 36;
+                    ty = Syntax.tyRef
+                        Syntax.erased
+                        Syntax.imm
+                        (KOwn.named);
+                    ref = λ x. x;
+                  },
                   (
                     record {
                       pos = 12;
@@ -23142,9 +25477,9 @@ module _ (claims· : Claims) where
                   ),
                 ),
               )
-              17
-              (List._∷_ 13 (List._∷_ 7 (List._∷_ 4 List.[])))
-              (Call.sub-id 𝓤 H A W (G58 .slots)) (
+              18
+              (List._∷_ 14 (List._∷_ 15 (List._∷_ 7 (List._∷_ 4 List.[]))))
+              (Call.sub-id 𝓤 H A W (G68 .slots)) (
                 Reads'.as-is
                     𝓤
                     H
@@ -23152,7 +25487,7 @@ module _ (claims· : Claims) where
                     (Mut.mslice
                     (Referent.rtF (Referent.fInt Syntax.w8))
                     (Syntax.tyRef Syntax.erased Syntax.mut (Syntax.tyInt Syntax.w8))
-                    13),
+                    14),
                 Mut.reads-mslice
                     𝓤
                     H
@@ -23160,32 +25495,32 @@ module _ (claims· : Claims) where
                     W
                     (Referent.rtF (Referent.fInt Syntax.w8))
                     (Syntax.tyRef Syntax.erased Syntax.mut (Syntax.tyInt Syntax.w8))
-                    13,
+                    14,
                 Path'.refl,
                 (
-                  (
-                    Yields.yields-copy
-                        𝓤
-                        H
-                        A
-                        W
-                        (λ ρ. Unit)
-                        (Declared.row Own.the-type)
-                        Path'.refl
-                        (Copies.cStruct Own.the-type Laws'3.the-laws Laws'3.the-copy .copy 𝓤 H A W)
-                        (Rows'.whole (Declared.row Own.the-type))
-                        (λ x. x)
-                        (λ x. x)
-                        (λ ρ told. Local.mem-whole 𝓤 H A W (Declared.row Own.the-type) ρ)
-                        λ ρ told. Local.whole-mem
-                        𝓤
-                        H
-                        A
-                        W
-                        (Declared.row Own.the-type)
-                        ρ,
-                    Path'.refl,
-                  ),
+                  ShrRef.spares-sref
+                      𝓤
+                      H
+                      A
+                      W
+                      (KOwn.R)
+                      (Syntax.tyRef
+                      Syntax.erased
+                      Syntax.imm
+                      (KOwn.named))
+                      15,
+                  Reads'.reads-sref
+                      𝓤
+                      H
+                      A
+                      W
+                      (KOwn.R)
+                      (Syntax.tyRef
+                      Syntax.erased
+                      Syntax.imm
+                      (KOwn.named))
+                      15,
+                  Path'.refl,
                   (
                     ShrRef.spares-sref
                         𝓤
@@ -23244,12 +25579,12 @@ module _ (claims· : Claims) where
                 ),
               )
               (Reads'.room-gone 𝓤 H A (Syntax.tyInt Syntax.w64))
-              (tt, (tt, (tt, tt)))
+              (tt, (tt, (tt, (tt, tt))))
               Path'.refl)
-              d23
+              d27
 
-          d25 : Typed.Typed 𝓤 H A 𝓣 E G57 b38 Δ1 at25
-          d25 =
+          d29 : Typed.Typed 𝓤 H A 𝓣 E G67 b41 Δ1 at29
+          d29 =
               Typed.s-seq
               𝓤
               H
@@ -23257,13 +25592,200 @@ module _ (claims· : Claims) where
               W
               𝓣
               E
-              G57
-              G58
-              b20
-              b37
+              G67
+              G68
+              b23
+              b40
               Δ1
-              (Typed.ask s55)
-              at24
+              (Typed.give s65)
+              at28
+              (Local.t-sc-share
+              𝓤
+              H
+              A
+              W
+              E
+              𝓣
+              G67
+              14
+              36
+              15
+              (KOwn.R)
+              (Syntax.tyRef Syntax.erased Syntax.imm (KOwn.named))
+              (λ x. x)
+              (KOwn.in-mem 𝓤 H A W)
+              (Reads'.room-gone
+              𝓤
+              H
+              A
+              (Syntax.tyRef Syntax.erased Syntax.imm (KOwn.named)))
+              Path'.refl
+              λ b o. tt)
+              d28
+
+          d30 : Typed.Typed 𝓤 H A 𝓣 E G66 b41 Δ1 at30
+          d30 =
+              Typed.g-pre
+              𝓤
+              H
+              A
+              W
+              𝓣
+              E
+              G66
+              G67
+              b41
+              Δ1
+              (λ Ψ. Ψ)
+              at29
+              (Lifetime.g-begin 𝓤 H A W E G66 15 (
+                tt,
+                (
+                  tt,
+                  (
+                    tt,
+                    (
+                      tt,
+                      (
+                        (tt, tt),
+                        (
+                          tt,
+                          (
+                            tt,
+                            (
+                              tt,
+                              (
+                                tt,
+                                (
+                                  tt,
+                                  (
+                                    tt,
+                                    (
+                                      tt,
+                                      (
+                                        tt,
+                                        (
+                                          tt,
+                                          (
+                                            tt,
+                                            (
+                                              tt,
+                                              (
+                                                tt,
+                                                (
+                                                  tt,
+                                                  (
+                                                    tt,
+                                                    (
+                                                      tt,
+                                                      (
+                                                        tt,
+                                                        (
+                                                          tt,
+                                                          (
+                                                            tt,
+                                                            (
+                                                              tt,
+                                                              (
+                                                                tt,
+                                                                (
+                                                                  tt,
+                                                                  (
+                                                                    tt,
+                                                                    (
+                                                                      tt,
+                                                                      (
+                                                                        tt,
+                                                                        (
+                                                                          tt,
+                                                                          (
+                                                                            tt,
+                                                                            (
+                                                                              tt,
+                                                                              (
+                                                                                tt,
+                                                                                (
+                                                                                  tt,
+                                                                                  (
+                                                                                    tt,
+                                                                                    (
+                                                                                      tt,
+                                                                                      (
+                                                                                        tt,
+                                                                                        (
+                                                                                          tt,
+                                                                                          (
+                                                                                            tt,
+                                                                                            (
+                                                                                              tt,
+                                                                                              (
+                                                                                                tt,
+                                                                                                (
+                                                                                                  tt,
+                                                                                                  (
+                                                                                                    tt,
+                                                                                                    tt,
+                                                                                                  ),
+                                                                                                ),
+                                                                                              ),
+                                                                                            ),
+                                                                                          ),
+                                                                                        ),
+                                                                                      ),
+                                                                                    ),
+                                                                                  ),
+                                                                                ),
+                                                                              ),
+                                                                            ),
+                                                                          ),
+                                                                        ),
+                                                                      ),
+                                                                    ),
+                                                                  ),
+                                                                ),
+                                                              ),
+                                                            ),
+                                                          ),
+                                                        ),
+                                                      ),
+                                                    ),
+                                                  ),
+                                                ),
+                                              ),
+                                            ),
+                                          ),
+                                        ),
+                                      ),
+                                    ),
+                                  ),
+                                ),
+                              ),
+                            ),
+                          ),
+                        ),
+                      ),
+                    ),
+                  ),
+                ),
+              ))
+              d29
+
+          d31 : Typed.Typed 𝓤 H A 𝓣 E G65 b42 Δ1 at31
+          d31 =
+              Typed.s-seq
+              𝓤
+              H
+              A
+              W
+              𝓣
+              E
+              G65
+              G66
+              b22
+              b41
+              Δ1
+              (Typed.ask s63)
+              at30
               (Relend.t-sl-aggregate
               𝓤
               H
@@ -23273,10 +25795,10 @@ module _ (claims· : Claims) where
               (Referent.rtF (Referent.fInt Syntax.w8))
               𝓣
               (Relend.asMut (Referent.rtF (Referent.fInt Syntax.w8)))
-              G57
-              32
-              33
-              13
+              G65
+              34
+              35
+              14
               (Syntax.tyRef Syntax.erased Syntax.mut (Syntax.tyInt Syntax.w8))
               (Syntax.tyRef Syntax.erased Syntax.mut (Syntax.tyInt Syntax.w8))
               (λ x. x)
@@ -23294,7 +25816,7 @@ module _ (claims· : Claims) where
               (Relend.msptr
               (Referent.rtF (Referent.fInt Syntax.w8))
               (Syntax.tyRef Syntax.erased Syntax.mut (Syntax.tyInt Syntax.w8))
-              13))
+              14))
               (Reads'.room-gone
               𝓤
               H
@@ -23312,7 +25834,7 @@ module _ (claims· : Claims) where
                     (Referent.rtF (Referent.fInt Syntax.w8))
                     (Syntax.tyRef (Syntax.named 3) Syntax.mut (Syntax.tyInt Syntax.w8))
                     3
-                    13
+                    14
                     (Row.lease (κs .1 .1 .1 .0) (qs .1 .1 .1 .0))
                     8
                     Path'.refl,
@@ -23321,10 +25843,10 @@ module _ (claims· : Claims) where
               Path'.refl
               Path'.refl
               λ b o k. tt)
-              d24
+              d30
 
-          d26 : Typed.Typed 𝓤 H A 𝓣 E G56 b39 Δ1 at26
-          d26 =
+          d32 : Typed.Typed 𝓤 H A 𝓣 E G64 b43 Δ1 at32
+          d32 =
               Typed.s-seq
               𝓤
               H
@@ -23332,13 +25854,13 @@ module _ (claims· : Claims) where
               W
               𝓣
               E
-              G56
-              G57
-              b19
-              b38
+              G64
+              G65
+              b21
+              b42
               Δ1
-              (Typed.give s54)
-              at25
+              (Typed.give s62)
+              at31
               (Relend.t-sl-relend
               𝓤
               H
@@ -23347,11 +25869,11 @@ module _ (claims· : Claims) where
               E
               (Referent.rtF (Referent.fInt Syntax.w8))
               𝓣
-              G56
+              G64
               4
-              32
+              34
               3
-              13
+              14
               (Syntax.tyRef (Syntax.named 3) Syntax.mut (Syntax.tyInt Syntax.w8))
               (Syntax.tyRef Syntax.erased Syntax.mut (Syntax.tyInt Syntax.w8))
               (Row.lease (κs .1 .1 .1 .0) (qs .1 .1 .1 .0))
@@ -23376,10 +25898,10 @@ module _ (claims· : Claims) where
               Path'.refl
               Path'.refl
               λ b o. tt)
-              d25
+              d31
 
-          d27 : Typed.Typed 𝓤 H A 𝓣 E G55 b39 Δ1 at27
-          d27 =
+          d33 : Typed.Typed 𝓤 H A 𝓣 E G63 b43 Δ1 at33
+          d33 =
               Typed.g-pre
               𝓤
               H
@@ -23387,13 +25909,13 @@ module _ (claims· : Claims) where
               W
               𝓣
               E
-              G55
-              G56
-              b39
+              G63
+              G64
+              b43
               Δ1
               (λ Ψ. Ψ)
-              at26
-              (Lifetime.g-begin 𝓤 H A W E G55 13 (
+              at32
+              (Lifetime.g-begin 𝓤 H A W E G63 14 (
                 tt,
                 (
                   tt,
@@ -23473,7 +25995,16 @@ module _ (claims· : Claims) where
                                                                                             tt,
                                                                                             (
                                                                                               tt,
-                                                                                              tt,
+                                                                                              (
+                                                                                                tt,
+                                                                                                (
+                                                                                                  tt,
+                                                                                                  (
+                                                                                                    tt,
+                                                                                                    tt,
+                                                                                                  ),
+                                                                                                ),
+                                                                                              ),
                                                                                             ),
                                                                                           ),
                                                                                         ),
@@ -23514,10 +26045,10 @@ module _ (claims· : Claims) where
                   ),
                 ),
               ))
-              d26
+              d32
 
-          d28 : Typed.Typed 𝓤 H A 𝓣 E G54 b39 Δ1 at28
-          d28 =
+          d34 : Typed.Typed 𝓤 H A 𝓣 E G62 b43 Δ1 at34
+          d34 =
               Typed.g-pre
               𝓤
               H
@@ -23525,17 +26056,17 @@ module _ (claims· : Claims) where
               W
               𝓣
               E
-              G54
-              G55
-              b39
+              G62
+              G63
+              b43
               Δ1
               (λ Ψ. Ψ)
-              at27
-              (Lifetime.g-forget 𝓤 H A W E G54 12 Row.dead Path'.refl)
-              d27
+              at33
+              (Lifetime.g-forget 𝓤 H A W E G62 13 Row.dead Path'.refl)
+              d33
 
-          d29 : Typed.Typed 𝓤 H A 𝓣 E G53 b39 Δ1 at29
-          d29 =
+          d35 : Typed.Typed 𝓤 H A 𝓣 E G61 b43 Δ1 at35
+          d35 =
               Typed.g-pre
               𝓤
               H
@@ -23543,12 +26074,98 @@ module _ (claims· : Claims) where
               W
               𝓣
               E
-              G53
-              G54
-              b39
+              G61
+              G62
+              b43
               Δ1
-              (Typed.give s51)
-              at28
+              (Typed.pass T59 T62 s59)
+              at34
+              (Local.g-back-shr
+              𝓤
+              H
+              A
+              W
+              E
+              G61
+              14
+              13
+              (KOwn.row)
+              (KOwn.R)
+              (λ x. x)
+              (λ x. x)
+              (Reads'.as-is
+              𝓤
+              H
+              A
+              (Rows'.sc-shr
+              (KOwn.row)
+              (KOwn.R)
+              (λ x. x)
+              13))
+              (Local.home-of
+              𝓤
+              H
+              A
+              (KOwn.row)
+              (KOwn.R)
+              (λ x. x)
+              (λ x. x)
+              (KOwn.of-mem 𝓤 H A W)
+              λ x k. Path'.refl)
+              Path'.refl)
+              d34
+
+          d36 : Typed.Typed 𝓤 H A 𝓣 E G60 b43 Δ1 at36
+          d36 =
+              Typed.g-pre
+              𝓤
+              H
+              A
+              W
+              𝓣
+              E
+              G60
+              G61
+              b43
+              Δ1
+              (λ Ψ. Ψ)
+              at35
+              (Lifetime.g-end 𝓤 H A W E G60 13 Path'.refl)
+              d35
+
+          d37 : Typed.Typed 𝓤 H A 𝓣 E G59 b43 Δ1 at37
+          d37 =
+              Typed.g-pre
+              𝓤
+              H
+              A
+              W
+              𝓣
+              E
+              G59
+              G60
+              b43
+              Δ1
+              (λ Ψ. Ψ)
+              at36
+              (Lifetime.g-forget 𝓤 H A W E G59 12 Row.dead Path'.refl)
+              d36
+
+          d38 : Typed.Typed 𝓤 H A 𝓣 E G58 b43 Δ1 at38
+          d38 =
+              Typed.g-pre
+              𝓤
+              H
+              A
+              W
+              𝓣
+              E
+              G58
+              G59
+              b43
+              Δ1
+              (Typed.give s56)
+              at37
               (Know.g-sl-known
               𝓤
               H
@@ -23556,7 +26173,7 @@ module _ (claims· : Claims) where
               W
               (Referent.fInt Syntax.w8)
               E
-              G53
+              G58
               3
               2
               (Syntax.tyRef (Syntax.named 2) Syntax.mut (Syntax.tyInt Syntax.w8))
@@ -23574,10 +26191,10 @@ module _ (claims· : Claims) where
               2))
               Path'.refl
               tt)
-              d28
+              d37
 
-          d30 : Typed.Typed 𝓤 H A 𝓣 E G52 b39 Δ1 at30
-          d30 =
+          d39 : Typed.Typed 𝓤 H A 𝓣 E G57 b43 Δ1 at39
+          d39 =
               Typed.g-pre
               𝓤
               H
@@ -23585,12 +26202,12 @@ module _ (claims· : Claims) where
               W
               𝓣
               E
-              G52
-              G53
-              b39
+              G57
+              G58
+              b43
               Δ1
-              (Typed.both s50)
-              at29
+              (Typed.both s55)
+              at38
               (Relend.g-back-sl
               𝓤
               H
@@ -23598,8 +26215,8 @@ module _ (claims· : Claims) where
               W
               E
               (Referent.rtF (Referent.fInt Syntax.w8))
-              G52
-              31
+              G57
+              32
               3
               2
               12
@@ -23627,10 +26244,10 @@ module _ (claims· : Claims) where
               (Row.lease (κs .1 .1 .0) (qs .1 .1 .0))))
               Path'.refl
               Path'.refl)
-              d29
+              d38
 
-          d31 : Typed.Typed 𝓤 H A 𝓣 E G51 b39 Δ1 at31
-          d31 =
+          d40 : Typed.Typed 𝓤 H A 𝓣 E G56 b43 Δ1 at40
+          d40 =
               Typed.g-pre
               𝓤
               H
@@ -23638,17 +26255,54 @@ module _ (claims· : Claims) where
               W
               𝓣
               E
-              G51
-              G52
-              b39
+              G56
+              G57
+              b43
               Δ1
               (λ Ψ. Ψ)
-              at30
-              (Lifetime.g-end 𝓤 H A W E G51 12 Path'.refl)
-              d30
+              at39
+              (Lifetime.g-end 𝓤 H A W E G56 12 Path'.refl)
+              d39
 
-          d32 : Typed.Typed 𝓤 H A 𝓣 E G50 b40 Δ1 at32
-          d32 =
+          d41 : Typed.Typed 𝓤 H A 𝓣 E G55 b43 Δ1 at41
+          d41 =
+              Typed.g-pre
+              𝓤
+              H
+              A
+              W
+              𝓣
+              E
+              G55
+              G56
+              b43
+              Δ1
+              (Typed.pass T55 T56 s53)
+              at40
+              (Local.g-drop-sref
+              𝓤
+              H
+              A
+              W
+              E
+              G55
+              33
+              13
+              (KOwn.R)
+              (Syntax.tyRef Syntax.erased Syntax.imm (KOwn.named))
+              (λ x. x)
+              (Reads'.as-is
+              𝓤
+              H
+              A
+              (Rows'.sref
+              (KOwn.R)
+              (Syntax.tyRef Syntax.erased Syntax.imm (KOwn.named))
+              13)))
+              d40
+
+          d42 : Typed.Typed 𝓤 H A 𝓣 E G54 b44 Δ1 at42
+          d42 =
               Typed.s-seq
               𝓤
               H
@@ -23656,20 +26310,20 @@ module _ (claims· : Claims) where
               W
               𝓣
               E
-              G50
-              G51
-              b18
-              b39
+              G54
+              G55
+              b20
+              b43
               Δ1
-              (Typed.both s48)
-              at31
+              (Typed.both s52)
+              at41
               (Plain.t-call-plain
               𝓤
               H
               A
               W
               𝓣
-              3
+              4
               ps·6
               r·6
               (claims· .12)
@@ -23678,14 +26332,21 @@ module _ (claims· : Claims) where
               (known .6)
               E
               (λ pos β. β)
-              G50 (
+              G54 (
                 record {
-                  pos = 31;
+                  pos = 32;
                   ty = Syntax.tyRef Syntax.erased Syntax.mut (Syntax.tyInt Syntax.w8);
                   ref = λ x. x;
                 },
                 (
-                  record { pos = 5; st = List.[]; d = 0; at = λ x. x },
+                  record {
+                    pos = 33;
+                    ty = Syntax.tyRef
+                        Syntax.erased
+                        Syntax.imm
+                        (KOwn.named);
+                    ref = λ x. x;
+                  },
                   (
                     record {
                       pos = 11;
@@ -23709,9 +26370,9 @@ module _ (claims· : Claims) where
                   ),
                 ),
               )
-              16
-              (List._∷_ 12 (List._∷_ 6 (List._∷_ 4 List.[])))
-              (Call.sub-id 𝓤 H A W (G50 .slots)) (
+              17
+              (List._∷_ 12 (List._∷_ 13 (List._∷_ 6 (List._∷_ 4 List.[]))))
+              (Call.sub-id 𝓤 H A W (G54 .slots)) (
                 Reads'.as-is
                     𝓤
                     H
@@ -23730,29 +26391,29 @@ module _ (claims· : Claims) where
                     12,
                 Path'.refl,
                 (
-                  (
-                    Yields.yields-copy
-                        𝓤
-                        H
-                        A
-                        W
-                        (λ ρ. Unit)
-                        (Declared.row Own.the-type)
-                        Path'.refl
-                        (Copies.cStruct Own.the-type Laws'3.the-laws Laws'3.the-copy .copy 𝓤 H A W)
-                        (Rows'.whole (Declared.row Own.the-type))
-                        (λ x. x)
-                        (λ x. x)
-                        (λ ρ told. Local.mem-whole 𝓤 H A W (Declared.row Own.the-type) ρ)
-                        λ ρ told. Local.whole-mem
-                        𝓤
-                        H
-                        A
-                        W
-                        (Declared.row Own.the-type)
-                        ρ,
-                    Path'.refl,
-                  ),
+                  ShrRef.spares-sref
+                      𝓤
+                      H
+                      A
+                      W
+                      (KOwn.R)
+                      (Syntax.tyRef
+                      Syntax.erased
+                      Syntax.imm
+                      (KOwn.named))
+                      13,
+                  Reads'.reads-sref
+                      𝓤
+                      H
+                      A
+                      W
+                      (KOwn.R)
+                      (Syntax.tyRef
+                      Syntax.erased
+                      Syntax.imm
+                      (KOwn.named))
+                      13,
+                  Path'.refl,
                   (
                     ShrRef.spares-sref
                         𝓤
@@ -23811,12 +26472,12 @@ module _ (claims· : Claims) where
                 ),
               )
               (Reads'.room-gone 𝓤 H A (Syntax.tyInt Syntax.w64))
-              (tt, (tt, (tt, tt)))
+              (tt, (tt, (tt, (tt, tt))))
               Path'.refl)
-              d31
+              d41
 
-          d33 : Typed.Typed 𝓤 H A 𝓣 E G49 b41 Δ1 at33
-          d33 =
+          d43 : Typed.Typed 𝓤 H A 𝓣 E G53 b45 Δ1 at43
+          d43 =
               Typed.s-seq
               𝓤
               H
@@ -23824,13 +26485,200 @@ module _ (claims· : Claims) where
               W
               𝓣
               E
-              G49
-              G50
-              b17
-              b40
+              G53
+              G54
+              b19
+              b44
               Δ1
-              (Typed.ask s47)
-              at32
+              (Typed.give s51)
+              at42
+              (Local.t-sc-share
+              𝓤
+              H
+              A
+              W
+              E
+              𝓣
+              G53
+              14
+              33
+              13
+              (KOwn.R)
+              (Syntax.tyRef Syntax.erased Syntax.imm (KOwn.named))
+              (λ x. x)
+              (KOwn.in-mem 𝓤 H A W)
+              (Reads'.room-gone
+              𝓤
+              H
+              A
+              (Syntax.tyRef Syntax.erased Syntax.imm (KOwn.named)))
+              Path'.refl
+              λ b o. tt)
+              d42
+
+          d44 : Typed.Typed 𝓤 H A 𝓣 E G52 b45 Δ1 at44
+          d44 =
+              Typed.g-pre
+              𝓤
+              H
+              A
+              W
+              𝓣
+              E
+              G52
+              G53
+              b45
+              Δ1
+              (λ Ψ. Ψ)
+              at43
+              (Lifetime.g-begin 𝓤 H A W E G52 13 (
+                tt,
+                (
+                  tt,
+                  (
+                    tt,
+                    (
+                      (tt, tt),
+                      (
+                        tt,
+                        (
+                          tt,
+                          (
+                            tt,
+                            (
+                              tt,
+                              (
+                                tt,
+                                (
+                                  tt,
+                                  (
+                                    tt,
+                                    (
+                                      tt,
+                                      (
+                                        tt,
+                                        (
+                                          tt,
+                                          (
+                                            tt,
+                                            (
+                                              tt,
+                                              (
+                                                tt,
+                                                (
+                                                  tt,
+                                                  (
+                                                    tt,
+                                                    (
+                                                      tt,
+                                                      (
+                                                        tt,
+                                                        (
+                                                          tt,
+                                                          (
+                                                            tt,
+                                                            (
+                                                              tt,
+                                                              (
+                                                                tt,
+                                                                (
+                                                                  tt,
+                                                                  (
+                                                                    tt,
+                                                                    (
+                                                                      tt,
+                                                                      (
+                                                                        tt,
+                                                                        (
+                                                                          tt,
+                                                                          (
+                                                                            tt,
+                                                                            (
+                                                                              tt,
+                                                                              (
+                                                                                tt,
+                                                                                (
+                                                                                  tt,
+                                                                                  (
+                                                                                    tt,
+                                                                                    (
+                                                                                      tt,
+                                                                                      (
+                                                                                        tt,
+                                                                                        (
+                                                                                          tt,
+                                                                                          (
+                                                                                            tt,
+                                                                                            (
+                                                                                              tt,
+                                                                                              (
+                                                                                                tt,
+                                                                                                (
+                                                                                                  tt,
+                                                                                                  (
+                                                                                                    tt,
+                                                                                                    tt,
+                                                                                                  ),
+                                                                                                ),
+                                                                                              ),
+                                                                                            ),
+                                                                                          ),
+                                                                                        ),
+                                                                                      ),
+                                                                                    ),
+                                                                                  ),
+                                                                                ),
+                                                                              ),
+                                                                            ),
+                                                                          ),
+                                                                        ),
+                                                                      ),
+                                                                    ),
+                                                                  ),
+                                                                ),
+                                                              ),
+                                                            ),
+                                                          ),
+                                                        ),
+                                                      ),
+                                                    ),
+                                                  ),
+                                                ),
+                                              ),
+                                            ),
+                                          ),
+                                        ),
+                                      ),
+                                    ),
+                                  ),
+                                ),
+                              ),
+                            ),
+                          ),
+                        ),
+                      ),
+                    ),
+                  ),
+                ),
+              ))
+              d43
+
+          d45 : Typed.Typed 𝓤 H A 𝓣 E G51 b46 Δ1 at45
+          d45 =
+              Typed.s-seq
+              𝓤
+              H
+              A
+              W
+              𝓣
+              E
+              G51
+              G52
+              b18
+              b45
+              Δ1
+              (Typed.ask s49)
+              at44
               (Relend.t-sl-aggregate
               𝓤
               H
@@ -23840,9 +26688,9 @@ module _ (claims· : Claims) where
               (Referent.rtF (Referent.fInt Syntax.w8))
               𝓣
               (Relend.asMut (Referent.rtF (Referent.fInt Syntax.w8)))
-              G49
-              30
+              G51
               31
+              32
               12
               (Syntax.tyRef Syntax.erased Syntax.mut (Syntax.tyInt Syntax.w8))
               (Syntax.tyRef Syntax.erased Syntax.mut (Syntax.tyInt Syntax.w8))
@@ -23888,10 +26736,10 @@ module _ (claims· : Claims) where
               Path'.refl
               Path'.refl
               λ b o k. tt)
-              d32
+              d44
 
-          d34 : Typed.Typed 𝓤 H A 𝓣 E G48 b42 Δ1 at34
-          d34 =
+          d46 : Typed.Typed 𝓤 H A 𝓣 E G50 b47 Δ1 at46
+          d46 =
               Typed.s-seq
               𝓤
               H
@@ -23899,13 +26747,13 @@ module _ (claims· : Claims) where
               W
               𝓣
               E
-              G48
-              G49
-              b16
-              b41
+              G50
+              G51
+              b17
+              b46
               Δ1
-              (Typed.give s46)
-              at33
+              (Typed.give s48)
+              at45
               (Relend.t-sl-relend
               𝓤
               H
@@ -23914,9 +26762,9 @@ module _ (claims· : Claims) where
               E
               (Referent.rtF (Referent.fInt Syntax.w8))
               𝓣
-              G48
+              G50
               3
-              30
+              31
               2
               12
               (Syntax.tyRef (Syntax.named 2) Syntax.mut (Syntax.tyInt Syntax.w8))
@@ -23943,10 +26791,10 @@ module _ (claims· : Claims) where
               Path'.refl
               Path'.refl
               λ b o. tt)
-              d33
+              d45
 
-          d35 : Typed.Typed 𝓤 H A 𝓣 E G47 b42 Δ1 at35
-          d35 =
+          d47 : Typed.Typed 𝓤 H A 𝓣 E G49 b47 Δ1 at47
+          d47 =
               Typed.g-pre
               𝓤
               H
@@ -23954,13 +26802,13 @@ module _ (claims· : Claims) where
               W
               𝓣
               E
-              G47
-              G48
-              b42
+              G49
+              G50
+              b47
               Δ1
               (λ Ψ. Ψ)
-              at34
-              (Lifetime.g-begin 𝓤 H A W E G47 12 (
+              at46
+              (Lifetime.g-begin 𝓤 H A W E G49 12 (
                 tt,
                 (
                   tt,
@@ -24040,7 +26888,16 @@ module _ (claims· : Claims) where
                                                                                             tt,
                                                                                             (
                                                                                               tt,
-                                                                                              tt,
+                                                                                              (
+                                                                                                tt,
+                                                                                                (
+                                                                                                  tt,
+                                                                                                  (
+                                                                                                    tt,
+                                                                                                    tt,
+                                                                                                  ),
+                                                                                                ),
+                                                                                              ),
                                                                                             ),
                                                                                           ),
                                                                                         ),
@@ -24081,10 +26938,10 @@ module _ (claims· : Claims) where
                   ),
                 ),
               ))
-              d34
+              d46
 
-          d36 : Typed.Typed 𝓤 H A 𝓣 E G46 b42 Δ1 at36
-          d36 =
+          d48 : Typed.Typed 𝓤 H A 𝓣 E G48 b47 Δ1 at48
+          d48 =
               Typed.g-pre
               𝓤
               H
@@ -24092,17 +26949,17 @@ module _ (claims· : Claims) where
               W
               𝓣
               E
-              G46
-              G47
-              b42
+              G48
+              G49
+              b47
               Δ1
               (λ Ψ. Ψ)
-              at35
-              (Lifetime.g-forget 𝓤 H A W E G46 11 Row.dead Path'.refl)
-              d35
+              at47
+              (Lifetime.g-forget 𝓤 H A W E G48 11 Row.dead Path'.refl)
+              d47
 
-          d37 : Typed.Typed 𝓤 H A 𝓣 E G45 b42 Δ1 at37
-          d37 =
+          d49 : Typed.Typed 𝓤 H A 𝓣 E G47 b47 Δ1 at49
+          d49 =
               Typed.g-pre
               𝓤
               H
@@ -24110,12 +26967,12 @@ module _ (claims· : Claims) where
               W
               𝓣
               E
-              G45
-              G46
-              b42
+              G47
+              G48
+              b47
               Δ1
-              (Typed.both s43)
-              at36
+              (Typed.both s45)
+              at48
               (Relend.g-back-sl
               𝓤
               H
@@ -24123,8 +26980,8 @@ module _ (claims· : Claims) where
               W
               E
               (KRouteRow.R)
-              G45
-              29
+              G47
+              30
               2
               1
               11
@@ -24161,10 +27018,46 @@ module _ (claims· : Claims) where
               (Row.lease (κs .1 .0) (qs .1 .0))))
               Path'.refl
               Path'.refl)
-              d36
+              d48
 
-          d38 : Typed.Typed 𝓤 H A 𝓣 E G44 b42 Δ1 at38
-          d38 =
+          d50 : Typed.Typed 𝓤 H A 𝓣 E G46 b47 Δ1 at50
+          d50 =
+              Typed.g-pre
+              𝓤
+              H
+              A
+              W
+              𝓣
+              E
+              G46
+              G47
+              b47
+              Δ1
+              (λ Ψ. Ψ)
+              at49
+              (Lifetime.g-end 𝓤 H A W E G46 11 Path'.refl)
+              d49
+
+          d51 : Typed.Typed 𝓤 H A 𝓣 E G45 b47 Δ1 at51
+          d51 =
+              Typed.g-pre
+              𝓤
+              H
+              A
+              W
+              𝓣
+              E
+              G45
+              G46
+              b47
+              Δ1
+              (λ Ψ. Ψ)
+              at50
+              (Lifetime.g-forget 𝓤 H A W E G45 10 Row.dead Path'.refl)
+              d50
+
+          d52 : Typed.Typed 𝓤 H A 𝓣 E G44 b47 Δ1 at52
+          d52 =
               Typed.g-pre
               𝓤
               H
@@ -24174,46 +27067,10 @@ module _ (claims· : Claims) where
               E
               G44
               G45
-              b42
+              b47
               Δ1
-              (λ Ψ. Ψ)
-              at37
-              (Lifetime.g-end 𝓤 H A W E G44 11 Path'.refl)
-              d37
-
-          d39 : Typed.Typed 𝓤 H A 𝓣 E G43 b42 Δ1 at39
-          d39 =
-              Typed.g-pre
-              𝓤
-              H
-              A
-              W
-              𝓣
-              E
-              G43
-              G44
-              b42
-              Δ1
-              (λ Ψ. Ψ)
-              at38
-              (Lifetime.g-forget 𝓤 H A W E G43 10 Row.dead Path'.refl)
-              d38
-
-          d40 : Typed.Typed 𝓤 H A 𝓣 E G42 b42 Δ1 at40
-          d40 =
-              Typed.g-pre
-              𝓤
-              H
-              A
-              W
-              𝓣
-              E
-              G42
-              G43
-              b42
-              Δ1
-              (Typed.both s40)
-              at39
+              (Typed.both s42)
+              at51
               (Relend.g-back-sl
               𝓤
               H
@@ -24221,8 +27078,8 @@ module _ (claims· : Claims) where
               W
               E
               (KInstanceRow.R)
-              G42
-              27
+              G44
+              28
               1
               0
               10
@@ -24259,10 +27116,46 @@ module _ (claims· : Claims) where
               (Row.lease (κs .0) (qs .0))))
               Path'.refl
               Path'.refl)
-              d39
+              d51
 
-          d41 : Typed.Typed 𝓤 H A 𝓣 E G41 b42 Δ1 at41
-          d41 =
+          d53 : Typed.Typed 𝓤 H A 𝓣 E G43 b47 Δ1 at53
+          d53 =
+              Typed.g-pre
+              𝓤
+              H
+              A
+              W
+              𝓣
+              E
+              G43
+              G44
+              b47
+              Δ1
+              (λ Ψ. Ψ)
+              at52
+              (Lifetime.g-end 𝓤 H A W E G43 10 Path'.refl)
+              d52
+
+          d54 : Typed.Typed 𝓤 H A 𝓣 E G42 b47 Δ1 at54
+          d54 =
+              Typed.g-pre
+              𝓤
+              H
+              A
+              W
+              𝓣
+              E
+              G42
+              G43
+              b47
+              Δ1
+              (Typed.pass T42 T43 s40)
+              at53
+              (Scalar.g-room 𝓤 H A W E G42 26 Syntax.tyUnit (Scalar.room-sc 𝓤 H A W Row.sUnit))
+              d53
+
+          d55 : Typed.Typed 𝓤 H A 𝓣 E G41 b47 Δ1 at55
+          d55 =
               Typed.g-pre
               𝓤
               H
@@ -24272,54 +27165,18 @@ module _ (claims· : Claims) where
               E
               G41
               G42
-              b42
+              b47
               Δ1
-              (λ Ψ. Ψ)
-              at40
-              (Lifetime.g-end 𝓤 H A W E G41 10 Path'.refl)
-              d40
-
-          d42 : Typed.Typed 𝓤 H A 𝓣 E G40 b42 Δ1 at42
-          d42 =
-              Typed.g-pre
-              𝓤
-              H
-              A
-              W
-              𝓣
-              E
-              G40
-              G41
-              b42
-              Δ1
-              (Typed.pass T40 T41 s38)
-              at41
-              (Scalar.g-room 𝓤 H A W E G40 25 Syntax.tyUnit (Scalar.room-sc 𝓤 H A W Row.sUnit))
-              d41
-
-          d43 : Typed.Typed 𝓤 H A 𝓣 E G39 b42 Δ1 at43
-          d43 =
-              Typed.g-pre
-              𝓤
-              H
-              A
-              W
-              𝓣
-              E
-              G39
-              G40
-              b42
-              Δ1
-              (Typed.pass T39 T40 s37)
-              at42
+              (Typed.pass T41 T42 s39)
+              at54
               (Scalar.g-room
               𝓤
               H
               A
               W
               E
-              G39
-              15
+              G41
+              16
               (Syntax.tyStruct
               (List._∷_
               112
@@ -24385,10 +27242,10 @@ module _ (claims· : Claims) where
               (List._∷_ 108 (List._∷_ 97 (List._∷_ 99 (List._∷_ 101 List.[])))))))))))))))))
               (Syntax.tcons Syntax.tyBool (Syntax.tcons (Syntax.tyInt Syntax.w64) Syntax.tnil)))
               Path'.refl))
-              d42
+              d54
 
-          d44 : Typed.Typed 𝓤 H A 𝓣 E G38 b42 Δ1 at44
-          d44 =
+          d56 : Typed.Typed 𝓤 H A 𝓣 E G40 b47 Δ1 at56
+          d56 =
               Typed.g-pre
               𝓤
               H
@@ -24396,20 +27253,20 @@ module _ (claims· : Claims) where
               W
               𝓣
               E
-              G38
-              G39
-              b42
+              G40
+              G41
+              b47
               Δ1
-              (Typed.pass T38 T39 s36)
-              at43
+              (Typed.pass T40 T41 s38)
+              at55
               (Scalar.g-room
               𝓤
               H
               A
               W
               E
-              G38
-              14
+              G40
+              15
               (Syntax.tyStruct
               (List._∷_
               112
@@ -24467,10 +27324,10 @@ module _ (claims· : Claims) where
               (Syntax.tyInt Syntax.w64)
               (Syntax.tcons (Syntax.tyInt Syntax.w64) Syntax.tnil))))
               Path'.refl))
-              d43
+              d55
 
-          d45 : Typed.Typed 𝓤 H A 𝓣 E G37 b43 Δ1 at45
-          d45 =
+          d57 : Typed.Typed 𝓤 H A 𝓣 E G39 b48 Δ1 at57
+          d57 =
               Typed.s-seq
               𝓤
               H
@@ -24478,13 +27335,13 @@ module _ (claims· : Claims) where
               W
               𝓣
               E
-              G37
-              G38
-              b15
-              b42
+              G39
+              G40
+              b16
+              b47
               Δ1
-              (Typed.both s35)
-              at44
+              (Typed.both s37)
+              at56
               (Plain.t-call-plain
               𝓤
               H
@@ -24500,9 +27357,9 @@ module _ (claims· : Claims) where
               (known .5)
               E
               (λ pos β. β)
-              G37 (
+              G39 (
                 record {
-                  pos = 27;
+                  pos = 28;
                   ty = Syntax.tyRef
                       Syntax.erased
                       Syntax.mut
@@ -24511,7 +27368,7 @@ module _ (claims· : Claims) where
                 },
                 (
                   record {
-                    pos = 29;
+                    pos = 30;
                     ty = Syntax.tyRef
                         Syntax.erased
                         Syntax.mut
@@ -24519,10 +27376,10 @@ module _ (claims· : Claims) where
                     ref = λ x. x;
                   },
                   (
-                    record { pos = 14; st = List.[]; d = 0; at = λ x. x },
+                    record { pos = 15; st = List.[]; d = 0; at = λ x. x },
                     (
                       Num.vFld
-                          15
+                          16
                           (List._∷_ (Syntax.field 1) List.[])
                           8
                           λ x. RoutePlace.struct .as-values
@@ -24542,9 +27399,9 @@ module _ (claims· : Claims) where
                   ),
                 ),
               )
-              25
+              26
               (List._∷_ 10 (List._∷_ 11 (List._∷_ 5 List.[])))
-              (Call.sub-id 𝓤 H A W (G37 .slots)) (
+              (Call.sub-id 𝓤 H A W (G39 .slots)) (
                 Reads'.as-is
                     𝓤
                     H
@@ -24604,8 +27461,8 @@ module _ (claims· : Claims) where
                           Path'.refl
                           (Copies.cStruct
                           Places.the-type
-                          Laws'4.the-laws
-                          Laws'4.the-copy .copy
+                          Laws'3.the-laws
+                          Laws'3.the-copy .copy
                           𝓤
                           H
                           A
@@ -24631,7 +27488,7 @@ module _ (claims· : Claims) where
                             A
                             W
                             RoutePlace.the-type
-                            Laws'5.the-laws
+                            Laws'4.the-laws
                             1
                             (Syntax.tyInt Syntax.w64)
                             8
@@ -24671,10 +27528,10 @@ module _ (claims· : Claims) where
               (Reads'.room-gone 𝓤 H A Syntax.tyUnit)
               (tt, (tt, (tt, tt)))
               Path'.refl)
-              d44
+              d56
 
-          d46 : Typed.Typed 𝓤 H A 𝓣 E G36 b44 Δ1 at46
-          d46 =
+          d58 : Typed.Typed 𝓤 H A 𝓣 E G38 b49 Δ1 at58
+          d58 =
               Typed.s-seq
               𝓤
               H
@@ -24682,13 +27539,13 @@ module _ (claims· : Claims) where
               W
               𝓣
               E
-              G36
-              G37
-              b14
-              b43
+              G38
+              G39
+              b15
+              b48
               Δ1
-              (Typed.ask s34)
-              at45
+              (Typed.ask s36)
+              at57
               (Relend.t-sl-aggregate
               𝓤
               H
@@ -24698,9 +27555,9 @@ module _ (claims· : Claims) where
               (KRouteRow.R)
               𝓣
               (Relend.asMut (KRouteRow.R))
-              G36
-              28
+              G38
               29
+              30
               11
               (Syntax.tyRef Syntax.erased Syntax.mut (KRouteRow.named))
               (Syntax.tyRef Syntax.erased Syntax.mut (KRouteRow.named))
@@ -24749,10 +27606,10 @@ module _ (claims· : Claims) where
               Path'.refl
               Path'.refl
               λ b o k. tt)
-              d45
+              d57
 
-          d47 : Typed.Typed 𝓤 H A 𝓣 E G35 b45 Δ1 at47
-          d47 =
+          d59 : Typed.Typed 𝓤 H A 𝓣 E G37 b50 Δ1 at59
+          d59 =
               Typed.s-seq
               𝓤
               H
@@ -24760,13 +27617,13 @@ module _ (claims· : Claims) where
               W
               𝓣
               E
-              G35
-              G36
-              b13
-              b44
+              G37
+              G38
+              b14
+              b49
               Δ1
-              (Typed.give s33)
-              at46
+              (Typed.give s35)
+              at58
               (Relend.t-sl-relend
               𝓤
               H
@@ -24775,9 +27632,9 @@ module _ (claims· : Claims) where
               E
               (KRouteRow.R)
               𝓣
-              G35
+              G37
               2
-              28
+              29
               1
               11
               (Syntax.tyRef
@@ -24810,10 +27667,10 @@ module _ (claims· : Claims) where
               Path'.refl
               Path'.refl
               λ b o. tt)
-              d46
+              d58
 
-          d48 : Typed.Typed 𝓤 H A 𝓣 E G34 b45 Δ1 at48
-          d48 =
+          d60 : Typed.Typed 𝓤 H A 𝓣 E G36 b50 Δ1 at60
+          d60 =
               Typed.g-pre
               𝓤
               H
@@ -24821,13 +27678,13 @@ module _ (claims· : Claims) where
               W
               𝓣
               E
-              G34
-              G35
-              b45
+              G36
+              G37
+              b50
               Δ1
               (λ Ψ. Ψ)
-              at47
-              (Lifetime.g-begin 𝓤 H A W E G34 11 (
+              at59
+              (Lifetime.g-begin 𝓤 H A W E G36 11 (
                 tt,
                 (
                   (tt, tt),
@@ -24907,7 +27764,16 @@ module _ (claims· : Claims) where
                                                                                             tt,
                                                                                             (
                                                                                               tt,
-                                                                                              tt,
+                                                                                              (
+                                                                                                tt,
+                                                                                                (
+                                                                                                  tt,
+                                                                                                  (
+                                                                                                    tt,
+                                                                                                    tt,
+                                                                                                  ),
+                                                                                                ),
+                                                                                              ),
                                                                                             ),
                                                                                           ),
                                                                                         ),
@@ -24948,10 +27814,10 @@ module _ (claims· : Claims) where
                   ),
                 ),
               ))
-              d47
+              d59
 
-          d49 : Typed.Typed 𝓤 H A 𝓣 E G33 b46 Δ1 at49
-          d49 =
+          d61 : Typed.Typed 𝓤 H A 𝓣 E G35 b51 Δ1 at61
+          d61 =
               Typed.s-seq
               𝓤
               H
@@ -24959,13 +27825,13 @@ module _ (claims· : Claims) where
               W
               𝓣
               E
-              G33
-              G34
-              b12
-              b45
+              G35
+              G36
+              b13
+              b50
               Δ1
-              (Typed.ask s31)
-              at48
+              (Typed.ask s33)
+              at60
               (Relend.t-sl-aggregate
               𝓤
               H
@@ -24975,9 +27841,9 @@ module _ (claims· : Claims) where
               (KInstanceRow.R)
               𝓣
               (Relend.asMut (KInstanceRow.R))
-              G33
-              26
+              G35
               27
+              28
               10
               (Syntax.tyRef Syntax.erased Syntax.mut (KInstanceRow.named))
               (Syntax.tyRef Syntax.erased Syntax.mut (KInstanceRow.named))
@@ -25026,10 +27892,10 @@ module _ (claims· : Claims) where
               Path'.refl
               Path'.refl
               λ b o k. tt)
-              d48
+              d60
 
-          d50 : Typed.Typed 𝓤 H A 𝓣 E G32 b47 Δ1 at50
-          d50 =
+          d62 : Typed.Typed 𝓤 H A 𝓣 E G34 b52 Δ1 at62
+          d62 =
               Typed.s-seq
               𝓤
               H
@@ -25037,13 +27903,13 @@ module _ (claims· : Claims) where
               W
               𝓣
               E
-              G32
-              G33
-              b11
-              b46
+              G34
+              G35
+              b12
+              b51
               Δ1
-              (Typed.give s30)
-              at49
+              (Typed.give s32)
+              at61
               (Relend.t-sl-relend
               𝓤
               H
@@ -25052,9 +27918,9 @@ module _ (claims· : Claims) where
               E
               (KInstanceRow.R)
               𝓣
-              G32
+              G34
               1
-              26
+              27
               0
               10
               (Syntax.tyRef
@@ -25090,10 +27956,10 @@ module _ (claims· : Claims) where
               Path'.refl
               Path'.refl
               λ b o. tt)
-              d49
+              d61
 
-          d51 : Typed.Typed 𝓤 H A 𝓣 E G31 b47 Δ1 at51
-          d51 =
+          d63 : Typed.Typed 𝓤 H A 𝓣 E G33 b52 Δ1 at63
+          d63 =
               Typed.g-pre
               𝓤
               H
@@ -25101,13 +27967,13 @@ module _ (claims· : Claims) where
               W
               𝓣
               E
-              G31
-              G32
-              b47
+              G33
+              G34
+              b52
               Δ1
               (λ Ψ. Ψ)
-              at50
-              (Lifetime.g-begin 𝓤 H A W E G31 10 (
+              at62
+              (Lifetime.g-begin 𝓤 H A W E G33 10 (
                 tt,
                 (
                   tt,
@@ -25187,7 +28053,16 @@ module _ (claims· : Claims) where
                                                                                             tt,
                                                                                             (
                                                                                               tt,
-                                                                                              tt,
+                                                                                              (
+                                                                                                tt,
+                                                                                                (
+                                                                                                  tt,
+                                                                                                  (
+                                                                                                    tt,
+                                                                                                    tt,
+                                                                                                  ),
+                                                                                                ),
+                                                                                              ),
                                                                                             ),
                                                                                           ),
                                                                                         ),
@@ -25228,10 +28103,10 @@ module _ (claims· : Claims) where
                   ),
                 ),
               ))
-              d50
+              d62
 
-          d52 : Typed.Typed 𝓤 H A 𝓣 E G29 b47 Δ1 at52
-          d52 =
+          d64 : Typed.Typed 𝓤 H A 𝓣 E G31 b52 Δ1 at64
+          d64 =
               Typed.g-pre
               𝓤
               H
@@ -25239,20 +28114,20 @@ module _ (claims· : Claims) where
               W
               𝓣
               E
-              G29
               G31
-              b47
+              G33
+              b52
               Δ1
-              (Typed.pass T29 T31 s28)
-              at51
-              (Scalar.g-room 𝓤 H A W E G29 24 Syntax.tyBool (Scalar.room-sc 𝓤 H A W Row.sBool))
-              d51
+              (Typed.pass T31 T33 s30)
+              at63
+              (Scalar.g-room 𝓤 H A W E G31 25 Syntax.tyBool (Scalar.room-sc 𝓤 H A W Row.sBool))
+              d63
 
-          d53 : Typed.Typed 𝓤 H A 𝓣 E G86 b48 Δ1 at53
-          d53 = Typed.t-skip 𝓤 H A W 𝓣 E Δ1 tt
+          d65 : Typed.Typed 𝓤 H A 𝓣 E G100 b53 Δ1 at65
+          d65 = Typed.t-skip 𝓤 H A W 𝓣 E Δ1 tt
 
-          d54 : Typed.Typed 𝓤 H A 𝓣 E G85 b48 Δ1 at54
-          d54 =
+          d66 : Typed.Typed 𝓤 H A 𝓣 E G99 b53 Δ1 at66
+          d66 =
               Typed.g-pre
               𝓤
               H
@@ -25260,17 +28135,17 @@ module _ (claims· : Claims) where
               W
               𝓣
               E
-              G85
-              G86
-              b48
+              G99
+              G100
+              b53
               Δ1
-              (Typed.pass T85 T86 s83)
-              at53
-              (Scalar.g-room 𝓤 H A W E G85 24 Syntax.tyBool (Scalar.room-sc 𝓤 H A W Row.sBool))
-              d53
+              (Typed.pass T99 T100 s97)
+              at65
+              (Scalar.g-room 𝓤 H A W E G99 25 Syntax.tyBool (Scalar.room-sc 𝓤 H A W Row.sBool))
+              d65
 
-          d55 : Typed.Typed 𝓤 H A 𝓣 E G84 b48 Δ1 at55
-          d55 =
+          d67 : Typed.Typed 𝓤 H A 𝓣 E G98 b53 Δ1 at67
+          d67 =
               Typed.g-pre
               𝓤
               H
@@ -25278,20 +28153,20 @@ module _ (claims· : Claims) where
               W
               𝓣
               E
-              G84
-              G85
-              b48
+              G98
+              G99
+              b53
               Δ1
-              (Typed.pass T84 T85 s82)
-              at54
+              (Typed.pass T98 T99 s96)
+              at66
               (Scalar.g-room
               𝓤
               H
               A
               W
               E
-              G84
-              15
+              G98
+              16
               (Syntax.tyStruct
               (List._∷_
               112
@@ -25357,10 +28232,10 @@ module _ (claims· : Claims) where
               (List._∷_ 108 (List._∷_ 97 (List._∷_ 99 (List._∷_ 101 List.[])))))))))))))))))
               (Syntax.tcons Syntax.tyBool (Syntax.tcons (Syntax.tyInt Syntax.w64) Syntax.tnil)))
               Path'.refl))
-              d54
+              d66
 
-          d56 : Typed.Typed 𝓤 H A 𝓣 E G83 b48 Δ1 at56
-          d56 =
+          d68 : Typed.Typed 𝓤 H A 𝓣 E G97 b53 Δ1 at68
+          d68 =
               Typed.g-pre
               𝓤
               H
@@ -25368,20 +28243,20 @@ module _ (claims· : Claims) where
               W
               𝓣
               E
-              G83
-              G84
-              b48
+              G97
+              G98
+              b53
               Δ1
-              (Typed.pass T83 T84 s81)
-              at55
+              (Typed.pass T97 T98 s95)
+              at67
               (Scalar.g-room
               𝓤
               H
               A
               W
               E
-              G83
-              14
+              G97
+              15
               (Syntax.tyStruct
               (List._∷_
               112
@@ -25439,10 +28314,10 @@ module _ (claims· : Claims) where
               (Syntax.tyInt Syntax.w64)
               (Syntax.tcons (Syntax.tyInt Syntax.w64) Syntax.tnil))))
               Path'.refl))
-              d55
+              d67
 
-          d57 : Typed.Typed 𝓤 H A 𝓣 E G29 b48 Δ1 at57
-          d57 =
+          d69 : Typed.Typed 𝓤 H A 𝓣 E G31 b53 Δ1 at69
+          d69 =
               Typed.g-pre
               𝓤
               H
@@ -25450,53 +28325,26 @@ module _ (claims· : Claims) where
               W
               𝓣
               E
-              G29
-              G83
-              b48
+              G31
+              G97
+              b53
               Δ1
-              (Typed.pass T29 T83 s80)
-              at56
+              (Typed.pass T31 T97 s94)
+              at68
               (Scalar.g-room
               𝓤
               H
               A
               W
               E
-              G29
-              5
-              (Syntax.tyStruct
-              (List._∷_
-              111
-              (List._∷_
-              119
-              (List._∷_
-              110
-              (List._∷_ 58 (List._∷_ 58 (List._∷_ 79 (List._∷_ 119 (List._∷_ 110 List.[]))))))))
-              (Syntax.tcons
-              (Syntax.tyArray (Syntax.tyInt Syntax.w8) 16)
-              (Syntax.tcons (Syntax.tyArray (Syntax.tyInt Syntax.w8) 16) Syntax.tnil)))
-              (Local.room-whole
-              𝓤
-              H
-              A
-              W
-              (Declared.row Own.the-type)
-              (Syntax.tyStruct
-              (List._∷_
-              111
-              (List._∷_
-              119
-              (List._∷_
-              110
-              (List._∷_ 58 (List._∷_ 58 (List._∷_ 79 (List._∷_ 119 (List._∷_ 110 List.[]))))))))
-              (Syntax.tcons
-              (Syntax.tyArray (Syntax.tyInt Syntax.w8) 16)
-              (Syntax.tcons (Syntax.tyArray (Syntax.tyInt Syntax.w8) 16) Syntax.tnil)))
-              Path'.refl))
-              d56
+              G31
+              14
+              (KOwn.spelled)
+              (KOwn.room 𝓤 H A W))
+              d68
 
-          d58 : Typed.Typed 𝓤 H A 𝓣 E G29 b49 Δ1 at58
-          d58 =
+          d70 : Typed.Typed 𝓤 H A 𝓣 E G31 b54 Δ1 at70
+          d70 =
               Scalar.t-cond
               𝓤
               H
@@ -25504,24 +28352,24 @@ module _ (claims· : Claims) where
               W
               E
               𝓣
-              G29
-              24
+              G31
+              25
               (λ x. x)
-              b47
-              b48
+              b52
+              b53
               Δ1
-              at52
-              at57
+              at64
+              at69
               (Scalar.reads-sc 𝓤 H A W Row.sBool)
               Path'.refl
-              d52
-              d57
+              d64
+              d69
 
-          d59 : Typed.Typed 𝓤 H A 𝓣 E G90 b51 Δ0 at59
-          d59 = Typed.t-return 𝓤 H A W 𝓣 E Δ0 tt
+          d71 : Typed.Typed 𝓤 H A 𝓣 E G104 b56 Δ0 at71
+          d71 = Typed.t-return 𝓤 H A W 𝓣 E Δ0 tt
 
-          d60 : Typed.Typed 𝓤 H A 𝓣 E G89 b51 Δ0 at60
-          d60 =
+          d72 : Typed.Typed 𝓤 H A 𝓣 E G103 b56 Δ0 at72
+          d72 =
               Typed.g-pre
               𝓤
               H
@@ -25529,26 +28377,26 @@ module _ (claims· : Claims) where
               W
               𝓣
               E
-              G89
-              G90
-              b51
+              G103
+              G104
+              b56
               Δ0
-              (Typed.pass T89 T90 s87)
-              at59
+              (Typed.pass T103 T104 s101)
+              at71
               (Scalar.g-room
               𝓤
               H
               A
               W
               E
-              G89
+              G103
               8
               (Syntax.tyInt Syntax.w64)
               (Scalar.room-sc 𝓤 H A W (Row.sInt Syntax.w64)))
-              d59
+              d71
 
-          d61 : Typed.Typed 𝓤 H A 𝓣 E G88 b51 Δ0 at61
-          d61 =
+          d73 : Typed.Typed 𝓤 H A 𝓣 E G102 b56 Δ0 at73
+          d73 =
               Typed.g-pre
               𝓤
               H
@@ -25556,26 +28404,26 @@ module _ (claims· : Claims) where
               W
               𝓣
               E
-              G88
-              G89
-              b51
+              G102
+              G103
+              b56
               Δ0
-              (Typed.pass T88 T89 s86)
-              at60
+              (Typed.pass T102 T103 s100)
+              at72
               (Scalar.g-room
               𝓤
               H
               A
               W
               E
-              G88
+              G102
               7
               (Syntax.tyInt Syntax.w8)
               (Scalar.room-sc 𝓤 H A W (Row.sInt Syntax.w8)))
-              d60
+              d72
 
-          d62 : Typed.Typed 𝓤 H A 𝓣 E G87 b51 Δ0 at62
-          d62 =
+          d74 : Typed.Typed 𝓤 H A 𝓣 E G101 b56 Δ0 at74
+          d74 =
               Typed.g-pre
               𝓤
               H
@@ -25583,26 +28431,26 @@ module _ (claims· : Claims) where
               W
               𝓣
               E
-              G87
-              G88
-              b51
+              G101
+              G102
+              b56
               Δ0
-              (Typed.pass T87 T88 s85)
-              at61
+              (Typed.pass T101 T102 s99)
+              at73
               (Scalar.g-room
               𝓤
               H
               A
               W
               E
-              G87
+              G101
               6
               (Syntax.tyInt Syntax.w64)
               (Scalar.room-sc 𝓤 H A W (Row.sInt Syntax.w64)))
-              d61
+              d73
 
-          d63 : Typed.Typed 𝓤 H A 𝓣 E G30 b52 Δ0 at63
-          d63 =
+          d75 : Typed.Typed 𝓤 H A 𝓣 E G32 b57 Δ0 at75
+          d75 =
               Typed.s-seq
               𝓤
               H
@@ -25610,13 +28458,13 @@ module _ (claims· : Claims) where
               W
               𝓣
               E
-              G30
-              G87
-              b50
-              b51
+              G32
+              G101
+              b55
+              b56
               Δ0
-              (Typed.both s84)
-              at62
+              (Typed.both s98)
+              at74
               (Plain.t-call-plain
               𝓤
               H
@@ -25632,11 +28480,11 @@ module _ (claims· : Claims) where
               (known .10)
               E
               (λ pos β. β)
-              G30
+              G32
               (Num.vAt 6 λ x. x, (Num.vAt 7 λ x. x, tt))
               0
               List.[]
-              (Call.sub-id 𝓤 H A W (G30 .slots)) (
+              (Call.sub-id 𝓤 H A W (G32 .slots)) (
                 (Scalar.reads-sc 𝓤 H A W (Row.sInt Syntax.w64), Path'.refl),
                 ((Scalar.reads-sc 𝓤 H A W (Row.sInt Syntax.w8), Path'.refl), tt),
               )
@@ -25881,13 +28729,13 @@ module _ (claims· : Claims) where
               (Syntax.tcons (Syntax.tyInt Syntax.w8) Syntax.tnil)))))))
               tt
               Path'.refl)
-              d62
+              d74
 
-          d64 : Typed.Typed 𝓤 H A 𝓣 E G29 b53 Δ0 at64
-          d64 = Typed.t-seq 𝓤 H A W 𝓣 E G29 G30 b49 b52 Δ0 at58 at63 d58 d63
+          d76 : Typed.Typed 𝓤 H A 𝓣 E G31 b58 Δ0 at76
+          d76 = Typed.t-seq 𝓤 H A W 𝓣 E G31 G32 b54 b57 Δ0 at70 at75 d70 d75
 
-          d65 : Typed.Typed 𝓤 H A 𝓣 E G28 b54 Δ0 at65
-          d65 =
+          d77 : Typed.Typed 𝓤 H A 𝓣 E G30 b59 Δ0 at77
+          d77 =
               Typed.s-seq
               𝓤
               H
@@ -25895,13 +28743,13 @@ module _ (claims· : Claims) where
               W
               𝓣
               E
-              G28
-              G29
-              b10
-              b53
+              G30
+              G31
+              b11
+              b58
               Δ0
-              (Typed.both s27)
-              at64
+              (Typed.both s29)
+              at76
               (Plain.t-call-plain
               𝓤
               H
@@ -25917,13 +28765,13 @@ module _ (claims· : Claims) where
               (known .4)
               E
               (λ pos β. β)
-              G28 (
-                record { pos = 14; st = List.[]; d = 0; at = λ x. x },
-                (record { pos = 15; st = List.[]; d = 0; at = λ x. x }, tt),
+              G30 (
+                record { pos = 15; st = List.[]; d = 0; at = λ x. x },
+                (record { pos = 16; st = List.[]; d = 0; at = λ x. x }, tt),
               )
-              24
+              25
               List.[]
-              (Call.sub-id 𝓤 H A W (G28 .slots)) (
+              (Call.sub-id 𝓤 H A W (G30 .slots)) (
                 (
                   Yields.yields-copy
                       𝓤
@@ -25935,8 +28783,8 @@ module _ (claims· : Claims) where
                       Path'.refl
                       (Copies.cStruct
                       Places.the-type
-                      Laws'4.the-laws
-                      Laws'4.the-copy .copy
+                      Laws'3.the-laws
+                      Laws'3.the-copy .copy
                       𝓤
                       H
                       A
@@ -25966,8 +28814,8 @@ module _ (claims· : Claims) where
                         Path'.refl
                         (Copies.cStruct
                         RoutePlace.the-type
-                        Laws'5.the-laws
-                        Laws'5.the-copy .copy
+                        Laws'4.the-laws
+                        Laws'4.the-copy .copy
                         𝓤
                         H
                         A
@@ -25991,10 +28839,10 @@ module _ (claims· : Claims) where
               (Reads'.room-gone 𝓤 H A Syntax.tyBool)
               tt
               Path'.refl)
-              d64
+              d76
 
-          d66 : Typed.Typed 𝓤 H A 𝓣 E G27 b54 Δ0 at66
-          d66 =
+          d78 : Typed.Typed 𝓤 H A 𝓣 E G29 b59 Δ0 at78
+          d78 =
               Typed.g-pre
               𝓤
               H
@@ -26002,17 +28850,17 @@ module _ (claims· : Claims) where
               W
               𝓣
               E
-              G27
-              G28
-              b54
+              G29
+              G30
+              b59
               Δ0
               (λ Ψ. Ψ)
-              at65
-              (Lifetime.g-forget 𝓤 H A W E G27 9 Row.dead Path'.refl)
-              d65
+              at77
+              (Lifetime.g-forget 𝓤 H A W E G29 9 Row.dead Path'.refl)
+              d77
 
-          d67 : Typed.Typed 𝓤 H A 𝓣 E G26 b54 Δ0 at67
-          d67 =
+          d79 : Typed.Typed 𝓤 H A 𝓣 E G28 b59 Δ0 at79
+          d79 =
               Typed.g-pre
               𝓤
               H
@@ -26020,12 +28868,12 @@ module _ (claims· : Claims) where
               W
               𝓣
               E
-              G26
-              G27
-              b54
+              G28
+              G29
+              b59
               Δ0
-              (Typed.pass T25 T27 s25)
-              at66
+              (Typed.pass T27 T29 s27)
+              at78
               (Reshare.g-back-sl-shr
               𝓤
               H
@@ -26033,7 +28881,7 @@ module _ (claims· : Claims) where
               W
               E
               (KRouteRow.R)
-              G26
+              G28
               2
               1
               9
@@ -26058,10 +28906,46 @@ module _ (claims· : Claims) where
               (Row.lease (κs .1 .0) (qs .1 .0))))
               Path'.refl
               Path'.refl)
-              d66
+              d78
 
-          d68 : Typed.Typed 𝓤 H A 𝓣 E G25 b54 Δ0 at68
-          d68 =
+          d80 : Typed.Typed 𝓤 H A 𝓣 E G27 b59 Δ0 at80
+          d80 =
+              Typed.g-pre
+              𝓤
+              H
+              A
+              W
+              𝓣
+              E
+              G27
+              G28
+              b59
+              Δ0
+              (λ Ψ. Ψ)
+              at79
+              (Lifetime.g-end 𝓤 H A W E G27 9 Path'.refl)
+              d79
+
+          d81 : Typed.Typed 𝓤 H A 𝓣 E G26 b59 Δ0 at81
+          d81 =
+              Typed.g-pre
+              𝓤
+              H
+              A
+              W
+              𝓣
+              E
+              G26
+              G27
+              b59
+              Δ0
+              (Typed.pass T26 T27 s25)
+              at80
+              (Scalar.g-room 𝓤 H A W E G26 21 Syntax.tyBool (Scalar.room-sc 𝓤 H A W Row.sBool))
+              d80
+
+          d82 : Typed.Typed 𝓤 H A 𝓣 E G25 b59 Δ0 at82
+          d82 =
               Typed.g-pre
               𝓤
               H
@@ -26071,53 +28955,17 @@ module _ (claims· : Claims) where
               E
               G25
               G26
-              b54
+              b59
               Δ0
-              (λ Ψ. Ψ)
-              at67
-              (Lifetime.g-end 𝓤 H A W E G25 9 Path'.refl)
-              d67
-
-          d69 : Typed.Typed 𝓤 H A 𝓣 E G24 b54 Δ0 at69
-          d69 =
-              Typed.g-pre
-              𝓤
-              H
-              A
-              W
-              𝓣
-              E
-              G24
-              G25
-              b54
-              Δ0
-              (Typed.pass T24 T25 s23)
-              at68
-              (Scalar.g-room 𝓤 H A W E G24 20 Syntax.tyBool (Scalar.room-sc 𝓤 H A W Row.sBool))
-              d68
-
-          d70 : Typed.Typed 𝓤 H A 𝓣 E G23 b54 Δ0 at70
-          d70 =
-              Typed.g-pre
-              𝓤
-              H
-              A
-              W
-              𝓣
-              E
-              G23
-              G24
-              b54
-              Δ0
-              (Typed.pass T23 T24 s22)
-              at69
+              (Typed.pass T25 T26 s24)
+              at81
               (Scalar.g-room
               𝓤
               H
               A
               W
               E
-              G23
+              G25
               13
               (Syntax.tyStruct
               (List._∷_
@@ -26172,10 +29020,10 @@ module _ (claims· : Claims) where
               (Syntax.tyInt Syntax.w64)
               (Syntax.tcons Syntax.tyBool (Syntax.tcons (Syntax.tyInt Syntax.w64) Syntax.tnil)))))
               Path'.refl))
-              d69
+              d81
 
-          d71 : Typed.Typed 𝓤 H A 𝓣 E G22 b54 Δ0 at71
-          d71 =
+          d83 : Typed.Typed 𝓤 H A 𝓣 E G24 b59 Δ0 at83
+          d83 =
               Typed.g-pre
               𝓤
               H
@@ -26183,20 +29031,20 @@ module _ (claims· : Claims) where
               W
               𝓣
               E
-              G22
-              G23
-              b54
+              G24
+              G25
+              b59
               Δ0
-              (Typed.pass T22 T23 s21)
-              at70
+              (Typed.pass T24 T25 s23)
+              at82
               (Scalar.g-room
               𝓤
               H
               A
               W
               E
-              G22
-              23
+              G24
+              24
               (Syntax.tyStruct
               (List._∷_ 38 (List._∷_ 91 (List._∷_ 93 List.[])))
               (Syntax.tcons
@@ -26210,10 +29058,10 @@ module _ (claims· : Claims) where
               (KRouteRow.R)
               (Syntax.tyRef Syntax.erased Syntax.imm (KRouteRow.named))
               9))
-              d70
+              d82
 
-          d72 : Typed.Typed 𝓤 H A 𝓣 E G21 b55 Δ0 at72
-          d72 =
+          d84 : Typed.Typed 𝓤 H A 𝓣 E G23 b60 Δ0 at84
+          d84 =
               Typed.s-seq
               𝓤
               H
@@ -26221,13 +29069,13 @@ module _ (claims· : Claims) where
               W
               𝓣
               E
-              G21
-              G22
-              b9
-              b54
+              G23
+              G24
+              b10
+              b59
               Δ0
-              (Typed.both s20)
-              at71
+              (Typed.both s22)
+              at83
               (Plain.t-call-plain
               𝓤
               H
@@ -26243,9 +29091,9 @@ module _ (claims· : Claims) where
               (known .3)
               E
               (λ pos β. β)
-              G21 (
+              G23 (
                 record {
-                  pos = 23;
+                  pos = 24;
                   ty = Syntax.tyRef
                       Syntax.erased
                       Syntax.imm
@@ -26255,7 +29103,7 @@ module _ (claims· : Claims) where
                 (
                   Num.vAt 8 λ x. x,
                   (
-                    Bool.bAt 20 λ x. x,
+                    Bool.bAt 21 λ x. x,
                     (
                       Bool.bFld
                           13
@@ -26276,9 +29124,9 @@ module _ (claims· : Claims) where
                   ),
                 ),
               )
-              15
+              16
               (List._∷_ 9 List.[])
-              (Call.sub-id 𝓤 H A W (G21 .slots)) (
+              (Call.sub-id 𝓤 H A W (G23 .slots)) (
                 ShrSlice.spares-sslice
                     𝓤
                     H
@@ -26377,10 +29225,10 @@ module _ (claims· : Claims) where
               (Syntax.tcons Syntax.tyBool (Syntax.tcons (Syntax.tyInt Syntax.w64) Syntax.tnil))))
               (tt, tt)
               Path'.refl)
-              d71
+              d83
 
-          d73 : Typed.Typed 𝓤 H A 𝓣 E G20 b55 Δ0 at73
-          d73 =
+          d85 : Typed.Typed 𝓤 H A 𝓣 E G22 b60 Δ0 at85
+          d85 =
               Typed.g-pre
               𝓤
               H
@@ -26388,26 +29236,26 @@ module _ (claims· : Claims) where
               W
               𝓣
               E
-              G20
-              G21
-              b55
+              G22
+              G23
+              b60
               Δ0
-              (Typed.pass T20 T21 s19)
-              at72
+              (Typed.pass T22 T23 s21)
+              at84
               (Scalar.g-room
               𝓤
               H
               A
               W
               E
-              G20
-              21
+              G22
+              22
               (KDecided.spelled)
               (KDecided.room 𝓤 H A W))
-              d72
+              d84
 
-          d74 : Typed.Typed 𝓤 H A 𝓣 E G19 b56 Δ0 at74
-          d74 =
+          d86 : Typed.Typed 𝓤 H A 𝓣 E G21 b61 Δ0 at86
+          d86 =
               Typed.s-seq
               𝓤
               H
@@ -26415,13 +29263,13 @@ module _ (claims· : Claims) where
               W
               𝓣
               E
-              G19
-              G20
-              b8
-              b55
+              G21
+              G22
+              b9
+              b60
               Δ0
-              (Typed.both s18)
-              at73
+              (Typed.both s20)
+              at85
               (Plain.t-call-plain
               𝓤
               H
@@ -26437,11 +29285,11 @@ module _ (claims· : Claims) where
               (known .2)
               E
               (λ pos β. β)
-              G19
-              (record { pos = 21; st = List.[]; d = 0; at = λ x. x }, tt)
-              20
+              G21
+              (record { pos = 22; st = List.[]; d = 0; at = λ x. x }, tt)
+              21
               List.[]
-              (Call.sub-id 𝓤 H A W (G19 .slots)) (
+              (Call.sub-id 𝓤 H A W (G21 .slots)) (
                 (
                   KDecided.yields 𝓤 H A W,
                   Path'.refl,
@@ -26451,10 +29299,10 @@ module _ (claims· : Claims) where
               (Reads'.room-gone 𝓤 H A Syntax.tyBool)
               tt
               Path'.refl)
-              d73
+              d85
 
-          d75 : Typed.Typed 𝓤 H A 𝓣 E G18 b57 Δ0 at75
-          d75 =
+          d87 : Typed.Typed 𝓤 H A 𝓣 E G20 b62 Δ0 at87
+          d87 =
               Typed.s-seq
               𝓤
               H
@@ -26462,13 +29310,13 @@ module _ (claims· : Claims) where
               W
               𝓣
               E
-              G18
-              G19
-              b7
-              b56
+              G20
+              G21
+              b8
+              b61
               Δ0
-              (Typed.give s17)
-              at74
+              (Typed.give s19)
+              at86
               (DerefMove.t-sref-read-copy
               𝓤
               H
@@ -26477,9 +29325,9 @@ module _ (claims· : Claims) where
               E
               𝓣
               (λ ρ. Unit)
-              G18
+              G20
               10
-              21
+              22
               5
               (KDecided.R)
               (Syntax.tyRef
@@ -26506,7 +29354,7 @@ module _ (claims· : Claims) where
               H
               A
               (KDecided.R))
-              (Own'.told-none 𝓤 H A (G18 .slots))
+              (Own.told-none 𝓤 H A (G20 .slots))
               (Copies.halves
               𝓤
               H
@@ -26541,10 +29389,10 @@ module _ (claims· : Claims) where
               tt
               Path'.refl
               Path'.refl)
-              d74
+              d86
 
-          d76 : Typed.Typed 𝓤 H A 𝓣 E G17 b58 Δ0 at76
-          d76 =
+          d88 : Typed.Typed 𝓤 H A 𝓣 E G19 b63 Δ0 at88
+          d88 =
               Typed.s-seq
               𝓤
               H
@@ -26552,13 +29400,13 @@ module _ (claims· : Claims) where
               W
               𝓣
               E
-              G17
-              G18
-              b6
-              b57
+              G19
+              G20
+              b7
+              b62
               Δ0
-              (Typed.ask s16)
-              at75
+              (Typed.ask s18)
+              at87
               (Relend.t-sl-aggregate
               𝓤
               H
@@ -26568,9 +29416,9 @@ module _ (claims· : Claims) where
               (KRouteRow.R)
               𝓣
               (Relend.asShr (KRouteRow.R))
-              G17
-              22
+              G19
               23
+              24
               9
               (Syntax.tyRef Syntax.erased Syntax.imm (KRouteRow.named))
               (Syntax.tyRef Syntax.erased Syntax.imm (KRouteRow.named))
@@ -26619,10 +29467,10 @@ module _ (claims· : Claims) where
               Path'.refl
               Path'.refl
               λ b o k. tt)
-              d75
+              d87
 
-          d77 : Typed.Typed 𝓤 H A 𝓣 E G16 b59 Δ0 at77
-          d77 =
+          d89 : Typed.Typed 𝓤 H A 𝓣 E G18 b64 Δ0 at89
+          d89 =
               Typed.s-seq
               𝓤
               H
@@ -26630,13 +29478,13 @@ module _ (claims· : Claims) where
               W
               𝓣
               E
-              G16
-              G17
-              b5
-              b58
+              G18
+              G19
+              b6
+              b63
               Δ0
-              (Typed.give s15)
-              at76
+              (Typed.give s17)
+              at88
               (Reshare.t-sl-reshare
               𝓤
               H
@@ -26645,9 +29493,9 @@ module _ (claims· : Claims) where
               E
               (KRouteRow.R)
               𝓣
-              G16
+              G18
               2
-              22
+              23
               1
               9
               (Syntax.tyRef
@@ -26680,10 +29528,10 @@ module _ (claims· : Claims) where
               Path'.refl
               Path'.refl
               λ b o. tt)
-              d76
+              d88
 
-          d78 : Typed.Typed 𝓤 H A 𝓣 E G15 b59 Δ0 at78
-          d78 =
+          d90 : Typed.Typed 𝓤 H A 𝓣 E G17 b64 Δ0 at90
+          d90 =
               Typed.g-pre
               𝓤
               H
@@ -26691,13 +29539,13 @@ module _ (claims· : Claims) where
               W
               𝓣
               E
-              G15
-              G16
-              b59
+              G17
+              G18
+              b64
               Δ0
               (λ Ψ. Ψ)
-              at77
-              (Lifetime.g-begin 𝓤 H A W E G15 9 (
+              at89
+              (Lifetime.g-begin 𝓤 H A W E G17 9 (
                 tt,
                 (
                   tt,
@@ -26777,7 +29625,16 @@ module _ (claims· : Claims) where
                                                                                             tt,
                                                                                             (
                                                                                               tt,
-                                                                                              tt,
+                                                                                              (
+                                                                                                tt,
+                                                                                                (
+                                                                                                  tt,
+                                                                                                  (
+                                                                                                    tt,
+                                                                                                    tt,
+                                                                                                  ),
+                                                                                                ),
+                                                                                              ),
                                                                                             ),
                                                                                           ),
                                                                                         ),
@@ -26818,10 +29675,10 @@ module _ (claims· : Claims) where
                   ),
                 ),
               ))
-              d77
+              d89
 
-          d79 : Typed.Typed 𝓤 H A 𝓣 E G14 b59 Δ0 at79
-          d79 =
+          d91 : Typed.Typed 𝓤 H A 𝓣 E G16 b64 Δ0 at91
+          d91 =
               Typed.g-pre
               𝓤
               H
@@ -26829,17 +29686,17 @@ module _ (claims· : Claims) where
               W
               𝓣
               E
-              G14
-              G15
-              b59
+              G16
+              G17
+              b64
               Δ0
               (λ Ψ. Ψ)
-              at78
-              (Lifetime.g-forget 𝓤 H A W E G14 8 Row.dead Path'.refl)
-              d78
+              at90
+              (Lifetime.g-forget 𝓤 H A W E G16 8 Row.dead Path'.refl)
+              d90
 
-          d80 : Typed.Typed 𝓤 H A 𝓣 E G13 b59 Δ0 at80
-          d80 =
+          d92 : Typed.Typed 𝓤 H A 𝓣 E G15 b64 Δ0 at92
+          d92 =
               Typed.g-pre
               𝓤
               H
@@ -26847,12 +29704,12 @@ module _ (claims· : Claims) where
               W
               𝓣
               E
-              G13
-              G14
-              b59
+              G15
+              G16
+              b64
               Δ0
-              (Typed.pass T12 T14 s12)
-              at79
+              (Typed.pass T14 T16 s14)
+              at91
               (Reshare.g-back-sl-shr
               𝓤
               H
@@ -26860,7 +29717,7 @@ module _ (claims· : Claims) where
               W
               E
               (KInstanceRow.R)
-              G13
+              G15
               1
               0
               8
@@ -26885,10 +29742,46 @@ module _ (claims· : Claims) where
               (Row.lease (κs .0) (qs .0))))
               Path'.refl
               Path'.refl)
-              d79
+              d91
 
-          d81 : Typed.Typed 𝓤 H A 𝓣 E G12 b59 Δ0 at81
-          d81 =
+          d93 : Typed.Typed 𝓤 H A 𝓣 E G14 b64 Δ0 at93
+          d93 =
+              Typed.g-pre
+              𝓤
+              H
+              A
+              W
+              𝓣
+              E
+              G14
+              G15
+              b64
+              Δ0
+              (λ Ψ. Ψ)
+              at92
+              (Lifetime.g-end 𝓤 H A W E G14 8 Path'.refl)
+              d92
+
+          d94 : Typed.Typed 𝓤 H A 𝓣 E G13 b64 Δ0 at94
+          d94 =
+              Typed.g-pre
+              𝓤
+              H
+              A
+              W
+              𝓣
+              E
+              G13
+              G14
+              b64
+              Δ0
+              (Typed.pass T13 T14 s12)
+              at93
+              (Scalar.g-room 𝓤 H A W E G13 21 Syntax.tyBool (Scalar.room-sc 𝓤 H A W Row.sBool))
+              d93
+
+          d95 : Typed.Typed 𝓤 H A 𝓣 E G12 b64 Δ0 at95
+          d95 =
               Typed.g-pre
               𝓤
               H
@@ -26898,54 +29791,18 @@ module _ (claims· : Claims) where
               E
               G12
               G13
-              b59
+              b64
               Δ0
-              (λ Ψ. Ψ)
-              at80
-              (Lifetime.g-end 𝓤 H A W E G12 8 Path'.refl)
-              d80
-
-          d82 : Typed.Typed 𝓤 H A 𝓣 E G11 b59 Δ0 at82
-          d82 =
-              Typed.g-pre
-              𝓤
-              H
-              A
-              W
-              𝓣
-              E
-              G11
-              G12
-              b59
-              Δ0
-              (Typed.pass T11 T12 s10)
-              at81
-              (Scalar.g-room 𝓤 H A W E G11 20 Syntax.tyBool (Scalar.room-sc 𝓤 H A W Row.sBool))
-              d81
-
-          d83 : Typed.Typed 𝓤 H A 𝓣 E G10 b59 Δ0 at83
-          d83 =
-              Typed.g-pre
-              𝓤
-              H
-              A
-              W
-              𝓣
-              E
-              G10
-              G11
-              b59
-              Δ0
-              (Typed.pass T10 T11 s9)
-              at82
+              (Typed.pass T12 T13 s11)
+              at94
               (Scalar.g-room
               𝓤
               H
               A
               W
               E
-              G10
-              19
+              G12
+              20
               (Syntax.tyStruct
               (List._∷_ 38 (List._∷_ 91 (List._∷_ 93 List.[])))
               (Syntax.tcons
@@ -26959,10 +29816,10 @@ module _ (claims· : Claims) where
               (KInstanceRow.R)
               (Syntax.tyRef Syntax.erased Syntax.imm (KInstanceRow.named))
               8))
-              d82
+              d94
 
-          d84 : Typed.Typed 𝓤 H A 𝓣 E G9 b60 Δ0 at84
-          d84 =
+          d96 : Typed.Typed 𝓤 H A 𝓣 E G11 b65 Δ0 at96
+          d96 =
               Typed.s-seq
               𝓤
               H
@@ -26970,13 +29827,13 @@ module _ (claims· : Claims) where
               W
               𝓣
               E
-              G9
-              G10
-              b4
-              b59
+              G11
+              G12
+              b5
+              b64
               Δ0
-              (Typed.both s8)
-              at83
+              (Typed.both s10)
+              at95
               (Plain.t-call-plain
               𝓤
               H
@@ -26992,9 +29849,9 @@ module _ (claims· : Claims) where
               (known .1)
               E
               (λ pos β. β)
-              G9 (
+              G11 (
                 record {
-                  pos = 19;
+                  pos = 20;
                   ty = Syntax.tyRef
                       Syntax.erased
                       Syntax.imm
@@ -27017,14 +29874,14 @@ module _ (claims· : Claims) where
                           8
                           λ x. Live.struct .as-values
                           x .1 .0,
-                      (Bool.bAt 20 λ x. x, tt),
+                      (Bool.bAt 21 λ x. x, tt),
                     ),
                   ),
                 ),
               )
-              14
+              15
               (List._∷_ 8 List.[])
-              (Call.sub-id 𝓤 H A W (G9 .slots)) (
+              (Call.sub-id 𝓤 H A W (G11 .slots)) (
                 ShrSlice.spares-sslice
                     𝓤
                     H
@@ -27116,10 +29973,10 @@ module _ (claims· : Claims) where
               (Syntax.tcons (Syntax.tyInt Syntax.w64) Syntax.tnil)))))
               (tt, tt)
               Path'.refl)
-              d83
+              d95
 
-          d85 : Typed.Typed 𝓤 H A 𝓣 E G8 b60 Δ0 at85
-          d85 =
+          d97 : Typed.Typed 𝓤 H A 𝓣 E G10 b65 Δ0 at97
+          d97 =
               Typed.g-pre
               𝓤
               H
@@ -27127,26 +29984,26 @@ module _ (claims· : Claims) where
               W
               𝓣
               E
-              G8
-              G9
-              b60
+              G10
+              G11
+              b65
               Δ0
-              (Typed.pass T8 T9 s7)
-              at84
+              (Typed.pass T10 T11 s9)
+              at96
               (Scalar.g-room
               𝓤
               H
               A
               W
               E
-              G8
-              21
+              G10
+              22
               (KDecided.spelled)
               (KDecided.room 𝓤 H A W))
-              d84
+              d96
 
-          d86 : Typed.Typed 𝓤 H A 𝓣 E G7 b61 Δ0 at86
-          d86 =
+          d98 : Typed.Typed 𝓤 H A 𝓣 E G9 b66 Δ0 at98
+          d98 =
               Typed.s-seq
               𝓤
               H
@@ -27154,13 +30011,13 @@ module _ (claims· : Claims) where
               W
               𝓣
               E
-              G7
-              G8
-              b3
-              b60
+              G9
+              G10
+              b4
+              b65
               Δ0
-              (Typed.both s6)
-              at85
+              (Typed.both s8)
+              at97
               (Plain.t-call-plain
               𝓤
               H
@@ -27176,11 +30033,11 @@ module _ (claims· : Claims) where
               (known .0)
               E
               (λ pos β. β)
-              G7
-              (record { pos = 21; st = List.[]; d = 0; at = λ x. x }, tt)
-              20
+              G9
+              (record { pos = 22; st = List.[]; d = 0; at = λ x. x }, tt)
+              21
               List.[]
-              (Call.sub-id 𝓤 H A W (G7 .slots)) (
+              (Call.sub-id 𝓤 H A W (G9 .slots)) (
                 (
                   KDecided.yields 𝓤 H A W,
                   Path'.refl,
@@ -27190,10 +30047,10 @@ module _ (claims· : Claims) where
               (Reads'.room-gone 𝓤 H A Syntax.tyBool)
               tt
               Path'.refl)
-              d85
+              d97
 
-          d87 : Typed.Typed 𝓤 H A 𝓣 E G6 b62 Δ0 at87
-          d87 =
+          d99 : Typed.Typed 𝓤 H A 𝓣 E G8 b67 Δ0 at99
+          d99 =
               Typed.s-seq
               𝓤
               H
@@ -27201,13 +30058,13 @@ module _ (claims· : Claims) where
               W
               𝓣
               E
-              G6
-              G7
-              b2
-              b61
+              G8
+              G9
+              b3
+              b66
               Δ0
-              (Typed.give s5)
-              at86
+              (Typed.give s7)
+              at98
               (DerefMove.t-sref-read-copy
               𝓤
               H
@@ -27216,9 +30073,9 @@ module _ (claims· : Claims) where
               E
               𝓣
               (λ ρ. Unit)
-              G6
+              G8
               10
-              21
+              22
               5
               (KDecided.R)
               (Syntax.tyRef
@@ -27245,7 +30102,7 @@ module _ (claims· : Claims) where
               H
               A
               (KDecided.R))
-              (Own'.told-none 𝓤 H A (G6 .slots))
+              (Own.told-none 𝓤 H A (G8 .slots))
               (Copies.halves
               𝓤
               H
@@ -27280,10 +30137,10 @@ module _ (claims· : Claims) where
               tt
               Path'.refl
               Path'.refl)
-              d86
+              d98
 
-          d88 : Typed.Typed 𝓤 H A 𝓣 E G5 b63 Δ0 at88
-          d88 =
+          d100 : Typed.Typed 𝓤 H A 𝓣 E G7 b68 Δ0 at100
+          d100 =
               Typed.s-seq
               𝓤
               H
@@ -27291,13 +30148,13 @@ module _ (claims· : Claims) where
               W
               𝓣
               E
-              G5
-              G6
-              b1
-              b62
+              G7
+              G8
+              b2
+              b67
               Δ0
-              (Typed.ask s4)
-              at87
+              (Typed.ask s6)
+              at99
               (Relend.t-sl-aggregate
               𝓤
               H
@@ -27307,9 +30164,9 @@ module _ (claims· : Claims) where
               (KInstanceRow.R)
               𝓣
               (Relend.asShr (KInstanceRow.R))
-              G5
-              18
+              G7
               19
+              20
               8
               (Syntax.tyRef Syntax.erased Syntax.imm (KInstanceRow.named))
               (Syntax.tyRef Syntax.erased Syntax.imm (KInstanceRow.named))
@@ -27358,10 +30215,10 @@ module _ (claims· : Claims) where
               Path'.refl
               Path'.refl
               λ b o k. tt)
-              d87
+              d99
 
-          d89 : Typed.Typed 𝓤 H A 𝓣 E G4 b64 Δ0 at89
-          d89 =
+          d101 : Typed.Typed 𝓤 H A 𝓣 E G6 b69 Δ0 at101
+          d101 =
               Typed.s-seq
               𝓤
               H
@@ -27369,13 +30226,13 @@ module _ (claims· : Claims) where
               W
               𝓣
               E
-              G4
-              G5
-              b0
-              b63
+              G6
+              G7
+              b1
+              b68
               Δ0
-              (Typed.give s3)
-              at88
+              (Typed.give s5)
+              at100
               (Reshare.t-sl-reshare
               𝓤
               H
@@ -27384,9 +30241,9 @@ module _ (claims· : Claims) where
               E
               (KInstanceRow.R)
               𝓣
-              G4
+              G6
               1
-              18
+              19
               0
               8
               (Syntax.tyRef
@@ -27422,11 +30279,11 @@ module _ (claims· : Claims) where
               Path'.refl
               Path'.refl
               λ b o. tt)
-              d88
+              d100
 
-          d90 : Typed.Typed 𝓤 H A 𝓣 E G3 b64 Δ0 at90
-          d90 =
-              Typed.g-pre 𝓤 H A W 𝓣 E G3 G4 b64 Δ0 (λ Ψ. Ψ) at89 (Lifetime.g-begin 𝓤 H A W E G3 8 (
+          d102 : Typed.Typed 𝓤 H A 𝓣 E G5 b69 Δ0 at102
+          d102 =
+              Typed.g-pre 𝓤 H A W 𝓣 E G5 G6 b69 Δ0 (λ Ψ. Ψ) at101 (Lifetime.g-begin 𝓤 H A W E G5 8 (
                 tt,
                 (
                   tt,
@@ -27506,7 +30363,16 @@ module _ (claims· : Claims) where
                                                                                             tt,
                                                                                             (
                                                                                               tt,
-                                                                                              tt,
+                                                                                              (
+                                                                                                tt,
+                                                                                                (
+                                                                                                  tt,
+                                                                                                  (
+                                                                                                    tt,
+                                                                                                    tt,
+                                                                                                  ),
+                                                                                                ),
+                                                                                              ),
                                                                                             ),
                                                                                           ),
                                                                                         ),
@@ -27546,10 +30412,110 @@ module _ (claims· : Claims) where
                     ),
                   ),
                 ),
-              )) d89
+              )) d101
 
-          d91 : Typed.Typed 𝓤 H A 𝓣 E G2 b64 Δ0 at91
-          d91 =
+          d103 : Typed.Typed 𝓤 H A 𝓣 E G4 b69 Δ0 at103
+          d103 =
+              Typed.g-pre
+              𝓤
+              H
+              A
+              W
+              𝓣
+              E
+              G4
+              G5
+              b69
+              Δ0
+              (Typed.pass T4 T5 s3)
+              at102
+              (Scalar.g-room
+              𝓤
+              H
+              A
+              W
+              E
+              G4
+              5
+              (KOwn.spelled)
+              (KOwn.room 𝓤 H A W))
+              d102
+
+          d104 : Typed.Typed 𝓤 H A 𝓣 E G3 b70 Δ0 at104
+          d104 =
+              Typed.s-seq
+              𝓤
+              H
+              A
+              W
+              𝓣
+              E
+              G3
+              G4
+              b0
+              b69
+              Δ0
+              (Typed.pass T3 T4 s2)
+              at103
+              (LocalCopy.t-val-copy
+              𝓤
+              H
+              A
+              W
+              E
+              𝓣
+              (λ ρ. Unit)
+              G3
+              5
+              14
+              (KOwn.R)
+              (KOwn.spelled)
+              (KOwn.spelled)
+              (KOwn.row)
+              (KOwn.row)
+              (λ x. x)
+              (λ x. x)
+              (λ x. x)
+              Path'.refl
+              (Own.told-none 𝓤 H A (G3 .slots))
+              (Yields.yields-copy
+              𝓤
+              H
+              A
+              W
+              (λ ρ. Unit)
+              (KOwn.R)
+              Path'.refl
+              (KOwn.cp .copy
+              𝓤
+              H
+              A
+              W)
+              (KOwn.row)
+              (λ x. x)
+              (λ x. x)
+              (λ ρ told. KOwn.in-mem 𝓤 H A W ρ)
+              λ ρ told. KOwn.of-mem 𝓤 H A W
+              ρ)
+              (Reads'.room-gone 𝓤 H A (KOwn.spelled))
+              (Yields.makes-mem
+              𝓤
+              H
+              A
+              W
+              (λ ρ. Unit)
+              (KOwn.R)
+              Path'.refl
+              (KOwn.row)
+              (λ x. x)
+              λ ρ told. KOwn.of-mem 𝓤 H A W
+              ρ)
+              Path'.refl
+              Path'.refl)
+              d103
+
+          d105 : Typed.Typed 𝓤 H A 𝓣 E G2 b70 Δ0 at105
+          d105 =
               Typed.g-pre
               𝓤
               H
@@ -27559,10 +30525,10 @@ module _ (claims· : Claims) where
               E
               G2
               G3
-              b64
+              b70
               Δ0
               (Typed.give s1)
-              at90
+              at104
               (Know.g-sl-known
               𝓤
               H
@@ -27588,10 +30554,10 @@ module _ (claims· : Claims) where
               3))
               Path'.refl
               tt)
-              d90
+              d104
 
-          d92 : Typed.Typed 𝓤 H A 𝓣 E G0 b64 Δ0 at92
-          d92 =
+          d106 : Typed.Typed 𝓤 H A 𝓣 E G0 b70 Δ0 at106
+          d106 =
               Typed.g-pre
               𝓤
               H
@@ -27601,10 +30567,10 @@ module _ (claims· : Claims) where
               E
               G0
               G2
-              b64
+              b70
               Δ0
               (Typed.give s0)
-              at91
+              at105
               (Know.g-sl-known
               𝓤
               H
@@ -27630,7 +30596,7 @@ module _ (claims· : Claims) where
               2))
               Path'.refl
               tt)
-              d91
+              d105
 
           pub typed :
               Typed.Typed
@@ -27640,10 +30606,10 @@ module _ (claims· : Claims) where
               𝓣
               E
               (Function.Γin 8 ps r xs m κs qs)
-              b64
+              b70
               (Function.Δret 8 ps r xs m κs qs)
               Φ
-          typed = d92
+          typed = d106
 
       module _ (κs : Lifetimes.Lfts 8) where
         pub record Args : Type 0 where
@@ -27659,22 +30625,9 @@ module _ (claims· : Claims) where
           pub reply : Kinds.Den {n = 8}
               κs
               (MutSlice.pMutS (Referent.rtF (Referent.fInt Syntax.w8)) 3 tt)
-          pub o : Kinds.Den {n = 8} κs (Value.pVal record {
-            ty = Declared.row Own.the-type;
-            one = Path'.refl;
-            val = Laws'6.val Own.the-type Laws'3.the-laws;
-            tells = Laws'6.tells Own.the-type Laws'3.the-laws;
-            still = Laws'6.still Own.the-type Laws'3.the-copy Exit.yes;
-            row = Rows'.whole (Declared.row Own.the-type);
-            rd = λ x. x;
-            mk = λ x. x;
-          } λ M 𝓤 H A W. record {
-            copies = Laws'6.copy Own.the-type Laws'3.the-copy 𝓤 H A W;
-            lawful = Laws'6.lawful Own.the-type Laws'3.the-laws 𝓤 H A W;
-            makes = Laws'6.makes Own.the-type Laws'3.the-plain 𝓤 H A;
-            in-mem = Local.mem-whole 𝓤 H A W (Declared.row Own.the-type);
-            of-mem = Local.whole-mem 𝓤 H A W (Declared.row Own.the-type);
-          })
+          pub t5 : Kinds.Den {n = 8}
+              κs
+              (KOwn.pk)
           pub clock : Kinds.Den {n = 8} κs (Num.pNum Syntax.w64)
           pub seq : Kinds.Den {n = 8} κs (Num.pNum Syntax.w8)
           pub t : Kinds.Den {n = 8} κs (Num.pNum Syntax.w64)
@@ -27696,16 +30649,16 @@ module _ (claims· : Claims) where
           pub l : Kinds.Den {n = 8} κs (Value.pVal record {
             ty = Declared.row Live.the-type;
             one = Path'.refl;
-            val = Laws'6.val Live.the-type Laws'.the-laws;
-            tells = Laws'6.tells Live.the-type Laws'.the-laws;
-            still = Laws'6.still Live.the-type Laws'.the-copy Exit.yes;
+            val = Laws'5.val Live.the-type Laws'.the-laws;
+            tells = Laws'5.tells Live.the-type Laws'.the-laws;
+            still = Laws'5.still Live.the-type Laws'.the-copy Exit.yes;
             row = Rows'.whole (Declared.row Live.the-type);
             rd = λ x. x;
             mk = λ x. x;
           } λ M 𝓤 H A W. record {
-            copies = Laws'6.copy Live.the-type Laws'.the-copy 𝓤 H A W;
-            lawful = Laws'6.lawful Live.the-type Laws'.the-laws 𝓤 H A W;
-            makes = Laws'6.makes Live.the-type Laws'.the-plain 𝓤 H A;
+            copies = Laws'5.copy Live.the-type Laws'.the-copy 𝓤 H A W;
+            lawful = Laws'5.lawful Live.the-type Laws'.the-laws 𝓤 H A W;
+            makes = Laws'5.makes Live.the-type Laws'.the-plain 𝓤 H A;
             in-mem = Local.mem-whole 𝓤 H A W (Declared.row Live.the-type);
             of-mem = Local.whole-mem 𝓤 H A W (Declared.row Live.the-type);
           })
@@ -27720,7 +30673,7 @@ module _ (claims· : Claims) where
               (
                 a .reply,
                 (
-                  a .o,
+                  a .t5,
                   (
                     a .clock,
                     (a .seq, (a .t, (a .vector, (a .d, (a .there, (a .back, (a .l, tt))))))),
@@ -27781,6 +30734,18 @@ module _ (claims· : Claims) where
           Typed.Mo T3
       m2 = λ before given. s1 .next (m1 (before .before) (before .slice-known .given)) given
 
+      abbrev pub m3 :
+          (before : After-slice-known) →
+          (given : s1 .gives (m1 (before .before) (before .slice-known .given))) →
+          Typed.Mo T4
+      m3 = λ before given. s2 (m2 before given)
+
+      abbrev pub m4 :
+          (before : After-slice-known) →
+          (given : s1 .gives (m1 (before .before) (before .slice-known .given))) →
+          Typed.Mo T5
+      m4 = λ before given. s3 (m3 before given)
+
       module _ (before· : After-slice-known) where
         pub record After-slice-known2·own : Type 0 where
           pub given : s1 .gives (m1 (before· .before) (before· .slice-known .given))
@@ -27789,35 +30754,35 @@ module _ (claims· : Claims) where
         pub before : After-slice-known
         pub slice-known2 : After-slice-known2·own before
 
-      abbrev pub m3 :
+      abbrev pub m5 :
           (before : After-slice-known2) →
-          (given : s3 .gives (m2 (before .before) (before .slice-known2 .given))) →
-          Typed.Mo T5
-      m3 = λ before given. s3 .next (m2 (before .before) (before .slice-known2 .given)) given
+          (given : s5 .gives (m4 (before .before) (before .slice-known2 .given))) →
+          Typed.Mo T7
+      m5 = λ before given. s5 .next (m4 (before .before) (before .slice-known2 .given)) given
 
-      abbrev pub m4 :
+      abbrev pub m6 :
           (before : After-slice-known2) →
-          (given : s3 .gives (m2 (before .before) (before .slice-known2 .given))) →
-          Typed.Mo T6
-      m4 = λ before given. s4 .next (m3 before given)
+          (given : s5 .gives (m4 (before .before) (before .slice-known2 .given))) →
+          Typed.Mo T8
+      m6 = λ before given. s6 .next (m5 before given)
 
       module _ (before· : After-slice-known2) where
         pub record After-place-rows-arg·own : Type 0 where
-          pub given : s3 .gives (m2 (before· .before) (before· .slice-known2 .given))
+          pub given : s5 .gives (m4 (before· .before) (before· .slice-known2 .given))
 
       pub record After-place-rows-arg : Type 0 where
         pub before : After-slice-known2
         pub place-rows-arg : After-place-rows-arg·own before
 
-      abbrev pub m5 :
+      abbrev pub m7 :
           (before : After-place-rows-arg) →
-          (given : s5 .gives (m4 (before .before) (before .place-rows-arg .given))) →
-          Typed.Mo T7
-      m5 = λ before given. s5 .next (m4 (before .before) (before .place-rows-arg .given)) given
+          (given : s7 .gives (m6 (before .before) (before .place-rows-arg .given))) →
+          Typed.Mo T9
+      m7 = λ before given. s7 .next (m6 (before .before) (before .place-rows-arg .given)) given
 
       module _ (before· : After-place-rows-arg) where
         pub record After-is-replying-arg·own : Type 0 where
-          pub given : s5 .gives (m4 (before· .before) (before· .place-rows-arg .given))
+          pub given : s7 .gives (m6 (before· .before) (before· .place-rows-arg .given))
 
       pub record After-is-replying-arg : Type 0 where
         pub before : After-place-rows-arg
@@ -27825,20 +30790,20 @@ module _ (claims· : Claims) where
 
       abbrev pub Need-is-replying-requires : Type 0
       Need-is-replying-requires =
-          (c : After-is-replying-arg) → s6 .asks (m5 (c .before) (c .is-replying-arg .given))
+          (c : After-is-replying-arg) → s8 .asks (m7 (c .before) (c .is-replying-arg .given))
 
-      abbrev pub m6 :
+      abbrev pub m8 :
           (before : After-is-replying-arg) →
-          (given : s6 .gives (m5 (before .before) (before .is-replying-arg .given))) →
-          Typed.Mo T8
-      m6 = λ before given. s6 .next (m5 (before .before) (before .is-replying-arg .given)) given
+          (given : s8 .gives (m7 (before .before) (before .is-replying-arg .given))) →
+          Typed.Mo T10
+      m8 = λ before given. s8 .next (m7 (before .before) (before .is-replying-arg .given)) given
 
       module _ (before· : After-is-replying-arg) where
         abbrev pub After-is-replying·own : Type 0
-        After-is-replying·own = Called.Called ps·0 r·0 (claims· .1) T7 (
-          record { pos = 21; st = List.[]; d = 0; at = λ x. x },
+        After-is-replying·own = Called.Called ps·0 r·0 (claims· .1) T9 (
+          record { pos = 22; st = List.[]; d = 0; at = λ x. x },
           tt,
-        ) (m5 (before· .before) (before· .is-replying-arg .given))
+        ) (m7 (before· .before) (before· .is-replying-arg .given))
 
       pub record After-is-replying : Type 0 where
         pub before : After-is-replying-arg
@@ -27846,33 +30811,33 @@ module _ (claims· : Claims) where
 
       abbrev pub After-is-replying·gave :
           (c : After-is-replying) →
-          s6 .gives (m5 (c .before .before) (c .before .is-replying-arg .given))
-      After-is-replying·gave = λ c. Called.given ps·0 r·0 (claims· .1) T7 (
-        record { pos = 21; st = List.[]; d = 0; at = λ x. x },
+          s8 .gives (m7 (c .before .before) (c .before .is-replying-arg .given))
+      After-is-replying·gave = λ c. Called.given ps·0 r·0 (claims· .1) T9 (
+        record { pos = 22; st = List.[]; d = 0; at = λ x. x },
         tt,
-      ) (m5 (c .before .before) (c .before .is-replying-arg .given)) (c .is-replying)
+      ) (m7 (c .before .before) (c .before .is-replying-arg .given)) (c .is-replying)
 
-      abbrev pub m7 :
+      abbrev pub m9 :
           (before : After-is-replying-arg) →
-          (given : s6 .gives (m5 (before .before) (before .is-replying-arg .given))) →
-          Typed.Mo T9
-      m7 = λ before given. s7 (m6 before given)
+          (given : s8 .gives (m7 (before .before) (before .is-replying-arg .given))) →
+          Typed.Mo T11
+      m9 = λ before given. s9 (m8 before given)
 
       abbrev pub Need-place-rows-requires : Type 0
       Need-place-rows-requires =
-          (c : After-is-replying) → s8 .asks (m7 (c .before) (After-is-replying·gave c))
+          (c : After-is-replying) → s10 .asks (m9 (c .before) (After-is-replying·gave c))
 
-      abbrev pub m8 :
+      abbrev pub m10 :
           (before : After-is-replying) →
-          (given : s8 .gives (m7 (before .before) (After-is-replying·gave before))) →
-          Typed.Mo T10
-      m8 = λ before given. s8 .next (m7 (before .before) (After-is-replying·gave before)) given
+          (given : s10 .gives (m9 (before .before) (After-is-replying·gave before))) →
+          Typed.Mo T12
+      m10 = λ before given. s10 .next (m9 (before .before) (After-is-replying·gave before)) given
 
       module _ (before· : After-is-replying) where
         abbrev pub After-place-rows·own : Type 0
-        After-place-rows·own = Called.Called ps·1 r·1 (claims· .3) T9 (
+        After-place-rows·own = Called.Called ps·1 r·1 (claims· .3) T11 (
           record {
-            pos = 19;
+            pos = 20;
             ty = Syntax.tyRef
                 Syntax.erased
                 Syntax.imm
@@ -27890,11 +30855,11 @@ module _ (claims· : Claims) where
                     8
                     λ x. Live.struct .as-values
                     x .1 .0,
-                (Bool.bAt 20 λ x. x, tt),
+                (Bool.bAt 21 λ x. x, tt),
               ),
             ),
           ),
-        ) (m7 (before· .before) (After-is-replying·gave before·))
+        ) (m9 (before· .before) (After-is-replying·gave before·))
 
       pub record After-place-rows : Type 0 where
         pub before : After-is-replying
@@ -27902,10 +30867,10 @@ module _ (claims· : Claims) where
 
       abbrev pub After-place-rows·gave :
           (c : After-place-rows) →
-          s8 .gives (m7 (c .before .before) (After-is-replying·gave (c .before)))
-      After-place-rows·gave = λ c. Called.given ps·1 r·1 (claims· .3) T9 (
+          s10 .gives (m9 (c .before .before) (After-is-replying·gave (c .before)))
+      After-place-rows·gave = λ c. Called.given ps·1 r·1 (claims· .3) T11 (
         record {
-          pos = 19;
+          pos = 20;
           ty = Syntax.tyRef Syntax.erased Syntax.imm (KInstanceRow.named);
           ref = λ x. x;
         },
@@ -27920,59 +30885,59 @@ module _ (claims· : Claims) where
                   8
                   λ x. Live.struct .as-values
                   x .1 .0,
-              (Bool.bAt 20 λ x. x, tt),
+              (Bool.bAt 21 λ x. x, tt),
             ),
           ),
         ),
-      ) (m7 (c .before .before) (After-is-replying·gave (c .before))) (c .place-rows)
-
-      abbrev pub m9 :
-          (before : After-is-replying) →
-          (given : s8 .gives (m7 (before .before) (After-is-replying·gave before))) →
-          Typed.Mo T11
-      m9 = λ before given. s9 (m8 before given)
-
-      abbrev pub m10 :
-          (before : After-is-replying) →
-          (given : s8 .gives (m7 (before .before) (After-is-replying·gave before))) →
-          Typed.Mo T12
-      m10 = λ before given. s10 (m9 before given)
+      ) (m9 (c .before .before) (After-is-replying·gave (c .before))) (c .place-rows)
 
       abbrev pub m11 :
           (before : After-is-replying) →
-          (given : s8 .gives (m7 (before .before) (After-is-replying·gave before))) →
-          Typed.Mo T14
-      m11 = λ before given. s12 (m10 before given)
+          (given : s10 .gives (m9 (before .before) (After-is-replying·gave before))) →
+          Typed.Mo T13
+      m11 = λ before given. s11 (m10 before given)
 
       abbrev pub m12 :
-          (before : After-place-rows) →
-          (given : s15 .gives (m11 (before .before) (After-place-rows·gave before))) →
-          Typed.Mo T17
-      m12 = λ before given. s15 .next (m11 (before .before) (After-place-rows·gave before)) given
+          (before : After-is-replying) →
+          (given : s10 .gives (m9 (before .before) (After-is-replying·gave before))) →
+          Typed.Mo T14
+      m12 = λ before given. s12 (m11 before given)
 
       abbrev pub m13 :
+          (before : After-is-replying) →
+          (given : s10 .gives (m9 (before .before) (After-is-replying·gave before))) →
+          Typed.Mo T16
+      m13 = λ before given. s14 (m12 before given)
+
+      abbrev pub m14 :
           (before : After-place-rows) →
-          (given : s15 .gives (m11 (before .before) (After-place-rows·gave before))) →
-          Typed.Mo T18
-      m13 = λ before given. s16 .next (m12 before given)
+          (given : s17 .gives (m13 (before .before) (After-place-rows·gave before))) →
+          Typed.Mo T19
+      m14 = λ before given. s17 .next (m13 (before .before) (After-place-rows·gave before)) given
+
+      abbrev pub m15 :
+          (before : After-place-rows) →
+          (given : s17 .gives (m13 (before .before) (After-place-rows·gave before))) →
+          Typed.Mo T20
+      m15 = λ before given. s18 .next (m14 before given)
 
       module _ (before· : After-place-rows) where
         pub record After-place-route-arg·own : Type 0 where
-          pub given : s15 .gives (m11 (before· .before) (After-place-rows·gave before·))
+          pub given : s17 .gives (m13 (before· .before) (After-place-rows·gave before·))
 
       pub record After-place-route-arg : Type 0 where
         pub before : After-place-rows
         pub place-route-arg : After-place-route-arg·own before
 
-      abbrev pub m14 :
+      abbrev pub m16 :
           (before : After-place-route-arg) →
-          (given : s17 .gives (m13 (before .before) (before .place-route-arg .given))) →
-          Typed.Mo T19
-      m14 = λ before given. s17 .next (m13 (before .before) (before .place-route-arg .given)) given
+          (given : s19 .gives (m15 (before .before) (before .place-route-arg .given))) →
+          Typed.Mo T21
+      m16 = λ before given. s19 .next (m15 (before .before) (before .place-route-arg .given)) given
 
       module _ (before· : After-place-route-arg) where
         pub record After-is-routed-arg·own : Type 0 where
-          pub given : s17 .gives (m13 (before· .before) (before· .place-route-arg .given))
+          pub given : s19 .gives (m15 (before· .before) (before· .place-route-arg .given))
 
       pub record After-is-routed-arg : Type 0 where
         pub before : After-place-route-arg
@@ -27980,20 +30945,20 @@ module _ (claims· : Claims) where
 
       abbrev pub Need-is-routed-requires : Type 0
       Need-is-routed-requires =
-          (c : After-is-routed-arg) → s18 .asks (m14 (c .before) (c .is-routed-arg .given))
+          (c : After-is-routed-arg) → s20 .asks (m16 (c .before) (c .is-routed-arg .given))
 
-      abbrev pub m15 :
+      abbrev pub m17 :
           (before : After-is-routed-arg) →
-          (given : s18 .gives (m14 (before .before) (before .is-routed-arg .given))) →
-          Typed.Mo T20
-      m15 = λ before given. s18 .next (m14 (before .before) (before .is-routed-arg .given)) given
+          (given : s20 .gives (m16 (before .before) (before .is-routed-arg .given))) →
+          Typed.Mo T22
+      m17 = λ before given. s20 .next (m16 (before .before) (before .is-routed-arg .given)) given
 
       module _ (before· : After-is-routed-arg) where
         abbrev pub After-is-routed·own : Type 0
-        After-is-routed·own = Called.Called ps·2 r·2 (claims· .5) T19 (
-          record { pos = 21; st = List.[]; d = 0; at = λ x. x },
+        After-is-routed·own = Called.Called ps·2 r·2 (claims· .5) T21 (
+          record { pos = 22; st = List.[]; d = 0; at = λ x. x },
           tt,
-        ) (m14 (before· .before) (before· .is-routed-arg .given))
+        ) (m16 (before· .before) (before· .is-routed-arg .given))
 
       pub record After-is-routed : Type 0 where
         pub before : After-is-routed-arg
@@ -28001,33 +30966,33 @@ module _ (claims· : Claims) where
 
       abbrev pub After-is-routed·gave :
           (c : After-is-routed) →
-          s18 .gives (m14 (c .before .before) (c .before .is-routed-arg .given))
-      After-is-routed·gave = λ c. Called.given ps·2 r·2 (claims· .5) T19 (
-        record { pos = 21; st = List.[]; d = 0; at = λ x. x },
+          s20 .gives (m16 (c .before .before) (c .before .is-routed-arg .given))
+      After-is-routed·gave = λ c. Called.given ps·2 r·2 (claims· .5) T21 (
+        record { pos = 22; st = List.[]; d = 0; at = λ x. x },
         tt,
-      ) (m14 (c .before .before) (c .before .is-routed-arg .given)) (c .is-routed)
+      ) (m16 (c .before .before) (c .before .is-routed-arg .given)) (c .is-routed)
 
-      abbrev pub m16 :
+      abbrev pub m18 :
           (before : After-is-routed-arg) →
-          (given : s18 .gives (m14 (before .before) (before .is-routed-arg .given))) →
-          Typed.Mo T21
-      m16 = λ before given. s19 (m15 before given)
+          (given : s20 .gives (m16 (before .before) (before .is-routed-arg .given))) →
+          Typed.Mo T23
+      m18 = λ before given. s21 (m17 before given)
 
       abbrev pub Need-place-route-requires : Type 0
       Need-place-route-requires =
-          (c : After-is-routed) → s20 .asks (m16 (c .before) (After-is-routed·gave c))
+          (c : After-is-routed) → s22 .asks (m18 (c .before) (After-is-routed·gave c))
 
-      abbrev pub m17 :
+      abbrev pub m19 :
           (before : After-is-routed) →
-          (given : s20 .gives (m16 (before .before) (After-is-routed·gave before))) →
-          Typed.Mo T22
-      m17 = λ before given. s20 .next (m16 (before .before) (After-is-routed·gave before)) given
+          (given : s22 .gives (m18 (before .before) (After-is-routed·gave before))) →
+          Typed.Mo T24
+      m19 = λ before given. s22 .next (m18 (before .before) (After-is-routed·gave before)) given
 
       module _ (before· : After-is-routed) where
         abbrev pub After-place-route·own : Type 0
-        After-place-route·own = Called.Called ps·3 r·3 (claims· .7) T21 (
+        After-place-route·own = Called.Called ps·3 r·3 (claims· .7) T23 (
           record {
-            pos = 23;
+            pos = 24;
             ty = Syntax.tyRef
                 Syntax.erased
                 Syntax.imm
@@ -28037,7 +31002,7 @@ module _ (claims· : Claims) where
           (
             Num.vAt 8 λ x. x,
             (
-              Bool.bAt 20 λ x. x,
+              Bool.bAt 21 λ x. x,
               (
                 Bool.bFld
                     13
@@ -28057,7 +31022,7 @@ module _ (claims· : Claims) where
               ),
             ),
           ),
-        ) (m16 (before· .before) (After-is-routed·gave before·))
+        ) (m18 (before· .before) (After-is-routed·gave before·))
 
       pub record After-place-route : Type 0 where
         pub before : After-is-routed
@@ -28065,17 +31030,17 @@ module _ (claims· : Claims) where
 
       abbrev pub After-place-route·gave :
           (c : After-place-route) →
-          s20 .gives (m16 (c .before .before) (After-is-routed·gave (c .before)))
-      After-place-route·gave = λ c. Called.given ps·3 r·3 (claims· .7) T21 (
+          s22 .gives (m18 (c .before .before) (After-is-routed·gave (c .before)))
+      After-place-route·gave = λ c. Called.given ps·3 r·3 (claims· .7) T23 (
         record {
-          pos = 23;
+          pos = 24;
           ty = Syntax.tyRef Syntax.erased Syntax.imm (KRouteRow.named);
           ref = λ x. x;
         },
         (
           Num.vAt 8 λ x. x,
           (
-            Bool.bAt 20 λ x. x,
+            Bool.bAt 21 λ x. x,
             (
               Bool.bFld
                   13
@@ -28095,48 +31060,48 @@ module _ (claims· : Claims) where
             ),
           ),
         ),
-      ) (m16 (c .before .before) (After-is-routed·gave (c .before))) (c .place-route)
-
-      abbrev pub m18 :
-          (before : After-is-routed) →
-          (given : s20 .gives (m16 (before .before) (After-is-routed·gave before))) →
-          Typed.Mo T23
-      m18 = λ before given. s21 (m17 before given)
-
-      abbrev pub m19 :
-          (before : After-is-routed) →
-          (given : s20 .gives (m16 (before .before) (After-is-routed·gave before))) →
-          Typed.Mo T24
-      m19 = λ before given. s22 (m18 before given)
+      ) (m18 (c .before .before) (After-is-routed·gave (c .before))) (c .place-route)
 
       abbrev pub m20 :
           (before : After-is-routed) →
-          (given : s20 .gives (m16 (before .before) (After-is-routed·gave before))) →
+          (given : s22 .gives (m18 (before .before) (After-is-routed·gave before))) →
           Typed.Mo T25
       m20 = λ before given. s23 (m19 before given)
 
       abbrev pub m21 :
           (before : After-is-routed) →
-          (given : s20 .gives (m16 (before .before) (After-is-routed·gave before))) →
+          (given : s22 .gives (m18 (before .before) (After-is-routed·gave before))) →
+          Typed.Mo T26
+      m21 = λ before given. s24 (m20 before given)
+
+      abbrev pub m22 :
+          (before : After-is-routed) →
+          (given : s22 .gives (m18 (before .before) (After-is-routed·gave before))) →
           Typed.Mo T27
-      m21 = λ before given. s25 (m20 before given)
+      m22 = λ before given. s25 (m21 before given)
+
+      abbrev pub m23 :
+          (before : After-is-routed) →
+          (given : s22 .gives (m18 (before .before) (After-is-routed·gave before))) →
+          Typed.Mo T29
+      m23 = λ before given. s27 (m22 before given)
 
       abbrev pub Need-has-room-requires : Type 0
       Need-has-room-requires =
-          (c : After-place-route) → s27 .asks (m21 (c .before) (After-place-route·gave c))
+          (c : After-place-route) → s29 .asks (m23 (c .before) (After-place-route·gave c))
 
-      abbrev pub m22 :
+      abbrev pub m24 :
           (before : After-place-route) →
-          (given : s27 .gives (m21 (before .before) (After-place-route·gave before))) →
-          Typed.Mo T29
-      m22 = λ before given. s27 .next (m21 (before .before) (After-place-route·gave before)) given
+          (given : s29 .gives (m23 (before .before) (After-place-route·gave before))) →
+          Typed.Mo T31
+      m24 = λ before given. s29 .next (m23 (before .before) (After-place-route·gave before)) given
 
       module _ (before· : After-place-route) where
         abbrev pub After-has-room·own : Type 0
-        After-has-room·own = Called.Called ps·4 r·4 (claims· .9) T27 (
-          record { pos = 14; st = List.[]; d = 0; at = λ x. x },
-          (record { pos = 15; st = List.[]; d = 0; at = λ x. x }, tt),
-        ) (m21 (before· .before) (After-place-route·gave before·))
+        After-has-room·own = Called.Called ps·4 r·4 (claims· .9) T29 (
+          record { pos = 15; st = List.[]; d = 0; at = λ x. x },
+          (record { pos = 16; st = List.[]; d = 0; at = λ x. x }, tt),
+        ) (m23 (before· .before) (After-place-route·gave before·))
 
       pub record After-has-room : Type 0 where
         pub before : After-place-route
@@ -28144,18 +31109,18 @@ module _ (claims· : Claims) where
 
       abbrev pub After-has-room·gave :
           (c : After-has-room) →
-          s27 .gives (m21 (c .before .before) (After-place-route·gave (c .before)))
-      After-has-room·gave = λ c. Called.given ps·4 r·4 (claims· .9) T27 (
-        record { pos = 14; st = List.[]; d = 0; at = λ x. x },
-        (record { pos = 15; st = List.[]; d = 0; at = λ x. x }, tt),
-      ) (m21 (c .before .before) (After-place-route·gave (c .before))) (c .has-room)
+          s29 .gives (m23 (c .before .before) (After-place-route·gave (c .before)))
+      After-has-room·gave = λ c. Called.given ps·4 r·4 (claims· .9) T29 (
+        record { pos = 15; st = List.[]; d = 0; at = λ x. x },
+        (record { pos = 16; st = List.[]; d = 0; at = λ x. x }, tt),
+      ) (m23 (c .before .before) (After-place-route·gave (c .before))) (c .has-room)
 
       abbrev W1 :
           (before : After-place-route) →
-          (given : s27 .gives (m21 (before .before) (After-place-route·gave before))) →
+          (given : s29 .gives (m23 (before .before) (After-place-route·gave before))) →
           Typed.Want O1
       W1 =
-          λ before given. Typed.wantNext T30 O0 (at63 (W0
+          λ before given. Typed.wantNext T32 O0 (at75 (W0
           (before .before .before .before .before .before .before .before .before .before .before
           .κs)
           (before .before .before .before .before .before .before .before .before .before .before
@@ -28165,50 +31130,50 @@ module _ (claims· : Claims) where
           (before .before .before .before .before .before .before .before .before .before .before
           .args))
 
-      abbrev pub m23 : (before : After-has-room) → Typed.Mo T31
-      m23 = λ before. s28 (m22 (before .before) (After-has-room·gave before))
+      abbrev pub m25 : (before : After-has-room) → Typed.Mo T33
+      m25 = λ before. s30 (m24 (before .before) (After-has-room·gave before))
 
       module _ (before· : After-has-room) where
         pub record Then1·own : Type 0 where
           pub taken : Path'._≡_
-              (Row.get 24 (T29 .locals) (m22 (before· .before) (After-has-room·gave before·)))
+              (Row.get 25 (T31 .locals) (m24 (before· .before) (After-has-room·gave before·)))
               Bool'.true
 
       pub record Then1 : Type 0 where
         pub before : After-has-room
         pub if1 : Then1·own before
 
-      abbrev pub m24 :
-          (before : Then1) → (given : s30 .gives (m23 (before .before))) → Typed.Mo T33
-      m24 = λ before given. s30 .next (m23 (before .before)) given
+      abbrev pub m26 :
+          (before : Then1) → (given : s32 .gives (m25 (before .before))) → Typed.Mo T35
+      m26 = λ before given. s32 .next (m25 (before .before)) given
 
-      abbrev pub m25 :
-          (before : Then1) → (given : s30 .gives (m23 (before .before))) → Typed.Mo T34
-      m25 = λ before given. s31 .next (m24 before given)
+      abbrev pub m27 :
+          (before : Then1) → (given : s32 .gives (m25 (before .before))) → Typed.Mo T36
+      m27 = λ before given. s33 .next (m26 before given)
 
       module _ (before· : Then1) where
         pub record After-store-arg·own : Type 0 where
-          pub given : s30 .gives (m23 (before· .before))
+          pub given : s32 .gives (m25 (before· .before))
 
       pub record After-store-arg : Type 0 where
         pub before : Then1
         pub store-arg : After-store-arg·own before
 
-      abbrev pub m26 :
+      abbrev pub m28 :
           (before : After-store-arg) →
-          (given : s33 .gives (m25 (before .before) (before .store-arg .given))) →
-          Typed.Mo T36
-      m26 = λ before given. s33 .next (m25 (before .before) (before .store-arg .given)) given
+          (given : s35 .gives (m27 (before .before) (before .store-arg .given))) →
+          Typed.Mo T38
+      m28 = λ before given. s35 .next (m27 (before .before) (before .store-arg .given)) given
 
-      abbrev pub m27 :
+      abbrev pub m29 :
           (before : After-store-arg) →
-          (given : s33 .gives (m25 (before .before) (before .store-arg .given))) →
-          Typed.Mo T37
-      m27 = λ before given. s34 .next (m26 before given)
+          (given : s35 .gives (m27 (before .before) (before .store-arg .given))) →
+          Typed.Mo T39
+      m29 = λ before given. s36 .next (m28 before given)
 
       module _ (before· : After-store-arg) where
         pub record After-store-arg2·own : Type 0 where
-          pub given : s33 .gives (m25 (before· .before) (before· .store-arg .given))
+          pub given : s35 .gives (m27 (before· .before) (before· .store-arg .given))
 
       pub record After-store-arg2 : Type 0 where
         pub before : After-store-arg
@@ -28216,19 +31181,19 @@ module _ (claims· : Claims) where
 
       abbrev pub Need-store-requires : Type 0
       Need-store-requires =
-          (c : After-store-arg2) → s35 .asks (m27 (c .before) (c .store-arg2 .given))
+          (c : After-store-arg2) → s37 .asks (m29 (c .before) (c .store-arg2 .given))
 
-      abbrev pub m28 :
+      abbrev pub m30 :
           (before : After-store-arg2) →
-          (given : s35 .gives (m27 (before .before) (before .store-arg2 .given))) →
-          Typed.Mo T38
-      m28 = λ before given. s35 .next (m27 (before .before) (before .store-arg2 .given)) given
+          (given : s37 .gives (m29 (before .before) (before .store-arg2 .given))) →
+          Typed.Mo T40
+      m30 = λ before given. s37 .next (m29 (before .before) (before .store-arg2 .given)) given
 
       module _ (before· : After-store-arg2) where
         abbrev pub After-store·own : Type 0
-        After-store·own = Called.Called ps·5 r·5 (claims· .11) T37 (
+        After-store·own = Called.Called ps·5 r·5 (claims· .11) T39 (
           record {
-            pos = 27;
+            pos = 28;
             ty = Syntax.tyRef
                 Syntax.erased
                 Syntax.mut
@@ -28237,7 +31202,7 @@ module _ (claims· : Claims) where
           },
           (
             record {
-              pos = 29;
+              pos = 30;
               ty = Syntax.tyRef
                   Syntax.erased
                   Syntax.mut
@@ -28245,10 +31210,10 @@ module _ (claims· : Claims) where
               ref = λ x. x;
             },
             (
-              record { pos = 14; st = List.[]; d = 0; at = λ x. x },
+              record { pos = 15; st = List.[]; d = 0; at = λ x. x },
               (
                 Num.vFld
-                    15
+                    16
                     (List._∷_ (Syntax.field 1) List.[])
                     8
                     λ x. RoutePlace.struct .as-values
@@ -28267,23 +31232,23 @@ module _ (claims· : Claims) where
               ),
             ),
           ),
-        ) (m27 (before· .before) (before· .store-arg2 .given))
+        ) (m29 (before· .before) (before· .store-arg2 .given))
 
       pub record After-store : Type 0 where
         pub before : After-store-arg2
         pub store : After-store·own before
 
       abbrev pub After-store·gave :
-          (c : After-store) → s35 .gives (m27 (c .before .before) (c .before .store-arg2 .given))
-      After-store·gave = λ c. Called.given ps·5 r·5 (claims· .11) T37 (
+          (c : After-store) → s37 .gives (m29 (c .before .before) (c .before .store-arg2 .given))
+      After-store·gave = λ c. Called.given ps·5 r·5 (claims· .11) T39 (
         record {
-          pos = 27;
+          pos = 28;
           ty = Syntax.tyRef Syntax.erased Syntax.mut (KInstanceRow.named);
           ref = λ x. x;
         },
         (
           record {
-            pos = 29;
+            pos = 30;
             ty = Syntax.tyRef
                 Syntax.erased
                 Syntax.mut
@@ -28291,10 +31256,10 @@ module _ (claims· : Claims) where
             ref = λ x. x;
           },
           (
-            record { pos = 14; st = List.[]; d = 0; at = λ x. x },
+            record { pos = 15; st = List.[]; d = 0; at = λ x. x },
             (
               Num.vFld
-                  15
+                  16
                   (List._∷_ (Syntax.field 1) List.[])
                   8
                   λ x. RoutePlace.struct .as-values
@@ -28313,94 +31278,114 @@ module _ (claims· : Claims) where
             ),
           ),
         ),
-      ) (m27 (c .before .before) (c .before .store-arg2 .given)) (c .store)
-
-      abbrev pub m29 :
-          (before : After-store-arg2) →
-          (given : s35 .gives (m27 (before .before) (before .store-arg2 .given))) →
-          Typed.Mo T39
-      m29 = λ before given. s36 (m28 before given)
-
-      abbrev pub m30 :
-          (before : After-store-arg2) →
-          (given : s35 .gives (m27 (before .before) (before .store-arg2 .given))) →
-          Typed.Mo T40
-      m30 = λ before given. s37 (m29 before given)
+      ) (m29 (c .before .before) (c .before .store-arg2 .given)) (c .store)
 
       abbrev pub m31 :
           (before : After-store-arg2) →
-          (given : s35 .gives (m27 (before .before) (before .store-arg2 .given))) →
+          (given : s37 .gives (m29 (before .before) (before .store-arg2 .given))) →
           Typed.Mo T41
       m31 = λ before given. s38 (m30 before given)
 
       abbrev pub m32 :
-          (before : After-store) →
-          (given : s40 .gives (m31 (before .before) (After-store·gave before))) →
+          (before : After-store-arg2) →
+          (given : s37 .gives (m29 (before .before) (before .store-arg2 .given))) →
+          Typed.Mo T42
+      m32 = λ before given. s39 (m31 before given)
+
+      abbrev pub m33 :
+          (before : After-store-arg2) →
+          (given : s37 .gives (m29 (before .before) (before .store-arg2 .given))) →
           Typed.Mo T43
-      m32 = λ before given. s40 .next (m31 (before .before) (After-store·gave before)) given
+      m33 = λ before given. s40 (m32 before given)
+
+      abbrev pub m34 :
+          (before : After-store) →
+          (given : s42 .gives (m33 (before .before) (After-store·gave before))) →
+          Typed.Mo T45
+      m34 = λ before given. s42 .next (m33 (before .before) (After-store·gave before)) given
 
       module _ (before· : After-store) where
         pub record After-instances·own : Type 0 where
-          pub given : s40 .gives (m31 (before· .before) (After-store·gave before·))
+          pub given : s42 .gives (m33 (before· .before) (After-store·gave before·))
 
       pub record After-instances : Type 0 where
         pub before : After-store
         pub instances : After-instances·own before
 
-      abbrev pub m33 :
+      abbrev pub m35 :
           (before : After-instances) →
-          (given : s43 .gives (m32 (before .before) (before .instances .given))) →
-          Typed.Mo T46
-      m33 = λ before given. s43 .next (m32 (before .before) (before .instances .given)) given
+          (given : s45 .gives (m34 (before .before) (before .instances .given))) →
+          Typed.Mo T48
+      m35 = λ before given. s45 .next (m34 (before .before) (before .instances .given)) given
 
       module _ (before· : After-instances) where
         pub record After-routes·own : Type 0 where
-          pub given : s43 .gives (m32 (before· .before) (before· .instances .given))
+          pub given : s45 .gives (m34 (before· .before) (before· .instances .given))
 
       pub record After-routes : Type 0 where
         pub before : After-instances
         pub routes : After-routes·own before
 
-      abbrev pub m34 :
+      abbrev pub m36 :
           (before : After-routes) →
-          (given : s46 .gives (m33 (before .before) (before .routes .given))) →
-          Typed.Mo T49
-      m34 = λ before given. s46 .next (m33 (before .before) (before .routes .given)) given
+          (given : s48 .gives (m35 (before .before) (before .routes .given))) →
+          Typed.Mo T51
+      m36 = λ before given. s48 .next (m35 (before .before) (before .routes .given)) given
 
-      abbrev pub m35 :
+      abbrev pub m37 :
           (before : After-routes) →
-          (given : s46 .gives (m33 (before .before) (before .routes .given))) →
-          Typed.Mo T50
-      m35 = λ before given. s47 .next (m34 before given)
+          (given : s48 .gives (m35 (before .before) (before .routes .given))) →
+          Typed.Mo T52
+      m37 = λ before given. s49 .next (m36 before given)
 
       module _ (before· : After-routes) where
         pub record After-put-post-arg·own : Type 0 where
-          pub given : s46 .gives (m33 (before· .before) (before· .routes .given))
+          pub given : s48 .gives (m35 (before· .before) (before· .routes .given))
 
       pub record After-put-post-arg : Type 0 where
         pub before : After-routes
         pub put-post-arg : After-put-post-arg·own before
 
-      abbrev pub Need-put-post-requires : Type 0
-      Need-put-post-requires =
-          (c : After-put-post-arg) → s48 .asks (m35 (c .before) (c .put-post-arg .given))
-
-      abbrev pub m36 :
+      abbrev pub m38 :
           (before : After-put-post-arg) →
-          (given : s48 .gives (m35 (before .before) (before .put-post-arg .given))) →
-          Typed.Mo T51
-      m36 = λ before given. s48 .next (m35 (before .before) (before .put-post-arg .given)) given
+          (given : s51 .gives (m37 (before .before) (before .put-post-arg .given))) →
+          Typed.Mo T54
+      m38 = λ before given. s51 .next (m37 (before .before) (before .put-post-arg .given)) given
 
       module _ (before· : After-put-post-arg) where
+        pub record After-o·own : Type 0 where
+          pub given : s51 .gives (m37 (before· .before) (before· .put-post-arg .given))
+
+      pub record After-o : Type 0 where
+        pub before : After-put-post-arg
+        pub o : After-o·own before
+
+      abbrev pub Need-put-post-requires : Type 0
+      Need-put-post-requires = (c : After-o) → s52 .asks (m38 (c .before) (c .o .given))
+
+      abbrev pub m39 :
+          (before : After-o) →
+          (given : s52 .gives (m38 (before .before) (before .o .given))) →
+          Typed.Mo T55
+      m39 = λ before given. s52 .next (m38 (before .before) (before .o .given)) given
+
+      module _ (before· : After-o) where
         abbrev pub After-put-post·own : Type 0
-        After-put-post·own = Called.Called ps·6 r·6 (claims· .13) T50 (
+        After-put-post·own = Called.Called ps·6 r·6 (claims· .13) T54 (
           record {
-            pos = 31;
+            pos = 32;
             ty = Syntax.tyRef Syntax.erased Syntax.mut (Syntax.tyInt Syntax.w8);
             ref = λ x. x;
           },
           (
-            record { pos = 5; st = List.[]; d = 0; at = λ x. x },
+            record {
+              pos = 33;
+              ty = Syntax.tyRef
+                  Syntax.erased
+                  Syntax.imm
+                  (KOwn.named);
+              ref = λ x. x;
+            },
             (
               record {
                 pos = 11;
@@ -28423,23 +31408,29 @@ module _ (claims· : Claims) where
               ),
             ),
           ),
-        ) (m35 (before· .before) (before· .put-post-arg .given))
+        ) (m38 (before· .before) (before· .o .given))
 
       pub record After-put-post : Type 0 where
-        pub before : After-put-post-arg
+        pub before : After-o
         pub put-post : After-put-post·own before
 
       abbrev pub After-put-post·gave :
-          (c : After-put-post) →
-          s48 .gives (m35 (c .before .before) (c .before .put-post-arg .given))
-      After-put-post·gave = λ c. Called.given ps·6 r·6 (claims· .13) T50 (
+          (c : After-put-post) → s52 .gives (m38 (c .before .before) (c .before .o .given))
+      After-put-post·gave = λ c. Called.given ps·6 r·6 (claims· .13) T54 (
         record {
-          pos = 31;
+          pos = 32;
           ty = Syntax.tyRef Syntax.erased Syntax.mut (Syntax.tyInt Syntax.w8);
           ref = λ x. x;
         },
         (
-          record { pos = 5; st = List.[]; d = 0; at = λ x. x },
+          record {
+            pos = 33;
+            ty = Syntax.tyRef
+                Syntax.erased
+                Syntax.imm
+                (KOwn.named);
+            ref = λ x. x;
+          },
           (
             record {
               pos = 11;
@@ -28462,76 +31453,108 @@ module _ (claims· : Claims) where
             ),
           ),
         ),
-      ) (m35 (c .before .before) (c .before .put-post-arg .given)) (c .put-post)
+      ) (m38 (c .before .before) (c .before .o .given)) (c .put-post)
 
-      abbrev pub m37 :
+      abbrev pub m40 :
+          (before : After-o) →
+          (given : s52 .gives (m38 (before .before) (before .o .given))) →
+          Typed.Mo T56
+      m40 = λ before given. s53 (m39 before given)
+
+      abbrev pub m41 :
           (before : After-put-post) →
-          (given : s50 .gives (m36 (before .before) (After-put-post·gave before))) →
-          Typed.Mo T53
-      m37 = λ before given. s50 .next (m36 (before .before) (After-put-post·gave before)) given
+          (given : s55 .gives (m40 (before .before) (After-put-post·gave before))) →
+          Typed.Mo T58
+      m41 = λ before given. s55 .next (m40 (before .before) (After-put-post·gave before)) given
 
       module _ (before· : After-put-post) where
         pub record After-forward·own : Type 0 where
-          pub given : s50 .gives (m36 (before· .before) (After-put-post·gave before·))
+          pub given : s55 .gives (m40 (before· .before) (After-put-post·gave before·))
 
       pub record After-forward : Type 0 where
         pub before : After-put-post
         pub forward : After-forward·own before
 
-      abbrev pub m38 :
+      abbrev pub m42 :
           (before : After-forward) →
-          (given : s51 .gives (m37 (before .before) (before .forward .given))) →
-          Typed.Mo T54
-      m38 = λ before given. s51 .next (m37 (before .before) (before .forward .given)) given
+          (given : s56 .gives (m41 (before .before) (before .forward .given))) →
+          Typed.Mo T59
+      m42 = λ before given. s56 .next (m41 (before .before) (before .forward .given)) given
+
+      abbrev pub m43 :
+          (before : After-forward) →
+          (given : s56 .gives (m41 (before .before) (before .forward .given))) →
+          Typed.Mo T62
+      m43 = λ before given. s59 (m42 before given)
 
       module _ (before· : After-forward) where
         pub record After-slice-known3·own : Type 0 where
-          pub given : s51 .gives (m37 (before· .before) (before· .forward .given))
+          pub given : s56 .gives (m41 (before· .before) (before· .forward .given))
 
       pub record After-slice-known3 : Type 0 where
         pub before : After-forward
         pub slice-known3 : After-slice-known3·own before
 
-      abbrev pub m39 :
+      abbrev pub m44 :
           (before : After-slice-known3) →
-          (given : s54 .gives (m38 (before .before) (before .slice-known3 .given))) →
-          Typed.Mo T57
-      m39 = λ before given. s54 .next (m38 (before .before) (before .slice-known3 .given)) given
+          (given : s62 .gives (m43 (before .before) (before .slice-known3 .given))) →
+          Typed.Mo T65
+      m44 = λ before given. s62 .next (m43 (before .before) (before .slice-known3 .given)) given
 
-      abbrev pub m40 :
+      abbrev pub m45 :
           (before : After-slice-known3) →
-          (given : s54 .gives (m38 (before .before) (before .slice-known3 .given))) →
-          Typed.Mo T58
-      m40 = λ before given. s55 .next (m39 before given)
+          (given : s62 .gives (m43 (before .before) (before .slice-known3 .given))) →
+          Typed.Mo T66
+      m45 = λ before given. s63 .next (m44 before given)
 
       module _ (before· : After-slice-known3) where
         pub record After-put-post-arg2·own : Type 0 where
-          pub given : s54 .gives (m38 (before· .before) (before· .slice-known3 .given))
+          pub given : s62 .gives (m43 (before· .before) (before· .slice-known3 .given))
 
       pub record After-put-post-arg2 : Type 0 where
         pub before : After-slice-known3
         pub put-post-arg2 : After-put-post-arg2·own before
 
-      abbrev pub Need-put-post-requires-2 : Type 0
-      Need-put-post-requires-2 =
-          (c : After-put-post-arg2) → s56 .asks (m40 (c .before) (c .put-post-arg2 .given))
-
-      abbrev pub m41 :
+      abbrev pub m46 :
           (before : After-put-post-arg2) →
-          (given : s56 .gives (m40 (before .before) (before .put-post-arg2 .given))) →
-          Typed.Mo T59
-      m41 = λ before given. s56 .next (m40 (before .before) (before .put-post-arg2 .given)) given
+          (given : s65 .gives (m45 (before .before) (before .put-post-arg2 .given))) →
+          Typed.Mo T68
+      m46 = λ before given. s65 .next (m45 (before .before) (before .put-post-arg2 .given)) given
 
       module _ (before· : After-put-post-arg2) where
+        pub record After-o2·own : Type 0 where
+          pub given : s65 .gives (m45 (before· .before) (before· .put-post-arg2 .given))
+
+      pub record After-o2 : Type 0 where
+        pub before : After-put-post-arg2
+        pub o2 : After-o2·own before
+
+      abbrev pub Need-put-post-requires-2 : Type 0
+      Need-put-post-requires-2 = (c : After-o2) → s66 .asks (m46 (c .before) (c .o2 .given))
+
+      abbrev pub m47 :
+          (before : After-o2) →
+          (given : s66 .gives (m46 (before .before) (before .o2 .given))) →
+          Typed.Mo T69
+      m47 = λ before given. s66 .next (m46 (before .before) (before .o2 .given)) given
+
+      module _ (before· : After-o2) where
         abbrev pub After-put-post2·own : Type 0
-        After-put-post2·own = Called.Called ps·6 r·6 (claims· .13) T58 (
+        After-put-post2·own = Called.Called ps·6 r·6 (claims· .13) T68 (
           record {
-            pos = 33;
+            pos = 35;
             ty = Syntax.tyRef Syntax.erased Syntax.mut (Syntax.tyInt Syntax.w8);
             ref = λ x. x;
           },
           (
-            record { pos = 5; st = List.[]; d = 0; at = λ x. x },
+            record {
+              pos = 36;
+              ty = Syntax.tyRef
+                  Syntax.erased
+                  Syntax.imm
+                  (KOwn.named);
+              ref = λ x. x;
+            },
             (
               record {
                 pos = 12;
@@ -28554,23 +31577,29 @@ module _ (claims· : Claims) where
               ),
             ),
           ),
-        ) (m40 (before· .before) (before· .put-post-arg2 .given))
+        ) (m46 (before· .before) (before· .o2 .given))
 
       pub record After-put-post2 : Type 0 where
-        pub before : After-put-post-arg2
+        pub before : After-o2
         pub put-post2 : After-put-post2·own before
 
       abbrev pub After-put-post2·gave :
-          (c : After-put-post2) →
-          s56 .gives (m40 (c .before .before) (c .before .put-post-arg2 .given))
-      After-put-post2·gave = λ c. Called.given ps·6 r·6 (claims· .13) T58 (
+          (c : After-put-post2) → s66 .gives (m46 (c .before .before) (c .before .o2 .given))
+      After-put-post2·gave = λ c. Called.given ps·6 r·6 (claims· .13) T68 (
         record {
-          pos = 33;
+          pos = 35;
           ty = Syntax.tyRef Syntax.erased Syntax.mut (Syntax.tyInt Syntax.w8);
           ref = λ x. x;
         },
         (
-          record { pos = 5; st = List.[]; d = 0; at = λ x. x },
+          record {
+            pos = 36;
+            ty = Syntax.tyRef
+                Syntax.erased
+                Syntax.imm
+                (KOwn.named);
+            ref = λ x. x;
+          },
           (
             record {
               pos = 12;
@@ -28593,51 +31622,63 @@ module _ (claims· : Claims) where
             ),
           ),
         ),
-      ) (m40 (c .before .before) (c .before .put-post-arg2 .given)) (c .put-post2)
+      ) (m46 (c .before .before) (c .before .o2 .given)) (c .put-post2)
 
-      abbrev pub m42 :
-          (before : After-put-post-arg2) →
-          (given : s56 .gives (m40 (before .before) (before .put-post-arg2 .given))) →
-          Typed.Mo T60
-      m42 = λ before given. s57 (m41 before given)
+      abbrev pub m48 :
+          (before : After-o2) →
+          (given : s66 .gives (m46 (before .before) (before .o2 .given))) →
+          Typed.Mo T70
+      m48 = λ before given. s67 (m47 before given)
 
-      abbrev pub m43 :
+      abbrev pub m49 :
           (before : After-put-post2) →
-          (given : s59 .gives (m42 (before .before) (After-put-post2·gave before))) →
-          Typed.Mo T62
-      m43 = λ before given. s59 .next (m42 (before .before) (After-put-post2·gave before)) given
+          (given : s69 .gives (m48 (before .before) (After-put-post2·gave before))) →
+          Typed.Mo T72
+      m49 = λ before given. s69 .next (m48 (before .before) (After-put-post2·gave before)) given
 
       module _ (before· : After-put-post2) where
         pub record After-reply·own : Type 0 where
-          pub given : s59 .gives (m42 (before· .before) (After-put-post2·gave before·))
+          pub given : s69 .gives (m48 (before· .before) (After-put-post2·gave before·))
 
       pub record After-reply : Type 0 where
         pub before : After-put-post2
         pub reply : After-reply·own before
 
-      abbrev pub m44 :
+      abbrev pub m50 :
           (before : After-reply) →
-          (given : s60 .gives (m43 (before .before) (before .reply .given))) →
-          Typed.Mo T63
-      m44 = λ before given. s60 .next (m43 (before .before) (before .reply .given)) given
+          (given : s70 .gives (m49 (before .before) (before .reply .given))) →
+          Typed.Mo T73
+      m50 = λ before given. s70 .next (m49 (before .before) (before .reply .given)) given
+
+      abbrev pub m51 :
+          (before : After-reply) →
+          (given : s70 .gives (m49 (before .before) (before .reply .given))) →
+          Typed.Mo T76
+      m51 = λ before given. s73 (m50 before given)
+
+      abbrev pub m52 :
+          (before : After-reply) →
+          (given : s70 .gives (m49 (before .before) (before .reply .given))) →
+          Typed.Mo T78
+      m52 = λ before given. s75 (m51 before given)
 
       module _ (before· : After-reply) where
         pub record After-slice-known4·own : Type 0 where
-          pub given : s60 .gives (m43 (before· .before) (before· .reply .given))
+          pub given : s70 .gives (m49 (before· .before) (before· .reply .given))
 
       pub record After-slice-known4 : Type 0 where
         pub before : After-reply
         pub slice-known4 : After-slice-known4·own before
 
-      abbrev pub m45 :
+      abbrev pub m53 :
           (before : After-slice-known4) →
-          (given : s62 .gives (m44 (before .before) (before .slice-known4 .given))) →
-          Typed.Mo T65
-      m45 = λ before given. s62 .next (m44 (before .before) (before .slice-known4 .given)) given
+          (given : s76 .gives (m52 (before .before) (before .slice-known4 .given))) →
+          Typed.Mo T79
+      m53 = λ before given. s76 .next (m52 (before .before) (before .slice-known4 .given)) given
 
       module _ (before· : After-slice-known4) where
         pub record After-own-of-arg·own : Type 0 where
-          pub given : s62 .gives (m44 (before· .before) (before· .slice-known4 .given))
+          pub given : s76 .gives (m52 (before· .before) (before· .slice-known4 .given))
 
       pub record After-own-of-arg : Type 0 where
         pub before : After-slice-known4
@@ -28645,47 +31686,47 @@ module _ (claims· : Claims) where
 
       abbrev pub Need-own-of-requires : Type 0
       Need-own-of-requires =
-          (c : After-own-of-arg) → s63 .asks (m45 (c .before) (c .own-of-arg .given))
+          (c : After-own-of-arg) → s77 .asks (m53 (c .before) (c .own-of-arg .given))
 
-      abbrev pub m46 :
+      abbrev pub m54 :
           (before : After-own-of-arg) →
-          (given : s63 .gives (m45 (before .before) (before .own-of-arg .given))) →
-          Typed.Mo T66
-      m46 = λ before given. s63 .next (m45 (before .before) (before .own-of-arg .given)) given
+          (given : s77 .gives (m53 (before .before) (before .own-of-arg .given))) →
+          Typed.Mo T80
+      m54 = λ before given. s77 .next (m53 (before .before) (before .own-of-arg .given)) given
 
       module _ (before· : After-own-of-arg) where
         abbrev pub After-own-of·own : Type 0
-        After-own-of·own = Called.Called ps·7 r·7 (claims· .15) T65 (
-          record { pos = 35; st = List.[]; d = 0; at = λ x. x },
+        After-own-of·own = Called.Called ps·7 r·7 (claims· .15) T79 (
+          record { pos = 38; st = List.[]; d = 0; at = λ x. x },
           tt,
-        ) (m45 (before· .before) (before· .own-of-arg .given))
+        ) (m53 (before· .before) (before· .own-of-arg .given))
 
       pub record After-own-of : Type 0 where
         pub before : After-own-of-arg
         pub own-of : After-own-of·own before
 
       abbrev pub After-own-of·gave :
-          (c : After-own-of) → s63 .gives (m45 (c .before .before) (c .before .own-of-arg .given))
-      After-own-of·gave = λ c. Called.given ps·7 r·7 (claims· .15) T65 (
-        record { pos = 35; st = List.[]; d = 0; at = λ x. x },
+          (c : After-own-of) → s77 .gives (m53 (c .before .before) (c .before .own-of-arg .given))
+      After-own-of·gave = λ c. Called.given ps·7 r·7 (claims· .15) T79 (
+        record { pos = 38; st = List.[]; d = 0; at = λ x. x },
         tt,
-      ) (m45 (c .before .before) (c .before .own-of-arg .given)) (c .own-of)
+      ) (m53 (c .before .before) (c .before .own-of-arg .given)) (c .own-of)
 
-      abbrev pub m47 :
+      abbrev pub m55 :
           (before : After-own-of-arg) →
-          (given : s63 .gives (m45 (before .before) (before .own-of-arg .given))) →
-          Typed.Mo T67
-      m47 = λ before given. s64 (m46 before given)
+          (given : s77 .gives (m53 (before .before) (before .own-of-arg .given))) →
+          Typed.Mo T81
+      m55 = λ before given. s78 (m54 before given)
 
-      abbrev pub m48 :
+      abbrev pub m56 :
           (before : After-own-of) →
-          (given : s65 .gives (m47 (before .before) (After-own-of·gave before))) →
-          Typed.Mo T68
-      m48 = λ before given. s65 .next (m47 (before .before) (After-own-of·gave before)) given
+          (given : s79 .gives (m55 (before .before) (After-own-of·gave before))) →
+          Typed.Mo T82
+      m56 = λ before given. s79 .next (m55 (before .before) (After-own-of·gave before)) given
 
       module _ (before· : After-own-of) where
         pub record After-to-of-arg·own : Type 0 where
-          pub given : s65 .gives (m47 (before· .before) (After-own-of·gave before·))
+          pub given : s79 .gives (m55 (before· .before) (After-own-of·gave before·))
 
       pub record After-to-of-arg : Type 0 where
         pub before : After-own-of
@@ -28693,47 +31734,47 @@ module _ (claims· : Claims) where
 
       abbrev pub Need-to-of-requires : Type 0
       Need-to-of-requires =
-          (c : After-to-of-arg) → s66 .asks (m48 (c .before) (c .to-of-arg .given))
+          (c : After-to-of-arg) → s80 .asks (m56 (c .before) (c .to-of-arg .given))
 
-      abbrev pub m49 :
+      abbrev pub m57 :
           (before : After-to-of-arg) →
-          (given : s66 .gives (m48 (before .before) (before .to-of-arg .given))) →
-          Typed.Mo T69
-      m49 = λ before given. s66 .next (m48 (before .before) (before .to-of-arg .given)) given
+          (given : s80 .gives (m56 (before .before) (before .to-of-arg .given))) →
+          Typed.Mo T83
+      m57 = λ before given. s80 .next (m56 (before .before) (before .to-of-arg .given)) given
 
       module _ (before· : After-to-of-arg) where
         abbrev pub After-to-of·own : Type 0
-        After-to-of·own = Called.Called ps·8 r·8 (claims· .17) T68 (
-          record { pos = 37; st = List.[]; d = 0; at = λ x. x },
+        After-to-of·own = Called.Called ps·8 r·8 (claims· .17) T82 (
+          record { pos = 40; st = List.[]; d = 0; at = λ x. x },
           tt,
-        ) (m48 (before· .before) (before· .to-of-arg .given))
+        ) (m56 (before· .before) (before· .to-of-arg .given))
 
       pub record After-to-of : Type 0 where
         pub before : After-to-of-arg
         pub to-of : After-to-of·own before
 
       abbrev pub After-to-of·gave :
-          (c : After-to-of) → s66 .gives (m48 (c .before .before) (c .before .to-of-arg .given))
-      After-to-of·gave = λ c. Called.given ps·8 r·8 (claims· .17) T68 (
-        record { pos = 37; st = List.[]; d = 0; at = λ x. x },
+          (c : After-to-of) → s80 .gives (m56 (c .before .before) (c .before .to-of-arg .given))
+      After-to-of·gave = λ c. Called.given ps·8 r·8 (claims· .17) T82 (
+        record { pos = 40; st = List.[]; d = 0; at = λ x. x },
         tt,
-      ) (m48 (c .before .before) (c .before .to-of-arg .given)) (c .to-of)
+      ) (m56 (c .before .before) (c .before .to-of-arg .given)) (c .to-of)
 
-      abbrev pub m50 :
+      abbrev pub m58 :
           (before : After-to-of-arg) →
-          (given : s66 .gives (m48 (before .before) (before .to-of-arg .given))) →
-          Typed.Mo T70
-      m50 = λ before given. s67 (m49 before given)
+          (given : s80 .gives (m56 (before .before) (before .to-of-arg .given))) →
+          Typed.Mo T84
+      m58 = λ before given. s81 (m57 before given)
 
-      abbrev pub m51 :
+      abbrev pub m59 :
           (before : After-to-of) →
-          (given : s68 .gives (m50 (before .before) (After-to-of·gave before))) →
-          Typed.Mo T71
-      m51 = λ before given. s68 .next (m50 (before .before) (After-to-of·gave before)) given
+          (given : s82 .gives (m58 (before .before) (After-to-of·gave before))) →
+          Typed.Mo T85
+      m59 = λ before given. s82 .next (m58 (before .before) (After-to-of·gave before)) given
 
       module _ (before· : After-to-of) where
         pub record After-to-of-arg2·own : Type 0 where
-          pub given : s68 .gives (m50 (before· .before) (After-to-of·gave before·))
+          pub given : s82 .gives (m58 (before· .before) (After-to-of·gave before·))
 
       pub record After-to-of-arg2 : Type 0 where
         pub before : After-to-of
@@ -28741,60 +31782,60 @@ module _ (claims· : Claims) where
 
       abbrev pub Need-to-of-requires-2 : Type 0
       Need-to-of-requires-2 =
-          (c : After-to-of-arg2) → s69 .asks (m51 (c .before) (c .to-of-arg2 .given))
+          (c : After-to-of-arg2) → s83 .asks (m59 (c .before) (c .to-of-arg2 .given))
 
-      abbrev pub m52 :
+      abbrev pub m60 :
           (before : After-to-of-arg2) →
-          (given : s69 .gives (m51 (before .before) (before .to-of-arg2 .given))) →
-          Typed.Mo T72
-      m52 = λ before given. s69 .next (m51 (before .before) (before .to-of-arg2 .given)) given
+          (given : s83 .gives (m59 (before .before) (before .to-of-arg2 .given))) →
+          Typed.Mo T86
+      m60 = λ before given. s83 .next (m59 (before .before) (before .to-of-arg2 .given)) given
 
       module _ (before· : After-to-of-arg2) where
         abbrev pub After-to-of2·own : Type 0
-        After-to-of2·own = Called.Called ps·8 r·8 (claims· .17) T71 (
-          record { pos = 39; st = List.[]; d = 0; at = λ x. x },
+        After-to-of2·own = Called.Called ps·8 r·8 (claims· .17) T85 (
+          record { pos = 42; st = List.[]; d = 0; at = λ x. x },
           tt,
-        ) (m51 (before· .before) (before· .to-of-arg2 .given))
+        ) (m59 (before· .before) (before· .to-of-arg2 .given))
 
       pub record After-to-of2 : Type 0 where
         pub before : After-to-of-arg2
         pub to-of2 : After-to-of2·own before
 
       abbrev pub After-to-of2·gave :
-          (c : After-to-of2) → s69 .gives (m51 (c .before .before) (c .before .to-of-arg2 .given))
-      After-to-of2·gave = λ c. Called.given ps·8 r·8 (claims· .17) T71 (
-        record { pos = 39; st = List.[]; d = 0; at = λ x. x },
+          (c : After-to-of2) → s83 .gives (m59 (c .before .before) (c .before .to-of-arg2 .given))
+      After-to-of2·gave = λ c. Called.given ps·8 r·8 (claims· .17) T85 (
+        record { pos = 42; st = List.[]; d = 0; at = λ x. x },
         tt,
-      ) (m51 (c .before .before) (c .before .to-of-arg2 .given)) (c .to-of2)
+      ) (m59 (c .before .before) (c .before .to-of-arg2 .given)) (c .to-of2)
 
-      abbrev pub m53 :
+      abbrev pub m61 :
           (before : After-to-of-arg2) →
-          (given : s69 .gives (m51 (before .before) (before .to-of-arg2 .given))) →
-          Typed.Mo T73
-      m53 = λ before given. s70 (m52 before given)
+          (given : s83 .gives (m59 (before .before) (before .to-of-arg2 .given))) →
+          Typed.Mo T87
+      m61 = λ before given. s84 (m60 before given)
 
       abbrev pub Need-accepted-requires : Type 0
       Need-accepted-requires =
-          (c : After-to-of2) → s71 .asks (m53 (c .before) (After-to-of2·gave c))
+          (c : After-to-of2) → s85 .asks (m61 (c .before) (After-to-of2·gave c))
 
-      abbrev pub m54 :
+      abbrev pub m62 :
           (before : After-to-of2) →
-          (given : s71 .gives (m53 (before .before) (After-to-of2·gave before))) →
-          Typed.Mo T74
-      m54 = λ before given. s71 .next (m53 (before .before) (After-to-of2·gave before)) given
+          (given : s85 .gives (m61 (before .before) (After-to-of2·gave before))) →
+          Typed.Mo T88
+      m62 = λ before given. s85 .next (m61 (before .before) (After-to-of2·gave before)) given
 
       module _ (before· : After-to-of2) where
         abbrev pub After-accepted·own : Type 0
-        After-accepted·own = Called.Called ps·9 r·9 (claims· .19) T73 (
-          Num.vAt 34 λ x. x,
+        After-accepted·own = Called.Called ps·9 r·9 (claims· .19) T87 (
+          Num.vAt 37 λ x. x,
           (
-            record { pos = 36; st = List.[]; d = 0; at = λ x. x },
+            record { pos = 39; st = List.[]; d = 0; at = λ x. x },
             (
-              record { pos = 38; st = List.[]; d = 0; at = λ x. x },
-              (Num.vAt 8 λ x. x, (Num.vAt 16 λ x. x, (Num.vAt 17 λ x. x, tt))),
+              record { pos = 41; st = List.[]; d = 0; at = λ x. x },
+              (Num.vAt 8 λ x. x, (Num.vAt 17 λ x. x, (Num.vAt 18 λ x. x, tt))),
             ),
           ),
-        ) (m53 (before· .before) (After-to-of2·gave before·))
+        ) (m61 (before· .before) (After-to-of2·gave before·))
 
       pub record After-accepted : Type 0 where
         pub before : After-to-of2
@@ -28802,117 +31843,117 @@ module _ (claims· : Claims) where
 
       abbrev pub After-accepted·gave :
           (c : After-accepted) →
-          s71 .gives (m53 (c .before .before) (After-to-of2·gave (c .before)))
-      After-accepted·gave = λ c. Called.given ps·9 r·9 (claims· .19) T73 (
-        Num.vAt 34 λ x. x,
+          s85 .gives (m61 (c .before .before) (After-to-of2·gave (c .before)))
+      After-accepted·gave = λ c. Called.given ps·9 r·9 (claims· .19) T87 (
+        Num.vAt 37 λ x. x,
         (
-          record { pos = 36; st = List.[]; d = 0; at = λ x. x },
+          record { pos = 39; st = List.[]; d = 0; at = λ x. x },
           (
-            record { pos = 38; st = List.[]; d = 0; at = λ x. x },
-            (Num.vAt 8 λ x. x, (Num.vAt 16 λ x. x, (Num.vAt 17 λ x. x, tt))),
+            record { pos = 41; st = List.[]; d = 0; at = λ x. x },
+            (Num.vAt 8 λ x. x, (Num.vAt 17 λ x. x, (Num.vAt 18 λ x. x, tt))),
           ),
         ),
-      ) (m53 (c .before .before) (After-to-of2·gave (c .before))) (c .accepted)
+      ) (m61 (c .before .before) (After-to-of2·gave (c .before))) (c .accepted)
 
-      abbrev pub m55 :
+      abbrev pub m63 :
           (before : After-to-of2) →
-          (given : s71 .gives (m53 (before .before) (After-to-of2·gave before))) →
-          Typed.Mo T75
-      m55 = λ before given. s72 (m54 before given)
+          (given : s85 .gives (m61 (before .before) (After-to-of2·gave before))) →
+          Typed.Mo T89
+      m63 = λ before given. s86 (m62 before given)
 
-      abbrev pub m56 :
+      abbrev pub m64 :
           (before : After-to-of2) →
-          (given : s71 .gives (m53 (before .before) (After-to-of2·gave before))) →
-          Typed.Mo T76
-      m56 = λ before given. s73 (m55 before given)
+          (given : s85 .gives (m61 (before .before) (After-to-of2·gave before))) →
+          Typed.Mo T90
+      m64 = λ before given. s87 (m63 before given)
 
-      abbrev pub m57 :
+      abbrev pub m65 :
           (before : After-to-of2) →
-          (given : s71 .gives (m53 (before .before) (After-to-of2·gave before))) →
-          Typed.Mo T77
-      m57 = λ before given. s74 (m56 before given)
+          (given : s85 .gives (m61 (before .before) (After-to-of2·gave before))) →
+          Typed.Mo T91
+      m65 = λ before given. s88 (m64 before given)
 
-      abbrev pub m58 :
+      abbrev pub m66 :
           (before : After-to-of2) →
-          (given : s71 .gives (m53 (before .before) (After-to-of2·gave before))) →
-          Typed.Mo T78
-      m58 = λ before given. s75 (m57 before given)
+          (given : s85 .gives (m61 (before .before) (After-to-of2·gave before))) →
+          Typed.Mo T92
+      m66 = λ before given. s89 (m65 before given)
 
-      abbrev pub m59 :
+      abbrev pub m67 :
           (before : After-to-of2) →
-          (given : s71 .gives (m53 (before .before) (After-to-of2·gave before))) →
-          Typed.Mo T79
-      m59 = λ before given. s76 (m58 before given)
+          (given : s85 .gives (m61 (before .before) (After-to-of2·gave before))) →
+          Typed.Mo T93
+      m67 = λ before given. s90 (m66 before given)
 
-      abbrev pub m60 :
+      abbrev pub m68 :
           (before : After-to-of2) →
-          (given : s71 .gives (m53 (before .before) (After-to-of2·gave before))) →
-          Typed.Mo T80
-      m60 = λ before given. s77 (m59 before given)
+          (given : s85 .gives (m61 (before .before) (After-to-of2·gave before))) →
+          Typed.Mo T94
+      m68 = λ before given. s91 (m67 before given)
 
-      abbrev pub m61 :
+      abbrev pub m69 :
           (before : After-to-of2) →
-          (given : s71 .gives (m53 (before .before) (After-to-of2·gave before))) →
-          Typed.Mo T81
-      m61 = λ before given. s78 (m60 before given)
+          (given : s85 .gives (m61 (before .before) (After-to-of2·gave before))) →
+          Typed.Mo T95
+      m69 = λ before given. s92 (m68 before given)
 
-      abbrev pub m62 :
+      abbrev pub m70 :
           (before : After-to-of2) →
-          (given : s71 .gives (m53 (before .before) (After-to-of2·gave before))) →
-          Typed.Mo T82
-      m62 = λ before given. s79 (m61 before given)
+          (given : s85 .gives (m61 (before .before) (After-to-of2·gave before))) →
+          Typed.Mo T96
+      m70 = λ before given. s93 (m69 before given)
 
       abbrev pub Need-same-length : Type 0
       Need-same-length =
-          (c : After-accepted) → MutSlice.SameLen (Row.get 1 (T82 .locals) (m62 (c .before)
+          (c : After-accepted) → MutSlice.SameLen (Row.get 1 (T96 .locals) (m70 (c .before)
           (After-accepted·gave c))) (dens
           (c .before .before .before .before .before .before .before .before .before .before
           .before .before .before .before .before .before .before .before .before .before .before
           .before .before .before .before .before .before .before .before .before .before .before
-          .κs)
+          .before .before .κs)
           (c .before .before .before .before .before .before .before .before .before .before
           .before .before .before .before .before .before .before .before .before .before .before
           .before .before .before .before .before .before .before .before .before .before .before
-          .args) .0)
+          .before .before .args) .0)
 
       abbrev pub Need-same-length-2 : Type 0
       Need-same-length-2 =
-          (c : After-accepted) → MutSlice.SameLen (Row.get 2 (T82 .locals) (m62 (c .before)
+          (c : After-accepted) → MutSlice.SameLen (Row.get 2 (T96 .locals) (m70 (c .before)
           (After-accepted·gave c))) (dens
           (c .before .before .before .before .before .before .before .before .before .before
           .before .before .before .before .before .before .before .before .before .before .before
           .before .before .before .before .before .before .before .before .before .before .before
-          .κs)
+          .before .before .κs)
           (c .before .before .before .before .before .before .before .before .before .before
           .before .before .before .before .before .before .before .before .before .before .before
           .before .before .before .before .before .before .before .before .before .before .before
-          .args) .1 .0)
+          .before .before .args) .1 .0)
 
       abbrev pub Need-same-length-3 : Type 0
       Need-same-length-3 =
-          (c : After-accepted) → MutSlice.SameLen (Row.get 3 (T82 .locals) (m62 (c .before)
+          (c : After-accepted) → MutSlice.SameLen (Row.get 3 (T96 .locals) (m70 (c .before)
           (After-accepted·gave c))) (dens
           (c .before .before .before .before .before .before .before .before .before .before
           .before .before .before .before .before .before .before .before .before .before .before
           .before .before .before .before .before .before .before .before .before .before .before
-          .κs)
+          .before .before .κs)
           (c .before .before .before .before .before .before .before .before .before .before
           .before .before .before .before .before .before .before .before .before .before .before
           .before .before .before .before .before .before .before .before .before .before .before
-          .args) .1 .1 .0)
+          .before .before .args) .1 .1 .0)
 
       abbrev pub Need-same-length-4 : Type 0
       Need-same-length-4 =
-          (c : After-accepted) → MutSlice.SameLen (Row.get 4 (T82 .locals) (m62 (c .before)
+          (c : After-accepted) → MutSlice.SameLen (Row.get 4 (T96 .locals) (m70 (c .before)
           (After-accepted·gave c))) (dens
           (c .before .before .before .before .before .before .before .before .before .before
           .before .before .before .before .before .before .before .before .before .before .before
           .before .before .before .before .before .before .before .before .before .before .before
-          .κs)
+          .before .before .κs)
           (c .before .before .before .before .before .before .before .before .before .before
           .before .before .before .before .before .before .before .before .before .before .before
           .before .before .before .before .before .before .before .before .before .before .before
-          .args) .1 .1 .1 .0)
+          .before .before .args) .1 .1 .1 .0)
 
       abbrev pub Need-returns : Type 0
       Need-returns =
@@ -28920,60 +31961,61 @@ module _ (claims· : Claims) where
           (c .before .before .before .before .before .before .before .before .before .before
           .before .before .before .before .before .before .before .before .before .before .before
           .before .before .before .before .before .before .before .before .before .before .before
-          .κs) (dens
+          .before .before .κs) (dens
           (c .before .before .before .before .before .before .before .before .before .before
           .before .before .before .before .before .before .before .before .before .before .before
           .before .before .before .before .before .before .before .before .before .before .before
-          .κs)
+          .before .before .κs)
           (c .before .before .before .before .before .before .before .before .before .before
           .before .before .before .before .before .before .before .before .before .before .before
           .before .before .before .before .before .before .before .before .before .before .before
-          .args)) (Function.resV r
+          .before .before .args)) (Function.resV r
           (c .before .before .before .before .before .before .before .before .before .before
           .before .before .before .before .before .before .before .before .before .before .before
           .before .before .before .before .before .before .before .before .before .before .before
-          .κs) (m62 (c .before) (After-accepted·gave c) .0)) (Clauses.atExit (Kinds.endedOf 8 ps r)
+          .before .before .κs) (m70 (c .before) (After-accepted·gave c) .0)) (Clauses.atExit
+          (Kinds.endedOf 8 ps r)
           (c .before .before .before .before .before .before .before .before .before .before
           .before .before .before .before .before .before .before .before .before .before .before
           .before .before .before .before .before .before .before .before .before .before .before
-          .κs) (dens
+          .before .before .κs) (dens
           (c .before .before .before .before .before .before .before .before .before .before
           .before .before .before .before .before .before .before .before .before .before .before
           .before .before .before .before .before .before .before .before .before .before .before
-          .κs)
+          .before .before .κs)
           (c .before .before .before .before .before .before .before .before .before .before
           .before .before .before .before .before .before .before .before .before .before .before
           .before .before .before .before .before .before .before .before .before .before .before
-          .args)) (Enter.lastsP
+          .before .before .args)) (Enter.lastsP
           (c .before .before .before .before .before .before .before .before .before .before
           .before .before .before .before .before .before .before .before .before .before .before
           .before .before .before .before .before .before .before .before .before .before .before
-          .κs) 1 ps xs (dens
+          .before .before .κs) 1 ps xs (dens
           (c .before .before .before .before .before .before .before .before .before .before
           .before .before .before .before .before .before .before .before .before .before .before
           .before .before .before .before .before .before .before .before .before .before .before
-          .κs)
+          .before .before .κs)
           (c .before .before .before .before .before .before .before .before .before .before
           .before .before .before .before .before .before .before .before .before .before .before
           .before .before .before .before .before .before .before .before .before .before .before
-          .args)) (m62 (c .before) (After-accepted·gave c) .1)))
+          .before .before .args)) (m70 (c .before) (After-accepted·gave c) .1)))
 
-      abbrev pub m63 : (before : After-has-room) → Typed.Mo T83
-      m63 = λ before. s80 (m22 (before .before) (After-has-room·gave before))
+      abbrev pub m71 : (before : After-has-room) → Typed.Mo T97
+      m71 = λ before. s94 (m24 (before .before) (After-has-room·gave before))
 
-      abbrev pub m64 : (before : After-has-room) → Typed.Mo T84
-      m64 = λ before. s81 (m63 before)
+      abbrev pub m72 : (before : After-has-room) → Typed.Mo T98
+      m72 = λ before. s95 (m71 before)
 
-      abbrev pub m65 : (before : After-has-room) → Typed.Mo T85
-      m65 = λ before. s82 (m64 before)
+      abbrev pub m73 : (before : After-has-room) → Typed.Mo T99
+      m73 = λ before. s96 (m72 before)
 
-      abbrev pub m66 : (before : After-has-room) → Typed.Mo T86
-      m66 = λ before. s83 (m65 before)
+      abbrev pub m74 : (before : After-has-room) → Typed.Mo T100
+      m74 = λ before. s97 (m73 before)
 
       module _ (before· : After-has-room) where
         pub record Else1·own : Type 0 where
           pub left : Path'._≡_
-              (Row.get 24 (T29 .locals) (m22 (before· .before) (After-has-room·gave before·)))
+              (Row.get 25 (T31 .locals) (m24 (before· .before) (After-has-room·gave before·)))
               Bool'.false
 
       pub record Else1 : Type 0 where
@@ -28981,45 +32023,45 @@ module _ (claims· : Claims) where
         pub if1 : Else1·own before
 
       abbrev pub Need-without-room-requires : Type 0
-      Need-without-room-requires = (c : Else1) → s84 .asks (m66 (c .before))
+      Need-without-room-requires = (c : Else1) → s98 .asks (m74 (c .before))
 
-      abbrev pub m67 :
-          (before : Else1) → (given : s84 .gives (m66 (before .before))) → Typed.Mo T87
-      m67 = λ before given. s84 .next (m66 (before .before)) given
+      abbrev pub m75 :
+          (before : Else1) → (given : s98 .gives (m74 (before .before))) → Typed.Mo T101
+      m75 = λ before given. s98 .next (m74 (before .before)) given
 
       module _ (before· : Else1) where
         abbrev pub After-without-room·own : Type 0
-        After-without-room·own = Called.Called ps·10 r·10 (claims· .21) T30 (
+        After-without-room·own = Called.Called ps·10 r·10 (claims· .21) T32 (
           Num.vAt 6 λ x. x,
           (Num.vAt 7 λ x. x, tt),
-        ) (m66 (before· .before))
+        ) (m74 (before· .before))
 
       pub record After-without-room : Type 0 where
         pub before : Else1
         pub without-room : After-without-room·own before
 
       abbrev pub After-without-room·gave :
-          (c : After-without-room) → s84 .gives (m66 (c .before .before))
-      After-without-room·gave = λ c. Called.given ps·10 r·10 (claims· .21) T30 (
+          (c : After-without-room) → s98 .gives (m74 (c .before .before))
+      After-without-room·gave = λ c. Called.given ps·10 r·10 (claims· .21) T32 (
         Num.vAt 6 λ x. x,
         (Num.vAt 7 λ x. x, tt),
-      ) (m66 (c .before .before)) (c .without-room)
+      ) (m74 (c .before .before)) (c .without-room)
 
-      abbrev pub m68 :
-          (before : Else1) → (given : s84 .gives (m66 (before .before))) → Typed.Mo T88
-      m68 = λ before given. s85 (m67 before given)
+      abbrev pub m76 :
+          (before : Else1) → (given : s98 .gives (m74 (before .before))) → Typed.Mo T102
+      m76 = λ before given. s99 (m75 before given)
 
-      abbrev pub m69 :
-          (before : Else1) → (given : s84 .gives (m66 (before .before))) → Typed.Mo T89
-      m69 = λ before given. s86 (m68 before given)
+      abbrev pub m77 :
+          (before : Else1) → (given : s98 .gives (m74 (before .before))) → Typed.Mo T103
+      m77 = λ before given. s100 (m76 before given)
 
-      abbrev pub m70 :
-          (before : Else1) → (given : s84 .gives (m66 (before .before))) → Typed.Mo T90
-      m70 = λ before given. s87 (m69 before given)
+      abbrev pub m78 :
+          (before : Else1) → (given : s98 .gives (m74 (before .before))) → Typed.Mo T104
+      m78 = λ before given. s101 (m77 before given)
 
       abbrev pub Need-same-length-5 : Type 0
       Need-same-length-5 =
-          (c : After-without-room) → MutSlice.SameLen (Row.get 1 (T90 .locals) (m70 (c .before)
+          (c : After-without-room) → MutSlice.SameLen (Row.get 1 (T104 .locals) (m78 (c .before)
           (After-without-room·gave c))) (dens
           (c .before .before .before .before .before .before .before .before .before .before
           .before .before .before .κs)
@@ -29028,7 +32070,7 @@ module _ (claims· : Claims) where
 
       abbrev pub Need-same-length-6 : Type 0
       Need-same-length-6 =
-          (c : After-without-room) → MutSlice.SameLen (Row.get 2 (T90 .locals) (m70 (c .before)
+          (c : After-without-room) → MutSlice.SameLen (Row.get 2 (T104 .locals) (m78 (c .before)
           (After-without-room·gave c))) (dens
           (c .before .before .before .before .before .before .before .before .before .before
           .before .before .before .κs)
@@ -29045,7 +32087,7 @@ module _ (claims· : Claims) where
           (c .before .before .before .before .before .before .before .before .before .before
           .before .before .before .args)) (Function.resV r
           (c .before .before .before .before .before .before .before .before .before .before
-          .before .before .before .κs) (m70 (c .before) (After-without-room·gave c) .0))
+          .before .before .before .κs) (m78 (c .before) (After-without-room·gave c) .0))
           (Clauses.atExit (Kinds.endedOf 8 ps r)
           (c .before .before .before .before .before .before .before .before .before .before
           .before .before .before .κs) (dens
@@ -29058,7 +32100,7 @@ module _ (claims· : Claims) where
           (c .before .before .before .before .before .before .before .before .before .before
           .before .before .before .κs)
           (c .before .before .before .before .before .before .before .before .before .before
-          .before .before .before .args)) (m70 (c .before) (After-without-room·gave c) .1)))
+          .before .before .before .args)) (m78 (c .before) (After-without-room·gave c) .1)))
 
       module _ (is-replying-requires : Need-is-replying-requires)
           (place-rows-requires : Need-place-rows-requires)
@@ -29074,16 +32116,16 @@ module _ (claims· : Claims) where
           (without-room-requires : Need-without-room-requires) (same-length-5 : Need-same-length-5)
           (same-length-6 : Need-same-length-6) (returns-2 : Need-returns-2) where
         lay14 :
-            (c : After-without-room) → at62 (W0
+            (c : After-without-room) → at74 (W0
             (c .before .before .before .before .before .before .before .before .before .before
             .before .before .before .κs)
             (c .before .before .before .before .before .before .before .before .before .before
-            .before .before .before .args)) (m67 (c .before) (After-without-room·gave c))
+            .before .before .before .args)) (m75 (c .before) (After-without-room·gave c))
         lay14 = λ c. (
           (
-            MutSlice.fix-len (Row.get 1 (T90 .locals) (m70 (c .before) (After-without-room·gave
-                c)) .ptr) (Row.get 1 (T90 .locals) (m70 (c .before) (After-without-room·gave
-                c)) .name) (Row.get 1 (T90 .locals) (m70 (c .before) (After-without-room·gave
+            MutSlice.fix-len (Row.get 1 (T104 .locals) (m78 (c .before) (After-without-room·gave
+                c)) .ptr) (Row.get 1 (T104 .locals) (m78 (c .before) (After-without-room·gave
+                c)) .name) (Row.get 1 (T104 .locals) (m78 (c .before) (After-without-room·gave
                 c)) .now) (dens
                 (c .before .before .before .before .before .before .before .before .before .before
                 .before .before .before .κs)
@@ -29091,9 +32133,9 @@ module _ (claims· : Claims) where
                 .before .before .before .args) .0 .now) (same-length-5
                 record { before = c .before; without-room = c .without-room }),
             (
-              MutSlice.fix-len (Row.get 2 (T90 .locals) (m70 (c .before) (After-without-room·gave
-                  c)) .ptr) (Row.get 2 (T90 .locals) (m70 (c .before) (After-without-room·gave
-                  c)) .name) (Row.get 2 (T90 .locals) (m70 (c .before) (After-without-room·gave
+              MutSlice.fix-len (Row.get 2 (T104 .locals) (m78 (c .before) (After-without-room·gave
+                  c)) .ptr) (Row.get 2 (T104 .locals) (m78 (c .before) (After-without-room·gave
+                  c)) .name) (Row.get 2 (T104 .locals) (m78 (c .before) (After-without-room·gave
                   c)) .now) (dens
                   (c .before .before .before .before .before .before .before .before .before
                   .before .before .before .before .κs)
@@ -29125,19 +32167,19 @@ module _ (claims· : Claims) where
         )
 
         lay13 :
-            (c : Else1) → at63 (W0
+            (c : Else1) → at75 (W0
             (c .before .before .before .before .before .before .before .before .before .before
             .before .before .κs)
             (c .before .before .before .before .before .before .before .before .before .before
-            .before .before .args)) (m66 (c .before))
+            .before .before .args)) (m74 (c .before))
         lay13 = λ c. (
           without-room-requires record { before = c .before; if1 = c .if1 },
           λ g. lay14 record {
             before = record { before = c .before; if1 = c .if1 };
-            without-room = Called.called ps·10 r·10 (claims· .21) T30 (
+            without-room = Called.called ps·10 r·10 (claims· .21) T32 (
               Num.vAt 6 λ x. x,
               (Num.vAt 7 λ x. x, tt),
-            ) (m66 (c .before)) g;
+            ) (m74 (c .before)) g;
           },
         )
 
@@ -29145,66 +32187,66 @@ module _ (claims· : Claims) where
             (c : After-accepted) → at8 (W1
             (c .before .before .before .before .before .before .before .before .before .before
             .before .before .before .before .before .before .before .before .before .before .before
-            .before) (After-has-room·gave
+            .before .before .before) (After-has-room·gave
             (c .before .before .before .before .before .before .before .before .before .before
-            .before .before .before .before .before .before .before .before .before .before .before)
-            )) (m54 (c .before) (After-accepted·gave c))
+            .before .before .before .before .before .before .before .before .before .before .before
+            .before .before))) (m62 (c .before) (After-accepted·gave c))
         lay12 = λ c. (
           (
-            MutSlice.fix-len (Row.get 1 (T82 .locals) (m62 (c .before) (After-accepted·gave
-                c)) .ptr) (Row.get 1 (T82 .locals) (m62 (c .before) (After-accepted·gave c)) .name)
-                (Row.get 1 (T82 .locals) (m62 (c .before) (After-accepted·gave c)) .now) (dens
+            MutSlice.fix-len (Row.get 1 (T96 .locals) (m70 (c .before) (After-accepted·gave
+                c)) .ptr) (Row.get 1 (T96 .locals) (m70 (c .before) (After-accepted·gave c)) .name)
+                (Row.get 1 (T96 .locals) (m70 (c .before) (After-accepted·gave c)) .now) (dens
                 (c .before .before .before .before .before .before .before .before .before .before
                 .before .before .before .before .before .before .before .before .before .before
                 .before .before .before .before .before .before .before .before .before .before
-                .before .before .κs)
+                .before .before .before .before .κs)
                 (c .before .before .before .before .before .before .before .before .before .before
                 .before .before .before .before .before .before .before .before .before .before
                 .before .before .before .before .before .before .before .before .before .before
-                .before .before .args) .0 .now) (same-length
+                .before .before .before .before .args) .0 .now) (same-length
                 record { before = c .before; accepted = c .accepted }),
             (
-              MutSlice.fix-len (Row.get 2 (T82 .locals) (m62 (c .before) (After-accepted·gave
-                  c)) .ptr) (Row.get 2 (T82 .locals) (m62 (c .before) (After-accepted·gave
-                  c)) .name) (Row.get 2 (T82 .locals) (m62 (c .before) (After-accepted·gave
+              MutSlice.fix-len (Row.get 2 (T96 .locals) (m70 (c .before) (After-accepted·gave
+                  c)) .ptr) (Row.get 2 (T96 .locals) (m70 (c .before) (After-accepted·gave
+                  c)) .name) (Row.get 2 (T96 .locals) (m70 (c .before) (After-accepted·gave
                   c)) .now) (dens
                   (c .before .before .before .before .before .before .before .before .before
                   .before .before .before .before .before .before .before .before .before .before
                   .before .before .before .before .before .before .before .before .before .before
-                  .before .before .before .κs)
+                  .before .before .before .before .before .κs)
                   (c .before .before .before .before .before .before .before .before .before
                   .before .before .before .before .before .before .before .before .before .before
                   .before .before .before .before .before .before .before .before .before .before
-                  .before .before .before .args) .1 .0 .now) (same-length-2
+                  .before .before .before .before .before .args) .1 .0 .now) (same-length-2
                   record { before = c .before; accepted = c .accepted }),
               (
-                MutSlice.fix-len (Row.get 3 (T82 .locals) (m62 (c .before) (After-accepted·gave
-                    c)) .ptr) (Row.get 3 (T82 .locals) (m62 (c .before) (After-accepted·gave
-                    c)) .name) (Row.get 3 (T82 .locals) (m62 (c .before) (After-accepted·gave
+                MutSlice.fix-len (Row.get 3 (T96 .locals) (m70 (c .before) (After-accepted·gave
+                    c)) .ptr) (Row.get 3 (T96 .locals) (m70 (c .before) (After-accepted·gave
+                    c)) .name) (Row.get 3 (T96 .locals) (m70 (c .before) (After-accepted·gave
                     c)) .now) (dens
                     (c .before .before .before .before .before .before .before .before .before
                     .before .before .before .before .before .before .before .before .before .before
                     .before .before .before .before .before .before .before .before .before .before
-                    .before .before .before .κs)
+                    .before .before .before .before .before .κs)
                     (c .before .before .before .before .before .before .before .before .before
                     .before .before .before .before .before .before .before .before .before .before
                     .before .before .before .before .before .before .before .before .before .before
-                    .before .before .before .args) .1 .1 .0 .now) (same-length-3
+                    .before .before .before .before .before .args) .1 .1 .0 .now) (same-length-3
                     record { before = c .before; accepted = c .accepted }),
                 (
-                  MutSlice.fix-len (Row.get 4 (T82 .locals) (m62 (c .before) (After-accepted·gave
-                      c)) .ptr) (Row.get 4 (T82 .locals) (m62 (c .before) (After-accepted·gave
-                      c)) .name) (Row.get 4 (T82 .locals) (m62 (c .before) (After-accepted·gave
+                  MutSlice.fix-len (Row.get 4 (T96 .locals) (m70 (c .before) (After-accepted·gave
+                      c)) .ptr) (Row.get 4 (T96 .locals) (m70 (c .before) (After-accepted·gave
+                      c)) .name) (Row.get 4 (T96 .locals) (m70 (c .before) (After-accepted·gave
                       c)) .now) (dens
                       (c .before .before .before .before .before .before .before .before .before
                       .before .before .before .before .before .before .before .before .before
                       .before .before .before .before .before .before .before .before .before
-                      .before .before .before .before .before .κs)
+                      .before .before .before .before .before .before .before .κs)
                       (c .before .before .before .before .before .before .before .before .before
                       .before .before .before .before .before .before .before .before .before
                       .before .before .before .before .before .before .before .before .before
-                      .before .before .before .before .before .args) .1 .1 .1 .0 .now)
-                      (same-length-4 record { before = c .before; accepted = c .accepted }),
+                      .before .before .before .before .before .before .before .args) .1 .1 .1 .0
+                      .now) (same-length-4 record { before = c .before; accepted = c .accepted }),
                   (
                     tt,
                     (
@@ -29228,36 +32270,36 @@ module _ (claims· : Claims) where
         lay11 :
             (c : After-to-of2) → at10 (W1
             (c .before .before .before .before .before .before .before .before .before .before
-            .before .before .before .before .before .before .before .before .before .before
-            .before) (After-has-room·gave
+            .before .before .before .before .before .before .before .before .before .before .before
+            .before .before) (After-has-room·gave
             (c .before .before .before .before .before .before .before .before .before .before
-            .before .before .before .before .before .before .before .before .before .before))) (m52
-            (c .before) (After-to-of2·gave c))
+            .before .before .before .before .before .before .before .before .before .before .before
+            .before))) (m60 (c .before) (After-to-of2·gave c))
         lay11 = λ c. (
           accepted-requires record { before = c .before; to-of2 = c .to-of2 },
           λ g. lay12 record {
             before = record { before = c .before; to-of2 = c .to-of2 };
-            accepted = Called.called ps·9 r·9 (claims· .19) T73 (
-              Num.vAt 34 λ x. x,
+            accepted = Called.called ps·9 r·9 (claims· .19) T87 (
+              Num.vAt 37 λ x. x,
               (
-                record { pos = 36; st = List.[]; d = 0; at = λ x. x },
+                record { pos = 39; st = List.[]; d = 0; at = λ x. x },
                 (
-                  record { pos = 38; st = List.[]; d = 0; at = λ x. x },
-                  (Num.vAt 8 λ x. x, (Num.vAt 16 λ x. x, (Num.vAt 17 λ x. x, tt))),
+                  record { pos = 41; st = List.[]; d = 0; at = λ x. x },
+                  (Num.vAt 8 λ x. x, (Num.vAt 17 λ x. x, (Num.vAt 18 λ x. x, tt))),
                 ),
               ),
-            ) (m53 (c .before) (After-to-of2·gave c)) g;
+            ) (m61 (c .before) (After-to-of2·gave c)) g;
           },
         )
 
         lay10 :
             (c : After-to-of) → at13 (W1
             (c .before .before .before .before .before .before .before .before .before .before
-            .before .before .before .before .before .before .before .before .before)
-            (After-has-room·gave
+            .before .before .before .before .before .before .before .before .before .before
+            .before) (After-has-room·gave
             (c .before .before .before .before .before .before .before .before .before .before
-            .before .before .before .before .before .before .before .before))) (m49 (c .before)
-            (After-to-of·gave c))
+            .before .before .before .before .before .before .before .before .before .before))) (m57
+            (c .before) (After-to-of·gave c))
         lay10 = λ c. λ g. (
           to-of-requires-2 record {
             before = record { before = c .before; to-of = c .to-of };
@@ -29268,20 +32310,21 @@ module _ (claims· : Claims) where
               before = record { before = c .before; to-of = c .to-of };
               to-of-arg2 = record { given = g };
             };
-            to-of2 = Called.called ps·8 r·8 (claims· .17) T71 (
-              record { pos = 39; st = List.[]; d = 0; at = λ x. x },
+            to-of2 = Called.called ps·8 r·8 (claims· .17) T85 (
+              record { pos = 42; st = List.[]; d = 0; at = λ x. x },
               tt,
-            ) (m51 record { before = c .before; to-of = c .to-of } g) g';
+            ) (m59 record { before = c .before; to-of = c .to-of } g) g';
           },
         )
 
         lay9 :
             (c : After-own-of) → at16 (W1
             (c .before .before .before .before .before .before .before .before .before .before
-            .before .before .before .before .before .before .before) (After-has-room·gave
+            .before .before .before .before .before .before .before .before .before)
+            (After-has-room·gave
             (c .before .before .before .before .before .before .before .before .before .before
-            .before .before .before .before .before .before))) (m46 (c .before) (After-own-of·gave
-            c))
+            .before .before .before .before .before .before .before .before))) (m54 (c .before)
+            (After-own-of·gave c))
         lay9 = λ c. λ g. (
           to-of-requires record {
             before = record { before = c .before; own-of = c .own-of };
@@ -29292,19 +32335,19 @@ module _ (claims· : Claims) where
               before = record { before = c .before; own-of = c .own-of };
               to-of-arg = record { given = g };
             };
-            to-of = Called.called ps·8 r·8 (claims· .17) T68 (
-              record { pos = 37; st = List.[]; d = 0; at = λ x. x },
+            to-of = Called.called ps·8 r·8 (claims· .17) T82 (
+              record { pos = 40; st = List.[]; d = 0; at = λ x. x },
               tt,
-            ) (m48 record { before = c .before; own-of = c .own-of } g) g';
+            ) (m56 record { before = c .before; own-of = c .own-of } g) g';
           },
         )
 
         lay8 :
-            (c : After-put-post2) → at23 (W1
+            (c : After-put-post2) → at27 (W1
             (c .before .before .before .before .before .before .before .before .before .before
-            .before .before .before) (After-has-room·gave
+            .before .before .before .before .before) (After-has-room·gave
             (c .before .before .before .before .before .before .before .before .before .before
-            .before .before))) (m41 (c .before) (After-put-post2·gave c))
+            .before .before .before .before))) (m47 (c .before) (After-put-post2·gave c))
         lay8 = λ c. (
           Path'.refl,
           λ g. λ g'. λ g''. (
@@ -29329,10 +32372,10 @@ module _ (claims· : Claims) where
                 };
                 own-of-arg = record { given = g'' };
               };
-              own-of = Called.called ps·7 r·7 (claims· .15) T65 (
-                record { pos = 35; st = List.[]; d = 0; at = λ x. x },
+              own-of = Called.called ps·7 r·7 (claims· .15) T79 (
+                record { pos = 38; st = List.[]; d = 0; at = λ x. x },
                 tt,
-              ) (m45 record {
+              ) (m53 record {
                 before = record {
                   before = record { before = c .before; put-post2 = c .put-post2 };
                   reply = record { given = g };
@@ -29345,28 +32388,18 @@ module _ (claims· : Claims) where
 
         lay7 :
             (c : After-put-post) →
-            at31
+            at41
             (W1
-            (c .before .before .before .before .before .before .before .before .before)
+            (c .before .before .before .before .before .before .before .before .before .before)
             (After-has-room·gave
-            (c .before .before .before .before .before .before .before .before)))
-            (m36 (c .before) (After-put-post·gave c))
+            (c .before .before .before .before .before .before .before .before .before)))
+            (m39 (c .before) (After-put-post·gave c))
         lay7 = λ c. (
           Path'.refl,
           λ g. λ g'. λ g''. (
             Path'.refl,
-            (
+            λ g'3. (
               put-post-requires-2 record {
-                before = record {
-                  before = record {
-                    before = record { before = c .before; put-post = c .put-post };
-                    forward = record { given = g };
-                  };
-                  slice-known3 = record { given = g' };
-                };
-                put-post-arg2 = record { given = g'' };
-              },
-              λ g'3. lay8 record {
                 before = record {
                   before = record {
                     before = record {
@@ -29377,14 +32410,37 @@ module _ (claims· : Claims) where
                   };
                   put-post-arg2 = record { given = g'' };
                 };
-                put-post2 = Called.called ps·6 r·6 (claims· .13) T58 (
+                o2 = record { given = g'3 };
+              },
+              λ g'4. lay8 record {
+                before = record {
+                  before = record {
+                    before = record {
+                      before = record {
+                        before = record { before = c .before; put-post = c .put-post };
+                        forward = record { given = g };
+                      };
+                      slice-known3 = record { given = g' };
+                    };
+                    put-post-arg2 = record { given = g'' };
+                  };
+                  o2 = record { given = g'3 };
+                };
+                put-post2 = Called.called ps·6 r·6 (claims· .13) T68 (
                   record {
-                    pos = 33;
+                    pos = 35;
                     ty = Syntax.tyRef Syntax.erased Syntax.mut (Syntax.tyInt Syntax.w8);
                     ref = λ x. x;
                   },
                   (
-                    record { pos = 5; st = List.[]; d = 0; at = λ x. x },
+                    record {
+                      pos = 36;
+                      ty = Syntax.tyRef
+                          Syntax.erased
+                          Syntax.imm
+                          (KOwn.named);
+                      ref = λ x. x;
+                    },
                     (
                       record {
                         pos = 12;
@@ -29407,13 +32463,16 @@ module _ (claims· : Claims) where
                       ),
                     ),
                   ),
-                ) (m40 record {
+                ) (m46 record {
                   before = record {
-                    before = record { before = c .before; put-post = c .put-post };
-                    forward = record { given = g };
+                    before = record {
+                      before = record { before = c .before; put-post = c .put-post };
+                      forward = record { given = g };
+                    };
+                    slice-known3 = record { given = g' };
                   };
-                  slice-known3 = record { given = g' };
-                } g'') g'3;
+                  put-post-arg2 = record { given = g'' };
+                } g'3) g'4;
               },
             ),
           ),
@@ -29421,29 +32480,19 @@ module _ (claims· : Claims) where
 
         lay6 :
             (c : After-store) →
-            at44
+            at56
             (W1
             (c .before .before .before .before .before)
             (After-has-room·gave (c .before .before .before .before)))
-            (m28 (c .before) (After-store·gave c))
+            (m30 (c .before) (After-store·gave c))
         lay6 = λ c. (
           Path'.refl,
           λ g. (
             Path'.refl,
             λ g'. λ g''. (
               Path'.refl,
-              (
+              λ g'3. (
                 put-post-requires record {
-                  before = record {
-                    before = record {
-                      before = record { before = c .before; store = c .store };
-                      instances = record { given = g };
-                    };
-                    routes = record { given = g' };
-                  };
-                  put-post-arg = record { given = g'' };
-                },
-                λ g'3. lay7 record {
                   before = record {
                     before = record {
                       before = record {
@@ -29454,14 +32503,37 @@ module _ (claims· : Claims) where
                     };
                     put-post-arg = record { given = g'' };
                   };
-                  put-post = Called.called ps·6 r·6 (claims· .13) T50 (
+                  o = record { given = g'3 };
+                },
+                λ g'4. lay7 record {
+                  before = record {
+                    before = record {
+                      before = record {
+                        before = record {
+                          before = record { before = c .before; store = c .store };
+                          instances = record { given = g };
+                        };
+                        routes = record { given = g' };
+                      };
+                      put-post-arg = record { given = g'' };
+                    };
+                    o = record { given = g'3 };
+                  };
+                  put-post = Called.called ps·6 r·6 (claims· .13) T54 (
                     record {
-                      pos = 31;
+                      pos = 32;
                       ty = Syntax.tyRef Syntax.erased Syntax.mut (Syntax.tyInt Syntax.w8);
                       ref = λ x. x;
                     },
                     (
-                      record { pos = 5; st = List.[]; d = 0; at = λ x. x },
+                      record {
+                        pos = 33;
+                        ty = Syntax.tyRef
+                            Syntax.erased
+                            Syntax.imm
+                            (KOwn.named);
+                        ref = λ x. x;
+                      },
                       (
                         record {
                           pos = 11;
@@ -29484,13 +32556,16 @@ module _ (claims· : Claims) where
                         ),
                       ),
                     ),
-                  ) (m35 record {
+                  ) (m38 record {
                     before = record {
-                      before = record { before = c .before; store = c .store };
-                      instances = record { given = g };
+                      before = record {
+                        before = record { before = c .before; store = c .store };
+                        instances = record { given = g };
+                      };
+                      routes = record { given = g' };
                     };
-                    routes = record { given = g' };
-                  } g'') g'3;
+                    put-post-arg = record { given = g'' };
+                  } g'3) g'4;
                 },
               ),
             ),
@@ -29498,11 +32573,11 @@ module _ (claims· : Claims) where
         )
 
         lay5 :
-            (c : After-has-room) → at64 (W0
+            (c : After-has-room) → at76 (W0
             (c .before .before .before .before .before .before .before .before .before .before
             .before .κs)
             (c .before .before .before .before .before .before .before .before .before .before
-            .before .args)) (m22 (c .before) (After-has-room·gave c))
+            .before .args)) (m24 (c .before) (After-has-room·gave c))
         lay5 = λ c. (
           λ taken. λ g. (
             Path'.refl,
@@ -29530,9 +32605,9 @@ module _ (claims· : Claims) where
                     };
                     store-arg2 = record { given = g' };
                   };
-                  store = Called.called ps·5 r·5 (claims· .11) T37 (
+                  store = Called.called ps·5 r·5 (claims· .11) T39 (
                     record {
-                      pos = 27;
+                      pos = 28;
                       ty = Syntax.tyRef
                           Syntax.erased
                           Syntax.mut
@@ -29541,7 +32616,7 @@ module _ (claims· : Claims) where
                     },
                     (
                       record {
-                        pos = 29;
+                        pos = 30;
                         ty = Syntax.tyRef
                             Syntax.erased
                             Syntax.mut
@@ -29549,10 +32624,10 @@ module _ (claims· : Claims) where
                         ref = λ x. x;
                       },
                       (
-                        record { pos = 14; st = List.[]; d = 0; at = λ x. x },
+                        record { pos = 15; st = List.[]; d = 0; at = λ x. x },
                         (
                           Num.vFld
-                              15
+                              16
                               (List._∷_ (Syntax.field 1) List.[])
                               8
                               λ x. RoutePlace.struct .as-values
@@ -29571,7 +32646,7 @@ module _ (claims· : Claims) where
                         ),
                       ),
                     ),
-                  ) (m27 record {
+                  ) (m29 record {
                     before = record {
                       before = record { before = c .before; has-room = c .has-room };
                       if1 = record { taken = taken };
@@ -29589,35 +32664,35 @@ module _ (claims· : Claims) where
         )
 
         lay4 :
-            (c : After-place-route) → at71 (W0
+            (c : After-place-route) → at83 (W0
             (c .before .before .before .before .before .before .before .before .before .before .κs)
             (c .before .before .before .before .before .before .before .before .before .before
-            .args)) (m17 (c .before) (After-place-route·gave c))
+            .args)) (m19 (c .before) (After-place-route·gave c))
         lay4 = λ c. (
           has-room-requires record { before = c .before; place-route = c .place-route },
           λ g. lay5 record {
             before = record { before = c .before; place-route = c .place-route };
-            has-room = Called.called ps·4 r·4 (claims· .9) T27 (
-              record { pos = 14; st = List.[]; d = 0; at = λ x. x },
-              (record { pos = 15; st = List.[]; d = 0; at = λ x. x }, tt),
-            ) (m21 (c .before) (After-place-route·gave c)) g;
+            has-room = Called.called ps·4 r·4 (claims· .9) T29 (
+              record { pos = 15; st = List.[]; d = 0; at = λ x. x },
+              (record { pos = 16; st = List.[]; d = 0; at = λ x. x }, tt),
+            ) (m23 (c .before) (After-place-route·gave c)) g;
           },
         )
 
         lay3 :
             (c : After-is-routed) →
-            at73
+            at85
             (W0
             (c .before .before .before .before .before .before .before .before .before .κs)
             (c .before .before .before .before .before .before .before .before .before .args))
-            (m15 (c .before) (After-is-routed·gave c))
+            (m17 (c .before) (After-is-routed·gave c))
         lay3 = λ c. (
           place-route-requires record { before = c .before; is-routed = c .is-routed },
           λ g. lay4 record {
             before = record { before = c .before; is-routed = c .is-routed };
-            place-route = Called.called ps·3 r·3 (claims· .7) T21 (
+            place-route = Called.called ps·3 r·3 (claims· .7) T23 (
               record {
-                pos = 23;
+                pos = 24;
                 ty = Syntax.tyRef
                     Syntax.erased
                     Syntax.imm
@@ -29627,7 +32702,7 @@ module _ (claims· : Claims) where
               (
                 Num.vAt 8 λ x. x,
                 (
-                  Bool.bAt 20 λ x. x,
+                  Bool.bAt 21 λ x. x,
                   (
                     Bool.bFld
                         13
@@ -29647,17 +32722,17 @@ module _ (claims· : Claims) where
                   ),
                 ),
               ),
-            ) (m16 (c .before) (After-is-routed·gave c)) g;
+            ) (m18 (c .before) (After-is-routed·gave c)) g;
           },
         )
 
         lay2 :
             (c : After-place-rows) →
-            at83
+            at95
             (W0
             (c .before .before .before .before .before .before .κs)
             (c .before .before .before .before .before .before .args))
-            (m8 (c .before) (After-place-rows·gave c))
+            (m10 (c .before) (After-place-rows·gave c))
         lay2 = λ c. λ g. (
           Path'.refl,
           λ g'. (
@@ -29676,10 +32751,10 @@ module _ (claims· : Claims) where
                 };
                 is-routed-arg = record { given = g' };
               };
-              is-routed = Called.called ps·2 r·2 (claims· .5) T19 (
-                record { pos = 21; st = List.[]; d = 0; at = λ x. x },
+              is-routed = Called.called ps·2 r·2 (claims· .5) T21 (
+                record { pos = 22; st = List.[]; d = 0; at = λ x. x },
                 tt,
-              ) (m14 record {
+              ) (m16 record {
                 before = record { before = c .before; place-rows = c .place-rows };
                 place-route-arg = record { given = g };
               } g') g'';
@@ -29689,18 +32764,18 @@ module _ (claims· : Claims) where
 
         lay1 :
             (c : After-is-replying) →
-            at85
+            at97
             (W0
             (c .before .before .before .before .before .κs)
             (c .before .before .before .before .before .args))
-            (m6 (c .before) (After-is-replying·gave c))
+            (m8 (c .before) (After-is-replying·gave c))
         lay1 = λ c. (
           place-rows-requires record { before = c .before; is-replying = c .is-replying },
           λ g. lay2 record {
             before = record { before = c .before; is-replying = c .is-replying };
-            place-rows = Called.called ps·1 r·1 (claims· .3) T9 (
+            place-rows = Called.called ps·1 r·1 (claims· .3) T11 (
               record {
-                pos = 19;
+                pos = 20;
                 ty = Syntax.tyRef
                     Syntax.erased
                     Syntax.imm
@@ -29723,15 +32798,15 @@ module _ (claims· : Claims) where
                         8
                         λ x. Live.struct .as-values
                         x .1 .0,
-                    (Bool.bAt 20 λ x. x, tt),
+                    (Bool.bAt 21 λ x. x, tt),
                   ),
                 ),
               ),
-            ) (m7 (c .before) (After-is-replying·gave c)) g;
+            ) (m9 (c .before) (After-is-replying·gave c)) g;
           },
         )
 
-        pub laid : (c : Start) → at92 (W0 (c .κs) (c .args)) (m0 (c .κs) (c .args))
+        pub laid : (c : Start) → at106 (W0 (c .κs) (c .args)) (m0 (c .κs) (c .args))
         laid = λ c. λ g. λ g'. λ g''. (
           Path'.refl,
           λ g'3. (
@@ -29756,10 +32831,10 @@ module _ (claims· : Claims) where
                 };
                 is-replying-arg = record { given = g'3 };
               };
-              is-replying = Called.called ps·0 r·0 (claims· .1) T7 (
-                record { pos = 21; st = List.[]; d = 0; at = λ x. x },
+              is-replying = Called.called ps·0 r·0 (claims· .1) T9 (
+                record { pos = 22; st = List.[]; d = 0; at = λ x. x },
                 tt,
-              ) (m5 record {
+              ) (m7 record {
                 before = record {
                   before = record { before = c; slice-known = record { given = g } };
                   slice-known2 = record { given = g' };
@@ -29784,7 +32859,7 @@ module _ (claims· : Claims) where
               routes = a .1 .0;
               forward = a .1 .1 .0;
               reply = a .1 .1 .1 .0;
-              o = a .1 .1 .1 .1 .0;
+              t5 = a .1 .1 .1 .1 .0;
               clock = a .1 .1 .1 .1 .1 .0;
               seq = a .1 .1 .1 .1 .1 .1 .0;
               t = a .1 .1 .1 .1 .1 .1 .1 .0;
@@ -29872,7 +32947,7 @@ module _ (claims· : Claims) where
             A
             W
             𝓣
-            3
+            4
             ps·6
             r·6
             (claims· .12)

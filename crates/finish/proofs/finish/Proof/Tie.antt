@@ -536,6 +536,32 @@ After-put-post-arg = Lts.After-put-post-arg (
   Reads'8.Learnt,
 ) Reads'.Pre Reads'.Post
 
+abbrev pub After-o : Type 0
+After-o = Lts.After-o (
+  Reads'3.Asked,
+  Reads'3.Learnt,
+  Reads'10.Asked,
+  Reads'10.Learnt,
+  Reads'4.Asked,
+  Reads'4.Learnt,
+  Reads'9.Asked,
+  Reads'9.Learnt,
+  Reads''.Asked,
+  Reads''.Learnt,
+  Reads'6.Asked,
+  Reads'6.Learnt,
+  Reads'11.Asked,
+  Reads'11.Learnt,
+  Reads'5.Asked,
+  Reads'5.Learnt,
+  Reads'7.Asked,
+  Reads'7.Learnt,
+  Reads.Asked,
+  Reads.Learnt,
+  Reads'8.Asked,
+  Reads'8.Learnt,
+) Reads'.Pre Reads'.Post
+
 abbrev pub After-put-post : Type 0
 After-put-post = Lts.After-put-post (
   Reads'3.Asked,
@@ -616,6 +642,32 @@ After-slice-known3 = Lts.After-slice-known3 (
 
 abbrev pub After-put-post-arg2 : Type 0
 After-put-post-arg2 = Lts.After-put-post-arg2 (
+  Reads'3.Asked,
+  Reads'3.Learnt,
+  Reads'10.Asked,
+  Reads'10.Learnt,
+  Reads'4.Asked,
+  Reads'4.Learnt,
+  Reads'9.Asked,
+  Reads'9.Learnt,
+  Reads''.Asked,
+  Reads''.Learnt,
+  Reads'6.Asked,
+  Reads'6.Learnt,
+  Reads'11.Asked,
+  Reads'11.Learnt,
+  Reads'5.Asked,
+  Reads'5.Learnt,
+  Reads'7.Asked,
+  Reads'7.Learnt,
+  Reads.Asked,
+  Reads.Learnt,
+  Reads'8.Asked,
+  Reads'8.Learnt,
+) Reads'.Pre Reads'.Post
+
+abbrev pub After-o2 : Type 0
+After-o2 = Lts.After-o2 (
   Reads'3.Asked,
   Reads'3.Learnt,
   Reads'10.Asked,

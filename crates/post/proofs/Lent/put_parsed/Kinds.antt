@@ -1,4 +1,5 @@
 -- Made by tools/lend.py of the twin of `put_parsed`: do not edit.
+use Rattle.own.proofs.Elem.Own as KOwn
 use Rattle.decision.proofs.Elem.Post as KPost
 use borrow.Fn.Kinds
 use borrow.Kind.MutSlice

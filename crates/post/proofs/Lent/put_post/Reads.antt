@@ -16,19 +16,19 @@ use mathlib.Core.Path as Path'
 abbrev pub Ghost : Type 0
 Ghost = Unit {0}
 
-module _ (κs : Lifetimes.Lfts 3) where
+module _ (κs : Lifetimes.Lfts 4) where
   abbrev pub Pinned : (a : World.ArgsD put_post.signature κs) → (w : World.World) → Type 1
   Pinned = Learn.no-pin put_post.signature κs
 
   abbrev pub Owned :
       (r : World.ResD put_post.signature κs) →
-      (s : Clauses.AtExit (Kinds'.endedOf 3 Kinds.ps Kinds.r) κs) →
+      (s : Clauses.AtExit (Kinds'.endedOf 4 Kinds.ps Kinds.r) κs) →
       (w : World.World) →
       Type 1
-  Owned = Learn.no-own (Kinds'.endedOf 3 Kinds.ps Kinds.r) κs
+  Owned = Learn.no-own (Kinds'.endedOf 4 Kinds.ps Kinds.r) κs
 
   abbrev pub Base : (a : World.ArgsD put_post.signature κs) → (w : World.World) → World.Pr w
-  Base = Written.Base 3 Kinds.ps Kinds.r (λ κs. Pinned) κs
+  Base = Written.Base 4 Kinds.ps Kinds.r (λ κs. Pinned) κs
 
   abbrev pub pins : (w : World.World) → Learn.PinOf put_post.signature κs w λ a. Pinned a w
   pins = λ w. Learn.no-pins put_post.signature κs w
@@ -36,7 +36,7 @@ module _ (κs : Lifetimes.Lfts 3) where
   abbrev pub owns :
       (w : World.World) →
       Learn.OwnOf
-      (Kinds'.endedOf 3 Kinds.ps Kinds.r)
+      (Kinds'.endedOf 4 Kinds.ps Kinds.r)
       (Kinds'.stays Kinds.ps)
       κs
       w
@@ -44,7 +44,7 @@ module _ (κs : Lifetimes.Lfts 3) where
       r
       s
       w
-  owns = λ w. Learn.no-owns (Kinds'.endedOf 3 Kinds.ps Kinds.r) (Kinds'.stays Kinds.ps) κs w
+  owns = λ w. Learn.no-owns (Kinds'.endedOf 4 Kinds.ps Kinds.r) (Kinds'.stays Kinds.ps) κs w
 
   abbrev pub requires :
       (a : World.ArgsD put_post.signature κs) → (g : Ghost) → (w : World.World) → World.Pr w
@@ -55,7 +55,7 @@ module _ (κs : Lifetimes.Lfts 3) where
       (a : World.ArgsD put_post.signature κs) →
       (g : Ghost) →
       (r : World.ResD put_post.signature κs) →
-      (s : Clauses.AtExit (Kinds'.endedOf 3 Kinds.ps Kinds.r) κs) →
+      (s : Clauses.AtExit (Kinds'.endedOf 4 Kinds.ps Kinds.r) κs) →
       (w : World.World) →
       World.Pr w
   ensures =
@@ -116,7 +116,7 @@ module _ (κs : Lifetimes.Lfts 3) where
       (a : World.ArgsD put_post.signature κs) →
       (g : Ghost) →
       (r : World.ResD put_post.signature κs) →
-      (s : Clauses.AtExit (Kinds'.endedOf 3 Kinds.ps Kinds.r) κs) →
+      (s : Clauses.AtExit (Kinds'.endedOf 4 Kinds.ps Kinds.r) κs) →
       Read.Read
       (Base a)
       (Owned r s)
@@ -163,39 +163,39 @@ module _ (κs : Lifetimes.Lfts 3) where
       (a : World.ArgsD put_post.signature κs) →
       (g : Ghost) →
       (r : World.ResD put_post.signature κs) →
-      (s : Clauses.AtExit (Kinds'.endedOf 3 Kinds.ps Kinds.r) κs) →
+      (s : Clauses.AtExit (Kinds'.endedOf 4 Kinds.ps Kinds.r) κs) →
       Read.Read (Base a) (Owned r s) (ensures a g r s)
   post-read = λ a g r s. ensures-1·read a g r s
 
-abbrev pub Pre : Kinds'.In 3 Kinds.ps
-Pre = Written.Pre 3 Kinds.ps Kinds.r Ghost requires ensures pre-read Pinned Owned post-read tt
+abbrev pub Pre : Kinds'.In 4 Kinds.ps
+Pre = Written.Pre 4 Kinds.ps Kinds.r Ghost requires ensures pre-read Pinned Owned post-read tt
 
-abbrev pub Post : Kinds'.Out 3 Kinds.ps Kinds.r
-Post = Written.Post 3 Kinds.ps Kinds.r Ghost requires ensures pre-read Pinned Owned post-read tt
+abbrev pub Post : Kinds'.Out 4 Kinds.ps Kinds.r
+Post = Written.Post 4 Kinds.ps Kinds.r Ghost requires ensures pre-read Pinned Owned post-read tt
 
-abbrev pub Asked : Kinds'.In 3 Kinds.ps
-Asked = Written.Asked 3 Kinds.ps Kinds.r Ghost requires ensures pre-read Pinned Owned post-read tt
+abbrev pub Asked : Kinds'.In 4 Kinds.ps
+Asked = Written.Asked 4 Kinds.ps Kinds.r Ghost requires ensures pre-read Pinned Owned post-read tt
 
-abbrev pub Learnt : Kinds'.Out 3 Kinds.ps Kinds.r
+abbrev pub Learnt : Kinds'.Out 4 Kinds.ps Kinds.r
 Learnt =
-    Written.Learnt 3 Kinds.ps Kinds.r Ghost requires ensures pre-read Pinned Owned post-read tt
+    Written.Learnt 4 Kinds.ps Kinds.r Ghost requires ensures pre-read Pinned Owned post-read tt
 
 pub passes :
     (w : World.World) →
-    Written.Passes 3 Kinds.ps Kinds.r Ghost requires ensures pre-read Pinned Owned post-read w
+    Written.Passes 4 Kinds.ps Kinds.r Ghost requires ensures pre-read Pinned Owned post-read w
 passes = λ w κs a g r ws ft p q. Monad.top (w .𝓤) (Read.all∗ w (pre-read κs a g .held w))
 
 pub lent :
     (w : World.World) →
-    (κs : Lifetimes.Lfts 3) →
+    (κs : Lifetimes.Lfts 4) →
     (a : World.ArgsD put_post.signature κs) →
     Logic.ent (w .𝓤) (Logic.emp (w .𝓤)) (Read.all∗ w (pre-read κs a tt .held w))
 lent = λ w κs a. Logic.id⊢ (w .𝓤) (Logic.emp (w .𝓤))
 
-pub known : Picked.KnownAs 3 Kinds.ps Kinds.r Ghost requires ensures Asked Learnt
+pub known : Picked.KnownAs 4 Kinds.ps Kinds.r Ghost requires ensures Asked Learnt
 known =
     λ w γ k ρ same met. Written.cited
-    3
+    4
     Kinds.ps
     Kinds.r
     Ghost

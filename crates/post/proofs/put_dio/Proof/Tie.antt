@@ -122,8 +122,36 @@ Then1 = Lts.Then1 (
   Reads'5.Learnt,
 ) Reads'4.Pre Reads'4.Post
 
+abbrev pub After-grown-count-arg : Type 0
+After-grown-count-arg = Lts.After-grown-count-arg (
+  Reads''.Asked,
+  Reads''.Learnt,
+  Reads'3.Asked,
+  Reads'3.Learnt,
+  Reads.Asked,
+  Reads.Learnt,
+  Reads'.Asked,
+  Reads'.Learnt,
+  Reads'5.Asked,
+  Reads'5.Learnt,
+) Reads'4.Pre Reads'4.Post
+
 abbrev pub After-grown-count : Type 0
 After-grown-count = Lts.After-grown-count (
+  Reads''.Asked,
+  Reads''.Learnt,
+  Reads'3.Asked,
+  Reads'3.Learnt,
+  Reads.Asked,
+  Reads.Learnt,
+  Reads'.Asked,
+  Reads'.Learnt,
+  Reads'5.Asked,
+  Reads'5.Learnt,
+) Reads'4.Pre Reads'4.Post
+
+abbrev pub After-grown-vector-arg : Type 0
+After-grown-vector-arg = Lts.After-grown-vector-arg (
   Reads''.Asked,
   Reads''.Learnt,
   Reads'3.Asked,
@@ -496,7 +524,7 @@ module _ {M : Type 1} where
   unfolding Code.routine Running.tablesOf
   close =
       λ closed 𝓤 H 𝓜 𝓖 𝓡. Written.close
-      3
+      4
       Kinds.ps
       Kinds.r
       Reads'4.Ghost

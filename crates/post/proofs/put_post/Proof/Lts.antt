@@ -1,10 +1,9 @@
 -- Made by tools/lend.py of the twin of `put_post`: do not edit.
+use Rattle.own.proofs.Elem.Own as KOwn
 use Rattle.decision.proofs.Elem.Post as KPost
 use Prim.Native.Nat
 use Rattle.decision.proofs.What
 use Rattle.decision.proofs.What.Laws
-use Rattle.own.proofs.Own
-use Rattle.own.proofs.Own.Laws as Laws'
 use borrow.Author.Called
 use borrow.Enum.Known
 use borrow.Enum.Match
@@ -35,7 +34,7 @@ use borrow.Rule.Slice.Shared
 use borrow.Rule.Switch
 use borrow.Rule.Yields
 use borrow.Table.Copies
-use borrow.Table.Own as Own'
+use borrow.Table.Own
 use borrow.Table.Reads
 use borrow.Table.Referent
 use borrow.Table.Row
@@ -44,10 +43,8 @@ use borrow.Table.Typed
 use contract.Lifetimes
 use denote.Array as Array'
 use denote.Enum.Declared
-use denote.Enum.Laws as Laws''
+use denote.Enum.Laws as Laws'
 use denote.Exit
-use denote.Struct.Declared as Declared'
-use denote.Struct.Laws as Laws'3
 use denote.Triple.Clauses
 use denote.Triple.Statement
 use ghost.Atoms
@@ -62,33 +59,19 @@ use prog.Wp
 use types.Kit
 use types.Run
 
-abbrev pub ps : List.List (Kinds.PK 3)
+abbrev pub ps : List.List (Kinds.PK 4)
 ps =
     List._∷_
     (MutSlice.pMutS (Referent.rtF (Referent.fInt Syntax.w8)) 0 tt)
-    (List._∷_ (Value.pVal record {
-      ty = Declared'.row Own.the-type;
-      one = Path'.refl;
-      val = Laws'3.val Own.the-type Laws'.the-laws;
-      tells = Laws'3.tells Own.the-type Laws'.the-laws;
-      still = Laws'3.still Own.the-type Laws'.the-copy Exit.yes;
-      row = Rows'.whole (Declared'.row Own.the-type);
-      rd = λ x. x;
-      mk = λ x. x;
-    } λ M 𝓤 H A W. record {
-      copies = Laws'3.copy Own.the-type Laws'.the-copy 𝓤 H A W;
-      lawful = Laws'3.lawful Own.the-type Laws'.the-laws 𝓤 H A W;
-      makes = Laws'3.makes Own.the-type Laws'.the-plain 𝓤 H A;
-      in-mem = Local.mem-whole 𝓤 H A W (Declared'.row Own.the-type);
-      of-mem = Local.whole-mem 𝓤 H A W (Declared'.row Own.the-type);
-    })
     (List._∷_
-    (ShrRef.pShr (KPost.R) 1 tt)
+    (ShrRef.pShr (KOwn.R) 1 tt)
     (List._∷_
-    (ShrRef.pShr (Array'.Array (Array'.Array (Referent.rtF (Referent.fInt Syntax.w8)) 16) 16) 2 tt)
+    (ShrRef.pShr (KPost.R) 2 tt)
+    (List._∷_
+    (ShrRef.pShr (Array'.Array (Array'.Array (Referent.rtF (Referent.fInt Syntax.w8)) 16) 16) 3 tt)
     List.[])))
 
-abbrev pub r : Kinds.RK 3
+abbrev pub r : Kinds.RK 4
 r = Num.rNum Syntax.w64
 
 abbrev pub xs : List.List Syntax.Ty
@@ -149,47 +132,33 @@ abbrev pub r·0 : Kinds.RK 0
 r·0 = Value.rVal record {
   ty = Declared.row What.the-type;
   one = Path'.refl;
-  val = Laws''.val What.the-type Laws.the-laws;
-  tells = Laws''.tells What.the-type Laws.the-laws;
-  still = Laws''.still What.the-type Laws.the-copy Exit.yes;
+  val = Laws'.val What.the-type Laws.the-laws;
+  tells = Laws'.tells What.the-type Laws.the-laws;
+  still = Laws'.still What.the-type Laws.the-copy Exit.yes;
   row = Rows'.whole (Declared.row What.the-type);
   rd = λ x. x;
   mk = λ x. x;
 } λ M 𝓤 H A W. record {
-  copies = Laws''.copy What.the-type Laws.the-copy 𝓤 H A W;
-  lawful = Laws''.lawful What.the-type Laws.the-laws 𝓤 H A W tt;
-  makes = Laws''.makes What.the-type Laws.the-plain 𝓤 H A;
+  copies = Laws'.copy What.the-type Laws.the-copy 𝓤 H A W;
+  lawful = Laws'.lawful What.the-type Laws.the-laws 𝓤 H A W tt;
+  makes = Laws'.makes What.the-type Laws.the-plain 𝓤 H A;
   in-mem = Local.mem-whole 𝓤 H A W (Declared.row What.the-type);
   of-mem = Local.whole-mem 𝓤 H A W (Declared.row What.the-type);
 }
 
-abbrev pub ps·1 : List.List (Kinds.PK 3)
+abbrev pub ps·1 : List.List (Kinds.PK 4)
 ps·1 =
     List._∷_
     (MutSlice.pMutS (Referent.rtF (Referent.fInt Syntax.w8)) 0 tt)
-    (List._∷_ (Value.pVal record {
-      ty = Declared'.row Own.the-type;
-      one = Path'.refl;
-      val = Laws'3.val Own.the-type Laws'.the-laws;
-      tells = Laws'3.tells Own.the-type Laws'.the-laws;
-      still = Laws'3.still Own.the-type Laws'.the-copy Exit.yes;
-      row = Rows'.whole (Declared'.row Own.the-type);
-      rd = λ x. x;
-      mk = λ x. x;
-    } λ M 𝓤 H A W. record {
-      copies = Laws'3.copy Own.the-type Laws'.the-copy 𝓤 H A W;
-      lawful = Laws'3.lawful Own.the-type Laws'.the-laws 𝓤 H A W;
-      makes = Laws'3.makes Own.the-type Laws'.the-plain 𝓤 H A;
-      in-mem = Local.mem-whole 𝓤 H A W (Declared'.row Own.the-type);
-      of-mem = Local.whole-mem 𝓤 H A W (Declared'.row Own.the-type);
-    })
     (List._∷_
-    (ShrRef.pShr (KPost.R) 1 tt)
+    (ShrRef.pShr (KOwn.R) 1 tt)
     (List._∷_
-    (ShrRef.pShr (Array'.Array (Array'.Array (Referent.rtF (Referent.fInt Syntax.w8)) 16) 16) 2 tt)
+    (ShrRef.pShr (KPost.R) 2 tt)
+    (List._∷_
+    (ShrRef.pShr (Array'.Array (Array'.Array (Referent.rtF (Referent.fInt Syntax.w8)) 16) 16) 3 tt)
     List.[])))
 
-abbrev pub r·1 : Kinds.RK 3
+abbrev pub r·1 : Kinds.RK 4
 r·1 = Num.rNum Syntax.w64
 
 abbrev pub ps·2 : List.List (Kinds.PK 3)
@@ -356,8 +325,8 @@ abbrev pub Claims : Type 1
 Claims =
     Kinds.In 0 ps·0 ×
     Kinds.Out 0 ps·0 r·0 ×
-    Kinds.In 3 ps·1 ×
-    Kinds.Out 3 ps·1 r·1 ×
+    Kinds.In 4 ps·1 ×
+    Kinds.Out 4 ps·1 r·1 ×
     Kinds.In 3 ps·2 ×
     Kinds.Out 3 ps·2 r·2
 
@@ -368,21 +337,27 @@ t0 = List._∷_ (0, Rows'.any-gone (Syntax.tyInt Syntax.w64)) (List._∷_ (
       (Referent.rtF (Referent.fInt Syntax.w8))
       (Syntax.tyRef (Syntax.named 0) Syntax.mut (Syntax.tyInt Syntax.w8))
       0,
-) (List._∷_ (2, Rows'.whole (Declared'.row Own.the-type)) (List._∷_ (
+) (List._∷_ (
+  2,
+  Rows'.sref
+      (KOwn.R)
+      (Syntax.tyRef (Syntax.named 1) Syntax.imm (KOwn.named))
+      1,
+) (List._∷_ (
   3,
   Rows'.sref
       (KPost.R)
-      (Syntax.tyRef (Syntax.named 1) Syntax.imm (KPost.named))
-      1,
+      (Syntax.tyRef (Syntax.named 2) Syntax.imm (KPost.named))
+      2,
 ) (List._∷_ (
   4,
   Rows'.sref
       (Array'.Array (Array'.Array (Referent.rtF (Referent.fInt Syntax.w8)) 16) 16)
       (Syntax.tyRef
-      (Syntax.named 2)
+      (Syntax.named 3)
       Syntax.imm
       (Syntax.tyArray (Syntax.tyArray (Syntax.tyInt Syntax.w8) 16) 16))
-      2,
+      3,
 ) (List._∷_ (
   5,
   Rows'.any-gone
@@ -445,33 +420,25 @@ t1 = List._∷_ (0, Rows'.sc-here (Row.sInt Syntax.w64)) (List._∷_ (
       0,
 ) (List._∷_ (
   2,
-  Rows'.any-gone
-      (Syntax.tyStruct
-      (List._∷_
-      111
-      (List._∷_
-      119
-      (List._∷_
-      110
-      (List._∷_ 58 (List._∷_ 58 (List._∷_ 79 (List._∷_ 119 (List._∷_ 110 List.[]))))))))
-      (Syntax.tcons
-      (Syntax.tyArray (Syntax.tyInt Syntax.w8) 16)
-      (Syntax.tcons (Syntax.tyArray (Syntax.tyInt Syntax.w8) 16) Syntax.tnil))),
+  Rows'.sref
+      (KOwn.R)
+      (Syntax.tyRef (Syntax.named 1) Syntax.imm (KOwn.named))
+      1,
 ) (List._∷_ (
   3,
   Rows'.sref
       (KPost.R)
-      (Syntax.tyRef (Syntax.named 1) Syntax.imm (KPost.named))
-      1,
+      (Syntax.tyRef (Syntax.named 2) Syntax.imm (KPost.named))
+      2,
 ) (List._∷_ (
   4,
   Rows'.sref
       (Array'.Array (Array'.Array (Referent.rtF (Referent.fInt Syntax.w8)) 16) 16)
       (Syntax.tyRef
-      (Syntax.named 2)
+      (Syntax.named 3)
       Syntax.imm
       (Syntax.tyArray (Syntax.tyArray (Syntax.tyInt Syntax.w8) 16) 16))
-      2,
+      3,
 ) (List._∷_ (
   5,
   Rows'.any-gone
@@ -532,21 +499,27 @@ t2 = List._∷_ (0, Rows'.any-gone (Syntax.tyInt Syntax.w64)) (List._∷_ (
       (Referent.rtF (Referent.fInt Syntax.w8))
       (Syntax.tyRef (Syntax.named 0) Syntax.mut (Syntax.tyInt Syntax.w8))
       0,
-) (List._∷_ (2, Rows'.whole (Declared'.row Own.the-type)) (List._∷_ (
+) (List._∷_ (
+  2,
+  Rows'.sref
+      (KOwn.R)
+      (Syntax.tyRef (Syntax.named 1) Syntax.imm (KOwn.named))
+      1,
+) (List._∷_ (
   3,
   Rows'.sref
       (KPost.R)
-      (Syntax.tyRef (Syntax.named 1) Syntax.imm (KPost.named))
-      1,
+      (Syntax.tyRef (Syntax.named 2) Syntax.imm (KPost.named))
+      2,
 ) (List._∷_ (
   4,
   Rows'.sref
       (Array'.Array (Array'.Array (Referent.rtF (Referent.fInt Syntax.w8)) 16) 16)
       (Syntax.tyRef
-      (Syntax.named 2)
+      (Syntax.named 3)
       Syntax.imm
       (Syntax.tyArray (Syntax.tyArray (Syntax.tyInt Syntax.w8) 16) 16))
-      2,
+      3,
 ) (List._∷_ (
   5,
   Rows'.any-gone
@@ -607,21 +580,27 @@ t3 = List._∷_ (0, Rows'.any-gone (Syntax.tyInt Syntax.w64)) (List._∷_ (
       (Referent.rtF (Referent.fInt Syntax.w8))
       (Syntax.tyRef (Syntax.named 0) Syntax.mut (Syntax.tyInt Syntax.w8))
       0,
-) (List._∷_ (2, Rows'.whole (Declared'.row Own.the-type)) (List._∷_ (
+) (List._∷_ (
+  2,
+  Rows'.sref
+      (KOwn.R)
+      (Syntax.tyRef (Syntax.named 1) Syntax.imm (KOwn.named))
+      1,
+) (List._∷_ (
   3,
   Rows'.sref
       (KPost.R)
-      (Syntax.tyRef (Syntax.named 1) Syntax.imm (KPost.named))
-      1,
+      (Syntax.tyRef (Syntax.named 2) Syntax.imm (KPost.named))
+      2,
 ) (List._∷_ (
   4,
   Rows'.sref
       (Array'.Array (Array'.Array (Referent.rtF (Referent.fInt Syntax.w8)) 16) 16)
       (Syntax.tyRef
-      (Syntax.named 2)
+      (Syntax.named 3)
       Syntax.imm
       (Syntax.tyArray (Syntax.tyArray (Syntax.tyInt Syntax.w8) 16) 16))
-      2,
+      3,
 ) (List._∷_ (5, Rows'.whole (Declared.row What.the-type)) (List._∷_ (
   6,
   KPost.row,
@@ -659,33 +638,25 @@ t4 = List._∷_ (0, Rows'.any-gone (Syntax.tyInt Syntax.w64)) (List._∷_ (
       0,
 ) (List._∷_ (
   2,
-  Rows'.any-gone
-      (Syntax.tyStruct
-      (List._∷_
-      111
-      (List._∷_
-      119
-      (List._∷_
-      110
-      (List._∷_ 58 (List._∷_ 58 (List._∷_ 79 (List._∷_ 119 (List._∷_ 110 List.[]))))))))
-      (Syntax.tcons
-      (Syntax.tyArray (Syntax.tyInt Syntax.w8) 16)
-      (Syntax.tcons (Syntax.tyArray (Syntax.tyInt Syntax.w8) 16) Syntax.tnil))),
+  Rows'.sref
+      (KOwn.R)
+      (Syntax.tyRef (Syntax.named 1) Syntax.imm (KOwn.named))
+      1,
 ) (List._∷_ (
   3,
   Rows'.sref
       (KPost.R)
-      (Syntax.tyRef (Syntax.named 1) Syntax.imm (KPost.named))
-      1,
+      (Syntax.tyRef (Syntax.named 2) Syntax.imm (KPost.named))
+      2,
 ) (List._∷_ (
   4,
   Rows'.sref
       (Array'.Array (Array'.Array (Referent.rtF (Referent.fInt Syntax.w8)) 16) 16)
       (Syntax.tyRef
-      (Syntax.named 2)
+      (Syntax.named 3)
       Syntax.imm
       (Syntax.tyArray (Syntax.tyArray (Syntax.tyInt Syntax.w8) 16) 16))
-      2,
+      3,
 ) (List._∷_ (
   5,
   Rows'.any-gone
@@ -746,21 +717,27 @@ t5 = List._∷_ (0, Rows'.any-gone (Syntax.tyInt Syntax.w64)) (List._∷_ (
       (Referent.rtF (Referent.fInt Syntax.w8))
       (Syntax.tyRef (Syntax.named 0) Syntax.mut (Syntax.tyInt Syntax.w8))
       0,
-) (List._∷_ (2, Rows'.whole (Declared'.row Own.the-type)) (List._∷_ (
+) (List._∷_ (
+  2,
+  Rows'.sref
+      (KOwn.R)
+      (Syntax.tyRef (Syntax.named 1) Syntax.imm (KOwn.named))
+      1,
+) (List._∷_ (
   3,
   Rows'.sref
       (KPost.R)
-      (Syntax.tyRef (Syntax.named 1) Syntax.imm (KPost.named))
-      1,
+      (Syntax.tyRef (Syntax.named 2) Syntax.imm (KPost.named))
+      2,
 ) (List._∷_ (
   4,
   Rows'.sref
       (Array'.Array (Array'.Array (Referent.rtF (Referent.fInt Syntax.w8)) 16) 16)
       (Syntax.tyRef
-      (Syntax.named 2)
+      (Syntax.named 3)
       Syntax.imm
       (Syntax.tyArray (Syntax.tyArray (Syntax.tyInt Syntax.w8) 16) 16))
-      2,
+      3,
 ) (List._∷_ (5, Rows'.whole (Declared.row What.the-type)) (List._∷_ (
   6,
   Rows'.any-gone (KPost.spelled),
@@ -792,180 +769,33 @@ t5 = List._∷_ (0, Rows'.any-gone (Syntax.tyInt Syntax.w64)) (List._∷_ (
 abbrev pub t6 : List.List Row.Entry
 t6 = List._∷_ (0, Rows'.any-gone (Syntax.tyInt Syntax.w64)) (List._∷_ (
   1,
-  Mut.mslice
-      (Referent.rtF (Referent.fInt Syntax.w8))
-      (Syntax.tyRef (Syntax.named 0) Syntax.mut (Syntax.tyInt Syntax.w8))
-      0,
-) (List._∷_ (
-  2,
-  Rows'.any-gone
-      (Syntax.tyStruct
-      (List._∷_
-      111
-      (List._∷_
-      119
-      (List._∷_
-      110
-      (List._∷_ 58 (List._∷_ 58 (List._∷_ 79 (List._∷_ 119 (List._∷_ 110 List.[]))))))))
-      (Syntax.tcons
-      (Syntax.tyArray (Syntax.tyInt Syntax.w8) 16)
-      (Syntax.tcons (Syntax.tyArray (Syntax.tyInt Syntax.w8) 16) Syntax.tnil))),
-) (List._∷_ (
-  3,
-  Rows'.sref
-      (KPost.R)
-      (Syntax.tyRef (Syntax.named 1) Syntax.imm (KPost.named))
-      1,
-) (List._∷_ (
-  4,
-  Rows'.sref
-      (Array'.Array (Array'.Array (Referent.rtF (Referent.fInt Syntax.w8)) 16) 16)
-      (Syntax.tyRef
-      (Syntax.named 2)
-      Syntax.imm
-      (Syntax.tyArray (Syntax.tyArray (Syntax.tyInt Syntax.w8) 16) 16))
-      2,
-) (List._∷_ (5, Rows'.whole (Declared.row What.the-type)) (List._∷_ (
-  6,
-  Rows'.any-gone (KPost.spelled),
-) (List._∷_ (7, Rows'.any-gone (Syntax.tyInt Syntax.w64)) (List._∷_ (
-  8,
-  Rows'.any-gone (Syntax.tyRef Syntax.erased Syntax.mut (Syntax.tyInt Syntax.w8)),
-) (List._∷_ (
-  9,
-  Rows'.any-gone
-      (Syntax.tyStruct
-      (List._∷_ 38 (List._∷_ 91 (List._∷_ 93 List.[])))
-      (Syntax.tcons
-      (Syntax.tyRef Syntax.erased Syntax.mut (Syntax.tyInt Syntax.w8))
-      (Syntax.tcons (Syntax.tyInt Syntax.w64) Syntax.tnil))),
-)
-    (List._∷_ (
-      10,
-      Rows'.any-gone (Syntax.tyRef Syntax.erased Syntax.mut (Syntax.tyInt Syntax.w8)),
-    ) (List._∷_ (
-      11,
-      Rows'.any-gone
-          (Syntax.tyStruct
-          (List._∷_ 38 (List._∷_ 91 (List._∷_ 93 List.[])))
-          (Syntax.tcons
-          (Syntax.tyRef Syntax.erased Syntax.mut (Syntax.tyInt Syntax.w8))
-          (Syntax.tcons (Syntax.tyInt Syntax.w64) Syntax.tnil))),
-    ) List.[])))))))))))
-
-abbrev pub t7 : List.List Row.Entry
-t7 = List._∷_ (0, Rows'.any-gone (Syntax.tyInt Syntax.w64)) (List._∷_ (
-  1,
-  Mut.mslice
-      (Referent.rtF (Referent.fInt Syntax.w8))
-      (Syntax.tyRef (Syntax.named 0) Syntax.mut (Syntax.tyInt Syntax.w8))
-      0,
-) (List._∷_ (
-  2,
-  Rows'.any-gone
-      (Syntax.tyStruct
-      (List._∷_
-      111
-      (List._∷_
-      119
-      (List._∷_
-      110
-      (List._∷_ 58 (List._∷_ 58 (List._∷_ 79 (List._∷_ 119 (List._∷_ 110 List.[]))))))))
-      (Syntax.tcons
-      (Syntax.tyArray (Syntax.tyInt Syntax.w8) 16)
-      (Syntax.tcons (Syntax.tyArray (Syntax.tyInt Syntax.w8) 16) Syntax.tnil))),
-) (List._∷_ (
-  3,
-  Rows'.sref
-      (KPost.R)
-      (Syntax.tyRef (Syntax.named 1) Syntax.imm (KPost.named))
-      1,
-) (List._∷_ (
-  4,
-  Rows'.sref
-      (Array'.Array (Array'.Array (Referent.rtF (Referent.fInt Syntax.w8)) 16) 16)
-      (Syntax.tyRef
-      (Syntax.named 2)
-      Syntax.imm
-      (Syntax.tyArray (Syntax.tyArray (Syntax.tyInt Syntax.w8) 16) 16))
-      2,
-) (List._∷_ (
-  5,
-  Rows'.any-gone
-      (Syntax.tyEnum
-      (List._∷_
-      100
-      (List._∷_
-      101
-      (List._∷_
-      99
-      (List._∷_
-      105
-      (List._∷_
-      115
-      (List._∷_
-      105
-      (List._∷_
-      111
-      (List._∷_
-      110
-      (List._∷_
-      58
-      (List._∷_ 58 (List._∷_ 87 (List._∷_ 104 (List._∷_ 97 (List._∷_ 116 List.[]))))))))))))))
-      (Syntax.ttcons
-      Syntax.tnil
-      (Syntax.ttcons Syntax.tnil (Syntax.ttcons Syntax.tnil Syntax.ttnil)))),
-) (List._∷_ (6, Rows'.any-gone (KPost.spelled)) (List._∷_ (
-  7,
-  Rows'.any-gone (Syntax.tyInt Syntax.w64),
-)
-    (List._∷_
-    (8, Rows'.any-gone (Syntax.tyRef Syntax.erased Syntax.mut (Syntax.tyInt Syntax.w8)))
-    (List._∷_ (
-      9,
-      Rows'.any-gone
-          (Syntax.tyStruct
-          (List._∷_ 38 (List._∷_ 91 (List._∷_ 93 List.[])))
-          (Syntax.tcons
-          (Syntax.tyRef Syntax.erased Syntax.mut (Syntax.tyInt Syntax.w8))
-          (Syntax.tcons (Syntax.tyInt Syntax.w64) Syntax.tnil))),
-    ) (List._∷_ (
-      10,
-      Rows'.any-gone (Syntax.tyRef Syntax.erased Syntax.mut (Syntax.tyInt Syntax.w8)),
-    ) (List._∷_ (
-      11,
-      Rows'.any-gone
-          (Syntax.tyStruct
-          (List._∷_ 38 (List._∷_ 91 (List._∷_ 93 List.[])))
-          (Syntax.tcons
-          (Syntax.tyRef Syntax.erased Syntax.mut (Syntax.tyInt Syntax.w8))
-          (Syntax.tcons (Syntax.tyInt Syntax.w64) Syntax.tnil))),
-    ) List.[])))))))))))
-
-abbrev pub t8 : List.List Row.Entry
-t8 = List._∷_ (0, Rows'.any-gone (Syntax.tyInt Syntax.w64)) (List._∷_ (
-  1,
   Relend.mslice-owed
       (Referent.rtF (Referent.fInt Syntax.w8))
       (Syntax.tyRef (Syntax.named 0) Syntax.mut (Syntax.tyInt Syntax.w8))
       0
-      3
+      4
       Row.off,
-) (List._∷_ (2, Rows'.whole (Declared'.row Own.the-type)) (List._∷_ (
+) (List._∷_ (
+  2,
+  Rows'.sref
+      (KOwn.R)
+      (Syntax.tyRef (Syntax.named 1) Syntax.imm (KOwn.named))
+      1,
+) (List._∷_ (
   3,
   Rows'.sref
       (KPost.R)
-      (Syntax.tyRef (Syntax.named 1) Syntax.imm (KPost.named))
-      1,
+      (Syntax.tyRef (Syntax.named 2) Syntax.imm (KPost.named))
+      2,
 ) (List._∷_ (
   4,
   Rows'.sref
       (Array'.Array (Array'.Array (Referent.rtF (Referent.fInt Syntax.w8)) 16) 16)
       (Syntax.tyRef
-      (Syntax.named 2)
+      (Syntax.named 3)
       Syntax.imm
       (Syntax.tyArray (Syntax.tyArray (Syntax.tyInt Syntax.w8) 16) 16))
-      2,
+      3,
 ) (List._∷_ (
   5,
   Rows'.any-gone
@@ -1000,7 +830,7 @@ t8 = List._∷_ (0, Rows'.any-gone (Syntax.tyInt Syntax.w64)) (List._∷_ (
   Relend.msptr
       (Referent.rtF (Referent.fInt Syntax.w8))
       (Syntax.tyRef Syntax.erased Syntax.mut (Syntax.tyInt Syntax.w8))
-      3,
+      4,
 ) (List._∷_ (
   9,
   Rows'.any-gone
@@ -1023,30 +853,36 @@ t8 = List._∷_ (0, Rows'.any-gone (Syntax.tyInt Syntax.w64)) (List._∷_ (
           (Syntax.tcons (Syntax.tyInt Syntax.w64) Syntax.tnil))),
     ) List.[])))))))))))
 
-abbrev pub t9 : List.List Row.Entry
-t9 = List._∷_ (0, Rows'.any-gone (Syntax.tyInt Syntax.w64)) (List._∷_ (
+abbrev pub t7 : List.List Row.Entry
+t7 = List._∷_ (0, Rows'.any-gone (Syntax.tyInt Syntax.w64)) (List._∷_ (
   1,
   Relend.mslice-owed
       (Referent.rtF (Referent.fInt Syntax.w8))
       (Syntax.tyRef (Syntax.named 0) Syntax.mut (Syntax.tyInt Syntax.w8))
       0
-      3
+      4
       Row.off,
-) (List._∷_ (2, Rows'.whole (Declared'.row Own.the-type)) (List._∷_ (
+) (List._∷_ (
+  2,
+  Rows'.sref
+      (KOwn.R)
+      (Syntax.tyRef (Syntax.named 1) Syntax.imm (KOwn.named))
+      1,
+) (List._∷_ (
   3,
   Rows'.sref
       (KPost.R)
-      (Syntax.tyRef (Syntax.named 1) Syntax.imm (KPost.named))
-      1,
+      (Syntax.tyRef (Syntax.named 2) Syntax.imm (KPost.named))
+      2,
 ) (List._∷_ (
   4,
   Rows'.sref
       (Array'.Array (Array'.Array (Referent.rtF (Referent.fInt Syntax.w8)) 16) 16)
       (Syntax.tyRef
-      (Syntax.named 2)
+      (Syntax.named 3)
       Syntax.imm
       (Syntax.tyArray (Syntax.tyArray (Syntax.tyInt Syntax.w8) 16) 16))
-      2,
+      3,
 ) (List._∷_ (
   5,
   Rows'.any-gone
@@ -1084,7 +920,7 @@ t9 = List._∷_ (0, Rows'.any-gone (Syntax.tyInt Syntax.w64)) (List._∷_ (
       Mut.mslice
           (Referent.rtF (Referent.fInt Syntax.w8))
           (Syntax.tyRef Syntax.erased Syntax.mut (Syntax.tyInt Syntax.w8))
-          3,
+          4,
     ) (List._∷_ (
       10,
       Rows'.any-gone (Syntax.tyRef Syntax.erased Syntax.mut (Syntax.tyInt Syntax.w8)),
@@ -1098,170 +934,8 @@ t9 = List._∷_ (0, Rows'.any-gone (Syntax.tyInt Syntax.w64)) (List._∷_ (
           (Syntax.tcons (Syntax.tyInt Syntax.w64) Syntax.tnil))),
     ) List.[])))))))))))
 
-abbrev pub t10 : List.List Row.Entry
-t10 = List._∷_ (0, Rows'.any-gone (Syntax.tyInt Syntax.w64)) (List._∷_ (
-  1,
-  Relend.mslice-owed
-      (Referent.rtF (Referent.fInt Syntax.w8))
-      (Syntax.tyRef (Syntax.named 0) Syntax.mut (Syntax.tyInt Syntax.w8))
-      0
-      3
-      Row.off,
-) (List._∷_ (2, Rows'.whole (Declared'.row Own.the-type)) (List._∷_ (
-  3,
-  Rows'.sref
-      (KPost.R)
-      (Syntax.tyRef (Syntax.named 1) Syntax.imm (KPost.named))
-      1,
-) (List._∷_ (
-  4,
-  Rows'.sref
-      (Array'.Array (Array'.Array (Referent.rtF (Referent.fInt Syntax.w8)) 16) 16)
-      (Syntax.tyRef
-      (Syntax.named 2)
-      Syntax.imm
-      (Syntax.tyArray (Syntax.tyArray (Syntax.tyInt Syntax.w8) 16) 16))
-      2,
-) (List._∷_ (
-  5,
-  Rows'.any-gone
-      (Syntax.tyEnum
-      (List._∷_
-      100
-      (List._∷_
-      101
-      (List._∷_
-      99
-      (List._∷_
-      105
-      (List._∷_
-      115
-      (List._∷_
-      105
-      (List._∷_
-      111
-      (List._∷_
-      110
-      (List._∷_
-      58
-      (List._∷_ 58 (List._∷_ 87 (List._∷_ 104 (List._∷_ 97 (List._∷_ 116 List.[]))))))))))))))
-      (Syntax.ttcons
-      Syntax.tnil
-      (Syntax.ttcons Syntax.tnil (Syntax.ttcons Syntax.tnil Syntax.ttnil)))),
-) (List._∷_ (6, Rows'.any-gone (KPost.spelled)) (List._∷_ (
-  7,
-  Rows'.sc-here (Row.sInt Syntax.w64),
-)
-    (List._∷_
-    (8, Rows'.any-gone (Syntax.tyRef Syntax.erased Syntax.mut (Syntax.tyInt Syntax.w8)))
-    (List._∷_ (
-      9,
-      Mut.msleft
-          (Referent.rtF (Referent.fInt Syntax.w8))
-          (Syntax.tyRef Syntax.erased Syntax.mut (Syntax.tyInt Syntax.w8)),
-    ) (List._∷_ (
-      10,
-      Rows'.any-gone (Syntax.tyRef Syntax.erased Syntax.mut (Syntax.tyInt Syntax.w8)),
-    ) (List._∷_ (
-      11,
-      Rows'.any-gone
-          (Syntax.tyStruct
-          (List._∷_ 38 (List._∷_ 91 (List._∷_ 93 List.[])))
-          (Syntax.tcons
-          (Syntax.tyRef Syntax.erased Syntax.mut (Syntax.tyInt Syntax.w8))
-          (Syntax.tcons (Syntax.tyInt Syntax.w64) Syntax.tnil))),
-    ) List.[])))))))))))
-
-abbrev pub t11 : List.List Row.Entry
-t11 = List._∷_ (0, Rows'.any-gone (Syntax.tyInt Syntax.w64)) (List._∷_ (
-  1,
-  Relend.mslice-owed
-      (Referent.rtF (Referent.fInt Syntax.w8))
-      (Syntax.tyRef (Syntax.named 0) Syntax.mut (Syntax.tyInt Syntax.w8))
-      0
-      3
-      Row.off,
-) (List._∷_ (
-  2,
-  Rows'.any-gone
-      (Syntax.tyStruct
-      (List._∷_
-      111
-      (List._∷_
-      119
-      (List._∷_
-      110
-      (List._∷_ 58 (List._∷_ 58 (List._∷_ 79 (List._∷_ 119 (List._∷_ 110 List.[]))))))))
-      (Syntax.tcons
-      (Syntax.tyArray (Syntax.tyInt Syntax.w8) 16)
-      (Syntax.tcons (Syntax.tyArray (Syntax.tyInt Syntax.w8) 16) Syntax.tnil))),
-) (List._∷_ (
-  3,
-  Rows'.sref
-      (KPost.R)
-      (Syntax.tyRef (Syntax.named 1) Syntax.imm (KPost.named))
-      1,
-) (List._∷_ (
-  4,
-  Rows'.sref
-      (Array'.Array (Array'.Array (Referent.rtF (Referent.fInt Syntax.w8)) 16) 16)
-      (Syntax.tyRef
-      (Syntax.named 2)
-      Syntax.imm
-      (Syntax.tyArray (Syntax.tyArray (Syntax.tyInt Syntax.w8) 16) 16))
-      2,
-) (List._∷_ (
-  5,
-  Rows'.any-gone
-      (Syntax.tyEnum
-      (List._∷_
-      100
-      (List._∷_
-      101
-      (List._∷_
-      99
-      (List._∷_
-      105
-      (List._∷_
-      115
-      (List._∷_
-      105
-      (List._∷_
-      111
-      (List._∷_
-      110
-      (List._∷_
-      58
-      (List._∷_ 58 (List._∷_ 87 (List._∷_ 104 (List._∷_ 97 (List._∷_ 116 List.[]))))))))))))))
-      (Syntax.ttcons
-      Syntax.tnil
-      (Syntax.ttcons Syntax.tnil (Syntax.ttcons Syntax.tnil Syntax.ttnil)))),
-) (List._∷_ (6, Rows'.any-gone (KPost.spelled)) (List._∷_ (
-  7,
-  Rows'.sc-here (Row.sInt Syntax.w64),
-)
-    (List._∷_
-    (8, Rows'.any-gone (Syntax.tyRef Syntax.erased Syntax.mut (Syntax.tyInt Syntax.w8)))
-    (List._∷_ (
-      9,
-      Mut.msleft
-          (Referent.rtF (Referent.fInt Syntax.w8))
-          (Syntax.tyRef Syntax.erased Syntax.mut (Syntax.tyInt Syntax.w8)),
-    ) (List._∷_ (
-      10,
-      Rows'.any-gone (Syntax.tyRef Syntax.erased Syntax.mut (Syntax.tyInt Syntax.w8)),
-    ) (List._∷_ (
-      11,
-      Rows'.any-gone
-          (Syntax.tyStruct
-          (List._∷_ 38 (List._∷_ 91 (List._∷_ 93 List.[])))
-          (Syntax.tcons
-          (Syntax.tyRef Syntax.erased Syntax.mut (Syntax.tyInt Syntax.w8))
-          (Syntax.tcons (Syntax.tyInt Syntax.w64) Syntax.tnil))),
-    ) List.[])))))))))))
-
-abbrev pub t12 : List.List Row.Entry
-t12 = List._∷_ (0, Rows'.any-gone (Syntax.tyInt Syntax.w64)) (List._∷_ (
+abbrev pub t8 : List.List Row.Entry
+t8 = List._∷_ (0, Rows'.any-gone (Syntax.tyInt Syntax.w64)) (List._∷_ (
   1,
   Relend.mslice-owed
       (Referent.rtF (Referent.fInt Syntax.w8))
@@ -1271,33 +945,105 @@ t12 = List._∷_ (0, Rows'.any-gone (Syntax.tyInt Syntax.w64)) (List._∷_ (
       Row.off,
 ) (List._∷_ (
   2,
-  Rows'.any-gone
-      (Syntax.tyStruct
-      (List._∷_
-      111
-      (List._∷_
-      119
-      (List._∷_
-      110
-      (List._∷_ 58 (List._∷_ 58 (List._∷_ 79 (List._∷_ 119 (List._∷_ 110 List.[]))))))))
-      (Syntax.tcons
-      (Syntax.tyArray (Syntax.tyInt Syntax.w8) 16)
-      (Syntax.tcons (Syntax.tyArray (Syntax.tyInt Syntax.w8) 16) Syntax.tnil))),
+  Rows'.sref
+      (KOwn.R)
+      (Syntax.tyRef (Syntax.named 1) Syntax.imm (KOwn.named))
+      1,
 ) (List._∷_ (
   3,
   Rows'.sref
       (KPost.R)
-      (Syntax.tyRef (Syntax.named 1) Syntax.imm (KPost.named))
-      1,
+      (Syntax.tyRef (Syntax.named 2) Syntax.imm (KPost.named))
+      2,
 ) (List._∷_ (
   4,
   Rows'.sref
       (Array'.Array (Array'.Array (Referent.rtF (Referent.fInt Syntax.w8)) 16) 16)
       (Syntax.tyRef
-      (Syntax.named 2)
+      (Syntax.named 3)
       Syntax.imm
       (Syntax.tyArray (Syntax.tyArray (Syntax.tyInt Syntax.w8) 16) 16))
+      3,
+) (List._∷_ (
+  5,
+  Rows'.any-gone
+      (Syntax.tyEnum
+      (List._∷_
+      100
+      (List._∷_
+      101
+      (List._∷_
+      99
+      (List._∷_
+      105
+      (List._∷_
+      115
+      (List._∷_
+      105
+      (List._∷_
+      111
+      (List._∷_
+      110
+      (List._∷_
+      58
+      (List._∷_ 58 (List._∷_ 87 (List._∷_ 104 (List._∷_ 97 (List._∷_ 116 List.[]))))))))))))))
+      (Syntax.ttcons
+      Syntax.tnil
+      (Syntax.ttcons Syntax.tnil (Syntax.ttcons Syntax.tnil Syntax.ttnil)))),
+) (List._∷_ (6, Rows'.any-gone (KPost.spelled)) (List._∷_ (
+  7,
+  Rows'.sc-here (Row.sInt Syntax.w64),
+)
+    (List._∷_
+    (8, Rows'.any-gone (Syntax.tyRef Syntax.erased Syntax.mut (Syntax.tyInt Syntax.w8)))
+    (List._∷_ (
+      9,
+      Mut.msleft
+          (Referent.rtF (Referent.fInt Syntax.w8))
+          (Syntax.tyRef Syntax.erased Syntax.mut (Syntax.tyInt Syntax.w8)),
+    ) (List._∷_ (
+      10,
+      Rows'.any-gone (Syntax.tyRef Syntax.erased Syntax.mut (Syntax.tyInt Syntax.w8)),
+    ) (List._∷_ (
+      11,
+      Rows'.any-gone
+          (Syntax.tyStruct
+          (List._∷_ 38 (List._∷_ 91 (List._∷_ 93 List.[])))
+          (Syntax.tcons
+          (Syntax.tyRef Syntax.erased Syntax.mut (Syntax.tyInt Syntax.w8))
+          (Syntax.tcons (Syntax.tyInt Syntax.w64) Syntax.tnil))),
+    ) List.[])))))))))))
+
+abbrev pub t9 : List.List Row.Entry
+t9 = List._∷_ (0, Rows'.any-gone (Syntax.tyInt Syntax.w64)) (List._∷_ (
+  1,
+  Relend.mslice-owed
+      (Referent.rtF (Referent.fInt Syntax.w8))
+      (Syntax.tyRef (Syntax.named 0) Syntax.mut (Syntax.tyInt Syntax.w8))
+      0
+      5
+      Row.off,
+) (List._∷_ (
+  2,
+  Rows'.sref
+      (KOwn.R)
+      (Syntax.tyRef (Syntax.named 1) Syntax.imm (KOwn.named))
+      1,
+) (List._∷_ (
+  3,
+  Rows'.sref
+      (KPost.R)
+      (Syntax.tyRef (Syntax.named 2) Syntax.imm (KPost.named))
       2,
+) (List._∷_ (
+  4,
+  Rows'.sref
+      (Array'.Array (Array'.Array (Referent.rtF (Referent.fInt Syntax.w8)) 16) 16)
+      (Syntax.tyRef
+      (Syntax.named 3)
+      Syntax.imm
+      (Syntax.tyArray (Syntax.tyArray (Syntax.tyInt Syntax.w8) 16) 16))
+      3,
 ) (List._∷_ (
   5,
   Rows'.any-gone
@@ -1343,7 +1089,7 @@ t12 = List._∷_ (0, Rows'.any-gone (Syntax.tyInt Syntax.w64)) (List._∷_ (
       Relend.msptr
           (Referent.rtF (Referent.fInt Syntax.w8))
           (Syntax.tyRef Syntax.erased Syntax.mut (Syntax.tyInt Syntax.w8))
-          4,
+          5,
     ) (List._∷_ (
       11,
       Rows'.any-gone
@@ -1354,44 +1100,36 @@ t12 = List._∷_ (0, Rows'.any-gone (Syntax.tyInt Syntax.w64)) (List._∷_ (
           (Syntax.tcons (Syntax.tyInt Syntax.w64) Syntax.tnil))),
     ) List.[])))))))))))
 
-abbrev pub t13 : List.List Row.Entry
-t13 = List._∷_ (0, Rows'.any-gone (Syntax.tyInt Syntax.w64)) (List._∷_ (
+abbrev pub t10 : List.List Row.Entry
+t10 = List._∷_ (0, Rows'.any-gone (Syntax.tyInt Syntax.w64)) (List._∷_ (
   1,
   Relend.mslice-owed
       (Referent.rtF (Referent.fInt Syntax.w8))
       (Syntax.tyRef (Syntax.named 0) Syntax.mut (Syntax.tyInt Syntax.w8))
       0
-      4
+      5
       Row.off,
 ) (List._∷_ (
   2,
-  Rows'.any-gone
-      (Syntax.tyStruct
-      (List._∷_
-      111
-      (List._∷_
-      119
-      (List._∷_
-      110
-      (List._∷_ 58 (List._∷_ 58 (List._∷_ 79 (List._∷_ 119 (List._∷_ 110 List.[]))))))))
-      (Syntax.tcons
-      (Syntax.tyArray (Syntax.tyInt Syntax.w8) 16)
-      (Syntax.tcons (Syntax.tyArray (Syntax.tyInt Syntax.w8) 16) Syntax.tnil))),
+  Rows'.sref
+      (KOwn.R)
+      (Syntax.tyRef (Syntax.named 1) Syntax.imm (KOwn.named))
+      1,
 ) (List._∷_ (
   3,
   Rows'.sref
       (KPost.R)
-      (Syntax.tyRef (Syntax.named 1) Syntax.imm (KPost.named))
-      1,
+      (Syntax.tyRef (Syntax.named 2) Syntax.imm (KPost.named))
+      2,
 ) (List._∷_ (
   4,
   Rows'.sref
       (Array'.Array (Array'.Array (Referent.rtF (Referent.fInt Syntax.w8)) 16) 16)
       (Syntax.tyRef
-      (Syntax.named 2)
+      (Syntax.named 3)
       Syntax.imm
       (Syntax.tyArray (Syntax.tyArray (Syntax.tyInt Syntax.w8) 16) 16))
-      2,
+      3,
 ) (List._∷_ (
   5,
   Rows'.any-gone
@@ -1440,47 +1178,39 @@ t13 = List._∷_ (0, Rows'.any-gone (Syntax.tyInt Syntax.w64)) (List._∷_ (
       Mut.mslice
           (Referent.rtF (Referent.fInt Syntax.w8))
           (Syntax.tyRef Syntax.erased Syntax.mut (Syntax.tyInt Syntax.w8))
-          4,
+          5,
     ) List.[])))))))))))
 
-abbrev pub t14 : List.List Row.Entry
-t14 = List._∷_ (0, Rows'.any-gone (Syntax.tyInt Syntax.w64)) (List._∷_ (
+abbrev pub t11 : List.List Row.Entry
+t11 = List._∷_ (0, Rows'.any-gone (Syntax.tyInt Syntax.w64)) (List._∷_ (
   1,
   Relend.mslice-owed
       (Referent.rtF (Referent.fInt Syntax.w8))
       (Syntax.tyRef (Syntax.named 0) Syntax.mut (Syntax.tyInt Syntax.w8))
       0
-      4
+      5
       Row.off,
 ) (List._∷_ (
   2,
-  Rows'.any-gone
-      (Syntax.tyStruct
-      (List._∷_
-      111
-      (List._∷_
-      119
-      (List._∷_
-      110
-      (List._∷_ 58 (List._∷_ 58 (List._∷_ 79 (List._∷_ 119 (List._∷_ 110 List.[]))))))))
-      (Syntax.tcons
-      (Syntax.tyArray (Syntax.tyInt Syntax.w8) 16)
-      (Syntax.tcons (Syntax.tyArray (Syntax.tyInt Syntax.w8) 16) Syntax.tnil))),
+  Rows'.sref
+      (KOwn.R)
+      (Syntax.tyRef (Syntax.named 1) Syntax.imm (KOwn.named))
+      1,
 ) (List._∷_ (
   3,
   Rows'.sref
       (KPost.R)
-      (Syntax.tyRef (Syntax.named 1) Syntax.imm (KPost.named))
-      1,
+      (Syntax.tyRef (Syntax.named 2) Syntax.imm (KPost.named))
+      2,
 ) (List._∷_ (
   4,
   Rows'.sref
       (Array'.Array (Array'.Array (Referent.rtF (Referent.fInt Syntax.w8)) 16) 16)
       (Syntax.tyRef
-      (Syntax.named 2)
+      (Syntax.named 3)
       Syntax.imm
       (Syntax.tyArray (Syntax.tyArray (Syntax.tyInt Syntax.w8) 16) 16))
-      2,
+      3,
 ) (List._∷_ (
   5,
   Rows'.any-gone
@@ -1531,8 +1261,8 @@ t14 = List._∷_ (0, Rows'.any-gone (Syntax.tyInt Syntax.w64)) (List._∷_ (
           (Syntax.tyRef Syntax.erased Syntax.mut (Syntax.tyInt Syntax.w8)),
     ) List.[])))))))))))
 
-abbrev pub t15 : List.List Row.Entry
-t15 = List._∷_ (0, Rows'.sc-here (Row.sInt Syntax.w64)) (List._∷_ (
+abbrev pub t12 : List.List Row.Entry
+t12 = List._∷_ (0, Rows'.sc-here (Row.sInt Syntax.w64)) (List._∷_ (
   1,
   Mut.mslice
       (Referent.rtF (Referent.fInt Syntax.w8))
@@ -1540,33 +1270,25 @@ t15 = List._∷_ (0, Rows'.sc-here (Row.sInt Syntax.w64)) (List._∷_ (
       0,
 ) (List._∷_ (
   2,
-  Rows'.any-gone
-      (Syntax.tyStruct
-      (List._∷_
-      111
-      (List._∷_
-      119
-      (List._∷_
-      110
-      (List._∷_ 58 (List._∷_ 58 (List._∷_ 79 (List._∷_ 119 (List._∷_ 110 List.[]))))))))
-      (Syntax.tcons
-      (Syntax.tyArray (Syntax.tyInt Syntax.w8) 16)
-      (Syntax.tcons (Syntax.tyArray (Syntax.tyInt Syntax.w8) 16) Syntax.tnil))),
+  Rows'.sref
+      (KOwn.R)
+      (Syntax.tyRef (Syntax.named 1) Syntax.imm (KOwn.named))
+      1,
 ) (List._∷_ (
   3,
   Rows'.sref
       (KPost.R)
-      (Syntax.tyRef (Syntax.named 1) Syntax.imm (KPost.named))
-      1,
+      (Syntax.tyRef (Syntax.named 2) Syntax.imm (KPost.named))
+      2,
 ) (List._∷_ (
   4,
   Rows'.sref
       (Array'.Array (Array'.Array (Referent.rtF (Referent.fInt Syntax.w8)) 16) 16)
       (Syntax.tyRef
-      (Syntax.named 2)
+      (Syntax.named 3)
       Syntax.imm
       (Syntax.tyArray (Syntax.tyArray (Syntax.tyInt Syntax.w8) 16) 16))
-      2,
+      3,
 ) (List._∷_ (
   5,
   Rows'.any-gone
@@ -1645,67 +1367,58 @@ abbrev pub T7 : Row.Cx
 T7 = record { locals = t5; slots = List.[] }
 
 abbrev pub T8 : Row.Cx
-T8 = record { locals = t6; slots = List.[] }
+T8 = record { locals = t0; slots = List.[] }
 
 abbrev pub T9 : Row.Cx
-T9 = record { locals = t7; slots = List.[] }
+T9 = record { locals = t4; slots = List.[] }
 
 abbrev pub T10 : Row.Cx
-T10 = record { locals = t4; slots = List.[] }
+T10 = record { locals = t5; slots = List.[] }
 
 abbrev pub T11 : Row.Cx
-T11 = record { locals = t5; slots = List.[] }
+T11 = record { locals = t0; slots = List.[] }
 
-abbrev pub T12 : Row.Cx
-T12 = record { locals = t0; slots = List.[] }
+abbrev pub T13 : Row.Cx
+T13 = record { locals = t6; slots = List.[] }
 
 abbrev pub T14 : Row.Cx
-T14 = record { locals = t8; slots = List.[] }
+T14 = record { locals = t7; slots = List.[] }
 
 abbrev pub T15 : Row.Cx
-T15 = record { locals = t9; slots = List.[] }
-
-abbrev pub T16 : Row.Cx
-T16 = record { locals = t10; slots = List.[] }
+T15 = record { locals = t8; slots = List.[] }
 
 abbrev pub T17 : Row.Cx
-T17 = record { locals = t11; slots = List.[] }
+T17 = record { locals = t4; slots = List.[] }
 
-abbrev pub T19 : Row.Cx
-T19 = record { locals = t4; slots = List.[] }
+abbrev pub T18 : Row.Cx
+T18 = record { locals = t4; slots = List.[] }
 
 abbrev pub T20 : Row.Cx
-T20 = record { locals = t4; slots = List.[] }
+T20 = record { locals = t5; slots = List.[] }
 
-abbrev pub T22 : Row.Cx
-T22 = record { locals = t5; slots = List.[] }
+abbrev pub T21 : Row.Cx
+T21 = record { locals = t0; slots = List.[] }
 
 abbrev pub T23 : Row.Cx
-T23 = record { locals = t6; slots = List.[] }
+T23 = record { locals = t9; slots = List.[] }
 
 abbrev pub T24 : Row.Cx
-T24 = record { locals = t7; slots = List.[] }
+T24 = record { locals = t10; slots = List.[] }
 
-abbrev pub T26 : Row.Cx
-T26 = record { locals = t12; slots = List.[] }
+abbrev pub T25 : Row.Cx
+T25 = record { locals = t11; slots = List.[] }
 
 abbrev pub T27 : Row.Cx
-T27 = record { locals = t13; slots = List.[] }
+T27 = record { locals = t4; slots = List.[] }
 
 abbrev pub T28 : Row.Cx
-T28 = record { locals = t14; slots = List.[] }
+T28 = record { locals = t4; slots = List.[] }
 
 abbrev pub T30 : Row.Cx
-T30 = record { locals = t4; slots = List.[] }
+T30 = record { locals = t12; slots = List.[] }
 
 abbrev pub T31 : Row.Cx
-T31 = record { locals = t4; slots = List.[] }
-
-abbrev pub T33 : Row.Cx
-T33 = record { locals = t15; slots = List.[] }
-
-abbrev pub T34 : Row.Cx
-T34 = record { locals = t1; slots = List.[] }
+T31 = record { locals = t1; slots = List.[] }
 
 abbrev pub O0 : Typed.Outs
 O0 = record { next = Option.none; exits = List.[]; returns = Option.some T1 }
@@ -1732,12 +1445,12 @@ module _ (claims· : Claims) where
       T2
       3
       6
-      1
+      2
       (KPost.R)
       (Rows'.sref
       (KPost.R)
-      (Syntax.tyRef (Syntax.named 1) Syntax.imm (KPost.named))
-      1)
+      (Syntax.tyRef (Syntax.named 2) Syntax.imm (KPost.named))
+      2)
       Row.off
       (KPost.row)
       (λ x. x)
@@ -1786,23 +1499,6 @@ module _ (claims· : Claims) where
   s5 =
       Scalar.n-room
       T7
-      2
-      (Syntax.tyStruct
-      (List._∷_
-      111
-      (List._∷_
-      119
-      (List._∷_
-      110
-      (List._∷_ 58 (List._∷_ 58 (List._∷_ 79 (List._∷_ 119 (List._∷_ 110 List.[]))))))))
-      (Syntax.tcons
-      (Syntax.tyArray (Syntax.tyInt Syntax.w8) 16)
-      (Syntax.tcons (Syntax.tyArray (Syntax.tyInt Syntax.w8) 16) Syntax.tnil)))
-
-  abbrev s6 : Typed.Mo T8 → Typed.Mo T9
-  s6 =
-      Scalar.n-room
-      T8
       5
       (Syntax.tyEnum
       (List._∷_
@@ -1828,22 +1524,22 @@ module _ (claims· : Claims) where
       Syntax.tnil
       (Syntax.ttcons Syntax.tnil (Syntax.ttcons Syntax.tnil Syntax.ttnil))))
 
-  abbrev s7 : Typed.Mo T9 → Typed.Mo T10
-  s7 =
+  abbrev s6 : Typed.Mo T8 → Typed.Mo T9
+  s6 =
       Scalar.n-use
-      T9
+      T8
       (Scalar.oInt Syntax.w64 0)
       7
       (Rows'.sc-here (Row.sInt Syntax.w64))
       (Row.sInt Syntax.w64 .of)
 
-  abbrev s8 : Typed.Both T6 T11
-  s8 = Known.k-enum-told What.enum 1 T6 5 λ x. x
+  abbrev s7 : Typed.Both T6 T10
+  s7 = Known.k-enum-told What.enum 1 T6 5 λ x. x
 
-  abbrev s9 : Typed.Mo T11 → Typed.Mo T12
-  s9 =
+  abbrev s8 : Typed.Mo T10 → Typed.Mo T11
+  s8 =
       Scalar.n-room
-      T11
+      T10
       5
       (Syntax.tyEnum
       (List._∷_
@@ -1869,29 +1565,29 @@ module _ (claims· : Claims) where
       Syntax.tnil
       (Syntax.ttcons Syntax.tnil (Syntax.ttcons Syntax.tnil Syntax.ttnil))))
 
-  abbrev s11 : Typed.Gives T12 T14
-  s11 =
+  abbrev s10 : Typed.Gives T11 T13
+  s10 =
       Relend.k-sl-relend
       (Referent.rtF (Referent.fInt Syntax.w8))
-      T12
+      T11
       1
       8
       0
-      3
+      4
       (Syntax.tyRef (Syntax.named 0) Syntax.mut (Syntax.tyInt Syntax.w8))
       (Syntax.tyRef Syntax.erased Syntax.mut (Syntax.tyInt Syntax.w8))
       Row.off
       λ x. x
 
-  abbrev s12 : Typed.Asks T14 T15
-  s12 =
+  abbrev s11 : Typed.Asks T13 T14
+  s11 =
       Relend.k-sl-aggregate
       (Referent.rtF (Referent.fInt Syntax.w8))
       (Relend.asMut (Referent.rtF (Referent.fInt Syntax.w8)))
-      T14
+      T13
       8
       9
-      3
+      4
       (Syntax.tyRef Syntax.erased Syntax.mut (Syntax.tyInt Syntax.w8))
       (Syntax.tyRef Syntax.erased Syntax.mut (Syntax.tyInt Syntax.w8))
       (λ x. x)
@@ -1903,20 +1599,24 @@ module _ (claims· : Claims) where
       λ v. Shared.lenV
       (v .0))
 
-  abbrev s13 : Typed.Both T15 T16
-  s13 = Call.callB ps·1 r·1 (claims· .2) (claims· .3) T15 (
+  abbrev s12 : Typed.Both T14 T15
+  s12 = Call.callB ps·1 r·1 (claims· .2) (claims· .3) T14 (
     record {
       pos = 9;
       ty = Syntax.tyRef Syntax.erased Syntax.mut (Syntax.tyInt Syntax.w8);
       ref = λ x. x;
     },
     (
-      record { pos = 2; st = List.[]; d = 0; at = λ x. x },
+      record {
+        pos = 2;
+        ty = Syntax.tyRef (Syntax.named 1) Syntax.imm (KOwn.named);
+        ref = λ x. x;
+      },
       (
         record {
           pos = 3;
           ty = Syntax.tyRef
-              (Syntax.named 1)
+              (Syntax.named 2)
               Syntax.imm
               (KPost.named);
           ref = λ x. x;
@@ -1925,7 +1625,7 @@ module _ (claims· : Claims) where
           record {
             pos = 4;
             ty = Syntax.tyRef
-                (Syntax.named 2)
+                (Syntax.named 3)
                 Syntax.imm
                 (Syntax.tyArray (Syntax.tyArray (Syntax.tyInt Syntax.w8) 16) 16);
             ref = λ x. x;
@@ -1934,45 +1634,28 @@ module _ (claims· : Claims) where
         ),
       ),
     ),
-  ) 7 (List._∷_ 3 (List._∷_ 1 (List._∷_ 2 List.[]))) (Syntax.tyInt Syntax.w64)
+  ) 7 (List._∷_ 4 (List._∷_ 1 (List._∷_ 2 (List._∷_ 3 List.[])))) (Syntax.tyInt Syntax.w64)
 
-  abbrev s14 : Typed.Mo T16 → Typed.Mo T17
+  abbrev s14 : Typed.Both T15 T17
   s14 =
-      Scalar.n-room
-      T16
-      2
-      (Syntax.tyStruct
-      (List._∷_
-      111
-      (List._∷_
-      119
-      (List._∷_
-      110
-      (List._∷_ 58 (List._∷_ 58 (List._∷_ 79 (List._∷_ 119 (List._∷_ 110 List.[]))))))))
-      (Syntax.tcons
-      (Syntax.tyArray (Syntax.tyInt Syntax.w8) 16)
-      (Syntax.tcons (Syntax.tyArray (Syntax.tyInt Syntax.w8) 16) Syntax.tnil)))
-
-  abbrev s16 : Typed.Both T17 T19
-  s16 =
       Relend.k-back-sl
       (Referent.rtF (Referent.fInt Syntax.w8))
-      T17
+      T15
       9
       1
       0
-      3
+      4
       (Syntax.tyRef (Syntax.named 0) Syntax.mut (Syntax.tyInt Syntax.w8))
       (Syntax.tyRef Syntax.erased Syntax.mut (Syntax.tyInt Syntax.w8))
       Row.off
       (λ x. x)
       λ x. x
 
-  abbrev s17 : Typed.Gives T19 T20
-  s17 =
+  abbrev s15 : Typed.Gives T17 T18
+  s15 =
       Know.k-sl-known
       (Referent.fInt Syntax.w8)
-      T19
+      T17
       1
       0
       (Syntax.tyRef (Syntax.named 0) Syntax.mut (Syntax.tyInt Syntax.w8))
@@ -1980,30 +1663,13 @@ module _ (claims· : Claims) where
       0
       λ x. x
 
-  abbrev s19 : Typed.Both T6 T22
-  s19 = Known.k-enum-told What.enum 2 T6 5 λ x. x
+  abbrev s17 : Typed.Both T6 T20
+  s17 = Known.k-enum-told What.enum 2 T6 5 λ x. x
 
-  abbrev s20 : Typed.Mo T22 → Typed.Mo T23
-  s20 =
+  abbrev s18 : Typed.Mo T20 → Typed.Mo T21
+  s18 =
       Scalar.n-room
-      T22
-      2
-      (Syntax.tyStruct
-      (List._∷_
-      111
-      (List._∷_
-      119
-      (List._∷_
-      110
-      (List._∷_ 58 (List._∷_ 58 (List._∷_ 79 (List._∷_ 119 (List._∷_ 110 List.[]))))))))
-      (Syntax.tcons
-      (Syntax.tyArray (Syntax.tyInt Syntax.w8) 16)
-      (Syntax.tcons (Syntax.tyArray (Syntax.tyInt Syntax.w8) 16) Syntax.tnil)))
-
-  abbrev s21 : Typed.Mo T23 → Typed.Mo T24
-  s21 =
-      Scalar.n-room
-      T23
+      T20
       5
       (Syntax.tyEnum
       (List._∷_
@@ -2029,29 +1695,29 @@ module _ (claims· : Claims) where
       Syntax.tnil
       (Syntax.ttcons Syntax.tnil (Syntax.ttcons Syntax.tnil Syntax.ttnil))))
 
-  abbrev s23 : Typed.Gives T24 T26
-  s23 =
+  abbrev s20 : Typed.Gives T21 T23
+  s20 =
       Relend.k-sl-relend
       (Referent.rtF (Referent.fInt Syntax.w8))
-      T24
+      T21
       1
       10
       0
-      4
+      5
       (Syntax.tyRef (Syntax.named 0) Syntax.mut (Syntax.tyInt Syntax.w8))
       (Syntax.tyRef Syntax.erased Syntax.mut (Syntax.tyInt Syntax.w8))
       Row.off
       λ x. x
 
-  abbrev s24 : Typed.Asks T26 T27
-  s24 =
+  abbrev s21 : Typed.Asks T23 T24
+  s21 =
       Relend.k-sl-aggregate
       (Referent.rtF (Referent.fInt Syntax.w8))
       (Relend.asMut (Referent.rtF (Referent.fInt Syntax.w8)))
-      T26
+      T23
       10
       11
-      4
+      5
       (Syntax.tyRef Syntax.erased Syntax.mut (Syntax.tyInt Syntax.w8))
       (Syntax.tyRef Syntax.erased Syntax.mut (Syntax.tyInt Syntax.w8))
       (λ x. x)
@@ -2063,8 +1729,8 @@ module _ (claims· : Claims) where
       λ v. Shared.lenV
       (v .0))
 
-  abbrev s25 : Typed.Both T27 T28
-  s25 = Call.callB ps·2 r·2 (claims· .4) (claims· .5) T27 (
+  abbrev s22 : Typed.Both T24 T25
+  s22 = Call.callB ps·2 r·2 (claims· .4) (claims· .5) T24 (
     record {
       pos = 11;
       ty = Syntax.tyRef Syntax.erased Syntax.mut (Syntax.tyInt Syntax.w8);
@@ -2074,7 +1740,7 @@ module _ (claims· : Claims) where
       record {
         pos = 3;
         ty = Syntax.tyRef
-            (Syntax.named 1)
+            (Syntax.named 2)
             Syntax.imm
             (KPost.named);
         ref = λ x. x;
@@ -2083,7 +1749,7 @@ module _ (claims· : Claims) where
         record {
           pos = 4;
           ty = Syntax.tyRef
-              (Syntax.named 2)
+              (Syntax.named 3)
               Syntax.imm
               (Syntax.tyArray (Syntax.tyArray (Syntax.tyInt Syntax.w8) 16) 16);
           ref = λ x. x;
@@ -2091,28 +1757,28 @@ module _ (claims· : Claims) where
         tt,
       ),
     ),
-  ) 7 (List._∷_ 4 (List._∷_ 1 (List._∷_ 2 List.[]))) (Syntax.tyInt Syntax.w64)
+  ) 7 (List._∷_ 5 (List._∷_ 2 (List._∷_ 3 List.[]))) (Syntax.tyInt Syntax.w64)
 
-  abbrev s27 : Typed.Both T28 T30
-  s27 =
+  abbrev s24 : Typed.Both T25 T27
+  s24 =
       Relend.k-back-sl
       (Referent.rtF (Referent.fInt Syntax.w8))
-      T28
+      T25
       11
       1
       0
-      4
+      5
       (Syntax.tyRef (Syntax.named 0) Syntax.mut (Syntax.tyInt Syntax.w8))
       (Syntax.tyRef Syntax.erased Syntax.mut (Syntax.tyInt Syntax.w8))
       Row.off
       (λ x. x)
       λ x. x
 
-  abbrev s28 : Typed.Gives T30 T31
-  s28 =
+  abbrev s25 : Typed.Gives T27 T28
+  s25 =
       Know.k-sl-known
       (Referent.fInt Syntax.w8)
-      T30
+      T27
       1
       0
       (Syntax.tyRef (Syntax.named 0) Syntax.mut (Syntax.tyInt Syntax.w8))
@@ -2120,8 +1786,8 @@ module _ (claims· : Claims) where
       0
       λ x. x
 
-  abbrev s30 : Typed.Mo T5 → Typed.Mo T33
-  s30 =
+  abbrev s27 : Typed.Mo T5 → Typed.Mo T30
+  s27 =
       Scalar.n-use
       T5
       (Scalar.oAt 7 (Syntax.tyInt Syntax.w64) (Row.valS (Row.sInt Syntax.w64)))
@@ -2129,78 +1795,69 @@ module _ (claims· : Claims) where
       (Rows'.sc-here (Row.sInt Syntax.w64))
       (Row.sInt Syntax.w64 .of)
 
-  abbrev s31 : Typed.Mo T33 → Typed.Mo T34
-  s31 = Scalar.n-room T33 7 (Syntax.tyInt Syntax.w64)
+  abbrev s28 : Typed.Mo T30 → Typed.Mo T31
+  s28 = Scalar.n-room T30 7 (Syntax.tyInt Syntax.w64)
 
-  module _ (Pre· : (κs : Lifetimes.Lfts 3) → Kinds.Dens κs ps → Type 0)
-      (Post· : (κs : Lifetimes.Lfts 3) → (a : Kinds.Dens κs ps) → Kinds.Plain 3 ps r κs) where
+  module _ (Pre· : (κs : Lifetimes.Lfts 4) → Kinds.Dens κs ps → Type 0)
+      (Post· : (κs : Lifetimes.Lfts 4) → (a : Kinds.Dens κs ps) → Kinds.Plain 4 ps r κs) where
     module _ (M : Type 1) where
       abbrev pub Closed : Type 2
       Closed =
           (𝓤 : URA.URA M) (H : Wp.Heap 𝓤) (A : Atoms.Atoms 𝓤) (W : Kit.Given 𝓤 H A) (𝓣 : Wp.Tables
           𝓤 H) (known0 : Plain.Known 𝓤 H A W 𝓣 0 ps·0 r·0 (claims· .0) (claims· .1)
-          "post::what_of") (known1 : Plain.Known 𝓤 H A W 𝓣 3 ps·1 r·1 (claims· .2) (claims· .3)
+          "post::what_of") (known1 : Plain.Known 𝓤 H A W 𝓣 4 ps·1 r·1 (claims· .2) (claims· .3)
           "post::put_dio") (known2 : Plain.Known 𝓤 H A W 𝓣 3 ps·2 r·2 (claims· .4) (claims· .5)
-          "post::put_route_path") → Statement.Triple 𝓤 (Wp.WpFn 𝓤 H (𝓣 .C) (𝓣 .Λ) (Function.fnOf 3
-          ps r xs m hs body)) (Function.plainOf 𝓤 H A 3 ps r Pre· Post·)
+          "post::put_route_path") → Statement.Triple 𝓤 (Wp.WpFn 𝓤 H (𝓣 .C) (𝓣 .Λ) (Function.fnOf 4
+          ps r xs m hs body)) (Function.plainOf 𝓤 H A 4 ps r Pre· Post·)
 
     module _ where
-      abbrev at0 : Typed.TF T9 O1
-      at0 = λ Ψ. Typed.pass T9 T10 s7 (Typed.atNext O1 Ψ)
+      abbrev at0 : Typed.TF T8 O1
+      at0 = λ Ψ. Typed.pass T8 T9 s6 (Typed.atNext O1 Ψ)
 
-      abbrev at1 : Typed.TF T8 O1
-      at1 = λ Ψ. Typed.pass T8 T9 s6 (at0 Ψ)
+      abbrev at1 : Typed.TF T7 O1
+      at1 = λ Ψ. Typed.pass T7 T8 s5 (at0 Ψ)
 
-      abbrev at2 : Typed.TF T7 O1
-      at2 = λ Ψ. Typed.pass T7 T8 s5 (at1 Ψ)
+      abbrev at2 : Typed.TF T6 O1
+      at2 = λ Ψ. Typed.both s4 (at1 Ψ)
 
-      abbrev at3 : Typed.TF T6 O1
-      at3 = λ Ψ. Typed.both s4 (at2 Ψ)
+      abbrev at3 : Typed.TF T14 O1
+      at3 = λ Ψ. Typed.both s12 (Typed.both s14 (Typed.give s15 (Typed.atNext O1 Ψ)))
 
-      abbrev at4 : Typed.TF T15 O1
-      at4 =
-          λ Ψ. Typed.both
-          s13
-          (Typed.pass T16 T17 s14 (Typed.both s16 (Typed.give s17 (Typed.atNext O1 Ψ))))
+      abbrev at4 : Typed.TF T13 O1
+      at4 = λ Ψ. Typed.ask s11 (at3 Ψ)
 
-      abbrev at5 : Typed.TF T14 O1
-      at5 = λ Ψ. Typed.ask s12 (at4 Ψ)
+      abbrev at5 : Typed.TF T11 O1
+      at5 = λ Ψ. Typed.give s10 (at4 Ψ)
 
-      abbrev at6 : Typed.TF T12 O1
-      at6 = λ Ψ. Typed.give s11 (at5 Ψ)
+      abbrev at6 : Typed.TF T11 O1
+      at6 = λ Ψ. at5 Ψ
 
-      abbrev at7 : Typed.TF T12 O1
-      at7 = λ Ψ. at6 Ψ
+      abbrev at7 : Typed.TF T10 O1
+      at7 = λ Ψ. Typed.pass T10 T11 s8 (at6 Ψ)
 
-      abbrev at8 : Typed.TF T11 O1
-      at8 = λ Ψ. Typed.pass T11 T12 s9 (at7 Ψ)
+      abbrev at8 : Typed.TF T6 O1
+      at8 = λ Ψ. Typed.both s7 (at7 Ψ)
 
-      abbrev at9 : Typed.TF T6 O1
-      at9 = λ Ψ. Typed.both s8 (at8 Ψ)
+      abbrev at9 : Typed.TF T24 O1
+      at9 = λ Ψ. Typed.both s22 (Typed.both s24 (Typed.give s25 (Typed.atNext O1 Ψ)))
 
-      abbrev at10 : Typed.TF T27 O1
-      at10 = λ Ψ. Typed.both s25 (Typed.both s27 (Typed.give s28 (Typed.atNext O1 Ψ)))
+      abbrev at10 : Typed.TF T23 O1
+      at10 = λ Ψ. Typed.ask s21 (at9 Ψ)
 
-      abbrev at11 : Typed.TF T26 O1
-      at11 = λ Ψ. Typed.ask s24 (at10 Ψ)
+      abbrev at11 : Typed.TF T21 O1
+      at11 = λ Ψ. Typed.give s20 (at10 Ψ)
 
-      abbrev at12 : Typed.TF T24 O1
-      at12 = λ Ψ. Typed.give s23 (at11 Ψ)
+      abbrev at12 : Typed.TF T21 O1
+      at12 = λ Ψ. at11 Ψ
 
-      abbrev at13 : Typed.TF T24 O1
-      at13 = λ Ψ. at12 Ψ
+      abbrev at13 : Typed.TF T20 O1
+      at13 = λ Ψ. Typed.pass T20 T21 s18 (at12 Ψ)
 
-      abbrev at14 : Typed.TF T23 O1
-      at14 = λ Ψ. Typed.pass T23 T24 s21 (at13 Ψ)
+      abbrev at14 : Typed.TF T6 O1
+      at14 = λ Ψ. Typed.both s17 (at13 Ψ)
 
-      abbrev at15 : Typed.TF T22 O1
-      at15 = λ Ψ. Typed.pass T22 T23 s20 (at14 Ψ)
-
-      abbrev at16 : Typed.TF T6 O1
-      at16 = λ Ψ. Typed.both s19 (at15 Ψ)
-
-      abbrev at17 : Typed.TF T6 O1
-      at17 =
+      abbrev at15 : Typed.TF T6 O1
+      at15 =
           Switch.Φswitch
           T6
           O1
@@ -2213,71 +1870,80 @@ module _ (claims· : Claims) where
           (List._∷_ 1 List.[])
           b7
           (Syntax.arm (List._∷_ 2 List.[]) b12 Syntax.noDefault)))
-          (at3, (at9, (at16, tt)))
+          (at2, (at8, (at14, tt)))
 
-      abbrev at18 : Typed.TF T4 O1
-      at18 = λ Ψ. Typed.pass T4 T6 s3 (at17 Ψ)
+      abbrev at16 : Typed.TF T4 O1
+      at16 = λ Ψ. Typed.pass T4 T6 s3 (at15 Ψ)
 
-      abbrev at19 : Typed.TF T34 O0
-      at19 = Typed.atRet O0
+      abbrev at17 : Typed.TF T31 O0
+      at17 = Typed.atRet O0
 
-      abbrev at20 : Typed.TF T33 O0
-      at20 = λ Ψ. Typed.pass T33 T34 s31 (at19 Ψ)
+      abbrev at18 : Typed.TF T30 O0
+      at18 = λ Ψ. Typed.pass T30 T31 s28 (at17 Ψ)
 
-      abbrev at21 : Typed.TF T5 O0
-      at21 = λ Ψ. Typed.pass T5 T33 s30 (at20 Ψ)
+      abbrev at19 : Typed.TF T5 O0
+      at19 = λ Ψ. Typed.pass T5 T30 s27 (at18 Ψ)
 
-      abbrev at22 : Typed.TF T4 O0
-      at22 = λ Ψ. at18 (Typed.wantNext T5 O0 (at21 Ψ) Ψ)
+      abbrev at20 : Typed.TF T4 O0
+      at20 = λ Ψ. at16 (Typed.wantNext T5 O0 (at19 Ψ) Ψ)
 
-      abbrev at23 : Typed.TF T3 O0
-      at23 = λ Ψ. Typed.both s2 (at22 Ψ)
+      abbrev at21 : Typed.TF T3 O0
+      at21 = λ Ψ. Typed.both s2 (at20 Ψ)
 
-      abbrev at24 : Typed.TF T2 O0
-      at24 = λ Ψ. Typed.give s1 (at23 Ψ)
+      abbrev at22 : Typed.TF T2 O0
+      at22 = λ Ψ. Typed.give s1 (at21 Ψ)
 
-      abbrev at25 : Typed.TF T0 O0
-      at25 = λ Ψ. Typed.give s0 (at24 Ψ)
+      abbrev at23 : Typed.TF T0 O0
+      at23 = λ Ψ. Typed.give s0 (at22 Ψ)
 
       abbrev pub Φ : Typed.TF T0 O0
-      Φ = at25
+      Φ = at23
 
       module _ {M : Type 1} (𝓤 : URA.URA M) (H : Wp.Heap 𝓤) (A : Atoms.Atoms 𝓤)
           (W : Kit.Given 𝓤 H A) (𝓣 : Wp.Tables 𝓤 H) where
         abbrev Knowns : Type 1
         Knowns =
             Plain.Known 𝓤 H A W 𝓣 0 ps·0 r·0 (claims· .0) (claims· .1) "post::what_of" ×
-            Plain.Known 𝓤 H A W 𝓣 3 ps·1 r·1 (claims· .2) (claims· .3) "post::put_dio" ×
+            Plain.Known 𝓤 H A W 𝓣 4 ps·1 r·1 (claims· .2) (claims· .3) "post::put_dio" ×
             Plain.Known 𝓤 H A W 𝓣 3 ps·2 r·2 (claims· .4) (claims· .5) "post::put_route_path"
 
-      module _ (κs : Lifetimes.Lfts 3) (qs : Lifetimes.Shares 3) where
-        abbrev g8 : List.List Row.Entry
-        g8 = List._∷_ (0, Rows'.any-gone (Syntax.tyInt Syntax.w64)) (List._∷_ (
+      module _ (κs : Lifetimes.Lfts 4) (qs : Lifetimes.Shares 4) where
+        abbrev g6 : List.List Row.Entry
+        g6 = List._∷_ (0, Rows'.any-gone (Syntax.tyInt Syntax.w64)) (List._∷_ (
           1,
           Relend.mslice-owed
               (Referent.rtF (Referent.fInt Syntax.w8))
               (Syntax.tyRef (Syntax.named 0) Syntax.mut (Syntax.tyInt Syntax.w8))
               0
-              3
+              4
               (Row.lease (κs .0) (qs .0)),
-        ) (List._∷_ (2, Rows'.whole (Declared'.row Own.the-type)) (List._∷_ (
+        ) (List._∷_ (
+          2,
+          Rows'.sref
+              (KOwn.R)
+              (Syntax.tyRef
+              (Syntax.named 1)
+              Syntax.imm
+              (KOwn.named))
+              1,
+        ) (List._∷_ (
           3,
           Rows'.sref
               (KPost.R)
               (Syntax.tyRef
-              (Syntax.named 1)
+              (Syntax.named 2)
               Syntax.imm
               (KPost.named))
-              1,
+              2,
         ) (List._∷_ (
           4,
           Rows'.sref
               (Array'.Array (Array'.Array (Referent.rtF (Referent.fInt Syntax.w8)) 16) 16)
               (Syntax.tyRef
-              (Syntax.named 2)
+              (Syntax.named 3)
               Syntax.imm
               (Syntax.tyArray (Syntax.tyArray (Syntax.tyInt Syntax.w8) 16) 16))
-              2,
+              3,
         ) (List._∷_ (
           5,
           Rows'.any-gone
@@ -2314,7 +1980,7 @@ module _ (claims· : Claims) where
           Relend.msptr
               (Referent.rtF (Referent.fInt Syntax.w8))
               (Syntax.tyRef Syntax.erased Syntax.mut (Syntax.tyInt Syntax.w8))
-              3,
+              4,
         ) (List._∷_ (
           9,
           Rows'.any-gone
@@ -2323,6 +1989,183 @@ module _ (claims· : Claims) where
               (Syntax.tcons
               (Syntax.tyRef Syntax.erased Syntax.mut (Syntax.tyInt Syntax.w8))
               (Syntax.tcons (Syntax.tyInt Syntax.w64) Syntax.tnil))),
+        ) (List._∷_ (
+          10,
+          Rows'.any-gone (Syntax.tyRef Syntax.erased Syntax.mut (Syntax.tyInt Syntax.w8)),
+        ) (List._∷_ (
+          11,
+          Rows'.any-gone
+              (Syntax.tyStruct
+              (List._∷_ 38 (List._∷_ 91 (List._∷_ 93 List.[])))
+              (Syntax.tcons
+              (Syntax.tyRef Syntax.erased Syntax.mut (Syntax.tyInt Syntax.w8))
+              (Syntax.tcons (Syntax.tyInt Syntax.w64) Syntax.tnil))),
+        ) List.[])))))))))))
+
+        abbrev g7 : List.List Row.Entry
+        g7 = List._∷_ (0, Rows'.any-gone (Syntax.tyInt Syntax.w64)) (List._∷_ (
+          1,
+          Relend.mslice-owed
+              (Referent.rtF (Referent.fInt Syntax.w8))
+              (Syntax.tyRef (Syntax.named 0) Syntax.mut (Syntax.tyInt Syntax.w8))
+              0
+              4
+              (Row.lease (κs .0) (qs .0)),
+        ) (List._∷_ (
+          2,
+          Rows'.sref
+              (KOwn.R)
+              (Syntax.tyRef
+              (Syntax.named 1)
+              Syntax.imm
+              (KOwn.named))
+              1,
+        ) (List._∷_ (
+          3,
+          Rows'.sref
+              (KPost.R)
+              (Syntax.tyRef
+              (Syntax.named 2)
+              Syntax.imm
+              (KPost.named))
+              2,
+        ) (List._∷_ (
+          4,
+          Rows'.sref
+              (Array'.Array (Array'.Array (Referent.rtF (Referent.fInt Syntax.w8)) 16) 16)
+              (Syntax.tyRef
+              (Syntax.named 3)
+              Syntax.imm
+              (Syntax.tyArray (Syntax.tyArray (Syntax.tyInt Syntax.w8) 16) 16))
+              3,
+        ) (List._∷_ (
+          5,
+          Rows'.any-gone
+              (Syntax.tyEnum
+              (List._∷_
+              100
+              (List._∷_
+              101
+              (List._∷_
+              99
+              (List._∷_
+              105
+              (List._∷_
+              115
+              (List._∷_
+              105
+              (List._∷_
+              111
+              (List._∷_
+              110
+              (List._∷_
+              58
+              (List._∷_
+              58
+              (List._∷_ 87 (List._∷_ 104 (List._∷_ 97 (List._∷_ 116 List.[]))))))))))))))
+              (Syntax.ttcons
+              Syntax.tnil
+              (Syntax.ttcons Syntax.tnil (Syntax.ttcons Syntax.tnil Syntax.ttnil)))),
+        ) (List._∷_ (6, Rows'.any-gone (KPost.spelled)) (List._∷_ (
+          7,
+          Rows'.any-gone (Syntax.tyInt Syntax.w64),
+        ) (List._∷_ (
+          8,
+          Rows'.any-gone (Syntax.tyRef Syntax.erased Syntax.mut (Syntax.tyInt Syntax.w8)),
+        ) (List._∷_ (
+          9,
+          Mut.mslice
+              (Referent.rtF (Referent.fInt Syntax.w8))
+              (Syntax.tyRef Syntax.erased Syntax.mut (Syntax.tyInt Syntax.w8))
+              4,
+        ) (List._∷_ (
+          10,
+          Rows'.any-gone (Syntax.tyRef Syntax.erased Syntax.mut (Syntax.tyInt Syntax.w8)),
+        ) (List._∷_ (
+          11,
+          Rows'.any-gone
+              (Syntax.tyStruct
+              (List._∷_ 38 (List._∷_ 91 (List._∷_ 93 List.[])))
+              (Syntax.tcons
+              (Syntax.tyRef Syntax.erased Syntax.mut (Syntax.tyInt Syntax.w8))
+              (Syntax.tcons (Syntax.tyInt Syntax.w64) Syntax.tnil))),
+        ) List.[])))))))))))
+
+        abbrev g8 : List.List Row.Entry
+        g8 = List._∷_ (0, Rows'.any-gone (Syntax.tyInt Syntax.w64)) (List._∷_ (
+          1,
+          Relend.mslice-owed
+              (Referent.rtF (Referent.fInt Syntax.w8))
+              (Syntax.tyRef (Syntax.named 0) Syntax.mut (Syntax.tyInt Syntax.w8))
+              0
+              4
+              (Row.lease (κs .0) (qs .0)),
+        ) (List._∷_ (
+          2,
+          Rows'.sref
+              (KOwn.R)
+              (Syntax.tyRef
+              (Syntax.named 1)
+              Syntax.imm
+              (KOwn.named))
+              1,
+        ) (List._∷_ (
+          3,
+          Rows'.sref
+              (KPost.R)
+              (Syntax.tyRef
+              (Syntax.named 2)
+              Syntax.imm
+              (KPost.named))
+              2,
+        ) (List._∷_ (
+          4,
+          Rows'.sref
+              (Array'.Array (Array'.Array (Referent.rtF (Referent.fInt Syntax.w8)) 16) 16)
+              (Syntax.tyRef
+              (Syntax.named 3)
+              Syntax.imm
+              (Syntax.tyArray (Syntax.tyArray (Syntax.tyInt Syntax.w8) 16) 16))
+              3,
+        ) (List._∷_ (
+          5,
+          Rows'.any-gone
+              (Syntax.tyEnum
+              (List._∷_
+              100
+              (List._∷_
+              101
+              (List._∷_
+              99
+              (List._∷_
+              105
+              (List._∷_
+              115
+              (List._∷_
+              105
+              (List._∷_
+              111
+              (List._∷_
+              110
+              (List._∷_
+              58
+              (List._∷_
+              58
+              (List._∷_ 87 (List._∷_ 104 (List._∷_ 97 (List._∷_ 116 List.[]))))))))))))))
+              (Syntax.ttcons
+              Syntax.tnil
+              (Syntax.ttcons Syntax.tnil (Syntax.ttcons Syntax.tnil Syntax.ttnil)))),
+        ) (List._∷_ (6, Rows'.any-gone (KPost.spelled)) (List._∷_ (
+          7,
+          Rows'.sc-here (Row.sInt Syntax.w64),
+        ) (List._∷_ (
+          8,
+          Rows'.any-gone (Syntax.tyRef Syntax.erased Syntax.mut (Syntax.tyInt Syntax.w8)),
+        ) (List._∷_ (
+          9,
+          Mut.msleft
+              (Referent.rtF (Referent.fInt Syntax.w8))
+              (Syntax.tyRef Syntax.erased Syntax.mut (Syntax.tyInt Syntax.w8)),
         ) (List._∷_ (
           10,
           Rows'.any-gone (Syntax.tyRef Syntax.erased Syntax.mut (Syntax.tyInt Syntax.w8)),
@@ -2343,292 +2186,35 @@ module _ (claims· : Claims) where
               (Referent.rtF (Referent.fInt Syntax.w8))
               (Syntax.tyRef (Syntax.named 0) Syntax.mut (Syntax.tyInt Syntax.w8))
               0
-              3
+              5
               (Row.lease (κs .0) (qs .0)),
-        ) (List._∷_ (2, Rows'.whole (Declared'.row Own.the-type)) (List._∷_ (
+        ) (List._∷_ (
+          2,
+          Rows'.sref
+              (KOwn.R)
+              (Syntax.tyRef
+              (Syntax.named 1)
+              Syntax.imm
+              (KOwn.named))
+              1,
+        ) (List._∷_ (
           3,
           Rows'.sref
               (KPost.R)
               (Syntax.tyRef
-              (Syntax.named 1)
+              (Syntax.named 2)
               Syntax.imm
               (KPost.named))
-              1,
+              2,
         ) (List._∷_ (
           4,
           Rows'.sref
               (Array'.Array (Array'.Array (Referent.rtF (Referent.fInt Syntax.w8)) 16) 16)
               (Syntax.tyRef
-              (Syntax.named 2)
+              (Syntax.named 3)
               Syntax.imm
               (Syntax.tyArray (Syntax.tyArray (Syntax.tyInt Syntax.w8) 16) 16))
-              2,
-        ) (List._∷_ (
-          5,
-          Rows'.any-gone
-              (Syntax.tyEnum
-              (List._∷_
-              100
-              (List._∷_
-              101
-              (List._∷_
-              99
-              (List._∷_
-              105
-              (List._∷_
-              115
-              (List._∷_
-              105
-              (List._∷_
-              111
-              (List._∷_
-              110
-              (List._∷_
-              58
-              (List._∷_
-              58
-              (List._∷_ 87 (List._∷_ 104 (List._∷_ 97 (List._∷_ 116 List.[]))))))))))))))
-              (Syntax.ttcons
-              Syntax.tnil
-              (Syntax.ttcons Syntax.tnil (Syntax.ttcons Syntax.tnil Syntax.ttnil)))),
-        ) (List._∷_ (6, Rows'.any-gone (KPost.spelled)) (List._∷_ (
-          7,
-          Rows'.any-gone (Syntax.tyInt Syntax.w64),
-        ) (List._∷_ (
-          8,
-          Rows'.any-gone (Syntax.tyRef Syntax.erased Syntax.mut (Syntax.tyInt Syntax.w8)),
-        ) (List._∷_ (
-          9,
-          Mut.mslice
-              (Referent.rtF (Referent.fInt Syntax.w8))
-              (Syntax.tyRef Syntax.erased Syntax.mut (Syntax.tyInt Syntax.w8))
               3,
-        ) (List._∷_ (
-          10,
-          Rows'.any-gone (Syntax.tyRef Syntax.erased Syntax.mut (Syntax.tyInt Syntax.w8)),
-        ) (List._∷_ (
-          11,
-          Rows'.any-gone
-              (Syntax.tyStruct
-              (List._∷_ 38 (List._∷_ 91 (List._∷_ 93 List.[])))
-              (Syntax.tcons
-              (Syntax.tyRef Syntax.erased Syntax.mut (Syntax.tyInt Syntax.w8))
-              (Syntax.tcons (Syntax.tyInt Syntax.w64) Syntax.tnil))),
-        ) List.[])))))))))))
-
-        abbrev g10 : List.List Row.Entry
-        g10 = List._∷_ (0, Rows'.any-gone (Syntax.tyInt Syntax.w64)) (List._∷_ (
-          1,
-          Relend.mslice-owed
-              (Referent.rtF (Referent.fInt Syntax.w8))
-              (Syntax.tyRef (Syntax.named 0) Syntax.mut (Syntax.tyInt Syntax.w8))
-              0
-              3
-              (Row.lease (κs .0) (qs .0)),
-        ) (List._∷_ (2, Rows'.whole (Declared'.row Own.the-type)) (List._∷_ (
-          3,
-          Rows'.sref
-              (KPost.R)
-              (Syntax.tyRef
-              (Syntax.named 1)
-              Syntax.imm
-              (KPost.named))
-              1,
-        ) (List._∷_ (
-          4,
-          Rows'.sref
-              (Array'.Array (Array'.Array (Referent.rtF (Referent.fInt Syntax.w8)) 16) 16)
-              (Syntax.tyRef
-              (Syntax.named 2)
-              Syntax.imm
-              (Syntax.tyArray (Syntax.tyArray (Syntax.tyInt Syntax.w8) 16) 16))
-              2,
-        ) (List._∷_ (
-          5,
-          Rows'.any-gone
-              (Syntax.tyEnum
-              (List._∷_
-              100
-              (List._∷_
-              101
-              (List._∷_
-              99
-              (List._∷_
-              105
-              (List._∷_
-              115
-              (List._∷_
-              105
-              (List._∷_
-              111
-              (List._∷_
-              110
-              (List._∷_
-              58
-              (List._∷_
-              58
-              (List._∷_ 87 (List._∷_ 104 (List._∷_ 97 (List._∷_ 116 List.[]))))))))))))))
-              (Syntax.ttcons
-              Syntax.tnil
-              (Syntax.ttcons Syntax.tnil (Syntax.ttcons Syntax.tnil Syntax.ttnil)))),
-        ) (List._∷_ (6, Rows'.any-gone (KPost.spelled)) (List._∷_ (
-          7,
-          Rows'.sc-here (Row.sInt Syntax.w64),
-        ) (List._∷_ (
-          8,
-          Rows'.any-gone (Syntax.tyRef Syntax.erased Syntax.mut (Syntax.tyInt Syntax.w8)),
-        ) (List._∷_ (
-          9,
-          Mut.msleft
-              (Referent.rtF (Referent.fInt Syntax.w8))
-              (Syntax.tyRef Syntax.erased Syntax.mut (Syntax.tyInt Syntax.w8)),
-        ) (List._∷_ (
-          10,
-          Rows'.any-gone (Syntax.tyRef Syntax.erased Syntax.mut (Syntax.tyInt Syntax.w8)),
-        ) (List._∷_ (
-          11,
-          Rows'.any-gone
-              (Syntax.tyStruct
-              (List._∷_ 38 (List._∷_ 91 (List._∷_ 93 List.[])))
-              (Syntax.tcons
-              (Syntax.tyRef Syntax.erased Syntax.mut (Syntax.tyInt Syntax.w8))
-              (Syntax.tcons (Syntax.tyInt Syntax.w64) Syntax.tnil))),
-        ) List.[])))))))))))
-
-        abbrev g11 : List.List Row.Entry
-        g11 = List._∷_ (0, Rows'.any-gone (Syntax.tyInt Syntax.w64)) (List._∷_ (
-          1,
-          Relend.mslice-owed
-              (Referent.rtF (Referent.fInt Syntax.w8))
-              (Syntax.tyRef (Syntax.named 0) Syntax.mut (Syntax.tyInt Syntax.w8))
-              0
-              3
-              (Row.lease (κs .0) (qs .0)),
-        ) (List._∷_ (
-          2,
-          Rows'.any-gone
-              (Syntax.tyStruct
-              (List._∷_
-              111
-              (List._∷_
-              119
-              (List._∷_
-              110
-              (List._∷_ 58 (List._∷_ 58 (List._∷_ 79 (List._∷_ 119 (List._∷_ 110 List.[]))))))))
-              (Syntax.tcons
-              (Syntax.tyArray (Syntax.tyInt Syntax.w8) 16)
-              (Syntax.tcons (Syntax.tyArray (Syntax.tyInt Syntax.w8) 16) Syntax.tnil))),
-        ) (List._∷_ (
-          3,
-          Rows'.sref
-              (KPost.R)
-              (Syntax.tyRef
-              (Syntax.named 1)
-              Syntax.imm
-              (KPost.named))
-              1,
-        ) (List._∷_ (
-          4,
-          Rows'.sref
-              (Array'.Array (Array'.Array (Referent.rtF (Referent.fInt Syntax.w8)) 16) 16)
-              (Syntax.tyRef
-              (Syntax.named 2)
-              Syntax.imm
-              (Syntax.tyArray (Syntax.tyArray (Syntax.tyInt Syntax.w8) 16) 16))
-              2,
-        ) (List._∷_ (
-          5,
-          Rows'.any-gone
-              (Syntax.tyEnum
-              (List._∷_
-              100
-              (List._∷_
-              101
-              (List._∷_
-              99
-              (List._∷_
-              105
-              (List._∷_
-              115
-              (List._∷_
-              105
-              (List._∷_
-              111
-              (List._∷_
-              110
-              (List._∷_
-              58
-              (List._∷_
-              58
-              (List._∷_ 87 (List._∷_ 104 (List._∷_ 97 (List._∷_ 116 List.[]))))))))))))))
-              (Syntax.ttcons
-              Syntax.tnil
-              (Syntax.ttcons Syntax.tnil (Syntax.ttcons Syntax.tnil Syntax.ttnil)))),
-        ) (List._∷_ (6, Rows'.any-gone (KPost.spelled)) (List._∷_ (
-          7,
-          Rows'.sc-here (Row.sInt Syntax.w64),
-        ) (List._∷_ (
-          8,
-          Rows'.any-gone (Syntax.tyRef Syntax.erased Syntax.mut (Syntax.tyInt Syntax.w8)),
-        ) (List._∷_ (
-          9,
-          Mut.msleft
-              (Referent.rtF (Referent.fInt Syntax.w8))
-              (Syntax.tyRef Syntax.erased Syntax.mut (Syntax.tyInt Syntax.w8)),
-        ) (List._∷_ (
-          10,
-          Rows'.any-gone (Syntax.tyRef Syntax.erased Syntax.mut (Syntax.tyInt Syntax.w8)),
-        ) (List._∷_ (
-          11,
-          Rows'.any-gone
-              (Syntax.tyStruct
-              (List._∷_ 38 (List._∷_ 91 (List._∷_ 93 List.[])))
-              (Syntax.tcons
-              (Syntax.tyRef Syntax.erased Syntax.mut (Syntax.tyInt Syntax.w8))
-              (Syntax.tcons (Syntax.tyInt Syntax.w64) Syntax.tnil))),
-        ) List.[])))))))))))
-
-        abbrev g12 : List.List Row.Entry
-        g12 = List._∷_ (0, Rows'.any-gone (Syntax.tyInt Syntax.w64)) (List._∷_ (
-          1,
-          Relend.mslice-owed
-              (Referent.rtF (Referent.fInt Syntax.w8))
-              (Syntax.tyRef (Syntax.named 0) Syntax.mut (Syntax.tyInt Syntax.w8))
-              0
-              4
-              (Row.lease (κs .0) (qs .0)),
-        ) (List._∷_ (
-          2,
-          Rows'.any-gone
-              (Syntax.tyStruct
-              (List._∷_
-              111
-              (List._∷_
-              119
-              (List._∷_
-              110
-              (List._∷_ 58 (List._∷_ 58 (List._∷_ 79 (List._∷_ 119 (List._∷_ 110 List.[]))))))))
-              (Syntax.tcons
-              (Syntax.tyArray (Syntax.tyInt Syntax.w8) 16)
-              (Syntax.tcons (Syntax.tyArray (Syntax.tyInt Syntax.w8) 16) Syntax.tnil))),
-        ) (List._∷_ (
-          3,
-          Rows'.sref
-              (KPost.R)
-              (Syntax.tyRef
-              (Syntax.named 1)
-              Syntax.imm
-              (KPost.named))
-              1,
-        ) (List._∷_ (
-          4,
-          Rows'.sref
-              (Array'.Array (Array'.Array (Referent.rtF (Referent.fInt Syntax.w8)) 16) 16)
-              (Syntax.tyRef
-              (Syntax.named 2)
-              Syntax.imm
-              (Syntax.tyArray (Syntax.tyArray (Syntax.tyInt Syntax.w8) 16) 16))
-              2,
         ) (List._∷_ (
           5,
           Rows'.any-gone
@@ -2676,7 +2262,7 @@ module _ (claims· : Claims) where
           Relend.msptr
               (Referent.rtF (Referent.fInt Syntax.w8))
               (Syntax.tyRef Syntax.erased Syntax.mut (Syntax.tyInt Syntax.w8))
-              4,
+              5,
         ) (List._∷_ (
           11,
           Rows'.any-gone
@@ -2687,47 +2273,42 @@ module _ (claims· : Claims) where
               (Syntax.tcons (Syntax.tyInt Syntax.w64) Syntax.tnil))),
         ) List.[])))))))))))
 
-        abbrev g13 : List.List Row.Entry
-        g13 = List._∷_ (0, Rows'.any-gone (Syntax.tyInt Syntax.w64)) (List._∷_ (
+        abbrev g10 : List.List Row.Entry
+        g10 = List._∷_ (0, Rows'.any-gone (Syntax.tyInt Syntax.w64)) (List._∷_ (
           1,
           Relend.mslice-owed
               (Referent.rtF (Referent.fInt Syntax.w8))
               (Syntax.tyRef (Syntax.named 0) Syntax.mut (Syntax.tyInt Syntax.w8))
               0
-              4
+              5
               (Row.lease (κs .0) (qs .0)),
         ) (List._∷_ (
           2,
-          Rows'.any-gone
-              (Syntax.tyStruct
-              (List._∷_
-              111
-              (List._∷_
-              119
-              (List._∷_
-              110
-              (List._∷_ 58 (List._∷_ 58 (List._∷_ 79 (List._∷_ 119 (List._∷_ 110 List.[]))))))))
-              (Syntax.tcons
-              (Syntax.tyArray (Syntax.tyInt Syntax.w8) 16)
-              (Syntax.tcons (Syntax.tyArray (Syntax.tyInt Syntax.w8) 16) Syntax.tnil))),
+          Rows'.sref
+              (KOwn.R)
+              (Syntax.tyRef
+              (Syntax.named 1)
+              Syntax.imm
+              (KOwn.named))
+              1,
         ) (List._∷_ (
           3,
           Rows'.sref
               (KPost.R)
               (Syntax.tyRef
-              (Syntax.named 1)
+              (Syntax.named 2)
               Syntax.imm
               (KPost.named))
-              1,
+              2,
         ) (List._∷_ (
           4,
           Rows'.sref
               (Array'.Array (Array'.Array (Referent.rtF (Referent.fInt Syntax.w8)) 16) 16)
               (Syntax.tyRef
-              (Syntax.named 2)
+              (Syntax.named 3)
               Syntax.imm
               (Syntax.tyArray (Syntax.tyArray (Syntax.tyInt Syntax.w8) 16) 16))
-              2,
+              3,
         ) (List._∷_ (
           5,
           Rows'.any-gone
@@ -2778,50 +2359,45 @@ module _ (claims· : Claims) where
           Mut.mslice
               (Referent.rtF (Referent.fInt Syntax.w8))
               (Syntax.tyRef Syntax.erased Syntax.mut (Syntax.tyInt Syntax.w8))
-              4,
+              5,
         ) List.[])))))))))))
 
-        abbrev g14 : List.List Row.Entry
-        g14 = List._∷_ (0, Rows'.any-gone (Syntax.tyInt Syntax.w64)) (List._∷_ (
+        abbrev g11 : List.List Row.Entry
+        g11 = List._∷_ (0, Rows'.any-gone (Syntax.tyInt Syntax.w64)) (List._∷_ (
           1,
           Relend.mslice-owed
               (Referent.rtF (Referent.fInt Syntax.w8))
               (Syntax.tyRef (Syntax.named 0) Syntax.mut (Syntax.tyInt Syntax.w8))
               0
-              4
+              5
               (Row.lease (κs .0) (qs .0)),
         ) (List._∷_ (
           2,
-          Rows'.any-gone
-              (Syntax.tyStruct
-              (List._∷_
-              111
-              (List._∷_
-              119
-              (List._∷_
-              110
-              (List._∷_ 58 (List._∷_ 58 (List._∷_ 79 (List._∷_ 119 (List._∷_ 110 List.[]))))))))
-              (Syntax.tcons
-              (Syntax.tyArray (Syntax.tyInt Syntax.w8) 16)
-              (Syntax.tcons (Syntax.tyArray (Syntax.tyInt Syntax.w8) 16) Syntax.tnil))),
+          Rows'.sref
+              (KOwn.R)
+              (Syntax.tyRef
+              (Syntax.named 1)
+              Syntax.imm
+              (KOwn.named))
+              1,
         ) (List._∷_ (
           3,
           Rows'.sref
               (KPost.R)
               (Syntax.tyRef
-              (Syntax.named 1)
+              (Syntax.named 2)
               Syntax.imm
               (KPost.named))
-              1,
+              2,
         ) (List._∷_ (
           4,
           Rows'.sref
               (Array'.Array (Array'.Array (Referent.rtF (Referent.fInt Syntax.w8)) 16) 16)
               (Syntax.tyRef
-              (Syntax.named 2)
+              (Syntax.named 3)
               Syntax.imm
               (Syntax.tyArray (Syntax.tyArray (Syntax.tyInt Syntax.w8) 16) 16))
-              2,
+              3,
         ) (List._∷_ (
           5,
           Rows'.any-gone
@@ -2883,7 +2459,9 @@ module _ (claims· : Claims) where
               (Row.lease (κs .1 .0) (qs .1 .0))
               (List._∷_
               (Row.lease (κs .1 .1 .0) (qs .1 .1 .0))
-              (List._∷_ Row.off (List._∷_ Row.off List.[]))));
+              (List._∷_
+              (Row.lease (κs .1 .1 .1 .0) (qs .1 .1 .1 .0))
+              (List._∷_ Row.off (List._∷_ Row.off List.[])))));
         }
 
         abbrev G1 : Row.Cx
@@ -2895,7 +2473,9 @@ module _ (claims· : Claims) where
               (Row.lease (κs .1 .0) (qs .1 .0))
               (List._∷_
               (Row.lease (κs .1 .1 .0) (qs .1 .1 .0))
-              (List._∷_ Row.off (List._∷_ Row.off List.[]))));
+              (List._∷_
+              (Row.lease (κs .1 .1 .1 .0) (qs .1 .1 .1 .0))
+              (List._∷_ Row.off (List._∷_ Row.off List.[])))));
         }
 
         abbrev G2 : Row.Cx
@@ -2907,7 +2487,9 @@ module _ (claims· : Claims) where
               (Row.lease (κs .1 .0) (qs .1 .0))
               (List._∷_
               (Row.lease (κs .1 .1 .0) (qs .1 .1 .0))
-              (List._∷_ Row.off (List._∷_ Row.off List.[]))));
+              (List._∷_
+              (Row.lease (κs .1 .1 .1 .0) (qs .1 .1 .1 .0))
+              (List._∷_ Row.off (List._∷_ Row.off List.[])))));
         }
 
         abbrev G3 : Row.Cx
@@ -2919,7 +2501,9 @@ module _ (claims· : Claims) where
               (Row.lease (κs .1 .0) (qs .1 .0))
               (List._∷_
               (Row.lease (κs .1 .1 .0) (qs .1 .1 .0))
-              (List._∷_ Row.off (List._∷_ Row.off List.[]))));
+              (List._∷_
+              (Row.lease (κs .1 .1 .1 .0) (qs .1 .1 .1 .0))
+              (List._∷_ Row.off (List._∷_ Row.off List.[])))));
         }
 
         abbrev G4 : Row.Cx
@@ -2931,7 +2515,9 @@ module _ (claims· : Claims) where
               (Row.lease (κs .1 .0) (qs .1 .0))
               (List._∷_
               (Row.lease (κs .1 .1 .0) (qs .1 .1 .0))
-              (List._∷_ Row.off (List._∷_ Row.off List.[]))));
+              (List._∷_
+              (Row.lease (κs .1 .1 .1 .0) (qs .1 .1 .1 .0))
+              (List._∷_ Row.off (List._∷_ Row.off List.[])))));
         }
 
         abbrev G5 : Row.Cx
@@ -2943,7 +2529,9 @@ module _ (claims· : Claims) where
               (Row.lease (κs .1 .0) (qs .1 .0))
               (List._∷_
               (Row.lease (κs .1 .1 .0) (qs .1 .1 .0))
-              (List._∷_ Row.off (List._∷_ Row.off List.[]))));
+              (List._∷_
+              (Row.lease (κs .1 .1 .1 .0) (qs .1 .1 .1 .0))
+              (List._∷_ Row.off (List._∷_ Row.off List.[])))));
         }
 
         abbrev G6 : Row.Cx
@@ -2955,7 +2543,9 @@ module _ (claims· : Claims) where
               (Row.lease (κs .1 .0) (qs .1 .0))
               (List._∷_
               (Row.lease (κs .1 .1 .0) (qs .1 .1 .0))
-              (List._∷_ Row.off (List._∷_ Row.off List.[]))));
+              (List._∷_
+              (Row.lease (κs .1 .1 .1 .0) (qs .1 .1 .1 .0))
+              (List._∷_ Row.off (List._∷_ Row.off List.[])))));
         }
 
         abbrev G7 : Row.Cx
@@ -2967,35 +2557,27 @@ module _ (claims· : Claims) where
               (Row.lease (κs .1 .0) (qs .1 .0))
               (List._∷_
               (Row.lease (κs .1 .1 .0) (qs .1 .1 .0))
-              (List._∷_ Row.off (List._∷_ Row.off List.[]))));
+              (List._∷_
+              (Row.lease (κs .1 .1 .1 .0) (qs .1 .1 .1 .0))
+              (List._∷_ Row.off (List._∷_ Row.off List.[])))));
         }
 
         abbrev G8 : Row.Cx
         G8 = record {
-          locals = t6;
+          locals = t0;
           slots = List._∷_
               (Row.lease (κs .0) (qs .0))
               (List._∷_
               (Row.lease (κs .1 .0) (qs .1 .0))
               (List._∷_
               (Row.lease (κs .1 .1 .0) (qs .1 .1 .0))
-              (List._∷_ Row.off (List._∷_ Row.off List.[]))));
+              (List._∷_
+              (Row.lease (κs .1 .1 .1 .0) (qs .1 .1 .1 .0))
+              (List._∷_ Row.off (List._∷_ Row.off List.[])))));
         }
 
         abbrev G9 : Row.Cx
         G9 = record {
-          locals = t7;
-          slots = List._∷_
-              (Row.lease (κs .0) (qs .0))
-              (List._∷_
-              (Row.lease (κs .1 .0) (qs .1 .0))
-              (List._∷_
-              (Row.lease (κs .1 .1 .0) (qs .1 .1 .0))
-              (List._∷_ Row.off (List._∷_ Row.off List.[]))));
-        }
-
-        abbrev G10 : Row.Cx
-        G10 = record {
           locals = t4;
           slots = List._∷_
               (Row.lease (κs .0) (qs .0))
@@ -3003,11 +2585,13 @@ module _ (claims· : Claims) where
               (Row.lease (κs .1 .0) (qs .1 .0))
               (List._∷_
               (Row.lease (κs .1 .1 .0) (qs .1 .1 .0))
-              (List._∷_ Row.off (List._∷_ Row.off List.[]))));
+              (List._∷_
+              (Row.lease (κs .1 .1 .1 .0) (qs .1 .1 .1 .0))
+              (List._∷_ Row.off (List._∷_ Row.off List.[])))));
         }
 
-        abbrev G11 : Row.Cx
-        G11 = record {
+        abbrev G10 : Row.Cx
+        G10 = record {
           locals = t5;
           slots = List._∷_
               (Row.lease (κs .0) (qs .0))
@@ -3015,7 +2599,23 @@ module _ (claims· : Claims) where
               (Row.lease (κs .1 .0) (qs .1 .0))
               (List._∷_
               (Row.lease (κs .1 .1 .0) (qs .1 .1 .0))
-              (List._∷_ Row.off (List._∷_ Row.off List.[]))));
+              (List._∷_
+              (Row.lease (κs .1 .1 .1 .0) (qs .1 .1 .1 .0))
+              (List._∷_ Row.off (List._∷_ Row.off List.[])))));
+        }
+
+        abbrev G11 : Row.Cx
+        G11 = record {
+          locals = t0;
+          slots = List._∷_
+              (Row.lease (κs .0) (qs .0))
+              (List._∷_
+              (Row.lease (κs .1 .0) (qs .1 .0))
+              (List._∷_
+              (Row.lease (κs .1 .1 .0) (qs .1 .1 .0))
+              (List._∷_
+              (Row.lease (κs .1 .1 .1 .0) (qs .1 .1 .1 .0))
+              (List._∷_ Row.off (List._∷_ Row.off List.[])))));
         }
 
         abbrev G12 : Row.Cx
@@ -3027,23 +2627,41 @@ module _ (claims· : Claims) where
               (Row.lease (κs .1 .0) (qs .1 .0))
               (List._∷_
               (Row.lease (κs .1 .1 .0) (qs .1 .1 .0))
-              (List._∷_ Row.off (List._∷_ Row.off List.[]))));
+              (List._∷_
+              (Row.lease (κs .1 .1 .1 .0) (qs .1 .1 .1 .0))
+              (List._∷_ Row.alive (List._∷_ Row.off List.[])))));
         }
 
         abbrev G13 : Row.Cx
         G13 = record {
-          locals = t0;
+          locals = g6;
           slots = List._∷_
-              (Row.lease (κs .0) (qs .0))
+              Row.off
               (List._∷_
               (Row.lease (κs .1 .0) (qs .1 .0))
               (List._∷_
               (Row.lease (κs .1 .1 .0) (qs .1 .1 .0))
-              (List._∷_ Row.alive (List._∷_ Row.off List.[]))));
+              (List._∷_
+              (Row.lease (κs .1 .1 .1 .0) (qs .1 .1 .1 .0))
+              (List._∷_ Row.alive (List._∷_ Row.off List.[])))));
         }
 
         abbrev G14 : Row.Cx
         G14 = record {
+          locals = g7;
+          slots = List._∷_
+              Row.off
+              (List._∷_
+              (Row.lease (κs .1 .0) (qs .1 .0))
+              (List._∷_
+              (Row.lease (κs .1 .1 .0) (qs .1 .1 .0))
+              (List._∷_
+              (Row.lease (κs .1 .1 .1 .0) (qs .1 .1 .1 .0))
+              (List._∷_ Row.alive (List._∷_ Row.off List.[])))));
+        }
+
+        abbrev G15 : Row.Cx
+        G15 = record {
           locals = g8;
           slots = List._∷_
               Row.off
@@ -3051,55 +2669,51 @@ module _ (claims· : Claims) where
               (Row.lease (κs .1 .0) (qs .1 .0))
               (List._∷_
               (Row.lease (κs .1 .1 .0) (qs .1 .1 .0))
-              (List._∷_ Row.alive (List._∷_ Row.off List.[]))));
-        }
-
-        abbrev G15 : Row.Cx
-        G15 = record {
-          locals = g9;
-          slots = List._∷_
-              Row.off
               (List._∷_
-              (Row.lease (κs .1 .0) (qs .1 .0))
-              (List._∷_
-              (Row.lease (κs .1 .1 .0) (qs .1 .1 .0))
-              (List._∷_ Row.alive (List._∷_ Row.off List.[]))));
+              (Row.lease (κs .1 .1 .1 .0) (qs .1 .1 .1 .0))
+              (List._∷_ Row.alive (List._∷_ Row.off List.[])))));
         }
 
         abbrev G16 : Row.Cx
         G16 = record {
-          locals = g10;
+          locals = g8;
           slots = List._∷_
               Row.off
               (List._∷_
               (Row.lease (κs .1 .0) (qs .1 .0))
               (List._∷_
               (Row.lease (κs .1 .1 .0) (qs .1 .1 .0))
-              (List._∷_ Row.alive (List._∷_ Row.off List.[]))));
+              (List._∷_
+              (Row.lease (κs .1 .1 .1 .0) (qs .1 .1 .1 .0))
+              (List._∷_ Row.dead (List._∷_ Row.off List.[])))));
         }
 
         abbrev G17 : Row.Cx
         G17 = record {
-          locals = g11;
+          locals = t4;
           slots = List._∷_
-              Row.off
+              (Row.lease (κs .0) (qs .0))
               (List._∷_
               (Row.lease (κs .1 .0) (qs .1 .0))
               (List._∷_
               (Row.lease (κs .1 .1 .0) (qs .1 .1 .0))
-              (List._∷_ Row.alive (List._∷_ Row.off List.[]))));
+              (List._∷_
+              (Row.lease (κs .1 .1 .1 .0) (qs .1 .1 .1 .0))
+              (List._∷_ Row.dead (List._∷_ Row.off List.[])))));
         }
 
         abbrev G18 : Row.Cx
         G18 = record {
-          locals = g11;
+          locals = t4;
           slots = List._∷_
-              Row.off
+              (Row.lease (κs .0) (qs .0))
               (List._∷_
               (Row.lease (κs .1 .0) (qs .1 .0))
               (List._∷_
               (Row.lease (κs .1 .1 .0) (qs .1 .1 .0))
-              (List._∷_ Row.dead (List._∷_ Row.off List.[]))));
+              (List._∷_
+              (Row.lease (κs .1 .1 .1 .0) (qs .1 .1 .1 .0))
+              (List._∷_ Row.dead (List._∷_ Row.off List.[])))));
         }
 
         abbrev G19 : Row.Cx
@@ -3111,35 +2725,13 @@ module _ (claims· : Claims) where
               (Row.lease (κs .1 .0) (qs .1 .0))
               (List._∷_
               (Row.lease (κs .1 .1 .0) (qs .1 .1 .0))
-              (List._∷_ Row.dead (List._∷_ Row.off List.[]))));
+              (List._∷_
+              (Row.lease (κs .1 .1 .1 .0) (qs .1 .1 .1 .0))
+              (List._∷_ Row.off (List._∷_ Row.off List.[])))));
         }
 
         abbrev G20 : Row.Cx
         G20 = record {
-          locals = t4;
-          slots = List._∷_
-              (Row.lease (κs .0) (qs .0))
-              (List._∷_
-              (Row.lease (κs .1 .0) (qs .1 .0))
-              (List._∷_
-              (Row.lease (κs .1 .1 .0) (qs .1 .1 .0))
-              (List._∷_ Row.dead (List._∷_ Row.off List.[]))));
-        }
-
-        abbrev G21 : Row.Cx
-        G21 = record {
-          locals = t4;
-          slots = List._∷_
-              (Row.lease (κs .0) (qs .0))
-              (List._∷_
-              (Row.lease (κs .1 .0) (qs .1 .0))
-              (List._∷_
-              (Row.lease (κs .1 .1 .0) (qs .1 .1 .0))
-              (List._∷_ Row.off (List._∷_ Row.off List.[]))));
-        }
-
-        abbrev G22 : Row.Cx
-        G22 = record {
           locals = t5;
           slots = List._∷_
               (Row.lease (κs .0) (qs .0))
@@ -3147,143 +2739,153 @@ module _ (claims· : Claims) where
               (Row.lease (κs .1 .0) (qs .1 .0))
               (List._∷_
               (Row.lease (κs .1 .1 .0) (qs .1 .1 .0))
-              (List._∷_ Row.off (List._∷_ Row.off List.[]))));
+              (List._∷_
+              (Row.lease (κs .1 .1 .1 .0) (qs .1 .1 .1 .0))
+              (List._∷_ Row.off (List._∷_ Row.off List.[])))));
+        }
+
+        abbrev G21 : Row.Cx
+        G21 = record {
+          locals = t0;
+          slots = List._∷_
+              (Row.lease (κs .0) (qs .0))
+              (List._∷_
+              (Row.lease (κs .1 .0) (qs .1 .0))
+              (List._∷_
+              (Row.lease (κs .1 .1 .0) (qs .1 .1 .0))
+              (List._∷_
+              (Row.lease (κs .1 .1 .1 .0) (qs .1 .1 .1 .0))
+              (List._∷_ Row.off (List._∷_ Row.off List.[])))));
+        }
+
+        abbrev G22 : Row.Cx
+        G22 = record {
+          locals = t0;
+          slots = List._∷_
+              (Row.lease (κs .0) (qs .0))
+              (List._∷_
+              (Row.lease (κs .1 .0) (qs .1 .0))
+              (List._∷_
+              (Row.lease (κs .1 .1 .0) (qs .1 .1 .0))
+              (List._∷_
+              (Row.lease (κs .1 .1 .1 .0) (qs .1 .1 .1 .0))
+              (List._∷_ Row.off (List._∷_ Row.alive List.[])))));
         }
 
         abbrev G23 : Row.Cx
         G23 = record {
-          locals = t6;
+          locals = g9;
           slots = List._∷_
-              (Row.lease (κs .0) (qs .0))
+              Row.off
               (List._∷_
               (Row.lease (κs .1 .0) (qs .1 .0))
               (List._∷_
               (Row.lease (κs .1 .1 .0) (qs .1 .1 .0))
-              (List._∷_ Row.off (List._∷_ Row.off List.[]))));
+              (List._∷_
+              (Row.lease (κs .1 .1 .1 .0) (qs .1 .1 .1 .0))
+              (List._∷_ Row.off (List._∷_ Row.alive List.[])))));
         }
 
         abbrev G24 : Row.Cx
         G24 = record {
-          locals = t7;
+          locals = g10;
           slots = List._∷_
-              (Row.lease (κs .0) (qs .0))
+              Row.off
               (List._∷_
               (Row.lease (κs .1 .0) (qs .1 .0))
               (List._∷_
               (Row.lease (κs .1 .1 .0) (qs .1 .1 .0))
-              (List._∷_ Row.off (List._∷_ Row.off List.[]))));
+              (List._∷_
+              (Row.lease (κs .1 .1 .1 .0) (qs .1 .1 .1 .0))
+              (List._∷_ Row.off (List._∷_ Row.alive List.[])))));
         }
 
         abbrev G25 : Row.Cx
         G25 = record {
-          locals = t7;
+          locals = g11;
           slots = List._∷_
-              (Row.lease (κs .0) (qs .0))
+              Row.off
               (List._∷_
               (Row.lease (κs .1 .0) (qs .1 .0))
               (List._∷_
               (Row.lease (κs .1 .1 .0) (qs .1 .1 .0))
-              (List._∷_ Row.off (List._∷_ Row.alive List.[]))));
+              (List._∷_
+              (Row.lease (κs .1 .1 .1 .0) (qs .1 .1 .1 .0))
+              (List._∷_ Row.off (List._∷_ Row.alive List.[])))));
         }
 
         abbrev G26 : Row.Cx
         G26 = record {
-          locals = g12;
+          locals = g11;
           slots = List._∷_
               Row.off
               (List._∷_
               (Row.lease (κs .1 .0) (qs .1 .0))
               (List._∷_
               (Row.lease (κs .1 .1 .0) (qs .1 .1 .0))
-              (List._∷_ Row.off (List._∷_ Row.alive List.[]))));
+              (List._∷_
+              (Row.lease (κs .1 .1 .1 .0) (qs .1 .1 .1 .0))
+              (List._∷_ Row.off (List._∷_ Row.dead List.[])))));
         }
 
         abbrev G27 : Row.Cx
         G27 = record {
-          locals = g13;
+          locals = t4;
           slots = List._∷_
-              Row.off
+              (Row.lease (κs .0) (qs .0))
               (List._∷_
               (Row.lease (κs .1 .0) (qs .1 .0))
               (List._∷_
               (Row.lease (κs .1 .1 .0) (qs .1 .1 .0))
-              (List._∷_ Row.off (List._∷_ Row.alive List.[]))));
+              (List._∷_
+              (Row.lease (κs .1 .1 .1 .0) (qs .1 .1 .1 .0))
+              (List._∷_ Row.off (List._∷_ Row.dead List.[])))));
         }
 
         abbrev G28 : Row.Cx
         G28 = record {
-          locals = g14;
+          locals = t4;
           slots = List._∷_
-              Row.off
+              (Row.lease (κs .0) (qs .0))
               (List._∷_
               (Row.lease (κs .1 .0) (qs .1 .0))
               (List._∷_
               (Row.lease (κs .1 .1 .0) (qs .1 .1 .0))
-              (List._∷_ Row.off (List._∷_ Row.alive List.[]))));
+              (List._∷_
+              (Row.lease (κs .1 .1 .1 .0) (qs .1 .1 .1 .0))
+              (List._∷_ Row.off (List._∷_ Row.dead List.[])))));
         }
 
         abbrev G29 : Row.Cx
         G29 = record {
-          locals = g14;
+          locals = t4;
           slots = List._∷_
-              Row.off
+              (Row.lease (κs .0) (qs .0))
               (List._∷_
               (Row.lease (κs .1 .0) (qs .1 .0))
               (List._∷_
               (Row.lease (κs .1 .1 .0) (qs .1 .1 .0))
-              (List._∷_ Row.off (List._∷_ Row.dead List.[]))));
+              (List._∷_
+              (Row.lease (κs .1 .1 .1 .0) (qs .1 .1 .1 .0))
+              (List._∷_ Row.off (List._∷_ Row.off List.[])))));
         }
 
         abbrev G30 : Row.Cx
         G30 = record {
-          locals = t4;
+          locals = t12;
           slots = List._∷_
               (Row.lease (κs .0) (qs .0))
               (List._∷_
               (Row.lease (κs .1 .0) (qs .1 .0))
               (List._∷_
               (Row.lease (κs .1 .1 .0) (qs .1 .1 .0))
-              (List._∷_ Row.off (List._∷_ Row.dead List.[]))));
+              (List._∷_
+              (Row.lease (κs .1 .1 .1 .0) (qs .1 .1 .1 .0))
+              (List._∷_ Row.off (List._∷_ Row.off List.[])))));
         }
 
         abbrev G31 : Row.Cx
         G31 = record {
-          locals = t4;
-          slots = List._∷_
-              (Row.lease (κs .0) (qs .0))
-              (List._∷_
-              (Row.lease (κs .1 .0) (qs .1 .0))
-              (List._∷_
-              (Row.lease (κs .1 .1 .0) (qs .1 .1 .0))
-              (List._∷_ Row.off (List._∷_ Row.dead List.[]))));
-        }
-
-        abbrev G32 : Row.Cx
-        G32 = record {
-          locals = t4;
-          slots = List._∷_
-              (Row.lease (κs .0) (qs .0))
-              (List._∷_
-              (Row.lease (κs .1 .0) (qs .1 .0))
-              (List._∷_
-              (Row.lease (κs .1 .1 .0) (qs .1 .1 .0))
-              (List._∷_ Row.off (List._∷_ Row.off List.[]))));
-        }
-
-        abbrev G33 : Row.Cx
-        G33 = record {
-          locals = t15;
-          slots = List._∷_
-              (Row.lease (κs .0) (qs .0))
-              (List._∷_
-              (Row.lease (κs .1 .0) (qs .1 .0))
-              (List._∷_
-              (Row.lease (κs .1 .1 .0) (qs .1 .1 .0))
-              (List._∷_ Row.off (List._∷_ Row.off List.[]))));
-        }
-
-        abbrev G34 : Row.Cx
-        G34 = record {
           locals = t1;
           slots = List._∷_
               (Row.lease (κs .0) (qs .0))
@@ -3291,7 +2893,9 @@ module _ (claims· : Claims) where
               (Row.lease (κs .1 .0) (qs .1 .0))
               (List._∷_
               (Row.lease (κs .1 .1 .0) (qs .1 .1 .0))
-              (List._∷_ Row.off (List._∷_ Row.off List.[]))));
+              (List._∷_
+              (Row.lease (κs .1 .1 .1 .0) (qs .1 .1 .1 .0))
+              (List._∷_ Row.off (List._∷_ Row.off List.[])))));
         }
 
         abbrev Δ0 : Typed.Outs
@@ -3302,11 +2906,11 @@ module _ (claims· : Claims) where
 
         module _ {M : Type 1} (𝓤 : URA.URA M) (H : Wp.Heap 𝓤) (A : Atoms.Atoms 𝓤)
             (W : Kit.Given 𝓤 H A) (𝓣 : Wp.Tables 𝓤 H) (known : Knowns 𝓤 H A W 𝓣)
-            (bs : List.List Nat.ℕ) (bd : Lifetimes.AllOutlive 3 (Kinds.osR r) κs) where
+            (bs : List.List Nat.ℕ) (bd : Lifetimes.AllOutlive 4 (Kinds.osR r) κs) where
           abbrev E : Wp.Env 𝓤 H
           E = Frame.EnvOf 𝓤 H (List._∷_ (Kinds.tyR r) (Enter.tysP ps xs)) bs
 
-          d0 : Typed.Typed 𝓤 H A 𝓣 E G9 b2 Δ1 at0
+          d0 : Typed.Typed 𝓤 H A 𝓣 E G8 b2 Δ1 at0
           d0 =
               Typed.s-typed
               𝓤
@@ -3315,10 +2919,10 @@ module _ (claims· : Claims) where
               W
               𝓣
               E
-              G9
+              G8
               b2
               Δ1
-              (Typed.pass T9 T10 s7)
+              (Typed.pass T8 T9 s6)
               tt
               (Scalar.t-use
               𝓤
@@ -3327,7 +2931,7 @@ module _ (claims· : Claims) where
               W
               E
               𝓣
-              G9
+              G8
               (Scalar.oInt Syntax.w64 0)
               7
               (Rows'.sc-here (Row.sInt Syntax.w64))
@@ -3341,7 +2945,7 @@ module _ (claims· : Claims) where
               (λ u. Path'.refl)
               λ u. tt)
 
-          d1 : Typed.Typed 𝓤 H A 𝓣 E G8 b2 Δ1 at1
+          d1 : Typed.Typed 𝓤 H A 𝓣 E G7 b2 Δ1 at1
           d1 =
               Typed.g-pre
               𝓤
@@ -3350,11 +2954,11 @@ module _ (claims· : Claims) where
               W
               𝓣
               E
+              G7
               G8
-              G9
               b2
               Δ1
-              (Typed.pass T8 T9 s6)
+              (Typed.pass T7 T8 s5)
               at0
               (Scalar.g-room
               𝓤
@@ -3362,7 +2966,7 @@ module _ (claims· : Claims) where
               A
               W
               E
-              G8
+              G7
               5
               (Syntax.tyEnum
               (List._∷_
@@ -3423,62 +3027,8 @@ module _ (claims· : Claims) where
               Path'.refl))
               d0
 
-          d2 : Typed.Typed 𝓤 H A 𝓣 E G7 b2 Δ1 at2
+          d2 : Typed.Typed 𝓤 H A 𝓣 E G6 b2 Δ1 at2
           d2 =
-              Typed.g-pre
-              𝓤
-              H
-              A
-              W
-              𝓣
-              E
-              G7
-              G8
-              b2
-              Δ1
-              (Typed.pass T7 T8 s5)
-              at1
-              (Scalar.g-room
-              𝓤
-              H
-              A
-              W
-              E
-              G7
-              2
-              (Syntax.tyStruct
-              (List._∷_
-              111
-              (List._∷_
-              119
-              (List._∷_
-              110
-              (List._∷_ 58 (List._∷_ 58 (List._∷_ 79 (List._∷_ 119 (List._∷_ 110 List.[]))))))))
-              (Syntax.tcons
-              (Syntax.tyArray (Syntax.tyInt Syntax.w8) 16)
-              (Syntax.tcons (Syntax.tyArray (Syntax.tyInt Syntax.w8) 16) Syntax.tnil)))
-              (Local.room-whole
-              𝓤
-              H
-              A
-              W
-              (Declared'.row Own.the-type)
-              (Syntax.tyStruct
-              (List._∷_
-              111
-              (List._∷_
-              119
-              (List._∷_
-              110
-              (List._∷_ 58 (List._∷_ 58 (List._∷_ 79 (List._∷_ 119 (List._∷_ 110 List.[]))))))))
-              (Syntax.tcons
-              (Syntax.tyArray (Syntax.tyInt Syntax.w8) 16)
-              (Syntax.tcons (Syntax.tyArray (Syntax.tyInt Syntax.w8) 16) Syntax.tnil)))
-              Path'.refl))
-              d1
-
-          d3 : Typed.Typed 𝓤 H A 𝓣 E G6 b2 Δ1 at3
-          d3 =
               Typed.g-pre
               𝓤
               H
@@ -3491,12 +3041,12 @@ module _ (claims· : Claims) where
               b2
               Δ1
               (Typed.both s4)
-              at2
+              at1
               (Known.g-enum-told 𝓤 H A W E What.enum 0 G6 5 λ x. x)
-              d2
+              d1
 
-          d4 : Typed.Typed 𝓤 H A 𝓣 E G15 b5 Δ1 at4
-          d4 =
+          d3 : Typed.Typed 𝓤 H A 𝓣 E G14 b5 Δ1 at3
+          d3 =
               Typed.s-typed
               𝓤
               H
@@ -3504,10 +3054,10 @@ module _ (claims· : Claims) where
               W
               𝓣
               E
-              G15
+              G14
               b5
               Δ1
-              (λ Ψ. Typed.both s13 (Typed.pass T16 T17 s14 (Typed.both s16 (Typed.give s17 Ψ))))
+              (λ Ψ. Typed.both s12 (Typed.both s14 (Typed.give s15 Ψ)))
               tt
               (Typed.g-post
               𝓤
@@ -3516,11 +3066,11 @@ module _ (claims· : Claims) where
               W
               𝓣
               E
-              G15
-              G20
-              G21
+              G14
+              G18
+              G19
               b5
-              (λ Ψ. Typed.both s13 (Typed.pass T16 T17 s14 (Typed.both s16 (Typed.give s17 Ψ))))
+              (λ Ψ. Typed.both s12 (Typed.both s14 (Typed.give s15 Ψ)))
               (λ Ψ. Ψ)
               (Typed.g-post
               𝓤
@@ -3529,38 +3079,12 @@ module _ (claims· : Claims) where
               W
               𝓣
               E
-              G15
-              G19
-              G20
-              b5
-              (λ Ψ. Typed.both s13 (Typed.pass T16 T17 s14 (Typed.both s16 Ψ)))
-              (Typed.give s17)
-              (Typed.g-post
-              𝓤
-              H
-              A
-              W
-              𝓣
-              E
-              G15
-              G18
-              G19
-              b5
-              (λ Ψ. Typed.both s13 (Typed.pass T16 T17 s14 Ψ))
-              (Typed.both s16)
-              (Typed.g-post
-              𝓤
-              H
-              A
-              W
-              𝓣
-              E
-              G15
+              G14
               G17
               G18
               b5
-              (λ Ψ. Typed.both s13 (Typed.pass T16 T17 s14 Ψ))
-              (λ Ψ. Ψ)
+              (λ Ψ. Typed.both s12 (Typed.both s14 Ψ))
+              (Typed.give s15)
               (Typed.g-post
               𝓤
               H
@@ -3568,19 +3092,32 @@ module _ (claims· : Claims) where
               W
               𝓣
               E
-              G15
+              G14
               G16
               G17
               b5
-              (Typed.both s13)
-              (Typed.pass T16 T17 s14)
+              (λ Ψ. Typed.both s12 Ψ)
+              (Typed.both s14)
+              (Typed.g-post
+              𝓤
+              H
+              A
+              W
+              𝓣
+              E
+              G14
+              G15
+              G16
+              b5
+              (Typed.both s12)
+              (λ Ψ. Ψ)
               (Plain.t-call-plain
               𝓤
               H
               A
               W
               𝓣
-              3
+              4
               ps·1
               r·1
               (claims· .2)
@@ -3589,19 +3126,26 @@ module _ (claims· : Claims) where
               (known .1)
               E
               (λ pos β. β)
-              G15 (
+              G14 (
                 record {
                   pos = 9;
                   ty = Syntax.tyRef Syntax.erased Syntax.mut (Syntax.tyInt Syntax.w8);
                   ref = λ x. x;
                 },
                 (
-                  record { pos = 2; st = List.[]; d = 0; at = λ x. x },
+                  record {
+                    pos = 2;
+                    ty = Syntax.tyRef
+                        (Syntax.named 1)
+                        Syntax.imm
+                        (KOwn.named);
+                    ref = λ x. x;
+                  },
                   (
                     record {
                       pos = 3;
                       ty = Syntax.tyRef
-                          (Syntax.named 1)
+                          (Syntax.named 2)
                           Syntax.imm
                           (KPost.named);
                       ref = λ x. x;
@@ -3610,7 +3154,7 @@ module _ (claims· : Claims) where
                       record {
                         pos = 4;
                         ty = Syntax.tyRef
-                            (Syntax.named 2)
+                            (Syntax.named 3)
                             Syntax.imm
                             (Syntax.tyArray (Syntax.tyArray (Syntax.tyInt Syntax.w8) 16) 16);
                         ref = λ x. x;
@@ -3621,559 +3165,8 @@ module _ (claims· : Claims) where
                 ),
               )
               7
-              (List._∷_ 3 (List._∷_ 1 (List._∷_ 2 List.[])))
-              (Call.sub-id 𝓤 H A W (G15 .slots)) (
-                Reads.as-is
-                    𝓤
-                    H
-                    A
-                    (Mut.mslice
-                    (Referent.rtF (Referent.fInt Syntax.w8))
-                    (Syntax.tyRef Syntax.erased Syntax.mut (Syntax.tyInt Syntax.w8))
-                    3),
-                Mut.reads-mslice
-                    𝓤
-                    H
-                    A
-                    W
-                    (Referent.rtF (Referent.fInt Syntax.w8))
-                    (Syntax.tyRef Syntax.erased Syntax.mut (Syntax.tyInt Syntax.w8))
-                    3,
-                Path'.refl,
-                (
-                  (
-                    Yields.yields-copy
-                        𝓤
-                        H
-                        A
-                        W
-                        (λ ρ. Unit)
-                        (Declared'.row Own.the-type)
-                        Path'.refl
-                        (Copies.cStruct Own.the-type Laws'.the-laws Laws'.the-copy .copy 𝓤 H A W)
-                        (Rows'.whole (Declared'.row Own.the-type))
-                        (λ x. x)
-                        (λ x. x)
-                        (λ ρ told. Local.mem-whole 𝓤 H A W (Declared'.row Own.the-type) ρ)
-                        λ ρ told. Local.whole-mem
-                        𝓤
-                        H
-                        A
-                        W
-                        (Declared'.row Own.the-type)
-                        ρ,
-                    Path'.refl,
-                  ),
-                  (
-                    ShrRef.spares-sref
-                        𝓤
-                        H
-                        A
-                        W
-                        (KPost.R)
-                        (Syntax.tyRef
-                        (Syntax.named 1)
-                        Syntax.imm
-                        (KPost.named))
-                        1,
-                    Reads.reads-sref
-                        𝓤
-                        H
-                        A
-                        W
-                        (KPost.R)
-                        (Syntax.tyRef
-                        (Syntax.named 1)
-                        Syntax.imm
-                        (KPost.named))
-                        1,
-                    Path'.refl,
-                    (
-                      ShrRef.spares-sref
-                          𝓤
-                          H
-                          A
-                          W
-                          (Array'.Array
-                          (Array'.Array (Referent.rtF (Referent.fInt Syntax.w8)) 16)
-                          16)
-                          (Syntax.tyRef
-                          (Syntax.named 2)
-                          Syntax.imm
-                          (Syntax.tyArray (Syntax.tyArray (Syntax.tyInt Syntax.w8) 16) 16))
-                          2,
-                      Reads.reads-sref
-                          𝓤
-                          H
-                          A
-                          W
-                          (Array'.Array
-                          (Array'.Array (Referent.rtF (Referent.fInt Syntax.w8)) 16)
-                          16)
-                          (Syntax.tyRef
-                          (Syntax.named 2)
-                          Syntax.imm
-                          (Syntax.tyArray (Syntax.tyArray (Syntax.tyInt Syntax.w8) 16) 16))
-                          2,
-                      Path'.refl,
-                      tt,
-                    ),
-                  ),
-                ),
-              )
-              (Reads.room-gone 𝓤 H A (Syntax.tyInt Syntax.w64))
-              (tt, (tt, (tt, tt)))
-              Path'.refl)
-              (Scalar.g-room
-              𝓤
-              H
-              A
-              W
-              E
-              G16
-              2
-              (Syntax.tyStruct
-              (List._∷_
-              111
-              (List._∷_
-              119
-              (List._∷_
-              110
-              (List._∷_ 58 (List._∷_ 58 (List._∷_ 79 (List._∷_ 119 (List._∷_ 110 List.[]))))))))
-              (Syntax.tcons
-              (Syntax.tyArray (Syntax.tyInt Syntax.w8) 16)
-              (Syntax.tcons (Syntax.tyArray (Syntax.tyInt Syntax.w8) 16) Syntax.tnil)))
-              (Local.room-whole
-              𝓤
-              H
-              A
-              W
-              (Declared'.row Own.the-type)
-              (Syntax.tyStruct
-              (List._∷_
-              111
-              (List._∷_
-              119
-              (List._∷_
-              110
-              (List._∷_ 58 (List._∷_ 58 (List._∷_ 79 (List._∷_ 119 (List._∷_ 110 List.[]))))))))
-              (Syntax.tcons
-              (Syntax.tyArray (Syntax.tyInt Syntax.w8) 16)
-              (Syntax.tcons (Syntax.tyArray (Syntax.tyInt Syntax.w8) 16) Syntax.tnil)))
-              Path'.refl)))
-              (Lifetime.g-end 𝓤 H A W E G17 3 Path'.refl))
-              (Relend.g-back-sl
-              𝓤
-              H
-              A
-              W
-              E
-              (Referent.rtF (Referent.fInt Syntax.w8))
-              G18
-              9
-              1
-              0
-              3
-              (Syntax.tyRef (Syntax.named 0) Syntax.mut (Syntax.tyInt Syntax.w8))
-              (Syntax.tyRef Syntax.erased Syntax.mut (Syntax.tyInt Syntax.w8))
-              (Row.lease (κs .0) (qs .0))
-              (λ x. x)
-              (λ x. x)
-              (Reads.as-is
-              𝓤
-              H
-              A
-              (Mut.msleft
-              (Referent.rtF (Referent.fInt Syntax.w8))
-              (Syntax.tyRef Syntax.erased Syntax.mut (Syntax.tyInt Syntax.w8))))
-              (Reads.as-is
-              𝓤
-              H
-              A
-              (Relend.mslice-owed
-              (Referent.rtF (Referent.fInt Syntax.w8))
-              (Syntax.tyRef (Syntax.named 0) Syntax.mut (Syntax.tyInt Syntax.w8))
-              0
-              3
-              (Row.lease (κs .0) (qs .0))))
-              Path'.refl
-              Path'.refl))
-              (Know.g-sl-known
-              𝓤
-              H
-              A
-              W
-              (Referent.fInt Syntax.w8)
-              E
-              G19
-              1
-              0
-              (Syntax.tyRef (Syntax.named 0) Syntax.mut (Syntax.tyInt Syntax.w8))
-              (Row.lease (κs .0) (qs .0))
-              0
-              (λ x. x)
-              record { fits = Dec'.lit< tt }
-              (Reads.as-is
-              𝓤
-              H
-              A
-              (Mut.mslice
-              (Referent.rtF (Referent.fInt Syntax.w8))
-              (Syntax.tyRef (Syntax.named 0) Syntax.mut (Syntax.tyInt Syntax.w8))
-              0))
-              Path'.refl
-              tt))
-              (Lifetime.g-forget 𝓤 H A W E G20 3 Row.dead Path'.refl))
-
-          d5 : Typed.Typed 𝓤 H A 𝓣 E G14 b6 Δ1 at5
-          d5 =
-              Typed.s-seq
-              𝓤
-              H
-              A
-              W
-              𝓣
-              E
-              G14
-              G15
-              b4
-              b5
-              Δ1
-              (Typed.ask s12)
-              at4
-              (Relend.t-sl-aggregate
-              𝓤
-              H
-              A
-              W
-              E
-              (Referent.rtF (Referent.fInt Syntax.w8))
-              𝓣
-              (Relend.asMut (Referent.rtF (Referent.fInt Syntax.w8)))
-              G14
-              8
-              9
-              3
-              (Syntax.tyRef Syntax.erased Syntax.mut (Syntax.tyInt Syntax.w8))
-              (Syntax.tyRef Syntax.erased Syntax.mut (Syntax.tyInt Syntax.w8))
-              (λ x. x)
-              (Scalar.oFld
-              1
-              (List._∷_ (Syntax.field 1) List.[])
-              (Syntax.tyInt Syntax.w64)
-              8
-              λ v. Shared.lenV
-              (v .0))
-              (Reads.as-is
-              𝓤
-              H
-              A
-              (Relend.msptr
-              (Referent.rtF (Referent.fInt Syntax.w8))
-              (Syntax.tyRef Syntax.erased Syntax.mut (Syntax.tyInt Syntax.w8))
-              3))
-              (Reads.room-gone
-              𝓤
-              H
-              A
-              (Syntax.tyStruct
-              (List._∷_ 38 (List._∷_ 91 (List._∷_ 93 List.[])))
-              (Syntax.tcons
-              (Syntax.tyRef Syntax.erased Syntax.mut (Syntax.tyInt Syntax.w8))
-              (Syntax.tcons (Syntax.tyInt Syntax.w64) Syntax.tnil)))) (
-                Relend.reads-owed-len
-                    𝓤
-                    H
-                    A
-                    W
-                    (Referent.rtF (Referent.fInt Syntax.w8))
-                    (Syntax.tyRef (Syntax.named 0) Syntax.mut (Syntax.tyInt Syntax.w8))
-                    0
-                    3
-                    (Row.lease (κs .0) (qs .0))
-                    8
-                    Path'.refl,
-                Path'.refl,
-              )
-              Path'.refl
-              Path'.refl
-              λ b o k. tt)
-              d4
-
-          d6 : Typed.Typed 𝓤 H A 𝓣 E G13 b7 Δ1 at6
-          d6 =
-              Typed.s-seq
-              𝓤
-              H
-              A
-              W
-              𝓣
-              E
-              G13
-              G14
-              b3
-              b6
-              Δ1
-              (Typed.give s11)
-              at5
-              (Relend.t-sl-relend
-              𝓤
-              H
-              A
-              W
-              E
-              (Referent.rtF (Referent.fInt Syntax.w8))
-              𝓣
-              G13
-              1
-              8
-              0
-              3
-              (Syntax.tyRef (Syntax.named 0) Syntax.mut (Syntax.tyInt Syntax.w8))
-              (Syntax.tyRef Syntax.erased Syntax.mut (Syntax.tyInt Syntax.w8))
-              (Row.lease (κs .0) (qs .0))
-              0
-              (λ x. x)
-              (Reads.as-is
-              𝓤
-              H
-              A
-              (Mut.mslice
-              (Referent.rtF (Referent.fInt Syntax.w8))
-              (Syntax.tyRef (Syntax.named 0) Syntax.mut (Syntax.tyInt Syntax.w8))
-              0))
-              (Reads.room-gone
-              𝓤
-              H
-              A
-              (Syntax.tyRef Syntax.erased Syntax.mut (Syntax.tyInt Syntax.w8)))
-              Path'.refl
-              tt
-              Path'.refl
-              Path'.refl
-              Path'.refl
-              λ b o. tt)
-              d5
-
-          d7 : Typed.Typed 𝓤 H A 𝓣 E G12 b7 Δ1 at7
-          d7 =
-              Typed.g-pre 𝓤 H A W 𝓣 E G12 G13 b7 Δ1 (λ Ψ. Ψ) at6 (Lifetime.g-begin 𝓤 H A W E G12 3 (
-                tt,
-                (tt, (tt, (tt, (tt, (tt, (tt, (tt, (tt, (tt, (tt, (tt, tt))))))))))),
-              )) d6
-
-          d8 : Typed.Typed 𝓤 H A 𝓣 E G11 b7 Δ1 at8
-          d8 =
-              Typed.g-pre
-              𝓤
-              H
-              A
-              W
-              𝓣
-              E
-              G11
-              G12
-              b7
-              Δ1
-              (Typed.pass T11 T12 s9)
-              at7
-              (Scalar.g-room
-              𝓤
-              H
-              A
-              W
-              E
-              G11
-              5
-              (Syntax.tyEnum
-              (List._∷_
-              100
-              (List._∷_
-              101
-              (List._∷_
-              99
-              (List._∷_
-              105
-              (List._∷_
-              115
-              (List._∷_
-              105
-              (List._∷_
-              111
-              (List._∷_
-              110
-              (List._∷_
-              58
-              (List._∷_
-              58
-              (List._∷_ 87 (List._∷_ 104 (List._∷_ 97 (List._∷_ 116 List.[]))))))))))))))
-              (Syntax.ttcons
-              Syntax.tnil
-              (Syntax.ttcons Syntax.tnil (Syntax.ttcons Syntax.tnil Syntax.ttnil))))
-              (Local.room-whole
-              𝓤
-              H
-              A
-              W
-              (Declared.row What.the-type)
-              (Syntax.tyEnum
-              (List._∷_
-              100
-              (List._∷_
-              101
-              (List._∷_
-              99
-              (List._∷_
-              105
-              (List._∷_
-              115
-              (List._∷_
-              105
-              (List._∷_
-              111
-              (List._∷_
-              110
-              (List._∷_
-              58
-              (List._∷_
-              58
-              (List._∷_ 87 (List._∷_ 104 (List._∷_ 97 (List._∷_ 116 List.[]))))))))))))))
-              (Syntax.ttcons
-              Syntax.tnil
-              (Syntax.ttcons Syntax.tnil (Syntax.ttcons Syntax.tnil Syntax.ttnil))))
-              Path'.refl))
-              d7
-
-          d9 : Typed.Typed 𝓤 H A 𝓣 E G6 b7 Δ1 at9
-          d9 =
-              Typed.g-pre
-              𝓤
-              H
-              A
-              W
-              𝓣
-              E
-              G6
-              G11
-              b7
-              Δ1
-              (Typed.both s8)
-              at8
-              (Known.g-enum-told 𝓤 H A W E What.enum 1 G6 5 λ x. x)
-              d8
-
-          d10 : Typed.Typed 𝓤 H A 𝓣 E G27 b10 Δ1 at10
-          d10 =
-              Typed.s-typed
-              𝓤
-              H
-              A
-              W
-              𝓣
-              E
-              G27
-              b10
-              Δ1
-              (λ Ψ. Typed.both s25 (Typed.both s27 (Typed.give s28 Ψ)))
-              tt
-              (Typed.g-post
-              𝓤
-              H
-              A
-              W
-              𝓣
-              E
-              G27
-              G31
-              G32
-              b10
-              (λ Ψ. Typed.both s25 (Typed.both s27 (Typed.give s28 Ψ)))
-              (λ Ψ. Ψ)
-              (Typed.g-post
-              𝓤
-              H
-              A
-              W
-              𝓣
-              E
-              G27
-              G30
-              G31
-              b10
-              (λ Ψ. Typed.both s25 (Typed.both s27 Ψ))
-              (Typed.give s28)
-              (Typed.g-post
-              𝓤
-              H
-              A
-              W
-              𝓣
-              E
-              G27
-              G29
-              G30
-              b10
-              (λ Ψ. Typed.both s25 Ψ)
-              (Typed.both s27)
-              (Typed.g-post
-              𝓤
-              H
-              A
-              W
-              𝓣
-              E
-              G27
-              G28
-              G29
-              b10
-              (Typed.both s25)
-              (λ Ψ. Ψ)
-              (Plain.t-call-plain
-              𝓤
-              H
-              A
-              W
-              𝓣
-              3
-              ps·2
-              r·2
-              (claims· .4)
-              (claims· .5)
-              "post::put_route_path"
-              (known .2)
-              E
-              (λ pos β. β)
-              G27 (
-                record {
-                  pos = 11;
-                  ty = Syntax.tyRef Syntax.erased Syntax.mut (Syntax.tyInt Syntax.w8);
-                  ref = λ x. x;
-                },
-                (
-                  record {
-                    pos = 3;
-                    ty = Syntax.tyRef
-                        (Syntax.named 1)
-                        Syntax.imm
-                        (KPost.named);
-                    ref = λ x. x;
-                  },
-                  (
-                    record {
-                      pos = 4;
-                      ty = Syntax.tyRef
-                          (Syntax.named 2)
-                          Syntax.imm
-                          (Syntax.tyArray (Syntax.tyArray (Syntax.tyInt Syntax.w8) 16) 16);
-                      ref = λ x. x;
-                    },
-                    tt,
-                  ),
-                ),
-              )
-              7
-              (List._∷_ 4 (List._∷_ 1 (List._∷_ 2 List.[])))
-              (Call.sub-id 𝓤 H A W (G27 .slots)) (
+              (List._∷_ 4 (List._∷_ 1 (List._∷_ 2 (List._∷_ 3 List.[]))))
+              (Call.sub-id 𝓤 H A W (G14 .slots)) (
                 Reads.as-is
                     𝓤
                     H
@@ -4197,22 +3190,22 @@ module _ (claims· : Claims) where
                       H
                       A
                       W
-                      (KPost.R)
+                      (KOwn.R)
                       (Syntax.tyRef
                       (Syntax.named 1)
                       Syntax.imm
-                      (KPost.named))
+                      (KOwn.named))
                       1,
                   Reads.reads-sref
                       𝓤
                       H
                       A
                       W
-                      (KPost.R)
+                      (KOwn.R)
                       (Syntax.tyRef
                       (Syntax.named 1)
                       Syntax.imm
-                      (KPost.named))
+                      (KOwn.named))
                       1,
                   Path'.refl,
                   (
@@ -4221,36 +3214,61 @@ module _ (claims· : Claims) where
                         H
                         A
                         W
-                        (Array'.Array
-                        (Array'.Array (Referent.rtF (Referent.fInt Syntax.w8)) 16)
-                        16)
+                        (KPost.R)
                         (Syntax.tyRef
                         (Syntax.named 2)
                         Syntax.imm
-                        (Syntax.tyArray (Syntax.tyArray (Syntax.tyInt Syntax.w8) 16) 16))
+                        (KPost.named))
                         2,
                     Reads.reads-sref
                         𝓤
                         H
                         A
                         W
-                        (Array'.Array
-                        (Array'.Array (Referent.rtF (Referent.fInt Syntax.w8)) 16)
-                        16)
+                        (KPost.R)
                         (Syntax.tyRef
                         (Syntax.named 2)
                         Syntax.imm
-                        (Syntax.tyArray (Syntax.tyArray (Syntax.tyInt Syntax.w8) 16) 16))
+                        (KPost.named))
                         2,
                     Path'.refl,
-                    tt,
+                    (
+                      ShrRef.spares-sref
+                          𝓤
+                          H
+                          A
+                          W
+                          (Array'.Array
+                          (Array'.Array (Referent.rtF (Referent.fInt Syntax.w8)) 16)
+                          16)
+                          (Syntax.tyRef
+                          (Syntax.named 3)
+                          Syntax.imm
+                          (Syntax.tyArray (Syntax.tyArray (Syntax.tyInt Syntax.w8) 16) 16))
+                          3,
+                      Reads.reads-sref
+                          𝓤
+                          H
+                          A
+                          W
+                          (Array'.Array
+                          (Array'.Array (Referent.rtF (Referent.fInt Syntax.w8)) 16)
+                          16)
+                          (Syntax.tyRef
+                          (Syntax.named 3)
+                          Syntax.imm
+                          (Syntax.tyArray (Syntax.tyArray (Syntax.tyInt Syntax.w8) 16) 16))
+                          3,
+                      Path'.refl,
+                      tt,
+                    ),
                   ),
                 ),
               )
               (Reads.room-gone 𝓤 H A (Syntax.tyInt Syntax.w64))
-              (tt, (tt, (tt, tt)))
+              (tt, (tt, (tt, (tt, tt))))
               Path'.refl)
-              (Lifetime.g-end 𝓤 H A W E G28 4 Path'.refl))
+              (Lifetime.g-end 𝓤 H A W E G15 4 Path'.refl))
               (Relend.g-back-sl
               𝓤
               H
@@ -4258,8 +3276,8 @@ module _ (claims· : Claims) where
               W
               E
               (Referent.rtF (Referent.fInt Syntax.w8))
-              G29
-              11
+              G16
+              9
               1
               0
               4
@@ -4294,7 +3312,7 @@ module _ (claims· : Claims) where
               W
               (Referent.fInt Syntax.w8)
               E
-              G30
+              G17
               1
               0
               (Syntax.tyRef (Syntax.named 0) Syntax.mut (Syntax.tyInt Syntax.w8))
@@ -4312,10 +3330,10 @@ module _ (claims· : Claims) where
               0))
               Path'.refl
               tt))
-              (Lifetime.g-forget 𝓤 H A W E G31 4 Row.dead Path'.refl))
+              (Lifetime.g-forget 𝓤 H A W E G18 4 Row.dead Path'.refl))
 
-          d11 : Typed.Typed 𝓤 H A 𝓣 E G26 b11 Δ1 at11
-          d11 =
+          d4 : Typed.Typed 𝓤 H A 𝓣 E G13 b6 Δ1 at4
+          d4 =
               Typed.s-seq
               𝓤
               H
@@ -4323,13 +3341,13 @@ module _ (claims· : Claims) where
               W
               𝓣
               E
-              G26
-              G27
-              b9
-              b10
+              G13
+              G14
+              b4
+              b5
               Δ1
-              (Typed.ask s24)
-              at10
+              (Typed.ask s11)
+              at3
               (Relend.t-sl-aggregate
               𝓤
               H
@@ -4339,9 +3357,9 @@ module _ (claims· : Claims) where
               (Referent.rtF (Referent.fInt Syntax.w8))
               𝓣
               (Relend.asMut (Referent.rtF (Referent.fInt Syntax.w8)))
-              G26
-              10
-              11
+              G13
+              8
+              9
               4
               (Syntax.tyRef Syntax.erased Syntax.mut (Syntax.tyInt Syntax.w8))
               (Syntax.tyRef Syntax.erased Syntax.mut (Syntax.tyInt Syntax.w8))
@@ -4387,10 +3405,10 @@ module _ (claims· : Claims) where
               Path'.refl
               Path'.refl
               λ b o k. tt)
-              d10
+              d3
 
-          d12 : Typed.Typed 𝓤 H A 𝓣 E G25 b12 Δ1 at12
-          d12 =
+          d5 : Typed.Typed 𝓤 H A 𝓣 E G12 b7 Δ1 at5
+          d5 =
               Typed.s-seq
               𝓤
               H
@@ -4398,13 +3416,13 @@ module _ (claims· : Claims) where
               W
               𝓣
               E
-              G25
-              G26
-              b8
-              b11
+              G12
+              G13
+              b3
+              b6
               Δ1
-              (Typed.give s23)
-              at11
+              (Typed.give s10)
+              at4
               (Relend.t-sl-relend
               𝓤
               H
@@ -4413,9 +3431,9 @@ module _ (claims· : Claims) where
               E
               (Referent.rtF (Referent.fInt Syntax.w8))
               𝓣
-              G25
+              G12
               1
-              10
+              8
               0
               4
               (Syntax.tyRef (Syntax.named 0) Syntax.mut (Syntax.tyInt Syntax.w8))
@@ -4442,31 +3460,17 @@ module _ (claims· : Claims) where
               Path'.refl
               Path'.refl
               λ b o. tt)
-              d11
+              d4
 
-          d13 : Typed.Typed 𝓤 H A 𝓣 E G24 b12 Δ1 at13
-          d13 =
-              Typed.g-pre
-              𝓤
-              H
-              A
-              W
-              𝓣
-              E
-              G24
-              G25
-              b12
-              Δ1
-              (λ Ψ. Ψ)
-              at12
-              (Lifetime.g-begin 𝓤 H A W E G24 4 (
+          d6 : Typed.Typed 𝓤 H A 𝓣 E G11 b7 Δ1 at6
+          d6 =
+              Typed.g-pre 𝓤 H A W 𝓣 E G11 G12 b7 Δ1 (λ Ψ. Ψ) at5 (Lifetime.g-begin 𝓤 H A W E G11 4 (
                 tt,
                 (tt, (tt, (tt, (tt, (tt, (tt, (tt, (tt, (tt, (tt, (tt, tt))))))))))),
-              ))
-              d12
+              )) d5
 
-          d14 : Typed.Typed 𝓤 H A 𝓣 E G23 b12 Δ1 at14
-          d14 =
+          d7 : Typed.Typed 𝓤 H A 𝓣 E G10 b7 Δ1 at7
+          d7 =
               Typed.g-pre
               𝓤
               H
@@ -4474,19 +3478,19 @@ module _ (claims· : Claims) where
               W
               𝓣
               E
-              G23
-              G24
-              b12
+              G10
+              G11
+              b7
               Δ1
-              (Typed.pass T23 T24 s21)
-              at13
+              (Typed.pass T10 T11 s8)
+              at6
               (Scalar.g-room
               𝓤
               H
               A
               W
               E
-              G23
+              G10
               5
               (Syntax.tyEnum
               (List._∷_
@@ -4545,64 +3549,10 @@ module _ (claims· : Claims) where
               Syntax.tnil
               (Syntax.ttcons Syntax.tnil (Syntax.ttcons Syntax.tnil Syntax.ttnil))))
               Path'.refl))
-              d13
+              d6
 
-          d15 : Typed.Typed 𝓤 H A 𝓣 E G22 b12 Δ1 at15
-          d15 =
-              Typed.g-pre
-              𝓤
-              H
-              A
-              W
-              𝓣
-              E
-              G22
-              G23
-              b12
-              Δ1
-              (Typed.pass T22 T23 s20)
-              at14
-              (Scalar.g-room
-              𝓤
-              H
-              A
-              W
-              E
-              G22
-              2
-              (Syntax.tyStruct
-              (List._∷_
-              111
-              (List._∷_
-              119
-              (List._∷_
-              110
-              (List._∷_ 58 (List._∷_ 58 (List._∷_ 79 (List._∷_ 119 (List._∷_ 110 List.[]))))))))
-              (Syntax.tcons
-              (Syntax.tyArray (Syntax.tyInt Syntax.w8) 16)
-              (Syntax.tcons (Syntax.tyArray (Syntax.tyInt Syntax.w8) 16) Syntax.tnil)))
-              (Local.room-whole
-              𝓤
-              H
-              A
-              W
-              (Declared'.row Own.the-type)
-              (Syntax.tyStruct
-              (List._∷_
-              111
-              (List._∷_
-              119
-              (List._∷_
-              110
-              (List._∷_ 58 (List._∷_ 58 (List._∷_ 79 (List._∷_ 119 (List._∷_ 110 List.[]))))))))
-              (Syntax.tcons
-              (Syntax.tyArray (Syntax.tyInt Syntax.w8) 16)
-              (Syntax.tcons (Syntax.tyArray (Syntax.tyInt Syntax.w8) 16) Syntax.tnil)))
-              Path'.refl))
-              d14
-
-          d16 : Typed.Typed 𝓤 H A 𝓣 E G6 b12 Δ1 at16
-          d16 =
+          d8 : Typed.Typed 𝓤 H A 𝓣 E G6 b7 Δ1 at8
+          d8 =
               Typed.g-pre
               𝓤
               H
@@ -4611,16 +3561,519 @@ module _ (claims· : Claims) where
               𝓣
               E
               G6
+              G10
+              b7
+              Δ1
+              (Typed.both s7)
+              at7
+              (Known.g-enum-told 𝓤 H A W E What.enum 1 G6 5 λ x. x)
+              d7
+
+          d9 : Typed.Typed 𝓤 H A 𝓣 E G24 b10 Δ1 at9
+          d9 =
+              Typed.s-typed
+              𝓤
+              H
+              A
+              W
+              𝓣
+              E
+              G24
+              b10
+              Δ1
+              (λ Ψ. Typed.both s22 (Typed.both s24 (Typed.give s25 Ψ)))
+              tt
+              (Typed.g-post
+              𝓤
+              H
+              A
+              W
+              𝓣
+              E
+              G24
+              G28
+              G29
+              b10
+              (λ Ψ. Typed.both s22 (Typed.both s24 (Typed.give s25 Ψ)))
+              (λ Ψ. Ψ)
+              (Typed.g-post
+              𝓤
+              H
+              A
+              W
+              𝓣
+              E
+              G24
+              G27
+              G28
+              b10
+              (λ Ψ. Typed.both s22 (Typed.both s24 Ψ))
+              (Typed.give s25)
+              (Typed.g-post
+              𝓤
+              H
+              A
+              W
+              𝓣
+              E
+              G24
+              G26
+              G27
+              b10
+              (λ Ψ. Typed.both s22 Ψ)
+              (Typed.both s24)
+              (Typed.g-post
+              𝓤
+              H
+              A
+              W
+              𝓣
+              E
+              G24
+              G25
+              G26
+              b10
+              (Typed.both s22)
+              (λ Ψ. Ψ)
+              (Plain.t-call-plain
+              𝓤
+              H
+              A
+              W
+              𝓣
+              3
+              ps·2
+              r·2
+              (claims· .4)
+              (claims· .5)
+              "post::put_route_path"
+              (known .2)
+              E
+              (λ pos β. β)
+              G24 (
+                record {
+                  pos = 11;
+                  ty = Syntax.tyRef Syntax.erased Syntax.mut (Syntax.tyInt Syntax.w8);
+                  ref = λ x. x;
+                },
+                (
+                  record {
+                    pos = 3;
+                    ty = Syntax.tyRef
+                        (Syntax.named 2)
+                        Syntax.imm
+                        (KPost.named);
+                    ref = λ x. x;
+                  },
+                  (
+                    record {
+                      pos = 4;
+                      ty = Syntax.tyRef
+                          (Syntax.named 3)
+                          Syntax.imm
+                          (Syntax.tyArray (Syntax.tyArray (Syntax.tyInt Syntax.w8) 16) 16);
+                      ref = λ x. x;
+                    },
+                    tt,
+                  ),
+                ),
+              )
+              7
+              (List._∷_ 5 (List._∷_ 2 (List._∷_ 3 List.[])))
+              (Call.sub-id 𝓤 H A W (G24 .slots)) (
+                Reads.as-is
+                    𝓤
+                    H
+                    A
+                    (Mut.mslice
+                    (Referent.rtF (Referent.fInt Syntax.w8))
+                    (Syntax.tyRef Syntax.erased Syntax.mut (Syntax.tyInt Syntax.w8))
+                    5),
+                Mut.reads-mslice
+                    𝓤
+                    H
+                    A
+                    W
+                    (Referent.rtF (Referent.fInt Syntax.w8))
+                    (Syntax.tyRef Syntax.erased Syntax.mut (Syntax.tyInt Syntax.w8))
+                    5,
+                Path'.refl,
+                (
+                  ShrRef.spares-sref
+                      𝓤
+                      H
+                      A
+                      W
+                      (KPost.R)
+                      (Syntax.tyRef
+                      (Syntax.named 2)
+                      Syntax.imm
+                      (KPost.named))
+                      2,
+                  Reads.reads-sref
+                      𝓤
+                      H
+                      A
+                      W
+                      (KPost.R)
+                      (Syntax.tyRef
+                      (Syntax.named 2)
+                      Syntax.imm
+                      (KPost.named))
+                      2,
+                  Path'.refl,
+                  (
+                    ShrRef.spares-sref
+                        𝓤
+                        H
+                        A
+                        W
+                        (Array'.Array
+                        (Array'.Array (Referent.rtF (Referent.fInt Syntax.w8)) 16)
+                        16)
+                        (Syntax.tyRef
+                        (Syntax.named 3)
+                        Syntax.imm
+                        (Syntax.tyArray (Syntax.tyArray (Syntax.tyInt Syntax.w8) 16) 16))
+                        3,
+                    Reads.reads-sref
+                        𝓤
+                        H
+                        A
+                        W
+                        (Array'.Array
+                        (Array'.Array (Referent.rtF (Referent.fInt Syntax.w8)) 16)
+                        16)
+                        (Syntax.tyRef
+                        (Syntax.named 3)
+                        Syntax.imm
+                        (Syntax.tyArray (Syntax.tyArray (Syntax.tyInt Syntax.w8) 16) 16))
+                        3,
+                    Path'.refl,
+                    tt,
+                  ),
+                ),
+              )
+              (Reads.room-gone 𝓤 H A (Syntax.tyInt Syntax.w64))
+              (tt, (tt, (tt, tt)))
+              Path'.refl)
+              (Lifetime.g-end 𝓤 H A W E G25 5 Path'.refl))
+              (Relend.g-back-sl
+              𝓤
+              H
+              A
+              W
+              E
+              (Referent.rtF (Referent.fInt Syntax.w8))
+              G26
+              11
+              1
+              0
+              5
+              (Syntax.tyRef (Syntax.named 0) Syntax.mut (Syntax.tyInt Syntax.w8))
+              (Syntax.tyRef Syntax.erased Syntax.mut (Syntax.tyInt Syntax.w8))
+              (Row.lease (κs .0) (qs .0))
+              (λ x. x)
+              (λ x. x)
+              (Reads.as-is
+              𝓤
+              H
+              A
+              (Mut.msleft
+              (Referent.rtF (Referent.fInt Syntax.w8))
+              (Syntax.tyRef Syntax.erased Syntax.mut (Syntax.tyInt Syntax.w8))))
+              (Reads.as-is
+              𝓤
+              H
+              A
+              (Relend.mslice-owed
+              (Referent.rtF (Referent.fInt Syntax.w8))
+              (Syntax.tyRef (Syntax.named 0) Syntax.mut (Syntax.tyInt Syntax.w8))
+              0
+              5
+              (Row.lease (κs .0) (qs .0))))
+              Path'.refl
+              Path'.refl))
+              (Know.g-sl-known
+              𝓤
+              H
+              A
+              W
+              (Referent.fInt Syntax.w8)
+              E
+              G27
+              1
+              0
+              (Syntax.tyRef (Syntax.named 0) Syntax.mut (Syntax.tyInt Syntax.w8))
+              (Row.lease (κs .0) (qs .0))
+              0
+              (λ x. x)
+              record { fits = Dec'.lit< tt }
+              (Reads.as-is
+              𝓤
+              H
+              A
+              (Mut.mslice
+              (Referent.rtF (Referent.fInt Syntax.w8))
+              (Syntax.tyRef (Syntax.named 0) Syntax.mut (Syntax.tyInt Syntax.w8))
+              0))
+              Path'.refl
+              tt))
+              (Lifetime.g-forget 𝓤 H A W E G28 5 Row.dead Path'.refl))
+
+          d10 : Typed.Typed 𝓤 H A 𝓣 E G23 b11 Δ1 at10
+          d10 =
+              Typed.s-seq
+              𝓤
+              H
+              A
+              W
+              𝓣
+              E
+              G23
+              G24
+              b9
+              b10
+              Δ1
+              (Typed.ask s21)
+              at9
+              (Relend.t-sl-aggregate
+              𝓤
+              H
+              A
+              W
+              E
+              (Referent.rtF (Referent.fInt Syntax.w8))
+              𝓣
+              (Relend.asMut (Referent.rtF (Referent.fInt Syntax.w8)))
+              G23
+              10
+              11
+              5
+              (Syntax.tyRef Syntax.erased Syntax.mut (Syntax.tyInt Syntax.w8))
+              (Syntax.tyRef Syntax.erased Syntax.mut (Syntax.tyInt Syntax.w8))
+              (λ x. x)
+              (Scalar.oFld
+              1
+              (List._∷_ (Syntax.field 1) List.[])
+              (Syntax.tyInt Syntax.w64)
+              8
+              λ v. Shared.lenV
+              (v .0))
+              (Reads.as-is
+              𝓤
+              H
+              A
+              (Relend.msptr
+              (Referent.rtF (Referent.fInt Syntax.w8))
+              (Syntax.tyRef Syntax.erased Syntax.mut (Syntax.tyInt Syntax.w8))
+              5))
+              (Reads.room-gone
+              𝓤
+              H
+              A
+              (Syntax.tyStruct
+              (List._∷_ 38 (List._∷_ 91 (List._∷_ 93 List.[])))
+              (Syntax.tcons
+              (Syntax.tyRef Syntax.erased Syntax.mut (Syntax.tyInt Syntax.w8))
+              (Syntax.tcons (Syntax.tyInt Syntax.w64) Syntax.tnil)))) (
+                Relend.reads-owed-len
+                    𝓤
+                    H
+                    A
+                    W
+                    (Referent.rtF (Referent.fInt Syntax.w8))
+                    (Syntax.tyRef (Syntax.named 0) Syntax.mut (Syntax.tyInt Syntax.w8))
+                    0
+                    5
+                    (Row.lease (κs .0) (qs .0))
+                    8
+                    Path'.refl,
+                Path'.refl,
+              )
+              Path'.refl
+              Path'.refl
+              λ b o k. tt)
+              d9
+
+          d11 : Typed.Typed 𝓤 H A 𝓣 E G22 b12 Δ1 at11
+          d11 =
+              Typed.s-seq
+              𝓤
+              H
+              A
+              W
+              𝓣
+              E
+              G22
+              G23
+              b8
+              b11
+              Δ1
+              (Typed.give s20)
+              at10
+              (Relend.t-sl-relend
+              𝓤
+              H
+              A
+              W
+              E
+              (Referent.rtF (Referent.fInt Syntax.w8))
+              𝓣
+              G22
+              1
+              10
+              0
+              5
+              (Syntax.tyRef (Syntax.named 0) Syntax.mut (Syntax.tyInt Syntax.w8))
+              (Syntax.tyRef Syntax.erased Syntax.mut (Syntax.tyInt Syntax.w8))
+              (Row.lease (κs .0) (qs .0))
+              0
+              (λ x. x)
+              (Reads.as-is
+              𝓤
+              H
+              A
+              (Mut.mslice
+              (Referent.rtF (Referent.fInt Syntax.w8))
+              (Syntax.tyRef (Syntax.named 0) Syntax.mut (Syntax.tyInt Syntax.w8))
+              0))
+              (Reads.room-gone
+              𝓤
+              H
+              A
+              (Syntax.tyRef Syntax.erased Syntax.mut (Syntax.tyInt Syntax.w8)))
+              Path'.refl
+              tt
+              Path'.refl
+              Path'.refl
+              Path'.refl
+              λ b o. tt)
+              d10
+
+          d12 : Typed.Typed 𝓤 H A 𝓣 E G21 b12 Δ1 at12
+          d12 =
+              Typed.g-pre
+              𝓤
+              H
+              A
+              W
+              𝓣
+              E
+              G21
               G22
               b12
               Δ1
-              (Typed.both s19)
-              at15
-              (Known.g-enum-told 𝓤 H A W E What.enum 2 G6 5 λ x. x)
-              d15
+              (λ Ψ. Ψ)
+              at11
+              (Lifetime.g-begin 𝓤 H A W E G21 5 (
+                tt,
+                (tt, (tt, (tt, (tt, (tt, (tt, (tt, (tt, (tt, (tt, (tt, tt))))))))))),
+              ))
+              d11
 
-          d17 : Typed.Typed 𝓤 H A 𝓣 E G6 b13 Δ1 at17
-          d17 =
+          d13 : Typed.Typed 𝓤 H A 𝓣 E G20 b12 Δ1 at13
+          d13 =
+              Typed.g-pre
+              𝓤
+              H
+              A
+              W
+              𝓣
+              E
+              G20
+              G21
+              b12
+              Δ1
+              (Typed.pass T20 T21 s18)
+              at12
+              (Scalar.g-room
+              𝓤
+              H
+              A
+              W
+              E
+              G20
+              5
+              (Syntax.tyEnum
+              (List._∷_
+              100
+              (List._∷_
+              101
+              (List._∷_
+              99
+              (List._∷_
+              105
+              (List._∷_
+              115
+              (List._∷_
+              105
+              (List._∷_
+              111
+              (List._∷_
+              110
+              (List._∷_
+              58
+              (List._∷_
+              58
+              (List._∷_ 87 (List._∷_ 104 (List._∷_ 97 (List._∷_ 116 List.[]))))))))))))))
+              (Syntax.ttcons
+              Syntax.tnil
+              (Syntax.ttcons Syntax.tnil (Syntax.ttcons Syntax.tnil Syntax.ttnil))))
+              (Local.room-whole
+              𝓤
+              H
+              A
+              W
+              (Declared.row What.the-type)
+              (Syntax.tyEnum
+              (List._∷_
+              100
+              (List._∷_
+              101
+              (List._∷_
+              99
+              (List._∷_
+              105
+              (List._∷_
+              115
+              (List._∷_
+              105
+              (List._∷_
+              111
+              (List._∷_
+              110
+              (List._∷_
+              58
+              (List._∷_
+              58
+              (List._∷_ 87 (List._∷_ 104 (List._∷_ 97 (List._∷_ 116 List.[]))))))))))))))
+              (Syntax.ttcons
+              Syntax.tnil
+              (Syntax.ttcons Syntax.tnil (Syntax.ttcons Syntax.tnil Syntax.ttnil))))
+              Path'.refl))
+              d12
+
+          d14 : Typed.Typed 𝓤 H A 𝓣 E G6 b12 Δ1 at14
+          d14 =
+              Typed.g-pre
+              𝓤
+              H
+              A
+              W
+              𝓣
+              E
+              G6
+              G20
+              b12
+              Δ1
+              (Typed.both s17)
+              at13
+              (Known.g-enum-told 𝓤 H A W E What.enum 2 G6 5 λ x. x)
+              d13
+
+          d15 : Typed.Typed 𝓤 H A 𝓣 E G6 b13 Δ1 at15
+          d15 =
               Switch.t-switch-on
               𝓤
               H
@@ -4647,7 +4100,7 @@ module _ (claims· : Claims) where
               b7
               (Syntax.arm (List._∷_ 2 List.[]) b12 Syntax.noDefault)))
               Δ1
-              (at3, (at9, (at16, tt))) (
+              (at2, (at8, (at14, tt))) (
                 Match.reads-tag
                     𝓤
                     H
@@ -4662,10 +4115,10 @@ module _ (claims· : Claims) where
                 Path'.refl,
               )
               (λ u. Path'.refl)
-              (d3, (d9, (d16, tt)))
+              (d2, (d8, (d14, tt)))
 
-          d18 : Typed.Typed 𝓤 H A 𝓣 E G4 b13 Δ1 at18
-          d18 =
+          d16 : Typed.Typed 𝓤 H A 𝓣 E G4 b13 Δ1 at16
+          d16 =
               Typed.g-pre
               𝓤
               H
@@ -4678,7 +4131,7 @@ module _ (claims· : Claims) where
               b13
               Δ1
               (Typed.pass T4 T6 s3)
-              at17
+              at15
               (Scalar.g-room
               𝓤
               H
@@ -4689,13 +4142,13 @@ module _ (claims· : Claims) where
               6
               (KPost.spelled)
               (KPost.room 𝓤 H A W))
-              d17
+              d15
 
-          d19 : Typed.Typed 𝓤 H A 𝓣 E G34 b15 Δ0 at19
-          d19 = Typed.t-return 𝓤 H A W 𝓣 E Δ0 tt
+          d17 : Typed.Typed 𝓤 H A 𝓣 E G31 b15 Δ0 at17
+          d17 = Typed.t-return 𝓤 H A W 𝓣 E Δ0 tt
 
-          d20 : Typed.Typed 𝓤 H A 𝓣 E G33 b15 Δ0 at20
-          d20 =
+          d18 : Typed.Typed 𝓤 H A 𝓣 E G30 b15 Δ0 at18
+          d18 =
               Typed.g-pre
               𝓤
               H
@@ -4703,26 +4156,26 @@ module _ (claims· : Claims) where
               W
               𝓣
               E
-              G33
-              G34
+              G30
+              G31
               b15
               Δ0
-              (Typed.pass T33 T34 s31)
-              at19
+              (Typed.pass T30 T31 s28)
+              at17
               (Scalar.g-room
               𝓤
               H
               A
               W
               E
-              G33
+              G30
               7
               (Syntax.tyInt Syntax.w64)
               (Scalar.room-sc 𝓤 H A W (Row.sInt Syntax.w64)))
-              d19
+              d17
 
-          d21 : Typed.Typed 𝓤 H A 𝓣 E G5 b16 Δ0 at21
-          d21 =
+          d19 : Typed.Typed 𝓤 H A 𝓣 E G5 b16 Δ0 at19
+          d19 =
               Typed.s-seq
               𝓤
               H
@@ -4731,12 +4184,12 @@ module _ (claims· : Claims) where
               𝓣
               E
               G5
-              G33
+              G30
               b14
               b15
               Δ0
-              (Typed.pass T5 T33 s30)
-              at20
+              (Typed.pass T5 T30 s27)
+              at18
               (Scalar.t-use
               𝓤
               H
@@ -4757,13 +4210,13 @@ module _ (claims· : Claims) where
               Path'.refl
               (λ u. Path'.refl)
               λ u. tt)
-              d20
+              d18
 
-          d22 : Typed.Typed 𝓤 H A 𝓣 E G4 b17 Δ0 at22
-          d22 = Typed.t-seq 𝓤 H A W 𝓣 E G4 G5 b13 b16 Δ0 at18 at21 d18 d21
+          d20 : Typed.Typed 𝓤 H A 𝓣 E G4 b17 Δ0 at20
+          d20 = Typed.t-seq 𝓤 H A W 𝓣 E G4 G5 b13 b16 Δ0 at16 at19 d16 d19
 
-          d23 : Typed.Typed 𝓤 H A 𝓣 E G3 b18 Δ0 at23
-          d23 =
+          d21 : Typed.Typed 𝓤 H A 𝓣 E G3 b18 Δ0 at21
+          d21 =
               Typed.s-seq
               𝓤
               H
@@ -4777,7 +4230,7 @@ module _ (claims· : Claims) where
               b17
               Δ0
               (Typed.both s2)
-              at22
+              at20
               (Plain.t-call-plain
               𝓤
               H
@@ -4835,10 +4288,10 @@ module _ (claims· : Claims) where
               (Syntax.ttcons Syntax.tnil (Syntax.ttcons Syntax.tnil Syntax.ttnil)))))
               tt
               Path'.refl)
-              d22
+              d20
 
-          d24 : Typed.Typed 𝓤 H A 𝓣 E G2 b19 Δ0 at24
-          d24 =
+          d22 : Typed.Typed 𝓤 H A 𝓣 E G2 b19 Δ0 at22
+          d22 =
               Typed.s-seq
               𝓤
               H
@@ -4852,7 +4305,7 @@ module _ (claims· : Claims) where
               b18
               Δ0
               (Typed.give s1)
-              at23
+              at21
               (DerefMove.t-sref-read-copy
               𝓤
               H
@@ -4864,15 +4317,15 @@ module _ (claims· : Claims) where
               G2
               3
               6
-              1
+              2
               (KPost.R)
               (Syntax.tyRef
-              (Syntax.named 1)
+              (Syntax.named 2)
               Syntax.imm
               (KPost.named))
               (KPost.spelled)
               (KPost.spelled)
-              (Row.lease (κs .1 .0) (qs .1 .0))
+              (Row.lease (κs .1 .1 .0) (qs .1 .1 .0))
               (λ x. x)
               (KPost.row)
               (λ x. x)
@@ -4890,7 +4343,7 @@ module _ (claims· : Claims) where
               H
               A
               (KPost.R))
-              (Own'.told-none 𝓤 H A (G2 .slots))
+              (Own.told-none 𝓤 H A (G2 .slots))
               (Copies.halves
               𝓤
               H
@@ -4904,10 +4357,10 @@ module _ (claims· : Claims) where
               (Rows'.sref
               (KPost.R)
               (Syntax.tyRef
-              (Syntax.named 1)
+              (Syntax.named 2)
               Syntax.imm
               (KPost.named))
-              1))
+              2))
               (Reads.room-gone 𝓤 H A (KPost.spelled))
               (Yields.makes-mem
               𝓤
@@ -4925,10 +4378,10 @@ module _ (claims· : Claims) where
               tt
               Path'.refl
               Path'.refl)
-              d23
+              d21
 
-          d25 : Typed.Typed 𝓤 H A 𝓣 E G0 b19 Δ0 at25
-          d25 =
+          d23 : Typed.Typed 𝓤 H A 𝓣 E G0 b19 Δ0 at23
+          d23 =
               Typed.g-pre
               𝓤
               H
@@ -4941,7 +4394,7 @@ module _ (claims· : Claims) where
               b19
               Δ0
               (Typed.give s0)
-              at24
+              at22
               (Know.g-sl-known
               𝓤
               H
@@ -4967,7 +4420,7 @@ module _ (claims· : Claims) where
               0))
               Path'.refl
               tt)
-              d24
+              d22
 
           pub typed :
               Typed.Typed
@@ -4976,50 +4429,37 @@ module _ (claims· : Claims) where
               A
               𝓣
               E
-              (Function.Γin 3 ps r xs m κs qs)
+              (Function.Γin 4 ps r xs m κs qs)
               b19
-              (Function.Δret 3 ps r xs m κs qs)
+              (Function.Δret 4 ps r xs m κs qs)
               Φ
-          typed = d25
+          typed = d23
 
-      module _ (κs : Lifetimes.Lfts 3) where
+      module _ (κs : Lifetimes.Lfts 4) where
         pub record Args : Type 0 where
-          pub out : Kinds.Den {n = 3}
+          pub out : Kinds.Den {n = 4}
               κs
               (MutSlice.pMutS (Referent.rtF (Referent.fInt Syntax.w8)) 0 tt)
-          pub o : Kinds.Den {n = 3} κs (Value.pVal record {
-            ty = Declared'.row Own.the-type;
-            one = Path'.refl;
-            val = Laws'3.val Own.the-type Laws'.the-laws;
-            tells = Laws'3.tells Own.the-type Laws'.the-laws;
-            still = Laws'3.still Own.the-type Laws'.the-copy Exit.yes;
-            row = Rows'.whole (Declared'.row Own.the-type);
-            rd = λ x. x;
-            mk = λ x. x;
-          } λ M 𝓤 H A W. record {
-            copies = Laws'3.copy Own.the-type Laws'.the-copy 𝓤 H A W;
-            lawful = Laws'3.lawful Own.the-type Laws'.the-laws 𝓤 H A W;
-            makes = Laws'3.makes Own.the-type Laws'.the-plain 𝓤 H A;
-            in-mem = Local.mem-whole 𝓤 H A W (Declared'.row Own.the-type);
-            of-mem = Local.whole-mem 𝓤 H A W (Declared'.row Own.the-type);
-          })
-          pub p : Kinds.Den {n = 3}
+          pub o : Kinds.Den {n = 4}
               κs
-              (ShrRef.pShr (KPost.R) 1 tt)
-          pub vector : Kinds.Den {n = 3}
+              (ShrRef.pShr (KOwn.R) 1 tt)
+          pub p : Kinds.Den {n = 4}
+              κs
+              (ShrRef.pShr (KPost.R) 2 tt)
+          pub vector : Kinds.Den {n = 4}
               κs
               (ShrRef.pShr
               (Array'.Array (Array'.Array (Referent.rtF (Referent.fInt Syntax.w8)) 16) 16)
-              2
+              3
               tt)
 
         abbrev pub dens : (a : Args) → Kinds.Dens κs ps
         dens = λ a. (a .out, (a .o, (a .p, (a .vector, tt))))
 
-      abbrev pub m0 : (κs : Lifetimes.Lfts 3) → (args : Args κs) → Typed.Mo T0
+      abbrev pub m0 : (κs : Lifetimes.Lfts 4) → (args : Args κs) → Typed.Mo T0
       m0 = λ κs args. (tt, Enter.partsP κs 1 ps xs (dens κs args))
 
-      abbrev W0 : (κs : Lifetimes.Lfts 3) → (args : Args κs) → Typed.Want O0
+      abbrev W0 : (κs : Lifetimes.Lfts 4) → (args : Args κs) → Typed.Want O0
       W0 = λ κs args. (
         λ u. ⊥,
         tt,
@@ -5029,14 +4469,14 @@ module _ (claims· : Claims) where
             (dens κs args)
             (Function.resV r κs (u .0))
             (Clauses.atExit
-            (Kinds.endedOf 3 ps r)
+            (Kinds.endedOf 4 ps r)
             κs
             (dens κs args)
             (Enter.lastsP κs 1 ps xs (dens κs args) (u .1))),
       )
 
       pub record Start : Type 0 where
-        pub κs : Lifetimes.Lfts 3
+        pub κs : Lifetimes.Lfts 4
         pub args : Args κs
         pub good : Kinds.GoodsP κs ps (dens κs args)
         pub pre : Pre· κs (dens κs args)
@@ -5103,7 +4543,7 @@ module _ (claims· : Claims) where
           λ before given. Typed.wantNext
           T5
           O0
-          (at21 (W0 (before .before .before .κs) (before .before .before .args)))
+          (at19 (W0 (before .before .before .κs) (before .before .before .args)))
           (W0 (before .before .before .κs) (before .before .before .args))
 
       abbrev pub m4 :
@@ -5149,12 +4589,6 @@ module _ (claims· : Claims) where
           Typed.Mo T9
       m7 = λ before given. s6 (m6 before given)
 
-      abbrev pub m8 :
-          (before : At-match-keys1) →
-          (given : s4 .gives (m4 (before .before .before) (After-what-of·gave (before .before)))) →
-          Typed.Mo T10
-      m8 = λ before given. s7 (m7 before given)
-
       module _ (before· : At-match-keys1) where
         pub record After-enum-told·own : Type 0 where
           pub given : s4 .gives
@@ -5178,47 +4612,47 @@ module _ (claims· : Claims) where
 
       abbrev pub Need-enum-told-2 : Type 0
       Need-enum-told-2 =
-          (c : At-match-keys2) → s8 .asks (m4 (c .before .before) (After-what-of·gave (c .before)))
+          (c : At-match-keys2) → s7 .asks (m4 (c .before .before) (After-what-of·gave (c .before)))
 
-      abbrev pub m9 :
+      abbrev pub m8 :
           (before : At-match-keys2) →
-          (given : s8 .gives (m4 (before .before .before) (After-what-of·gave (before .before)))) →
-          Typed.Mo T11
-      m9 =
-          λ before given. s8 .next
+          (given : s7 .gives (m4 (before .before .before) (After-what-of·gave (before .before)))) →
+          Typed.Mo T10
+      m8 =
+          λ before given. s7 .next
           (m4 (before .before .before) (After-what-of·gave (before .before)))
           given
 
-      abbrev pub m10 :
+      abbrev pub m9 :
           (before : At-match-keys2) →
-          (given : s8 .gives (m4 (before .before .before) (After-what-of·gave (before .before)))) →
-          Typed.Mo T12
-      m10 = λ before given. s9 (m9 before given)
+          (given : s7 .gives (m4 (before .before .before) (After-what-of·gave (before .before)))) →
+          Typed.Mo T11
+      m9 = λ before given. s8 (m8 before given)
 
       module _ (before· : At-match-keys2) where
         pub record After-enum-told2·own : Type 0 where
-          pub given : s8 .gives
+          pub given : s7 .gives
               (m4 (before· .before .before) (After-what-of·gave (before· .before)))
 
       pub record After-enum-told2 : Type 0 where
         pub before : At-match-keys2
         pub enum-told2 : After-enum-told2·own before
 
+      abbrev pub m10 :
+          (before : After-enum-told2) →
+          (given : s10 .gives (m9 (before .before) (before .enum-told2 .given))) →
+          Typed.Mo T13
+      m10 = λ before given. s10 .next (m9 (before .before) (before .enum-told2 .given)) given
+
       abbrev pub m11 :
           (before : After-enum-told2) →
-          (given : s11 .gives (m10 (before .before) (before .enum-told2 .given))) →
+          (given : s10 .gives (m9 (before .before) (before .enum-told2 .given))) →
           Typed.Mo T14
-      m11 = λ before given. s11 .next (m10 (before .before) (before .enum-told2 .given)) given
-
-      abbrev pub m12 :
-          (before : After-enum-told2) →
-          (given : s11 .gives (m10 (before .before) (before .enum-told2 .given))) →
-          Typed.Mo T15
-      m12 = λ before given. s12 .next (m11 before given)
+      m11 = λ before given. s11 .next (m10 before given)
 
       module _ (before· : After-enum-told2) where
         pub record After-put-dio-arg·own : Type 0 where
-          pub given : s11 .gives (m10 (before· .before) (before· .enum-told2 .given))
+          pub given : s10 .gives (m9 (before· .before) (before· .enum-told2 .given))
 
       pub record After-put-dio-arg : Type 0 where
         pub before : After-enum-told2
@@ -5226,35 +4660,36 @@ module _ (claims· : Claims) where
 
       abbrev pub Need-put-dio-requires : Type 0
       Need-put-dio-requires =
-          (c : After-put-dio-arg) → s13 .asks (m12 (c .before) (c .put-dio-arg .given))
+          (c : After-put-dio-arg) → s12 .asks (m11 (c .before) (c .put-dio-arg .given))
 
-      abbrev pub m13 :
+      abbrev pub m12 :
           (before : After-put-dio-arg) →
-          (given : s13 .gives (m12 (before .before) (before .put-dio-arg .given))) →
-          Typed.Mo T16
-      m13 = λ before given. s13 .next (m12 (before .before) (before .put-dio-arg .given)) given
-
-      abbrev pub m14 :
-          (before : After-put-dio-arg) →
-          (given : s13 .gives (m12 (before .before) (before .put-dio-arg .given))) →
-          Typed.Mo T17
-      m14 = λ before given. s14 (m13 before given)
+          (given : s12 .gives (m11 (before .before) (before .put-dio-arg .given))) →
+          Typed.Mo T15
+      m12 = λ before given. s12 .next (m11 (before .before) (before .put-dio-arg .given)) given
 
       module _ (before· : After-put-dio-arg) where
         abbrev pub After-put-dio·own : Type 0
-        After-put-dio·own = Called.Called ps·1 r·1 (claims· .3) T15 (
+        After-put-dio·own = Called.Called ps·1 r·1 (claims· .3) T14 (
           record {
             pos = 9;
             ty = Syntax.tyRef Syntax.erased Syntax.mut (Syntax.tyInt Syntax.w8);
             ref = λ x. x;
           },
           (
-            record { pos = 2; st = List.[]; d = 0; at = λ x. x },
+            record {
+              pos = 2;
+              ty = Syntax.tyRef
+                  (Syntax.named 1)
+                  Syntax.imm
+                  (KOwn.named);
+              ref = λ x. x;
+            },
             (
               record {
                 pos = 3;
                 ty = Syntax.tyRef
-                    (Syntax.named 1)
+                    (Syntax.named 2)
                     Syntax.imm
                     (KPost.named);
                 ref = λ x. x;
@@ -5263,7 +4698,7 @@ module _ (claims· : Claims) where
                 record {
                   pos = 4;
                   ty = Syntax.tyRef
-                      (Syntax.named 2)
+                      (Syntax.named 3)
                       Syntax.imm
                       (Syntax.tyArray (Syntax.tyArray (Syntax.tyInt Syntax.w8) 16) 16);
                   ref = λ x. x;
@@ -5272,7 +4707,7 @@ module _ (claims· : Claims) where
               ),
             ),
           ),
-        ) (m12 (before· .before) (before· .put-dio-arg .given))
+        ) (m11 (before· .before) (before· .put-dio-arg .given))
 
       pub record After-put-dio : Type 0 where
         pub before : After-put-dio-arg
@@ -5280,20 +4715,27 @@ module _ (claims· : Claims) where
 
       abbrev pub After-put-dio·gave :
           (c : After-put-dio) →
-          s13 .gives (m12 (c .before .before) (c .before .put-dio-arg .given))
-      After-put-dio·gave = λ c. Called.given ps·1 r·1 (claims· .3) T15 (
+          s12 .gives (m11 (c .before .before) (c .before .put-dio-arg .given))
+      After-put-dio·gave = λ c. Called.given ps·1 r·1 (claims· .3) T14 (
         record {
           pos = 9;
           ty = Syntax.tyRef Syntax.erased Syntax.mut (Syntax.tyInt Syntax.w8);
           ref = λ x. x;
         },
         (
-          record { pos = 2; st = List.[]; d = 0; at = λ x. x },
+          record {
+            pos = 2;
+            ty = Syntax.tyRef
+                (Syntax.named 1)
+                Syntax.imm
+                (KOwn.named);
+            ref = λ x. x;
+          },
           (
             record {
               pos = 3;
               ty = Syntax.tyRef
-                  (Syntax.named 1)
+                  (Syntax.named 2)
                   Syntax.imm
                   (KPost.named);
               ref = λ x. x;
@@ -5302,7 +4744,7 @@ module _ (claims· : Claims) where
               record {
                 pos = 4;
                 ty = Syntax.tyRef
-                    (Syntax.named 2)
+                    (Syntax.named 3)
                     Syntax.imm
                     (Syntax.tyArray (Syntax.tyArray (Syntax.tyInt Syntax.w8) 16) 16);
                 ref = λ x. x;
@@ -5311,31 +4753,31 @@ module _ (claims· : Claims) where
             ),
           ),
         ),
-      ) (m12 (c .before .before) (c .before .put-dio-arg .given)) (c .put-dio)
+      ) (m11 (c .before .before) (c .before .put-dio-arg .given)) (c .put-dio)
 
-      abbrev pub m15 :
+      abbrev pub m13 :
           (before : After-put-dio) →
-          (given : s16 .gives (m14 (before .before) (After-put-dio·gave before))) →
-          Typed.Mo T19
-      m15 = λ before given. s16 .next (m14 (before .before) (After-put-dio·gave before)) given
+          (given : s14 .gives (m12 (before .before) (After-put-dio·gave before))) →
+          Typed.Mo T17
+      m13 = λ before given. s14 .next (m12 (before .before) (After-put-dio·gave before)) given
 
       module _ (before· : After-put-dio) where
         pub record After-out·own : Type 0 where
-          pub given : s16 .gives (m14 (before· .before) (After-put-dio·gave before·))
+          pub given : s14 .gives (m12 (before· .before) (After-put-dio·gave before·))
 
       pub record After-out : Type 0 where
         pub before : After-put-dio
         pub out : After-out·own before
 
-      abbrev pub m16 :
+      abbrev pub m14 :
           (before : After-out) →
-          (given : s17 .gives (m15 (before .before) (before .out .given))) →
-          Typed.Mo T20
-      m16 = λ before given. s17 .next (m15 (before .before) (before .out .given)) given
+          (given : s15 .gives (m13 (before .before) (before .out .given))) →
+          Typed.Mo T18
+      m14 = λ before given. s15 .next (m13 (before .before) (before .out .given)) given
 
       module _ (before· : After-out) where
         pub record After-slice-known2·own : Type 0 where
-          pub given : s17 .gives (m15 (before· .before) (before· .out .given))
+          pub given : s15 .gives (m13 (before· .before) (before· .out .given))
 
       pub record After-slice-known2 : Type 0 where
         pub before : After-out
@@ -5356,56 +4798,49 @@ module _ (claims· : Claims) where
       abbrev pub Need-enum-told-3 : Type 0
       Need-enum-told-3 =
           (c : At-match-keys3) →
-          s19 .asks (m4 (c .before .before) (After-what-of·gave (c .before)))
+          s17 .asks (m4 (c .before .before) (After-what-of·gave (c .before)))
 
-      abbrev pub m17 :
+      abbrev pub m15 :
           (before : At-match-keys3) →
-          (given : s19 .gives
+          (given : s17 .gives
           (m4 (before .before .before) (After-what-of·gave (before .before)))) →
-          Typed.Mo T22
-      m17 =
-          λ before given. s19 .next
+          Typed.Mo T20
+      m15 =
+          λ before given. s17 .next
           (m4 (before .before .before) (After-what-of·gave (before .before)))
           given
 
-      abbrev pub m18 :
+      abbrev pub m16 :
           (before : At-match-keys3) →
-          (given : s19 .gives
+          (given : s17 .gives
           (m4 (before .before .before) (After-what-of·gave (before .before)))) →
-          Typed.Mo T23
-      m18 = λ before given. s20 (m17 before given)
-
-      abbrev pub m19 :
-          (before : At-match-keys3) →
-          (given : s19 .gives
-          (m4 (before .before .before) (After-what-of·gave (before .before)))) →
-          Typed.Mo T24
-      m19 = λ before given. s21 (m18 before given)
+          Typed.Mo T21
+      m16 = λ before given. s18 (m15 before given)
 
       module _ (before· : At-match-keys3) where
         pub record After-enum-told3·own : Type 0 where
-          pub given : s19 .gives
+          pub given : s17 .gives
               (m4 (before· .before .before) (After-what-of·gave (before· .before)))
 
       pub record After-enum-told3 : Type 0 where
         pub before : At-match-keys3
         pub enum-told3 : After-enum-told3·own before
 
-      abbrev pub m20 :
+      abbrev pub m17 :
           (before : After-enum-told3) →
-          (given : s23 .gives (m19 (before .before) (before .enum-told3 .given))) →
-          Typed.Mo T26
-      m20 = λ before given. s23 .next (m19 (before .before) (before .enum-told3 .given)) given
+          (given : s20 .gives (m16 (before .before) (before .enum-told3 .given))) →
+          Typed.Mo T23
+      m17 = λ before given. s20 .next (m16 (before .before) (before .enum-told3 .given)) given
 
-      abbrev pub m21 :
+      abbrev pub m18 :
           (before : After-enum-told3) →
-          (given : s23 .gives (m19 (before .before) (before .enum-told3 .given))) →
-          Typed.Mo T27
-      m21 = λ before given. s24 .next (m20 before given)
+          (given : s20 .gives (m16 (before .before) (before .enum-told3 .given))) →
+          Typed.Mo T24
+      m18 = λ before given. s21 .next (m17 before given)
 
       module _ (before· : After-enum-told3) where
         pub record After-put-route-path-arg·own : Type 0 where
-          pub given : s23 .gives (m19 (before· .before) (before· .enum-told3 .given))
+          pub given : s20 .gives (m16 (before· .before) (before· .enum-told3 .given))
 
       pub record After-put-route-path-arg : Type 0 where
         pub before : After-enum-told3
@@ -5414,20 +4849,20 @@ module _ (claims· : Claims) where
       abbrev pub Need-put-route-path-requires : Type 0
       Need-put-route-path-requires =
           (c : After-put-route-path-arg) →
-          s25 .asks (m21 (c .before) (c .put-route-path-arg .given))
+          s22 .asks (m18 (c .before) (c .put-route-path-arg .given))
 
-      abbrev pub m22 :
+      abbrev pub m19 :
           (before : After-put-route-path-arg) →
-          (given : s25 .gives (m21 (before .before) (before .put-route-path-arg .given))) →
-          Typed.Mo T28
-      m22 =
-          λ before given. s25 .next
-          (m21 (before .before) (before .put-route-path-arg .given))
+          (given : s22 .gives (m18 (before .before) (before .put-route-path-arg .given))) →
+          Typed.Mo T25
+      m19 =
+          λ before given. s22 .next
+          (m18 (before .before) (before .put-route-path-arg .given))
           given
 
       module _ (before· : After-put-route-path-arg) where
         abbrev pub After-put-route-path·own : Type 0
-        After-put-route-path·own = Called.Called ps·2 r·2 (claims· .5) T27 (
+        After-put-route-path·own = Called.Called ps·2 r·2 (claims· .5) T24 (
           record {
             pos = 11;
             ty = Syntax.tyRef Syntax.erased Syntax.mut (Syntax.tyInt Syntax.w8);
@@ -5437,7 +4872,7 @@ module _ (claims· : Claims) where
             record {
               pos = 3;
               ty = Syntax.tyRef
-                  (Syntax.named 1)
+                  (Syntax.named 2)
                   Syntax.imm
                   (KPost.named);
               ref = λ x. x;
@@ -5446,7 +4881,7 @@ module _ (claims· : Claims) where
               record {
                 pos = 4;
                 ty = Syntax.tyRef
-                    (Syntax.named 2)
+                    (Syntax.named 3)
                     Syntax.imm
                     (Syntax.tyArray (Syntax.tyArray (Syntax.tyInt Syntax.w8) 16) 16);
                 ref = λ x. x;
@@ -5454,7 +4889,7 @@ module _ (claims· : Claims) where
               tt,
             ),
           ),
-        ) (m21 (before· .before) (before· .put-route-path-arg .given))
+        ) (m18 (before· .before) (before· .put-route-path-arg .given))
 
       pub record After-put-route-path : Type 0 where
         pub before : After-put-route-path-arg
@@ -5462,8 +4897,8 @@ module _ (claims· : Claims) where
 
       abbrev pub After-put-route-path·gave :
           (c : After-put-route-path) →
-          s25 .gives (m21 (c .before .before) (c .before .put-route-path-arg .given))
-      After-put-route-path·gave = λ c. Called.given ps·2 r·2 (claims· .5) T27 (
+          s22 .gives (m18 (c .before .before) (c .before .put-route-path-arg .given))
+      After-put-route-path·gave = λ c. Called.given ps·2 r·2 (claims· .5) T24 (
         record {
           pos = 11;
           ty = Syntax.tyRef Syntax.erased Syntax.mut (Syntax.tyInt Syntax.w8);
@@ -5473,7 +4908,7 @@ module _ (claims· : Claims) where
           record {
             pos = 3;
             ty = Syntax.tyRef
-                (Syntax.named 1)
+                (Syntax.named 2)
                 Syntax.imm
                 (KPost.named);
             ref = λ x. x;
@@ -5482,7 +4917,7 @@ module _ (claims· : Claims) where
             record {
               pos = 4;
               ty = Syntax.tyRef
-                  (Syntax.named 2)
+                  (Syntax.named 3)
                   Syntax.imm
                   (Syntax.tyArray (Syntax.tyArray (Syntax.tyInt Syntax.w8) 16) 16);
               ref = λ x. x;
@@ -5490,48 +4925,48 @@ module _ (claims· : Claims) where
             tt,
           ),
         ),
-      ) (m21 (c .before .before) (c .before .put-route-path-arg .given)) (c .put-route-path)
+      ) (m18 (c .before .before) (c .before .put-route-path-arg .given)) (c .put-route-path)
 
-      abbrev pub m23 :
+      abbrev pub m20 :
           (before : After-put-route-path) →
-          (given : s27 .gives (m22 (before .before) (After-put-route-path·gave before))) →
-          Typed.Mo T30
-      m23 =
-          λ before given. s27 .next (m22 (before .before) (After-put-route-path·gave before)) given
+          (given : s24 .gives (m19 (before .before) (After-put-route-path·gave before))) →
+          Typed.Mo T27
+      m20 =
+          λ before given. s24 .next (m19 (before .before) (After-put-route-path·gave before)) given
 
       module _ (before· : After-put-route-path) where
         pub record After-out2·own : Type 0 where
-          pub given : s27 .gives (m22 (before· .before) (After-put-route-path·gave before·))
+          pub given : s24 .gives (m19 (before· .before) (After-put-route-path·gave before·))
 
       pub record After-out2 : Type 0 where
         pub before : After-put-route-path
         pub out2 : After-out2·own before
 
-      abbrev pub m24 :
+      abbrev pub m21 :
           (before : After-out2) →
-          (given : s28 .gives (m23 (before .before) (before .out2 .given))) →
-          Typed.Mo T31
-      m24 = λ before given. s28 .next (m23 (before .before) (before .out2 .given)) given
+          (given : s25 .gives (m20 (before .before) (before .out2 .given))) →
+          Typed.Mo T28
+      m21 = λ before given. s25 .next (m20 (before .before) (before .out2 .given)) given
 
       module _ (before· : After-out2) where
         pub record After-slice-known3·own : Type 0 where
-          pub given : s28 .gives (m23 (before· .before) (before· .out2 .given))
+          pub given : s25 .gives (m20 (before· .before) (before· .out2 .given))
 
       pub record After-slice-known3 : Type 0 where
         pub before : After-out2
         pub slice-known3 : After-slice-known3·own before
 
-      abbrev pub m25 :
+      abbrev pub m22 :
           (before : At-match-keys1) →
           (given : s4 .gives (m4 (before .before .before) (After-what-of·gave (before .before)))) →
-          Typed.Mo T33
-      m25 = λ before given. s30 (m8 before given)
+          Typed.Mo T30
+      m22 = λ before given. s27 (m7 before given)
 
-      abbrev pub m26 :
+      abbrev pub m23 :
           (before : At-match-keys1) →
           (given : s4 .gives (m4 (before .before .before) (After-what-of·gave (before .before)))) →
-          Typed.Mo T34
-      m26 = λ before given. s31 (m25 before given)
+          Typed.Mo T31
+      m23 = λ before given. s28 (m22 before given)
 
       abbrev pub Need-returns : Type 0
       Need-returns =
@@ -5544,9 +4979,9 @@ module _ (claims· : Claims) where
           (Function.resV
           r
           (c .before .before .before .before .before .κs)
-          (m26 (c .before) (c .enum-told .given) .0))
+          (m23 (c .before) (c .enum-told .given) .0))
           (Clauses.atExit
-          (Kinds.endedOf 3 ps r)
+          (Kinds.endedOf 4 ps r)
           (c .before .before .before .before .before .κs)
           (dens
           (c .before .before .before .before .before .κs)
@@ -5559,25 +4994,25 @@ module _ (claims· : Claims) where
           (dens
           (c .before .before .before .before .before .κs)
           (c .before .before .before .before .before .args))
-          (m26 (c .before) (c .enum-told .given) .1)))
+          (m23 (c .before) (c .enum-told .given) .1)))
 
-      abbrev pub m27 :
+      abbrev pub m24 :
           (before : After-out) →
-          (given : s17 .gives (m15 (before .before) (before .out .given))) →
-          Typed.Mo T33
-      m27 = λ before given. s30 (m16 before given)
+          (given : s15 .gives (m13 (before .before) (before .out .given))) →
+          Typed.Mo T30
+      m24 = λ before given. s27 (m14 before given)
 
-      abbrev pub m28 :
+      abbrev pub m25 :
           (before : After-out) →
-          (given : s17 .gives (m15 (before .before) (before .out .given))) →
-          Typed.Mo T34
-      m28 = λ before given. s31 (m27 before given)
+          (given : s15 .gives (m13 (before .before) (before .out .given))) →
+          Typed.Mo T31
+      m25 = λ before given. s28 (m24 before given)
 
       abbrev pub Need-same-length : Type 0
       Need-same-length =
           (c : After-slice-known2) →
           MutSlice.SameLen
-          (Row.get 1 (T34 .locals) (m28 (c .before) (c .slice-known2 .given)))
+          (Row.get 1 (T31 .locals) (m25 (c .before) (c .slice-known2 .given)))
           (dens
           (c .before .before .before .before .before .before .before .before .before .κs)
           (c .before .before .before .before .before .before .before .before .before .args) .0)
@@ -5593,9 +5028,9 @@ module _ (claims· : Claims) where
           (Function.resV
           r
           (c .before .before .before .before .before .before .before .before .before .κs)
-          (m28 (c .before) (c .slice-known2 .given) .0))
+          (m25 (c .before) (c .slice-known2 .given) .0))
           (Clauses.atExit
-          (Kinds.endedOf 3 ps r)
+          (Kinds.endedOf 4 ps r)
           (c .before .before .before .before .before .before .before .before .before .κs)
           (dens
           (c .before .before .before .before .before .before .before .before .before .κs)
@@ -5608,25 +5043,25 @@ module _ (claims· : Claims) where
           (dens
           (c .before .before .before .before .before .before .before .before .before .κs)
           (c .before .before .before .before .before .before .before .before .before .args))
-          (m28 (c .before) (c .slice-known2 .given) .1)))
+          (m25 (c .before) (c .slice-known2 .given) .1)))
 
-      abbrev pub m29 :
+      abbrev pub m26 :
           (before : After-out2) →
-          (given : s28 .gives (m23 (before .before) (before .out2 .given))) →
-          Typed.Mo T33
-      m29 = λ before given. s30 (m24 before given)
+          (given : s25 .gives (m20 (before .before) (before .out2 .given))) →
+          Typed.Mo T30
+      m26 = λ before given. s27 (m21 before given)
 
-      abbrev pub m30 :
+      abbrev pub m27 :
           (before : After-out2) →
-          (given : s28 .gives (m23 (before .before) (before .out2 .given))) →
-          Typed.Mo T34
-      m30 = λ before given. s31 (m29 before given)
+          (given : s25 .gives (m20 (before .before) (before .out2 .given))) →
+          Typed.Mo T31
+      m27 = λ before given. s28 (m26 before given)
 
       abbrev pub Need-same-length-2 : Type 0
       Need-same-length-2 =
           (c : After-slice-known3) →
           MutSlice.SameLen
-          (Row.get 1 (T34 .locals) (m30 (c .before) (c .slice-known3 .given)))
+          (Row.get 1 (T31 .locals) (m27 (c .before) (c .slice-known3 .given)))
           (dens
           (c .before .before .before .before .before .before .before .before .before .κs)
           (c .before .before .before .before .before .before .before .before .before .args) .0)
@@ -5642,9 +5077,9 @@ module _ (claims· : Claims) where
           (Function.resV
           r
           (c .before .before .before .before .before .before .before .before .before .κs)
-          (m30 (c .before) (c .slice-known3 .given) .0))
+          (m27 (c .before) (c .slice-known3 .given) .0))
           (Clauses.atExit
-          (Kinds.endedOf 3 ps r)
+          (Kinds.endedOf 4 ps r)
           (c .before .before .before .before .before .before .before .before .before .κs)
           (dens
           (c .before .before .before .before .before .before .before .before .before .κs)
@@ -5657,7 +5092,7 @@ module _ (claims· : Claims) where
           (dens
           (c .before .before .before .before .before .before .before .before .before .κs)
           (c .before .before .before .before .before .before .before .before .before .args))
-          (m30 (c .before) (c .slice-known3 .given) .1)))
+          (m27 (c .before) (c .slice-known3 .given) .1)))
 
       module _ (what-of-requires : Need-what-of-requires) (enum-told : Need-enum-told)
           (enum-told-2 : Need-enum-told-2) (put-dio-requires : Need-put-dio-requires)
@@ -5666,63 +5101,63 @@ module _ (claims· : Claims) where
           (same-length-2 : Need-same-length-2) (returns-3 : Need-returns-3) where
         lay4 :
             (c : After-slice-known3) →
-            at21
+            at19
             (W0
             (c .before .before .before .before .before .before .before .before .before .κs)
             (c .before .before .before .before .before .before .before .before .before .args))
-            (m24 (c .before) (c .slice-known3 .given))
+            (m21 (c .before) (c .slice-known3 .given))
         lay4 = λ c. (
           (
-            MutSlice.fix-len (Row.get 1 (T34 .locals) (m30 (c .before)
-                (c .slice-known3 .given)) .ptr) (Row.get 1 (T34 .locals) (m30 (c .before)
-                (c .slice-known3 .given)) .name) (Row.get 1 (T34 .locals) (m30 (c .before)
+            MutSlice.fix-len (Row.get 1 (T31 .locals) (m27 (c .before)
+                (c .slice-known3 .given)) .ptr) (Row.get 1 (T31 .locals) (m27 (c .before)
+                (c .slice-known3 .given)) .name) (Row.get 1 (T31 .locals) (m27 (c .before)
                 (c .slice-known3 .given)) .now) (dens
                 (c .before .before .before .before .before .before .before .before .before .κs)
                 (c .before .before .before .before .before .before .before .before .before .args)
                 .0 .now) (same-length-2
                 record { before = c .before; slice-known3 = c .slice-known3 }),
-            (tt, (Path'.refl, (Path'.refl, tt))),
+            (Path'.refl, (Path'.refl, (Path'.refl, tt))),
           ),
           returns-3 record { before = c .before; slice-known3 = c .slice-known3 },
         )
 
         lay3 :
             (c : After-slice-known2) →
-            at21
+            at19
             (W0
             (c .before .before .before .before .before .before .before .before .before .κs)
             (c .before .before .before .before .before .before .before .before .before .args))
-            (m16 (c .before) (c .slice-known2 .given))
+            (m14 (c .before) (c .slice-known2 .given))
         lay3 = λ c. (
           (
-            MutSlice.fix-len (Row.get 1 (T34 .locals) (m28 (c .before)
-                (c .slice-known2 .given)) .ptr) (Row.get 1 (T34 .locals) (m28 (c .before)
-                (c .slice-known2 .given)) .name) (Row.get 1 (T34 .locals) (m28 (c .before)
+            MutSlice.fix-len (Row.get 1 (T31 .locals) (m25 (c .before)
+                (c .slice-known2 .given)) .ptr) (Row.get 1 (T31 .locals) (m25 (c .before)
+                (c .slice-known2 .given)) .name) (Row.get 1 (T31 .locals) (m25 (c .before)
                 (c .slice-known2 .given)) .now) (dens
                 (c .before .before .before .before .before .before .before .before .before .κs)
                 (c .before .before .before .before .before .before .before .before .before .args)
                 .0 .now) (same-length
                 record { before = c .before; slice-known2 = c .slice-known2 }),
-            (tt, (Path'.refl, (Path'.refl, tt))),
+            (Path'.refl, (Path'.refl, (Path'.refl, tt))),
           ),
           returns-2 record { before = c .before; slice-known2 = c .slice-known2 },
         )
 
         lay2 :
             (c : After-enum-told) →
-            at21
+            at19
             (W0
             (c .before .before .before .before .before .κs)
             (c .before .before .before .before .before .args))
-            (m8 (c .before) (c .enum-told .given))
+            (m7 (c .before) (c .enum-told .given))
         lay2 = λ c. (
-          (Path'.refl, (tt, (Path'.refl, (Path'.refl, tt)))),
+          (Path'.refl, (Path'.refl, (Path'.refl, (Path'.refl, tt)))),
           returns record { before = c .before; enum-told = c .enum-told },
         )
 
         lay1 :
             (c : After-what-of) →
-            at22
+            at20
             (W0 (c .before .before .before .κs) (c .before .before .before .args))
             (m3 (c .before) (After-what-of·gave c))
         lay1 = λ c. (
@@ -5773,19 +5208,26 @@ module _ (claims· : Claims) where
                             };
                             put-dio-arg = record { given = g' };
                           };
-                          put-dio = Called.called ps·1 r·1 (claims· .3) T15 (
+                          put-dio = Called.called ps·1 r·1 (claims· .3) T14 (
                             record {
                               pos = 9;
                               ty = Syntax.tyRef Syntax.erased Syntax.mut (Syntax.tyInt Syntax.w8);
                               ref = λ x. x;
                             },
                             (
-                              record { pos = 2; st = List.[]; d = 0; at = λ x. x },
+                              record {
+                                pos = 2;
+                                ty = Syntax.tyRef
+                                    (Syntax.named 1)
+                                    Syntax.imm
+                                    (KOwn.named);
+                                ref = λ x. x;
+                              },
                               (
                                 record {
                                   pos = 3;
                                   ty = Syntax.tyRef
-                                      (Syntax.named 1)
+                                      (Syntax.named 2)
                                       Syntax.imm
                                       (KPost.named);
                                   ref = λ x. x;
@@ -5794,7 +5236,7 @@ module _ (claims· : Claims) where
                                   record {
                                     pos = 4;
                                     ty = Syntax.tyRef
-                                        (Syntax.named 2)
+                                        (Syntax.named 3)
                                         Syntax.imm
                                         (Syntax.tyArray
                                         (Syntax.tyArray (Syntax.tyInt Syntax.w8) 16)
@@ -5805,7 +5247,7 @@ module _ (claims· : Claims) where
                                 ),
                               ),
                             ),
-                          ) (m12 record {
+                          ) (m11 record {
                             before = record {
                               before = record { before = c .before; what-of = c .what-of };
                               match = record { keys2 = k };
@@ -5855,7 +5297,7 @@ module _ (claims· : Claims) where
                               };
                               put-route-path-arg = record { given = g'5 };
                             };
-                            put-route-path = Called.called ps·2 r·2 (claims· .5) T27 (
+                            put-route-path = Called.called ps·2 r·2 (claims· .5) T24 (
                               record {
                                 pos = 11;
                                 ty = Syntax.tyRef
@@ -5868,7 +5310,7 @@ module _ (claims· : Claims) where
                                 record {
                                   pos = 3;
                                   ty = Syntax.tyRef
-                                      (Syntax.named 1)
+                                      (Syntax.named 2)
                                       Syntax.imm
                                       (KPost.named);
                                   ref = λ x. x;
@@ -5877,7 +5319,7 @@ module _ (claims· : Claims) where
                                   record {
                                     pos = 4;
                                     ty = Syntax.tyRef
-                                        (Syntax.named 2)
+                                        (Syntax.named 3)
                                         Syntax.imm
                                         (Syntax.tyArray
                                         (Syntax.tyArray (Syntax.tyInt Syntax.w8) 16)
@@ -5887,7 +5329,7 @@ module _ (claims· : Claims) where
                                   tt,
                                 ),
                               ),
-                            ) (m21 record {
+                            ) (m18 record {
                               before = record {
                                 before = record { before = c .before; what-of = c .what-of };
                                 match = record { keys3 = k };
@@ -5922,7 +5364,7 @@ module _ (claims· : Claims) where
           ),
         )
 
-        pub laid : (c : Start) → at25 (W0 (c .κs) (c .args)) (m0 (c .κs) (c .args))
+        pub laid : (c : Start) → at23 (W0 (c .κs) (c .args)) (m0 (c .κs) (c .args))
         laid = λ c. λ g. λ g'. (
           what-of-requires record {
             before = record { before = c; slice-known = record { given = g } };
@@ -5940,13 +5382,13 @@ module _ (claims· : Claims) where
           },
         )
 
-        module _ (κs : Lifetimes.Lfts 3) (qs : Lifetimes.Shares 3) where
+        module _ (κs : Lifetimes.Lfts 4) (qs : Lifetimes.Shares 4) where
           pub asked :
               (a : Kinds.Dens κs ps) →
               (good : Kinds.GoodsP κs ps a) →
               (pre : Pre· κs a) →
               (bs : List.List Nat.ℕ) →
-              Φ (Any.wantQ 3 ps r xs m κs qs a (Post· κs a)) (Function.init 3 ps r xs m κs qs a)
+              Φ (Any.wantQ 4 ps r xs m κs qs a (Post· κs a)) (Function.init 4 ps r xs m κs qs a)
           asked = λ a good pre bs. laid record {
             κs = κs;
             args = record { out = a .0; o = a .1 .0; p = a .1 .1 .0; vector = a .1 .1 .1 .0 };
@@ -5957,7 +5399,7 @@ module _ (claims· : Claims) where
         module _ {M : Type 1} (𝓤 : URA.URA M) (H : Wp.Heap 𝓤) (A : Atoms.Atoms 𝓤)
             (W : Kit.Given 𝓤 H A) (𝓣 : Wp.Tables 𝓤 H)
             (known0 : Plain.Known 𝓤 H A W 𝓣 0 ps·0 r·0 (claims· .0) (claims· .1) "post::what_of")
-            (known1 : Plain.Known 𝓤 H A W 𝓣 3 ps·1 r·1 (claims· .2) (claims· .3) "post::put_dio")
+            (known1 : Plain.Known 𝓤 H A W 𝓣 4 ps·1 r·1 (claims· .2) (claims· .3) "post::put_dio")
             (known2 : Plain.Known
             𝓤
             H
@@ -5973,8 +5415,8 @@ module _ (claims· : Claims) where
           pub spec :
               Statement.Triple
               𝓤
-              (Wp.WpFn 𝓤 H (𝓣 .C) (𝓣 .Λ) (Function.fnOf 3 ps r xs m hs body))
-              (Function.plainOf 𝓤 H A 3 ps r Pre· Post·)
+              (Wp.WpFn 𝓤 H (𝓣 .C) (𝓣 .Λ) (Function.fnOf 4 ps r xs m hs body))
+              (Function.plainOf 𝓤 H A 4 ps r Pre· Post·)
           spec =
               Plain.t-fn-plain
               𝓤
@@ -5982,7 +5424,7 @@ module _ (claims· : Claims) where
               A
               W
               𝓣
-              3
+              4
               ps
               r
               xs

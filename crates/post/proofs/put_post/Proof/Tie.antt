@@ -347,7 +347,7 @@ module _ {M : Type 1} where
   unfolding Code.routine Running.tablesOf
   close =
       λ closed 𝓤 H 𝓜 𝓖 𝓡. Written.close
-      3
+      4
       Kinds.ps
       Kinds.r
       Reads'.Ghost
