@@ -4,33 +4,33 @@ use mathlib.Core.Path.{_≡_, refl, sym, ap, _∙_}
 use mathlib.Core.Bool.{Bool, true, false, cond, not}
 use mathlib.Core.List.{List, [], reverse, flatten}
 use native.Mathlib.Omega.{arith}
-use lib.Dec.{ltb}
+use lib.Dec.{ltb, eqb}
 use lib.ListN.{length, take, length-reverse}
 use lib.Seq.{length-take-le}
-use borrow.Author.Tests.{lt-ltb, ltb-false}
-use Rattle.plain.specs.Address.{Address, zeroAddress}
+use borrow.Author.Tests.{lt-ltb, ltb-false, eqb-true, eqb-false}
+use Rattle.plain.specs.Address.{Address}
 use Rattle.plain.specs.Given.{Settings, Destination}
 use Rattle.plain.specs.Octets.{Message, octetsOf, elided}
 use Rattle.plain.specs.Request.{grown, cannotGrow, toIf}
 use Rattle.plain.specs.Reply.{Answered, grows, path, nextDestination, forwardedReply, replySent}
 use Rattle.lemmas.proofs.Choice.{cond-case, true-false, or-left, or-right}
-use Rattle.answer.specs.Answer.{destinationOf}
+use Rattle.answer.specs.Answer.{destinationOf, wayOf}
 use Rattle.answer.specs.declared.Destination as code
-use Rattle.answer.specs.declared.Way.the-variants.{Caller}
+use Rattle.answer.specs.declared.Way.the-variants.{Nowhere, Caller}
 use Rattle.writer_option.specs.Sendable.{Sendable}
 use Rattle.message.specs.Message.{messageIn}
 use Rattle.message.specs.declared.Parsed.{Parsed}
 use Rattle.decision.specs.Decision.{postVector, postMessage, postPath, octetsAs}
-use Rattle.decision.specs.declared.What.the-variants.{Dio, Path}
+use Rattle.decision.specs.declared.What.{What}
+use Rattle.decision.specs.declared.What.the-variants.{Nothing, Dio, Path}
 use Rattle.decision.specs.declared.Post.{Post}
 use Rattle.own.specs.Settings.{Whole}
 use Rattle.own.proofs.Growth.{elided-length, whole-grown, whole-take}
 use Rattle.rule.specs.Heard.{Heard}
-use Rattle.decision.specs.Decision.{Posts}
-use Rattle.decision.specs.Blank.{noPost}
-use Rattle.rule.proofs.Laws.{heard-sendable, posts-nothing}
+use Rattle.decision.specs.Decision.{Posts, Fits}
+use Rattle.rule.proofs.Laws.{heard-sendable}
 use Rattle.reply.specs.Facts.{isFull}
-use Rattle.reply_accepted.specs.Made.{raised}
+use Rattle.reply_accepted.specs.Made.{raised, whichWay, whatGoes}
 use Rattle.reply.proofs.Laws.{grows-h}
 
 -- ---- The path
@@ -87,32 +87,11 @@ posts-between x vector m a r o p =
     (other (a .isOrig) (toIf (ltb 0 (length (path m a))) Destination.caller) (nextDestination x m a) o) p
 
 module _ (x : Settings) (p : Parsed) (vector : List Address) (a : Answered) (e : length vector ≡ 16) (heard : Heard p) where
-  -- at OrigNode, no path
-  pub posts-empty : a .isOrig ≡ true → p .n ≡ 0 → PostsForward x vector (messageIn p vector) a noPost
-  unfolding flatten
-  posts-empty o z = posts-orig x vector (messageIn p vector) a noPost o (rw (path-none p vector a z) (posts-nothing x vector))
-
-  -- at OrigNode, a path
-  pub posts-path : a .isOrig ≡ true → (p .n ≡ 0 → ⊥)
-      → PostsForward x vector (messageIn p vector) a
-      (record { what = Path; message = p; grown = false; turned = not (a .symmetric); to = record { way = Caller; neighbour = zeroAddress } })
-  unfolding octetsAs postPath postVector
-  posts-path o z =
-      let n : length (path (messageIn p vector) a) ≡ p .n = path-length p vector a ∙ length-take-le (p .n) vector (omega (arith, heard .addresses)) in
-      posts-orig x vector (messageIn p vector) a _ o
-      (record {
-        sends = ap (elided 0) (path-turned p vector a);
-        goes = rw (lt-ltb 0 (length (path (messageIn p vector) a)) (omega arith)) refl;
-        fits = record { received = heard .addresses; sendable = heard-sendable p vector e heard; targets = heard .targets; prefixes = heard .prefixes };
-      })
-
-  -- ---- The message
-
-  abbrev dio : Bool → code.Destination → Post
-  dio g to = record { what = Dio; message = raised p (a .rank); grown = g; turned = false; to = to }
+  abbrev post : What → Bool → code.Destination → Post
+  post w g to = record { what = w; message = raised p (a .rank); grown = g; turned = not (a .symmetric); to = to }
 
   module _ (g : Bool) (to : code.Destination) (k : g ≡ grows (messageIn p vector) a) where
-    sent-vector : postVector x (dio g to) vector
+    sent-vector : postVector x (post Dio g to) vector
         ≡ cond (grows (messageIn p vector) a) (grown x (p .discovery .h) (take (p .n) vector)) (take (p .n) vector)
     unfolding postVector raised messageIn
     sent-vector = go g k
@@ -124,7 +103,7 @@ module _ (x : Settings) (p : Parsed) (vector : List Address) (a : Answered) (e :
         go false q = rw (← q) refl
 
     module _ (whole : Whole vector) (receiving : length (x .receiving) ≡ 16) (sending : length (x .sending) ≡ 16) (room : isFull x (messageIn p vector) a ≡ false) where
-      sent-room : Sendable (p .discovery) (length (postVector x (dio g to) vector))
+      sent-room : Sendable (p .discovery) (length (postVector x (post Dio g to) vector))
       unfolding postVector raised messageIn isFull cannotGrow
       sent-room = go g k
         where
@@ -145,14 +124,73 @@ module _ (x : Settings) (p : Parsed) (vector : List Address) (a : Answered) (e :
               }
           go false q = heard-sendable p vector e heard
 
-      -- between the ends
-      pub posts-reply : destinationOf to ≡ nextDestination x (messageIn p vector) a → a .isOrig ≡ false
-          → PostsForward x vector (messageIn p vector) a (dio g to)
-      unfolding octetsAs postMessage forwardedReply messageIn raised
-      posts-reply d o =
-          posts-between x vector (messageIn p vector) a (dio g to) o
+      room-in : Fits x (post Dio g to) vector
+      unfolding raised
+      room-in = record { received = heard .addresses; sendable = sent-room; targets = heard .targets; prefixes = heard .prefixes }
+
+      -- at OrigNode, no path
+      posts-empty : a .isOrig ≡ true → p .n ≡ 0 → destinationOf to ≡ Destination.nowhere
+          → PostsForward x vector (messageIn p vector) a (post Nothing g to)
+      unfolding octetsAs flatten postVector
+      posts-empty o z d =
+          posts-orig x vector (messageIn p vector) a (post Nothing g to) o
+          (rw (path-none p vector a z) (record { sends = refl; goes = d; fits = record { received = room-in .received; sendable = room-in .sendable; targets = room-in .targets; prefixes = room-in .prefixes } }))
+
+      -- at OrigNode, a path
+      posts-path : a .isOrig ≡ true → (p .n ≡ 0 → ⊥) → destinationOf to ≡ Destination.caller
+          → PostsForward x vector (messageIn p vector) a (post Path g to)
+      unfolding octetsAs postPath postVector raised
+      posts-path o z d =
+          let n : length (path (messageIn p vector) a) ≡ p .n = path-length p vector a ∙ length-take-le (p .n) vector (omega (arith, heard .addresses)) in
+          posts-orig x vector (messageIn p vector) a _ o
           (record {
-            sends = rw sent-vector refl;
-            goes = d;
-            fits = record { received = heard .addresses; sendable = sent-room; targets = heard .targets; prefixes = heard .prefixes };
+            sends = ap (elided 0) (path-turned p vector a);
+            goes = rw (lt-ltb 0 (length (path (messageIn p vector) a)) (omega arith)) d;
+            fits = record { received = room-in .received; sendable = room-in .sendable; targets = room-in .targets; prefixes = room-in .prefixes };
           })
+
+      -- between the ends
+      posts-reply : a .isOrig ≡ false → destinationOf to ≡ nextDestination x (messageIn p vector) a
+          → PostsForward x vector (messageIn p vector) a (post Dio g to)
+      unfolding octetsAs postMessage forwardedReply messageIn raised
+      posts-reply o d =
+          posts-between x vector (messageIn p vector) a (post Dio g to) o
+          (record { sends = rw sent-vector refl; goes = d; fits = room-in })
+
+      pub posts-forward : (w : What) → w ≡ whatGoes (a .isOrig) (p .n)
+          → destinationOf to ≡ cond (a .isOrig) (toIf (ltb 0 (p .n)) Destination.caller) (nextDestination x (messageIn p vector) a)
+          → PostsForward x vector (messageIn p vector) a (post w g to)
+      posts-forward w q d = go (a .isOrig) refl (eqb (p .n) 0) refl
+        where
+          -- what is sent, and where to, at OrigNode and between the ends
+          at-orig : a .isOrig ≡ true → w ≡ cond (eqb (p .n) 0) Nothing Path
+          at-orig o = q ∙ sym (chosen (a .isOrig) (cond (eqb (p .n) 0) Nothing Path) Dio o)
+
+          to-caller : a .isOrig ≡ true → destinationOf to ≡ toIf (ltb 0 (p .n)) Destination.caller
+          to-caller o = d ∙ sym (chosen (a .isOrig) (toIf (ltb 0 (p .n)) Destination.caller) (nextDestination x (messageIn p vector) a) o)
+
+          go : (b : Bool) → a .isOrig ≡ b → (z : Bool) → eqb (p .n) 0 ≡ z → PostsForward x vector (messageIn p vector) a (post w g to)
+          go true o true z =
+              let n : p .n ≡ 0 = eqb-true (p .n) 0 z in
+              let s : w ≡ Nothing = at-orig o ∙ sym (chosen (eqb (p .n) 0) Nothing Path z) in
+              rw s (posts-empty o n (to-caller o ∙ sym (other (ltb 0 (p .n)) Destination.caller Destination.nowhere (rw n refl))))
+          go true o false z =
+              let n : p .n ≡ 0 → ⊥ = eqb-false (p .n) 0 z in
+              let s : w ≡ Path = at-orig o ∙ sym (other (eqb (p .n) 0) Nothing Path z) in
+              rw s (posts-path o n (to-caller o ∙ sym (chosen (ltb 0 (p .n)) Destination.caller Destination.nowhere (lt-ltb 0 (p .n) (omega arith)))))
+          go false o z f =
+              let s : w ≡ Dio = q ∙ sym (other (a .isOrig) (cond (eqb (p .n) 0) Nothing Path) Dio o) in
+              rw s (posts-reply o (d ∙ sym (other (a .isOrig) (toIf (ltb 0 (p .n)) Destination.caller) (nextDestination x (messageIn p vector) a) o)))
+
+-- ---- Where it goes
+
+-- the neighbour plays a part only where it is symmetric
+pub goes-to : (orig : Bool) (n : ℕ) (s : Bool) (next b : Address) → (s ≡ true → next ≡ b)
+    → wayOf (whichWay orig n s) next ≡ cond orig (toIf (ltb 0 n) Destination.caller) (cond s (Destination.neighbour b) Destination.group)
+goes-to true n s next b f = go (eqb n 0) refl
+  where
+    go : (z : Bool) → eqb n 0 ≡ z → wayOf (cond (eqb n 0) Nowhere Caller) next ≡ toIf (ltb 0 n) Destination.caller
+    go true q = let m : n ≡ 0 = eqb-true n 0 q in rw m refl
+    go false q = let m : n ≡ 0 → ⊥ = eqb-false n 0 q in rw (q, lt-ltb 0 n (omega arith)) refl
+goes-to false n true next b f = ap Destination.neighbour (f refl)
+goes-to false n false next b f = refl

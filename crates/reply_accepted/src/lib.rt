@@ -15,9 +15,12 @@ ghost use Prim.Native.Nat.{_≤_, _^_};
 ghost use mathlib.Core.Path.{_≡_};
 ghost use mathlib.Core.Bool.{cond, true, false};
 ghost use mathlib.Core.List.{List, []};
+ghost use lib.Dec.{ltb};
 ghost use lib.ListN.{take};
 ghost use Rattle.plain.specs.Address.{Address};
 ghost use Rattle.plain.specs.Given.{Settings};
+ghost use Rattle.plain.specs.Given as rules;
+ghost use Rattle.plain.specs.Request.{toIf};
 ghost use Rattle.plain.specs.Reply.{origNode, keptReplyDeadline, replyRow, before, nextDestination, replySent, acceptReply};
 ghost use Rattle.answer.specs.Answer.{destinationOf};
 ghost use Rattle.deadline.specs.Deadline.{deadlineOf};
@@ -27,7 +30,7 @@ ghost use Rattle.decision.specs.Decision.{Posts, Stores};
 ghost use Rattle.own.specs.Settings.{settingsOf};
 ghost use Rattle.rule.specs.Heard.{Heard, Array};
 ghost use Rattle.reply.specs.Facts.{answeredOf, isFull};
-ghost use Rattle.reply_accepted.specs.Made.{replyRoute, raised};
+ghost use Rattle.reply_accepted.specs.Made.{replyRoute, raised, whichWay, whatGoes};
 
 // ---- The rows that it leaves
 
@@ -125,63 +128,65 @@ fn next_node(o: Own, p: Parsed, vector: &[[u8; 16]; 16], w: ReplyFacts) -> [u8; 
     path::address_before(first, receiving, p.n, vector)
 }
 
+// Which way it goes: at OrigNode a path to the caller; between the ends to a neighbour if symmetric, else to the group.
+fn which_way(orig: bool, n: usize, symmetric: bool) -> Way
+    ensures { λ r. ⌜ r ≡ whichWay orig n symmetric ⌝ }
+{
+    if orig {
+        if n == 0 {
+            return Way::Nowhere;
+        }
+        return Way::Caller;
+    }
+    if symmetric {
+        return Way::Neighbour;
+    }
+    Way::Group
+}
+
 fn destination(o: Own, p: Parsed, vector: &[[u8; 16]; 16], w: ReplyFacts) -> Destination
     requires { ⌜ p .n ≤ 16 ⌝ }
-    ensures { λ r. ⌜ destinationOf r ≡ nextDestination (settingsOf o) (messageIn p (now (vector .entry))) (answeredOf w) ⌝ }
+    ensures { λ r. ⌜ destinationOf r ≡ cond (w .orig) (toIf (ltb 0 (p .n)) rules.Destination.caller) (nextDestination (settingsOf o) (messageIn p (now (vector .entry))) (answeredOf w)) ⌝ }
 {
+    let way = which_way(w.orig, p.n, w.symmetric);
     if w.symmetric {
-        let next = next_node(o, p, vector, w);
-        return rule::to_neighbour(next);
+        let neighbour = next_node(o, p, vector, w);
+        return Destination { way, neighbour };
     }
-    rule::to_group()
+    Destination {
+        way,
+        neighbour: [0; 16],
+    }
 }
 
-// At OrigNode: the path, for the caller, if there is one.
-fn path_post(p: Parsed, w: ReplyFacts) -> Post
-    requires { ⌜ Heard p × (w .orig ≡ true) ⌝ }
-    ensures { λ r. ⌜ ((x : Settings) (v : List Address) → Array v → Posts x v (replySent x (messageIn p v) (answeredOf w) .forward) (replySent x (messageIn p v) (answeredOf w) .forwardTo) r) ⌝ }
+// What goes on: at OrigNode the path, for the caller, if there is one; between the ends the reply.
+fn what_goes(orig: bool, n: usize) -> What
+    ensures { λ r. ⌜ r ≡ whatGoes orig n ⌝ }
 {
-    if p.n == 0 {
-        return rule::no_post();
+    if orig {
+        if n == 0 {
+            return What::Nothing;
+        }
+        return What::Path;
     }
-    Post {
-        what: What::Path,
-        message: p,
-        grown: false,
-        turned: !w.symmetric,
-        to: Destination {
-            way: Way::Caller,
-            neighbour: [0; 16],
-        },
-    }
+    What::Dio
 }
 
-// Between the ends: the reply goes on.
-fn reply_post(o: Own, p: Parsed, vector: &[[u8; 16]; 16], w: ReplyFacts) -> Post
-    requires { ⌜ Heard p × Array (now vector) × (w .rank ≤ 65535) × (w .orig ≡ false) × (isFull (settingsOf o) (messageIn p (now vector)) (answeredOf w) ≡ false) ⌝ }
+// What goes on, where none of the lines holds. It is made as one, whatever it is, so that no part of it is copied to where the ways meet.
+pub fn forward_post(o: Own, p: Parsed, vector: &[[u8; 16]; 16], w: ReplyFacts) -> Post
+    requires { ⌜ Heard p × Array (now vector) × (w .rank ≤ 65535) × (isFull (settingsOf o) (messageIn p (now vector)) (answeredOf w) ≡ false) ⌝ }
     ensures { λ r. ⌜ Posts (settingsOf o) (now (vector .entry)) (replySent (settingsOf o) (messageIn p (now (vector .entry))) (answeredOf w) .forward) (replySent (settingsOf o) (messageIn p (now (vector .entry))) (answeredOf w) .forwardTo) r ⌝ }
 {
     let message = forwarded(p, w.rank as u16);
     let grown = reply::does_grow(p, w);
     let to = destination(o, p, vector, w);
     Post {
-        what: What::Dio,
+        what: what_goes(w.orig, p.n),
         message,
         grown,
-        turned: false,
+        turned: !w.symmetric,
         to,
     }
-}
-
-// What goes on, where none of the lines holds.
-pub fn forward_post(o: Own, p: Parsed, vector: &[[u8; 16]; 16], w: ReplyFacts) -> Post
-    requires { ⌜ Heard p × Array (now vector) × (w .rank ≤ 65535) × (isFull (settingsOf o) (messageIn p (now vector)) (answeredOf w) ≡ false) ⌝ }
-    ensures { λ r. ⌜ Posts (settingsOf o) (now (vector .entry)) (replySent (settingsOf o) (messageIn p (now (vector .entry))) (answeredOf w) .forward) (replySent (settingsOf o) (messageIn p (now (vector .entry))) (answeredOf w) .forwardTo) r ⌝ }
-{
-    if w.orig {
-        return path_post(p, w);
-    }
-    reply_post(o, p, vector, w)
 }
 
 // ---- What is stored

@@ -1,30 +1,33 @@
+use denote.Ref.{now}
+use mathlib.Core.Path.{_≡_, sym, _∙_}
 use Rattle.plain.specs.Reply.{nextDestination}
+use Rattle.lemmas.proofs.Choice.{true-false}
 use Rattle.message.specs.Message.{messageIn}
 use Rattle.row.specs.Meaning.{requestOf}
 use Rattle.reply.specs.Facts.{answeredOf}
+use Rattle.reply_accepted.proofs.Sends.{goes-to}
 use borrow.Author.Needs.{needs}
 use Rattle.reply_accepted.proofs.destination.Statement.{statement}
 use Rattle.reply_accepted.proofs.destination.Tie as tie
-use Rattle.lemmas.proofs.Cases.{cases}
+
+which-way-requires : tie.Need-which-way-requires
+which-way-requires c κs = search needs
 
 next-node-requires : tie.Need-next-node-requires
 next-node-requires c κs = search needs
 
-to-neighbour-requires : tie.Need-to-neighbour-requires
-to-neighbour-requires c κs = search needs
-
 returns : tie.Need-returns
 unfolding nextDestination answeredOf messageIn requestOf
-returns c = search (← c .to-neighbour .ensures, ← c .before .next-node .ensures, c .before .before .if1 .taken, cases)
-
-to-group-requires : tie.Need-to-group-requires
-to-group-requires c κs = search needs
+returns c =
+    let s = c .before .before .before .args in
+    rw (c .before .before .which-way .ensures)
+    (goes-to (s .w .orig) (s .p .n) (s .w .symmetric) _ _ (λ e. c .next-node .ensures))
 
 returns-2 : tie.Need-returns-2
 unfolding nextDestination answeredOf messageIn requestOf
-returns-2 c = search (← c .to-group .ensures, c .before .if1 .left, cases)
+returns-2 c =
+    let s = c .before .before .args in
+    rw (c .before .which-way .ensures) (goes-to (s .w .orig) (s .p .n) (s .w .symmetric) _ _ (λ e. true-false (sym e ∙ c .if1 .left)))
 
 pub destination-spec : {M : Type 1} → statement M
-destination-spec =
-    tie.close
-    (tie.spec next-node-requires to-neighbour-requires returns to-group-requires returns-2)
+destination-spec = tie.close (tie.spec which-way-requires next-node-requires returns returns-2)
