@@ -22,22 +22,23 @@ pub struct Post {
     pub to: Destination,
 }
 
-// What a reply row holds. A fifth of the row's size: the row itself is made where it is stored.
+// What a reply row holds. A sixth of the row's size: the row itself is made where it is stored. Here and in `Decided` the wide fields stand
+// first, with no padding between fields: a copy would take it along with what stands beside it, and wait for what was just written there.
 pub struct ReplyFields {
+    pub deadline: u64,
+    pub dodagid: [u8; 16],
+    pub rank: u16,
     pub instance: u8,
     pub seq: u8,
     pub endless: bool,
-    pub rank: u16,
-    pub dodagid: [u8; 16],
-    pub deadline: u64,
 }
 
 // What is stored. `second`, a reply row, is stored where `replies`, `route` where `routed`.
 pub struct Decided {
     pub row: InstanceRow,
-    pub replies: bool,
     pub second: ReplyFields,
-    pub routed: bool,
     pub route: RouteRow,
     pub seq: u8,
+    pub replies: bool,
+    pub routed: bool,
 }
