@@ -105,20 +105,21 @@ module _ {all rest list : List Target} {c : Count} {t : Target} (v : Collected a
       held = λ f. true-false f;
     }
 
+-- behind one more the list stays blank
+pub padded-more : (n : ℕ) (list : List Target) (t : Target) → Padded n list → Padded (n + 1) (set list n t)
+padded-more n list t p =
+    drop-set-lt (n + 1) list n t (omega arith)
+    ∙ sym (drop-drop 1 n list)
+    ∙ ap (drop 1) p
+    ∙ drop-drop 1 n (replicate 8 noTarget)
+
 -- one more, at the place that is for it
 module _ (c : Count) (list : List Target) (t : Target) (few : c .n ≤ 8) (room : length list ≡ 8) where
-  padded-more : Padded (c .n) list → Padded (c .n + 1) (set list (c .n) t)
-  padded-more p =
-      drop-set-lt (c .n + 1) list (c .n) t (omega arith)
-      ∙ sym (drop-drop 1 (c .n) list)
-      ∙ ap (drop 1) p
-      ∙ drop-drop 1 (c .n) (replicate 8 noTarget)
-
   joined-again : any (sameTarget t) (take (c .n) list) ≡ true → Joined c list t (counted c 9) (set list 9 t)
   joined-again e = rw (set-out list 9 t (omega arith)) (record { collected = λ all rest v. collected-again v e; padded = λ p. p })
 
   joined-more : any (sameTarget t) (take (c .n) list) ≡ false → c .n < 8 → Joined c list t (counted c (c .n)) (set list (c .n) t)
-  joined-more e h = rw (lt-ltb (c .n) 8 h) (record { collected = λ all rest v. collected-more v e h; padded = padded-more })
+  joined-more e h = rw (lt-ltb (c .n) 8 h) (record { collected = λ all rest v. collected-more v e h; padded = padded-more (c .n) list t })
 
   joined-full : any (sameTarget t) (take (c .n) list) ≡ false → c .n ≡ 8 → Joined c list t (counted c (c .n)) (set list (c .n) t)
   joined-full e h =
@@ -140,13 +141,13 @@ pub none-collected : (all : List Target) → Collected (once sameTarget all) all
 none-collected all = record { few = omega arith; room = refl; many = λ h. true-false (sym h); held = λ _. refl }
 
 -- none are to come
-module _ {all : List Target} {ts : Targets} (v : Collected all [] ts) where
+module _ {all : List Target} {ts : Targets} (v : Collected all [] ts) (padded : Padded (ts .count) (ts .list)) where
   all-held : ts .over ≡ false → take (ts .count) (ts .list) ≡ all
   unfolding onceAfter
   all-held e = sym (v .held e ∙ append-nil (take (ts .count) (ts .list)))
 
   pub gathered : Gathered all ts
-  gathered = record { over = go (ts .over) refl; few = v .few; room = v .room; held = all-held }
+  gathered = record { over = go (ts .over) refl; few = v .few; room = v .room; held = all-held; padded = padded }
     where
       go : (b : Bool) → ts .over ≡ b → b ≡ ltb mostTargets (length all)
       go true e = sym (lt-ltb mostTargets (length all) (v .many e))

@@ -43,9 +43,10 @@ pub record Joined (c : Count) (list : List Target) (t : Target) (r : Count) (aft
   pub collected : (all rest : List Target) → Collected all (t ∷ rest) (targetsIn list c) → Collected all rest (targetsIn after r)
   pub padded : Padded (c .n) list → Padded (r .n) after
 
--- All are collected: they are held, unless they are over 8.
+-- All are collected: they are held, unless they are over 8. Past those that are held the list is blank.
 pub record Gathered (all : List Target) (ts : Targets) : Type 0 where
   pub over : ts .over ≡ ltb mostTargets (length all)
   pub few : ts .count ≤ mostTargets
   pub room : length (ts .list) ≡ mostTargets
   pub held : ts .over ≡ false → take (ts .count) (ts .list) ≡ all
+  pub padded : Padded (ts .count) (ts .list)

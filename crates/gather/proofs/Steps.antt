@@ -52,12 +52,12 @@ module _ (ts : List Target) (i : ℕ) (list : List Target) (c : Count) (long : B
   unfolding any
   all-in h =
       let u : Underway ts [] list c long = rw (drop-of-length-le ts {i = i} h) at v in
-      let w = gathered (u .collected) in
+      let w = gathered (u .collected) (u .padded) in
       record {
         long = sym (or-none long) ∙ u .prefixes;
         over = rw (← once-whole ts) (w .over);
         few = w .few;
         room = w .room;
         held = λ e. w .held e ∙ once-whole ts;
-        padded = u .padded;
+        padded = w .padded;
       }

@@ -136,6 +136,7 @@ module _ (msg : List ℕ) (r : Reading) (e : heardFrom msg r ≡ hear msg) (z : 
     targets = b .few;
     prefixes =
         rw (ap (λ (m : Message). m .targets) message-read) (all-true shortPrefix (messageOf msg .targets) (targets-short msg));
+    padded = b .padded;
   }
 
 -- ---- The lines

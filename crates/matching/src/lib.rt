@@ -5,6 +5,7 @@ ghost use Prim.Native.Nat.{_+_, _≤_, _<_};
 ghost use mathlib.Core.Path.{_≡_};
 ghost use mathlib.Core.Bool.{cond};
 ghost use mathlib.Core.List.{[], _∷_, _++_};
+ghost use Rattle.plain.specs.Blank.{Padded};
 ghost use Rattle.plain.specs.Lists.{any};
 ghost use Rattle.plain.specs.Request.{matchesUs, notOurs, common, wholeBits};
 ghost use Rattle.matching.specs.Kept.{listOf, Kept, Nothing};
@@ -42,7 +43,7 @@ fn nothing() -> Targets
 
 // The targets with one more, if it is to be kept.
 fn keep_if(kept: Targets, t: Target, keep: bool) -> Targets
-    requires { ⌜ kept .count < 8 ⌝ }
+    requires { ⌜ (kept .count < 8) × Padded (kept .count) (kept .list) ⌝ }
     ensures { λ r. ⌜ Kept (cond keep (listOf kept ++ (t ∷ [])) (listOf kept)) r × (r .count ≤ kept .count + 1) ⌝ }
 {
     let n = kept.count;

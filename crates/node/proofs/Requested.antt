@@ -85,6 +85,7 @@ module _ (clock seq t : ℕ) (rows : List InstanceRow) (routes : List RouteRow) 
       rank = omega (arith, rank-fits x k p vector a zero, rank-is);
       few = gathered .few;
       prefixes = gathered .prefixes;
+      padded = gathered .padded;
     }
 
     pub request-room : p .n ≤ 16 → length (o .receiving) ≡ 16 → length (o .sending) ≡ 16 → Whole vector → forwards (messageIn p []) (askedOf a) ≡ true

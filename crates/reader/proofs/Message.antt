@@ -101,6 +101,7 @@ module _ {msg : List ℕ} {ts : Targets} {r : Reading} (v : Gathered (targetsOf 
   pub bounded : ltb 16 (r .size / (16 - r .discovery .compr)) || ts .over ≡ false → Bounded (length msg) r
   bounded e = record {
     few = omega (arith, w .count, v .few);
+    padded = rw (w .count, w .targets) (v .padded);
     within = w .within;
     short = w .short;
     compr = compr-most;

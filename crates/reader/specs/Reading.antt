@@ -6,6 +6,7 @@ use mathlib.Core.List.{List}
 use mathlib.Core.Option.{some, none}
 use lib.Dec.{eqb}
 use lib.ListN.{take, drop}
+use Rattle.plain.specs.Blank.{Padded}
 use Rattle.plain.specs.Octets as octets
 use Rattle.reader.specs.declared.Refusal.{Refusal}
 use Rattle.reader.specs.declared.Refusal.the-variants.{Heard, Malformed, Unfit, Unusable, TooMany}
@@ -37,8 +38,10 @@ heardFrom msg r =
     (octets.Heard.refused (refusalNumber (r .refusal)))
 
 -- What holds of a message that is heard: "at most 16 addresses, 8 targets", a vector of an option's octets, and none "With H 1".
+-- Past its targets the list is blank.
 pub record Bounded (n : ℕ) (r : Reading) : Type 0 where
   pub few : r .count ≤ 8
+  pub padded : Padded (r .count) (r .targets)
   pub within : r .at + r .size ≤ n
   pub short : r .size ≤ 252
   pub compr : r .discovery .compr ≤ 15

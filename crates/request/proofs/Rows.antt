@@ -90,7 +90,8 @@ pub gathered-is : (x : Settings) (k : Link) (p : Parsed) (f : Found) (g : FoundR
     → Gathered (askedWith x (receivedBy k []) (messageIn p v) (requestFound f) (routeFound g) (deltaFound d)) a
 unfolding askedOf askedWith messageIn
 gathered-is x k p f g d a short ef eg ed er es et kept v = record {
-  means = rw (ef, eg, ed, kept .held, et, es, er);
-  few = kept .few;
-  prefixes = rw (kept .held) (all-kept shortPrefix x (a .standing) (requestFound f) (take (p .count) (p .targets)) short);
+  means = rw (ef, eg, ed, kept .held .listed, et, es, er);
+  few = kept .held .few;
+  prefixes = rw (kept .held .listed) (all-kept shortPrefix x (a .standing) (requestFound f) (take (p .count) (p .targets)) short);
+  padded = kept .padded;
 }

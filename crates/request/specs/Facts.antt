@@ -2,6 +2,7 @@
 use Prim.Native.Nat.{_≤_, _<_}
 use mathlib.Core.Path.{_≡_}
 use mathlib.Core.Bool.{true}
+use Rattle.plain.specs.Blank.{Padded}
 use Rattle.plain.specs.Request.{Asked}
 use Rattle.writer_option.specs.Sendable.{shortPrefixes}
 use Rattle.matching.specs.Kept.{listOf}
@@ -19,14 +20,17 @@ askedOf a = record {
   delta = deltaFound (a .delta);
 }
 
--- The rank and the targets of facts that are no 12, and of any message that was heard, can be stored and sent.
+-- The rank and the targets of facts that are no 12, and of any message that was heard, can be stored and sent. Past the targets the list is
+-- blank.
 pub record Sendable (a : RequestFacts) : Type 0 where
   pub rank : a .rank < 65536
   pub few : a .targets .count ≤ 8
   pub prefixes : shortPrefixes (listOf (a .targets)) ≡ true
+  pub padded : Padded (a .targets .count) (a .targets .list)
 
--- they are those of a request, and its targets can be sent
+-- they are those of a request, and its targets can be stored and sent
 pub record Gathered (asked : Asked) (a : RequestFacts) : Type 0 where
   pub means : askedOf a ≡ asked
   pub few : a .targets .count ≤ 8
   pub prefixes : shortPrefixes (listOf (a .targets)) ≡ true
+  pub padded : Padded (a .targets .count) (a .targets .list)

@@ -20,7 +20,7 @@ ghost use Rattle.plain.specs.Answers.{answerOf};
 ghost use Rattle.plain.specs.Rank.{minHop, integerPart, ownRank, rankRefused};
 ghost use Rattle.plain.specs.Request.{matchesUs, grown, cannotGrow, requestStanding, isStale, routeStale, rowTargets, targetsKept, askedWith, forwards, repliesNow, requestLines};
 ghost use Rattle.answer.specs.Answer.{answerNumber};
-ghost use Rattle.matching.specs.Kept.{listOf, Kept};
+ghost use Rattle.matching.specs.Kept.{listOf, Held, Kept};
 ghost use Rattle.own.specs.Settings.{settingsOf, Whole};
 ghost use Rattle.message.specs.Message.{configurationIn, messageIn, receivedBy, requestFound, routeFound, deltaFound};
 ghost use Rattle.request.specs.Facts.{askedOf, Gathered};
@@ -58,10 +58,10 @@ fn how_it_stands(f: Found, seq: u8, rank: u32) -> Standing
     Standing::IsNew
 }
 
-// The targets of the live row.
+// The targets of the live row. Past them its list may hold anything.
 fn row_targets(f: Found) -> Targets
     requires { ⌜ (f .is ≡ true → f .row .count ≤ 8) ⌝ }
-    ensures { λ r. ⌜ Kept (rowTargets (requestFound f)) r ⌝ }
+    ensures { λ r. ⌜ Held (rowTargets (requestFound f)) r ⌝ }
 {
     let row = f.row;
     let list = row.targets;

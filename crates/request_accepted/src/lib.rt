@@ -72,7 +72,7 @@ fn request_row(t: u64, k: Link, p: Parsed, a: RequestFacts) -> InstanceRow
     let neighbour = k.neighbour;
     let list = a.targets.list;
     let end = kept_deadline(t, p.discovery.l, a);
-    row::request_row(
+    row::padded_request_row(
         p.base.instance,
         dodagid,
         p.discovery.number,

@@ -9,6 +9,7 @@ use borrow.Author.Tests.{eq-eqb, ne-eqb}
 use Rattle.lemmas.proofs.Choice.{true-false, or-left, or-right}
 use Rattle.plain.specs.Lists.{any, those, once}
 use Rattle.plain.specs.Octets.{Opt, ofType, artType, optionsIn, optionsOf, anyBad, badOption, badArt, followedBy, targetOf, sameTarget}
+use Rattle.plain.specs.Blank.{Padded}
 use Rattle.plain.specs.declared.Target.{Target}
 use Rattle.art.specs.declared.Targets.{Targets}
 use Rattle.art.specs.Collected.{Collected, Gathered}
@@ -22,10 +23,12 @@ use Rattle.scan.proofs.Turn.{end-next, cut-next, pad-next, body-next}
 abbrev pub artTargets : Option (List Opt) → List Target
 artTargets os = map (λ (o : Opt). targetOf (o .body)) (ofType artType os)
 
--- What holds before each turn: the options from `at` on, read in `left` steps, are not bad, and their targets are those that are to come.
+-- What holds before each turn: the options from `at` on, read in `left` steps, are not bad, their targets are those that are to come, and
+-- the list is blank past those that are collected.
 pub record Collecting (msg : List ℕ) (ts : Targets) (at left : ℕ) : Type 0 where
   pub good : anyBad (optionsIn left (drop at msg)) ≡ false
   pub collected : Collected (once sameTarget (artTargets (optionsOf msg))) (artTargets (optionsIn left (drop at msg))) ts
+  pub padded : Padded (ts .count) (ts .list)
 
 -- an option in front of others that are not bad
 module _ (kind : ℕ) (body : List ℕ) where
@@ -57,7 +60,7 @@ art-good kind body e h = rw e at h
 module _ {msg : List ℕ} {ts : Targets} {at left : ℕ} (v : Collecting msg ts at left) where
   -- no ART is to come
   gathered-none : artTargets (optionsIn left (drop at msg)) ≡ [] → Gathered (once sameTarget (artTargets (optionsOf msg))) ts
-  gathered-none e = gathered (rw e at (v .collected))
+  gathered-none e = gathered (rw e at (v .collected)) (v .padded)
 
   pub gathered-out : left ≡ 0 → Gathered (once sameTarget (artTargets (optionsOf msg))) ts
   unfolding optionsIn those
@@ -72,7 +75,7 @@ module _ {msg : List ℕ} {ts : Targets} {at left : ℕ} (v : Collecting msg ts 
     gathered-cut e = gathered-none (rw (cut-next w h e))
 
     pub collecting-pad : n ≡ Pad → Collecting msg ts (at + 1) (left - 1)
-    collecting-pad e = record { good = rw (pad-next w h e) at (v .good); collected = rw (pad-next w h e) at (v .collected) }
+    collecting-pad e = record { good = rw (pad-next w h e) at (v .good); collected = rw (pad-next w h e) at (v .collected); padded = v .padded }
 
     module _ {kind start end : ℕ} (e : n ≡ Body kind start end) where
       rest : Option (List Opt)
@@ -90,12 +93,15 @@ module _ {msg : List ℕ} {ts : Targets} {at left : ℕ} (v : Collecting msg ts 
       collecting-other k = record {
         good = rest-good kind (partOf msg start end) rest good-here;
         collected = rw (body-next w h e, other-first kind (partOf msg start end) rest k) at (v .collected);
+        padded = v .padded;
       }
 
       pub collecting-art : {r : Targets} {t : Target} → kind ≡ artType → t ≡ targetOf (partOf msg start end)
-          → ((all more : List Target) → Collected all (t ∷ more) ts → Collected all more r) → Collecting msg r end (left - 1)
+          → ((all more : List Target) → Collected all (t ∷ more) ts → Collected all more r)
+          → (Padded (ts .count) (ts .list) → Padded (r .count) (r .list)) → Collecting msg r end (left - 1)
       unfolding rest
-      collecting-art k q j = let g = rest-good kind (partOf msg start end) rest good-here in record {
+      collecting-art k q j b = let g = rest-good kind (partOf msg start end) rest good-here in record {
         good = g;
         collected = j _ _ (rw q (rw (body-next w h e, art-first kind (partOf msg start end) rest k g) at (v .collected)));
+        padded = b (v .padded);
       }

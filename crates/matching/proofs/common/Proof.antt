@@ -9,6 +9,7 @@ use borrow.Author.Needs.{needs}
 use Rattle.plain.specs.Lists.{any}
 use Rattle.plain.specs.Octets.{sameTarget}
 use Rattle.plain.specs.Request.{common}
+use Rattle.plain.specs.Blank.{Padded}
 use Rattle.plain.specs.declared.Target.{Target}
 use Rattle.matching.specs.Kept.{listOf}
 use Rattle.matching.proofs.Sifted.{Sifted, sift-more, sift-end}
@@ -19,6 +20,7 @@ abbrev Inv-loop : tie.InvT-loop
 Inv-loop n list m held kept₀ i₀ kept i =
     (i ≤ n) × (kept .over ≡ false) × (kept .count ≤ i)
     × Sifted (λ (t : Target). any (sameTarget t) (take m held)) n list i (listOf kept)
+    × Padded (kept .count) (kept .list)
 
 abbrev μ-loop : tie.MeasureT-loop
 μ-loop n list m held kept₀ i₀ kept i = n - i
@@ -39,7 +41,9 @@ nothing-requires : tie.Need-nothing-requires Inv-loop μ-loop
 nothing-requires c κs = search needs
 
 loop-holds : tie.Need-loop-holds Inv-loop μ-loop
-loop-holds c = (search needs, c .nothing .ensures .kept .whole, omega (arith, c .nothing .ensures .count), rw (c .nothing .ensures .kept .held))
+loop-holds c =
+    let k = c .nothing .ensures .kept in
+    (search needs, k .held .whole, omega (arith, c .nothing .ensures .count), rw (k .held .listed), k .padded)
 
 mul-t : tie.Need-mul-t Inv-loop μ-loop
 mul-t c = search needs
@@ -54,7 +58,7 @@ is-listed-requires : tie.Need-is-listed-requires Inv-loop μ-loop
 is-listed-requires c κs = search needs
 
 keep-if-requires : tie.Need-keep-if-requires Inv-loop μ-loop
-keep-if-requires c κs = search needs
+keep-if-requires c κs = let l = c .before .before .before .before .loop in (search needs, l .inv .4)
 
 add-i : tie.Need-add-i Inv-loop μ-loop
 add-i c = search needs
@@ -70,8 +74,13 @@ loop-again c =
     let q : n .result ≤ 8 = omega (arith, n .ensures, c .before .before .before .before .before .before .before .before .before .before .before .pre .0) in
     let l = c .before .before .before .before .before .loop in
     let k = c .keep-if in
-    let e = rw (c .before .is-listed .ensures) at (k .ensures .0 .held) in
-    (search needs, k .ensures .0 .whole, omega (arith, k .ensures .1, l .inv .2), sift-more _ (n .result) (a .result) (omega arith) (l .i) (listOf (l .kept)) (l .inv .3) _ (listOf (k .result)) (c .before .before .before .before .loop-test .taken) e)
+    let e = rw (c .before .is-listed .ensures) at (k .ensures .0 .held .listed) in (
+      search needs,
+      k .ensures .0 .held .whole,
+      omega (arith, k .ensures .1, l .inv .2),
+      sift-more _ (n .result) (a .result) (omega arith) (l .i) (listOf (l .kept)) (l .inv .3) _ (listOf (k .result)) (c .before .before .before .before .loop-test .taken) e,
+      k .ensures .0 .padded,
+    )
 
 returns : tie.Need-returns Inv-loop μ-loop
 unfolding common
@@ -82,10 +91,13 @@ returns c =
     let q : n .result ≤ 8 = omega (arith, n .ensures, c .before .before .before .before .before .before .before .pre .0) in
     let l = c .before .loop in
     record {
-      whole = l .inv .1;
-      few = omega (arith, l .inv .0, l .inv .2);
-      held = rw (← n .ensures, ← a .ensures, ← c .before .before .before .before .count-of2 .ensures, ← c .before .before .before .list-of2 .ensures)
-          (sift-end _ (n .result) (a .result) (omega arith) (l .i) _ (l .inv .3) (c .loop-test .left));
+      held = record {
+        whole = l .inv .1;
+        few = omega (arith, l .inv .0, l .inv .2);
+        listed = rw (← n .ensures, ← a .ensures, ← c .before .before .before .before .count-of2 .ensures, ← c .before .before .before .list-of2 .ensures)
+            (sift-end _ (n .result) (a .result) (omega arith) (l .i) _ (l .inv .3) (c .loop-test .left));
+      };
+      padded = l .inv .4;
     }
 
 pub common-spec : {M : Type 1} → statement M

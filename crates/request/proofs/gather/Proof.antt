@@ -16,7 +16,8 @@ is-named-requires c κs = search needs
 
 targets-kept-requires : tie.Need-targets-kept-requires
 targets-kept-requires c κs =
-    (c .before .before .before .before .before .before .pre .1, (record { whole = refl; few = search needs; held = refl }, c .is-named .ensures))
+    let h = c .before .before .before .before .before .before .pre in
+    (h .1, (record { held = record { whole = refl; few = search needs; listed = refl }; padded = h .0 .padded }, c .is-named .ensures))
 
 returns : tie.Need-returns
 returns c =

@@ -23,7 +23,7 @@ returns c =
     let s = c .before .before .before .before .before .before .before .args in
     kept-update (settingsOf (s .o)) (s .s) (requestFound (s .f)) (s .ts) (c .not-ours .result)
     (sym (c .before .before .before .before .is-update .ensures) ∙ c .before .before .before .if1 .taken) (c .before .before .row-targets .result) (c .before .common .result)
-    (c .before .before .row-targets .ensures .held) (c .before .common .ensures .held) (c .not-ours .ensures)
+    (c .before .before .row-targets .ensures .listed) (c .before .common .ensures .held .listed) (c .not-ours .ensures)
 
 not-ours-requires-2 : tie.Need-not-ours-requires-2
 not-ours-requires-2 c κs = search needs

@@ -10,22 +10,22 @@ kept-deadline-requires c κs = search needs
 s-out-requires : tie.Need-s-out-requires
 s-out-requires c κs = search needs
 
-cast-request-row : tie.Need-cast-request-row
-cast-request-row c = search needs
+cast-padded-request-row : tie.Need-cast-padded-request-row
+cast-padded-request-row c = search needs
 
-cast-request-row-2 : tie.Need-cast-request-row-2
-cast-request-row-2 c = search needs
+cast-padded-request-row-2 : tie.Need-cast-padded-request-row-2
+cast-padded-request-row-2 c = search needs
 
 replies-now-requires : tie.Need-replies-now-requires
 replies-now-requires c κs = search needs
 
-request-row-requires : tie.Need-request-row-requires
-request-row-requires c κs = search needs
+padded-request-row-requires : tie.Need-padded-request-row-requires
+padded-request-row-requires c κs = search needs
 
 returns : tie.Need-returns
 returns c =
     let s = c .before .before .before .before .before .before .before .before .before .args in
-    c .request-row .ensures
+    c .padded-request-row .ensures
     ∙ request-is (s .t) (s .k) (s .p) (s .a) (c .before .before .before .before .s-out .result) (c .before .replies-now .result) (c .before .before .before .before .before .kept-deadline .result)
     (c .before .before .before .before .s-out .ensures) (c .before .replies-now .ensures) (c .before .before .before .before .before .kept-deadline .ensures)
 
@@ -35,8 +35,8 @@ request-row-spec =
     (tie.spec
     kept-deadline-requires
     s-out-requires
-    cast-request-row
-    cast-request-row-2
+    cast-padded-request-row
+    cast-padded-request-row-2
     replies-now-requires
-    request-row-requires
+    padded-request-row-requires
     returns)

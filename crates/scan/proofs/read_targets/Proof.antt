@@ -28,7 +28,7 @@ loop-holds : tie.Need-loop-holds Inv-loop μ-loop
 loop-holds c =
     let msg = now (c .before .before .before .args .msg) in
     rw (c .none-yet .ensures, c .before .blank-list .ensures)
-    (record { good = c .before .before .before .pre; collected = none-collected (artTargets (optionsOf msg)) })
+    (record { good = c .before .before .before .pre; collected = none-collected (artTargets (optionsOf msg)); padded = refl })
 
 sub-left : tie.Need-sub-left Inv-loop μ-loop
 sub-left c = search needs
@@ -91,7 +91,7 @@ loop-again-2 c =
     let next = c .before .before .before .before .before .before .before .before .before in
     let inside = next .before in
     let loop = inside .before in
-    collecting-art (loop .loop .inv) (inside .loop-test .taken) (next .next-option .ensures) (c .before .before .before .before .before .before .before .kind .given .1) (c .before .before .before .before .before .if1 .taken) (c .before .before .read-target .ensures) (c .before .collect .ensures .collected)
+    collecting-art (loop .loop .inv) (inside .loop-test .taken) (next .next-option .ensures) (c .before .before .before .before .before .before .before .kind .given .1) (c .before .before .before .before .before .if1 .taken) (c .before .before .read-target .ensures) (c .before .collect .ensures .collected) (c .before .collect .ensures .padded)
 
 loop-less-3 : tie.Need-loop-less-3 Inv-loop μ-loop
 loop-less-3 c = search needs
