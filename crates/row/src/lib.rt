@@ -3,9 +3,7 @@ ghost use mathlib.Core.Path.{_≡_};
 ghost use mathlib.Core.Bool.{cond};
 ghost use mathlib.Core.Option.{some, none};
 ghost use Prim.Native.Nat.{_≤_};
-ghost use lib.Dec.{leb};
 ghost use lib.ListN.{take, replicate};
-ghost use Rattle.lemmas.specs.Written.{over};
 ghost use Rattle.plain.specs.Blank.{Padded};
 ghost use Rattle.row.specs.Meaning.{blankTarget, noRow, noRoute};
 ghost use Rattle.row.specs.Record.{bitOf, untilOf, requestRecord, replyRecord, routeRecord};
@@ -67,16 +65,6 @@ fn until(endless: bool, deadline: u64) -> u64
     deadline
 }
 
-fn most_8(count: u8) -> u8
-    ensures { λ r. ⌜ r ≡ cond (leb count 8) count 8 ⌝ }
-    ensures { λ r. ⌜ r ≤ 8 ⌝ }
-{
-    if count <= 8 {
-        return count;
-    }
-    8
-}
-
 fn blank() -> Target
     ensures { λ r. ⌜ r ≡ blankTarget ⌝ }
 {
@@ -92,20 +80,6 @@ fn blanks() -> [Target; 8]
 {
     let b = blank();
     [b; 8]
-}
-
-// The first `count` of the targets, and blank ones.
-fn first_targets(count: u8, targets: [Target; 8]) -> [Target; 8]
-    ensures { λ r. ⌜ r ≡ over (take count targets) (replicate 8 blankTarget) ⌝ }
-{
-    let b = blank();
-    let mut out = targets;
-    let mut i = most_8(count) as usize;
-    while i < 8 {
-        out[i] = b;
-        i += 1;
-    }
-    out
 }
 
 // A request row, of targets that are blank past the count already.
@@ -141,40 +115,6 @@ pub fn padded_request_row(
         targets,
         deadline: until(endless, deadline),
     }
-}
-
-// A request row, of the first `count` of any targets.
-pub fn request_row(
-    instance: u8,
-    dodagid: [u8; 16],
-    seq: u8,
-    s: bool,
-    h: bool,
-    rank: u16,
-    neighbour: [u8; 16],
-    count: u8,
-    targets: [Target; 8],
-    replied: bool,
-    endless: bool,
-    deadline: u64,
-) -> InstanceRow
-    ensures { λ r. ⌜ r ≡ requestRecord (record { instance = instance; dodagid = dodagid; seq = seq; s = s; h = h; rank = rank; neighbour = neighbour; targets = take count targets; replied = replied; deadline = cond endless none (some deadline) }) ⌝ }
-{
-    let ts = first_targets(count, targets);
-    padded_request_row(
-        instance,
-        dodagid,
-        seq,
-        s,
-        h,
-        rank,
-        neighbour,
-        most_8(count),
-        ts,
-        replied,
-        endless,
-        deadline,
-    )
 }
 
 pub fn reply_row(
