@@ -6,6 +6,7 @@ ghost use Prim.Native.Nat.{ℕ, _-_, _/_, _≤_, _<_};
 ghost use lib.Dec.{ltb};
 ghost use lib.ListN.{length};
 ghost use mathlib.Core.Bool.{_||_};
+ghost use Rattle.plain.specs.Address.{unusable};
 ghost use Rattle.plain.specs.Octets.{optionsOf, requestCounts, replyCounts, malformed, unfit, mopOf, baseOf, hear};
 ghost use Rattle.option.specs.Follows.{partOf};
 ghost use Rattle.scan.specs.Seen.{Told};
@@ -107,14 +108,30 @@ fn is_unfit(msg: &[u8], s: Scan) -> bool
     true
 }
 
+fn read_dodagid(msg: &[u8]) -> [u8; 16]
+    requires { ⌜ 24 ≤ length (now msg) ⌝ }
+    ensures { λ r. ⌜ r ≡ baseOf (now (msg .entry)) .dodagid ⌝ }
+{
+    let mut dodagid = [0u8; 16];
+    address::put_over(&mut dodagid, 0, &msg[8..24]);
+    dodagid
+}
+
+// 5: the DODAGID is read for this by itself. One that is looked at octet by octet is kept octet by octet, and each copy of it waits.
+fn has_unusable_dodagid(msg: &[u8]) -> bool
+    requires { ⌜ 24 ≤ length (now msg) ⌝ }
+    ensures { λ r. ⌜ r ≡ unusable (baseOf (now (msg .entry)) .dodagid) ⌝ }
+{
+    address::is_unusable(read_dodagid(msg))
+}
+
 // The base object.
 fn read_base(msg: &[u8]) -> Base
     requires { ⌜ 24 ≤ length (now msg) ⌝ }
     ensures { λ r. ⌜ r ≡ baseOf (now (msg .entry)) ⌝ }
 {
     let flags = art::octet_at(msg, 4);
-    let mut dodagid = [0u8; 16];
-    address::put_over(&mut dodagid, 0, &msg[8..24]);
+    let dodagid = read_dodagid(msg);
     Base {
         instance: art::octet_at(msg, 0),
         version: art::octet_at(msg, 1),
@@ -234,11 +251,10 @@ pub fn read(msg: &[u8]) -> Reading
     if is_unfit(msg, s) {
         return refused(Refusal::Unfit);
     }
-    let base = read_base(msg);
-    let dodagid = base.dodagid;
-    if address::is_unusable(dodagid) {
+    if has_unusable_dodagid(msg) {
         return refused(Refusal::Unusable);
     }
+    let base = read_base(msg);
     let ts = scan::read_targets(msg);
     let r = fill(msg, s, base, ts);
     if is_too_many(r.size, r.discovery.compr, ts.over) {

@@ -40,16 +40,13 @@ returns-2 c =
     let e = sym (c .before .before .is-unfit .ensures) ∙ c .before .if2 .taken in
     refused-as msg (c .refused2 .result) _ (c .refused2 .ensures) (omega arith) (hear-unfit msg a e)
 
-read-base-requires : tie.Need-read-base-requires
-read-base-requires c κs =
+has-unusable-dodagid-requires : tie.Need-has-unusable-dodagid-requires
+has-unusable-dodagid-requires c κs =
     let formed = c .before .before in
     let start = formed .before .before .before .before in
     let msg = start .args .msg .now in
     let a = sym (formed .before .is-malformed .ensures) ∙ formed .if1 .left in
     formed-long msg a
-
-is-unusable-requires : tie.Need-is-unusable-requires
-is-unusable-requires c κs = search needs
 
 refused-requires-3 : tie.Need-refused-requires-3
 refused-requires-3 c κs = search needs
@@ -57,25 +54,30 @@ refused-requires-3 c κs = search needs
 returns-3 : tie.Need-returns-3
 returns-3 c =
     let usable = c .before in
-    let based = usable .before .before .before in
-    let fit = based .before in
+    let fit = usable .before .before in
     let formed = fit .before .before in
     let start = formed .before .before .before .before in
     let msg = start .args .msg .now in
     let a = sym (formed .before .is-malformed .ensures) ∙ formed .if1 .left in
     let b = sym (fit .before .is-unfit .ensures) ∙ fit .if2 .left in
-    let d = rw (based .read-base .ensures) at (sym (usable .before .is-unusable .ensures) ∙ usable .if3 .taken) in
+    let d = sym (usable .before .has-unusable-dodagid .ensures) ∙ usable .if3 .taken in
     refused-as msg (c .refused3 .result) _ (c .refused3 .ensures) (omega arith) (hear-unusable msg a b d)
+
+read-base-requires : tie.Need-read-base-requires
+read-base-requires c κs =
+    let formed = c .before .before .before .before in
+    let start = formed .before .before .before .before in
+    formed-long (start .args .msg .now) (sym (formed .before .is-malformed .ensures) ∙ formed .if1 .left)
 
 read-targets-requires : tie.Need-read-targets-requires
 read-targets-requires c κs =
-    let formed = c .before .before .before .before .before .before in
+    let formed = c .before .before .before .before .before in
     let start = formed .before .before .before .before in
     formed-good (start .args .msg .now) (sym (formed .before .is-malformed .ensures) ∙ formed .if1 .left)
 
 fill-requires : tie.Need-fill-requires
 fill-requires c κs =
-    let fit = c .before .before .before .before .before in
+    let fit = c .before .before .before .before in
     let formed = fit .before .before in
     let start = formed .before .before .before .before in
     let msg = start .args .msg .now in
@@ -86,8 +88,7 @@ fill-requires c κs =
 
 is-too-many-requires : tie.Need-is-too-many-requires
 is-too-many-requires c κs =
-    let based = c .before .before .before .before .before in
-    let w = rw (based .read-base .ensures) at (c .fill .ensures) in
+    let w = rw (c .before .before .read-base .ensures) at (c .fill .ensures) in
     compr-most (c .before .read-targets .ensures) w
 
 refused-requires-4 : tie.Need-refused-requires-4
@@ -95,15 +96,15 @@ refused-requires-4 c κs = search needs
 
 returns-4 : tie.Need-returns-4
 returns-4 c =
-    let usable = c .before .before .before .before .before in
-    let based = usable .before .before .before in
-    let fit = based .before in
+    let based = c .before .before .before .before .before in
+    let usable = based .before in
+    let fit = usable .before .before in
     let formed = fit .before .before in
     let start = formed .before .before .before .before in
     let msg = start .args .msg .now in
     let a = sym (formed .before .is-malformed .ensures) ∙ formed .if1 .left in
     let b = sym (fit .before .is-unfit .ensures) ∙ fit .if2 .left in
-    let d = rw (based .read-base .ensures) at (sym (usable .before .is-unusable .ensures) ∙ usable .if3 .left) in
+    let d = sym (usable .before .has-unusable-dodagid .ensures) ∙ usable .if3 .left in
     let v = c .before .before .before .before .read-targets .ensures in
     let w = rw (based .read-base .ensures) at (c .before .before .before .fill .ensures) in
     let e = sym (c .before .before .is-too-many .ensures) ∙ c .before .if4 .taken in
@@ -111,15 +112,15 @@ returns-4 c =
 
 returns-5 : tie.Need-returns-5
 returns-5 c =
-    let usable = c .before .before .before .before in
-    let based = usable .before .before .before in
-    let fit = based .before in
+    let based = c .before .before .before .before in
+    let usable = based .before in
+    let fit = usable .before .before in
     let formed = fit .before .before in
     let start = formed .before .before .before .before in
     let msg = start .args .msg .now in
     let a = sym (formed .before .is-malformed .ensures) ∙ formed .if1 .left in
     let b = sym (fit .before .is-unfit .ensures) ∙ fit .if2 .left in
-    let d = rw (based .read-base .ensures) at (sym (usable .before .is-unusable .ensures) ∙ usable .if3 .left) in
+    let d = sym (usable .before .has-unusable-dodagid .ensures) ∙ usable .if3 .left in
     let v = c .before .before .before .read-targets .ensures in
     let w = rw (based .read-base .ensures) at (c .before .before .fill .ensures) in
     let e = sym (c .before .is-too-many .ensures) ∙ c .if4 .left in
@@ -136,10 +137,10 @@ read-spec =
     is-unfit-requires
     refused-requires-2
     returns-2
-    read-base-requires
-    is-unusable-requires
+    has-unusable-dodagid-requires
     refused-requires-3
     returns-3
+    read-base-requires
     read-targets-requires
     fill-requires
     is-too-many-requires
