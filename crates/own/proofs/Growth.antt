@@ -30,6 +30,10 @@ own-two : (x : Settings) → same (x .receiving) (x .sending) ≡ false → leng
 unfolding ownVector
 own-two x e = rw e refl
 
+own-one : (x : Settings) → same (x .receiving) (x .sending) ≡ true → length (ownVector x) ≡ 1
+unfolding ownVector
+own-one x e = rw e refl
+
 pub own-length : (x : Settings) → (1 ≤ length (ownVector x)) × (length (ownVector x) ≤ 2)
 unfolding ownVector
 own-length x =
@@ -62,6 +66,23 @@ module _ (x : Settings) (h : Bool) (n : ℕ) (f : h ≡ false) where
   pub room-two : same (x .receiving) (x .sending) ≡ false → grownCount x h n ≤ 16 → n + 1 < 16
   unfolding grownCount
   room-two e k = omega (arith, rw f at k, own-two x e)
+
+  -- how many there are tells whether ours are the same
+  pub same-told : grownCount x h n ≡ n + 1 → same (x .receiving) (x .sending) ≡ true
+  unfolding grownCount
+  same-told e = go (same (x .receiving) (x .sending)) refl
+    where
+      go : (b : Bool) → same (x .receiving) (x .sending) ≡ b → same (x .receiving) (x .sending) ≡ true
+      go true q = q
+      go false q = absurd (omega (arith, rw f at e, own-two x q))
+
+  pub different-told : (grownCount x h n ≡ n + 1 → ⊥) → same (x .receiving) (x .sending) ≡ false
+  unfolding grownCount
+  different-told e = go (same (x .receiving) (x .sending)) refl
+    where
+      go : (b : Bool) → same (x .receiving) (x .sending) ≡ b → same (x .receiving) (x .sending) ≡ false
+      go true q = absurd (e (rw f (omega (arith, own-one x q))))
+      go false q = q
 
   pub grow-one : (v : List Address) → same (x .receiving) (x .sending) ≡ true → n < length v
       → take (grownCount x h n) (set v n (x .receiving)) ≡ grown x h (take n v)

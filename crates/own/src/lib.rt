@@ -71,10 +71,17 @@ pub fn whole(vector: &[[u8; 16]; 16])
     known(*vector);
 }
 
-// A vector with ours added: the receiving address, then the sending one if different.
-pub fn grown_vector(o: Own, h: bool, n: usize, vector: &[[u8; 16]; 16]) -> [[u8; 16]; 16]
-    requires { ⌜ grownCount (settingsOf o) h n ≤ 16 ⌝ }
-    ensures { λ r. ⌜ take (grownCount (settingsOf o) h n) r ≡ grown (settingsOf o) h (take n (now (vector .entry))) ⌝ }
+// A vector with ours added: the receiving address, then the sending one if different, which `count` tells: addresses that are looked at octet
+// by octet are kept and copied octet by octet.
+pub fn grown_vector(
+    o: Own,
+    h: bool,
+    n: usize,
+    count: usize,
+    vector: &[[u8; 16]; 16],
+) -> [[u8; 16]; 16]
+    requires { ⌜ (count ≡ grownCount (settingsOf o) h n) × (count ≤ 16) ⌝ }
+    ensures { λ r. ⌜ take count r ≡ grown (settingsOf o) h (take n (now (vector .entry))) ⌝ }
 {
     if h {
         return *vector;
@@ -84,10 +91,10 @@ pub fn grown_vector(o: Own, h: bool, n: usize, vector: &[[u8; 16]; 16]) -> [[u8;
     let sending = o.sending;
     let mut grown = *vector;
     grown[n] = receiving;
-    if address::is_same(receiving, sending) {
+    let next = n + 1;
+    if count == next {
         return grown;
     }
-    let next = n + 1;
     grown[next] = sending;
     grown
 }

@@ -39,16 +39,13 @@ module _ (x : Settings) (p : Post) (vector : List Address) (fits : Fits x p vect
       grown-sendable = rw (en, ek) (rw grown-size at (fits .sendable))
 
       pub grown-written : (v : List Address) (before after : List ℕ) (r : ℕ)
-          → take (grownCount x false k) v ≡ grown x false (take k vector)
+          → take n v ≡ grown x false (take k vector)
           → Written (octetsOf (messageWith (p .message) (take n v))) before after r
           → Written (octetsOf (postMessage x p vector)) before after r
       unfolding postMessage postVector
       grown-written v before after r f w =
-          let q : take n v ≡ grown x false (take (p .message .n) vector) = rw (en, ← ek) f in
+          let q : take n v ≡ grown x false (take (p .message .n) vector) = rw (← ek) f in
           rw g (subst (λ (z : List Address). Written (octetsOf (messageWith (p .message) z)) before after r) q w)
-
-    pub grown-fits : (k : ℕ) → k ≡ p .message .n → grownCount x false k ≤ 16
-    grown-fits k ek = grown-sendable k (grownCount x false k) ek refl .addresses
 
   module _ (g : p .grown ≡ false) where
     pub plain-sendable : (k : ℕ) → k ≡ p .message .n → Sendable (p .message .discovery) k

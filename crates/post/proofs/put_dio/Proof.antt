@@ -3,7 +3,7 @@ pub mod Tie
 use denote.Ref.{now}
 use mathlib.Core.Path.{sym, _∙_}
 use Rattle.own.specs.Settings.{settingsOf}
-use Rattle.post.proofs.Laws.{grown-sendable, grown-fits, grown-written, plain-sendable, plain-written}
+use Rattle.post.proofs.Laws.{grown-sendable, grown-written, plain-sendable, plain-written}
 use borrow.Author.Needs.{needs}
 use Rattle.post.proofs.put_dio.Statement.{statement}
 use Rattle.post.proofs.put_dio.Proof.Tie as tie
@@ -23,8 +23,11 @@ grown-vector-requires : tie.Need-grown-vector-requires
 grown-vector-requires c κs =
     let o = c .before .before .before .before .before .before .before .before .before in
     let k = c .before .before .before .before .before .before .addresses-of in
-    grown-fits (settingsOf (now (o .args .o))) (now (o .args .p)) (now (o .args .vector)) (o .pre .0) (o .pre .1) (sym (c .before .before .before .before .is-grown .ensures) ∙ c .before .before .before .if1 .taken)
-    (k .result) (k .ensures)
+    let n = c .before .grown-count in (
+      n .ensures,
+      grown-sendable (settingsOf (now (o .args .o))) (now (o .args .p)) (now (o .args .vector)) (o .pre .0) (o .pre .1)
+          (sym (c .before .before .before .before .is-grown .ensures) ∙ c .before .before .before .if1 .taken) (k .result) (n .result) (k .ensures) (n .ensures) .addresses,
+    )
 
 put-parsed-requires : tie.Need-put-parsed-requires
 put-parsed-requires c κs =

@@ -137,8 +137,10 @@ ps·3 =
     (List._∷_
     (Num.pNum Syntax.w64)
     (List._∷_
+    (Num.pNum Syntax.w64)
+    (List._∷_
     (ShrRef.pShr (Array'.Array (Array'.Array (Referent.rtF (Referent.fInt Syntax.w8)) 16) 16) 0 tt)
-    List.[])))
+    List.[]))))
 
 abbrev pub r·3 : Kinds.RK 1
 r·3 =
@@ -269,7 +271,9 @@ b7 =
     Syntax.opdFalse
     (List._∷_
     (Syntax.copy (Syntax.place 5 List.[]))
-    (List._∷_ (Syntax.copy (Syntax.place 4 List.[])) List.[]))))
+    (List._∷_
+    (Syntax.copy (Syntax.place 6 List.[]))
+    (List._∷_ (Syntax.copy (Syntax.place 4 List.[])) List.[])))))
     (Syntax.place 11 List.[])
 
 abbrev b8 : Syntax.Body
@@ -2430,15 +2434,18 @@ module _ (claims· : Claims) where
       (
         Num.vAt 5 λ x. x,
         (
-          record {
-            pos = 4;
-            ty = Syntax.tyRef
-                (Syntax.named 3)
-                Syntax.imm
-                (Syntax.tyArray (Syntax.tyArray (Syntax.tyInt Syntax.w8) 16) 16);
-            ref = λ x. x;
-          },
-          tt,
+          Num.vAt 6 λ x. x,
+          (
+            record {
+              pos = 4;
+              ty = Syntax.tyRef
+                  (Syntax.named 3)
+                  Syntax.imm
+                  (Syntax.tyArray (Syntax.tyArray (Syntax.tyInt Syntax.w8) 16) 16);
+              ref = λ x. x;
+            },
+            tt,
+          ),
         ),
       ),
     ),
@@ -5156,15 +5163,18 @@ module _ (claims· : Claims) where
                   (
                     Num.vAt 5 λ x. x,
                     (
-                      record {
-                        pos = 4;
-                        ty = Syntax.tyRef
-                            (Syntax.named 3)
-                            Syntax.imm
-                            (Syntax.tyArray (Syntax.tyArray (Syntax.tyInt Syntax.w8) 16) 16);
-                        ref = λ x. x;
-                      },
-                      tt,
+                      Num.vAt 6 λ x. x,
+                      (
+                        record {
+                          pos = 4;
+                          ty = Syntax.tyRef
+                              (Syntax.named 3)
+                              Syntax.imm
+                              (Syntax.tyArray (Syntax.tyArray (Syntax.tyInt Syntax.w8) 16) 16);
+                          ref = λ x. x;
+                        },
+                        tt,
+                      ),
                     ),
                   ),
                 ),
@@ -5181,34 +5191,37 @@ module _ (claims· : Claims) where
                   (
                     (Scalar.reads-sc 𝓤 H A W (Row.sInt Syntax.w64), Path'.refl),
                     (
-                      ShrRef.spares-sref
-                          𝓤
-                          H
-                          A
-                          W
-                          (Array'.Array
-                          (Array'.Array (Referent.rtF (Referent.fInt Syntax.w8)) 16)
-                          16)
-                          (Syntax.tyRef
-                          (Syntax.named 3)
-                          Syntax.imm
-                          (Syntax.tyArray (Syntax.tyArray (Syntax.tyInt Syntax.w8) 16) 16))
-                          3,
-                      Reads.reads-sref
-                          𝓤
-                          H
-                          A
-                          W
-                          (Array'.Array
-                          (Array'.Array (Referent.rtF (Referent.fInt Syntax.w8)) 16)
-                          16)
-                          (Syntax.tyRef
-                          (Syntax.named 3)
-                          Syntax.imm
-                          (Syntax.tyArray (Syntax.tyArray (Syntax.tyInt Syntax.w8) 16) 16))
-                          3,
-                      Path'.refl,
-                      tt,
+                      (Scalar.reads-sc 𝓤 H A W (Row.sInt Syntax.w64), Path'.refl),
+                      (
+                        ShrRef.spares-sref
+                            𝓤
+                            H
+                            A
+                            W
+                            (Array'.Array
+                            (Array'.Array (Referent.rtF (Referent.fInt Syntax.w8)) 16)
+                            16)
+                            (Syntax.tyRef
+                            (Syntax.named 3)
+                            Syntax.imm
+                            (Syntax.tyArray (Syntax.tyArray (Syntax.tyInt Syntax.w8) 16) 16))
+                            3,
+                        Reads.reads-sref
+                            𝓤
+                            H
+                            A
+                            W
+                            (Array'.Array
+                            (Array'.Array (Referent.rtF (Referent.fInt Syntax.w8)) 16)
+                            16)
+                            (Syntax.tyRef
+                            (Syntax.named 3)
+                            Syntax.imm
+                            (Syntax.tyArray (Syntax.tyArray (Syntax.tyInt Syntax.w8) 16) 16))
+                            3,
+                        Path'.refl,
+                        tt,
+                      ),
                     ),
                   ),
                 ),
@@ -6655,15 +6668,18 @@ module _ (claims· : Claims) where
             (
               Num.vAt 5 λ x. x,
               (
-                record {
-                  pos = 4;
-                  ty = Syntax.tyRef
-                      (Syntax.named 3)
-                      Syntax.imm
-                      (Syntax.tyArray (Syntax.tyArray (Syntax.tyInt Syntax.w8) 16) 16);
-                  ref = λ x. x;
-                },
-                tt,
+                Num.vAt 6 λ x. x,
+                (
+                  record {
+                    pos = 4;
+                    ty = Syntax.tyRef
+                        (Syntax.named 3)
+                        Syntax.imm
+                        (Syntax.tyArray (Syntax.tyArray (Syntax.tyInt Syntax.w8) 16) 16);
+                    ref = λ x. x;
+                  },
+                  tt,
+                ),
               ),
             ),
           ),
@@ -6683,15 +6699,18 @@ module _ (claims· : Claims) where
           (
             Num.vAt 5 λ x. x,
             (
-              record {
-                pos = 4;
-                ty = Syntax.tyRef
-                    (Syntax.named 3)
-                    Syntax.imm
-                    (Syntax.tyArray (Syntax.tyArray (Syntax.tyInt Syntax.w8) 16) 16);
-                ref = λ x. x;
-              },
-              tt,
+              Num.vAt 6 λ x. x,
+              (
+                record {
+                  pos = 4;
+                  ty = Syntax.tyRef
+                      (Syntax.named 3)
+                      Syntax.imm
+                      (Syntax.tyArray (Syntax.tyArray (Syntax.tyInt Syntax.w8) 16) 16);
+                  ref = λ x. x;
+                },
+                tt,
+              ),
             ),
           ),
         ),
@@ -7335,15 +7354,18 @@ module _ (claims· : Claims) where
                 (
                   Num.vAt 5 λ x. x,
                   (
-                    record {
-                      pos = 4;
-                      ty = Syntax.tyRef
-                          (Syntax.named 3)
-                          Syntax.imm
-                          (Syntax.tyArray (Syntax.tyArray (Syntax.tyInt Syntax.w8) 16) 16);
-                      ref = λ x. x;
-                    },
-                    tt,
+                    Num.vAt 6 λ x. x,
+                    (
+                      record {
+                        pos = 4;
+                        ty = Syntax.tyRef
+                            (Syntax.named 3)
+                            Syntax.imm
+                            (Syntax.tyArray (Syntax.tyArray (Syntax.tyInt Syntax.w8) 16) 16);
+                        ref = λ x. x;
+                      },
+                      tt,
+                    ),
                   ),
                 ),
               ),
