@@ -4,23 +4,26 @@ use mathlib.Core.Path.{_≡_, refl, ap, _∙_}
 use mathlib.Core.Bool.{Bool, true, false, cond, not}
 use mathlib.Core.List.{List, [], _∷_}
 use native.Mathlib.Omega.{arith}
-use lib.ListN.{length, take, set}
+use native.Mathlib.Nat.{mul-le-mul, le-refl, le-trans}
+use lib.ListN.{length, take, set, length-take}
 use Rattle.lemmas.proofs.Choice.{cond-case}
 use Rattle.plain.specs.Lists.{all}
 use Rattle.plain.specs.Address.{Address}
 use Rattle.plain.specs.Given.{Settings, Received, Destination}
 use Rattle.plain.specs.Octets.{Message, octetsOf}
-use Rattle.plain.specs.Request.{grown, sOut, withRank, withFlag, forwardedRequest, replyMessage, wholeTarget}
+use Rattle.plain.specs.Request.{grown, sOut, withRank, withFlag, forwardedRequest, replyMessage, wholeTarget, octetsIf, toIf}
 use Rattle.plain.specs.declared.Base.{Base}
 use Rattle.plain.specs.declared.Discovery.{Discovery}
-use Rattle.answer.specs.Answer.{destinationOf}
+use Rattle.answer.specs.Answer.{destinationOf, wayOf}
+use Rattle.answer.specs.declared.Way.the-variants.{Nowhere, Group, Neighbour}
 use Rattle.answer.specs.declared.Destination as code
 use Rattle.writer_option.specs.Sendable.{Sendable, shortPrefixes}
 use Rattle.message.specs.Message.{messageIn, receivedBy}
 use Rattle.message.specs.declared.Parsed.{Parsed}
 use Rattle.message.specs.declared.Link.{Link}
 use Rattle.decision.specs.Decision.{postVector, postMessage, octetsAs}
-use Rattle.decision.specs.declared.What.the-variants.{Dio}
+use Rattle.decision.specs.declared.What.{What}
+use Rattle.decision.specs.declared.What.the-variants.{Nothing, Dio}
 use Rattle.decision.specs.declared.Post.{Post}
 use Rattle.rule.specs.Heard.{Heard}
 use Rattle.decision.specs.Decision.{Posts}
@@ -30,6 +33,17 @@ use Rattle.request.specs.Facts as facts
 use Rattle.request.specs.Room.{Roomy}
 use Rattle.request_accepted.specs.Replied.{Replied}
 use Rattle.request.specs.declared.RequestFacts.{RequestFacts}
+
+-- one that is not sent
+silent-posts : (x : Settings) (v : List Address) (m : Parsed) (to : code.Destination) → destinationOf to ≡ Destination.nowhere → m .n ≤ 16
+    → Sendable (m .discovery) (length (take (m .n) v)) → m .count ≤ 8 → shortPrefixes (take (m .count) (m .targets)) ≡ true
+    → Posts x v [] Destination.nowhere (record { what = Nothing; message = m; grown = false; turned = false; to = to })
+unfolding octetsAs postVector
+silent-posts x v m to et hn hs hc hp = record {
+  sends = refl;
+  goes = et;
+  fits = record { received = hn; sendable = hs; targets = hc; prefixes = hp };
+}
 
 -- ---- What goes on
 
@@ -69,7 +83,7 @@ module _ (k : Link) (p : Parsed) (a : RequestFacts) (g : Heard p) (s : facts.Sen
   unfolding forwardedRequest facts.askedOf
   onward-prefixes x v = s .prefixes
 
-  pub onward-posts : (m : Parsed) (to : code.Destination) → m ≡ onward k p a → destinationOf to ≡ Destination.group
+  onward-posts : (m : Parsed) (to : code.Destination) → m ≡ onward k p a → destinationOf to ≡ Destination.group
       → (x : Settings) (v : List Address) → Roomy x (p .discovery .h) (p .discovery .compr) (take (p .n) v)
       → Posts x v (octetsOf (forwardedRequest x (receivedBy k []) (messageIn p v) (facts.askedOf a))) Destination.group
       (onwardPost m (p .discovery .h) to)
@@ -78,6 +92,26 @@ module _ (k : Link) (p : Parsed) (a : RequestFacts) (g : Heard p) (s : facts.Sen
       (dio-posts x v (onwardPost (onward k p a) (p .discovery .h) to)
       (forwardedRequest x (receivedBy k []) (messageIn p v) (facts.askedOf a)) Destination.group refl (onward-message x k p a v to) et
       (g .addresses) (s .few) (onward-sendable x v room) (onward-prefixes x v))
+
+  onward-silent : (x : Settings) (v : List Address) → Sendable (onward k p a .discovery) (length (take (p .n) v))
+  unfolding withFlag
+  onward-silent x v =
+      let few : length (take (p .n) v) ≤ p .n = omega (arith, length-take (p .n) v) in
+      record {
+        compr = g .compr;
+        addresses = omega (arith, g .addresses);
+        octets = λ h. le-trans (mul-le-mul few (le-refl _)) (g .octets h);
+      }
+
+  -- what goes on, if it does
+  pub onward-either : (on : Bool) (w : What) (m : Parsed) (b : Bool) (to : code.Destination) → w ≡ cond on Dio Nothing → m ≡ onward k p a
+      → b ≡ cond on (not (p .discovery .h)) false → destinationOf to ≡ toIf on Destination.group
+      → (x : Settings) (v : List Address) → (on ≡ true → Roomy x (p .discovery .h) (p .discovery .compr) (take (p .n) v))
+      → Posts x v (octetsIf on (forwardedRequest x (receivedBy k []) (messageIn p v) (facts.askedOf a))) (toIf on Destination.group)
+      (record { what = w; message = m; grown = b; turned = false; to = to })
+  onward-either true w m b to ew em eb et x v room = rw (ew, eb) (onward-posts m to em et x v (room refl))
+  onward-either false w m b to ew em eb et x v room =
+      rw (ew, eb, em) (silent-posts x v (onward k p a) to et (g .addresses) (onward-silent x v) (s .few) (s .prefixes))
 
 -- ---- Our reply
 
@@ -137,8 +171,28 @@ module _ (x : Settings) (k : Link) (p : Parsed) (own delta : ℕ) where
     unfolding replyMessage all
     reply-prefixes v = refl
 
-    pub reply-posts : (dest : Destination) → destinationOf to ≡ dest → (v : List Address) → length v ≡ 16
+    reply-posts : (dest : Destination) → destinationOf to ≡ dest → (v : List Address) → length v ≡ 16
         → Posts x v (octetsOf (replyMessage x own (receivedBy k []) (messageIn p v) delta)) dest (plainPost m to)
     reply-posts dest et v l =
         dio-posts x v (plainPost m to) (replyMessage x own (receivedBy k []) (messageIn p v) delta) dest refl
         (plain-message x m to v ∙ e .means v) et (omega (arith, e .addresses, g .addresses)) (e .targets) (reply-sendable v l) (reply-prefixes v)
+
+    reply-silent : (v : List Address) → length v ≡ 16 → Sendable (m .discovery) (length (take (m .n) v)) × (shortPrefixes (take (m .count) (m .targets)) ≡ true)
+    unfolding messageIn
+    reply-silent v l = (rw (← e .means v) at (reply-sendable v l), rw (← e .means v) at (reply-prefixes v))
+
+    -- our reply, if we reply
+    pub reply-either : (on : Bool) (w : What) (dest : Destination) → w ≡ cond on Dio Nothing → destinationOf to ≡ toIf on dest
+        → (v : List Address) → length v ≡ 16
+        → Posts x v (octetsIf on (replyMessage x own (receivedBy k []) (messageIn p v) delta)) (toIf on dest)
+        (record { what = w; message = m; grown = false; turned = false; to = to })
+    reply-either true w dest ew et v l = rw ew (reply-posts dest et v l)
+    reply-either false w dest ew et v l =
+        let q = reply-silent v l in
+        rw ew (silent-posts x v m to et (omega (arith, e .addresses, g .addresses)) (q .0) (e .targets) (q .1))
+
+-- where it goes
+pub reply-goes : (on s : Bool) (a : Address) → wayOf (cond on (cond s Neighbour Group) Nowhere) a ≡ toIf on (cond s (Destination.neighbour a) Destination.group)
+reply-goes true true a = refl
+reply-goes true false a = refl
+reply-goes false s a = refl

@@ -1,5 +1,6 @@
 // What a received request comes to that is answered 0, by value (01, "A request"): the rows that it leaves, and what is sent.
 use answer::Destination;
+use answer::Way;
 use deadline::Deadline;
 use decision::Decided;
 use decision::Post;
@@ -17,13 +18,15 @@ use row::InstanceRow;
 use row::RouteRow;
 ghost use Prim.Native.Nat.{ℕ, _≤_, _<_, _^_};
 ghost use mathlib.Core.Path.{_≡_};
-ghost use mathlib.Core.Bool.{cond, true};
+ghost use mathlib.Core.Bool.{cond, true, false, not};
 ghost use mathlib.Core.List.{List, []};
 ghost use lib.ListN.{length, take};
 ghost use Rattle.plain.specs.Address.{Address};
 ghost use Rattle.plain.specs.Given as rules;
-ghost use Rattle.plain.specs.Request.{forwards, sOut, keptDeadline, requestRow, ownReplyRow, routeRow, withRank, withFlag, replyMessage, replyDestination, deltaOr0, acceptRequest};
+ghost use Rattle.plain.specs.Request.{forwards, sOut, keptDeadline, requestRow, ownReplyRow, routeRow, withRank, withFlag, replyMessage, replyDestination, deltaOr0, toIf, acceptRequest};
 ghost use Rattle.answer.specs.Answer.{destinationOf};
+ghost use Rattle.answer.specs.declared.Way.the-variants.{Nowhere, Group, Neighbour};
+ghost use Rattle.decision.specs.declared.What.the-variants.{Nothing, Dio};
 ghost use Rattle.row.specs.Record.{requestRecord, routeRecord};
 ghost use Rattle.deadline.specs.Deadline.{deadlineOf};
 ghost use Rattle.own.specs.Settings.{settingsOf};
@@ -173,24 +176,51 @@ fn forwarded(k: Link, p: Parsed, a: RequestFacts) -> Parsed
     }
 }
 
+// A post is made as one, sent or not, so that no part of it is copied to where two ways of making it meet: this is what goes into its buffer.
+fn dio_if(on: bool) -> What
+    ensures { λ r. ⌜ r ≡ cond on Dio Nothing ⌝ }
+{
+    if on {
+        return What::Dio;
+    }
+    What::Nothing
+}
+
+fn group_if(on: bool) -> Destination
+    ensures { λ r. ⌜ destinationOf r ≡ toIf on rules.Destination.group ⌝ }
+{
+    let way = if on { Way::Group } else { Way::Nowhere };
+    Destination {
+        way,
+        neighbour: [0; 16],
+    }
+}
+
+fn grows(on: bool, h: bool) -> bool
+    ensures { λ r. ⌜ r ≡ cond on (not h) false ⌝ }
+{
+    if on {
+        return !h;
+    }
+    false
+}
+
 // What goes on to the group, where 16 is not answered. With H 0 ours are added.
 pub fn forward_post(k: Link, p: Parsed, a: RequestFacts) -> Post
     requires { ⌜ Heard p ⌝ }
     requires { ⌜ Sendable a ⌝ }
     ensures { λ r. ⌜ ((x : rules.Settings) (own t : ℕ) (vector : List Address) → (forwards (messageIn p []) (askedOf a) ≡ true → Roomy x (p .discovery .h) (p .discovery .compr) (take (p .n) vector)) → Posts x vector (acceptRequest x own t (receivedBy k []) (messageIn p vector) (askedOf a) .sent .forward) (acceptRequest x own t (receivedBy k []) (messageIn p vector) (askedOf a) .sent .forwardTo) r) ⌝ }
 {
-    if request::forwards(p, a) {
-        let message = forwarded(k, p, a);
-        let to = rule::to_group();
-        return Post {
-            what: What::Dio,
-            message,
-            grown: !p.discovery.h,
-            turned: false,
-            to,
-        };
+    let on = request::forwards(p, a);
+    let message = forwarded(k, p, a);
+    let to = group_if(on);
+    Post {
+        what: dio_if(on),
+        message,
+        grown: grows(on, p.discovery.h),
+        turned: false,
+        to,
     }
-    rule::no_post()
 }
 
 // The reply's base.
@@ -258,14 +288,27 @@ fn replied(o: Own, k: Link, p: Parsed, seq: u8, delta: u8) -> Parsed
     }
 }
 
-fn reply_to(k: Link, p: Parsed) -> Destination
-    ensures { λ r. ⌜ destinationOf r ≡ replyDestination (receivedBy k []) (messageIn p []) ⌝ }
+// Where our reply goes, if we reply.
+fn reply_way(on: bool, s: bool) -> Way
+    ensures { λ r. ⌜ r ≡ cond on (cond s Neighbour Group) Nowhere ⌝ }
+{
+    if on {
+        if s {
+            return Way::Neighbour;
+        }
+        return Way::Group;
+    }
+    Way::Nowhere
+}
+
+fn reply_to(on: bool, k: Link, p: Parsed) -> Destination
+    ensures { λ r. ⌜ destinationOf r ≡ toIf on (replyDestination (receivedBy k []) (messageIn p [])) ⌝ }
 {
     let neighbour = k.neighbour;
-    if s_out(k, p) {
-        return rule::to_neighbour(neighbour);
+    Destination {
+        way: reply_way(on, s_out(k, p)),
+        neighbour,
     }
-    rule::to_group()
 }
 
 // Our reply, if we reply. `seq` is our number before it is stepped.
@@ -274,18 +317,16 @@ pub fn reply_post(o: Own, k: Link, p: Parsed, a: RequestFacts, seq: u8) -> Post
     ensures { λ r. ⌜ ((t : ℕ) (vector : List Address) → length vector ≡ 16 → Posts (settingsOf o) vector (acceptRequest (settingsOf o) seq t (receivedBy k []) (messageIn p vector) (askedOf a) .sent .reply) (acceptRequest (settingsOf o) seq t (receivedBy k []) (messageIn p vector) (askedOf a) .sent .replyTo) r) ⌝ }
 {
     let free = a.delta;
-    if request::replies_now(a) {
-        let message = replied(o, k, p, sequence::step(seq), delta_or_0(free));
-        let to = reply_to(k, p);
-        return Post {
-            what: What::Dio,
-            message,
-            grown: false,
-            turned: false,
-            to,
-        };
+    let on = request::replies_now(a);
+    let message = replied(o, k, p, sequence::step(seq), delta_or_0(free));
+    let to = reply_to(on, k, p);
+    Post {
+        what: dio_if(on),
+        message,
+        grown: false,
+        turned: false,
+        to,
     }
-    rule::no_post()
 }
 
 // ---- What is stored

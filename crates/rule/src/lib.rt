@@ -143,15 +143,6 @@ pub fn to_group() -> Destination
     }
 }
 
-pub fn to_neighbour(a: [u8; 16]) -> Destination
-    ensures { λ r. ⌜ destinationOf r ≡ given.Destination.neighbour a ⌝ }
-{
-    Destination {
-        way: Way::Neighbour,
-        neighbour: a,
-    }
-}
-
 // Nothing is sent.
 pub fn no_post() -> Post
     ensures { λ r. ⌜ r ≡ noPost ⌝ }
