@@ -123,6 +123,17 @@ module _ (x : Settings) (s : State) (c : Call) where
   unfolding step decide
   step-is = refl
 
+-- a call that is refused, whatever it brings
+pub refusal : (x : Settings) (clock seq t : ℕ) (rows : List InstanceRow) (routes : List RouteRow) (forward reply : List ℕ) (e : Event) (n : ℕ) (a : Answer) (r : Outcome)
+    → answerOf (lines x (goodState (stateOf clock seq rows routes)) (viewOf (stateOf clock seq rows routes)) (lentBy t (length forward) (length reply)) e) ≡ n
+    → (n ≡ 0 → ⊥) → answerNumber a ≡ n
+    → r ≡ record { answer = a; forward = nothingSent; reply = nothingSent; clock = clock; seq = seq }
+    → Gives (step x (stateOf clock seq rows routes) (record { lent = lentBy t (length forward) (length reply); event = e })) rows rows routes routes forward forward reply reply r
+refusal x clock seq t rows routes forward reply e n a r z u v w =
+    let s = stateOf clock seq rows routes in
+    let l = lentBy t (length forward) (length reply) in
+    rw (step-is x s (record { lent = l; event = e }), z) (refused-gives clock seq t rows routes forward reply n (accept x (viewOf s) l e) a r v u w)
+
 module _ (x : Settings) (clock seq t : ℕ) (rows : List InstanceRow) (routes : List RouteRow) (forward reply : List ℕ) (k : Link) (octets : List ℕ) where
   abbrev s : State
   s = stateOf clock seq rows routes
@@ -138,12 +149,6 @@ module _ (x : Settings) (clock seq t : ℕ) (rows : List InstanceRow) (routes : 
 
   abbrev answered-by : ℕ
   answered-by = answerOf (lines x (goodState s) (viewOf s) l (Event.message e))
-
-  pub refusal : (n : ℕ) (a : Answer) (r : Outcome) → answered-by ≡ n → (n ≡ 0 → ⊥) → answerNumber a ≡ n
-      → r ≡ record { answer = a; forward = nothingSent; reply = nothingSent; clock = clock; seq = seq }
-      → Gives (step x s call) rows rows routes routes forward forward reply reply r
-  refusal n a r z u v w =
-      rw (step-is x s call, z) (refused-gives clock seq t rows routes forward reply n (accept x (viewOf s) l (Event.message e)) a r v u w)
 
   module _ (b : Bool) (bad : b ≡ badLent x clock l) where
     pub is-bad : b ≡ true → answered-by ≡ 1
@@ -247,12 +252,6 @@ module _ (x : Settings) (clock seq t : ℕ) (rows : List InstanceRow) (routes : 
 
   abbrev start-answered : ℕ
   start-answered = answerOf (lines x (goodState from) (viewOf from) lent (Event.start asking))
-
-  pub start-refusal : (n : ℕ) (a : Answer) (r : Outcome) → start-answered ≡ n → (n ≡ 0 → ⊥) → answerNumber a ≡ n
-      → r ≡ record { answer = a; forward = nothingSent; reply = nothingSent; clock = clock; seq = seq }
-      → Gives (step x from started) rows rows routes routes forward forward reply reply r
-  start-refusal n a r z u v w =
-      rw (step-is x from started, z) (refused-gives clock seq t rows routes forward reply n (accept x (viewOf from) lent (Event.start asking)) a r v u w)
 
   module _ (b : Bool) (bad : b ≡ badLent x clock lent) where
     pub start-bad : b ≡ true → start-answered ≡ 1

@@ -5,6 +5,8 @@ use native.Mathlib.Omega.{arith}
 use denote.Ref.{now}
 use Rattle.own.specs.Settings.{settingsOf}
 use Rattle.answer.specs.Answer.{answerNumber}
+use Rattle.plain.specs.Given.{Event}
+use Rattle.message.specs.Message.{receivedBy}
 use Rattle.calls.proofs.Laws.{refusal, is-bad, is-long, is-wrong, is-refused, is-own, bounded, sound, taken, reply-step, request-step}
 use borrow.Author.Needs.{needs}
 use Rattle.calls.proofs.message.Statement.{statement}
@@ -22,7 +24,7 @@ refused-requires : tie.Need-refused-requires
 refused-requires c = search needs
 
 returns : tie.Need-returns
-returns c = refusal (settingsOf (c .before .before .before .before .before .before .before .args .o)) (c .before .before .before .before .before .before .before .args .clock) (c .before .before .before .before .before .before .before .args .seq) (c .before .before .before .before .before .before .before .args .t) (now (c .before .before .before .before .before .before .before .args .instances)) (now (c .before .before .before .before .before .before .before .args .routes)) (now (c .before .before .before .before .before .before .before .args .forward)) (now (c .before .before .before .before .before .before .before .args .reply)) (c .before .before .before .before .before .before .before .args .k) (now (c .before .before .before .before .before .before .before .args .octets)) 1 _ (c .refused .result) (is-bad (settingsOf (c .before .before .before .before .before .before .before .args .o)) (c .before .before .before .before .before .before .before .args .clock) (c .before .before .before .before .before .before .before .args .seq) (c .before .before .before .before .before .before .before .args .t) (now (c .before .before .before .before .before .before .before .args .instances)) (now (c .before .before .before .before .before .before .before .args .routes)) (now (c .before .before .before .before .before .before .before .args .forward)) (now (c .before .before .before .before .before .before .before .args .reply)) (c .before .before .before .before .before .before .before .args .k) (now (c .before .before .before .before .before .before .before .args .octets)) (c .before .before .before .is-bad .result) (c .before .before .before .is-bad .ensures) (c .before .before .if1 .taken)) (λ z. absurd (omega arith)) (ap answerNumber (c .before .bad-call .ensures)) (c .refused .ensures)
+returns c = refusal (settingsOf (c .before .before .before .before .before .before .before .args .o)) (c .before .before .before .before .before .before .before .args .clock) (c .before .before .before .before .before .before .before .args .seq) (c .before .before .before .before .before .before .before .args .t) (now (c .before .before .before .before .before .before .before .args .instances)) (now (c .before .before .before .before .before .before .before .args .routes)) (now (c .before .before .before .before .before .before .before .args .forward)) (now (c .before .before .before .before .before .before .before .args .reply)) (Event.message (receivedBy (c .before .before .before .before .before .before .before .args .k) (now (c .before .before .before .before .before .before .before .args .octets)))) 1 _ (c .refused .result) (is-bad (settingsOf (c .before .before .before .before .before .before .before .args .o)) (c .before .before .before .before .before .before .before .args .clock) (c .before .before .before .before .before .before .before .args .seq) (c .before .before .before .before .before .before .before .args .t) (now (c .before .before .before .before .before .before .before .args .instances)) (now (c .before .before .before .before .before .before .before .args .routes)) (now (c .before .before .before .before .before .before .before .args .forward)) (now (c .before .before .before .before .before .before .before .args .reply)) (c .before .before .before .before .before .before .before .args .k) (now (c .before .before .before .before .before .before .before .args .octets)) (c .before .before .before .is-bad .result) (c .before .before .before .is-bad .ensures) (c .before .before .if1 .taken)) (λ z. absurd (omega arith)) (ap answerNumber (c .before .bad-call .ensures)) (c .refused .ensures)
 
 bad-call-requires-2 : tie.Need-bad-call-requires-2
 bad-call-requires-2 c = search needs
@@ -31,7 +33,7 @@ refused-requires-2 : tie.Need-refused-requires-2
 refused-requires-2 c = search needs
 
 returns-2 : tie.Need-returns-2
-returns-2 c = refusal (settingsOf (c .before .before .before .before .before .before .before .before .args .o)) (c .before .before .before .before .before .before .before .before .args .clock) (c .before .before .before .before .before .before .before .before .args .seq) (c .before .before .before .before .before .before .before .before .args .t) (now (c .before .before .before .before .before .before .before .before .args .instances)) (now (c .before .before .before .before .before .before .before .before .args .routes)) (now (c .before .before .before .before .before .before .before .before .args .forward)) (now (c .before .before .before .before .before .before .before .before .args .reply)) (c .before .before .before .before .before .before .before .before .args .k) (now (c .before .before .before .before .before .before .before .before .args .octets)) 1 _ (c .refused2 .result) (is-long (settingsOf (c .before .before .before .before .before .before .before .before .args .o)) (c .before .before .before .before .before .before .before .before .args .clock) (c .before .before .before .before .before .before .before .before .args .seq) (c .before .before .before .before .before .before .before .before .args .t) (now (c .before .before .before .before .before .before .before .before .args .instances)) (now (c .before .before .before .before .before .before .before .before .args .routes)) (now (c .before .before .before .before .before .before .before .before .args .forward)) (now (c .before .before .before .before .before .before .before .before .args .reply)) (c .before .before .before .before .before .before .before .before .args .k) (now (c .before .before .before .before .before .before .before .before .args .octets)) (c .before .before .before .before .is-bad .result) (c .before .before .before .before .is-bad .ensures) (c .before .before .before .if1 .left) (c .before .before .if2 .taken)) (λ z. absurd (omega arith)) (ap answerNumber (c .before .bad-call2 .ensures)) (c .refused2 .ensures)
+returns-2 c = refusal (settingsOf (c .before .before .before .before .before .before .before .before .args .o)) (c .before .before .before .before .before .before .before .before .args .clock) (c .before .before .before .before .before .before .before .before .args .seq) (c .before .before .before .before .before .before .before .before .args .t) (now (c .before .before .before .before .before .before .before .before .args .instances)) (now (c .before .before .before .before .before .before .before .before .args .routes)) (now (c .before .before .before .before .before .before .before .before .args .forward)) (now (c .before .before .before .before .before .before .before .before .args .reply)) (Event.message (receivedBy (c .before .before .before .before .before .before .before .before .args .k) (now (c .before .before .before .before .before .before .before .before .args .octets)))) 1 _ (c .refused2 .result) (is-long (settingsOf (c .before .before .before .before .before .before .before .before .args .o)) (c .before .before .before .before .before .before .before .before .args .clock) (c .before .before .before .before .before .before .before .before .args .seq) (c .before .before .before .before .before .before .before .before .args .t) (now (c .before .before .before .before .before .before .before .before .args .instances)) (now (c .before .before .before .before .before .before .before .before .args .routes)) (now (c .before .before .before .before .before .before .before .before .args .forward)) (now (c .before .before .before .before .before .before .before .before .args .reply)) (c .before .before .before .before .before .before .before .before .args .k) (now (c .before .before .before .before .before .before .before .before .args .octets)) (c .before .before .before .before .is-bad .result) (c .before .before .before .before .is-bad .ensures) (c .before .before .before .if1 .left) (c .before .before .if2 .taken)) (λ z. absurd (omega arith)) (ap answerNumber (c .before .bad-call2 .ensures)) (c .refused2 .ensures)
 
 is-wrong-requires : tie.Need-is-wrong-requires
 is-wrong-requires c = search needs
@@ -49,7 +51,7 @@ same-length-2 : tie.Need-same-length-2
 same-length-2 c = search needs
 
 returns-3 : tie.Need-returns-3
-returns-3 c = refusal (settingsOf (c .before .before .before .before .before .before .before .before .before .before .before .before .args .o)) (c .before .before .before .before .before .before .before .before .before .before .before .before .args .clock) (c .before .before .before .before .before .before .before .before .before .before .before .before .args .seq) (c .before .before .before .before .before .before .before .before .before .before .before .before .args .t) (now (c .before .before .before .before .before .before .before .before .before .before .before .before .args .instances)) (now (c .before .before .before .before .before .before .before .before .before .before .before .before .args .routes)) (now (c .before .before .before .before .before .before .before .before .before .before .before .before .args .forward)) (now (c .before .before .before .before .before .before .before .before .before .before .before .before .args .reply)) (c .before .before .before .before .before .before .before .before .before .before .before .before .args .k) (now (c .before .before .before .before .before .before .before .before .before .before .before .before .args .octets)) 2 _ (c .refused3 .result) (is-wrong (settingsOf (c .before .before .before .before .before .before .before .before .before .before .before .before .args .o)) (c .before .before .before .before .before .before .before .before .before .before .before .before .args .clock) (c .before .before .before .before .before .before .before .before .before .before .before .before .args .seq) (c .before .before .before .before .before .before .before .before .before .before .before .before .args .t) (now (c .before .before .before .before .before .before .before .before .before .before .before .before .args .instances)) (now (c .before .before .before .before .before .before .before .before .before .before .before .before .args .routes)) (now (c .before .before .before .before .before .before .before .before .before .before .before .before .args .forward)) (now (c .before .before .before .before .before .before .before .before .before .before .before .before .args .reply)) (c .before .before .before .before .before .before .before .before .before .before .before .before .args .k) (now (c .before .before .before .before .before .before .before .before .before .before .before .before .args .octets)) (c .before .before .before .before .before .before .before .before .is-bad .result) (c .before .before .before .before .before .before .before .before .is-bad .ensures) (c .before .before .before .before .before .before .before .if1 .left) (c .before .before .before .before .before .before .if2 .left) (c .before .before .before .is-wrong .result) (c .before .before .before .is-wrong .ensures) (c .before .before .if3 .taken)) (λ z. absurd (omega arith)) (ap answerNumber (c .before .wrong-state .ensures)) (c .refused3 .ensures)
+returns-3 c = refusal (settingsOf (c .before .before .before .before .before .before .before .before .before .before .before .before .args .o)) (c .before .before .before .before .before .before .before .before .before .before .before .before .args .clock) (c .before .before .before .before .before .before .before .before .before .before .before .before .args .seq) (c .before .before .before .before .before .before .before .before .before .before .before .before .args .t) (now (c .before .before .before .before .before .before .before .before .before .before .before .before .args .instances)) (now (c .before .before .before .before .before .before .before .before .before .before .before .before .args .routes)) (now (c .before .before .before .before .before .before .before .before .before .before .before .before .args .forward)) (now (c .before .before .before .before .before .before .before .before .before .before .before .before .args .reply)) (Event.message (receivedBy (c .before .before .before .before .before .before .before .before .before .before .before .before .args .k) (now (c .before .before .before .before .before .before .before .before .before .before .before .before .args .octets)))) 2 _ (c .refused3 .result) (is-wrong (settingsOf (c .before .before .before .before .before .before .before .before .before .before .before .before .args .o)) (c .before .before .before .before .before .before .before .before .before .before .before .before .args .clock) (c .before .before .before .before .before .before .before .before .before .before .before .before .args .seq) (c .before .before .before .before .before .before .before .before .before .before .before .before .args .t) (now (c .before .before .before .before .before .before .before .before .before .before .before .before .args .instances)) (now (c .before .before .before .before .before .before .before .before .before .before .before .before .args .routes)) (now (c .before .before .before .before .before .before .before .before .before .before .before .before .args .forward)) (now (c .before .before .before .before .before .before .before .before .before .before .before .before .args .reply)) (c .before .before .before .before .before .before .before .before .before .before .before .before .args .k) (now (c .before .before .before .before .before .before .before .before .before .before .before .before .args .octets)) (c .before .before .before .before .before .before .before .before .is-bad .result) (c .before .before .before .before .before .before .before .before .is-bad .ensures) (c .before .before .before .before .before .before .before .if1 .left) (c .before .before .before .before .before .before .if2 .left) (c .before .before .before .is-wrong .result) (c .before .before .before .is-wrong .ensures) (c .before .before .if3 .taken)) (λ z. absurd (omega arith)) (ap answerNumber (c .before .wrong-state .ensures)) (c .refused3 .ensures)
 
 read-requires : tie.Need-read-requires
 read-requires c = search needs
@@ -70,7 +72,7 @@ same-length-4 : tie.Need-same-length-4
 same-length-4 c = search needs
 
 returns-4 : tie.Need-returns-4
-returns-4 c = refusal (settingsOf (c .before .before .before .before .before .before .before .before .before .before .before .before .before .before .before .args .o)) (c .before .before .before .before .before .before .before .before .before .before .before .before .before .before .before .args .clock) (c .before .before .before .before .before .before .before .before .before .before .before .before .before .before .before .args .seq) (c .before .before .before .before .before .before .before .before .before .before .before .before .before .before .before .args .t) (now (c .before .before .before .before .before .before .before .before .before .before .before .before .before .before .before .args .instances)) (now (c .before .before .before .before .before .before .before .before .before .before .before .before .before .before .before .args .routes)) (now (c .before .before .before .before .before .before .before .before .before .before .before .before .before .before .before .args .forward)) (now (c .before .before .before .before .before .before .before .before .before .before .before .before .before .before .before .args .reply)) (c .before .before .before .before .before .before .before .before .before .before .before .before .before .before .before .args .k) (now (c .before .before .before .before .before .before .before .before .before .before .before .before .before .before .before .args .octets)) (answerNumber (c .before .before .before .octets-answer .result)) _ (c .refused4 .result) (is-refused (settingsOf (c .before .before .before .before .before .before .before .before .before .before .before .before .before .before .before .args .o)) (c .before .before .before .before .before .before .before .before .before .before .before .before .before .before .before .args .clock) (c .before .before .before .before .before .before .before .before .before .before .before .before .before .before .before .args .seq) (c .before .before .before .before .before .before .before .before .before .before .before .before .before .before .before .args .t) (now (c .before .before .before .before .before .before .before .before .before .before .before .before .before .before .before .args .instances)) (now (c .before .before .before .before .before .before .before .before .before .before .before .before .before .before .before .args .routes)) (now (c .before .before .before .before .before .before .before .before .before .before .before .before .before .before .before .args .forward)) (now (c .before .before .before .before .before .before .before .before .before .before .before .before .before .before .before .args .reply)) (c .before .before .before .before .before .before .before .before .before .before .before .before .before .before .before .args .k) (now (c .before .before .before .before .before .before .before .before .before .before .before .before .before .before .before .args .octets)) (c .before .before .before .before .before .before .before .before .before .before .before .is-bad .result) (c .before .before .before .before .before .before .before .before .before .before .before .is-bad .ensures) (c .before .before .before .before .before .before .before .before .before .before .if1 .left) (c .before .before .before .before .before .before .before .before .before .if2 .left) (c .before .before .before .before .before .before .is-wrong .result) (c .before .before .before .before .before .before .is-wrong .ensures) (c .before .before .before .before .before .if3 .left) (c .before .before .before .before .read .result) (c .before .before .before .before .read .ensures .0) (c .before .before .before .octets-answer .result) (c .before .before .number .result) (c .before .before .before .octets-answer .ensures) (c .before .before .number .ensures) (c .before .if4 .taken)) (λ z. c .before .if4 .taken (c .before .before .number .ensures ∙ z)) refl (c .refused4 .ensures)
+returns-4 c = refusal (settingsOf (c .before .before .before .before .before .before .before .before .before .before .before .before .before .before .before .args .o)) (c .before .before .before .before .before .before .before .before .before .before .before .before .before .before .before .args .clock) (c .before .before .before .before .before .before .before .before .before .before .before .before .before .before .before .args .seq) (c .before .before .before .before .before .before .before .before .before .before .before .before .before .before .before .args .t) (now (c .before .before .before .before .before .before .before .before .before .before .before .before .before .before .before .args .instances)) (now (c .before .before .before .before .before .before .before .before .before .before .before .before .before .before .before .args .routes)) (now (c .before .before .before .before .before .before .before .before .before .before .before .before .before .before .before .args .forward)) (now (c .before .before .before .before .before .before .before .before .before .before .before .before .before .before .before .args .reply)) (Event.message (receivedBy (c .before .before .before .before .before .before .before .before .before .before .before .before .before .before .before .args .k) (now (c .before .before .before .before .before .before .before .before .before .before .before .before .before .before .before .args .octets)))) (answerNumber (c .before .before .before .octets-answer .result)) _ (c .refused4 .result) (is-refused (settingsOf (c .before .before .before .before .before .before .before .before .before .before .before .before .before .before .before .args .o)) (c .before .before .before .before .before .before .before .before .before .before .before .before .before .before .before .args .clock) (c .before .before .before .before .before .before .before .before .before .before .before .before .before .before .before .args .seq) (c .before .before .before .before .before .before .before .before .before .before .before .before .before .before .before .args .t) (now (c .before .before .before .before .before .before .before .before .before .before .before .before .before .before .before .args .instances)) (now (c .before .before .before .before .before .before .before .before .before .before .before .before .before .before .before .args .routes)) (now (c .before .before .before .before .before .before .before .before .before .before .before .before .before .before .before .args .forward)) (now (c .before .before .before .before .before .before .before .before .before .before .before .before .before .before .before .args .reply)) (c .before .before .before .before .before .before .before .before .before .before .before .before .before .before .before .args .k) (now (c .before .before .before .before .before .before .before .before .before .before .before .before .before .before .before .args .octets)) (c .before .before .before .before .before .before .before .before .before .before .before .is-bad .result) (c .before .before .before .before .before .before .before .before .before .before .before .is-bad .ensures) (c .before .before .before .before .before .before .before .before .before .before .if1 .left) (c .before .before .before .before .before .before .before .before .before .if2 .left) (c .before .before .before .before .before .before .is-wrong .result) (c .before .before .before .before .before .before .is-wrong .ensures) (c .before .before .before .before .before .if3 .left) (c .before .before .before .before .read .result) (c .before .before .before .before .read .ensures .0) (c .before .before .before .octets-answer .result) (c .before .before .number .result) (c .before .before .before .octets-answer .ensures) (c .before .before .number .ensures) (c .before .if4 .taken)) (λ z. c .before .if4 .taken (c .before .before .number .ensures ∙ z)) refl (c .refused4 .ensures)
 
 has-own-dodagid-requires : tie.Need-has-own-dodagid-requires
 has-own-dodagid-requires c = search needs
@@ -88,7 +90,7 @@ same-length-6 : tie.Need-same-length-6
 same-length-6 c = search needs
 
 returns-5 : tie.Need-returns-5
-returns-5 c = refusal (settingsOf (c .before .before .before .before .before .before .before .before .before .before .before .before .before .before .before .before .before .before .args .o)) (c .before .before .before .before .before .before .before .before .before .before .before .before .before .before .before .before .before .before .args .clock) (c .before .before .before .before .before .before .before .before .before .before .before .before .before .before .before .before .before .before .args .seq) (c .before .before .before .before .before .before .before .before .before .before .before .before .before .before .before .before .before .before .args .t) (now (c .before .before .before .before .before .before .before .before .before .before .before .before .before .before .before .before .before .before .args .instances)) (now (c .before .before .before .before .before .before .before .before .before .before .before .before .before .before .before .before .before .before .args .routes)) (now (c .before .before .before .before .before .before .before .before .before .before .before .before .before .before .before .before .before .before .args .forward)) (now (c .before .before .before .before .before .before .before .before .before .before .before .before .before .before .before .before .before .before .args .reply)) (c .before .before .before .before .before .before .before .before .before .before .before .before .before .before .before .before .before .before .args .k) (now (c .before .before .before .before .before .before .before .before .before .before .before .before .before .before .before .before .before .before .args .octets)) 7 _ (c .refused5 .result) (is-own (settingsOf (c .before .before .before .before .before .before .before .before .before .before .before .before .before .before .before .before .before .before .args .o)) (c .before .before .before .before .before .before .before .before .before .before .before .before .before .before .before .before .before .before .args .clock) (c .before .before .before .before .before .before .before .before .before .before .before .before .before .before .before .before .before .before .args .seq) (c .before .before .before .before .before .before .before .before .before .before .before .before .before .before .before .before .before .before .args .t) (now (c .before .before .before .before .before .before .before .before .before .before .before .before .before .before .before .before .before .before .args .instances)) (now (c .before .before .before .before .before .before .before .before .before .before .before .before .before .before .before .before .before .before .args .routes)) (now (c .before .before .before .before .before .before .before .before .before .before .before .before .before .before .before .before .before .before .args .forward)) (now (c .before .before .before .before .before .before .before .before .before .before .before .before .before .before .before .before .before .before .args .reply)) (c .before .before .before .before .before .before .before .before .before .before .before .before .before .before .before .before .before .before .args .k) (now (c .before .before .before .before .before .before .before .before .before .before .before .before .before .before .before .before .before .before .args .octets)) (c .before .before .before .before .before .before .before .before .before .before .before .before .before .before .is-bad .result) (c .before .before .before .before .before .before .before .before .before .before .before .before .before .before .is-bad .ensures) (c .before .before .before .before .before .before .before .before .before .before .before .before .before .if1 .left) (c .before .before .before .before .before .before .before .before .before .before .before .before .if2 .left) (c .before .before .before .before .before .before .before .before .before .is-wrong .result) (c .before .before .before .before .before .before .before .before .before .is-wrong .ensures) (c .before .before .before .before .before .before .before .before .if3 .left) (c .before .before .before .before .before .before .before .read .result) (c .before .before .before .before .before .before .before .read .ensures .0) (c .before .before .before .before .before .before .octets-answer .result) (c .before .before .before .before .before .number .result) (c .before .before .before .before .before .before .octets-answer .ensures) (c .before .before .before .before .before .number .ensures) (c .before .before .before .before .if4 .left) (c .before .before .before .has-own-dodagid .result) (c .before .before .before .has-own-dodagid .ensures) (c .before .before .if5 .taken)) (λ z. absurd (omega arith)) (ap answerNumber (c .before .own-dodagid .ensures)) (c .refused5 .ensures)
+returns-5 c = refusal (settingsOf (c .before .before .before .before .before .before .before .before .before .before .before .before .before .before .before .before .before .before .args .o)) (c .before .before .before .before .before .before .before .before .before .before .before .before .before .before .before .before .before .before .args .clock) (c .before .before .before .before .before .before .before .before .before .before .before .before .before .before .before .before .before .before .args .seq) (c .before .before .before .before .before .before .before .before .before .before .before .before .before .before .before .before .before .before .args .t) (now (c .before .before .before .before .before .before .before .before .before .before .before .before .before .before .before .before .before .before .args .instances)) (now (c .before .before .before .before .before .before .before .before .before .before .before .before .before .before .before .before .before .before .args .routes)) (now (c .before .before .before .before .before .before .before .before .before .before .before .before .before .before .before .before .before .before .args .forward)) (now (c .before .before .before .before .before .before .before .before .before .before .before .before .before .before .before .before .before .before .args .reply)) (Event.message (receivedBy (c .before .before .before .before .before .before .before .before .before .before .before .before .before .before .before .before .before .before .args .k) (now (c .before .before .before .before .before .before .before .before .before .before .before .before .before .before .before .before .before .before .args .octets)))) 7 _ (c .refused5 .result) (is-own (settingsOf (c .before .before .before .before .before .before .before .before .before .before .before .before .before .before .before .before .before .before .args .o)) (c .before .before .before .before .before .before .before .before .before .before .before .before .before .before .before .before .before .before .args .clock) (c .before .before .before .before .before .before .before .before .before .before .before .before .before .before .before .before .before .before .args .seq) (c .before .before .before .before .before .before .before .before .before .before .before .before .before .before .before .before .before .before .args .t) (now (c .before .before .before .before .before .before .before .before .before .before .before .before .before .before .before .before .before .before .args .instances)) (now (c .before .before .before .before .before .before .before .before .before .before .before .before .before .before .before .before .before .before .args .routes)) (now (c .before .before .before .before .before .before .before .before .before .before .before .before .before .before .before .before .before .before .args .forward)) (now (c .before .before .before .before .before .before .before .before .before .before .before .before .before .before .before .before .before .before .args .reply)) (c .before .before .before .before .before .before .before .before .before .before .before .before .before .before .before .before .before .before .args .k) (now (c .before .before .before .before .before .before .before .before .before .before .before .before .before .before .before .before .before .before .args .octets)) (c .before .before .before .before .before .before .before .before .before .before .before .before .before .before .is-bad .result) (c .before .before .before .before .before .before .before .before .before .before .before .before .before .before .is-bad .ensures) (c .before .before .before .before .before .before .before .before .before .before .before .before .before .if1 .left) (c .before .before .before .before .before .before .before .before .before .before .before .before .if2 .left) (c .before .before .before .before .before .before .before .before .before .is-wrong .result) (c .before .before .before .before .before .before .before .before .before .is-wrong .ensures) (c .before .before .before .before .before .before .before .before .if3 .left) (c .before .before .before .before .before .before .before .read .result) (c .before .before .before .before .before .before .before .read .ensures .0) (c .before .before .before .before .before .before .octets-answer .result) (c .before .before .before .before .before .number .result) (c .before .before .before .before .before .before .octets-answer .ensures) (c .before .before .before .before .before .number .ensures) (c .before .before .before .before .if4 .left) (c .before .before .before .has-own-dodagid .result) (c .before .before .before .has-own-dodagid .ensures) (c .before .before .if5 .taken)) (λ z. absurd (omega arith)) (ap answerNumber (c .before .own-dodagid .ensures)) (c .refused5 .ensures)
 
 parsed-requires : tie.Need-parsed-requires
 parsed-requires c κs = (bounded (settingsOf (c .before .before .before .before .before .before .before .before .before .before .before .before .before .before .before .before .args .o)) (c .before .before .before .before .before .before .before .before .before .before .before .before .before .before .before .before .args .clock) (c .before .before .before .before .before .before .before .before .before .before .before .before .before .before .before .before .args .seq) (c .before .before .before .before .before .before .before .before .before .before .before .before .before .before .before .before .args .t) (now (c .before .before .before .before .before .before .before .before .before .before .before .before .before .before .before .before .args .instances)) (now (c .before .before .before .before .before .before .before .before .before .before .before .before .before .before .before .before .args .routes)) (now (c .before .before .before .before .before .before .before .before .before .before .before .before .before .before .before .before .args .forward)) (now (c .before .before .before .before .before .before .before .before .before .before .before .before .before .before .before .before .args .reply)) (c .before .before .before .before .before .before .before .before .before .before .before .before .before .before .before .before .args .k) (now (c .before .before .before .before .before .before .before .before .before .before .before .before .before .before .before .before .args .octets)) (c .before .before .before .before .before .before .before .before .before .before .before .before .is-bad .result) (c .before .before .before .before .before .before .before .before .before .before .before .before .is-bad .ensures) (c .before .before .before .before .before .before .before .before .before .before .before .if1 .left) (c .before .before .before .before .before .before .before .before .before .before .if2 .left) (c .before .before .before .before .before .before .before .is-wrong .result) (c .before .before .before .before .before .before .before .is-wrong .ensures) (c .before .before .before .before .before .before .if3 .left) (c .before .before .before .before .before .read .result) (c .before .before .before .before .before .read .ensures .0) (c .before .before .before .before .octets-answer .result) (c .before .before .before .number .result) (c .before .before .before .before .octets-answer .ensures) (c .before .before .before .number .ensures) (c .before .before .if4 .left) (c .before .before .before .before .before .read .ensures .1)) .compr

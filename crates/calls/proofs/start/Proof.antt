@@ -5,7 +5,9 @@ use native.Mathlib.Omega.{arith}
 use denote.Ref.{now}
 use Rattle.own.specs.Settings.{settingsOf}
 use Rattle.answer.specs.Answer.{answerNumber}
-use Rattle.calls.proofs.Laws.{start-refusal, start-bad, fields-bad, start-wrong, taken-start, start-step}
+use Rattle.plain.specs.Given.{Event}
+use Rattle.start.specs.Start.{startOf}
+use Rattle.calls.proofs.Laws.{refusal, start-bad, fields-bad, start-wrong, taken-start, start-step}
 use borrow.Author.Needs.{needs}
 use Rattle.calls.proofs.start.Statement.{statement}
 use Rattle.calls.proofs.start.Proof.Tie as tie
@@ -22,7 +24,7 @@ refused-requires : tie.Need-refused-requires
 refused-requires c = search needs
 
 returns : tie.Need-returns
-returns c = start-refusal (settingsOf (c .before .before .before .before .before .before .args .o)) (c .before .before .before .before .before .before .args .clock) (c .before .before .before .before .before .before .args .seq) (c .before .before .before .before .before .before .args .t) (now (c .before .before .before .before .before .before .args .instances)) (now (c .before .before .before .before .before .before .args .routes)) (now (c .before .before .before .before .before .before .args .forward)) (now (c .before .before .before .before .before .before .args .reply)) (c .before .before .before .before .before .before .args .s) (now (c .before .before .before .before .before .before .args .targets)) 1 _ (c .refused .result) (start-bad (settingsOf (c .before .before .before .before .before .before .args .o)) (c .before .before .before .before .before .before .args .clock) (c .before .before .before .before .before .before .args .seq) (c .before .before .before .before .before .before .args .t) (now (c .before .before .before .before .before .before .args .instances)) (now (c .before .before .before .before .before .before .args .routes)) (now (c .before .before .before .before .before .before .args .forward)) (now (c .before .before .before .before .before .before .args .reply)) (c .before .before .before .before .before .before .args .s) (now (c .before .before .before .before .before .before .args .targets)) (c .before .before .before .is-bad .result) (c .before .before .before .is-bad .ensures) (c .before .before .if1 .taken)) (λ z. absurd (omega arith)) (ap answerNumber (c .before .bad-call .ensures)) (c .refused .ensures)
+returns c = refusal (settingsOf (c .before .before .before .before .before .before .args .o)) (c .before .before .before .before .before .before .args .clock) (c .before .before .before .before .before .before .args .seq) (c .before .before .before .before .before .before .args .t) (now (c .before .before .before .before .before .before .args .instances)) (now (c .before .before .before .before .before .before .args .routes)) (now (c .before .before .before .before .before .before .args .forward)) (now (c .before .before .before .before .before .before .args .reply)) (Event.start (startOf (c .before .before .before .before .before .before .args .s) (now (c .before .before .before .before .before .before .args .targets)))) 1 _ (c .refused .result) (start-bad (settingsOf (c .before .before .before .before .before .before .args .o)) (c .before .before .before .before .before .before .args .clock) (c .before .before .before .before .before .before .args .seq) (c .before .before .before .before .before .before .args .t) (now (c .before .before .before .before .before .before .args .instances)) (now (c .before .before .before .before .before .before .args .routes)) (now (c .before .before .before .before .before .before .args .forward)) (now (c .before .before .before .before .before .before .args .reply)) (c .before .before .before .before .before .before .args .s) (now (c .before .before .before .before .before .before .args .targets)) (c .before .before .before .is-bad .result) (c .before .before .before .is-bad .ensures) (c .before .before .if1 .taken)) (λ z. absurd (omega arith)) (ap answerNumber (c .before .bad-call .ensures)) (c .refused .ensures)
 
 gather-requires : tie.Need-gather-requires
 gather-requires c = search needs
@@ -37,7 +39,7 @@ refused-requires-2 : tie.Need-refused-requires-2
 refused-requires-2 c = search needs
 
 returns-2 : tie.Need-returns-2
-returns-2 c = start-refusal (settingsOf (c .before .before .before .before .before .before .before .before .before .args .o)) (c .before .before .before .before .before .before .before .before .before .args .clock) (c .before .before .before .before .before .before .before .before .before .args .seq) (c .before .before .before .before .before .before .before .before .before .args .t) (now (c .before .before .before .before .before .before .before .before .before .args .instances)) (now (c .before .before .before .before .before .before .before .before .before .args .routes)) (now (c .before .before .before .before .before .before .before .before .before .args .forward)) (now (c .before .before .before .before .before .before .before .before .before .args .reply)) (c .before .before .before .before .before .before .before .before .before .args .s) (now (c .before .before .before .before .before .before .before .before .before .args .targets)) 1 _ (c .refused2 .result) (fields-bad (settingsOf (c .before .before .before .before .before .before .before .before .before .args .o)) (c .before .before .before .before .before .before .before .before .before .args .clock) (c .before .before .before .before .before .before .before .before .before .args .seq) (c .before .before .before .before .before .before .before .before .before .args .t) (now (c .before .before .before .before .before .before .before .before .before .args .instances)) (now (c .before .before .before .before .before .before .before .before .before .args .routes)) (now (c .before .before .before .before .before .before .before .before .before .args .forward)) (now (c .before .before .before .before .before .before .before .before .before .args .reply)) (c .before .before .before .before .before .before .before .before .before .args .s) (now (c .before .before .before .before .before .before .before .before .before .args .targets)) (c .before .before .before .before .before .before .is-bad .result) (c .before .before .before .before .before .before .is-bad .ensures) (c .before .before .before .before .before .if1 .left) (c .before .before .before .before .gather .result) (c .before .before .before .before .gather .ensures) (c .before .before .before .is-bad-start .result) (c .before .before .before .is-bad-start .ensures) (c .before .before .if2 .taken)) (λ z. absurd (omega arith)) (ap answerNumber (c .before .bad-call2 .ensures)) (c .refused2 .ensures)
+returns-2 c = refusal (settingsOf (c .before .before .before .before .before .before .before .before .before .args .o)) (c .before .before .before .before .before .before .before .before .before .args .clock) (c .before .before .before .before .before .before .before .before .before .args .seq) (c .before .before .before .before .before .before .before .before .before .args .t) (now (c .before .before .before .before .before .before .before .before .before .args .instances)) (now (c .before .before .before .before .before .before .before .before .before .args .routes)) (now (c .before .before .before .before .before .before .before .before .before .args .forward)) (now (c .before .before .before .before .before .before .before .before .before .args .reply)) (Event.start (startOf (c .before .before .before .before .before .before .before .before .before .args .s) (now (c .before .before .before .before .before .before .before .before .before .args .targets)))) 1 _ (c .refused2 .result) (fields-bad (settingsOf (c .before .before .before .before .before .before .before .before .before .args .o)) (c .before .before .before .before .before .before .before .before .before .args .clock) (c .before .before .before .before .before .before .before .before .before .args .seq) (c .before .before .before .before .before .before .before .before .before .args .t) (now (c .before .before .before .before .before .before .before .before .before .args .instances)) (now (c .before .before .before .before .before .before .before .before .before .args .routes)) (now (c .before .before .before .before .before .before .before .before .before .args .forward)) (now (c .before .before .before .before .before .before .before .before .before .args .reply)) (c .before .before .before .before .before .before .before .before .before .args .s) (now (c .before .before .before .before .before .before .before .before .before .args .targets)) (c .before .before .before .before .before .before .is-bad .result) (c .before .before .before .before .before .before .is-bad .ensures) (c .before .before .before .before .before .if1 .left) (c .before .before .before .before .gather .result) (c .before .before .before .before .gather .ensures) (c .before .before .before .is-bad-start .result) (c .before .before .before .is-bad-start .ensures) (c .before .before .if2 .taken)) (λ z. absurd (omega arith)) (ap answerNumber (c .before .bad-call2 .ensures)) (c .refused2 .ensures)
 
 is-wrong-requires : tie.Need-is-wrong-requires
 is-wrong-requires c = search needs
@@ -55,7 +57,7 @@ same-length-2 : tie.Need-same-length-2
 same-length-2 c = search needs
 
 returns-3 : tie.Need-returns-3
-returns-3 c = start-refusal (settingsOf (c .before .before .before .before .before .before .before .before .before .before .before .before .before .args .o)) (c .before .before .before .before .before .before .before .before .before .before .before .before .before .args .clock) (c .before .before .before .before .before .before .before .before .before .before .before .before .before .args .seq) (c .before .before .before .before .before .before .before .before .before .before .before .before .before .args .t) (now (c .before .before .before .before .before .before .before .before .before .before .before .before .before .args .instances)) (now (c .before .before .before .before .before .before .before .before .before .before .before .before .before .args .routes)) (now (c .before .before .before .before .before .before .before .before .before .before .before .before .before .args .forward)) (now (c .before .before .before .before .before .before .before .before .before .before .before .before .before .args .reply)) (c .before .before .before .before .before .before .before .before .before .before .before .before .before .args .s) (now (c .before .before .before .before .before .before .before .before .before .before .before .before .before .args .targets)) 2 _ (c .refused3 .result) (start-wrong (settingsOf (c .before .before .before .before .before .before .before .before .before .before .before .before .before .args .o)) (c .before .before .before .before .before .before .before .before .before .before .before .before .before .args .clock) (c .before .before .before .before .before .before .before .before .before .before .before .before .before .args .seq) (c .before .before .before .before .before .before .before .before .before .before .before .before .before .args .t) (now (c .before .before .before .before .before .before .before .before .before .before .before .before .before .args .instances)) (now (c .before .before .before .before .before .before .before .before .before .before .before .before .before .args .routes)) (now (c .before .before .before .before .before .before .before .before .before .before .before .before .before .args .forward)) (now (c .before .before .before .before .before .before .before .before .before .before .before .before .before .args .reply)) (c .before .before .before .before .before .before .before .before .before .before .before .before .before .args .s) (now (c .before .before .before .before .before .before .before .before .before .before .before .before .before .args .targets)) (c .before .before .before .before .before .before .before .before .before .before .is-bad .result) (c .before .before .before .before .before .before .before .before .before .before .is-bad .ensures) (c .before .before .before .before .before .before .before .before .before .if1 .left) (c .before .before .before .before .before .before .before .before .gather .result) (c .before .before .before .before .before .before .before .before .gather .ensures) (c .before .before .before .before .before .before .before .is-bad-start .result) (c .before .before .before .before .before .before .before .is-bad-start .ensures) (c .before .before .before .before .before .before .if2 .left) (c .before .before .before .is-wrong .result) (c .before .before .before .is-wrong .ensures) (c .before .before .if3 .taken)) (λ z. absurd (omega arith)) (ap answerNumber (c .before .wrong-state .ensures)) (c .refused3 .ensures)
+returns-3 c = refusal (settingsOf (c .before .before .before .before .before .before .before .before .before .before .before .before .before .args .o)) (c .before .before .before .before .before .before .before .before .before .before .before .before .before .args .clock) (c .before .before .before .before .before .before .before .before .before .before .before .before .before .args .seq) (c .before .before .before .before .before .before .before .before .before .before .before .before .before .args .t) (now (c .before .before .before .before .before .before .before .before .before .before .before .before .before .args .instances)) (now (c .before .before .before .before .before .before .before .before .before .before .before .before .before .args .routes)) (now (c .before .before .before .before .before .before .before .before .before .before .before .before .before .args .forward)) (now (c .before .before .before .before .before .before .before .before .before .before .before .before .before .args .reply)) (Event.start (startOf (c .before .before .before .before .before .before .before .before .before .before .before .before .before .args .s) (now (c .before .before .before .before .before .before .before .before .before .before .before .before .before .args .targets)))) 2 _ (c .refused3 .result) (start-wrong (settingsOf (c .before .before .before .before .before .before .before .before .before .before .before .before .before .args .o)) (c .before .before .before .before .before .before .before .before .before .before .before .before .before .args .clock) (c .before .before .before .before .before .before .before .before .before .before .before .before .before .args .seq) (c .before .before .before .before .before .before .before .before .before .before .before .before .before .args .t) (now (c .before .before .before .before .before .before .before .before .before .before .before .before .before .args .instances)) (now (c .before .before .before .before .before .before .before .before .before .before .before .before .before .args .routes)) (now (c .before .before .before .before .before .before .before .before .before .before .before .before .before .args .forward)) (now (c .before .before .before .before .before .before .before .before .before .before .before .before .before .args .reply)) (c .before .before .before .before .before .before .before .before .before .before .before .before .before .args .s) (now (c .before .before .before .before .before .before .before .before .before .before .before .before .before .args .targets)) (c .before .before .before .before .before .before .before .before .before .before .is-bad .result) (c .before .before .before .before .before .before .before .before .before .before .is-bad .ensures) (c .before .before .before .before .before .before .before .before .before .if1 .left) (c .before .before .before .before .before .before .before .before .gather .result) (c .before .before .before .before .before .before .before .before .gather .ensures) (c .before .before .before .before .before .before .before .is-bad-start .result) (c .before .before .before .before .before .before .before .is-bad-start .ensures) (c .before .before .before .before .before .before .if2 .left) (c .before .before .before .is-wrong .result) (c .before .before .before .is-wrong .ensures) (c .before .before .if3 .taken)) (λ z. absurd (omega arith)) (ap answerNumber (c .before .wrong-state .ensures)) (c .refused3 .ensures)
 
 targets-of-requires : tie.Need-targets-of-requires
 targets-of-requires c = search needs
