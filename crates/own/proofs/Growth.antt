@@ -6,22 +6,16 @@ use mathlib.Core.List.{List, [], _∷_, _++_, append-assoc, flatten}
 use native.Mathlib.Omega.{arith}
 use native.Mathlib.Numerals.{add-one, add-two}
 use native.Mathlib.Nat.{suc-mul}
-use lib.Dec.{ltb}
+use lib.Dec.{ltb, eqb}
 use lib.ListN.{length, take, drop, set, length-append, length-drop, length-set}
 use lib.Seq.{take-suc-set}
-use borrow.Author.Tests.{lt-ltb, le-ltb, ltb-false}
-use denote.Array.{Array, each}
-use denote.Laws.{Is}
-use denote.Plain.{UInt}
-use denote.Shadow.{shadow}
-use mir.Syntax.{w8}
-use mir.Val.{Val}
-use Rattle.plain.specs.Lists.{same}
+use borrow.Author.Tests.{lt-ltb, le-ltb, ltb-false, eqb-true}
+use Rattle.plain.specs.Lists.{same, all}
 use Rattle.plain.specs.Address.{Address}
 use Rattle.plain.specs.Given.{Settings}
 use Rattle.plain.specs.Octets.{elided}
 use Rattle.plain.specs.Request.{ownVector, grown, cannotGrow}
-use Rattle.lemmas.proofs.Choice.{cond-case, or-left}
+use Rattle.lemmas.proofs.Choice.{cond-case, or-left, and-left, and-right}
 use Rattle.own.specs.Settings.{grownCount, Whole}
 
 -- ---- How many addresses
@@ -100,15 +94,13 @@ module _ (x : Settings) (h : Bool) (n : ℕ) (f : h ≡ false) where
 
 -- ---- Whole addresses
 
-whole-each : (v : List Address) (us : List Val) → shadow (each Address (Array (UInt w8) 16 .own) v us) → Whole v
-unfolding Whole
-whole-each [] us s = tt
-whole-each (a ∷ v) [] s = absurd s
-whole-each (a ∷ v) (u ∷ us) s = (s .0 .1 .0 .1, whole-each v us (s .1))
-
--- of an array by value, as a parameter's `.good` and a result's `.ok` have it
-pub whole-array : (k : ℕ) (v : List Address) (vs : List Val) → Is (Array (Array (UInt w8) 16) k) v vs → Whole v
-whole-array k v vs s = whole-each v (s .0) (s .1 .1)
+pub whole-all : (v : List Address) → all (λ (a : Address). eqb (length a) 16) v ≡ true → Whole v
+unfolding Whole all
+whole-all [] e = tt
+whole-all (a ∷ v) e = (
+  eqb-true (length a) 16 (and-left (eqb (length a) 16) (all (λ (a : Address). eqb (length a) 16) v) e),
+  whole-all v (and-right (eqb (length a) 16) (all (λ (a : Address). eqb (length a) 16) v) e),
+)
 
 pub whole-take : (n : ℕ) (v : List Address) → Whole v → Whole (take n v)
 unfolding Whole

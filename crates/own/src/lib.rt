@@ -59,16 +59,11 @@ pub fn grown_count(o: Own, h: bool, n: usize) -> usize
     n + 2
 }
 
-// Sixteen addresses by value are whole: nothing is done with them but to say so.
-fn known(vector: [[u8; 16]; 16])
-    ensures { λ r. ⌜ (length vector ≡ 16) × Whole vector ⌝ }
-{}
-
-// The same of addresses behind a reference, which by itself tells nothing of what it refers to. No code is left of it.
+// What a reference to sixteen addresses does not tell by itself: that they are sixteen, and each whole. No code is left of it.
 pub fn whole(vector: &[[u8; 16]; 16])
     ensures { λ r. ⌜ (length (now (vector .entry)) ≡ 16) × Whole (now (vector .entry)) ⌝ }
 {
-    known(*vector);
+    writer_octets::whole(vector);
 }
 
 // A vector with ours added: the receiving address, then the sending one if different, which `count` tells: addresses that are looked at octet
