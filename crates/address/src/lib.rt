@@ -4,7 +4,7 @@ ghost use Prim.Native.Nat.{_+_, _≤_};
 ghost use lib.ListN.{length};
 ghost use lib.Seq.{paste};
 ghost use Rattle.plain.specs.Lists.{same};
-ghost use Rattle.plain.specs.Address.{linkLocal, allZero, unusable, firstBits, agree, restore, sharesFirst};
+ghost use Rattle.plain.specs.Address.{linkLocal, allZero, unusable, firstBits, agree, sharesFirst};
 
 // Whether the first `compr` octets of `a` are those of the DODAGID.
 pub fn shares_first(compr: u8, dodagid: [u8; 16], a: [u8; 16]) -> bool
@@ -106,14 +106,4 @@ pub fn put_over(out: &mut [u8], at: usize, part: &[u8])
         out[to] = part[i];
         i = i + 1;
     }
-}
-
-// A vector's address with the octets put back that it shares with the DODAGID.
-pub fn restore(compr: u8, dodagid: [u8; 16], part: &[u8]) -> [u8; 16]
-    requires { ⌜ compr + length (now part) ≡ 16 ⌝ }
-    ensures { λ r. ⌜ r ≡ restore compr dodagid (now (part .entry)) ⌝ }
-{
-    let mut a = dodagid;
-    put_over(&mut a, compr as usize, part);
-    a
 }

@@ -16,7 +16,9 @@ pub fn addresses(part: &[u8], compr: u8, dodagid: [u8; 16]) -> [[u8; 16]; 16]
     let mut i: usize = 0;
     while i < n {
         let end = at + width;
-        vector[i] = address::restore(compr, dodagid, &part[at..end]);
+        // in its place: an address that is made apart is waited for when it is copied there
+        vector[i] = dodagid;
+        address::put_over(&mut vector[i], compr as usize, &part[at..end]);
         at = end;
         i = i + 1;
     }

@@ -1,7 +1,10 @@
 use Prim.Native.Nat.{_≤_, _+_, _-_}
-use mathlib.Core.Path.{_≡_}
+use mathlib.Core.Path.{_≡_, _∙_}
+use mathlib.Core.List.{[]}
 use native.Mathlib.Omega.{arith}
-use lib.ListN.{length, length-take, length-drop}
+use lib.ListN.{length, take, drop, length-take, length-drop}
+use lib.Seq.{getD-set-same, set-set}
+use Rattle.address.proofs.Laws.{over-end}
 use borrow.Author.Needs.{needs}
 use Rattle.vector.proofs.Laws.{Restoring, restoring-first, room-here, restoring-more, restoring-last}
 use Rattle.lemmas.proofs.Cases.{cases}
@@ -26,25 +29,34 @@ loop-holds c = (search needs, search needs, restoring-first (c .before .args .co
 add-end : tie.Need-add-end Inv-loop μ-loop
 add-end c = omega (arith, room-here (c .before .loop .inv .2) (c .loop-test .taken))
 
-sub-restore : tie.Need-sub-restore Inv-loop μ-loop
-sub-restore c = search cases
-
-part-restore-start : tie.Need-part-restore-start Inv-loop μ-loop
-part-restore-start c = search cases
-
-part-restore-end : tie.Need-part-restore-end Inv-loop μ-loop
-part-restore-end c = room-here (c .before .loop .inv .2) (c .loop-test .taken)
-
-restore-requires : tie.Need-restore-requires Inv-loop μ-loop
-restore-requires c κs =
-    let n = room-here (c .before .before .loop .inv .2) (c .before .loop-test .taken) in
-    simp (length-take, length-drop) (omega (arith, n))
-
 mul-vector : tie.Need-mul-vector Inv-loop μ-loop
 mul-vector c = search cases
 
 array-set-from-vector : tie.Need-array-set-from-vector Inv-loop μ-loop
 array-set-from-vector c = search cases
+
+mul-put-over : tie.Need-mul-put-over Inv-loop μ-loop
+mul-put-over c = search cases
+
+index-1-put-over : tie.Need-index-1-put-over Inv-loop μ-loop
+index-1-put-over c = search cases
+
+sub-put-over : tie.Need-sub-put-over Inv-loop μ-loop
+sub-put-over c = search cases
+
+part-put-over-start : tie.Need-part-put-over-start Inv-loop μ-loop
+part-put-over-start c = search cases
+
+part-put-over-end : tie.Need-part-put-over-end Inv-loop μ-loop
+part-put-over-end c = room-here (c .before .before .loop .inv .2) (c .before .loop-test .taken)
+
+put-over-requires : tie.Need-put-over-requires Inv-loop μ-loop
+put-over-requires c κs =
+    let l = c .before .before .before .loop in
+    let a = c .before .before .before .before .before .args in
+    let d : length (a .dodagid) ≡ 16 = search needs in
+    let n = room-here (l .inv .2) (c .before .before .loop-test .taken) in
+    rw (getD-set-same (l .vector) (l .i) (a .dodagid) [] (omega arith)) (simp (length-take, length-drop) (omega (arith, n)))
 
 add-i : tie.Need-add-i Inv-loop μ-loop
 add-i c = search cases
@@ -54,11 +66,19 @@ loop-less c = search cases
 
 loop-again : tie.Need-loop-again Inv-loop μ-loop
 loop-again c =
-    let l = c .before .before .before .loop in
-    let a = c .before .before .before .before .before .args in
+    let l = c .before .before .before .before .loop in
+    let a = c .before .before .before .before .before .before .args in
+    let d : length (a .dodagid) ≡ 16 = search needs in
+    let n = room-here (l .inv .2) (c .before .before .before .loop-test .taken) in
     let e : l .at + (16 - a .compr) - l .at ≡ 16 - a .compr = omega arith in
-    let r = rw e at (c .restore .ensures) in
-    (search needs, search needs, restoring-more (l .inv .2) (c .before .before .loop-test .taken) (omega arith) r)
+    let r = rw (getD-set-same (l .vector) (l .i) (a .dodagid) [] (omega arith), e) at (c .put-over .ensures) in
+    let k : length (take (16 - a .compr) (drop (l .at) (a .part .now))) ≡ 16 - a .compr = simp (length-take, length-drop) (omega (arith, n)) in (
+      search needs,
+      search needs,
+      rw (set-set (l .vector) (l .i) (a .dodagid))
+          (restoring-more (l .inv .2) (c .before .before .before .loop-test .taken) (omega arith)
+          (r ∙ over-end (a .dodagid) (take (16 - a .compr) (drop (l .at) (a .part .now))) (a .compr) (omega arith))),
+    )
 
 returns : tie.Need-returns Inv-loop μ-loop
 returns c = restoring-last (c .before .loop .inv .2) (omega arith)
@@ -73,12 +93,14 @@ addresses-spec =
     div-n
     loop-holds
     add-end
-    sub-restore
-    part-restore-start
-    part-restore-end
-    restore-requires
     mul-vector
     array-set-from-vector
+    mul-put-over
+    index-1-put-over
+    sub-put-over
+    part-put-over-start
+    part-put-over-end
+    put-over-requires
     add-i
     loop-less
     loop-again
