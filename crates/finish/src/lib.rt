@@ -196,9 +196,10 @@ pub fn finish(
     let p = place::place_rows(instances, t, l.is, l.at, is_replying(*d));
     let q = place::place_route(routes, t, is_routed(*d), l.routed, l.hop);
     if has_room(p, q) {
-        store(instances, routes, p, q.hop, d);
         let n = post::put_post(forward, &o, there, vector);
         let m = post::put_post(reply, &o, back, vector);
+        // last: what is stored was made just before, and a copy of it would wait
+        store(instances, routes, p, q.hop, d);
         return accepted(own_of(*d), to_of(*there), to_of(*back), t, n, m);
     }
     without_room(clock, seq)

@@ -214,6 +214,26 @@ xs =
     (List._∷_
     Syntax.tyBool
     (List._∷_
+    (Syntax.tyRef Syntax.erased Syntax.mut (Syntax.tyInt Syntax.w8))
+    (List._∷_
+    (Syntax.tyStruct
+    (List._∷_ 38 (List._∷_ 91 (List._∷_ 93 List.[])))
+    (Syntax.tcons
+    (Syntax.tyRef Syntax.erased Syntax.mut (Syntax.tyInt Syntax.w8))
+    (Syntax.tcons (Syntax.tyInt Syntax.w64) Syntax.tnil)))
+    (List._∷_
+    (Syntax.tyRef Syntax.erased Syntax.imm (KOwn.named))
+    (List._∷_
+    (Syntax.tyRef Syntax.erased Syntax.mut (Syntax.tyInt Syntax.w8))
+    (List._∷_
+    (Syntax.tyStruct
+    (List._∷_ 38 (List._∷_ 91 (List._∷_ 93 List.[])))
+    (Syntax.tcons
+    (Syntax.tyRef Syntax.erased Syntax.mut (Syntax.tyInt Syntax.w8))
+    (Syntax.tcons (Syntax.tyInt Syntax.w64) Syntax.tnil)))
+    (List._∷_
+    (Syntax.tyRef Syntax.erased Syntax.imm (KOwn.named))
+    (List._∷_
     Syntax.tyUnit
     (List._∷_
     (Syntax.tyRef Syntax.erased Syntax.mut (KInstanceRow.named))
@@ -231,26 +251,6 @@ xs =
     (Syntax.tcons
     (Syntax.tyRef Syntax.erased Syntax.mut (KRouteRow.named))
     (Syntax.tcons (Syntax.tyInt Syntax.w64) Syntax.tnil)))
-    (List._∷_
-    (Syntax.tyRef Syntax.erased Syntax.mut (Syntax.tyInt Syntax.w8))
-    (List._∷_
-    (Syntax.tyStruct
-    (List._∷_ 38 (List._∷_ 91 (List._∷_ 93 List.[])))
-    (Syntax.tcons
-    (Syntax.tyRef Syntax.erased Syntax.mut (Syntax.tyInt Syntax.w8))
-    (Syntax.tcons (Syntax.tyInt Syntax.w64) Syntax.tnil)))
-    (List._∷_
-    (Syntax.tyRef Syntax.erased Syntax.imm (KOwn.named))
-    (List._∷_
-    (Syntax.tyRef Syntax.erased Syntax.mut (Syntax.tyInt Syntax.w8))
-    (List._∷_
-    (Syntax.tyStruct
-    (List._∷_ 38 (List._∷_ 91 (List._∷_ 93 List.[])))
-    (Syntax.tcons
-    (Syntax.tyRef Syntax.erased Syntax.mut (Syntax.tyInt Syntax.w8))
-    (Syntax.tcons (Syntax.tyInt Syntax.w64) Syntax.tnil)))
-    (List._∷_
-    (Syntax.tyRef Syntax.erased Syntax.imm (KOwn.named))
     (List._∷_
     (Syntax.tyInt Syntax.w8)
     (List._∷_
@@ -470,8 +470,23 @@ ps·4 = List._∷_ (Value.pVal record {
 abbrev pub r·4 : Kinds.RK 0
 r·4 = Bool.rBool
 
-abbrev pub ps·5 : List.List (Kinds.PK 3)
+abbrev pub ps·5 : List.List (Kinds.PK 4)
 ps·5 =
+    List._∷_
+    (MutSlice.pMutS (Referent.rtF (Referent.fInt Syntax.w8)) 0 tt)
+    (List._∷_
+    (ShrRef.pShr (KOwn.R) 1 tt)
+    (List._∷_
+    (ShrRef.pShr (KPost.R) 2 tt)
+    (List._∷_
+    (ShrRef.pShr (Array'.Array (Array'.Array (Referent.rtF (Referent.fInt Syntax.w8)) 16) 16) 3 tt)
+    List.[])))
+
+abbrev pub r·5 : Kinds.RK 4
+r·5 = Num.rNum Syntax.w64
+
+abbrev pub ps·6 : List.List (Kinds.PK 3)
+ps·6 =
     List._∷_
     (MutSlice.pMutS (KInstanceRow.R) 0 tt)
     (List._∷_
@@ -498,23 +513,8 @@ ps·5 =
     (ShrRef.pShr (KDecided.R) 2 tt)
     List.[]))))
 
-abbrev pub r·5 : Kinds.RK 3
-r·5 = Unit'.rUnit
-
-abbrev pub ps·6 : List.List (Kinds.PK 4)
-ps·6 =
-    List._∷_
-    (MutSlice.pMutS (Referent.rtF (Referent.fInt Syntax.w8)) 0 tt)
-    (List._∷_
-    (ShrRef.pShr (KOwn.R) 1 tt)
-    (List._∷_
-    (ShrRef.pShr (KPost.R) 2 tt)
-    (List._∷_
-    (ShrRef.pShr (Array'.Array (Array'.Array (Referent.rtF (Referent.fInt Syntax.w8)) 16) 16) 3 tt)
-    List.[])))
-
-abbrev pub r·6 : Kinds.RK 4
-r·6 = Num.rNum Syntax.w64
+abbrev pub r·6 : Kinds.RK 3
+r·6 = Unit'.rUnit
 
 abbrev pub ps·7 : List.List (Kinds.PK 0)
 ps·7 = List._∷_ (KDecided.pk) List.[]
@@ -825,7 +825,75 @@ b11 =
 abbrev b12 : Syntax.Body
 b12 =
     Syntax.assign
+    (Syntax.place 26 List.[])
+    (Syntax.addrOf
+    (Syntax.place
+    3
+    (List._∷_ (Syntax.field 0) (List._∷_ (Syntax.deref (Syntax.tyInt Syntax.w8)) List.[]))))
+
+abbrev b13 : Syntax.Body
+b13 =
+    Syntax.assign
     (Syntax.place 27 List.[])
+    (Syntax.aggregate
+    (List._∷_
+    (Syntax.copy (Syntax.place 26 List.[]))
+    (List._∷_ (Syntax.copy (Syntax.place 3 (List._∷_ (Syntax.field 1) List.[]))) List.[])))
+
+abbrev b14 : Syntax.Body
+b14 = Syntax.assign (Syntax.place 28 List.[]) (Syntax.addrOf (Syntax.place 14 List.[]))
+
+abbrev b15 : Syntax.Body
+b15 =
+    Syntax.call
+    "post::put_post"
+    (List._∷_
+    (Syntax.copy (Syntax.place 27 List.[]))
+    (List._∷_
+    (Syntax.copy (Syntax.place 28 List.[]))
+    (List._∷_
+    (Syntax.copy (Syntax.place 11 List.[]))
+    (List._∷_ (Syntax.copy (Syntax.place 9 List.[])) List.[]))))
+    (Syntax.place 17 List.[])
+
+abbrev b16 : Syntax.Body
+b16 =
+    Syntax.assign
+    (Syntax.place 29 List.[])
+    (Syntax.addrOf
+    (Syntax.place
+    4
+    (List._∷_ (Syntax.field 0) (List._∷_ (Syntax.deref (Syntax.tyInt Syntax.w8)) List.[]))))
+
+abbrev b17 : Syntax.Body
+b17 =
+    Syntax.assign
+    (Syntax.place 30 List.[])
+    (Syntax.aggregate
+    (List._∷_
+    (Syntax.copy (Syntax.place 29 List.[]))
+    (List._∷_ (Syntax.copy (Syntax.place 4 (List._∷_ (Syntax.field 1) List.[]))) List.[])))
+
+abbrev b18 : Syntax.Body
+b18 = Syntax.assign (Syntax.place 31 List.[]) (Syntax.addrOf (Syntax.place 14 List.[]))
+
+abbrev b19 : Syntax.Body
+b19 =
+    Syntax.call
+    "post::put_post"
+    (List._∷_
+    (Syntax.copy (Syntax.place 30 List.[]))
+    (List._∷_
+    (Syntax.copy (Syntax.place 31 List.[]))
+    (List._∷_
+    (Syntax.copy (Syntax.place 12 List.[]))
+    (List._∷_ (Syntax.copy (Syntax.place 9 List.[])) List.[]))))
+    (Syntax.place 18 List.[])
+
+abbrev b20 : Syntax.Body
+b20 =
+    Syntax.assign
+    (Syntax.place 33 List.[])
     (Syntax.addrOf
     (Syntax.place
     1
@@ -833,19 +901,19 @@ b12 =
     (Syntax.field 0)
     (List._∷_ (Syntax.deref (KInstanceRow.spelled)) List.[]))))
 
-abbrev b13 : Syntax.Body
-b13 =
+abbrev b21 : Syntax.Body
+b21 =
     Syntax.assign
-    (Syntax.place 28 List.[])
+    (Syntax.place 34 List.[])
     (Syntax.aggregate
     (List._∷_
-    (Syntax.copy (Syntax.place 27 List.[]))
+    (Syntax.copy (Syntax.place 33 List.[]))
     (List._∷_ (Syntax.copy (Syntax.place 1 (List._∷_ (Syntax.field 1) List.[]))) List.[])))
 
-abbrev b14 : Syntax.Body
-b14 =
+abbrev b22 : Syntax.Body
+b22 =
     Syntax.assign
-    (Syntax.place 29 List.[])
+    (Syntax.place 35 List.[])
     (Syntax.addrOf
     (Syntax.place
     2
@@ -853,97 +921,29 @@ b14 =
     (Syntax.field 0)
     (List._∷_ (Syntax.deref (KRouteRow.spelled)) List.[]))))
 
-abbrev b15 : Syntax.Body
-b15 =
+abbrev b23 : Syntax.Body
+b23 =
     Syntax.assign
-    (Syntax.place 30 List.[])
+    (Syntax.place 36 List.[])
     (Syntax.aggregate
     (List._∷_
-    (Syntax.copy (Syntax.place 29 List.[]))
+    (Syntax.copy (Syntax.place 35 List.[]))
     (List._∷_ (Syntax.copy (Syntax.place 2 (List._∷_ (Syntax.field 1) List.[]))) List.[])))
 
-abbrev b16 : Syntax.Body
-b16 =
+abbrev b24 : Syntax.Body
+b24 =
     Syntax.call
     "finish::store"
     (List._∷_
-    (Syntax.copy (Syntax.place 28 List.[]))
+    (Syntax.copy (Syntax.place 34 List.[]))
     (List._∷_
-    (Syntax.copy (Syntax.place 30 List.[]))
+    (Syntax.copy (Syntax.place 36 List.[]))
     (List._∷_
     (Syntax.copy (Syntax.place 15 List.[]))
     (List._∷_
     (Syntax.copy (Syntax.place 16 (List._∷_ (Syntax.field 1) List.[])))
     (List._∷_ (Syntax.copy (Syntax.place 10 List.[])) List.[])))))
-    (Syntax.place 26 List.[])
-
-abbrev b17 : Syntax.Body
-b17 =
-    Syntax.assign
-    (Syntax.place 31 List.[])
-    (Syntax.addrOf
-    (Syntax.place
-    3
-    (List._∷_ (Syntax.field 0) (List._∷_ (Syntax.deref (Syntax.tyInt Syntax.w8)) List.[]))))
-
-abbrev b18 : Syntax.Body
-b18 =
-    Syntax.assign
     (Syntax.place 32 List.[])
-    (Syntax.aggregate
-    (List._∷_
-    (Syntax.copy (Syntax.place 31 List.[]))
-    (List._∷_ (Syntax.copy (Syntax.place 3 (List._∷_ (Syntax.field 1) List.[]))) List.[])))
-
-abbrev b19 : Syntax.Body
-b19 = Syntax.assign (Syntax.place 33 List.[]) (Syntax.addrOf (Syntax.place 14 List.[]))
-
-abbrev b20 : Syntax.Body
-b20 =
-    Syntax.call
-    "post::put_post"
-    (List._∷_
-    (Syntax.copy (Syntax.place 32 List.[]))
-    (List._∷_
-    (Syntax.copy (Syntax.place 33 List.[]))
-    (List._∷_
-    (Syntax.copy (Syntax.place 11 List.[]))
-    (List._∷_ (Syntax.copy (Syntax.place 9 List.[])) List.[]))))
-    (Syntax.place 17 List.[])
-
-abbrev b21 : Syntax.Body
-b21 =
-    Syntax.assign
-    (Syntax.place 34 List.[])
-    (Syntax.addrOf
-    (Syntax.place
-    4
-    (List._∷_ (Syntax.field 0) (List._∷_ (Syntax.deref (Syntax.tyInt Syntax.w8)) List.[]))))
-
-abbrev b22 : Syntax.Body
-b22 =
-    Syntax.assign
-    (Syntax.place 35 List.[])
-    (Syntax.aggregate
-    (List._∷_
-    (Syntax.copy (Syntax.place 34 List.[]))
-    (List._∷_ (Syntax.copy (Syntax.place 4 (List._∷_ (Syntax.field 1) List.[]))) List.[])))
-
-abbrev b23 : Syntax.Body
-b23 = Syntax.assign (Syntax.place 36 List.[]) (Syntax.addrOf (Syntax.place 14 List.[]))
-
-abbrev b24 : Syntax.Body
-b24 =
-    Syntax.call
-    "post::put_post"
-    (List._∷_
-    (Syntax.copy (Syntax.place 35 List.[]))
-    (List._∷_
-    (Syntax.copy (Syntax.place 36 List.[]))
-    (List._∷_
-    (Syntax.copy (Syntax.place 12 List.[]))
-    (List._∷_ (Syntax.copy (Syntax.place 9 List.[])) List.[]))))
-    (Syntax.place 18 List.[])
 
 abbrev b25 : Syntax.Body
 b25 =
@@ -1151,10 +1151,10 @@ Claims =
     Kinds.Out 1 ps·3 r·3 ×
     Kinds.In 0 ps·4 ×
     Kinds.Out 0 ps·4 r·4 ×
-    Kinds.In 3 ps·5 ×
-    Kinds.Out 3 ps·5 r·5 ×
-    Kinds.In 4 ps·6 ×
-    Kinds.Out 4 ps·6 r·6 ×
+    Kinds.In 4 ps·5 ×
+    Kinds.Out 4 ps·5 r·5 ×
+    Kinds.In 3 ps·6 ×
+    Kinds.Out 3 ps·6 r·6 ×
     Kinds.In 0 ps·7 ×
     Kinds.Out 0 ps·7 r·7 ×
     Kinds.In 0 ps·8 ×
@@ -1544,41 +1544,11 @@ t1 = List._∷_ (
       (Syntax.tcons
       (Syntax.tyRef Syntax.erased Syntax.imm (KRouteRow.named))
       (Syntax.tcons (Syntax.tyInt Syntax.w64) Syntax.tnil))),
-)
-    (List._∷_
-    (25, Rows'.any-gone Syntax.tyBool)
-    (List._∷_ (26, Rows'.any-gone Syntax.tyUnit) (List._∷_ (
-      27,
-      Rows'.any-gone
-          (Syntax.tyRef Syntax.erased Syntax.mut (KInstanceRow.named)),
-    ) (List._∷_ (
-      28,
-      Rows'.any-gone
-          (Syntax.tyStruct
-          (List._∷_ 38 (List._∷_ 91 (List._∷_ 93 List.[])))
-          (Syntax.tcons
-          (Syntax.tyRef Syntax.erased Syntax.mut (KInstanceRow.named))
-          (Syntax.tcons (Syntax.tyInt Syntax.w64) Syntax.tnil))),
-    ) (List._∷_ (
-      29,
-      Rows'.any-gone
-          (Syntax.tyRef Syntax.erased Syntax.mut (KRouteRow.named)),
-    ) (List._∷_ (
-      30,
-      Rows'.any-gone
-          (Syntax.tyStruct
-          (List._∷_ 38 (List._∷_ 91 (List._∷_ 93 List.[])))
-          (Syntax.tcons
-          (Syntax.tyRef Syntax.erased Syntax.mut (KRouteRow.named))
-          (Syntax.tcons (Syntax.tyInt Syntax.w64) Syntax.tnil))),
-    ) (List._∷_ (
-      31,
-      Rows'.any-gone (Syntax.tyRef Syntax.erased Syntax.mut (Syntax.tyInt Syntax.w8)),
-    ) List.[])))))))))))))))
-
-abbrev pub t2 : List.List Row.Entry
-t2 = List._∷_ (
-  32,
+) (List._∷_ (25, Rows'.any-gone Syntax.tyBool) (List._∷_ (
+  26,
+  Rows'.any-gone (Syntax.tyRef Syntax.erased Syntax.mut (Syntax.tyInt Syntax.w8)),
+) (List._∷_ (
+  27,
   Rows'.any-gone
       (Syntax.tyStruct
       (List._∷_ 38 (List._∷_ 91 (List._∷_ 93 List.[])))
@@ -1586,15 +1556,15 @@ t2 = List._∷_ (
       (Syntax.tyRef Syntax.erased Syntax.mut (Syntax.tyInt Syntax.w8))
       (Syntax.tcons (Syntax.tyInt Syntax.w64) Syntax.tnil))),
 ) (List._∷_ (
-  33,
+  28,
   Rows'.any-gone
       (Syntax.tyRef Syntax.erased Syntax.imm (KOwn.named)),
 )
     (List._∷_ (
-      34,
+      29,
       Rows'.any-gone (Syntax.tyRef Syntax.erased Syntax.mut (Syntax.tyInt Syntax.w8)),
     ) (List._∷_ (
-      35,
+      30,
       Rows'.any-gone
           (Syntax.tyStruct
           (List._∷_ 38 (List._∷_ 91 (List._∷_ 93 List.[])))
@@ -1602,130 +1572,156 @@ t2 = List._∷_ (
           (Syntax.tyRef Syntax.erased Syntax.mut (Syntax.tyInt Syntax.w8))
           (Syntax.tcons (Syntax.tyInt Syntax.w64) Syntax.tnil))),
     ) (List._∷_ (
-      36,
+      31,
       Rows'.any-gone
           (Syntax.tyRef Syntax.erased Syntax.imm (KOwn.named)),
-    ) (List._∷_ (37, Rows'.any-gone (Syntax.tyInt Syntax.w8)) (List._∷_ (
-      38,
-      Rows'.any-gone (KDecided.spelled),
-    ) (List._∷_ (
-      39,
-      Rows'.any-gone
-          (Syntax.tyStruct
-          (List._∷_
-          97
-          (List._∷_
-          110
-          (List._∷_
-          115
-          (List._∷_
-          119
-          (List._∷_
-          101
-          (List._∷_
-          114
-          (List._∷_
-          58
-          (List._∷_
-          58
-          (List._∷_
-          68
-          (List._∷_
-          101
-          (List._∷_
-          115
-          (List._∷_
-          116
-          (List._∷_
-          105
-          (List._∷_
-          110
-          (List._∷_
-          97
-          (List._∷_ 116 (List._∷_ 105 (List._∷_ 111 (List._∷_ 110 List.[])))))))))))))))))))
-          (Syntax.tcons
-          (Syntax.tyArray (Syntax.tyInt Syntax.w8) 16)
-          (Syntax.tcons
-          (Syntax.tyEnum
-          (List._∷_
-          97
-          (List._∷_
-          110
-          (List._∷_
-          115
-          (List._∷_
-          119
-          (List._∷_
-          101
-          (List._∷_
-          114
-          (List._∷_ 58 (List._∷_ 58 (List._∷_ 87 (List._∷_ 97 (List._∷_ 121 List.[])))))))))))
-          (Syntax.ttcons
-          Syntax.tnil
-          (Syntax.ttcons
-          Syntax.tnil
-          (Syntax.ttcons Syntax.tnil (Syntax.ttcons Syntax.tnil Syntax.ttnil)))))
-          Syntax.tnil))),
-    ) (List._∷_ (40, Rows'.any-gone (KPost.spelled)) (List._∷_ (
-      41,
-      Rows'.any-gone
-          (Syntax.tyStruct
-          (List._∷_
-          97
-          (List._∷_
-          110
-          (List._∷_
-          115
-          (List._∷_
-          119
-          (List._∷_
-          101
-          (List._∷_
-          114
-          (List._∷_
-          58
-          (List._∷_
-          58
-          (List._∷_
-          68
-          (List._∷_
-          101
-          (List._∷_
-          115
-          (List._∷_
-          116
-          (List._∷_
-          105
-          (List._∷_
-          110
-          (List._∷_
-          97
-          (List._∷_ 116 (List._∷_ 105 (List._∷_ 111 (List._∷_ 110 List.[])))))))))))))))))))
-          (Syntax.tcons
-          (Syntax.tyArray (Syntax.tyInt Syntax.w8) 16)
-          (Syntax.tcons
-          (Syntax.tyEnum
-          (List._∷_
-          97
-          (List._∷_
-          110
-          (List._∷_
-          115
-          (List._∷_
-          119
-          (List._∷_
-          101
-          (List._∷_
-          114
-          (List._∷_ 58 (List._∷_ 58 (List._∷_ 87 (List._∷_ 97 (List._∷_ 121 List.[])))))))))))
-          (Syntax.ttcons
-          Syntax.tnil
-          (Syntax.ttcons
-          Syntax.tnil
-          (Syntax.ttcons Syntax.tnil (Syntax.ttcons Syntax.tnil Syntax.ttnil)))))
-          Syntax.tnil))),
-    )
-    (List._∷_ (42, Rows'.any-gone (KPost.spelled)) List.[]))))))))))
+    ) List.[])))))))))))))))
+
+abbrev pub t2 : List.List Row.Entry
+t2 = List._∷_ (32, Rows'.any-gone Syntax.tyUnit) (List._∷_ (
+  33,
+  Rows'.any-gone
+      (Syntax.tyRef Syntax.erased Syntax.mut (KInstanceRow.named)),
+) (List._∷_ (
+  34,
+  Rows'.any-gone
+      (Syntax.tyStruct
+      (List._∷_ 38 (List._∷_ 91 (List._∷_ 93 List.[])))
+      (Syntax.tcons
+      (Syntax.tyRef Syntax.erased Syntax.mut (KInstanceRow.named))
+      (Syntax.tcons (Syntax.tyInt Syntax.w64) Syntax.tnil))),
+) (List._∷_ (
+  35,
+  Rows'.any-gone
+      (Syntax.tyRef Syntax.erased Syntax.mut (KRouteRow.named)),
+) (List._∷_ (
+  36,
+  Rows'.any-gone
+      (Syntax.tyStruct
+      (List._∷_ 38 (List._∷_ 91 (List._∷_ 93 List.[])))
+      (Syntax.tcons
+      (Syntax.tyRef Syntax.erased Syntax.mut (KRouteRow.named))
+      (Syntax.tcons (Syntax.tyInt Syntax.w64) Syntax.tnil))),
+) (List._∷_ (37, Rows'.any-gone (Syntax.tyInt Syntax.w8)) (List._∷_ (
+  38,
+  Rows'.any-gone (KDecided.spelled),
+) (List._∷_ (
+  39,
+  Rows'.any-gone
+      (Syntax.tyStruct
+      (List._∷_
+      97
+      (List._∷_
+      110
+      (List._∷_
+      115
+      (List._∷_
+      119
+      (List._∷_
+      101
+      (List._∷_
+      114
+      (List._∷_
+      58
+      (List._∷_
+      58
+      (List._∷_
+      68
+      (List._∷_
+      101
+      (List._∷_
+      115
+      (List._∷_
+      116
+      (List._∷_
+      105
+      (List._∷_
+      110
+      (List._∷_
+      97
+      (List._∷_ 116 (List._∷_ 105 (List._∷_ 111 (List._∷_ 110 List.[])))))))))))))))))))
+      (Syntax.tcons
+      (Syntax.tyArray (Syntax.tyInt Syntax.w8) 16)
+      (Syntax.tcons
+      (Syntax.tyEnum
+      (List._∷_
+      97
+      (List._∷_
+      110
+      (List._∷_
+      115
+      (List._∷_
+      119
+      (List._∷_
+      101
+      (List._∷_
+      114
+      (List._∷_ 58 (List._∷_ 58 (List._∷_ 87 (List._∷_ 97 (List._∷_ 121 List.[])))))))))))
+      (Syntax.ttcons
+      Syntax.tnil
+      (Syntax.ttcons
+      Syntax.tnil
+      (Syntax.ttcons Syntax.tnil (Syntax.ttcons Syntax.tnil Syntax.ttnil)))))
+      Syntax.tnil))),
+) (List._∷_ (40, Rows'.any-gone (KPost.spelled)) (List._∷_ (
+  41,
+  Rows'.any-gone
+      (Syntax.tyStruct
+      (List._∷_
+      97
+      (List._∷_
+      110
+      (List._∷_
+      115
+      (List._∷_
+      119
+      (List._∷_
+      101
+      (List._∷_
+      114
+      (List._∷_
+      58
+      (List._∷_
+      58
+      (List._∷_
+      68
+      (List._∷_
+      101
+      (List._∷_
+      115
+      (List._∷_
+      116
+      (List._∷_
+      105
+      (List._∷_
+      110
+      (List._∷_
+      97
+      (List._∷_ 116 (List._∷_ 105 (List._∷_ 111 (List._∷_ 110 List.[])))))))))))))))))))
+      (Syntax.tcons
+      (Syntax.tyArray (Syntax.tyInt Syntax.w8) 16)
+      (Syntax.tcons
+      (Syntax.tyEnum
+      (List._∷_
+      97
+      (List._∷_
+      110
+      (List._∷_
+      115
+      (List._∷_
+      119
+      (List._∷_
+      101
+      (List._∷_
+      114
+      (List._∷_ 58 (List._∷_ 58 (List._∷_ 87 (List._∷_ 97 (List._∷_ 121 List.[])))))))))))
+      (Syntax.ttcons
+      Syntax.tnil
+      (Syntax.ttcons
+      Syntax.tnil
+      (Syntax.ttcons Syntax.tnil (Syntax.ttcons Syntax.tnil Syntax.ttnil)))))
+      Syntax.tnil))),
+) (List._∷_ (42, Rows'.any-gone (KPost.spelled)) List.[]))))))))))
 
 abbrev pub t3 : List.List Row.Entry
 t3 = List._∷_ (0, Rows'.whole (Declared.row Outcome.the-type)) (List._∷_ (
@@ -2859,36 +2855,37 @@ t7 = List._∷_ (
       (Syntax.tcons
       (Syntax.tyRef Syntax.erased Syntax.imm (KRouteRow.named))
       (Syntax.tcons (Syntax.tyInt Syntax.w64) Syntax.tnil))),
+) (List._∷_ (25, Rows'.any-gone Syntax.tyBool) (List._∷_ (
+  26,
+  Rows'.any-gone (Syntax.tyRef Syntax.erased Syntax.mut (Syntax.tyInt Syntax.w8)),
+) (List._∷_ (
+  27,
+  Rows'.any-gone
+      (Syntax.tyStruct
+      (List._∷_ 38 (List._∷_ 91 (List._∷_ 93 List.[])))
+      (Syntax.tcons
+      (Syntax.tyRef Syntax.erased Syntax.mut (Syntax.tyInt Syntax.w8))
+      (Syntax.tcons (Syntax.tyInt Syntax.w64) Syntax.tnil))),
+) (List._∷_ (
+  28,
+  Rows'.any-gone
+      (Syntax.tyRef Syntax.erased Syntax.imm (KOwn.named)),
 )
-    (List._∷_
-    (25, Rows'.any-gone Syntax.tyBool)
-    (List._∷_ (26, Rows'.any-gone Syntax.tyUnit) (List._∷_ (
-      27,
-      Rows'.any-gone
-          (Syntax.tyRef Syntax.erased Syntax.mut (KInstanceRow.named)),
-    ) (List._∷_ (
-      28,
-      Rows'.any-gone
-          (Syntax.tyStruct
-          (List._∷_ 38 (List._∷_ 91 (List._∷_ 93 List.[])))
-          (Syntax.tcons
-          (Syntax.tyRef Syntax.erased Syntax.mut (KInstanceRow.named))
-          (Syntax.tcons (Syntax.tyInt Syntax.w64) Syntax.tnil))),
-    ) (List._∷_ (
+    (List._∷_ (
       29,
-      Rows'.any-gone
-          (Syntax.tyRef Syntax.erased Syntax.mut (KRouteRow.named)),
+      Rows'.any-gone (Syntax.tyRef Syntax.erased Syntax.mut (Syntax.tyInt Syntax.w8)),
     ) (List._∷_ (
       30,
       Rows'.any-gone
           (Syntax.tyStruct
           (List._∷_ 38 (List._∷_ 91 (List._∷_ 93 List.[])))
           (Syntax.tcons
-          (Syntax.tyRef Syntax.erased Syntax.mut (KRouteRow.named))
+          (Syntax.tyRef Syntax.erased Syntax.mut (Syntax.tyInt Syntax.w8))
           (Syntax.tcons (Syntax.tyInt Syntax.w64) Syntax.tnil))),
     ) (List._∷_ (
       31,
-      Rows'.any-gone (Syntax.tyRef Syntax.erased Syntax.mut (Syntax.tyInt Syntax.w8)),
+      Rows'.any-gone
+          (Syntax.tyRef Syntax.erased Syntax.imm (KOwn.named)),
     ) List.[])))))))))))))))
 
 abbrev pub t8 : List.List Row.Entry
@@ -2950,36 +2947,37 @@ t8 = List._∷_ (
       (Syntax.tcons
       (Syntax.tyRef Syntax.erased Syntax.imm (KRouteRow.named))
       (Syntax.tcons (Syntax.tyInt Syntax.w64) Syntax.tnil))),
+) (List._∷_ (25, Rows'.any-gone Syntax.tyBool) (List._∷_ (
+  26,
+  Rows'.any-gone (Syntax.tyRef Syntax.erased Syntax.mut (Syntax.tyInt Syntax.w8)),
+) (List._∷_ (
+  27,
+  Rows'.any-gone
+      (Syntax.tyStruct
+      (List._∷_ 38 (List._∷_ 91 (List._∷_ 93 List.[])))
+      (Syntax.tcons
+      (Syntax.tyRef Syntax.erased Syntax.mut (Syntax.tyInt Syntax.w8))
+      (Syntax.tcons (Syntax.tyInt Syntax.w64) Syntax.tnil))),
+) (List._∷_ (
+  28,
+  Rows'.any-gone
+      (Syntax.tyRef Syntax.erased Syntax.imm (KOwn.named)),
 )
-    (List._∷_
-    (25, Rows'.any-gone Syntax.tyBool)
-    (List._∷_ (26, Rows'.any-gone Syntax.tyUnit) (List._∷_ (
-      27,
-      Rows'.any-gone
-          (Syntax.tyRef Syntax.erased Syntax.mut (KInstanceRow.named)),
-    ) (List._∷_ (
-      28,
-      Rows'.any-gone
-          (Syntax.tyStruct
-          (List._∷_ 38 (List._∷_ 91 (List._∷_ 93 List.[])))
-          (Syntax.tcons
-          (Syntax.tyRef Syntax.erased Syntax.mut (KInstanceRow.named))
-          (Syntax.tcons (Syntax.tyInt Syntax.w64) Syntax.tnil))),
-    ) (List._∷_ (
+    (List._∷_ (
       29,
-      Rows'.any-gone
-          (Syntax.tyRef Syntax.erased Syntax.mut (KRouteRow.named)),
+      Rows'.any-gone (Syntax.tyRef Syntax.erased Syntax.mut (Syntax.tyInt Syntax.w8)),
     ) (List._∷_ (
       30,
       Rows'.any-gone
           (Syntax.tyStruct
           (List._∷_ 38 (List._∷_ 91 (List._∷_ 93 List.[])))
           (Syntax.tcons
-          (Syntax.tyRef Syntax.erased Syntax.mut (KRouteRow.named))
+          (Syntax.tyRef Syntax.erased Syntax.mut (Syntax.tyInt Syntax.w8))
           (Syntax.tcons (Syntax.tyInt Syntax.w64) Syntax.tnil))),
     ) (List._∷_ (
       31,
-      Rows'.any-gone (Syntax.tyRef Syntax.erased Syntax.mut (Syntax.tyInt Syntax.w8)),
+      Rows'.any-gone
+          (Syntax.tyRef Syntax.erased Syntax.imm (KOwn.named)),
     ) List.[])))))))))))))))
 
 abbrev pub t9 : List.List Row.Entry
@@ -3041,36 +3039,37 @@ t9 = List._∷_ (
       (Syntax.tcons
       (Syntax.tyRef Syntax.erased Syntax.imm (KRouteRow.named))
       (Syntax.tcons (Syntax.tyInt Syntax.w64) Syntax.tnil))),
+) (List._∷_ (25, Rows'.any-gone Syntax.tyBool) (List._∷_ (
+  26,
+  Rows'.any-gone (Syntax.tyRef Syntax.erased Syntax.mut (Syntax.tyInt Syntax.w8)),
+) (List._∷_ (
+  27,
+  Rows'.any-gone
+      (Syntax.tyStruct
+      (List._∷_ 38 (List._∷_ 91 (List._∷_ 93 List.[])))
+      (Syntax.tcons
+      (Syntax.tyRef Syntax.erased Syntax.mut (Syntax.tyInt Syntax.w8))
+      (Syntax.tcons (Syntax.tyInt Syntax.w64) Syntax.tnil))),
+) (List._∷_ (
+  28,
+  Rows'.any-gone
+      (Syntax.tyRef Syntax.erased Syntax.imm (KOwn.named)),
 )
-    (List._∷_
-    (25, Rows'.any-gone Syntax.tyBool)
-    (List._∷_ (26, Rows'.any-gone Syntax.tyUnit) (List._∷_ (
-      27,
-      Rows'.any-gone
-          (Syntax.tyRef Syntax.erased Syntax.mut (KInstanceRow.named)),
-    ) (List._∷_ (
-      28,
-      Rows'.any-gone
-          (Syntax.tyStruct
-          (List._∷_ 38 (List._∷_ 91 (List._∷_ 93 List.[])))
-          (Syntax.tcons
-          (Syntax.tyRef Syntax.erased Syntax.mut (KInstanceRow.named))
-          (Syntax.tcons (Syntax.tyInt Syntax.w64) Syntax.tnil))),
-    ) (List._∷_ (
+    (List._∷_ (
       29,
-      Rows'.any-gone
-          (Syntax.tyRef Syntax.erased Syntax.mut (KRouteRow.named)),
+      Rows'.any-gone (Syntax.tyRef Syntax.erased Syntax.mut (Syntax.tyInt Syntax.w8)),
     ) (List._∷_ (
       30,
       Rows'.any-gone
           (Syntax.tyStruct
           (List._∷_ 38 (List._∷_ 91 (List._∷_ 93 List.[])))
           (Syntax.tcons
-          (Syntax.tyRef Syntax.erased Syntax.mut (KRouteRow.named))
+          (Syntax.tyRef Syntax.erased Syntax.mut (Syntax.tyInt Syntax.w8))
           (Syntax.tcons (Syntax.tyInt Syntax.w64) Syntax.tnil))),
     ) (List._∷_ (
       31,
-      Rows'.any-gone (Syntax.tyRef Syntax.erased Syntax.mut (Syntax.tyInt Syntax.w8)),
+      Rows'.any-gone
+          (Syntax.tyRef Syntax.erased Syntax.imm (KOwn.named)),
     ) List.[])))))))))))))))
 
 abbrev pub t10 : List.List Row.Entry
@@ -3132,36 +3131,37 @@ t10 = List._∷_ (
       (Syntax.tcons
       (Syntax.tyRef Syntax.erased Syntax.imm (KRouteRow.named))
       (Syntax.tcons (Syntax.tyInt Syntax.w64) Syntax.tnil))),
+) (List._∷_ (25, Rows'.any-gone Syntax.tyBool) (List._∷_ (
+  26,
+  Rows'.any-gone (Syntax.tyRef Syntax.erased Syntax.mut (Syntax.tyInt Syntax.w8)),
+) (List._∷_ (
+  27,
+  Rows'.any-gone
+      (Syntax.tyStruct
+      (List._∷_ 38 (List._∷_ 91 (List._∷_ 93 List.[])))
+      (Syntax.tcons
+      (Syntax.tyRef Syntax.erased Syntax.mut (Syntax.tyInt Syntax.w8))
+      (Syntax.tcons (Syntax.tyInt Syntax.w64) Syntax.tnil))),
+) (List._∷_ (
+  28,
+  Rows'.any-gone
+      (Syntax.tyRef Syntax.erased Syntax.imm (KOwn.named)),
 )
-    (List._∷_
-    (25, Rows'.any-gone Syntax.tyBool)
-    (List._∷_ (26, Rows'.any-gone Syntax.tyUnit) (List._∷_ (
-      27,
-      Rows'.any-gone
-          (Syntax.tyRef Syntax.erased Syntax.mut (KInstanceRow.named)),
-    ) (List._∷_ (
-      28,
-      Rows'.any-gone
-          (Syntax.tyStruct
-          (List._∷_ 38 (List._∷_ 91 (List._∷_ 93 List.[])))
-          (Syntax.tcons
-          (Syntax.tyRef Syntax.erased Syntax.mut (KInstanceRow.named))
-          (Syntax.tcons (Syntax.tyInt Syntax.w64) Syntax.tnil))),
-    ) (List._∷_ (
+    (List._∷_ (
       29,
-      Rows'.any-gone
-          (Syntax.tyRef Syntax.erased Syntax.mut (KRouteRow.named)),
+      Rows'.any-gone (Syntax.tyRef Syntax.erased Syntax.mut (Syntax.tyInt Syntax.w8)),
     ) (List._∷_ (
       30,
       Rows'.any-gone
           (Syntax.tyStruct
           (List._∷_ 38 (List._∷_ 91 (List._∷_ 93 List.[])))
           (Syntax.tcons
-          (Syntax.tyRef Syntax.erased Syntax.mut (KRouteRow.named))
+          (Syntax.tyRef Syntax.erased Syntax.mut (Syntax.tyInt Syntax.w8))
           (Syntax.tcons (Syntax.tyInt Syntax.w64) Syntax.tnil))),
     ) (List._∷_ (
       31,
-      Rows'.any-gone (Syntax.tyRef Syntax.erased Syntax.mut (Syntax.tyInt Syntax.w8)),
+      Rows'.any-gone
+          (Syntax.tyRef Syntax.erased Syntax.imm (KOwn.named)),
     ) List.[])))))))))))))))
 
 abbrev pub t11 : List.List Row.Entry
@@ -3223,36 +3223,37 @@ t11 = List._∷_ (
       (Syntax.tcons
       (Syntax.tyRef Syntax.erased Syntax.imm (KRouteRow.named))
       (Syntax.tcons (Syntax.tyInt Syntax.w64) Syntax.tnil))),
+) (List._∷_ (25, Rows'.any-gone Syntax.tyBool) (List._∷_ (
+  26,
+  Rows'.any-gone (Syntax.tyRef Syntax.erased Syntax.mut (Syntax.tyInt Syntax.w8)),
+) (List._∷_ (
+  27,
+  Rows'.any-gone
+      (Syntax.tyStruct
+      (List._∷_ 38 (List._∷_ 91 (List._∷_ 93 List.[])))
+      (Syntax.tcons
+      (Syntax.tyRef Syntax.erased Syntax.mut (Syntax.tyInt Syntax.w8))
+      (Syntax.tcons (Syntax.tyInt Syntax.w64) Syntax.tnil))),
+) (List._∷_ (
+  28,
+  Rows'.any-gone
+      (Syntax.tyRef Syntax.erased Syntax.imm (KOwn.named)),
 )
-    (List._∷_
-    (25, Rows'.any-gone Syntax.tyBool)
-    (List._∷_ (26, Rows'.any-gone Syntax.tyUnit) (List._∷_ (
-      27,
-      Rows'.any-gone
-          (Syntax.tyRef Syntax.erased Syntax.mut (KInstanceRow.named)),
-    ) (List._∷_ (
-      28,
-      Rows'.any-gone
-          (Syntax.tyStruct
-          (List._∷_ 38 (List._∷_ 91 (List._∷_ 93 List.[])))
-          (Syntax.tcons
-          (Syntax.tyRef Syntax.erased Syntax.mut (KInstanceRow.named))
-          (Syntax.tcons (Syntax.tyInt Syntax.w64) Syntax.tnil))),
-    ) (List._∷_ (
+    (List._∷_ (
       29,
-      Rows'.any-gone
-          (Syntax.tyRef Syntax.erased Syntax.mut (KRouteRow.named)),
+      Rows'.any-gone (Syntax.tyRef Syntax.erased Syntax.mut (Syntax.tyInt Syntax.w8)),
     ) (List._∷_ (
       30,
       Rows'.any-gone
           (Syntax.tyStruct
           (List._∷_ 38 (List._∷_ 91 (List._∷_ 93 List.[])))
           (Syntax.tcons
-          (Syntax.tyRef Syntax.erased Syntax.mut (KRouteRow.named))
+          (Syntax.tyRef Syntax.erased Syntax.mut (Syntax.tyInt Syntax.w8))
           (Syntax.tcons (Syntax.tyInt Syntax.w64) Syntax.tnil))),
     ) (List._∷_ (
       31,
-      Rows'.any-gone (Syntax.tyRef Syntax.erased Syntax.mut (Syntax.tyInt Syntax.w8)),
+      Rows'.any-gone
+          (Syntax.tyRef Syntax.erased Syntax.imm (KOwn.named)),
     ) List.[])))))))))))))))
 
 abbrev pub t12 : List.List Row.Entry
@@ -3611,36 +3612,37 @@ t13 = List._∷_ (
       (Syntax.tcons
       (Syntax.tyRef Syntax.erased Syntax.imm (KRouteRow.named))
       (Syntax.tcons (Syntax.tyInt Syntax.w64) Syntax.tnil))),
+) (List._∷_ (25, Rows'.any-gone Syntax.tyBool) (List._∷_ (
+  26,
+  Rows'.any-gone (Syntax.tyRef Syntax.erased Syntax.mut (Syntax.tyInt Syntax.w8)),
+) (List._∷_ (
+  27,
+  Rows'.any-gone
+      (Syntax.tyStruct
+      (List._∷_ 38 (List._∷_ 91 (List._∷_ 93 List.[])))
+      (Syntax.tcons
+      (Syntax.tyRef Syntax.erased Syntax.mut (Syntax.tyInt Syntax.w8))
+      (Syntax.tcons (Syntax.tyInt Syntax.w64) Syntax.tnil))),
+) (List._∷_ (
+  28,
+  Rows'.any-gone
+      (Syntax.tyRef Syntax.erased Syntax.imm (KOwn.named)),
 )
-    (List._∷_
-    (25, Rows'.any-gone Syntax.tyBool)
-    (List._∷_ (26, Rows'.any-gone Syntax.tyUnit) (List._∷_ (
-      27,
-      Rows'.any-gone
-          (Syntax.tyRef Syntax.erased Syntax.mut (KInstanceRow.named)),
-    ) (List._∷_ (
-      28,
-      Rows'.any-gone
-          (Syntax.tyStruct
-          (List._∷_ 38 (List._∷_ 91 (List._∷_ 93 List.[])))
-          (Syntax.tcons
-          (Syntax.tyRef Syntax.erased Syntax.mut (KInstanceRow.named))
-          (Syntax.tcons (Syntax.tyInt Syntax.w64) Syntax.tnil))),
-    ) (List._∷_ (
+    (List._∷_ (
       29,
-      Rows'.any-gone
-          (Syntax.tyRef Syntax.erased Syntax.mut (KRouteRow.named)),
+      Rows'.any-gone (Syntax.tyRef Syntax.erased Syntax.mut (Syntax.tyInt Syntax.w8)),
     ) (List._∷_ (
       30,
       Rows'.any-gone
           (Syntax.tyStruct
           (List._∷_ 38 (List._∷_ 91 (List._∷_ 93 List.[])))
           (Syntax.tcons
-          (Syntax.tyRef Syntax.erased Syntax.mut (KRouteRow.named))
+          (Syntax.tyRef Syntax.erased Syntax.mut (Syntax.tyInt Syntax.w8))
           (Syntax.tcons (Syntax.tyInt Syntax.w64) Syntax.tnil))),
     ) (List._∷_ (
       31,
-      Rows'.any-gone (Syntax.tyRef Syntax.erased Syntax.mut (Syntax.tyInt Syntax.w8)),
+      Rows'.any-gone
+          (Syntax.tyRef Syntax.erased Syntax.imm (KOwn.named)),
     ) List.[])))))))))))))))
 
 abbrev pub t14 : List.List Row.Entry
@@ -4294,36 +4296,37 @@ t16 = List._∷_ (
       (Syntax.tcons
       (Syntax.tyRef Syntax.erased Syntax.imm (KRouteRow.named))
       (Syntax.tcons (Syntax.tyInt Syntax.w64) Syntax.tnil))),
+) (List._∷_ (25, Rows'.any-gone Syntax.tyBool) (List._∷_ (
+  26,
+  Rows'.any-gone (Syntax.tyRef Syntax.erased Syntax.mut (Syntax.tyInt Syntax.w8)),
+) (List._∷_ (
+  27,
+  Rows'.any-gone
+      (Syntax.tyStruct
+      (List._∷_ 38 (List._∷_ 91 (List._∷_ 93 List.[])))
+      (Syntax.tcons
+      (Syntax.tyRef Syntax.erased Syntax.mut (Syntax.tyInt Syntax.w8))
+      (Syntax.tcons (Syntax.tyInt Syntax.w64) Syntax.tnil))),
+) (List._∷_ (
+  28,
+  Rows'.any-gone
+      (Syntax.tyRef Syntax.erased Syntax.imm (KOwn.named)),
 )
-    (List._∷_
-    (25, Rows'.any-gone Syntax.tyBool)
-    (List._∷_ (26, Rows'.any-gone Syntax.tyUnit) (List._∷_ (
-      27,
-      Rows'.any-gone
-          (Syntax.tyRef Syntax.erased Syntax.mut (KInstanceRow.named)),
-    ) (List._∷_ (
-      28,
-      Rows'.any-gone
-          (Syntax.tyStruct
-          (List._∷_ 38 (List._∷_ 91 (List._∷_ 93 List.[])))
-          (Syntax.tcons
-          (Syntax.tyRef Syntax.erased Syntax.mut (KInstanceRow.named))
-          (Syntax.tcons (Syntax.tyInt Syntax.w64) Syntax.tnil))),
-    ) (List._∷_ (
+    (List._∷_ (
       29,
-      Rows'.any-gone
-          (Syntax.tyRef Syntax.erased Syntax.mut (KRouteRow.named)),
+      Rows'.any-gone (Syntax.tyRef Syntax.erased Syntax.mut (Syntax.tyInt Syntax.w8)),
     ) (List._∷_ (
       30,
       Rows'.any-gone
           (Syntax.tyStruct
           (List._∷_ 38 (List._∷_ 91 (List._∷_ 93 List.[])))
           (Syntax.tcons
-          (Syntax.tyRef Syntax.erased Syntax.mut (KRouteRow.named))
+          (Syntax.tyRef Syntax.erased Syntax.mut (Syntax.tyInt Syntax.w8))
           (Syntax.tcons (Syntax.tyInt Syntax.w64) Syntax.tnil))),
     ) (List._∷_ (
       31,
-      Rows'.any-gone (Syntax.tyRef Syntax.erased Syntax.mut (Syntax.tyInt Syntax.w8)),
+      Rows'.any-gone
+          (Syntax.tyRef Syntax.erased Syntax.imm (KOwn.named)),
     ) List.[])))))))))))))))
 
 abbrev pub t17 : List.List Row.Entry
@@ -4385,36 +4388,37 @@ t17 = List._∷_ (
       (KRouteRow.R)
       (Syntax.tyRef Syntax.erased Syntax.imm (KRouteRow.named))
       9,
+) (List._∷_ (25, Rows'.any-gone Syntax.tyBool) (List._∷_ (
+  26,
+  Rows'.any-gone (Syntax.tyRef Syntax.erased Syntax.mut (Syntax.tyInt Syntax.w8)),
+) (List._∷_ (
+  27,
+  Rows'.any-gone
+      (Syntax.tyStruct
+      (List._∷_ 38 (List._∷_ 91 (List._∷_ 93 List.[])))
+      (Syntax.tcons
+      (Syntax.tyRef Syntax.erased Syntax.mut (Syntax.tyInt Syntax.w8))
+      (Syntax.tcons (Syntax.tyInt Syntax.w64) Syntax.tnil))),
+) (List._∷_ (
+  28,
+  Rows'.any-gone
+      (Syntax.tyRef Syntax.erased Syntax.imm (KOwn.named)),
 )
-    (List._∷_
-    (25, Rows'.any-gone Syntax.tyBool)
-    (List._∷_ (26, Rows'.any-gone Syntax.tyUnit) (List._∷_ (
-      27,
-      Rows'.any-gone
-          (Syntax.tyRef Syntax.erased Syntax.mut (KInstanceRow.named)),
-    ) (List._∷_ (
-      28,
-      Rows'.any-gone
-          (Syntax.tyStruct
-          (List._∷_ 38 (List._∷_ 91 (List._∷_ 93 List.[])))
-          (Syntax.tcons
-          (Syntax.tyRef Syntax.erased Syntax.mut (KInstanceRow.named))
-          (Syntax.tcons (Syntax.tyInt Syntax.w64) Syntax.tnil))),
-    ) (List._∷_ (
+    (List._∷_ (
       29,
-      Rows'.any-gone
-          (Syntax.tyRef Syntax.erased Syntax.mut (KRouteRow.named)),
+      Rows'.any-gone (Syntax.tyRef Syntax.erased Syntax.mut (Syntax.tyInt Syntax.w8)),
     ) (List._∷_ (
       30,
       Rows'.any-gone
           (Syntax.tyStruct
           (List._∷_ 38 (List._∷_ 91 (List._∷_ 93 List.[])))
           (Syntax.tcons
-          (Syntax.tyRef Syntax.erased Syntax.mut (KRouteRow.named))
+          (Syntax.tyRef Syntax.erased Syntax.mut (Syntax.tyInt Syntax.w8))
           (Syntax.tcons (Syntax.tyInt Syntax.w64) Syntax.tnil))),
     ) (List._∷_ (
       31,
-      Rows'.any-gone (Syntax.tyRef Syntax.erased Syntax.mut (Syntax.tyInt Syntax.w8)),
+      Rows'.any-gone
+          (Syntax.tyRef Syntax.erased Syntax.imm (KOwn.named)),
     ) List.[])))))))))))))))
 
 abbrev pub t18 : List.List Row.Entry
@@ -4476,36 +4480,37 @@ t18 = List._∷_ (
       (KRouteRow.R)
       (Syntax.tyRef Syntax.erased Syntax.imm (KRouteRow.named))
       9,
+) (List._∷_ (25, Rows'.any-gone Syntax.tyBool) (List._∷_ (
+  26,
+  Rows'.any-gone (Syntax.tyRef Syntax.erased Syntax.mut (Syntax.tyInt Syntax.w8)),
+) (List._∷_ (
+  27,
+  Rows'.any-gone
+      (Syntax.tyStruct
+      (List._∷_ 38 (List._∷_ 91 (List._∷_ 93 List.[])))
+      (Syntax.tcons
+      (Syntax.tyRef Syntax.erased Syntax.mut (Syntax.tyInt Syntax.w8))
+      (Syntax.tcons (Syntax.tyInt Syntax.w64) Syntax.tnil))),
+) (List._∷_ (
+  28,
+  Rows'.any-gone
+      (Syntax.tyRef Syntax.erased Syntax.imm (KOwn.named)),
 )
-    (List._∷_
-    (25, Rows'.any-gone Syntax.tyBool)
-    (List._∷_ (26, Rows'.any-gone Syntax.tyUnit) (List._∷_ (
-      27,
-      Rows'.any-gone
-          (Syntax.tyRef Syntax.erased Syntax.mut (KInstanceRow.named)),
-    ) (List._∷_ (
-      28,
-      Rows'.any-gone
-          (Syntax.tyStruct
-          (List._∷_ 38 (List._∷_ 91 (List._∷_ 93 List.[])))
-          (Syntax.tcons
-          (Syntax.tyRef Syntax.erased Syntax.mut (KInstanceRow.named))
-          (Syntax.tcons (Syntax.tyInt Syntax.w64) Syntax.tnil))),
-    ) (List._∷_ (
+    (List._∷_ (
       29,
-      Rows'.any-gone
-          (Syntax.tyRef Syntax.erased Syntax.mut (KRouteRow.named)),
+      Rows'.any-gone (Syntax.tyRef Syntax.erased Syntax.mut (Syntax.tyInt Syntax.w8)),
     ) (List._∷_ (
       30,
       Rows'.any-gone
           (Syntax.tyStruct
           (List._∷_ 38 (List._∷_ 91 (List._∷_ 93 List.[])))
           (Syntax.tcons
-          (Syntax.tyRef Syntax.erased Syntax.mut (KRouteRow.named))
+          (Syntax.tyRef Syntax.erased Syntax.mut (Syntax.tyInt Syntax.w8))
           (Syntax.tcons (Syntax.tyInt Syntax.w64) Syntax.tnil))),
     ) (List._∷_ (
       31,
-      Rows'.any-gone (Syntax.tyRef Syntax.erased Syntax.mut (Syntax.tyInt Syntax.w8)),
+      Rows'.any-gone
+          (Syntax.tyRef Syntax.erased Syntax.imm (KOwn.named)),
     ) List.[])))))))))))))))
 
 abbrev pub t19 : List.List Row.Entry
@@ -4567,36 +4572,37 @@ t19 = List._∷_ (
       (KRouteRow.R)
       (Syntax.tyRef Syntax.erased Syntax.imm (KRouteRow.named))
       9,
+) (List._∷_ (25, Rows'.any-gone Syntax.tyBool) (List._∷_ (
+  26,
+  Rows'.any-gone (Syntax.tyRef Syntax.erased Syntax.mut (Syntax.tyInt Syntax.w8)),
+) (List._∷_ (
+  27,
+  Rows'.any-gone
+      (Syntax.tyStruct
+      (List._∷_ 38 (List._∷_ 91 (List._∷_ 93 List.[])))
+      (Syntax.tcons
+      (Syntax.tyRef Syntax.erased Syntax.mut (Syntax.tyInt Syntax.w8))
+      (Syntax.tcons (Syntax.tyInt Syntax.w64) Syntax.tnil))),
+) (List._∷_ (
+  28,
+  Rows'.any-gone
+      (Syntax.tyRef Syntax.erased Syntax.imm (KOwn.named)),
 )
-    (List._∷_
-    (25, Rows'.any-gone Syntax.tyBool)
-    (List._∷_ (26, Rows'.any-gone Syntax.tyUnit) (List._∷_ (
-      27,
-      Rows'.any-gone
-          (Syntax.tyRef Syntax.erased Syntax.mut (KInstanceRow.named)),
-    ) (List._∷_ (
-      28,
-      Rows'.any-gone
-          (Syntax.tyStruct
-          (List._∷_ 38 (List._∷_ 91 (List._∷_ 93 List.[])))
-          (Syntax.tcons
-          (Syntax.tyRef Syntax.erased Syntax.mut (KInstanceRow.named))
-          (Syntax.tcons (Syntax.tyInt Syntax.w64) Syntax.tnil))),
-    ) (List._∷_ (
+    (List._∷_ (
       29,
-      Rows'.any-gone
-          (Syntax.tyRef Syntax.erased Syntax.mut (KRouteRow.named)),
+      Rows'.any-gone (Syntax.tyRef Syntax.erased Syntax.mut (Syntax.tyInt Syntax.w8)),
     ) (List._∷_ (
       30,
       Rows'.any-gone
           (Syntax.tyStruct
           (List._∷_ 38 (List._∷_ 91 (List._∷_ 93 List.[])))
           (Syntax.tcons
-          (Syntax.tyRef Syntax.erased Syntax.mut (KRouteRow.named))
+          (Syntax.tyRef Syntax.erased Syntax.mut (Syntax.tyInt Syntax.w8))
           (Syntax.tcons (Syntax.tyInt Syntax.w64) Syntax.tnil))),
     ) (List._∷_ (
       31,
-      Rows'.any-gone (Syntax.tyRef Syntax.erased Syntax.mut (Syntax.tyInt Syntax.w8)),
+      Rows'.any-gone
+          (Syntax.tyRef Syntax.erased Syntax.imm (KOwn.named)),
     ) List.[])))))))))))))))
 
 abbrev pub t20 : List.List Row.Entry
@@ -4658,36 +4664,37 @@ t20 = List._∷_ (
       (KRouteRow.R)
       (Syntax.tyRef Syntax.erased Syntax.imm (KRouteRow.named))
       9,
+) (List._∷_ (25, Rows'.any-gone Syntax.tyBool) (List._∷_ (
+  26,
+  Rows'.any-gone (Syntax.tyRef Syntax.erased Syntax.mut (Syntax.tyInt Syntax.w8)),
+) (List._∷_ (
+  27,
+  Rows'.any-gone
+      (Syntax.tyStruct
+      (List._∷_ 38 (List._∷_ 91 (List._∷_ 93 List.[])))
+      (Syntax.tcons
+      (Syntax.tyRef Syntax.erased Syntax.mut (Syntax.tyInt Syntax.w8))
+      (Syntax.tcons (Syntax.tyInt Syntax.w64) Syntax.tnil))),
+) (List._∷_ (
+  28,
+  Rows'.any-gone
+      (Syntax.tyRef Syntax.erased Syntax.imm (KOwn.named)),
 )
-    (List._∷_
-    (25, Rows'.any-gone Syntax.tyBool)
-    (List._∷_ (26, Rows'.any-gone Syntax.tyUnit) (List._∷_ (
-      27,
-      Rows'.any-gone
-          (Syntax.tyRef Syntax.erased Syntax.mut (KInstanceRow.named)),
-    ) (List._∷_ (
-      28,
-      Rows'.any-gone
-          (Syntax.tyStruct
-          (List._∷_ 38 (List._∷_ 91 (List._∷_ 93 List.[])))
-          (Syntax.tcons
-          (Syntax.tyRef Syntax.erased Syntax.mut (KInstanceRow.named))
-          (Syntax.tcons (Syntax.tyInt Syntax.w64) Syntax.tnil))),
-    ) (List._∷_ (
+    (List._∷_ (
       29,
-      Rows'.any-gone
-          (Syntax.tyRef Syntax.erased Syntax.mut (KRouteRow.named)),
+      Rows'.any-gone (Syntax.tyRef Syntax.erased Syntax.mut (Syntax.tyInt Syntax.w8)),
     ) (List._∷_ (
       30,
       Rows'.any-gone
           (Syntax.tyStruct
           (List._∷_ 38 (List._∷_ 91 (List._∷_ 93 List.[])))
           (Syntax.tcons
-          (Syntax.tyRef Syntax.erased Syntax.mut (KRouteRow.named))
+          (Syntax.tyRef Syntax.erased Syntax.mut (Syntax.tyInt Syntax.w8))
           (Syntax.tcons (Syntax.tyInt Syntax.w64) Syntax.tnil))),
     ) (List._∷_ (
       31,
-      Rows'.any-gone (Syntax.tyRef Syntax.erased Syntax.mut (Syntax.tyInt Syntax.w8)),
+      Rows'.any-gone
+          (Syntax.tyRef Syntax.erased Syntax.imm (KOwn.named)),
     ) List.[])))))))))))))))
 
 abbrev pub t21 : List.List Row.Entry
@@ -4719,36 +4726,37 @@ t21 = List._∷_ (16, Rows'.whole (Declared.row RoutePlace.the-type)) (List._∷
       (KRouteRow.R)
       (Syntax.tyRef Syntax.erased Syntax.imm (KRouteRow.named))
       9,
+) (List._∷_ (25, Rows'.any-gone Syntax.tyBool) (List._∷_ (
+  26,
+  Rows'.any-gone (Syntax.tyRef Syntax.erased Syntax.mut (Syntax.tyInt Syntax.w8)),
+) (List._∷_ (
+  27,
+  Rows'.any-gone
+      (Syntax.tyStruct
+      (List._∷_ 38 (List._∷_ 91 (List._∷_ 93 List.[])))
+      (Syntax.tcons
+      (Syntax.tyRef Syntax.erased Syntax.mut (Syntax.tyInt Syntax.w8))
+      (Syntax.tcons (Syntax.tyInt Syntax.w64) Syntax.tnil))),
+) (List._∷_ (
+  28,
+  Rows'.any-gone
+      (Syntax.tyRef Syntax.erased Syntax.imm (KOwn.named)),
 )
-    (List._∷_
-    (25, Rows'.any-gone Syntax.tyBool)
-    (List._∷_ (26, Rows'.any-gone Syntax.tyUnit) (List._∷_ (
-      27,
-      Rows'.any-gone
-          (Syntax.tyRef Syntax.erased Syntax.mut (KInstanceRow.named)),
-    ) (List._∷_ (
-      28,
-      Rows'.any-gone
-          (Syntax.tyStruct
-          (List._∷_ 38 (List._∷_ 91 (List._∷_ 93 List.[])))
-          (Syntax.tcons
-          (Syntax.tyRef Syntax.erased Syntax.mut (KInstanceRow.named))
-          (Syntax.tcons (Syntax.tyInt Syntax.w64) Syntax.tnil))),
-    ) (List._∷_ (
+    (List._∷_ (
       29,
-      Rows'.any-gone
-          (Syntax.tyRef Syntax.erased Syntax.mut (KRouteRow.named)),
+      Rows'.any-gone (Syntax.tyRef Syntax.erased Syntax.mut (Syntax.tyInt Syntax.w8)),
     ) (List._∷_ (
       30,
       Rows'.any-gone
           (Syntax.tyStruct
           (List._∷_ 38 (List._∷_ 91 (List._∷_ 93 List.[])))
           (Syntax.tcons
-          (Syntax.tyRef Syntax.erased Syntax.mut (KRouteRow.named))
+          (Syntax.tyRef Syntax.erased Syntax.mut (Syntax.tyInt Syntax.w8))
           (Syntax.tcons (Syntax.tyInt Syntax.w64) Syntax.tnil))),
     ) (List._∷_ (
       31,
-      Rows'.any-gone (Syntax.tyRef Syntax.erased Syntax.mut (Syntax.tyInt Syntax.w8)),
+      Rows'.any-gone
+          (Syntax.tyRef Syntax.erased Syntax.imm (KOwn.named)),
     ) List.[])))))))))))))))
 
 abbrev pub t22 : List.List Row.Entry
@@ -4782,36 +4790,37 @@ t22 = List._∷_ (16, Rows'.whole (Declared.row RoutePlace.the-type)) (List._∷
       (Syntax.tcons
       (Syntax.tyRef Syntax.erased Syntax.imm (KRouteRow.named))
       (Syntax.tcons (Syntax.tyInt Syntax.w64) Syntax.tnil))),
+) (List._∷_ (25, Rows'.any-gone Syntax.tyBool) (List._∷_ (
+  26,
+  Rows'.any-gone (Syntax.tyRef Syntax.erased Syntax.mut (Syntax.tyInt Syntax.w8)),
+) (List._∷_ (
+  27,
+  Rows'.any-gone
+      (Syntax.tyStruct
+      (List._∷_ 38 (List._∷_ 91 (List._∷_ 93 List.[])))
+      (Syntax.tcons
+      (Syntax.tyRef Syntax.erased Syntax.mut (Syntax.tyInt Syntax.w8))
+      (Syntax.tcons (Syntax.tyInt Syntax.w64) Syntax.tnil))),
+) (List._∷_ (
+  28,
+  Rows'.any-gone
+      (Syntax.tyRef Syntax.erased Syntax.imm (KOwn.named)),
 )
-    (List._∷_
-    (25, Rows'.any-gone Syntax.tyBool)
-    (List._∷_ (26, Rows'.any-gone Syntax.tyUnit) (List._∷_ (
-      27,
-      Rows'.any-gone
-          (Syntax.tyRef Syntax.erased Syntax.mut (KInstanceRow.named)),
-    ) (List._∷_ (
-      28,
-      Rows'.any-gone
-          (Syntax.tyStruct
-          (List._∷_ 38 (List._∷_ 91 (List._∷_ 93 List.[])))
-          (Syntax.tcons
-          (Syntax.tyRef Syntax.erased Syntax.mut (KInstanceRow.named))
-          (Syntax.tcons (Syntax.tyInt Syntax.w64) Syntax.tnil))),
-    ) (List._∷_ (
+    (List._∷_ (
       29,
-      Rows'.any-gone
-          (Syntax.tyRef Syntax.erased Syntax.mut (KRouteRow.named)),
+      Rows'.any-gone (Syntax.tyRef Syntax.erased Syntax.mut (Syntax.tyInt Syntax.w8)),
     ) (List._∷_ (
       30,
       Rows'.any-gone
           (Syntax.tyStruct
           (List._∷_ 38 (List._∷_ 91 (List._∷_ 93 List.[])))
           (Syntax.tcons
-          (Syntax.tyRef Syntax.erased Syntax.mut (KRouteRow.named))
+          (Syntax.tyRef Syntax.erased Syntax.mut (Syntax.tyInt Syntax.w8))
           (Syntax.tcons (Syntax.tyInt Syntax.w64) Syntax.tnil))),
     ) (List._∷_ (
       31,
-      Rows'.any-gone (Syntax.tyRef Syntax.erased Syntax.mut (Syntax.tyInt Syntax.w8)),
+      Rows'.any-gone
+          (Syntax.tyRef Syntax.erased Syntax.imm (KOwn.named)),
     ) List.[])))))))))))))))
 
 abbrev pub t23 : List.List Row.Entry
@@ -5164,36 +5173,37 @@ t24 = List._∷_ (16, Rows'.whole (Declared.row RoutePlace.the-type)) (List._∷
       (Syntax.tcons
       (Syntax.tyRef Syntax.erased Syntax.imm (KRouteRow.named))
       (Syntax.tcons (Syntax.tyInt Syntax.w64) Syntax.tnil))),
+) (List._∷_ (25, Rows'.any-gone Syntax.tyBool) (List._∷_ (
+  26,
+  Rows'.any-gone (Syntax.tyRef Syntax.erased Syntax.mut (Syntax.tyInt Syntax.w8)),
+) (List._∷_ (
+  27,
+  Rows'.any-gone
+      (Syntax.tyStruct
+      (List._∷_ 38 (List._∷_ 91 (List._∷_ 93 List.[])))
+      (Syntax.tcons
+      (Syntax.tyRef Syntax.erased Syntax.mut (Syntax.tyInt Syntax.w8))
+      (Syntax.tcons (Syntax.tyInt Syntax.w64) Syntax.tnil))),
+) (List._∷_ (
+  28,
+  Rows'.any-gone
+      (Syntax.tyRef Syntax.erased Syntax.imm (KOwn.named)),
 )
-    (List._∷_
-    (25, Rows'.any-gone Syntax.tyBool)
-    (List._∷_ (26, Rows'.any-gone Syntax.tyUnit) (List._∷_ (
-      27,
-      Rows'.any-gone
-          (Syntax.tyRef Syntax.erased Syntax.mut (KInstanceRow.named)),
-    ) (List._∷_ (
-      28,
-      Rows'.any-gone
-          (Syntax.tyStruct
-          (List._∷_ 38 (List._∷_ 91 (List._∷_ 93 List.[])))
-          (Syntax.tcons
-          (Syntax.tyRef Syntax.erased Syntax.mut (KInstanceRow.named))
-          (Syntax.tcons (Syntax.tyInt Syntax.w64) Syntax.tnil))),
-    ) (List._∷_ (
+    (List._∷_ (
       29,
-      Rows'.any-gone
-          (Syntax.tyRef Syntax.erased Syntax.mut (KRouteRow.named)),
+      Rows'.any-gone (Syntax.tyRef Syntax.erased Syntax.mut (Syntax.tyInt Syntax.w8)),
     ) (List._∷_ (
       30,
       Rows'.any-gone
           (Syntax.tyStruct
           (List._∷_ 38 (List._∷_ 91 (List._∷_ 93 List.[])))
           (Syntax.tcons
-          (Syntax.tyRef Syntax.erased Syntax.mut (KRouteRow.named))
+          (Syntax.tyRef Syntax.erased Syntax.mut (Syntax.tyInt Syntax.w8))
           (Syntax.tcons (Syntax.tyInt Syntax.w64) Syntax.tnil))),
     ) (List._∷_ (
       31,
-      Rows'.any-gone (Syntax.tyRef Syntax.erased Syntax.mut (Syntax.tyInt Syntax.w8)),
+      Rows'.any-gone
+          (Syntax.tyRef Syntax.erased Syntax.imm (KOwn.named)),
     ) List.[])))))))))))))))
 
 abbrev pub t25 : List.List Row.Entry
@@ -5544,34 +5554,37 @@ t26 = List._∷_ (16, Rows'.whole (Declared.row RoutePlace.the-type)) (List._∷
       (Syntax.tcons
       (Syntax.tyRef Syntax.erased Syntax.imm (KRouteRow.named))
       (Syntax.tcons (Syntax.tyInt Syntax.w64) Syntax.tnil))),
-) (List._∷_ (25, Rows'.sc-here Row.sBool) (List._∷_ (26, Rows'.any-gone Syntax.tyUnit) (List._∷_ (
+) (List._∷_ (25, Rows'.sc-here Row.sBool) (List._∷_ (
+  26,
+  Rows'.any-gone (Syntax.tyRef Syntax.erased Syntax.mut (Syntax.tyInt Syntax.w8)),
+) (List._∷_ (
   27,
   Rows'.any-gone
-      (Syntax.tyRef Syntax.erased Syntax.mut (KInstanceRow.named)),
+      (Syntax.tyStruct
+      (List._∷_ 38 (List._∷_ 91 (List._∷_ 93 List.[])))
+      (Syntax.tcons
+      (Syntax.tyRef Syntax.erased Syntax.mut (Syntax.tyInt Syntax.w8))
+      (Syntax.tcons (Syntax.tyInt Syntax.w64) Syntax.tnil))),
 ) (List._∷_ (
   28,
   Rows'.any-gone
-      (Syntax.tyStruct
-      (List._∷_ 38 (List._∷_ 91 (List._∷_ 93 List.[])))
-      (Syntax.tcons
-      (Syntax.tyRef Syntax.erased Syntax.mut (KInstanceRow.named))
-      (Syntax.tcons (Syntax.tyInt Syntax.w64) Syntax.tnil))),
-) (List._∷_ (
-  29,
-  Rows'.any-gone
-      (Syntax.tyRef Syntax.erased Syntax.mut (KRouteRow.named)),
-) (List._∷_ (
-  30,
-  Rows'.any-gone
-      (Syntax.tyStruct
-      (List._∷_ 38 (List._∷_ 91 (List._∷_ 93 List.[])))
-      (Syntax.tcons
-      (Syntax.tyRef Syntax.erased Syntax.mut (KRouteRow.named))
-      (Syntax.tcons (Syntax.tyInt Syntax.w64) Syntax.tnil))),
+      (Syntax.tyRef Syntax.erased Syntax.imm (KOwn.named)),
 )
     (List._∷_ (
-      31,
+      29,
       Rows'.any-gone (Syntax.tyRef Syntax.erased Syntax.mut (Syntax.tyInt Syntax.w8)),
+    ) (List._∷_ (
+      30,
+      Rows'.any-gone
+          (Syntax.tyStruct
+          (List._∷_ 38 (List._∷_ 91 (List._∷_ 93 List.[])))
+          (Syntax.tcons
+          (Syntax.tyRef Syntax.erased Syntax.mut (Syntax.tyInt Syntax.w8))
+          (Syntax.tcons (Syntax.tyInt Syntax.w64) Syntax.tnil))),
+    ) (List._∷_ (
+      31,
+      Rows'.any-gone
+          (Syntax.tyRef Syntax.erased Syntax.imm (KOwn.named)),
     ) List.[])))))))))))))))
 
 abbrev pub t27 : List.List Row.Entry
@@ -6147,12 +6160,10 @@ t28 = List._∷_ (
       (Syntax.tcons (Syntax.tyInt Syntax.w8) Syntax.tnil)))))),
 ) (List._∷_ (
   1,
-  Relend.mslice-owed
+  Mut.mslice
       (KInstanceRow.R)
       (Syntax.tyRef (Syntax.named 0) Syntax.mut (KInstanceRow.named))
-      0
-      10
-      Row.off,
+      0,
 ) (List._∷_ (
   2,
   Mut.mslice
@@ -6161,10 +6172,12 @@ t28 = List._∷_ (
       1,
 ) (List._∷_ (
   3,
-  Mut.mslice
+  Relend.mslice-owed
       (Referent.rtF (Referent.fInt Syntax.w8))
       (Syntax.tyRef (Syntax.named 2) Syntax.mut (Syntax.tyInt Syntax.w8))
-      2,
+      2
+      10
+      Row.off,
 ) (List._∷_ (
   4,
   Mut.mslice
@@ -6264,38 +6277,40 @@ t29 = List._∷_ (16, Rows'.whole (Declared.row RoutePlace.the-type)) (List._∷
       (Syntax.tcons
       (Syntax.tyRef Syntax.erased Syntax.imm (KRouteRow.named))
       (Syntax.tcons (Syntax.tyInt Syntax.w64) Syntax.tnil))),
+) (List._∷_ (25, Rows'.any-gone Syntax.tyBool) (List._∷_ (
+  26,
+  Relend.msptr
+      (Referent.rtF (Referent.fInt Syntax.w8))
+      (Syntax.tyRef Syntax.erased Syntax.mut (Syntax.tyInt Syntax.w8))
+      10,
+) (List._∷_ (
+  27,
+  Rows'.any-gone
+      (Syntax.tyStruct
+      (List._∷_ 38 (List._∷_ 91 (List._∷_ 93 List.[])))
+      (Syntax.tcons
+      (Syntax.tyRef Syntax.erased Syntax.mut (Syntax.tyInt Syntax.w8))
+      (Syntax.tcons (Syntax.tyInt Syntax.w64) Syntax.tnil))),
+) (List._∷_ (
+  28,
+  Rows'.any-gone
+      (Syntax.tyRef Syntax.erased Syntax.imm (KOwn.named)),
 )
-    (List._∷_
-    (25, Rows'.any-gone Syntax.tyBool)
-    (List._∷_ (26, Rows'.any-gone Syntax.tyUnit) (List._∷_ (
-      27,
-      Relend.msptr
-          (KInstanceRow.R)
-          (Syntax.tyRef Syntax.erased Syntax.mut (KInstanceRow.named))
-          10,
-    ) (List._∷_ (
-      28,
-      Rows'.any-gone
-          (Syntax.tyStruct
-          (List._∷_ 38 (List._∷_ 91 (List._∷_ 93 List.[])))
-          (Syntax.tcons
-          (Syntax.tyRef Syntax.erased Syntax.mut (KInstanceRow.named))
-          (Syntax.tcons (Syntax.tyInt Syntax.w64) Syntax.tnil))),
-    ) (List._∷_ (
+    (List._∷_ (
       29,
-      Rows'.any-gone
-          (Syntax.tyRef Syntax.erased Syntax.mut (KRouteRow.named)),
+      Rows'.any-gone (Syntax.tyRef Syntax.erased Syntax.mut (Syntax.tyInt Syntax.w8)),
     ) (List._∷_ (
       30,
       Rows'.any-gone
           (Syntax.tyStruct
           (List._∷_ 38 (List._∷_ 91 (List._∷_ 93 List.[])))
           (Syntax.tcons
-          (Syntax.tyRef Syntax.erased Syntax.mut (KRouteRow.named))
+          (Syntax.tyRef Syntax.erased Syntax.mut (Syntax.tyInt Syntax.w8))
           (Syntax.tcons (Syntax.tyInt Syntax.w64) Syntax.tnil))),
     ) (List._∷_ (
       31,
-      Rows'.any-gone (Syntax.tyRef Syntax.erased Syntax.mut (Syntax.tyInt Syntax.w8)),
+      Rows'.any-gone
+          (Syntax.tyRef Syntax.erased Syntax.imm (KOwn.named)),
     ) List.[])))))))))))))))
 
 abbrev pub t30 : List.List Row.Entry
@@ -6329,1052 +6344,39 @@ t30 = List._∷_ (16, Rows'.whole (Declared.row RoutePlace.the-type)) (List._∷
       (Syntax.tcons
       (Syntax.tyRef Syntax.erased Syntax.imm (KRouteRow.named))
       (Syntax.tcons (Syntax.tyInt Syntax.w64) Syntax.tnil))),
+) (List._∷_ (25, Rows'.any-gone Syntax.tyBool) (List._∷_ (
+  26,
+  Rows'.any-gone (Syntax.tyRef Syntax.erased Syntax.mut (Syntax.tyInt Syntax.w8)),
+) (List._∷_ (
+  27,
+  Mut.mslice
+      (Referent.rtF (Referent.fInt Syntax.w8))
+      (Syntax.tyRef Syntax.erased Syntax.mut (Syntax.tyInt Syntax.w8))
+      10,
+) (List._∷_ (
+  28,
+  Rows'.any-gone
+      (Syntax.tyRef Syntax.erased Syntax.imm (KOwn.named)),
 )
-    (List._∷_
-    (25, Rows'.any-gone Syntax.tyBool)
-    (List._∷_ (26, Rows'.any-gone Syntax.tyUnit) (List._∷_ (
-      27,
-      Rows'.any-gone
-          (Syntax.tyRef Syntax.erased Syntax.mut (KInstanceRow.named)),
-    ) (List._∷_ (
-      28,
-      Mut.mslice
-          (KInstanceRow.R)
-          (Syntax.tyRef Syntax.erased Syntax.mut (KInstanceRow.named))
-          10,
-    ) (List._∷_ (
+    (List._∷_ (
       29,
-      Rows'.any-gone
-          (Syntax.tyRef Syntax.erased Syntax.mut (KRouteRow.named)),
+      Rows'.any-gone (Syntax.tyRef Syntax.erased Syntax.mut (Syntax.tyInt Syntax.w8)),
     ) (List._∷_ (
       30,
       Rows'.any-gone
           (Syntax.tyStruct
           (List._∷_ 38 (List._∷_ 91 (List._∷_ 93 List.[])))
           (Syntax.tcons
-          (Syntax.tyRef Syntax.erased Syntax.mut (KRouteRow.named))
+          (Syntax.tyRef Syntax.erased Syntax.mut (Syntax.tyInt Syntax.w8))
           (Syntax.tcons (Syntax.tyInt Syntax.w64) Syntax.tnil))),
     ) (List._∷_ (
       31,
-      Rows'.any-gone (Syntax.tyRef Syntax.erased Syntax.mut (Syntax.tyInt Syntax.w8)),
+      Rows'.any-gone
+          (Syntax.tyRef Syntax.erased Syntax.imm (KOwn.named)),
     ) List.[])))))))))))))))
 
 abbrev pub t31 : List.List Row.Entry
 t31 = List._∷_ (
-  0,
-  Rows'.any-gone
-      (Syntax.tyStruct
-      (List._∷_
-      102
-      (List._∷_
-      105
-      (List._∷_
-      110
-      (List._∷_
-      105
-      (List._∷_
-      115
-      (List._∷_
-      104
-      (List._∷_
-      58
-      (List._∷_
-      58
-      (List._∷_
-      79
-      (List._∷_
-      117
-      (List._∷_ 116 (List._∷_ 99 (List._∷_ 111 (List._∷_ 109 (List._∷_ 101 List.[])))))))))))))))
-      (Syntax.tcons
-      (Syntax.tyStruct
-      (List._∷_
-      102
-      (List._∷_
-      105
-      (List._∷_
-      110
-      (List._∷_
-      105
-      (List._∷_
-      115
-      (List._∷_
-      104
-      (List._∷_
-      58
-      (List._∷_ 58 (List._∷_ 83 (List._∷_ 101 (List._∷_ 110 (List._∷_ 116 List.[]))))))))))))
-      (Syntax.tcons
-      (Syntax.tyStruct
-      (List._∷_
-      97
-      (List._∷_
-      110
-      (List._∷_
-      115
-      (List._∷_
-      119
-      (List._∷_
-      101
-      (List._∷_
-      114
-      (List._∷_
-      58
-      (List._∷_
-      58
-      (List._∷_
-      68
-      (List._∷_
-      101
-      (List._∷_
-      115
-      (List._∷_
-      116
-      (List._∷_
-      105
-      (List._∷_
-      110
-      (List._∷_
-      97
-      (List._∷_ 116 (List._∷_ 105 (List._∷_ 111 (List._∷_ 110 List.[])))))))))))))))))))
-      (Syntax.tcons
-      (Syntax.tyArray (Syntax.tyInt Syntax.w8) 16)
-      (Syntax.tcons
-      (Syntax.tyEnum
-      (List._∷_
-      97
-      (List._∷_
-      110
-      (List._∷_
-      115
-      (List._∷_
-      119
-      (List._∷_
-      101
-      (List._∷_
-      114
-      (List._∷_ 58 (List._∷_ 58 (List._∷_ 87 (List._∷_ 97 (List._∷_ 121 List.[])))))))))))
-      (Syntax.ttcons
-      Syntax.tnil
-      (Syntax.ttcons
-      Syntax.tnil
-      (Syntax.ttcons Syntax.tnil (Syntax.ttcons Syntax.tnil Syntax.ttnil)))))
-      Syntax.tnil)))
-      (Syntax.tcons (Syntax.tyInt Syntax.w64) Syntax.tnil)))
-      (Syntax.tcons
-      (Syntax.tyInt Syntax.w64)
-      (Syntax.tcons
-      (Syntax.tyStruct
-      (List._∷_
-      102
-      (List._∷_
-      105
-      (List._∷_
-      110
-      (List._∷_
-      105
-      (List._∷_
-      115
-      (List._∷_
-      104
-      (List._∷_
-      58
-      (List._∷_ 58 (List._∷_ 83 (List._∷_ 101 (List._∷_ 110 (List._∷_ 116 List.[]))))))))))))
-      (Syntax.tcons
-      (Syntax.tyStruct
-      (List._∷_
-      97
-      (List._∷_
-      110
-      (List._∷_
-      115
-      (List._∷_
-      119
-      (List._∷_
-      101
-      (List._∷_
-      114
-      (List._∷_
-      58
-      (List._∷_
-      58
-      (List._∷_
-      68
-      (List._∷_
-      101
-      (List._∷_
-      115
-      (List._∷_
-      116
-      (List._∷_
-      105
-      (List._∷_
-      110
-      (List._∷_
-      97
-      (List._∷_ 116 (List._∷_ 105 (List._∷_ 111 (List._∷_ 110 List.[])))))))))))))))))))
-      (Syntax.tcons
-      (Syntax.tyArray (Syntax.tyInt Syntax.w8) 16)
-      (Syntax.tcons
-      (Syntax.tyEnum
-      (List._∷_
-      97
-      (List._∷_
-      110
-      (List._∷_
-      115
-      (List._∷_
-      119
-      (List._∷_
-      101
-      (List._∷_
-      114
-      (List._∷_ 58 (List._∷_ 58 (List._∷_ 87 (List._∷_ 97 (List._∷_ 121 List.[])))))))))))
-      (Syntax.ttcons
-      Syntax.tnil
-      (Syntax.ttcons
-      Syntax.tnil
-      (Syntax.ttcons Syntax.tnil (Syntax.ttcons Syntax.tnil Syntax.ttnil)))))
-      Syntax.tnil)))
-      (Syntax.tcons (Syntax.tyInt Syntax.w64) Syntax.tnil)))
-      (Syntax.tcons
-      (Syntax.tyEnum
-      (List._∷_
-      97
-      (List._∷_
-      110
-      (List._∷_
-      115
-      (List._∷_
-      119
-      (List._∷_
-      101
-      (List._∷_
-      114
-      (List._∷_
-      58
-      (List._∷_
-      58
-      (List._∷_
-      65
-      (List._∷_ 110 (List._∷_ 115 (List._∷_ 119 (List._∷_ 101 (List._∷_ 114 List.[]))))))))))))))
-      (Syntax.ttcons
-      Syntax.tnil
-      (Syntax.ttcons
-      Syntax.tnil
-      (Syntax.ttcons
-      Syntax.tnil
-      (Syntax.ttcons
-      Syntax.tnil
-      (Syntax.ttcons
-      Syntax.tnil
-      (Syntax.ttcons
-      Syntax.tnil
-      (Syntax.ttcons
-      Syntax.tnil
-      (Syntax.ttcons
-      Syntax.tnil
-      (Syntax.ttcons
-      Syntax.tnil
-      (Syntax.ttcons
-      Syntax.tnil
-      (Syntax.ttcons
-      Syntax.tnil
-      (Syntax.ttcons
-      Syntax.tnil
-      (Syntax.ttcons
-      Syntax.tnil
-      (Syntax.ttcons
-      Syntax.tnil
-      (Syntax.ttcons
-      Syntax.tnil
-      (Syntax.ttcons
-      Syntax.tnil
-      (Syntax.ttcons Syntax.tnil (Syntax.ttcons Syntax.tnil Syntax.ttnil)))))))))))))))))))
-      (Syntax.tcons (Syntax.tyInt Syntax.w8) Syntax.tnil)))))),
-) (List._∷_ (
-  1,
-  Relend.mslice-owed
-      (KInstanceRow.R)
-      (Syntax.tyRef (Syntax.named 0) Syntax.mut (KInstanceRow.named))
-      0
-      10
-      Row.off,
-) (List._∷_ (
-  2,
-  Relend.mslice-owed
-      (KRouteRow.R)
-      (Syntax.tyRef (Syntax.named 1) Syntax.mut (KRouteRow.named))
-      1
-      11
-      Row.off,
-) (List._∷_ (
-  3,
-  Mut.mslice
-      (Referent.rtF (Referent.fInt Syntax.w8))
-      (Syntax.tyRef (Syntax.named 2) Syntax.mut (Syntax.tyInt Syntax.w8))
-      2,
-) (List._∷_ (
-  4,
-  Mut.mslice
-      (Referent.rtF (Referent.fInt Syntax.w8))
-      (Syntax.tyRef (Syntax.named 3) Syntax.mut (Syntax.tyInt Syntax.w8))
-      3,
-) (List._∷_ (5, Rows'.any-gone (KOwn.spelled)) (List._∷_ (
-  6,
-  Rows'.sc-here (Row.sInt Syntax.w64),
-) (List._∷_ (7, Rows'.sc-here (Row.sInt Syntax.w8)) (List._∷_ (
-  8,
-  Rows'.sc-here (Row.sInt Syntax.w64),
-) (List._∷_ (
-  9,
-  Rows'.sref
-      (Array'.Array (Array'.Array (Referent.rtF (Referent.fInt Syntax.w8)) 16) 16)
-      (Syntax.tyRef
-      (Syntax.named 4)
-      Syntax.imm
-      (Syntax.tyArray (Syntax.tyArray (Syntax.tyInt Syntax.w8) 16) 16))
-      4,
-) (List._∷_ (
-  10,
-  Rows'.sref
-      (KDecided.R)
-      (Syntax.tyRef (Syntax.named 5) Syntax.imm (KDecided.named))
-      5,
-) (List._∷_ (
-  11,
-  Rows'.sref
-      (KPost.R)
-      (Syntax.tyRef (Syntax.named 6) Syntax.imm (KPost.named))
-      6,
-) (List._∷_ (
-  12,
-  Rows'.sref
-      (KPost.R)
-      (Syntax.tyRef (Syntax.named 7) Syntax.imm (KPost.named))
-      7,
-) (List._∷_ (
-  13,
-  Rows'.any-gone
-      (Syntax.tyStruct
-      (List._∷_
-      102
-      (List._∷_
-      105
-      (List._∷_
-      110
-      (List._∷_
-      105
-      (List._∷_
-      115
-      (List._∷_
-      104
-      (List._∷_
-      58
-      (List._∷_ 58 (List._∷_ 76 (List._∷_ 105 (List._∷_ 118 (List._∷_ 101 List.[]))))))))))))
-      (Syntax.tcons
-      Syntax.tyBool
-      (Syntax.tcons
-      (Syntax.tyInt Syntax.w64)
-      (Syntax.tcons Syntax.tyBool (Syntax.tcons (Syntax.tyInt Syntax.w64) Syntax.tnil))))),
-) (List._∷_ (14, KOwn.row) (List._∷_ (
-  15,
-  Rows'.whole (Declared.row Places.the-type),
-) List.[])))))))))))))))
-
-abbrev pub t32 : List.List Row.Entry
-t32 = List._∷_ (16, Rows'.whole (Declared.row RoutePlace.the-type)) (List._∷_ (
-  17,
-  Rows'.any-gone (Syntax.tyInt Syntax.w64),
-) (List._∷_ (18, Rows'.any-gone (Syntax.tyInt Syntax.w64)) (List._∷_ (
-  19,
-  Rows'.any-gone
-      (Syntax.tyRef Syntax.erased Syntax.imm (KInstanceRow.named)),
-) (List._∷_ (
-  20,
-  Rows'.any-gone
-      (Syntax.tyStruct
-      (List._∷_ 38 (List._∷_ 91 (List._∷_ 93 List.[])))
-      (Syntax.tcons
-      (Syntax.tyRef Syntax.erased Syntax.imm (KInstanceRow.named))
-      (Syntax.tcons (Syntax.tyInt Syntax.w64) Syntax.tnil))),
-) (List._∷_ (21, Rows'.any-gone Syntax.tyBool) (List._∷_ (
-  22,
-  Rows'.any-gone (KDecided.spelled),
-) (List._∷_ (
-  23,
-  Rows'.any-gone
-      (Syntax.tyRef Syntax.erased Syntax.imm (KRouteRow.named)),
-) (List._∷_ (
-  24,
-  Rows'.any-gone
-      (Syntax.tyStruct
-      (List._∷_ 38 (List._∷_ 91 (List._∷_ 93 List.[])))
-      (Syntax.tcons
-      (Syntax.tyRef Syntax.erased Syntax.imm (KRouteRow.named))
-      (Syntax.tcons (Syntax.tyInt Syntax.w64) Syntax.tnil))),
-)
-    (List._∷_
-    (25, Rows'.any-gone Syntax.tyBool)
-    (List._∷_ (26, Rows'.any-gone Syntax.tyUnit) (List._∷_ (
-      27,
-      Rows'.any-gone
-          (Syntax.tyRef Syntax.erased Syntax.mut (KInstanceRow.named)),
-    ) (List._∷_ (
-      28,
-      Mut.mslice
-          (KInstanceRow.R)
-          (Syntax.tyRef Syntax.erased Syntax.mut (KInstanceRow.named))
-          10,
-    ) (List._∷_ (
-      29,
-      Relend.msptr
-          (KRouteRow.R)
-          (Syntax.tyRef Syntax.erased Syntax.mut (KRouteRow.named))
-          11,
-    ) (List._∷_ (
-      30,
-      Rows'.any-gone
-          (Syntax.tyStruct
-          (List._∷_ 38 (List._∷_ 91 (List._∷_ 93 List.[])))
-          (Syntax.tcons
-          (Syntax.tyRef Syntax.erased Syntax.mut (KRouteRow.named))
-          (Syntax.tcons (Syntax.tyInt Syntax.w64) Syntax.tnil))),
-    ) (List._∷_ (
-      31,
-      Rows'.any-gone (Syntax.tyRef Syntax.erased Syntax.mut (Syntax.tyInt Syntax.w8)),
-    ) List.[])))))))))))))))
-
-abbrev pub t33 : List.List Row.Entry
-t33 = List._∷_ (16, Rows'.whole (Declared.row RoutePlace.the-type)) (List._∷_ (
-  17,
-  Rows'.any-gone (Syntax.tyInt Syntax.w64),
-) (List._∷_ (18, Rows'.any-gone (Syntax.tyInt Syntax.w64)) (List._∷_ (
-  19,
-  Rows'.any-gone
-      (Syntax.tyRef Syntax.erased Syntax.imm (KInstanceRow.named)),
-) (List._∷_ (
-  20,
-  Rows'.any-gone
-      (Syntax.tyStruct
-      (List._∷_ 38 (List._∷_ 91 (List._∷_ 93 List.[])))
-      (Syntax.tcons
-      (Syntax.tyRef Syntax.erased Syntax.imm (KInstanceRow.named))
-      (Syntax.tcons (Syntax.tyInt Syntax.w64) Syntax.tnil))),
-) (List._∷_ (21, Rows'.any-gone Syntax.tyBool) (List._∷_ (
-  22,
-  Rows'.any-gone (KDecided.spelled),
-) (List._∷_ (
-  23,
-  Rows'.any-gone
-      (Syntax.tyRef Syntax.erased Syntax.imm (KRouteRow.named)),
-) (List._∷_ (
-  24,
-  Rows'.any-gone
-      (Syntax.tyStruct
-      (List._∷_ 38 (List._∷_ 91 (List._∷_ 93 List.[])))
-      (Syntax.tcons
-      (Syntax.tyRef Syntax.erased Syntax.imm (KRouteRow.named))
-      (Syntax.tcons (Syntax.tyInt Syntax.w64) Syntax.tnil))),
-)
-    (List._∷_
-    (25, Rows'.any-gone Syntax.tyBool)
-    (List._∷_ (26, Rows'.any-gone Syntax.tyUnit) (List._∷_ (
-      27,
-      Rows'.any-gone
-          (Syntax.tyRef Syntax.erased Syntax.mut (KInstanceRow.named)),
-    ) (List._∷_ (
-      28,
-      Mut.mslice
-          (KInstanceRow.R)
-          (Syntax.tyRef Syntax.erased Syntax.mut (KInstanceRow.named))
-          10,
-    ) (List._∷_ (
-      29,
-      Rows'.any-gone
-          (Syntax.tyRef Syntax.erased Syntax.mut (KRouteRow.named)),
-    ) (List._∷_ (
-      30,
-      Mut.mslice
-          (KRouteRow.R)
-          (Syntax.tyRef Syntax.erased Syntax.mut (KRouteRow.named))
-          11,
-    ) (List._∷_ (
-      31,
-      Rows'.any-gone (Syntax.tyRef Syntax.erased Syntax.mut (Syntax.tyInt Syntax.w8)),
-    ) List.[])))))))))))))))
-
-abbrev pub t34 : List.List Row.Entry
-t34 = List._∷_ (16, Rows'.whole (Declared.row RoutePlace.the-type)) (List._∷_ (
-  17,
-  Rows'.any-gone (Syntax.tyInt Syntax.w64),
-) (List._∷_ (18, Rows'.any-gone (Syntax.tyInt Syntax.w64)) (List._∷_ (
-  19,
-  Rows'.any-gone
-      (Syntax.tyRef Syntax.erased Syntax.imm (KInstanceRow.named)),
-) (List._∷_ (
-  20,
-  Rows'.any-gone
-      (Syntax.tyStruct
-      (List._∷_ 38 (List._∷_ 91 (List._∷_ 93 List.[])))
-      (Syntax.tcons
-      (Syntax.tyRef Syntax.erased Syntax.imm (KInstanceRow.named))
-      (Syntax.tcons (Syntax.tyInt Syntax.w64) Syntax.tnil))),
-) (List._∷_ (21, Rows'.any-gone Syntax.tyBool) (List._∷_ (
-  22,
-  Rows'.any-gone (KDecided.spelled),
-) (List._∷_ (
-  23,
-  Rows'.any-gone
-      (Syntax.tyRef Syntax.erased Syntax.imm (KRouteRow.named)),
-) (List._∷_ (
-  24,
-  Rows'.any-gone
-      (Syntax.tyStruct
-      (List._∷_ 38 (List._∷_ 91 (List._∷_ 93 List.[])))
-      (Syntax.tcons
-      (Syntax.tyRef Syntax.erased Syntax.imm (KRouteRow.named))
-      (Syntax.tcons (Syntax.tyInt Syntax.w64) Syntax.tnil))),
-) (List._∷_ (25, Rows'.any-gone Syntax.tyBool) (List._∷_ (26, Rows'.sc-here Row.sUnit) (List._∷_ (
-  27,
-  Rows'.any-gone
-      (Syntax.tyRef Syntax.erased Syntax.mut (KInstanceRow.named)),
-) (List._∷_ (
-  28,
-  Mut.msleft
-      (KInstanceRow.R)
-      (Syntax.tyRef Syntax.erased Syntax.mut (KInstanceRow.named)),
-) (List._∷_ (
-  29,
-  Rows'.any-gone
-      (Syntax.tyRef Syntax.erased Syntax.mut (KRouteRow.named)),
-) (List._∷_ (
-  30,
-  Mut.msleft
-      (KRouteRow.R)
-      (Syntax.tyRef Syntax.erased Syntax.mut (KRouteRow.named)),
-)
-    (List._∷_ (
-      31,
-      Rows'.any-gone (Syntax.tyRef Syntax.erased Syntax.mut (Syntax.tyInt Syntax.w8)),
-    ) List.[])))))))))))))))
-
-abbrev pub t35 : List.List Row.Entry
-t35 = List._∷_ (
-  0,
-  Rows'.any-gone
-      (Syntax.tyStruct
-      (List._∷_
-      102
-      (List._∷_
-      105
-      (List._∷_
-      110
-      (List._∷_
-      105
-      (List._∷_
-      115
-      (List._∷_
-      104
-      (List._∷_
-      58
-      (List._∷_
-      58
-      (List._∷_
-      79
-      (List._∷_
-      117
-      (List._∷_ 116 (List._∷_ 99 (List._∷_ 111 (List._∷_ 109 (List._∷_ 101 List.[])))))))))))))))
-      (Syntax.tcons
-      (Syntax.tyStruct
-      (List._∷_
-      102
-      (List._∷_
-      105
-      (List._∷_
-      110
-      (List._∷_
-      105
-      (List._∷_
-      115
-      (List._∷_
-      104
-      (List._∷_
-      58
-      (List._∷_ 58 (List._∷_ 83 (List._∷_ 101 (List._∷_ 110 (List._∷_ 116 List.[]))))))))))))
-      (Syntax.tcons
-      (Syntax.tyStruct
-      (List._∷_
-      97
-      (List._∷_
-      110
-      (List._∷_
-      115
-      (List._∷_
-      119
-      (List._∷_
-      101
-      (List._∷_
-      114
-      (List._∷_
-      58
-      (List._∷_
-      58
-      (List._∷_
-      68
-      (List._∷_
-      101
-      (List._∷_
-      115
-      (List._∷_
-      116
-      (List._∷_
-      105
-      (List._∷_
-      110
-      (List._∷_
-      97
-      (List._∷_ 116 (List._∷_ 105 (List._∷_ 111 (List._∷_ 110 List.[])))))))))))))))))))
-      (Syntax.tcons
-      (Syntax.tyArray (Syntax.tyInt Syntax.w8) 16)
-      (Syntax.tcons
-      (Syntax.tyEnum
-      (List._∷_
-      97
-      (List._∷_
-      110
-      (List._∷_
-      115
-      (List._∷_
-      119
-      (List._∷_
-      101
-      (List._∷_
-      114
-      (List._∷_ 58 (List._∷_ 58 (List._∷_ 87 (List._∷_ 97 (List._∷_ 121 List.[])))))))))))
-      (Syntax.ttcons
-      Syntax.tnil
-      (Syntax.ttcons
-      Syntax.tnil
-      (Syntax.ttcons Syntax.tnil (Syntax.ttcons Syntax.tnil Syntax.ttnil)))))
-      Syntax.tnil)))
-      (Syntax.tcons (Syntax.tyInt Syntax.w64) Syntax.tnil)))
-      (Syntax.tcons
-      (Syntax.tyInt Syntax.w64)
-      (Syntax.tcons
-      (Syntax.tyStruct
-      (List._∷_
-      102
-      (List._∷_
-      105
-      (List._∷_
-      110
-      (List._∷_
-      105
-      (List._∷_
-      115
-      (List._∷_
-      104
-      (List._∷_
-      58
-      (List._∷_ 58 (List._∷_ 83 (List._∷_ 101 (List._∷_ 110 (List._∷_ 116 List.[]))))))))))))
-      (Syntax.tcons
-      (Syntax.tyStruct
-      (List._∷_
-      97
-      (List._∷_
-      110
-      (List._∷_
-      115
-      (List._∷_
-      119
-      (List._∷_
-      101
-      (List._∷_
-      114
-      (List._∷_
-      58
-      (List._∷_
-      58
-      (List._∷_
-      68
-      (List._∷_
-      101
-      (List._∷_
-      115
-      (List._∷_
-      116
-      (List._∷_
-      105
-      (List._∷_
-      110
-      (List._∷_
-      97
-      (List._∷_ 116 (List._∷_ 105 (List._∷_ 111 (List._∷_ 110 List.[])))))))))))))))))))
-      (Syntax.tcons
-      (Syntax.tyArray (Syntax.tyInt Syntax.w8) 16)
-      (Syntax.tcons
-      (Syntax.tyEnum
-      (List._∷_
-      97
-      (List._∷_
-      110
-      (List._∷_
-      115
-      (List._∷_
-      119
-      (List._∷_
-      101
-      (List._∷_
-      114
-      (List._∷_ 58 (List._∷_ 58 (List._∷_ 87 (List._∷_ 97 (List._∷_ 121 List.[])))))))))))
-      (Syntax.ttcons
-      Syntax.tnil
-      (Syntax.ttcons
-      Syntax.tnil
-      (Syntax.ttcons Syntax.tnil (Syntax.ttcons Syntax.tnil Syntax.ttnil)))))
-      Syntax.tnil)))
-      (Syntax.tcons (Syntax.tyInt Syntax.w64) Syntax.tnil)))
-      (Syntax.tcons
-      (Syntax.tyEnum
-      (List._∷_
-      97
-      (List._∷_
-      110
-      (List._∷_
-      115
-      (List._∷_
-      119
-      (List._∷_
-      101
-      (List._∷_
-      114
-      (List._∷_
-      58
-      (List._∷_
-      58
-      (List._∷_
-      65
-      (List._∷_ 110 (List._∷_ 115 (List._∷_ 119 (List._∷_ 101 (List._∷_ 114 List.[]))))))))))))))
-      (Syntax.ttcons
-      Syntax.tnil
-      (Syntax.ttcons
-      Syntax.tnil
-      (Syntax.ttcons
-      Syntax.tnil
-      (Syntax.ttcons
-      Syntax.tnil
-      (Syntax.ttcons
-      Syntax.tnil
-      (Syntax.ttcons
-      Syntax.tnil
-      (Syntax.ttcons
-      Syntax.tnil
-      (Syntax.ttcons
-      Syntax.tnil
-      (Syntax.ttcons
-      Syntax.tnil
-      (Syntax.ttcons
-      Syntax.tnil
-      (Syntax.ttcons
-      Syntax.tnil
-      (Syntax.ttcons
-      Syntax.tnil
-      (Syntax.ttcons
-      Syntax.tnil
-      (Syntax.ttcons
-      Syntax.tnil
-      (Syntax.ttcons
-      Syntax.tnil
-      (Syntax.ttcons
-      Syntax.tnil
-      (Syntax.ttcons Syntax.tnil (Syntax.ttcons Syntax.tnil Syntax.ttnil)))))))))))))))))))
-      (Syntax.tcons (Syntax.tyInt Syntax.w8) Syntax.tnil)))))),
-) (List._∷_ (
-  1,
-  Relend.mslice-owed
-      (KInstanceRow.R)
-      (Syntax.tyRef (Syntax.named 0) Syntax.mut (KInstanceRow.named))
-      0
-      10
-      Row.off,
-) (List._∷_ (
-  2,
-  Relend.mslice-owed
-      (KRouteRow.R)
-      (Syntax.tyRef (Syntax.named 1) Syntax.mut (KRouteRow.named))
-      1
-      11
-      Row.off,
-) (List._∷_ (
-  3,
-  Mut.mslice
-      (Referent.rtF (Referent.fInt Syntax.w8))
-      (Syntax.tyRef (Syntax.named 2) Syntax.mut (Syntax.tyInt Syntax.w8))
-      2,
-) (List._∷_ (
-  4,
-  Mut.mslice
-      (Referent.rtF (Referent.fInt Syntax.w8))
-      (Syntax.tyRef (Syntax.named 3) Syntax.mut (Syntax.tyInt Syntax.w8))
-      3,
-) (List._∷_ (5, Rows'.any-gone (KOwn.spelled)) (List._∷_ (
-  6,
-  Rows'.sc-here (Row.sInt Syntax.w64),
-) (List._∷_ (7, Rows'.sc-here (Row.sInt Syntax.w8)) (List._∷_ (
-  8,
-  Rows'.sc-here (Row.sInt Syntax.w64),
-) (List._∷_ (
-  9,
-  Rows'.sref
-      (Array'.Array (Array'.Array (Referent.rtF (Referent.fInt Syntax.w8)) 16) 16)
-      (Syntax.tyRef
-      (Syntax.named 4)
-      Syntax.imm
-      (Syntax.tyArray (Syntax.tyArray (Syntax.tyInt Syntax.w8) 16) 16))
-      4,
-) (List._∷_ (
-  10,
-  Rows'.sref
-      (KDecided.R)
-      (Syntax.tyRef (Syntax.named 5) Syntax.imm (KDecided.named))
-      5,
-) (List._∷_ (
-  11,
-  Rows'.sref
-      (KPost.R)
-      (Syntax.tyRef (Syntax.named 6) Syntax.imm (KPost.named))
-      6,
-) (List._∷_ (
-  12,
-  Rows'.sref
-      (KPost.R)
-      (Syntax.tyRef (Syntax.named 7) Syntax.imm (KPost.named))
-      7,
-) (List._∷_ (
-  13,
-  Rows'.any-gone
-      (Syntax.tyStruct
-      (List._∷_
-      102
-      (List._∷_
-      105
-      (List._∷_
-      110
-      (List._∷_
-      105
-      (List._∷_
-      115
-      (List._∷_
-      104
-      (List._∷_
-      58
-      (List._∷_ 58 (List._∷_ 76 (List._∷_ 105 (List._∷_ 118 (List._∷_ 101 List.[]))))))))))))
-      (Syntax.tcons
-      Syntax.tyBool
-      (Syntax.tcons
-      (Syntax.tyInt Syntax.w64)
-      (Syntax.tcons Syntax.tyBool (Syntax.tcons (Syntax.tyInt Syntax.w64) Syntax.tnil))))),
-) (List._∷_ (14, KOwn.row) (List._∷_ (
-  15,
-  Rows'.any-gone
-      (Syntax.tyStruct
-      (List._∷_
-      112
-      (List._∷_
-      108
-      (List._∷_
-      97
-      (List._∷_
-      99
-      (List._∷_
-      101
-      (List._∷_
-      58
-      (List._∷_
-      58
-      (List._∷_
-      80
-      (List._∷_ 108 (List._∷_ 97 (List._∷_ 99 (List._∷_ 101 (List._∷_ 115 List.[])))))))))))))
-      (Syntax.tcons
-      Syntax.tyBool
-      (Syntax.tcons
-      (Syntax.tyInt Syntax.w64)
-      (Syntax.tcons (Syntax.tyInt Syntax.w64) Syntax.tnil)))),
-) List.[])))))))))))))))
-
-abbrev pub t36 : List.List Row.Entry
-t36 = List._∷_ (
-  16,
-  Rows'.any-gone
-      (Syntax.tyStruct
-      (List._∷_
-      112
-      (List._∷_
-      108
-      (List._∷_
-      97
-      (List._∷_
-      99
-      (List._∷_
-      101
-      (List._∷_
-      58
-      (List._∷_
-      58
-      (List._∷_
-      82
-      (List._∷_
-      111
-      (List._∷_
-      117
-      (List._∷_
-      116
-      (List._∷_
-      101
-      (List._∷_ 80 (List._∷_ 108 (List._∷_ 97 (List._∷_ 99 (List._∷_ 101 List.[])))))))))))))))))
-      (Syntax.tcons Syntax.tyBool (Syntax.tcons (Syntax.tyInt Syntax.w64) Syntax.tnil))),
-) (List._∷_ (17, Rows'.any-gone (Syntax.tyInt Syntax.w64)) (List._∷_ (
-  18,
-  Rows'.any-gone (Syntax.tyInt Syntax.w64),
-) (List._∷_ (
-  19,
-  Rows'.any-gone
-      (Syntax.tyRef Syntax.erased Syntax.imm (KInstanceRow.named)),
-) (List._∷_ (
-  20,
-  Rows'.any-gone
-      (Syntax.tyStruct
-      (List._∷_ 38 (List._∷_ 91 (List._∷_ 93 List.[])))
-      (Syntax.tcons
-      (Syntax.tyRef Syntax.erased Syntax.imm (KInstanceRow.named))
-      (Syntax.tcons (Syntax.tyInt Syntax.w64) Syntax.tnil))),
-) (List._∷_ (21, Rows'.any-gone Syntax.tyBool) (List._∷_ (
-  22,
-  Rows'.any-gone (KDecided.spelled),
-) (List._∷_ (
-  23,
-  Rows'.any-gone
-      (Syntax.tyRef Syntax.erased Syntax.imm (KRouteRow.named)),
-) (List._∷_ (
-  24,
-  Rows'.any-gone
-      (Syntax.tyStruct
-      (List._∷_ 38 (List._∷_ 91 (List._∷_ 93 List.[])))
-      (Syntax.tcons
-      (Syntax.tyRef Syntax.erased Syntax.imm (KRouteRow.named))
-      (Syntax.tcons (Syntax.tyInt Syntax.w64) Syntax.tnil))),
-) (List._∷_ (25, Rows'.any-gone Syntax.tyBool) (List._∷_ (26, Rows'.sc-here Row.sUnit) (List._∷_ (
-  27,
-  Rows'.any-gone
-      (Syntax.tyRef Syntax.erased Syntax.mut (KInstanceRow.named)),
-) (List._∷_ (
-  28,
-  Mut.msleft
-      (KInstanceRow.R)
-      (Syntax.tyRef Syntax.erased Syntax.mut (KInstanceRow.named)),
-) (List._∷_ (
-  29,
-  Rows'.any-gone
-      (Syntax.tyRef Syntax.erased Syntax.mut (KRouteRow.named)),
-) (List._∷_ (
-  30,
-  Mut.msleft
-      (KRouteRow.R)
-      (Syntax.tyRef Syntax.erased Syntax.mut (KRouteRow.named)),
-)
-    (List._∷_ (
-      31,
-      Rows'.any-gone (Syntax.tyRef Syntax.erased Syntax.mut (Syntax.tyInt Syntax.w8)),
-    ) List.[])))))))))))))))
-
-abbrev pub t37 : List.List Row.Entry
-t37 = List._∷_ (
-  16,
-  Rows'.any-gone
-      (Syntax.tyStruct
-      (List._∷_
-      112
-      (List._∷_
-      108
-      (List._∷_
-      97
-      (List._∷_
-      99
-      (List._∷_
-      101
-      (List._∷_
-      58
-      (List._∷_
-      58
-      (List._∷_
-      82
-      (List._∷_
-      111
-      (List._∷_
-      117
-      (List._∷_
-      116
-      (List._∷_
-      101
-      (List._∷_ 80 (List._∷_ 108 (List._∷_ 97 (List._∷_ 99 (List._∷_ 101 List.[])))))))))))))))))
-      (Syntax.tcons Syntax.tyBool (Syntax.tcons (Syntax.tyInt Syntax.w64) Syntax.tnil))),
-) (List._∷_ (17, Rows'.any-gone (Syntax.tyInt Syntax.w64)) (List._∷_ (
-  18,
-  Rows'.any-gone (Syntax.tyInt Syntax.w64),
-) (List._∷_ (
-  19,
-  Rows'.any-gone
-      (Syntax.tyRef Syntax.erased Syntax.imm (KInstanceRow.named)),
-) (List._∷_ (
-  20,
-  Rows'.any-gone
-      (Syntax.tyStruct
-      (List._∷_ 38 (List._∷_ 91 (List._∷_ 93 List.[])))
-      (Syntax.tcons
-      (Syntax.tyRef Syntax.erased Syntax.imm (KInstanceRow.named))
-      (Syntax.tcons (Syntax.tyInt Syntax.w64) Syntax.tnil))),
-) (List._∷_ (21, Rows'.any-gone Syntax.tyBool) (List._∷_ (
-  22,
-  Rows'.any-gone (KDecided.spelled),
-) (List._∷_ (
-  23,
-  Rows'.any-gone
-      (Syntax.tyRef Syntax.erased Syntax.imm (KRouteRow.named)),
-) (List._∷_ (
-  24,
-  Rows'.any-gone
-      (Syntax.tyStruct
-      (List._∷_ 38 (List._∷_ 91 (List._∷_ 93 List.[])))
-      (Syntax.tcons
-      (Syntax.tyRef Syntax.erased Syntax.imm (KRouteRow.named))
-      (Syntax.tcons (Syntax.tyInt Syntax.w64) Syntax.tnil))),
-)
-    (List._∷_
-    (25, Rows'.any-gone Syntax.tyBool)
-    (List._∷_ (26, Rows'.any-gone Syntax.tyUnit) (List._∷_ (
-      27,
-      Rows'.any-gone
-          (Syntax.tyRef Syntax.erased Syntax.mut (KInstanceRow.named)),
-    ) (List._∷_ (
-      28,
-      Mut.msleft
-          (KInstanceRow.R)
-          (Syntax.tyRef Syntax.erased Syntax.mut (KInstanceRow.named)),
-    ) (List._∷_ (
-      29,
-      Rows'.any-gone
-          (Syntax.tyRef Syntax.erased Syntax.mut (KRouteRow.named)),
-    ) (List._∷_ (
-      30,
-      Mut.msleft
-          (KRouteRow.R)
-          (Syntax.tyRef Syntax.erased Syntax.mut (KRouteRow.named)),
-    ) (List._∷_ (
-      31,
-      Rows'.any-gone (Syntax.tyRef Syntax.erased Syntax.mut (Syntax.tyInt Syntax.w8)),
-    ) List.[])))))))))))))))
-
-abbrev pub t38 : List.List Row.Entry
-t38 = List._∷_ (
   0,
   Rows'.any-gone
       (Syntax.tyStruct
@@ -7612,12 +6614,521 @@ t38 = List._∷_ (
       0,
 ) (List._∷_ (
   2,
-  Relend.mslice-owed
+  Mut.mslice
       (KRouteRow.R)
       (Syntax.tyRef (Syntax.named 1) Syntax.mut (KRouteRow.named))
-      1
-      11
+      1,
+) (List._∷_ (
+  3,
+  Relend.mslice-owed
+      (Referent.rtF (Referent.fInt Syntax.w8))
+      (Syntax.tyRef (Syntax.named 2) Syntax.mut (Syntax.tyInt Syntax.w8))
+      2
+      10
       Row.off,
+) (List._∷_ (
+  4,
+  Mut.mslice
+      (Referent.rtF (Referent.fInt Syntax.w8))
+      (Syntax.tyRef (Syntax.named 3) Syntax.mut (Syntax.tyInt Syntax.w8))
+      3,
+) (List._∷_ (5, Rows'.any-gone (KOwn.spelled)) (List._∷_ (
+  6,
+  Rows'.sc-here (Row.sInt Syntax.w64),
+) (List._∷_ (7, Rows'.sc-here (Row.sInt Syntax.w8)) (List._∷_ (
+  8,
+  Rows'.sc-here (Row.sInt Syntax.w64),
+) (List._∷_ (
+  9,
+  Rows'.sref
+      (Array'.Array (Array'.Array (Referent.rtF (Referent.fInt Syntax.w8)) 16) 16)
+      (Syntax.tyRef
+      (Syntax.named 4)
+      Syntax.imm
+      (Syntax.tyArray (Syntax.tyArray (Syntax.tyInt Syntax.w8) 16) 16))
+      4,
+) (List._∷_ (
+  10,
+  Rows'.sref
+      (KDecided.R)
+      (Syntax.tyRef (Syntax.named 5) Syntax.imm (KDecided.named))
+      5,
+) (List._∷_ (
+  11,
+  Rows'.sref
+      (KPost.R)
+      (Syntax.tyRef (Syntax.named 6) Syntax.imm (KPost.named))
+      6,
+) (List._∷_ (
+  12,
+  Rows'.sref
+      (KPost.R)
+      (Syntax.tyRef (Syntax.named 7) Syntax.imm (KPost.named))
+      7,
+) (List._∷_ (
+  13,
+  Rows'.any-gone
+      (Syntax.tyStruct
+      (List._∷_
+      102
+      (List._∷_
+      105
+      (List._∷_
+      110
+      (List._∷_
+      105
+      (List._∷_
+      115
+      (List._∷_
+      104
+      (List._∷_
+      58
+      (List._∷_ 58 (List._∷_ 76 (List._∷_ 105 (List._∷_ 118 (List._∷_ 101 List.[]))))))))))))
+      (Syntax.tcons
+      Syntax.tyBool
+      (Syntax.tcons
+      (Syntax.tyInt Syntax.w64)
+      (Syntax.tcons Syntax.tyBool (Syntax.tcons (Syntax.tyInt Syntax.w64) Syntax.tnil))))),
+) (List._∷_ (
+  14,
+  Rows'.sc-shr
+      (KOwn.row)
+      (KOwn.R)
+      (λ x. x)
+      11,
+) (List._∷_ (15, Rows'.whole (Declared.row Places.the-type)) List.[])))))))))))))))
+
+abbrev pub t32 : List.List Row.Entry
+t32 = List._∷_ (16, Rows'.whole (Declared.row RoutePlace.the-type)) (List._∷_ (
+  17,
+  Rows'.any-gone (Syntax.tyInt Syntax.w64),
+) (List._∷_ (18, Rows'.any-gone (Syntax.tyInt Syntax.w64)) (List._∷_ (
+  19,
+  Rows'.any-gone
+      (Syntax.tyRef Syntax.erased Syntax.imm (KInstanceRow.named)),
+) (List._∷_ (
+  20,
+  Rows'.any-gone
+      (Syntax.tyStruct
+      (List._∷_ 38 (List._∷_ 91 (List._∷_ 93 List.[])))
+      (Syntax.tcons
+      (Syntax.tyRef Syntax.erased Syntax.imm (KInstanceRow.named))
+      (Syntax.tcons (Syntax.tyInt Syntax.w64) Syntax.tnil))),
+) (List._∷_ (21, Rows'.any-gone Syntax.tyBool) (List._∷_ (
+  22,
+  Rows'.any-gone (KDecided.spelled),
+) (List._∷_ (
+  23,
+  Rows'.any-gone
+      (Syntax.tyRef Syntax.erased Syntax.imm (KRouteRow.named)),
+) (List._∷_ (
+  24,
+  Rows'.any-gone
+      (Syntax.tyStruct
+      (List._∷_ 38 (List._∷_ 91 (List._∷_ 93 List.[])))
+      (Syntax.tcons
+      (Syntax.tyRef Syntax.erased Syntax.imm (KRouteRow.named))
+      (Syntax.tcons (Syntax.tyInt Syntax.w64) Syntax.tnil))),
+) (List._∷_ (25, Rows'.any-gone Syntax.tyBool) (List._∷_ (
+  26,
+  Rows'.any-gone (Syntax.tyRef Syntax.erased Syntax.mut (Syntax.tyInt Syntax.w8)),
+) (List._∷_ (
+  27,
+  Mut.mslice
+      (Referent.rtF (Referent.fInt Syntax.w8))
+      (Syntax.tyRef Syntax.erased Syntax.mut (Syntax.tyInt Syntax.w8))
+      10,
+) (List._∷_ (
+  28,
+  Rows'.sref
+      (KOwn.R)
+      (Syntax.tyRef Syntax.erased Syntax.imm (KOwn.named))
+      11,
+)
+    (List._∷_ (
+      29,
+      Rows'.any-gone (Syntax.tyRef Syntax.erased Syntax.mut (Syntax.tyInt Syntax.w8)),
+    ) (List._∷_ (
+      30,
+      Rows'.any-gone
+          (Syntax.tyStruct
+          (List._∷_ 38 (List._∷_ 91 (List._∷_ 93 List.[])))
+          (Syntax.tcons
+          (Syntax.tyRef Syntax.erased Syntax.mut (Syntax.tyInt Syntax.w8))
+          (Syntax.tcons (Syntax.tyInt Syntax.w64) Syntax.tnil))),
+    ) (List._∷_ (
+      31,
+      Rows'.any-gone
+          (Syntax.tyRef Syntax.erased Syntax.imm (KOwn.named)),
+    ) List.[])))))))))))))))
+
+abbrev pub t33 : List.List Row.Entry
+t33 = List._∷_ (16, Rows'.whole (Declared.row RoutePlace.the-type)) (List._∷_ (
+  17,
+  Rows'.sc-here (Row.sInt Syntax.w64),
+) (List._∷_ (18, Rows'.any-gone (Syntax.tyInt Syntax.w64)) (List._∷_ (
+  19,
+  Rows'.any-gone
+      (Syntax.tyRef Syntax.erased Syntax.imm (KInstanceRow.named)),
+) (List._∷_ (
+  20,
+  Rows'.any-gone
+      (Syntax.tyStruct
+      (List._∷_ 38 (List._∷_ 91 (List._∷_ 93 List.[])))
+      (Syntax.tcons
+      (Syntax.tyRef Syntax.erased Syntax.imm (KInstanceRow.named))
+      (Syntax.tcons (Syntax.tyInt Syntax.w64) Syntax.tnil))),
+) (List._∷_ (21, Rows'.any-gone Syntax.tyBool) (List._∷_ (
+  22,
+  Rows'.any-gone (KDecided.spelled),
+) (List._∷_ (
+  23,
+  Rows'.any-gone
+      (Syntax.tyRef Syntax.erased Syntax.imm (KRouteRow.named)),
+) (List._∷_ (
+  24,
+  Rows'.any-gone
+      (Syntax.tyStruct
+      (List._∷_ 38 (List._∷_ 91 (List._∷_ 93 List.[])))
+      (Syntax.tcons
+      (Syntax.tyRef Syntax.erased Syntax.imm (KRouteRow.named))
+      (Syntax.tcons (Syntax.tyInt Syntax.w64) Syntax.tnil))),
+) (List._∷_ (25, Rows'.any-gone Syntax.tyBool) (List._∷_ (
+  26,
+  Rows'.any-gone (Syntax.tyRef Syntax.erased Syntax.mut (Syntax.tyInt Syntax.w8)),
+) (List._∷_ (
+  27,
+  Mut.msleft
+      (Referent.rtF (Referent.fInt Syntax.w8))
+      (Syntax.tyRef Syntax.erased Syntax.mut (Syntax.tyInt Syntax.w8)),
+) (List._∷_ (
+  28,
+  Rows'.sref
+      (KOwn.R)
+      (Syntax.tyRef Syntax.erased Syntax.imm (KOwn.named))
+      11,
+)
+    (List._∷_ (
+      29,
+      Rows'.any-gone (Syntax.tyRef Syntax.erased Syntax.mut (Syntax.tyInt Syntax.w8)),
+    ) (List._∷_ (
+      30,
+      Rows'.any-gone
+          (Syntax.tyStruct
+          (List._∷_ 38 (List._∷_ 91 (List._∷_ 93 List.[])))
+          (Syntax.tcons
+          (Syntax.tyRef Syntax.erased Syntax.mut (Syntax.tyInt Syntax.w8))
+          (Syntax.tcons (Syntax.tyInt Syntax.w64) Syntax.tnil))),
+    ) (List._∷_ (
+      31,
+      Rows'.any-gone
+          (Syntax.tyRef Syntax.erased Syntax.imm (KOwn.named)),
+    ) List.[])))))))))))))))
+
+abbrev pub t34 : List.List Row.Entry
+t34 = List._∷_ (16, Rows'.whole (Declared.row RoutePlace.the-type)) (List._∷_ (
+  17,
+  Rows'.sc-here (Row.sInt Syntax.w64),
+) (List._∷_ (18, Rows'.any-gone (Syntax.tyInt Syntax.w64)) (List._∷_ (
+  19,
+  Rows'.any-gone
+      (Syntax.tyRef Syntax.erased Syntax.imm (KInstanceRow.named)),
+) (List._∷_ (
+  20,
+  Rows'.any-gone
+      (Syntax.tyStruct
+      (List._∷_ 38 (List._∷_ 91 (List._∷_ 93 List.[])))
+      (Syntax.tcons
+      (Syntax.tyRef Syntax.erased Syntax.imm (KInstanceRow.named))
+      (Syntax.tcons (Syntax.tyInt Syntax.w64) Syntax.tnil))),
+) (List._∷_ (21, Rows'.any-gone Syntax.tyBool) (List._∷_ (
+  22,
+  Rows'.any-gone (KDecided.spelled),
+) (List._∷_ (
+  23,
+  Rows'.any-gone
+      (Syntax.tyRef Syntax.erased Syntax.imm (KRouteRow.named)),
+) (List._∷_ (
+  24,
+  Rows'.any-gone
+      (Syntax.tyStruct
+      (List._∷_ 38 (List._∷_ 91 (List._∷_ 93 List.[])))
+      (Syntax.tcons
+      (Syntax.tyRef Syntax.erased Syntax.imm (KRouteRow.named))
+      (Syntax.tcons (Syntax.tyInt Syntax.w64) Syntax.tnil))),
+) (List._∷_ (25, Rows'.any-gone Syntax.tyBool) (List._∷_ (
+  26,
+  Rows'.any-gone (Syntax.tyRef Syntax.erased Syntax.mut (Syntax.tyInt Syntax.w8)),
+) (List._∷_ (
+  27,
+  Mut.msleft
+      (Referent.rtF (Referent.fInt Syntax.w8))
+      (Syntax.tyRef Syntax.erased Syntax.mut (Syntax.tyInt Syntax.w8)),
+) (List._∷_ (
+  28,
+  Rows'.any-gone
+      (Syntax.tyRef Syntax.erased Syntax.imm (KOwn.named)),
+)
+    (List._∷_ (
+      29,
+      Rows'.any-gone (Syntax.tyRef Syntax.erased Syntax.mut (Syntax.tyInt Syntax.w8)),
+    ) (List._∷_ (
+      30,
+      Rows'.any-gone
+          (Syntax.tyStruct
+          (List._∷_ 38 (List._∷_ 91 (List._∷_ 93 List.[])))
+          (Syntax.tcons
+          (Syntax.tyRef Syntax.erased Syntax.mut (Syntax.tyInt Syntax.w8))
+          (Syntax.tcons (Syntax.tyInt Syntax.w64) Syntax.tnil))),
+    ) (List._∷_ (
+      31,
+      Rows'.any-gone
+          (Syntax.tyRef Syntax.erased Syntax.imm (KOwn.named)),
+    ) List.[])))))))))))))))
+
+abbrev pub t35 : List.List Row.Entry
+t35 = List._∷_ (
+  0,
+  Rows'.any-gone
+      (Syntax.tyStruct
+      (List._∷_
+      102
+      (List._∷_
+      105
+      (List._∷_
+      110
+      (List._∷_
+      105
+      (List._∷_
+      115
+      (List._∷_
+      104
+      (List._∷_
+      58
+      (List._∷_
+      58
+      (List._∷_
+      79
+      (List._∷_
+      117
+      (List._∷_ 116 (List._∷_ 99 (List._∷_ 111 (List._∷_ 109 (List._∷_ 101 List.[])))))))))))))))
+      (Syntax.tcons
+      (Syntax.tyStruct
+      (List._∷_
+      102
+      (List._∷_
+      105
+      (List._∷_
+      110
+      (List._∷_
+      105
+      (List._∷_
+      115
+      (List._∷_
+      104
+      (List._∷_
+      58
+      (List._∷_ 58 (List._∷_ 83 (List._∷_ 101 (List._∷_ 110 (List._∷_ 116 List.[]))))))))))))
+      (Syntax.tcons
+      (Syntax.tyStruct
+      (List._∷_
+      97
+      (List._∷_
+      110
+      (List._∷_
+      115
+      (List._∷_
+      119
+      (List._∷_
+      101
+      (List._∷_
+      114
+      (List._∷_
+      58
+      (List._∷_
+      58
+      (List._∷_
+      68
+      (List._∷_
+      101
+      (List._∷_
+      115
+      (List._∷_
+      116
+      (List._∷_
+      105
+      (List._∷_
+      110
+      (List._∷_
+      97
+      (List._∷_ 116 (List._∷_ 105 (List._∷_ 111 (List._∷_ 110 List.[])))))))))))))))))))
+      (Syntax.tcons
+      (Syntax.tyArray (Syntax.tyInt Syntax.w8) 16)
+      (Syntax.tcons
+      (Syntax.tyEnum
+      (List._∷_
+      97
+      (List._∷_
+      110
+      (List._∷_
+      115
+      (List._∷_
+      119
+      (List._∷_
+      101
+      (List._∷_
+      114
+      (List._∷_ 58 (List._∷_ 58 (List._∷_ 87 (List._∷_ 97 (List._∷_ 121 List.[])))))))))))
+      (Syntax.ttcons
+      Syntax.tnil
+      (Syntax.ttcons
+      Syntax.tnil
+      (Syntax.ttcons Syntax.tnil (Syntax.ttcons Syntax.tnil Syntax.ttnil)))))
+      Syntax.tnil)))
+      (Syntax.tcons (Syntax.tyInt Syntax.w64) Syntax.tnil)))
+      (Syntax.tcons
+      (Syntax.tyInt Syntax.w64)
+      (Syntax.tcons
+      (Syntax.tyStruct
+      (List._∷_
+      102
+      (List._∷_
+      105
+      (List._∷_
+      110
+      (List._∷_
+      105
+      (List._∷_
+      115
+      (List._∷_
+      104
+      (List._∷_
+      58
+      (List._∷_ 58 (List._∷_ 83 (List._∷_ 101 (List._∷_ 110 (List._∷_ 116 List.[]))))))))))))
+      (Syntax.tcons
+      (Syntax.tyStruct
+      (List._∷_
+      97
+      (List._∷_
+      110
+      (List._∷_
+      115
+      (List._∷_
+      119
+      (List._∷_
+      101
+      (List._∷_
+      114
+      (List._∷_
+      58
+      (List._∷_
+      58
+      (List._∷_
+      68
+      (List._∷_
+      101
+      (List._∷_
+      115
+      (List._∷_
+      116
+      (List._∷_
+      105
+      (List._∷_
+      110
+      (List._∷_
+      97
+      (List._∷_ 116 (List._∷_ 105 (List._∷_ 111 (List._∷_ 110 List.[])))))))))))))))))))
+      (Syntax.tcons
+      (Syntax.tyArray (Syntax.tyInt Syntax.w8) 16)
+      (Syntax.tcons
+      (Syntax.tyEnum
+      (List._∷_
+      97
+      (List._∷_
+      110
+      (List._∷_
+      115
+      (List._∷_
+      119
+      (List._∷_
+      101
+      (List._∷_
+      114
+      (List._∷_ 58 (List._∷_ 58 (List._∷_ 87 (List._∷_ 97 (List._∷_ 121 List.[])))))))))))
+      (Syntax.ttcons
+      Syntax.tnil
+      (Syntax.ttcons
+      Syntax.tnil
+      (Syntax.ttcons Syntax.tnil (Syntax.ttcons Syntax.tnil Syntax.ttnil)))))
+      Syntax.tnil)))
+      (Syntax.tcons (Syntax.tyInt Syntax.w64) Syntax.tnil)))
+      (Syntax.tcons
+      (Syntax.tyEnum
+      (List._∷_
+      97
+      (List._∷_
+      110
+      (List._∷_
+      115
+      (List._∷_
+      119
+      (List._∷_
+      101
+      (List._∷_
+      114
+      (List._∷_
+      58
+      (List._∷_
+      58
+      (List._∷_
+      65
+      (List._∷_ 110 (List._∷_ 115 (List._∷_ 119 (List._∷_ 101 (List._∷_ 114 List.[]))))))))))))))
+      (Syntax.ttcons
+      Syntax.tnil
+      (Syntax.ttcons
+      Syntax.tnil
+      (Syntax.ttcons
+      Syntax.tnil
+      (Syntax.ttcons
+      Syntax.tnil
+      (Syntax.ttcons
+      Syntax.tnil
+      (Syntax.ttcons
+      Syntax.tnil
+      (Syntax.ttcons
+      Syntax.tnil
+      (Syntax.ttcons
+      Syntax.tnil
+      (Syntax.ttcons
+      Syntax.tnil
+      (Syntax.ttcons
+      Syntax.tnil
+      (Syntax.ttcons
+      Syntax.tnil
+      (Syntax.ttcons
+      Syntax.tnil
+      (Syntax.ttcons
+      Syntax.tnil
+      (Syntax.ttcons
+      Syntax.tnil
+      (Syntax.ttcons
+      Syntax.tnil
+      (Syntax.ttcons
+      Syntax.tnil
+      (Syntax.ttcons Syntax.tnil (Syntax.ttcons Syntax.tnil Syntax.ttnil)))))))))))))))))))
+      (Syntax.tcons (Syntax.tyInt Syntax.w8) Syntax.tnil)))))),
+) (List._∷_ (
+  1,
+  Mut.mslice
+      (KInstanceRow.R)
+      (Syntax.tyRef (Syntax.named 0) Syntax.mut (KInstanceRow.named))
+      0,
+) (List._∷_ (
+  2,
+  Mut.mslice
+      (KRouteRow.R)
+      (Syntax.tyRef (Syntax.named 1) Syntax.mut (KRouteRow.named))
+      1,
 ) (List._∷_ (
   3,
   Mut.mslice
@@ -7687,69 +7198,20 @@ t38 = List._∷_ (
       (Syntax.tcons
       (Syntax.tyInt Syntax.w64)
       (Syntax.tcons Syntax.tyBool (Syntax.tcons (Syntax.tyInt Syntax.w64) Syntax.tnil))))),
-) (List._∷_ (14, KOwn.row) (List._∷_ (
-  15,
-  Rows'.any-gone
-      (Syntax.tyStruct
-      (List._∷_
-      112
-      (List._∷_
-      108
-      (List._∷_
-      97
-      (List._∷_
-      99
-      (List._∷_
-      101
-      (List._∷_
-      58
-      (List._∷_
-      58
-      (List._∷_
-      80
-      (List._∷_ 108 (List._∷_ 97 (List._∷_ 99 (List._∷_ 101 (List._∷_ 115 List.[])))))))))))))
-      (Syntax.tcons
-      Syntax.tyBool
-      (Syntax.tcons
-      (Syntax.tyInt Syntax.w64)
-      (Syntax.tcons (Syntax.tyInt Syntax.w64) Syntax.tnil)))),
-) List.[])))))))))))))))
-
-abbrev pub t39 : List.List Row.Entry
-t39 = List._∷_ (
-  16,
-  Rows'.any-gone
-      (Syntax.tyStruct
-      (List._∷_
-      112
-      (List._∷_
-      108
-      (List._∷_
-      97
-      (List._∷_
-      99
-      (List._∷_
-      101
-      (List._∷_
-      58
-      (List._∷_
-      58
-      (List._∷_
-      82
-      (List._∷_
-      111
-      (List._∷_
-      117
-      (List._∷_
-      116
-      (List._∷_
-      101
-      (List._∷_ 80 (List._∷_ 108 (List._∷_ 97 (List._∷_ 99 (List._∷_ 101 List.[])))))))))))))))))
-      (Syntax.tcons Syntax.tyBool (Syntax.tcons (Syntax.tyInt Syntax.w64) Syntax.tnil))),
-) (List._∷_ (17, Rows'.any-gone (Syntax.tyInt Syntax.w64)) (List._∷_ (
-  18,
-  Rows'.any-gone (Syntax.tyInt Syntax.w64),
 ) (List._∷_ (
+  14,
+  Rows'.sc-shr
+      (KOwn.row)
+      (KOwn.R)
+      (λ x. x)
+      11,
+) (List._∷_ (15, Rows'.whole (Declared.row Places.the-type)) List.[])))))))))))))))
+
+abbrev pub t36 : List.List Row.Entry
+t36 = List._∷_ (16, Rows'.whole (Declared.row RoutePlace.the-type)) (List._∷_ (
+  17,
+  Rows'.sc-here (Row.sInt Syntax.w64),
+) (List._∷_ (18, Rows'.any-gone (Syntax.tyInt Syntax.w64)) (List._∷_ (
   19,
   Rows'.any-gone
       (Syntax.tyRef Syntax.erased Syntax.imm (KInstanceRow.named)),
@@ -7776,33 +7238,484 @@ t39 = List._∷_ (
       (Syntax.tcons
       (Syntax.tyRef Syntax.erased Syntax.imm (KRouteRow.named))
       (Syntax.tcons (Syntax.tyInt Syntax.w64) Syntax.tnil))),
+) (List._∷_ (25, Rows'.any-gone Syntax.tyBool) (List._∷_ (
+  26,
+  Rows'.any-gone (Syntax.tyRef Syntax.erased Syntax.mut (Syntax.tyInt Syntax.w8)),
+) (List._∷_ (
+  27,
+  Rows'.any-gone
+      (Syntax.tyStruct
+      (List._∷_ 38 (List._∷_ 91 (List._∷_ 93 List.[])))
+      (Syntax.tcons
+      (Syntax.tyRef Syntax.erased Syntax.mut (Syntax.tyInt Syntax.w8))
+      (Syntax.tcons (Syntax.tyInt Syntax.w64) Syntax.tnil))),
+) (List._∷_ (
+  28,
+  Rows'.any-gone
+      (Syntax.tyRef Syntax.erased Syntax.imm (KOwn.named)),
 )
-    (List._∷_
-    (25, Rows'.any-gone Syntax.tyBool)
-    (List._∷_ (26, Rows'.any-gone Syntax.tyUnit) (List._∷_ (
-      27,
-      Rows'.any-gone
-          (Syntax.tyRef Syntax.erased Syntax.mut (KInstanceRow.named)),
+    (List._∷_ (
+      29,
+      Rows'.any-gone (Syntax.tyRef Syntax.erased Syntax.mut (Syntax.tyInt Syntax.w8)),
     ) (List._∷_ (
-      28,
+      30,
       Rows'.any-gone
           (Syntax.tyStruct
           (List._∷_ 38 (List._∷_ 91 (List._∷_ 93 List.[])))
           (Syntax.tcons
-          (Syntax.tyRef Syntax.erased Syntax.mut (KInstanceRow.named))
+          (Syntax.tyRef Syntax.erased Syntax.mut (Syntax.tyInt Syntax.w8))
           (Syntax.tcons (Syntax.tyInt Syntax.w64) Syntax.tnil))),
     ) (List._∷_ (
-      29,
+      31,
       Rows'.any-gone
-          (Syntax.tyRef Syntax.erased Syntax.mut (KRouteRow.named)),
+          (Syntax.tyRef Syntax.erased Syntax.imm (KOwn.named)),
+    ) List.[])))))))))))))))
+
+abbrev pub t37 : List.List Row.Entry
+t37 = List._∷_ (
+  0,
+  Rows'.any-gone
+      (Syntax.tyStruct
+      (List._∷_
+      102
+      (List._∷_
+      105
+      (List._∷_
+      110
+      (List._∷_
+      105
+      (List._∷_
+      115
+      (List._∷_
+      104
+      (List._∷_
+      58
+      (List._∷_
+      58
+      (List._∷_
+      79
+      (List._∷_
+      117
+      (List._∷_ 116 (List._∷_ 99 (List._∷_ 111 (List._∷_ 109 (List._∷_ 101 List.[])))))))))))))))
+      (Syntax.tcons
+      (Syntax.tyStruct
+      (List._∷_
+      102
+      (List._∷_
+      105
+      (List._∷_
+      110
+      (List._∷_
+      105
+      (List._∷_
+      115
+      (List._∷_
+      104
+      (List._∷_
+      58
+      (List._∷_ 58 (List._∷_ 83 (List._∷_ 101 (List._∷_ 110 (List._∷_ 116 List.[]))))))))))))
+      (Syntax.tcons
+      (Syntax.tyStruct
+      (List._∷_
+      97
+      (List._∷_
+      110
+      (List._∷_
+      115
+      (List._∷_
+      119
+      (List._∷_
+      101
+      (List._∷_
+      114
+      (List._∷_
+      58
+      (List._∷_
+      58
+      (List._∷_
+      68
+      (List._∷_
+      101
+      (List._∷_
+      115
+      (List._∷_
+      116
+      (List._∷_
+      105
+      (List._∷_
+      110
+      (List._∷_
+      97
+      (List._∷_ 116 (List._∷_ 105 (List._∷_ 111 (List._∷_ 110 List.[])))))))))))))))))))
+      (Syntax.tcons
+      (Syntax.tyArray (Syntax.tyInt Syntax.w8) 16)
+      (Syntax.tcons
+      (Syntax.tyEnum
+      (List._∷_
+      97
+      (List._∷_
+      110
+      (List._∷_
+      115
+      (List._∷_
+      119
+      (List._∷_
+      101
+      (List._∷_
+      114
+      (List._∷_ 58 (List._∷_ 58 (List._∷_ 87 (List._∷_ 97 (List._∷_ 121 List.[])))))))))))
+      (Syntax.ttcons
+      Syntax.tnil
+      (Syntax.ttcons
+      Syntax.tnil
+      (Syntax.ttcons Syntax.tnil (Syntax.ttcons Syntax.tnil Syntax.ttnil)))))
+      Syntax.tnil)))
+      (Syntax.tcons (Syntax.tyInt Syntax.w64) Syntax.tnil)))
+      (Syntax.tcons
+      (Syntax.tyInt Syntax.w64)
+      (Syntax.tcons
+      (Syntax.tyStruct
+      (List._∷_
+      102
+      (List._∷_
+      105
+      (List._∷_
+      110
+      (List._∷_
+      105
+      (List._∷_
+      115
+      (List._∷_
+      104
+      (List._∷_
+      58
+      (List._∷_ 58 (List._∷_ 83 (List._∷_ 101 (List._∷_ 110 (List._∷_ 116 List.[]))))))))))))
+      (Syntax.tcons
+      (Syntax.tyStruct
+      (List._∷_
+      97
+      (List._∷_
+      110
+      (List._∷_
+      115
+      (List._∷_
+      119
+      (List._∷_
+      101
+      (List._∷_
+      114
+      (List._∷_
+      58
+      (List._∷_
+      58
+      (List._∷_
+      68
+      (List._∷_
+      101
+      (List._∷_
+      115
+      (List._∷_
+      116
+      (List._∷_
+      105
+      (List._∷_
+      110
+      (List._∷_
+      97
+      (List._∷_ 116 (List._∷_ 105 (List._∷_ 111 (List._∷_ 110 List.[])))))))))))))))))))
+      (Syntax.tcons
+      (Syntax.tyArray (Syntax.tyInt Syntax.w8) 16)
+      (Syntax.tcons
+      (Syntax.tyEnum
+      (List._∷_
+      97
+      (List._∷_
+      110
+      (List._∷_
+      115
+      (List._∷_
+      119
+      (List._∷_
+      101
+      (List._∷_
+      114
+      (List._∷_ 58 (List._∷_ 58 (List._∷_ 87 (List._∷_ 97 (List._∷_ 121 List.[])))))))))))
+      (Syntax.ttcons
+      Syntax.tnil
+      (Syntax.ttcons
+      Syntax.tnil
+      (Syntax.ttcons Syntax.tnil (Syntax.ttcons Syntax.tnil Syntax.ttnil)))))
+      Syntax.tnil)))
+      (Syntax.tcons (Syntax.tyInt Syntax.w64) Syntax.tnil)))
+      (Syntax.tcons
+      (Syntax.tyEnum
+      (List._∷_
+      97
+      (List._∷_
+      110
+      (List._∷_
+      115
+      (List._∷_
+      119
+      (List._∷_
+      101
+      (List._∷_
+      114
+      (List._∷_
+      58
+      (List._∷_
+      58
+      (List._∷_
+      65
+      (List._∷_ 110 (List._∷_ 115 (List._∷_ 119 (List._∷_ 101 (List._∷_ 114 List.[]))))))))))))))
+      (Syntax.ttcons
+      Syntax.tnil
+      (Syntax.ttcons
+      Syntax.tnil
+      (Syntax.ttcons
+      Syntax.tnil
+      (Syntax.ttcons
+      Syntax.tnil
+      (Syntax.ttcons
+      Syntax.tnil
+      (Syntax.ttcons
+      Syntax.tnil
+      (Syntax.ttcons
+      Syntax.tnil
+      (Syntax.ttcons
+      Syntax.tnil
+      (Syntax.ttcons
+      Syntax.tnil
+      (Syntax.ttcons
+      Syntax.tnil
+      (Syntax.ttcons
+      Syntax.tnil
+      (Syntax.ttcons
+      Syntax.tnil
+      (Syntax.ttcons
+      Syntax.tnil
+      (Syntax.ttcons
+      Syntax.tnil
+      (Syntax.ttcons
+      Syntax.tnil
+      (Syntax.ttcons
+      Syntax.tnil
+      (Syntax.ttcons Syntax.tnil (Syntax.ttcons Syntax.tnil Syntax.ttnil)))))))))))))))))))
+      (Syntax.tcons (Syntax.tyInt Syntax.w8) Syntax.tnil)))))),
+) (List._∷_ (
+  1,
+  Mut.mslice
+      (KInstanceRow.R)
+      (Syntax.tyRef (Syntax.named 0) Syntax.mut (KInstanceRow.named))
+      0,
+) (List._∷_ (
+  2,
+  Mut.mslice
+      (KRouteRow.R)
+      (Syntax.tyRef (Syntax.named 1) Syntax.mut (KRouteRow.named))
+      1,
+) (List._∷_ (
+  3,
+  Mut.mslice
+      (Referent.rtF (Referent.fInt Syntax.w8))
+      (Syntax.tyRef (Syntax.named 2) Syntax.mut (Syntax.tyInt Syntax.w8))
+      2,
+) (List._∷_ (
+  4,
+  Relend.mslice-owed
+      (Referent.rtF (Referent.fInt Syntax.w8))
+      (Syntax.tyRef (Syntax.named 3) Syntax.mut (Syntax.tyInt Syntax.w8))
+      3
+      12
+      Row.off,
+) (List._∷_ (5, Rows'.any-gone (KOwn.spelled)) (List._∷_ (
+  6,
+  Rows'.sc-here (Row.sInt Syntax.w64),
+) (List._∷_ (7, Rows'.sc-here (Row.sInt Syntax.w8)) (List._∷_ (
+  8,
+  Rows'.sc-here (Row.sInt Syntax.w64),
+) (List._∷_ (
+  9,
+  Rows'.sref
+      (Array'.Array (Array'.Array (Referent.rtF (Referent.fInt Syntax.w8)) 16) 16)
+      (Syntax.tyRef
+      (Syntax.named 4)
+      Syntax.imm
+      (Syntax.tyArray (Syntax.tyArray (Syntax.tyInt Syntax.w8) 16) 16))
+      4,
+) (List._∷_ (
+  10,
+  Rows'.sref
+      (KDecided.R)
+      (Syntax.tyRef (Syntax.named 5) Syntax.imm (KDecided.named))
+      5,
+) (List._∷_ (
+  11,
+  Rows'.sref
+      (KPost.R)
+      (Syntax.tyRef (Syntax.named 6) Syntax.imm (KPost.named))
+      6,
+) (List._∷_ (
+  12,
+  Rows'.sref
+      (KPost.R)
+      (Syntax.tyRef (Syntax.named 7) Syntax.imm (KPost.named))
+      7,
+) (List._∷_ (
+  13,
+  Rows'.any-gone
+      (Syntax.tyStruct
+      (List._∷_
+      102
+      (List._∷_
+      105
+      (List._∷_
+      110
+      (List._∷_
+      105
+      (List._∷_
+      115
+      (List._∷_
+      104
+      (List._∷_
+      58
+      (List._∷_ 58 (List._∷_ 76 (List._∷_ 105 (List._∷_ 118 (List._∷_ 101 List.[]))))))))))))
+      (Syntax.tcons
+      Syntax.tyBool
+      (Syntax.tcons
+      (Syntax.tyInt Syntax.w64)
+      (Syntax.tcons Syntax.tyBool (Syntax.tcons (Syntax.tyInt Syntax.w64) Syntax.tnil))))),
+) (List._∷_ (14, KOwn.row) (List._∷_ (
+  15,
+  Rows'.whole (Declared.row Places.the-type),
+) List.[])))))))))))))))
+
+abbrev pub t38 : List.List Row.Entry
+t38 = List._∷_ (16, Rows'.whole (Declared.row RoutePlace.the-type)) (List._∷_ (
+  17,
+  Rows'.sc-here (Row.sInt Syntax.w64),
+) (List._∷_ (18, Rows'.any-gone (Syntax.tyInt Syntax.w64)) (List._∷_ (
+  19,
+  Rows'.any-gone
+      (Syntax.tyRef Syntax.erased Syntax.imm (KInstanceRow.named)),
+) (List._∷_ (
+  20,
+  Rows'.any-gone
+      (Syntax.tyStruct
+      (List._∷_ 38 (List._∷_ 91 (List._∷_ 93 List.[])))
+      (Syntax.tcons
+      (Syntax.tyRef Syntax.erased Syntax.imm (KInstanceRow.named))
+      (Syntax.tcons (Syntax.tyInt Syntax.w64) Syntax.tnil))),
+) (List._∷_ (21, Rows'.any-gone Syntax.tyBool) (List._∷_ (
+  22,
+  Rows'.any-gone (KDecided.spelled),
+) (List._∷_ (
+  23,
+  Rows'.any-gone
+      (Syntax.tyRef Syntax.erased Syntax.imm (KRouteRow.named)),
+) (List._∷_ (
+  24,
+  Rows'.any-gone
+      (Syntax.tyStruct
+      (List._∷_ 38 (List._∷_ 91 (List._∷_ 93 List.[])))
+      (Syntax.tcons
+      (Syntax.tyRef Syntax.erased Syntax.imm (KRouteRow.named))
+      (Syntax.tcons (Syntax.tyInt Syntax.w64) Syntax.tnil))),
+) (List._∷_ (25, Rows'.any-gone Syntax.tyBool) (List._∷_ (
+  26,
+  Rows'.any-gone (Syntax.tyRef Syntax.erased Syntax.mut (Syntax.tyInt Syntax.w8)),
+) (List._∷_ (
+  27,
+  Rows'.any-gone
+      (Syntax.tyStruct
+      (List._∷_ 38 (List._∷_ 91 (List._∷_ 93 List.[])))
+      (Syntax.tcons
+      (Syntax.tyRef Syntax.erased Syntax.mut (Syntax.tyInt Syntax.w8))
+      (Syntax.tcons (Syntax.tyInt Syntax.w64) Syntax.tnil))),
+) (List._∷_ (
+  28,
+  Rows'.any-gone
+      (Syntax.tyRef Syntax.erased Syntax.imm (KOwn.named)),
+) (List._∷_ (
+  29,
+  Relend.msptr
+      (Referent.rtF (Referent.fInt Syntax.w8))
+      (Syntax.tyRef Syntax.erased Syntax.mut (Syntax.tyInt Syntax.w8))
+      12,
+) (List._∷_ (
+  30,
+  Rows'.any-gone
+      (Syntax.tyStruct
+      (List._∷_ 38 (List._∷_ 91 (List._∷_ 93 List.[])))
+      (Syntax.tcons
+      (Syntax.tyRef Syntax.erased Syntax.mut (Syntax.tyInt Syntax.w8))
+      (Syntax.tcons (Syntax.tyInt Syntax.w64) Syntax.tnil))),
+) (List._∷_ (
+  31,
+  Rows'.any-gone
+      (Syntax.tyRef Syntax.erased Syntax.imm (KOwn.named)),
+) List.[])))))))))))))))
+
+abbrev pub t39 : List.List Row.Entry
+t39 = List._∷_ (16, Rows'.whole (Declared.row RoutePlace.the-type)) (List._∷_ (
+  17,
+  Rows'.sc-here (Row.sInt Syntax.w64),
+) (List._∷_ (18, Rows'.any-gone (Syntax.tyInt Syntax.w64)) (List._∷_ (
+  19,
+  Rows'.any-gone
+      (Syntax.tyRef Syntax.erased Syntax.imm (KInstanceRow.named)),
+) (List._∷_ (
+  20,
+  Rows'.any-gone
+      (Syntax.tyStruct
+      (List._∷_ 38 (List._∷_ 91 (List._∷_ 93 List.[])))
+      (Syntax.tcons
+      (Syntax.tyRef Syntax.erased Syntax.imm (KInstanceRow.named))
+      (Syntax.tcons (Syntax.tyInt Syntax.w64) Syntax.tnil))),
+) (List._∷_ (21, Rows'.any-gone Syntax.tyBool) (List._∷_ (
+  22,
+  Rows'.any-gone (KDecided.spelled),
+) (List._∷_ (
+  23,
+  Rows'.any-gone
+      (Syntax.tyRef Syntax.erased Syntax.imm (KRouteRow.named)),
+) (List._∷_ (
+  24,
+  Rows'.any-gone
+      (Syntax.tyStruct
+      (List._∷_ 38 (List._∷_ 91 (List._∷_ 93 List.[])))
+      (Syntax.tcons
+      (Syntax.tyRef Syntax.erased Syntax.imm (KRouteRow.named))
+      (Syntax.tcons (Syntax.tyInt Syntax.w64) Syntax.tnil))),
+) (List._∷_ (25, Rows'.any-gone Syntax.tyBool) (List._∷_ (
+  26,
+  Rows'.any-gone (Syntax.tyRef Syntax.erased Syntax.mut (Syntax.tyInt Syntax.w8)),
+) (List._∷_ (
+  27,
+  Rows'.any-gone
+      (Syntax.tyStruct
+      (List._∷_ 38 (List._∷_ 91 (List._∷_ 93 List.[])))
+      (Syntax.tcons
+      (Syntax.tyRef Syntax.erased Syntax.mut (Syntax.tyInt Syntax.w8))
+      (Syntax.tcons (Syntax.tyInt Syntax.w64) Syntax.tnil))),
+) (List._∷_ (
+  28,
+  Rows'.any-gone
+      (Syntax.tyRef Syntax.erased Syntax.imm (KOwn.named)),
+)
+    (List._∷_ (
+      29,
+      Rows'.any-gone (Syntax.tyRef Syntax.erased Syntax.mut (Syntax.tyInt Syntax.w8)),
     ) (List._∷_ (
       30,
-      Mut.msleft
-          (KRouteRow.R)
-          (Syntax.tyRef Syntax.erased Syntax.mut (KRouteRow.named)),
+      Mut.mslice
+          (Referent.rtF (Referent.fInt Syntax.w8))
+          (Syntax.tyRef Syntax.erased Syntax.mut (Syntax.tyInt Syntax.w8))
+          12,
     ) (List._∷_ (
       31,
-      Rows'.any-gone (Syntax.tyRef Syntax.erased Syntax.mut (Syntax.tyInt Syntax.w8)),
+      Rows'.any-gone
+          (Syntax.tyRef Syntax.erased Syntax.imm (KOwn.named)),
     ) List.[])))))))))))))))
 
 abbrev pub t40 : List.List Row.Entry
@@ -8056,352 +7969,12 @@ t40 = List._∷_ (
       2,
 ) (List._∷_ (
   4,
-  Mut.mslice
-      (Referent.rtF (Referent.fInt Syntax.w8))
-      (Syntax.tyRef (Syntax.named 3) Syntax.mut (Syntax.tyInt Syntax.w8))
-      3,
-) (List._∷_ (5, Rows'.any-gone (KOwn.spelled)) (List._∷_ (
-  6,
-  Rows'.sc-here (Row.sInt Syntax.w64),
-) (List._∷_ (7, Rows'.sc-here (Row.sInt Syntax.w8)) (List._∷_ (
-  8,
-  Rows'.sc-here (Row.sInt Syntax.w64),
-) (List._∷_ (
-  9,
-  Rows'.sref
-      (Array'.Array (Array'.Array (Referent.rtF (Referent.fInt Syntax.w8)) 16) 16)
-      (Syntax.tyRef
-      (Syntax.named 4)
-      Syntax.imm
-      (Syntax.tyArray (Syntax.tyArray (Syntax.tyInt Syntax.w8) 16) 16))
-      4,
-) (List._∷_ (
-  10,
-  Rows'.sref
-      (KDecided.R)
-      (Syntax.tyRef (Syntax.named 5) Syntax.imm (KDecided.named))
-      5,
-) (List._∷_ (
-  11,
-  Rows'.sref
-      (KPost.R)
-      (Syntax.tyRef (Syntax.named 6) Syntax.imm (KPost.named))
-      6,
-) (List._∷_ (
-  12,
-  Rows'.sref
-      (KPost.R)
-      (Syntax.tyRef (Syntax.named 7) Syntax.imm (KPost.named))
-      7,
-) (List._∷_ (
-  13,
-  Rows'.any-gone
-      (Syntax.tyStruct
-      (List._∷_
-      102
-      (List._∷_
-      105
-      (List._∷_
-      110
-      (List._∷_
-      105
-      (List._∷_
-      115
-      (List._∷_
-      104
-      (List._∷_
-      58
-      (List._∷_ 58 (List._∷_ 76 (List._∷_ 105 (List._∷_ 118 (List._∷_ 101 List.[]))))))))))))
-      (Syntax.tcons
-      Syntax.tyBool
-      (Syntax.tcons
-      (Syntax.tyInt Syntax.w64)
-      (Syntax.tcons Syntax.tyBool (Syntax.tcons (Syntax.tyInt Syntax.w64) Syntax.tnil))))),
-) (List._∷_ (14, KOwn.row) (List._∷_ (
-  15,
-  Rows'.any-gone
-      (Syntax.tyStruct
-      (List._∷_
-      112
-      (List._∷_
-      108
-      (List._∷_
-      97
-      (List._∷_
-      99
-      (List._∷_
-      101
-      (List._∷_
-      58
-      (List._∷_
-      58
-      (List._∷_
-      80
-      (List._∷_ 108 (List._∷_ 97 (List._∷_ 99 (List._∷_ 101 (List._∷_ 115 List.[])))))))))))))
-      (Syntax.tcons
-      Syntax.tyBool
-      (Syntax.tcons
-      (Syntax.tyInt Syntax.w64)
-      (Syntax.tcons (Syntax.tyInt Syntax.w64) Syntax.tnil)))),
-) List.[])))))))))))))))
-
-abbrev pub t41 : List.List Row.Entry
-t41 = List._∷_ (
-  0,
-  Rows'.any-gone
-      (Syntax.tyStruct
-      (List._∷_
-      102
-      (List._∷_
-      105
-      (List._∷_
-      110
-      (List._∷_
-      105
-      (List._∷_
-      115
-      (List._∷_
-      104
-      (List._∷_
-      58
-      (List._∷_
-      58
-      (List._∷_
-      79
-      (List._∷_
-      117
-      (List._∷_ 116 (List._∷_ 99 (List._∷_ 111 (List._∷_ 109 (List._∷_ 101 List.[])))))))))))))))
-      (Syntax.tcons
-      (Syntax.tyStruct
-      (List._∷_
-      102
-      (List._∷_
-      105
-      (List._∷_
-      110
-      (List._∷_
-      105
-      (List._∷_
-      115
-      (List._∷_
-      104
-      (List._∷_
-      58
-      (List._∷_ 58 (List._∷_ 83 (List._∷_ 101 (List._∷_ 110 (List._∷_ 116 List.[]))))))))))))
-      (Syntax.tcons
-      (Syntax.tyStruct
-      (List._∷_
-      97
-      (List._∷_
-      110
-      (List._∷_
-      115
-      (List._∷_
-      119
-      (List._∷_
-      101
-      (List._∷_
-      114
-      (List._∷_
-      58
-      (List._∷_
-      58
-      (List._∷_
-      68
-      (List._∷_
-      101
-      (List._∷_
-      115
-      (List._∷_
-      116
-      (List._∷_
-      105
-      (List._∷_
-      110
-      (List._∷_
-      97
-      (List._∷_ 116 (List._∷_ 105 (List._∷_ 111 (List._∷_ 110 List.[])))))))))))))))))))
-      (Syntax.tcons
-      (Syntax.tyArray (Syntax.tyInt Syntax.w8) 16)
-      (Syntax.tcons
-      (Syntax.tyEnum
-      (List._∷_
-      97
-      (List._∷_
-      110
-      (List._∷_
-      115
-      (List._∷_
-      119
-      (List._∷_
-      101
-      (List._∷_
-      114
-      (List._∷_ 58 (List._∷_ 58 (List._∷_ 87 (List._∷_ 97 (List._∷_ 121 List.[])))))))))))
-      (Syntax.ttcons
-      Syntax.tnil
-      (Syntax.ttcons
-      Syntax.tnil
-      (Syntax.ttcons Syntax.tnil (Syntax.ttcons Syntax.tnil Syntax.ttnil)))))
-      Syntax.tnil)))
-      (Syntax.tcons (Syntax.tyInt Syntax.w64) Syntax.tnil)))
-      (Syntax.tcons
-      (Syntax.tyInt Syntax.w64)
-      (Syntax.tcons
-      (Syntax.tyStruct
-      (List._∷_
-      102
-      (List._∷_
-      105
-      (List._∷_
-      110
-      (List._∷_
-      105
-      (List._∷_
-      115
-      (List._∷_
-      104
-      (List._∷_
-      58
-      (List._∷_ 58 (List._∷_ 83 (List._∷_ 101 (List._∷_ 110 (List._∷_ 116 List.[]))))))))))))
-      (Syntax.tcons
-      (Syntax.tyStruct
-      (List._∷_
-      97
-      (List._∷_
-      110
-      (List._∷_
-      115
-      (List._∷_
-      119
-      (List._∷_
-      101
-      (List._∷_
-      114
-      (List._∷_
-      58
-      (List._∷_
-      58
-      (List._∷_
-      68
-      (List._∷_
-      101
-      (List._∷_
-      115
-      (List._∷_
-      116
-      (List._∷_
-      105
-      (List._∷_
-      110
-      (List._∷_
-      97
-      (List._∷_ 116 (List._∷_ 105 (List._∷_ 111 (List._∷_ 110 List.[])))))))))))))))))))
-      (Syntax.tcons
-      (Syntax.tyArray (Syntax.tyInt Syntax.w8) 16)
-      (Syntax.tcons
-      (Syntax.tyEnum
-      (List._∷_
-      97
-      (List._∷_
-      110
-      (List._∷_
-      115
-      (List._∷_
-      119
-      (List._∷_
-      101
-      (List._∷_
-      114
-      (List._∷_ 58 (List._∷_ 58 (List._∷_ 87 (List._∷_ 97 (List._∷_ 121 List.[])))))))))))
-      (Syntax.ttcons
-      Syntax.tnil
-      (Syntax.ttcons
-      Syntax.tnil
-      (Syntax.ttcons Syntax.tnil (Syntax.ttcons Syntax.tnil Syntax.ttnil)))))
-      Syntax.tnil)))
-      (Syntax.tcons (Syntax.tyInt Syntax.w64) Syntax.tnil)))
-      (Syntax.tcons
-      (Syntax.tyEnum
-      (List._∷_
-      97
-      (List._∷_
-      110
-      (List._∷_
-      115
-      (List._∷_
-      119
-      (List._∷_
-      101
-      (List._∷_
-      114
-      (List._∷_
-      58
-      (List._∷_
-      58
-      (List._∷_
-      65
-      (List._∷_ 110 (List._∷_ 115 (List._∷_ 119 (List._∷_ 101 (List._∷_ 114 List.[]))))))))))))))
-      (Syntax.ttcons
-      Syntax.tnil
-      (Syntax.ttcons
-      Syntax.tnil
-      (Syntax.ttcons
-      Syntax.tnil
-      (Syntax.ttcons
-      Syntax.tnil
-      (Syntax.ttcons
-      Syntax.tnil
-      (Syntax.ttcons
-      Syntax.tnil
-      (Syntax.ttcons
-      Syntax.tnil
-      (Syntax.ttcons
-      Syntax.tnil
-      (Syntax.ttcons
-      Syntax.tnil
-      (Syntax.ttcons
-      Syntax.tnil
-      (Syntax.ttcons
-      Syntax.tnil
-      (Syntax.ttcons
-      Syntax.tnil
-      (Syntax.ttcons
-      Syntax.tnil
-      (Syntax.ttcons
-      Syntax.tnil
-      (Syntax.ttcons
-      Syntax.tnil
-      (Syntax.ttcons
-      Syntax.tnil
-      (Syntax.ttcons Syntax.tnil (Syntax.ttcons Syntax.tnil Syntax.ttnil)))))))))))))))))))
-      (Syntax.tcons (Syntax.tyInt Syntax.w8) Syntax.tnil)))))),
-) (List._∷_ (
-  1,
-  Mut.mslice
-      (KInstanceRow.R)
-      (Syntax.tyRef (Syntax.named 0) Syntax.mut (KInstanceRow.named))
-      0,
-) (List._∷_ (
-  2,
-  Mut.mslice
-      (KRouteRow.R)
-      (Syntax.tyRef (Syntax.named 1) Syntax.mut (KRouteRow.named))
-      1,
-) (List._∷_ (
-  3,
   Relend.mslice-owed
       (Referent.rtF (Referent.fInt Syntax.w8))
-      (Syntax.tyRef (Syntax.named 2) Syntax.mut (Syntax.tyInt Syntax.w8))
-      2
+      (Syntax.tyRef (Syntax.named 3) Syntax.mut (Syntax.tyInt Syntax.w8))
+      3
       12
       Row.off,
-) (List._∷_ (
-  4,
-  Mut.mslice
-      (Referent.rtF (Referent.fInt Syntax.w8))
-      (Syntax.tyRef (Syntax.named 3) Syntax.mut (Syntax.tyInt Syntax.w8))
-      3,
 ) (List._∷_ (5, Rows'.any-gone (KOwn.spelled)) (List._∷_ (
   6,
   Rows'.sc-here (Row.sInt Syntax.w64),
@@ -8459,69 +8032,20 @@ t41 = List._∷_ (
       (Syntax.tcons
       (Syntax.tyInt Syntax.w64)
       (Syntax.tcons Syntax.tyBool (Syntax.tcons (Syntax.tyInt Syntax.w64) Syntax.tnil))))),
-) (List._∷_ (14, KOwn.row) (List._∷_ (
-  15,
-  Rows'.any-gone
-      (Syntax.tyStruct
-      (List._∷_
-      112
-      (List._∷_
-      108
-      (List._∷_
-      97
-      (List._∷_
-      99
-      (List._∷_
-      101
-      (List._∷_
-      58
-      (List._∷_
-      58
-      (List._∷_
-      80
-      (List._∷_ 108 (List._∷_ 97 (List._∷_ 99 (List._∷_ 101 (List._∷_ 115 List.[])))))))))))))
-      (Syntax.tcons
-      Syntax.tyBool
-      (Syntax.tcons
-      (Syntax.tyInt Syntax.w64)
-      (Syntax.tcons (Syntax.tyInt Syntax.w64) Syntax.tnil)))),
-) List.[])))))))))))))))
-
-abbrev pub t42 : List.List Row.Entry
-t42 = List._∷_ (
-  16,
-  Rows'.any-gone
-      (Syntax.tyStruct
-      (List._∷_
-      112
-      (List._∷_
-      108
-      (List._∷_
-      97
-      (List._∷_
-      99
-      (List._∷_
-      101
-      (List._∷_
-      58
-      (List._∷_
-      58
-      (List._∷_
-      82
-      (List._∷_
-      111
-      (List._∷_
-      117
-      (List._∷_
-      116
-      (List._∷_
-      101
-      (List._∷_ 80 (List._∷_ 108 (List._∷_ 97 (List._∷_ 99 (List._∷_ 101 List.[])))))))))))))))))
-      (Syntax.tcons Syntax.tyBool (Syntax.tcons (Syntax.tyInt Syntax.w64) Syntax.tnil))),
-) (List._∷_ (17, Rows'.any-gone (Syntax.tyInt Syntax.w64)) (List._∷_ (
-  18,
-  Rows'.any-gone (Syntax.tyInt Syntax.w64),
 ) (List._∷_ (
+  14,
+  Rows'.sc-shr
+      (KOwn.row)
+      (KOwn.R)
+      (λ x. x)
+      13,
+) (List._∷_ (15, Rows'.whole (Declared.row Places.the-type)) List.[])))))))))))))))
+
+abbrev pub t41 : List.List Row.Entry
+t41 = List._∷_ (16, Rows'.whole (Declared.row RoutePlace.the-type)) (List._∷_ (
+  17,
+  Rows'.sc-here (Row.sInt Syntax.w64),
+) (List._∷_ (18, Rows'.any-gone (Syntax.tyInt Syntax.w64)) (List._∷_ (
   19,
   Rows'.any-gone
       (Syntax.tyRef Syntax.erased Syntax.imm (KInstanceRow.named)),
@@ -8548,189 +8072,162 @@ t42 = List._∷_ (
       (Syntax.tcons
       (Syntax.tyRef Syntax.erased Syntax.imm (KRouteRow.named))
       (Syntax.tcons (Syntax.tyInt Syntax.w64) Syntax.tnil))),
-)
-    (List._∷_
-    (25, Rows'.any-gone Syntax.tyBool)
-    (List._∷_ (26, Rows'.any-gone Syntax.tyUnit) (List._∷_ (
-      27,
-      Rows'.any-gone
-          (Syntax.tyRef Syntax.erased Syntax.mut (KInstanceRow.named)),
-    ) (List._∷_ (
-      28,
-      Rows'.any-gone
-          (Syntax.tyStruct
-          (List._∷_ 38 (List._∷_ 91 (List._∷_ 93 List.[])))
-          (Syntax.tcons
-          (Syntax.tyRef Syntax.erased Syntax.mut (KInstanceRow.named))
-          (Syntax.tcons (Syntax.tyInt Syntax.w64) Syntax.tnil))),
-    ) (List._∷_ (
-      29,
-      Rows'.any-gone
-          (Syntax.tyRef Syntax.erased Syntax.mut (KRouteRow.named)),
-    ) (List._∷_ (
-      30,
-      Rows'.any-gone
-          (Syntax.tyStruct
-          (List._∷_ 38 (List._∷_ 91 (List._∷_ 93 List.[])))
-          (Syntax.tcons
-          (Syntax.tyRef Syntax.erased Syntax.mut (KRouteRow.named))
-          (Syntax.tcons (Syntax.tyInt Syntax.w64) Syntax.tnil))),
-    ) (List._∷_ (
-      31,
-      Relend.msptr
-          (Referent.rtF (Referent.fInt Syntax.w8))
-          (Syntax.tyRef Syntax.erased Syntax.mut (Syntax.tyInt Syntax.w8))
-          12,
-    ) List.[])))))))))))))))
-
-abbrev pub t43 : List.List Row.Entry
-t43 = List._∷_ (
-  32,
-  Mut.mslice
-      (Referent.rtF (Referent.fInt Syntax.w8))
-      (Syntax.tyRef Syntax.erased Syntax.mut (Syntax.tyInt Syntax.w8))
-      12,
+) (List._∷_ (25, Rows'.any-gone Syntax.tyBool) (List._∷_ (
+  26,
+  Rows'.any-gone (Syntax.tyRef Syntax.erased Syntax.mut (Syntax.tyInt Syntax.w8)),
 ) (List._∷_ (
-  33,
+  27,
+  Rows'.any-gone
+      (Syntax.tyStruct
+      (List._∷_ 38 (List._∷_ 91 (List._∷_ 93 List.[])))
+      (Syntax.tcons
+      (Syntax.tyRef Syntax.erased Syntax.mut (Syntax.tyInt Syntax.w8))
+      (Syntax.tcons (Syntax.tyInt Syntax.w64) Syntax.tnil))),
+) (List._∷_ (
+  28,
   Rows'.any-gone
       (Syntax.tyRef Syntax.erased Syntax.imm (KOwn.named)),
 )
     (List._∷_ (
-      34,
+      29,
       Rows'.any-gone (Syntax.tyRef Syntax.erased Syntax.mut (Syntax.tyInt Syntax.w8)),
     ) (List._∷_ (
-      35,
-      Rows'.any-gone
-          (Syntax.tyStruct
-          (List._∷_ 38 (List._∷_ 91 (List._∷_ 93 List.[])))
-          (Syntax.tcons
+      30,
+      Mut.mslice
+          (Referent.rtF (Referent.fInt Syntax.w8))
           (Syntax.tyRef Syntax.erased Syntax.mut (Syntax.tyInt Syntax.w8))
-          (Syntax.tcons (Syntax.tyInt Syntax.w64) Syntax.tnil))),
+          12,
     ) (List._∷_ (
-      36,
+      31,
+      Rows'.sref
+          (KOwn.R)
+          (Syntax.tyRef Syntax.erased Syntax.imm (KOwn.named))
+          13,
+    ) List.[])))))))))))))))
+
+abbrev pub t42 : List.List Row.Entry
+t42 = List._∷_ (16, Rows'.whole (Declared.row RoutePlace.the-type)) (List._∷_ (
+  17,
+  Rows'.sc-here (Row.sInt Syntax.w64),
+) (List._∷_ (18, Rows'.sc-here (Row.sInt Syntax.w64)) (List._∷_ (
+  19,
+  Rows'.any-gone
+      (Syntax.tyRef Syntax.erased Syntax.imm (KInstanceRow.named)),
+) (List._∷_ (
+  20,
+  Rows'.any-gone
+      (Syntax.tyStruct
+      (List._∷_ 38 (List._∷_ 91 (List._∷_ 93 List.[])))
+      (Syntax.tcons
+      (Syntax.tyRef Syntax.erased Syntax.imm (KInstanceRow.named))
+      (Syntax.tcons (Syntax.tyInt Syntax.w64) Syntax.tnil))),
+) (List._∷_ (21, Rows'.any-gone Syntax.tyBool) (List._∷_ (
+  22,
+  Rows'.any-gone (KDecided.spelled),
+) (List._∷_ (
+  23,
+  Rows'.any-gone
+      (Syntax.tyRef Syntax.erased Syntax.imm (KRouteRow.named)),
+) (List._∷_ (
+  24,
+  Rows'.any-gone
+      (Syntax.tyStruct
+      (List._∷_ 38 (List._∷_ 91 (List._∷_ 93 List.[])))
+      (Syntax.tcons
+      (Syntax.tyRef Syntax.erased Syntax.imm (KRouteRow.named))
+      (Syntax.tcons (Syntax.tyInt Syntax.w64) Syntax.tnil))),
+) (List._∷_ (25, Rows'.any-gone Syntax.tyBool) (List._∷_ (
+  26,
+  Rows'.any-gone (Syntax.tyRef Syntax.erased Syntax.mut (Syntax.tyInt Syntax.w8)),
+) (List._∷_ (
+  27,
+  Rows'.any-gone
+      (Syntax.tyStruct
+      (List._∷_ 38 (List._∷_ 91 (List._∷_ 93 List.[])))
+      (Syntax.tcons
+      (Syntax.tyRef Syntax.erased Syntax.mut (Syntax.tyInt Syntax.w8))
+      (Syntax.tcons (Syntax.tyInt Syntax.w64) Syntax.tnil))),
+) (List._∷_ (
+  28,
+  Rows'.any-gone
+      (Syntax.tyRef Syntax.erased Syntax.imm (KOwn.named)),
+)
+    (List._∷_ (
+      29,
+      Rows'.any-gone (Syntax.tyRef Syntax.erased Syntax.mut (Syntax.tyInt Syntax.w8)),
+    ) (List._∷_ (
+      30,
+      Mut.msleft
+          (Referent.rtF (Referent.fInt Syntax.w8))
+          (Syntax.tyRef Syntax.erased Syntax.mut (Syntax.tyInt Syntax.w8)),
+    ) (List._∷_ (
+      31,
+      Rows'.sref
+          (KOwn.R)
+          (Syntax.tyRef Syntax.erased Syntax.imm (KOwn.named))
+          13,
+    ) List.[])))))))))))))))
+
+abbrev pub t43 : List.List Row.Entry
+t43 = List._∷_ (16, Rows'.whole (Declared.row RoutePlace.the-type)) (List._∷_ (
+  17,
+  Rows'.sc-here (Row.sInt Syntax.w64),
+) (List._∷_ (18, Rows'.sc-here (Row.sInt Syntax.w64)) (List._∷_ (
+  19,
+  Rows'.any-gone
+      (Syntax.tyRef Syntax.erased Syntax.imm (KInstanceRow.named)),
+) (List._∷_ (
+  20,
+  Rows'.any-gone
+      (Syntax.tyStruct
+      (List._∷_ 38 (List._∷_ 91 (List._∷_ 93 List.[])))
+      (Syntax.tcons
+      (Syntax.tyRef Syntax.erased Syntax.imm (KInstanceRow.named))
+      (Syntax.tcons (Syntax.tyInt Syntax.w64) Syntax.tnil))),
+) (List._∷_ (21, Rows'.any-gone Syntax.tyBool) (List._∷_ (
+  22,
+  Rows'.any-gone (KDecided.spelled),
+) (List._∷_ (
+  23,
+  Rows'.any-gone
+      (Syntax.tyRef Syntax.erased Syntax.imm (KRouteRow.named)),
+) (List._∷_ (
+  24,
+  Rows'.any-gone
+      (Syntax.tyStruct
+      (List._∷_ 38 (List._∷_ 91 (List._∷_ 93 List.[])))
+      (Syntax.tcons
+      (Syntax.tyRef Syntax.erased Syntax.imm (KRouteRow.named))
+      (Syntax.tcons (Syntax.tyInt Syntax.w64) Syntax.tnil))),
+) (List._∷_ (25, Rows'.any-gone Syntax.tyBool) (List._∷_ (
+  26,
+  Rows'.any-gone (Syntax.tyRef Syntax.erased Syntax.mut (Syntax.tyInt Syntax.w8)),
+) (List._∷_ (
+  27,
+  Rows'.any-gone
+      (Syntax.tyStruct
+      (List._∷_ 38 (List._∷_ 91 (List._∷_ 93 List.[])))
+      (Syntax.tcons
+      (Syntax.tyRef Syntax.erased Syntax.mut (Syntax.tyInt Syntax.w8))
+      (Syntax.tcons (Syntax.tyInt Syntax.w64) Syntax.tnil))),
+) (List._∷_ (
+  28,
+  Rows'.any-gone
+      (Syntax.tyRef Syntax.erased Syntax.imm (KOwn.named)),
+)
+    (List._∷_ (
+      29,
+      Rows'.any-gone (Syntax.tyRef Syntax.erased Syntax.mut (Syntax.tyInt Syntax.w8)),
+    ) (List._∷_ (
+      30,
+      Mut.msleft
+          (Referent.rtF (Referent.fInt Syntax.w8))
+          (Syntax.tyRef Syntax.erased Syntax.mut (Syntax.tyInt Syntax.w8)),
+    ) (List._∷_ (
+      31,
       Rows'.any-gone
           (Syntax.tyRef Syntax.erased Syntax.imm (KOwn.named)),
-    ) (List._∷_ (37, Rows'.any-gone (Syntax.tyInt Syntax.w8)) (List._∷_ (
-      38,
-      Rows'.any-gone (KDecided.spelled),
-    ) (List._∷_ (
-      39,
-      Rows'.any-gone
-          (Syntax.tyStruct
-          (List._∷_
-          97
-          (List._∷_
-          110
-          (List._∷_
-          115
-          (List._∷_
-          119
-          (List._∷_
-          101
-          (List._∷_
-          114
-          (List._∷_
-          58
-          (List._∷_
-          58
-          (List._∷_
-          68
-          (List._∷_
-          101
-          (List._∷_
-          115
-          (List._∷_
-          116
-          (List._∷_
-          105
-          (List._∷_
-          110
-          (List._∷_
-          97
-          (List._∷_ 116 (List._∷_ 105 (List._∷_ 111 (List._∷_ 110 List.[])))))))))))))))))))
-          (Syntax.tcons
-          (Syntax.tyArray (Syntax.tyInt Syntax.w8) 16)
-          (Syntax.tcons
-          (Syntax.tyEnum
-          (List._∷_
-          97
-          (List._∷_
-          110
-          (List._∷_
-          115
-          (List._∷_
-          119
-          (List._∷_
-          101
-          (List._∷_
-          114
-          (List._∷_ 58 (List._∷_ 58 (List._∷_ 87 (List._∷_ 97 (List._∷_ 121 List.[])))))))))))
-          (Syntax.ttcons
-          Syntax.tnil
-          (Syntax.ttcons
-          Syntax.tnil
-          (Syntax.ttcons Syntax.tnil (Syntax.ttcons Syntax.tnil Syntax.ttnil)))))
-          Syntax.tnil))),
-    ) (List._∷_ (40, Rows'.any-gone (KPost.spelled)) (List._∷_ (
-      41,
-      Rows'.any-gone
-          (Syntax.tyStruct
-          (List._∷_
-          97
-          (List._∷_
-          110
-          (List._∷_
-          115
-          (List._∷_
-          119
-          (List._∷_
-          101
-          (List._∷_
-          114
-          (List._∷_
-          58
-          (List._∷_
-          58
-          (List._∷_
-          68
-          (List._∷_
-          101
-          (List._∷_
-          115
-          (List._∷_
-          116
-          (List._∷_
-          105
-          (List._∷_
-          110
-          (List._∷_
-          97
-          (List._∷_ 116 (List._∷_ 105 (List._∷_ 111 (List._∷_ 110 List.[])))))))))))))))))))
-          (Syntax.tcons
-          (Syntax.tyArray (Syntax.tyInt Syntax.w8) 16)
-          (Syntax.tcons
-          (Syntax.tyEnum
-          (List._∷_
-          97
-          (List._∷_
-          110
-          (List._∷_
-          115
-          (List._∷_
-          119
-          (List._∷_
-          101
-          (List._∷_
-          114
-          (List._∷_ 58 (List._∷_ 58 (List._∷_ 87 (List._∷_ 97 (List._∷_ 121 List.[])))))))))))
-          (Syntax.ttcons
-          Syntax.tnil
-          (Syntax.ttcons
-          Syntax.tnil
-          (Syntax.ttcons Syntax.tnil (Syntax.ttcons Syntax.tnil Syntax.ttnil)))))
-          Syntax.tnil))),
-    )
-    (List._∷_ (42, Rows'.any-gone (KPost.spelled)) List.[]))))))))))
+    ) List.[])))))))))))))))
 
 abbrev pub t44 : List.List Row.Entry
 t44 = List._∷_ (
@@ -8977,12 +8474,10 @@ t44 = List._∷_ (
       1,
 ) (List._∷_ (
   3,
-  Relend.mslice-owed
+  Mut.mslice
       (Referent.rtF (Referent.fInt Syntax.w8))
       (Syntax.tyRef (Syntax.named 2) Syntax.mut (Syntax.tyInt Syntax.w8))
-      2
-      12
-      Row.off,
+      2,
 ) (List._∷_ (
   4,
   Mut.mslice
@@ -9053,220 +8548,13 @@ t44 = List._∷_ (
       (KOwn.R)
       (λ x. x)
       13,
-) (List._∷_ (
-  15,
-  Rows'.any-gone
-      (Syntax.tyStruct
-      (List._∷_
-      112
-      (List._∷_
-      108
-      (List._∷_
-      97
-      (List._∷_
-      99
-      (List._∷_
-      101
-      (List._∷_
-      58
-      (List._∷_
-      58
-      (List._∷_
-      80
-      (List._∷_ 108 (List._∷_ 97 (List._∷_ 99 (List._∷_ 101 (List._∷_ 115 List.[])))))))))))))
-      (Syntax.tcons
-      Syntax.tyBool
-      (Syntax.tcons
-      (Syntax.tyInt Syntax.w64)
-      (Syntax.tcons (Syntax.tyInt Syntax.w64) Syntax.tnil)))),
-) List.[])))))))))))))))
+) (List._∷_ (15, Rows'.whole (Declared.row Places.the-type)) List.[])))))))))))))))
 
 abbrev pub t45 : List.List Row.Entry
-t45 = List._∷_ (
-  32,
-  Mut.mslice
-      (Referent.rtF (Referent.fInt Syntax.w8))
-      (Syntax.tyRef Syntax.erased Syntax.mut (Syntax.tyInt Syntax.w8))
-      12,
-) (List._∷_ (
-  33,
-  Rows'.sref
-      (KOwn.R)
-      (Syntax.tyRef Syntax.erased Syntax.imm (KOwn.named))
-      13,
-)
-    (List._∷_ (
-      34,
-      Rows'.any-gone (Syntax.tyRef Syntax.erased Syntax.mut (Syntax.tyInt Syntax.w8)),
-    ) (List._∷_ (
-      35,
-      Rows'.any-gone
-          (Syntax.tyStruct
-          (List._∷_ 38 (List._∷_ 91 (List._∷_ 93 List.[])))
-          (Syntax.tcons
-          (Syntax.tyRef Syntax.erased Syntax.mut (Syntax.tyInt Syntax.w8))
-          (Syntax.tcons (Syntax.tyInt Syntax.w64) Syntax.tnil))),
-    ) (List._∷_ (
-      36,
-      Rows'.any-gone
-          (Syntax.tyRef Syntax.erased Syntax.imm (KOwn.named)),
-    ) (List._∷_ (37, Rows'.any-gone (Syntax.tyInt Syntax.w8)) (List._∷_ (
-      38,
-      Rows'.any-gone (KDecided.spelled),
-    ) (List._∷_ (
-      39,
-      Rows'.any-gone
-          (Syntax.tyStruct
-          (List._∷_
-          97
-          (List._∷_
-          110
-          (List._∷_
-          115
-          (List._∷_
-          119
-          (List._∷_
-          101
-          (List._∷_
-          114
-          (List._∷_
-          58
-          (List._∷_
-          58
-          (List._∷_
-          68
-          (List._∷_
-          101
-          (List._∷_
-          115
-          (List._∷_
-          116
-          (List._∷_
-          105
-          (List._∷_
-          110
-          (List._∷_
-          97
-          (List._∷_ 116 (List._∷_ 105 (List._∷_ 111 (List._∷_ 110 List.[])))))))))))))))))))
-          (Syntax.tcons
-          (Syntax.tyArray (Syntax.tyInt Syntax.w8) 16)
-          (Syntax.tcons
-          (Syntax.tyEnum
-          (List._∷_
-          97
-          (List._∷_
-          110
-          (List._∷_
-          115
-          (List._∷_
-          119
-          (List._∷_
-          101
-          (List._∷_
-          114
-          (List._∷_ 58 (List._∷_ 58 (List._∷_ 87 (List._∷_ 97 (List._∷_ 121 List.[])))))))))))
-          (Syntax.ttcons
-          Syntax.tnil
-          (Syntax.ttcons
-          Syntax.tnil
-          (Syntax.ttcons Syntax.tnil (Syntax.ttcons Syntax.tnil Syntax.ttnil)))))
-          Syntax.tnil))),
-    ) (List._∷_ (40, Rows'.any-gone (KPost.spelled)) (List._∷_ (
-      41,
-      Rows'.any-gone
-          (Syntax.tyStruct
-          (List._∷_
-          97
-          (List._∷_
-          110
-          (List._∷_
-          115
-          (List._∷_
-          119
-          (List._∷_
-          101
-          (List._∷_
-          114
-          (List._∷_
-          58
-          (List._∷_
-          58
-          (List._∷_
-          68
-          (List._∷_
-          101
-          (List._∷_
-          115
-          (List._∷_
-          116
-          (List._∷_
-          105
-          (List._∷_
-          110
-          (List._∷_
-          97
-          (List._∷_ 116 (List._∷_ 105 (List._∷_ 111 (List._∷_ 110 List.[])))))))))))))))))))
-          (Syntax.tcons
-          (Syntax.tyArray (Syntax.tyInt Syntax.w8) 16)
-          (Syntax.tcons
-          (Syntax.tyEnum
-          (List._∷_
-          97
-          (List._∷_
-          110
-          (List._∷_
-          115
-          (List._∷_
-          119
-          (List._∷_
-          101
-          (List._∷_
-          114
-          (List._∷_ 58 (List._∷_ 58 (List._∷_ 87 (List._∷_ 97 (List._∷_ 121 List.[])))))))))))
-          (Syntax.ttcons
-          Syntax.tnil
-          (Syntax.ttcons
-          Syntax.tnil
-          (Syntax.ttcons Syntax.tnil (Syntax.ttcons Syntax.tnil Syntax.ttnil)))))
-          Syntax.tnil))),
-    )
-    (List._∷_ (42, Rows'.any-gone (KPost.spelled)) List.[]))))))))))
-
-abbrev pub t46 : List.List Row.Entry
-t46 = List._∷_ (
-  16,
-  Rows'.any-gone
-      (Syntax.tyStruct
-      (List._∷_
-      112
-      (List._∷_
-      108
-      (List._∷_
-      97
-      (List._∷_
-      99
-      (List._∷_
-      101
-      (List._∷_
-      58
-      (List._∷_
-      58
-      (List._∷_
-      82
-      (List._∷_
-      111
-      (List._∷_
-      117
-      (List._∷_
-      116
-      (List._∷_
-      101
-      (List._∷_ 80 (List._∷_ 108 (List._∷_ 97 (List._∷_ 99 (List._∷_ 101 List.[])))))))))))))))))
-      (Syntax.tcons Syntax.tyBool (Syntax.tcons (Syntax.tyInt Syntax.w64) Syntax.tnil))),
-) (List._∷_ (17, Rows'.sc-here (Row.sInt Syntax.w64)) (List._∷_ (
-  18,
-  Rows'.any-gone (Syntax.tyInt Syntax.w64),
-) (List._∷_ (
+t45 = List._∷_ (16, Rows'.whole (Declared.row RoutePlace.the-type)) (List._∷_ (
+  17,
+  Rows'.sc-here (Row.sInt Syntax.w64),
+) (List._∷_ (18, Rows'.sc-here (Row.sInt Syntax.w64)) (List._∷_ (
   19,
   Rows'.any-gone
       (Syntax.tyRef Syntax.erased Syntax.imm (KInstanceRow.named)),
@@ -9293,338 +8581,41 @@ t46 = List._∷_ (
       (Syntax.tcons
       (Syntax.tyRef Syntax.erased Syntax.imm (KRouteRow.named))
       (Syntax.tcons (Syntax.tyInt Syntax.w64) Syntax.tnil))),
+) (List._∷_ (25, Rows'.any-gone Syntax.tyBool) (List._∷_ (
+  26,
+  Rows'.any-gone (Syntax.tyRef Syntax.erased Syntax.mut (Syntax.tyInt Syntax.w8)),
+) (List._∷_ (
+  27,
+  Rows'.any-gone
+      (Syntax.tyStruct
+      (List._∷_ 38 (List._∷_ 91 (List._∷_ 93 List.[])))
+      (Syntax.tcons
+      (Syntax.tyRef Syntax.erased Syntax.mut (Syntax.tyInt Syntax.w8))
+      (Syntax.tcons (Syntax.tyInt Syntax.w64) Syntax.tnil))),
+) (List._∷_ (
+  28,
+  Rows'.any-gone
+      (Syntax.tyRef Syntax.erased Syntax.imm (KOwn.named)),
 )
-    (List._∷_
-    (25, Rows'.any-gone Syntax.tyBool)
-    (List._∷_ (26, Rows'.any-gone Syntax.tyUnit) (List._∷_ (
-      27,
-      Rows'.any-gone
-          (Syntax.tyRef Syntax.erased Syntax.mut (KInstanceRow.named)),
-    ) (List._∷_ (
-      28,
-      Rows'.any-gone
-          (Syntax.tyStruct
-          (List._∷_ 38 (List._∷_ 91 (List._∷_ 93 List.[])))
-          (Syntax.tcons
-          (Syntax.tyRef Syntax.erased Syntax.mut (KInstanceRow.named))
-          (Syntax.tcons (Syntax.tyInt Syntax.w64) Syntax.tnil))),
-    ) (List._∷_ (
+    (List._∷_ (
       29,
-      Rows'.any-gone
-          (Syntax.tyRef Syntax.erased Syntax.mut (KRouteRow.named)),
+      Rows'.any-gone (Syntax.tyRef Syntax.erased Syntax.mut (Syntax.tyInt Syntax.w8)),
     ) (List._∷_ (
       30,
       Rows'.any-gone
           (Syntax.tyStruct
           (List._∷_ 38 (List._∷_ 91 (List._∷_ 93 List.[])))
           (Syntax.tcons
-          (Syntax.tyRef Syntax.erased Syntax.mut (KRouteRow.named))
+          (Syntax.tyRef Syntax.erased Syntax.mut (Syntax.tyInt Syntax.w8))
           (Syntax.tcons (Syntax.tyInt Syntax.w64) Syntax.tnil))),
     ) (List._∷_ (
       31,
-      Rows'.any-gone (Syntax.tyRef Syntax.erased Syntax.mut (Syntax.tyInt Syntax.w8)),
+      Rows'.any-gone
+          (Syntax.tyRef Syntax.erased Syntax.imm (KOwn.named)),
     ) List.[])))))))))))))))
 
-abbrev pub t47 : List.List Row.Entry
-t47 = List._∷_ (
-  32,
-  Mut.msleft
-      (Referent.rtF (Referent.fInt Syntax.w8))
-      (Syntax.tyRef Syntax.erased Syntax.mut (Syntax.tyInt Syntax.w8)),
-) (List._∷_ (
-  33,
-  Rows'.sref
-      (KOwn.R)
-      (Syntax.tyRef Syntax.erased Syntax.imm (KOwn.named))
-      13,
-)
-    (List._∷_ (
-      34,
-      Rows'.any-gone (Syntax.tyRef Syntax.erased Syntax.mut (Syntax.tyInt Syntax.w8)),
-    ) (List._∷_ (
-      35,
-      Rows'.any-gone
-          (Syntax.tyStruct
-          (List._∷_ 38 (List._∷_ 91 (List._∷_ 93 List.[])))
-          (Syntax.tcons
-          (Syntax.tyRef Syntax.erased Syntax.mut (Syntax.tyInt Syntax.w8))
-          (Syntax.tcons (Syntax.tyInt Syntax.w64) Syntax.tnil))),
-    ) (List._∷_ (
-      36,
-      Rows'.any-gone
-          (Syntax.tyRef Syntax.erased Syntax.imm (KOwn.named)),
-    ) (List._∷_ (37, Rows'.any-gone (Syntax.tyInt Syntax.w8)) (List._∷_ (
-      38,
-      Rows'.any-gone (KDecided.spelled),
-    ) (List._∷_ (
-      39,
-      Rows'.any-gone
-          (Syntax.tyStruct
-          (List._∷_
-          97
-          (List._∷_
-          110
-          (List._∷_
-          115
-          (List._∷_
-          119
-          (List._∷_
-          101
-          (List._∷_
-          114
-          (List._∷_
-          58
-          (List._∷_
-          58
-          (List._∷_
-          68
-          (List._∷_
-          101
-          (List._∷_
-          115
-          (List._∷_
-          116
-          (List._∷_
-          105
-          (List._∷_
-          110
-          (List._∷_
-          97
-          (List._∷_ 116 (List._∷_ 105 (List._∷_ 111 (List._∷_ 110 List.[])))))))))))))))))))
-          (Syntax.tcons
-          (Syntax.tyArray (Syntax.tyInt Syntax.w8) 16)
-          (Syntax.tcons
-          (Syntax.tyEnum
-          (List._∷_
-          97
-          (List._∷_
-          110
-          (List._∷_
-          115
-          (List._∷_
-          119
-          (List._∷_
-          101
-          (List._∷_
-          114
-          (List._∷_ 58 (List._∷_ 58 (List._∷_ 87 (List._∷_ 97 (List._∷_ 121 List.[])))))))))))
-          (Syntax.ttcons
-          Syntax.tnil
-          (Syntax.ttcons
-          Syntax.tnil
-          (Syntax.ttcons Syntax.tnil (Syntax.ttcons Syntax.tnil Syntax.ttnil)))))
-          Syntax.tnil))),
-    ) (List._∷_ (40, Rows'.any-gone (KPost.spelled)) (List._∷_ (
-      41,
-      Rows'.any-gone
-          (Syntax.tyStruct
-          (List._∷_
-          97
-          (List._∷_
-          110
-          (List._∷_
-          115
-          (List._∷_
-          119
-          (List._∷_
-          101
-          (List._∷_
-          114
-          (List._∷_
-          58
-          (List._∷_
-          58
-          (List._∷_
-          68
-          (List._∷_
-          101
-          (List._∷_
-          115
-          (List._∷_
-          116
-          (List._∷_
-          105
-          (List._∷_
-          110
-          (List._∷_
-          97
-          (List._∷_ 116 (List._∷_ 105 (List._∷_ 111 (List._∷_ 110 List.[])))))))))))))))))))
-          (Syntax.tcons
-          (Syntax.tyArray (Syntax.tyInt Syntax.w8) 16)
-          (Syntax.tcons
-          (Syntax.tyEnum
-          (List._∷_
-          97
-          (List._∷_
-          110
-          (List._∷_
-          115
-          (List._∷_
-          119
-          (List._∷_
-          101
-          (List._∷_
-          114
-          (List._∷_ 58 (List._∷_ 58 (List._∷_ 87 (List._∷_ 97 (List._∷_ 121 List.[])))))))))))
-          (Syntax.ttcons
-          Syntax.tnil
-          (Syntax.ttcons
-          Syntax.tnil
-          (Syntax.ttcons Syntax.tnil (Syntax.ttcons Syntax.tnil Syntax.ttnil)))))
-          Syntax.tnil))),
-    )
-    (List._∷_ (42, Rows'.any-gone (KPost.spelled)) List.[]))))))))))
-
-abbrev pub t48 : List.List Row.Entry
-t48 = List._∷_ (
-  32,
-  Mut.msleft
-      (Referent.rtF (Referent.fInt Syntax.w8))
-      (Syntax.tyRef Syntax.erased Syntax.mut (Syntax.tyInt Syntax.w8)),
-) (List._∷_ (
-  33,
-  Rows'.any-gone
-      (Syntax.tyRef Syntax.erased Syntax.imm (KOwn.named)),
-)
-    (List._∷_ (
-      34,
-      Rows'.any-gone (Syntax.tyRef Syntax.erased Syntax.mut (Syntax.tyInt Syntax.w8)),
-    ) (List._∷_ (
-      35,
-      Rows'.any-gone
-          (Syntax.tyStruct
-          (List._∷_ 38 (List._∷_ 91 (List._∷_ 93 List.[])))
-          (Syntax.tcons
-          (Syntax.tyRef Syntax.erased Syntax.mut (Syntax.tyInt Syntax.w8))
-          (Syntax.tcons (Syntax.tyInt Syntax.w64) Syntax.tnil))),
-    ) (List._∷_ (
-      36,
-      Rows'.any-gone
-          (Syntax.tyRef Syntax.erased Syntax.imm (KOwn.named)),
-    ) (List._∷_ (37, Rows'.any-gone (Syntax.tyInt Syntax.w8)) (List._∷_ (
-      38,
-      Rows'.any-gone (KDecided.spelled),
-    ) (List._∷_ (
-      39,
-      Rows'.any-gone
-          (Syntax.tyStruct
-          (List._∷_
-          97
-          (List._∷_
-          110
-          (List._∷_
-          115
-          (List._∷_
-          119
-          (List._∷_
-          101
-          (List._∷_
-          114
-          (List._∷_
-          58
-          (List._∷_
-          58
-          (List._∷_
-          68
-          (List._∷_
-          101
-          (List._∷_
-          115
-          (List._∷_
-          116
-          (List._∷_
-          105
-          (List._∷_
-          110
-          (List._∷_
-          97
-          (List._∷_ 116 (List._∷_ 105 (List._∷_ 111 (List._∷_ 110 List.[])))))))))))))))))))
-          (Syntax.tcons
-          (Syntax.tyArray (Syntax.tyInt Syntax.w8) 16)
-          (Syntax.tcons
-          (Syntax.tyEnum
-          (List._∷_
-          97
-          (List._∷_
-          110
-          (List._∷_
-          115
-          (List._∷_
-          119
-          (List._∷_
-          101
-          (List._∷_
-          114
-          (List._∷_ 58 (List._∷_ 58 (List._∷_ 87 (List._∷_ 97 (List._∷_ 121 List.[])))))))))))
-          (Syntax.ttcons
-          Syntax.tnil
-          (Syntax.ttcons
-          Syntax.tnil
-          (Syntax.ttcons Syntax.tnil (Syntax.ttcons Syntax.tnil Syntax.ttnil)))))
-          Syntax.tnil))),
-    ) (List._∷_ (40, Rows'.any-gone (KPost.spelled)) (List._∷_ (
-      41,
-      Rows'.any-gone
-          (Syntax.tyStruct
-          (List._∷_
-          97
-          (List._∷_
-          110
-          (List._∷_
-          115
-          (List._∷_
-          119
-          (List._∷_
-          101
-          (List._∷_
-          114
-          (List._∷_
-          58
-          (List._∷_
-          58
-          (List._∷_
-          68
-          (List._∷_
-          101
-          (List._∷_
-          115
-          (List._∷_
-          116
-          (List._∷_
-          105
-          (List._∷_
-          110
-          (List._∷_
-          97
-          (List._∷_ 116 (List._∷_ 105 (List._∷_ 111 (List._∷_ 110 List.[])))))))))))))))))))
-          (Syntax.tcons
-          (Syntax.tyArray (Syntax.tyInt Syntax.w8) 16)
-          (Syntax.tcons
-          (Syntax.tyEnum
-          (List._∷_
-          97
-          (List._∷_
-          110
-          (List._∷_
-          115
-          (List._∷_
-          119
-          (List._∷_
-          101
-          (List._∷_
-          114
-          (List._∷_ 58 (List._∷_ 58 (List._∷_ 87 (List._∷_ 97 (List._∷_ 121 List.[])))))))))))
-          (Syntax.ttcons
-          Syntax.tnil
-          (Syntax.ttcons
-          Syntax.tnil
-          (Syntax.ttcons Syntax.tnil (Syntax.ttcons Syntax.tnil Syntax.ttnil)))))
-          Syntax.tnil))),
-    )
-    (List._∷_ (42, Rows'.any-gone (KPost.spelled)) List.[]))))))))))
-
-abbrev pub t49 : List.List Row.Entry
-t49 = List._∷_ (
+abbrev pub t46 : List.List Row.Entry
+t46 = List._∷_ (
   0,
   Rows'.any-gone
       (Syntax.tyStruct
@@ -9935,40 +8926,621 @@ t49 = List._∷_ (
       (Syntax.tcons
       (Syntax.tyInt Syntax.w64)
       (Syntax.tcons Syntax.tyBool (Syntax.tcons (Syntax.tyInt Syntax.w64) Syntax.tnil))))),
-) (List._∷_ (
-  14,
-  Rows'.sc-shr
-      (KOwn.row)
-      (KOwn.R)
-      (λ x. x)
-      13,
-) (List._∷_ (
+) (List._∷_ (14, Rows'.any-gone (KOwn.spelled)) (List._∷_ (
   15,
+  Rows'.whole (Declared.row Places.the-type),
+) List.[])))))))))))))))
+
+abbrev pub t47 : List.List Row.Entry
+t47 = List._∷_ (
+  0,
   Rows'.any-gone
       (Syntax.tyStruct
       (List._∷_
-      112
+      102
       (List._∷_
-      108
+      105
+      (List._∷_
+      110
+      (List._∷_
+      105
+      (List._∷_
+      115
+      (List._∷_
+      104
+      (List._∷_
+      58
+      (List._∷_
+      58
+      (List._∷_
+      79
+      (List._∷_
+      117
+      (List._∷_ 116 (List._∷_ 99 (List._∷_ 111 (List._∷_ 109 (List._∷_ 101 List.[])))))))))))))))
+      (Syntax.tcons
+      (Syntax.tyStruct
+      (List._∷_
+      102
+      (List._∷_
+      105
+      (List._∷_
+      110
+      (List._∷_
+      105
+      (List._∷_
+      115
+      (List._∷_
+      104
+      (List._∷_
+      58
+      (List._∷_ 58 (List._∷_ 83 (List._∷_ 101 (List._∷_ 110 (List._∷_ 116 List.[]))))))))))))
+      (Syntax.tcons
+      (Syntax.tyStruct
       (List._∷_
       97
       (List._∷_
-      99
+      110
+      (List._∷_
+      115
+      (List._∷_
+      119
       (List._∷_
       101
       (List._∷_
-      58
+      114
       (List._∷_
       58
       (List._∷_
-      80
-      (List._∷_ 108 (List._∷_ 97 (List._∷_ 99 (List._∷_ 101 (List._∷_ 115 List.[])))))))))))))
+      58
+      (List._∷_
+      68
+      (List._∷_
+      101
+      (List._∷_
+      115
+      (List._∷_
+      116
+      (List._∷_
+      105
+      (List._∷_
+      110
+      (List._∷_
+      97
+      (List._∷_ 116 (List._∷_ 105 (List._∷_ 111 (List._∷_ 110 List.[])))))))))))))))))))
+      (Syntax.tcons
+      (Syntax.tyArray (Syntax.tyInt Syntax.w8) 16)
+      (Syntax.tcons
+      (Syntax.tyEnum
+      (List._∷_
+      97
+      (List._∷_
+      110
+      (List._∷_
+      115
+      (List._∷_
+      119
+      (List._∷_
+      101
+      (List._∷_
+      114
+      (List._∷_ 58 (List._∷_ 58 (List._∷_ 87 (List._∷_ 97 (List._∷_ 121 List.[])))))))))))
+      (Syntax.ttcons
+      Syntax.tnil
+      (Syntax.ttcons
+      Syntax.tnil
+      (Syntax.ttcons Syntax.tnil (Syntax.ttcons Syntax.tnil Syntax.ttnil)))))
+      Syntax.tnil)))
+      (Syntax.tcons (Syntax.tyInt Syntax.w64) Syntax.tnil)))
+      (Syntax.tcons
+      (Syntax.tyInt Syntax.w64)
+      (Syntax.tcons
+      (Syntax.tyStruct
+      (List._∷_
+      102
+      (List._∷_
+      105
+      (List._∷_
+      110
+      (List._∷_
+      105
+      (List._∷_
+      115
+      (List._∷_
+      104
+      (List._∷_
+      58
+      (List._∷_ 58 (List._∷_ 83 (List._∷_ 101 (List._∷_ 110 (List._∷_ 116 List.[]))))))))))))
+      (Syntax.tcons
+      (Syntax.tyStruct
+      (List._∷_
+      97
+      (List._∷_
+      110
+      (List._∷_
+      115
+      (List._∷_
+      119
+      (List._∷_
+      101
+      (List._∷_
+      114
+      (List._∷_
+      58
+      (List._∷_
+      58
+      (List._∷_
+      68
+      (List._∷_
+      101
+      (List._∷_
+      115
+      (List._∷_
+      116
+      (List._∷_
+      105
+      (List._∷_
+      110
+      (List._∷_
+      97
+      (List._∷_ 116 (List._∷_ 105 (List._∷_ 111 (List._∷_ 110 List.[])))))))))))))))))))
+      (Syntax.tcons
+      (Syntax.tyArray (Syntax.tyInt Syntax.w8) 16)
+      (Syntax.tcons
+      (Syntax.tyEnum
+      (List._∷_
+      97
+      (List._∷_
+      110
+      (List._∷_
+      115
+      (List._∷_
+      119
+      (List._∷_
+      101
+      (List._∷_
+      114
+      (List._∷_ 58 (List._∷_ 58 (List._∷_ 87 (List._∷_ 97 (List._∷_ 121 List.[])))))))))))
+      (Syntax.ttcons
+      Syntax.tnil
+      (Syntax.ttcons
+      Syntax.tnil
+      (Syntax.ttcons Syntax.tnil (Syntax.ttcons Syntax.tnil Syntax.ttnil)))))
+      Syntax.tnil)))
+      (Syntax.tcons (Syntax.tyInt Syntax.w64) Syntax.tnil)))
+      (Syntax.tcons
+      (Syntax.tyEnum
+      (List._∷_
+      97
+      (List._∷_
+      110
+      (List._∷_
+      115
+      (List._∷_
+      119
+      (List._∷_
+      101
+      (List._∷_
+      114
+      (List._∷_
+      58
+      (List._∷_
+      58
+      (List._∷_
+      65
+      (List._∷_ 110 (List._∷_ 115 (List._∷_ 119 (List._∷_ 101 (List._∷_ 114 List.[]))))))))))))))
+      (Syntax.ttcons
+      Syntax.tnil
+      (Syntax.ttcons
+      Syntax.tnil
+      (Syntax.ttcons
+      Syntax.tnil
+      (Syntax.ttcons
+      Syntax.tnil
+      (Syntax.ttcons
+      Syntax.tnil
+      (Syntax.ttcons
+      Syntax.tnil
+      (Syntax.ttcons
+      Syntax.tnil
+      (Syntax.ttcons
+      Syntax.tnil
+      (Syntax.ttcons
+      Syntax.tnil
+      (Syntax.ttcons
+      Syntax.tnil
+      (Syntax.ttcons
+      Syntax.tnil
+      (Syntax.ttcons
+      Syntax.tnil
+      (Syntax.ttcons
+      Syntax.tnil
+      (Syntax.ttcons
+      Syntax.tnil
+      (Syntax.ttcons
+      Syntax.tnil
+      (Syntax.ttcons
+      Syntax.tnil
+      (Syntax.ttcons Syntax.tnil (Syntax.ttcons Syntax.tnil Syntax.ttnil)))))))))))))))))))
+      (Syntax.tcons (Syntax.tyInt Syntax.w8) Syntax.tnil)))))),
+) (List._∷_ (
+  1,
+  Relend.mslice-owed
+      (KInstanceRow.R)
+      (Syntax.tyRef (Syntax.named 0) Syntax.mut (KInstanceRow.named))
+      0
+      14
+      Row.off,
+) (List._∷_ (
+  2,
+  Mut.mslice
+      (KRouteRow.R)
+      (Syntax.tyRef (Syntax.named 1) Syntax.mut (KRouteRow.named))
+      1,
+) (List._∷_ (
+  3,
+  Mut.mslice
+      (Referent.rtF (Referent.fInt Syntax.w8))
+      (Syntax.tyRef (Syntax.named 2) Syntax.mut (Syntax.tyInt Syntax.w8))
+      2,
+) (List._∷_ (
+  4,
+  Mut.mslice
+      (Referent.rtF (Referent.fInt Syntax.w8))
+      (Syntax.tyRef (Syntax.named 3) Syntax.mut (Syntax.tyInt Syntax.w8))
+      3,
+) (List._∷_ (5, Rows'.any-gone (KOwn.spelled)) (List._∷_ (
+  6,
+  Rows'.sc-here (Row.sInt Syntax.w64),
+) (List._∷_ (7, Rows'.sc-here (Row.sInt Syntax.w8)) (List._∷_ (
+  8,
+  Rows'.sc-here (Row.sInt Syntax.w64),
+) (List._∷_ (
+  9,
+  Rows'.sref
+      (Array'.Array (Array'.Array (Referent.rtF (Referent.fInt Syntax.w8)) 16) 16)
+      (Syntax.tyRef
+      (Syntax.named 4)
+      Syntax.imm
+      (Syntax.tyArray (Syntax.tyArray (Syntax.tyInt Syntax.w8) 16) 16))
+      4,
+) (List._∷_ (
+  10,
+  Rows'.sref
+      (KDecided.R)
+      (Syntax.tyRef (Syntax.named 5) Syntax.imm (KDecided.named))
+      5,
+) (List._∷_ (
+  11,
+  Rows'.sref
+      (KPost.R)
+      (Syntax.tyRef (Syntax.named 6) Syntax.imm (KPost.named))
+      6,
+) (List._∷_ (
+  12,
+  Rows'.sref
+      (KPost.R)
+      (Syntax.tyRef (Syntax.named 7) Syntax.imm (KPost.named))
+      7,
+) (List._∷_ (
+  13,
+  Rows'.any-gone
+      (Syntax.tyStruct
+      (List._∷_
+      102
+      (List._∷_
+      105
+      (List._∷_
+      110
+      (List._∷_
+      105
+      (List._∷_
+      115
+      (List._∷_
+      104
+      (List._∷_
+      58
+      (List._∷_ 58 (List._∷_ 76 (List._∷_ 105 (List._∷_ 118 (List._∷_ 101 List.[]))))))))))))
       (Syntax.tcons
       Syntax.tyBool
       (Syntax.tcons
       (Syntax.tyInt Syntax.w64)
-      (Syntax.tcons (Syntax.tyInt Syntax.w64) Syntax.tnil)))),
+      (Syntax.tcons Syntax.tyBool (Syntax.tcons (Syntax.tyInt Syntax.w64) Syntax.tnil))))),
+) (List._∷_ (14, Rows'.any-gone (KOwn.spelled)) (List._∷_ (
+  15,
+  Rows'.whole (Declared.row Places.the-type),
 ) List.[])))))))))))))))
+
+abbrev pub t48 : List.List Row.Entry
+t48 = List._∷_ (32, Rows'.any-gone Syntax.tyUnit) (List._∷_ (
+  33,
+  Relend.msptr
+      (KInstanceRow.R)
+      (Syntax.tyRef Syntax.erased Syntax.mut (KInstanceRow.named))
+      14,
+) (List._∷_ (
+  34,
+  Rows'.any-gone
+      (Syntax.tyStruct
+      (List._∷_ 38 (List._∷_ 91 (List._∷_ 93 List.[])))
+      (Syntax.tcons
+      (Syntax.tyRef Syntax.erased Syntax.mut (KInstanceRow.named))
+      (Syntax.tcons (Syntax.tyInt Syntax.w64) Syntax.tnil))),
+) (List._∷_ (
+  35,
+  Rows'.any-gone
+      (Syntax.tyRef Syntax.erased Syntax.mut (KRouteRow.named)),
+) (List._∷_ (
+  36,
+  Rows'.any-gone
+      (Syntax.tyStruct
+      (List._∷_ 38 (List._∷_ 91 (List._∷_ 93 List.[])))
+      (Syntax.tcons
+      (Syntax.tyRef Syntax.erased Syntax.mut (KRouteRow.named))
+      (Syntax.tcons (Syntax.tyInt Syntax.w64) Syntax.tnil))),
+) (List._∷_ (37, Rows'.any-gone (Syntax.tyInt Syntax.w8)) (List._∷_ (
+  38,
+  Rows'.any-gone (KDecided.spelled),
+) (List._∷_ (
+  39,
+  Rows'.any-gone
+      (Syntax.tyStruct
+      (List._∷_
+      97
+      (List._∷_
+      110
+      (List._∷_
+      115
+      (List._∷_
+      119
+      (List._∷_
+      101
+      (List._∷_
+      114
+      (List._∷_
+      58
+      (List._∷_
+      58
+      (List._∷_
+      68
+      (List._∷_
+      101
+      (List._∷_
+      115
+      (List._∷_
+      116
+      (List._∷_
+      105
+      (List._∷_
+      110
+      (List._∷_
+      97
+      (List._∷_ 116 (List._∷_ 105 (List._∷_ 111 (List._∷_ 110 List.[])))))))))))))))))))
+      (Syntax.tcons
+      (Syntax.tyArray (Syntax.tyInt Syntax.w8) 16)
+      (Syntax.tcons
+      (Syntax.tyEnum
+      (List._∷_
+      97
+      (List._∷_
+      110
+      (List._∷_
+      115
+      (List._∷_
+      119
+      (List._∷_
+      101
+      (List._∷_
+      114
+      (List._∷_ 58 (List._∷_ 58 (List._∷_ 87 (List._∷_ 97 (List._∷_ 121 List.[])))))))))))
+      (Syntax.ttcons
+      Syntax.tnil
+      (Syntax.ttcons
+      Syntax.tnil
+      (Syntax.ttcons Syntax.tnil (Syntax.ttcons Syntax.tnil Syntax.ttnil)))))
+      Syntax.tnil))),
+) (List._∷_ (40, Rows'.any-gone (KPost.spelled)) (List._∷_ (
+  41,
+  Rows'.any-gone
+      (Syntax.tyStruct
+      (List._∷_
+      97
+      (List._∷_
+      110
+      (List._∷_
+      115
+      (List._∷_
+      119
+      (List._∷_
+      101
+      (List._∷_
+      114
+      (List._∷_
+      58
+      (List._∷_
+      58
+      (List._∷_
+      68
+      (List._∷_
+      101
+      (List._∷_
+      115
+      (List._∷_
+      116
+      (List._∷_
+      105
+      (List._∷_
+      110
+      (List._∷_
+      97
+      (List._∷_ 116 (List._∷_ 105 (List._∷_ 111 (List._∷_ 110 List.[])))))))))))))))))))
+      (Syntax.tcons
+      (Syntax.tyArray (Syntax.tyInt Syntax.w8) 16)
+      (Syntax.tcons
+      (Syntax.tyEnum
+      (List._∷_
+      97
+      (List._∷_
+      110
+      (List._∷_
+      115
+      (List._∷_
+      119
+      (List._∷_
+      101
+      (List._∷_
+      114
+      (List._∷_ 58 (List._∷_ 58 (List._∷_ 87 (List._∷_ 97 (List._∷_ 121 List.[])))))))))))
+      (Syntax.ttcons
+      Syntax.tnil
+      (Syntax.ttcons
+      Syntax.tnil
+      (Syntax.ttcons Syntax.tnil (Syntax.ttcons Syntax.tnil Syntax.ttnil)))))
+      Syntax.tnil))),
+) (List._∷_ (42, Rows'.any-gone (KPost.spelled)) List.[]))))))))))
+
+abbrev pub t49 : List.List Row.Entry
+t49 = List._∷_ (32, Rows'.any-gone Syntax.tyUnit) (List._∷_ (
+  33,
+  Rows'.any-gone
+      (Syntax.tyRef Syntax.erased Syntax.mut (KInstanceRow.named)),
+) (List._∷_ (
+  34,
+  Mut.mslice
+      (KInstanceRow.R)
+      (Syntax.tyRef Syntax.erased Syntax.mut (KInstanceRow.named))
+      14,
+) (List._∷_ (
+  35,
+  Rows'.any-gone
+      (Syntax.tyRef Syntax.erased Syntax.mut (KRouteRow.named)),
+) (List._∷_ (
+  36,
+  Rows'.any-gone
+      (Syntax.tyStruct
+      (List._∷_ 38 (List._∷_ 91 (List._∷_ 93 List.[])))
+      (Syntax.tcons
+      (Syntax.tyRef Syntax.erased Syntax.mut (KRouteRow.named))
+      (Syntax.tcons (Syntax.tyInt Syntax.w64) Syntax.tnil))),
+) (List._∷_ (37, Rows'.any-gone (Syntax.tyInt Syntax.w8)) (List._∷_ (
+  38,
+  Rows'.any-gone (KDecided.spelled),
+) (List._∷_ (
+  39,
+  Rows'.any-gone
+      (Syntax.tyStruct
+      (List._∷_
+      97
+      (List._∷_
+      110
+      (List._∷_
+      115
+      (List._∷_
+      119
+      (List._∷_
+      101
+      (List._∷_
+      114
+      (List._∷_
+      58
+      (List._∷_
+      58
+      (List._∷_
+      68
+      (List._∷_
+      101
+      (List._∷_
+      115
+      (List._∷_
+      116
+      (List._∷_
+      105
+      (List._∷_
+      110
+      (List._∷_
+      97
+      (List._∷_ 116 (List._∷_ 105 (List._∷_ 111 (List._∷_ 110 List.[])))))))))))))))))))
+      (Syntax.tcons
+      (Syntax.tyArray (Syntax.tyInt Syntax.w8) 16)
+      (Syntax.tcons
+      (Syntax.tyEnum
+      (List._∷_
+      97
+      (List._∷_
+      110
+      (List._∷_
+      115
+      (List._∷_
+      119
+      (List._∷_
+      101
+      (List._∷_
+      114
+      (List._∷_ 58 (List._∷_ 58 (List._∷_ 87 (List._∷_ 97 (List._∷_ 121 List.[])))))))))))
+      (Syntax.ttcons
+      Syntax.tnil
+      (Syntax.ttcons
+      Syntax.tnil
+      (Syntax.ttcons Syntax.tnil (Syntax.ttcons Syntax.tnil Syntax.ttnil)))))
+      Syntax.tnil))),
+) (List._∷_ (40, Rows'.any-gone (KPost.spelled)) (List._∷_ (
+  41,
+  Rows'.any-gone
+      (Syntax.tyStruct
+      (List._∷_
+      97
+      (List._∷_
+      110
+      (List._∷_
+      115
+      (List._∷_
+      119
+      (List._∷_
+      101
+      (List._∷_
+      114
+      (List._∷_
+      58
+      (List._∷_
+      58
+      (List._∷_
+      68
+      (List._∷_
+      101
+      (List._∷_
+      115
+      (List._∷_
+      116
+      (List._∷_
+      105
+      (List._∷_
+      110
+      (List._∷_
+      97
+      (List._∷_ 116 (List._∷_ 105 (List._∷_ 111 (List._∷_ 110 List.[])))))))))))))))))))
+      (Syntax.tcons
+      (Syntax.tyArray (Syntax.tyInt Syntax.w8) 16)
+      (Syntax.tcons
+      (Syntax.tyEnum
+      (List._∷_
+      97
+      (List._∷_
+      110
+      (List._∷_
+      115
+      (List._∷_
+      119
+      (List._∷_
+      101
+      (List._∷_
+      114
+      (List._∷_ 58 (List._∷_ 58 (List._∷_ 87 (List._∷_ 97 (List._∷_ 121 List.[])))))))))))
+      (Syntax.ttcons
+      Syntax.tnil
+      (Syntax.ttcons
+      Syntax.tnil
+      (Syntax.ttcons Syntax.tnil (Syntax.ttcons Syntax.tnil Syntax.ttnil)))))
+      Syntax.tnil))),
+) (List._∷_ (42, Rows'.any-gone (KPost.spelled)) List.[]))))))))))
 
 abbrev pub t50 : List.List Row.Entry
 t50 = List._∷_ (
@@ -10203,16 +9775,20 @@ t50 = List._∷_ (
       (Syntax.tcons (Syntax.tyInt Syntax.w8) Syntax.tnil)))))),
 ) (List._∷_ (
   1,
-  Mut.mslice
+  Relend.mslice-owed
       (KInstanceRow.R)
       (Syntax.tyRef (Syntax.named 0) Syntax.mut (KInstanceRow.named))
-      0,
+      0
+      14
+      Row.off,
 ) (List._∷_ (
   2,
-  Mut.mslice
+  Relend.mslice-owed
       (KRouteRow.R)
       (Syntax.tyRef (Syntax.named 1) Syntax.mut (KRouteRow.named))
-      1,
+      1
+      15
+      Row.off,
 ) (List._∷_ (
   3,
   Mut.mslice
@@ -10221,12 +9797,10 @@ t50 = List._∷_ (
       2,
 ) (List._∷_ (
   4,
-  Relend.mslice-owed
+  Mut.mslice
       (Referent.rtF (Referent.fInt Syntax.w8))
       (Syntax.tyRef (Syntax.named 3) Syntax.mut (Syntax.tyInt Syntax.w8))
-      3
-      14
-      Row.off,
+      3,
 ) (List._∷_ (5, Rows'.any-gone (KOwn.spelled)) (List._∷_ (
   6,
   Rows'.sc-here (Row.sInt Syntax.w64),
@@ -10284,65 +9858,36 @@ t50 = List._∷_ (
       (Syntax.tcons
       (Syntax.tyInt Syntax.w64)
       (Syntax.tcons Syntax.tyBool (Syntax.tcons (Syntax.tyInt Syntax.w64) Syntax.tnil))))),
-) (List._∷_ (14, KOwn.row) (List._∷_ (
+) (List._∷_ (14, Rows'.any-gone (KOwn.spelled)) (List._∷_ (
   15,
-  Rows'.any-gone
-      (Syntax.tyStruct
-      (List._∷_
-      112
-      (List._∷_
-      108
-      (List._∷_
-      97
-      (List._∷_
-      99
-      (List._∷_
-      101
-      (List._∷_
-      58
-      (List._∷_
-      58
-      (List._∷_
-      80
-      (List._∷_ 108 (List._∷_ 97 (List._∷_ 99 (List._∷_ 101 (List._∷_ 115 List.[])))))))))))))
-      (Syntax.tcons
-      Syntax.tyBool
-      (Syntax.tcons
-      (Syntax.tyInt Syntax.w64)
-      (Syntax.tcons (Syntax.tyInt Syntax.w64) Syntax.tnil)))),
+  Rows'.whole (Declared.row Places.the-type),
 ) List.[])))))))))))))))
 
 abbrev pub t51 : List.List Row.Entry
-t51 = List._∷_ (
-  32,
-  Rows'.any-gone
-      (Syntax.tyStruct
-      (List._∷_ 38 (List._∷_ 91 (List._∷_ 93 List.[])))
-      (Syntax.tcons
-      (Syntax.tyRef Syntax.erased Syntax.mut (Syntax.tyInt Syntax.w8))
-      (Syntax.tcons (Syntax.tyInt Syntax.w64) Syntax.tnil))),
-) (List._∷_ (
+t51 = List._∷_ (32, Rows'.any-gone Syntax.tyUnit) (List._∷_ (
   33,
   Rows'.any-gone
-      (Syntax.tyRef Syntax.erased Syntax.imm (KOwn.named)),
+      (Syntax.tyRef Syntax.erased Syntax.mut (KInstanceRow.named)),
 ) (List._∷_ (
   34,
-  Relend.msptr
-      (Referent.rtF (Referent.fInt Syntax.w8))
-      (Syntax.tyRef Syntax.erased Syntax.mut (Syntax.tyInt Syntax.w8))
+  Mut.mslice
+      (KInstanceRow.R)
+      (Syntax.tyRef Syntax.erased Syntax.mut (KInstanceRow.named))
       14,
 ) (List._∷_ (
   35,
+  Relend.msptr
+      (KRouteRow.R)
+      (Syntax.tyRef Syntax.erased Syntax.mut (KRouteRow.named))
+      15,
+) (List._∷_ (
+  36,
   Rows'.any-gone
       (Syntax.tyStruct
       (List._∷_ 38 (List._∷_ 91 (List._∷_ 93 List.[])))
       (Syntax.tcons
-      (Syntax.tyRef Syntax.erased Syntax.mut (Syntax.tyInt Syntax.w8))
+      (Syntax.tyRef Syntax.erased Syntax.mut (KRouteRow.named))
       (Syntax.tcons (Syntax.tyInt Syntax.w64) Syntax.tnil))),
-) (List._∷_ (
-  36,
-  Rows'.any-gone
-      (Syntax.tyRef Syntax.erased Syntax.imm (KOwn.named)),
 ) (List._∷_ (37, Rows'.any-gone (Syntax.tyInt Syntax.w8)) (List._∷_ (
   38,
   Rows'.any-gone (KDecided.spelled),
@@ -10465,1047 +10010,289 @@ t51 = List._∷_ (
 ) (List._∷_ (42, Rows'.any-gone (KPost.spelled)) List.[]))))))))))
 
 abbrev pub t52 : List.List Row.Entry
-t52 = List._∷_ (
-  32,
-  Rows'.any-gone
-      (Syntax.tyStruct
-      (List._∷_ 38 (List._∷_ 91 (List._∷_ 93 List.[])))
-      (Syntax.tcons
-      (Syntax.tyRef Syntax.erased Syntax.mut (Syntax.tyInt Syntax.w8))
-      (Syntax.tcons (Syntax.tyInt Syntax.w64) Syntax.tnil))),
-) (List._∷_ (
+t52 = List._∷_ (32, Rows'.any-gone Syntax.tyUnit) (List._∷_ (
   33,
   Rows'.any-gone
-      (Syntax.tyRef Syntax.erased Syntax.imm (KOwn.named)),
-)
-    (List._∷_ (
-      34,
-      Rows'.any-gone (Syntax.tyRef Syntax.erased Syntax.mut (Syntax.tyInt Syntax.w8)),
-    ) (List._∷_ (
-      35,
-      Mut.mslice
-          (Referent.rtF (Referent.fInt Syntax.w8))
-          (Syntax.tyRef Syntax.erased Syntax.mut (Syntax.tyInt Syntax.w8))
-          14,
-    ) (List._∷_ (
-      36,
-      Rows'.any-gone
-          (Syntax.tyRef Syntax.erased Syntax.imm (KOwn.named)),
-    ) (List._∷_ (37, Rows'.any-gone (Syntax.tyInt Syntax.w8)) (List._∷_ (
-      38,
-      Rows'.any-gone (KDecided.spelled),
-    ) (List._∷_ (
-      39,
-      Rows'.any-gone
-          (Syntax.tyStruct
-          (List._∷_
-          97
-          (List._∷_
-          110
-          (List._∷_
-          115
-          (List._∷_
-          119
-          (List._∷_
-          101
-          (List._∷_
-          114
-          (List._∷_
-          58
-          (List._∷_
-          58
-          (List._∷_
-          68
-          (List._∷_
-          101
-          (List._∷_
-          115
-          (List._∷_
-          116
-          (List._∷_
-          105
-          (List._∷_
-          110
-          (List._∷_
-          97
-          (List._∷_ 116 (List._∷_ 105 (List._∷_ 111 (List._∷_ 110 List.[])))))))))))))))))))
-          (Syntax.tcons
-          (Syntax.tyArray (Syntax.tyInt Syntax.w8) 16)
-          (Syntax.tcons
-          (Syntax.tyEnum
-          (List._∷_
-          97
-          (List._∷_
-          110
-          (List._∷_
-          115
-          (List._∷_
-          119
-          (List._∷_
-          101
-          (List._∷_
-          114
-          (List._∷_ 58 (List._∷_ 58 (List._∷_ 87 (List._∷_ 97 (List._∷_ 121 List.[])))))))))))
-          (Syntax.ttcons
-          Syntax.tnil
-          (Syntax.ttcons
-          Syntax.tnil
-          (Syntax.ttcons Syntax.tnil (Syntax.ttcons Syntax.tnil Syntax.ttnil)))))
-          Syntax.tnil))),
-    ) (List._∷_ (40, Rows'.any-gone (KPost.spelled)) (List._∷_ (
-      41,
-      Rows'.any-gone
-          (Syntax.tyStruct
-          (List._∷_
-          97
-          (List._∷_
-          110
-          (List._∷_
-          115
-          (List._∷_
-          119
-          (List._∷_
-          101
-          (List._∷_
-          114
-          (List._∷_
-          58
-          (List._∷_
-          58
-          (List._∷_
-          68
-          (List._∷_
-          101
-          (List._∷_
-          115
-          (List._∷_
-          116
-          (List._∷_
-          105
-          (List._∷_
-          110
-          (List._∷_
-          97
-          (List._∷_ 116 (List._∷_ 105 (List._∷_ 111 (List._∷_ 110 List.[])))))))))))))))))))
-          (Syntax.tcons
-          (Syntax.tyArray (Syntax.tyInt Syntax.w8) 16)
-          (Syntax.tcons
-          (Syntax.tyEnum
-          (List._∷_
-          97
-          (List._∷_
-          110
-          (List._∷_
-          115
-          (List._∷_
-          119
-          (List._∷_
-          101
-          (List._∷_
-          114
-          (List._∷_ 58 (List._∷_ 58 (List._∷_ 87 (List._∷_ 97 (List._∷_ 121 List.[])))))))))))
-          (Syntax.ttcons
-          Syntax.tnil
-          (Syntax.ttcons
-          Syntax.tnil
-          (Syntax.ttcons Syntax.tnil (Syntax.ttcons Syntax.tnil Syntax.ttnil)))))
-          Syntax.tnil))),
-    )
-    (List._∷_ (42, Rows'.any-gone (KPost.spelled)) List.[]))))))))))
-
-abbrev pub t53 : List.List Row.Entry
-t53 = List._∷_ (
-  0,
-  Rows'.any-gone
-      (Syntax.tyStruct
-      (List._∷_
-      102
-      (List._∷_
-      105
-      (List._∷_
-      110
-      (List._∷_
-      105
-      (List._∷_
-      115
-      (List._∷_
-      104
-      (List._∷_
-      58
-      (List._∷_
-      58
-      (List._∷_
-      79
-      (List._∷_
-      117
-      (List._∷_ 116 (List._∷_ 99 (List._∷_ 111 (List._∷_ 109 (List._∷_ 101 List.[])))))))))))))))
-      (Syntax.tcons
-      (Syntax.tyStruct
-      (List._∷_
-      102
-      (List._∷_
-      105
-      (List._∷_
-      110
-      (List._∷_
-      105
-      (List._∷_
-      115
-      (List._∷_
-      104
-      (List._∷_
-      58
-      (List._∷_ 58 (List._∷_ 83 (List._∷_ 101 (List._∷_ 110 (List._∷_ 116 List.[]))))))))))))
-      (Syntax.tcons
-      (Syntax.tyStruct
-      (List._∷_
-      97
-      (List._∷_
-      110
-      (List._∷_
-      115
-      (List._∷_
-      119
-      (List._∷_
-      101
-      (List._∷_
-      114
-      (List._∷_
-      58
-      (List._∷_
-      58
-      (List._∷_
-      68
-      (List._∷_
-      101
-      (List._∷_
-      115
-      (List._∷_
-      116
-      (List._∷_
-      105
-      (List._∷_
-      110
-      (List._∷_
-      97
-      (List._∷_ 116 (List._∷_ 105 (List._∷_ 111 (List._∷_ 110 List.[])))))))))))))))))))
-      (Syntax.tcons
-      (Syntax.tyArray (Syntax.tyInt Syntax.w8) 16)
-      (Syntax.tcons
-      (Syntax.tyEnum
-      (List._∷_
-      97
-      (List._∷_
-      110
-      (List._∷_
-      115
-      (List._∷_
-      119
-      (List._∷_
-      101
-      (List._∷_
-      114
-      (List._∷_ 58 (List._∷_ 58 (List._∷_ 87 (List._∷_ 97 (List._∷_ 121 List.[])))))))))))
-      (Syntax.ttcons
-      Syntax.tnil
-      (Syntax.ttcons
-      Syntax.tnil
-      (Syntax.ttcons Syntax.tnil (Syntax.ttcons Syntax.tnil Syntax.ttnil)))))
-      Syntax.tnil)))
-      (Syntax.tcons (Syntax.tyInt Syntax.w64) Syntax.tnil)))
-      (Syntax.tcons
-      (Syntax.tyInt Syntax.w64)
-      (Syntax.tcons
-      (Syntax.tyStruct
-      (List._∷_
-      102
-      (List._∷_
-      105
-      (List._∷_
-      110
-      (List._∷_
-      105
-      (List._∷_
-      115
-      (List._∷_
-      104
-      (List._∷_
-      58
-      (List._∷_ 58 (List._∷_ 83 (List._∷_ 101 (List._∷_ 110 (List._∷_ 116 List.[]))))))))))))
-      (Syntax.tcons
-      (Syntax.tyStruct
-      (List._∷_
-      97
-      (List._∷_
-      110
-      (List._∷_
-      115
-      (List._∷_
-      119
-      (List._∷_
-      101
-      (List._∷_
-      114
-      (List._∷_
-      58
-      (List._∷_
-      58
-      (List._∷_
-      68
-      (List._∷_
-      101
-      (List._∷_
-      115
-      (List._∷_
-      116
-      (List._∷_
-      105
-      (List._∷_
-      110
-      (List._∷_
-      97
-      (List._∷_ 116 (List._∷_ 105 (List._∷_ 111 (List._∷_ 110 List.[])))))))))))))))))))
-      (Syntax.tcons
-      (Syntax.tyArray (Syntax.tyInt Syntax.w8) 16)
-      (Syntax.tcons
-      (Syntax.tyEnum
-      (List._∷_
-      97
-      (List._∷_
-      110
-      (List._∷_
-      115
-      (List._∷_
-      119
-      (List._∷_
-      101
-      (List._∷_
-      114
-      (List._∷_ 58 (List._∷_ 58 (List._∷_ 87 (List._∷_ 97 (List._∷_ 121 List.[])))))))))))
-      (Syntax.ttcons
-      Syntax.tnil
-      (Syntax.ttcons
-      Syntax.tnil
-      (Syntax.ttcons Syntax.tnil (Syntax.ttcons Syntax.tnil Syntax.ttnil)))))
-      Syntax.tnil)))
-      (Syntax.tcons (Syntax.tyInt Syntax.w64) Syntax.tnil)))
-      (Syntax.tcons
-      (Syntax.tyEnum
-      (List._∷_
-      97
-      (List._∷_
-      110
-      (List._∷_
-      115
-      (List._∷_
-      119
-      (List._∷_
-      101
-      (List._∷_
-      114
-      (List._∷_
-      58
-      (List._∷_
-      58
-      (List._∷_
-      65
-      (List._∷_ 110 (List._∷_ 115 (List._∷_ 119 (List._∷_ 101 (List._∷_ 114 List.[]))))))))))))))
-      (Syntax.ttcons
-      Syntax.tnil
-      (Syntax.ttcons
-      Syntax.tnil
-      (Syntax.ttcons
-      Syntax.tnil
-      (Syntax.ttcons
-      Syntax.tnil
-      (Syntax.ttcons
-      Syntax.tnil
-      (Syntax.ttcons
-      Syntax.tnil
-      (Syntax.ttcons
-      Syntax.tnil
-      (Syntax.ttcons
-      Syntax.tnil
-      (Syntax.ttcons
-      Syntax.tnil
-      (Syntax.ttcons
-      Syntax.tnil
-      (Syntax.ttcons
-      Syntax.tnil
-      (Syntax.ttcons
-      Syntax.tnil
-      (Syntax.ttcons
-      Syntax.tnil
-      (Syntax.ttcons
-      Syntax.tnil
-      (Syntax.ttcons
-      Syntax.tnil
-      (Syntax.ttcons
-      Syntax.tnil
-      (Syntax.ttcons Syntax.tnil (Syntax.ttcons Syntax.tnil Syntax.ttnil)))))))))))))))))))
-      (Syntax.tcons (Syntax.tyInt Syntax.w8) Syntax.tnil)))))),
+      (Syntax.tyRef Syntax.erased Syntax.mut (KInstanceRow.named)),
 ) (List._∷_ (
-  1,
+  34,
   Mut.mslice
       (KInstanceRow.R)
-      (Syntax.tyRef (Syntax.named 0) Syntax.mut (KInstanceRow.named))
-      0,
+      (Syntax.tyRef Syntax.erased Syntax.mut (KInstanceRow.named))
+      14,
 ) (List._∷_ (
-  2,
+  35,
+  Rows'.any-gone
+      (Syntax.tyRef Syntax.erased Syntax.mut (KRouteRow.named)),
+) (List._∷_ (
+  36,
   Mut.mslice
       (KRouteRow.R)
-      (Syntax.tyRef (Syntax.named 1) Syntax.mut (KRouteRow.named))
-      1,
+      (Syntax.tyRef Syntax.erased Syntax.mut (KRouteRow.named))
+      15,
+) (List._∷_ (37, Rows'.any-gone (Syntax.tyInt Syntax.w8)) (List._∷_ (
+  38,
+  Rows'.any-gone (KDecided.spelled),
 ) (List._∷_ (
-  3,
-  Mut.mslice
-      (Referent.rtF (Referent.fInt Syntax.w8))
-      (Syntax.tyRef (Syntax.named 2) Syntax.mut (Syntax.tyInt Syntax.w8))
-      2,
-) (List._∷_ (
-  4,
-  Relend.mslice-owed
-      (Referent.rtF (Referent.fInt Syntax.w8))
-      (Syntax.tyRef (Syntax.named 3) Syntax.mut (Syntax.tyInt Syntax.w8))
-      3
-      14
-      Row.off,
-) (List._∷_ (5, Rows'.any-gone (KOwn.spelled)) (List._∷_ (
-  6,
-  Rows'.sc-here (Row.sInt Syntax.w64),
-) (List._∷_ (7, Rows'.sc-here (Row.sInt Syntax.w8)) (List._∷_ (
-  8,
-  Rows'.sc-here (Row.sInt Syntax.w64),
-) (List._∷_ (
-  9,
-  Rows'.sref
-      (Array'.Array (Array'.Array (Referent.rtF (Referent.fInt Syntax.w8)) 16) 16)
-      (Syntax.tyRef
-      (Syntax.named 4)
-      Syntax.imm
-      (Syntax.tyArray (Syntax.tyArray (Syntax.tyInt Syntax.w8) 16) 16))
-      4,
-) (List._∷_ (
-  10,
-  Rows'.sref
-      (KDecided.R)
-      (Syntax.tyRef (Syntax.named 5) Syntax.imm (KDecided.named))
-      5,
-) (List._∷_ (
-  11,
-  Rows'.sref
-      (KPost.R)
-      (Syntax.tyRef (Syntax.named 6) Syntax.imm (KPost.named))
-      6,
-) (List._∷_ (
-  12,
-  Rows'.sref
-      (KPost.R)
-      (Syntax.tyRef (Syntax.named 7) Syntax.imm (KPost.named))
-      7,
-) (List._∷_ (
-  13,
+  39,
   Rows'.any-gone
       (Syntax.tyStruct
       (List._∷_
-      102
+      97
+      (List._∷_
+      110
+      (List._∷_
+      115
+      (List._∷_
+      119
+      (List._∷_
+      101
+      (List._∷_
+      114
+      (List._∷_
+      58
+      (List._∷_
+      58
+      (List._∷_
+      68
+      (List._∷_
+      101
+      (List._∷_
+      115
+      (List._∷_
+      116
       (List._∷_
       105
       (List._∷_
       110
       (List._∷_
-      105
-      (List._∷_
-      115
-      (List._∷_
-      104
-      (List._∷_
-      58
-      (List._∷_ 58 (List._∷_ 76 (List._∷_ 105 (List._∷_ 118 (List._∷_ 101 List.[]))))))))))))
+      97
+      (List._∷_ 116 (List._∷_ 105 (List._∷_ 111 (List._∷_ 110 List.[])))))))))))))))))))
       (Syntax.tcons
-      Syntax.tyBool
+      (Syntax.tyArray (Syntax.tyInt Syntax.w8) 16)
       (Syntax.tcons
-      (Syntax.tyInt Syntax.w64)
-      (Syntax.tcons Syntax.tyBool (Syntax.tcons (Syntax.tyInt Syntax.w64) Syntax.tnil))))),
-) (List._∷_ (
-  14,
-  Rows'.sc-shr
-      (KOwn.row)
-      (KOwn.R)
-      (λ x. x)
-      15,
-) (List._∷_ (
-  15,
-  Rows'.any-gone
-      (Syntax.tyStruct
-      (List._∷_
-      112
-      (List._∷_
-      108
+      (Syntax.tyEnum
       (List._∷_
       97
       (List._∷_
-      99
+      110
+      (List._∷_
+      115
+      (List._∷_
+      119
       (List._∷_
       101
       (List._∷_
-      58
+      114
+      (List._∷_ 58 (List._∷_ 58 (List._∷_ 87 (List._∷_ 97 (List._∷_ 121 List.[])))))))))))
+      (Syntax.ttcons
+      Syntax.tnil
+      (Syntax.ttcons
+      Syntax.tnil
+      (Syntax.ttcons Syntax.tnil (Syntax.ttcons Syntax.tnil Syntax.ttnil)))))
+      Syntax.tnil))),
+) (List._∷_ (40, Rows'.any-gone (KPost.spelled)) (List._∷_ (
+  41,
+  Rows'.any-gone
+      (Syntax.tyStruct
+      (List._∷_
+      97
+      (List._∷_
+      110
+      (List._∷_
+      115
+      (List._∷_
+      119
+      (List._∷_
+      101
+      (List._∷_
+      114
       (List._∷_
       58
       (List._∷_
-      80
-      (List._∷_ 108 (List._∷_ 97 (List._∷_ 99 (List._∷_ 101 (List._∷_ 115 List.[])))))))))))))
+      58
+      (List._∷_
+      68
+      (List._∷_
+      101
+      (List._∷_
+      115
+      (List._∷_
+      116
+      (List._∷_
+      105
+      (List._∷_
+      110
+      (List._∷_
+      97
+      (List._∷_ 116 (List._∷_ 105 (List._∷_ 111 (List._∷_ 110 List.[])))))))))))))))))))
       (Syntax.tcons
-      Syntax.tyBool
+      (Syntax.tyArray (Syntax.tyInt Syntax.w8) 16)
       (Syntax.tcons
-      (Syntax.tyInt Syntax.w64)
-      (Syntax.tcons (Syntax.tyInt Syntax.w64) Syntax.tnil)))),
-) List.[])))))))))))))))
+      (Syntax.tyEnum
+      (List._∷_
+      97
+      (List._∷_
+      110
+      (List._∷_
+      115
+      (List._∷_
+      119
+      (List._∷_
+      101
+      (List._∷_
+      114
+      (List._∷_ 58 (List._∷_ 58 (List._∷_ 87 (List._∷_ 97 (List._∷_ 121 List.[])))))))))))
+      (Syntax.ttcons
+      Syntax.tnil
+      (Syntax.ttcons
+      Syntax.tnil
+      (Syntax.ttcons Syntax.tnil (Syntax.ttcons Syntax.tnil Syntax.ttnil)))))
+      Syntax.tnil))),
+) (List._∷_ (42, Rows'.any-gone (KPost.spelled)) List.[]))))))))))
+
+abbrev pub t53 : List.List Row.Entry
+t53 = List._∷_ (32, Rows'.sc-here Row.sUnit) (List._∷_ (
+  33,
+  Rows'.any-gone
+      (Syntax.tyRef Syntax.erased Syntax.mut (KInstanceRow.named)),
+) (List._∷_ (
+  34,
+  Mut.msleft
+      (KInstanceRow.R)
+      (Syntax.tyRef Syntax.erased Syntax.mut (KInstanceRow.named)),
+) (List._∷_ (
+  35,
+  Rows'.any-gone
+      (Syntax.tyRef Syntax.erased Syntax.mut (KRouteRow.named)),
+) (List._∷_ (
+  36,
+  Mut.msleft
+      (KRouteRow.R)
+      (Syntax.tyRef Syntax.erased Syntax.mut (KRouteRow.named)),
+) (List._∷_ (37, Rows'.any-gone (Syntax.tyInt Syntax.w8)) (List._∷_ (
+  38,
+  Rows'.any-gone (KDecided.spelled),
+) (List._∷_ (
+  39,
+  Rows'.any-gone
+      (Syntax.tyStruct
+      (List._∷_
+      97
+      (List._∷_
+      110
+      (List._∷_
+      115
+      (List._∷_
+      119
+      (List._∷_
+      101
+      (List._∷_
+      114
+      (List._∷_
+      58
+      (List._∷_
+      58
+      (List._∷_
+      68
+      (List._∷_
+      101
+      (List._∷_
+      115
+      (List._∷_
+      116
+      (List._∷_
+      105
+      (List._∷_
+      110
+      (List._∷_
+      97
+      (List._∷_ 116 (List._∷_ 105 (List._∷_ 111 (List._∷_ 110 List.[])))))))))))))))))))
+      (Syntax.tcons
+      (Syntax.tyArray (Syntax.tyInt Syntax.w8) 16)
+      (Syntax.tcons
+      (Syntax.tyEnum
+      (List._∷_
+      97
+      (List._∷_
+      110
+      (List._∷_
+      115
+      (List._∷_
+      119
+      (List._∷_
+      101
+      (List._∷_
+      114
+      (List._∷_ 58 (List._∷_ 58 (List._∷_ 87 (List._∷_ 97 (List._∷_ 121 List.[])))))))))))
+      (Syntax.ttcons
+      Syntax.tnil
+      (Syntax.ttcons
+      Syntax.tnil
+      (Syntax.ttcons Syntax.tnil (Syntax.ttcons Syntax.tnil Syntax.ttnil)))))
+      Syntax.tnil))),
+) (List._∷_ (40, Rows'.any-gone (KPost.spelled)) (List._∷_ (
+  41,
+  Rows'.any-gone
+      (Syntax.tyStruct
+      (List._∷_
+      97
+      (List._∷_
+      110
+      (List._∷_
+      115
+      (List._∷_
+      119
+      (List._∷_
+      101
+      (List._∷_
+      114
+      (List._∷_
+      58
+      (List._∷_
+      58
+      (List._∷_
+      68
+      (List._∷_
+      101
+      (List._∷_
+      115
+      (List._∷_
+      116
+      (List._∷_
+      105
+      (List._∷_
+      110
+      (List._∷_
+      97
+      (List._∷_ 116 (List._∷_ 105 (List._∷_ 111 (List._∷_ 110 List.[])))))))))))))))))))
+      (Syntax.tcons
+      (Syntax.tyArray (Syntax.tyInt Syntax.w8) 16)
+      (Syntax.tcons
+      (Syntax.tyEnum
+      (List._∷_
+      97
+      (List._∷_
+      110
+      (List._∷_
+      115
+      (List._∷_
+      119
+      (List._∷_
+      101
+      (List._∷_
+      114
+      (List._∷_ 58 (List._∷_ 58 (List._∷_ 87 (List._∷_ 97 (List._∷_ 121 List.[])))))))))))
+      (Syntax.ttcons
+      Syntax.tnil
+      (Syntax.ttcons
+      Syntax.tnil
+      (Syntax.ttcons Syntax.tnil (Syntax.ttcons Syntax.tnil Syntax.ttnil)))))
+      Syntax.tnil))),
+) (List._∷_ (42, Rows'.any-gone (KPost.spelled)) List.[]))))))))))
 
 abbrev pub t54 : List.List Row.Entry
 t54 = List._∷_ (
-  32,
-  Rows'.any-gone
-      (Syntax.tyStruct
-      (List._∷_ 38 (List._∷_ 91 (List._∷_ 93 List.[])))
-      (Syntax.tcons
-      (Syntax.tyRef Syntax.erased Syntax.mut (Syntax.tyInt Syntax.w8))
-      (Syntax.tcons (Syntax.tyInt Syntax.w64) Syntax.tnil))),
-) (List._∷_ (
-  33,
-  Rows'.any-gone
-      (Syntax.tyRef Syntax.erased Syntax.imm (KOwn.named)),
-)
-    (List._∷_ (
-      34,
-      Rows'.any-gone (Syntax.tyRef Syntax.erased Syntax.mut (Syntax.tyInt Syntax.w8)),
-    ) (List._∷_ (
-      35,
-      Mut.mslice
-          (Referent.rtF (Referent.fInt Syntax.w8))
-          (Syntax.tyRef Syntax.erased Syntax.mut (Syntax.tyInt Syntax.w8))
-          14,
-    ) (List._∷_ (
-      36,
-      Rows'.sref
-          (KOwn.R)
-          (Syntax.tyRef Syntax.erased Syntax.imm (KOwn.named))
-          15,
-    ) (List._∷_ (37, Rows'.any-gone (Syntax.tyInt Syntax.w8)) (List._∷_ (
-      38,
-      Rows'.any-gone (KDecided.spelled),
-    ) (List._∷_ (
-      39,
-      Rows'.any-gone
-          (Syntax.tyStruct
-          (List._∷_
-          97
-          (List._∷_
-          110
-          (List._∷_
-          115
-          (List._∷_
-          119
-          (List._∷_
-          101
-          (List._∷_
-          114
-          (List._∷_
-          58
-          (List._∷_
-          58
-          (List._∷_
-          68
-          (List._∷_
-          101
-          (List._∷_
-          115
-          (List._∷_
-          116
-          (List._∷_
-          105
-          (List._∷_
-          110
-          (List._∷_
-          97
-          (List._∷_ 116 (List._∷_ 105 (List._∷_ 111 (List._∷_ 110 List.[])))))))))))))))))))
-          (Syntax.tcons
-          (Syntax.tyArray (Syntax.tyInt Syntax.w8) 16)
-          (Syntax.tcons
-          (Syntax.tyEnum
-          (List._∷_
-          97
-          (List._∷_
-          110
-          (List._∷_
-          115
-          (List._∷_
-          119
-          (List._∷_
-          101
-          (List._∷_
-          114
-          (List._∷_ 58 (List._∷_ 58 (List._∷_ 87 (List._∷_ 97 (List._∷_ 121 List.[])))))))))))
-          (Syntax.ttcons
-          Syntax.tnil
-          (Syntax.ttcons
-          Syntax.tnil
-          (Syntax.ttcons Syntax.tnil (Syntax.ttcons Syntax.tnil Syntax.ttnil)))))
-          Syntax.tnil))),
-    ) (List._∷_ (40, Rows'.any-gone (KPost.spelled)) (List._∷_ (
-      41,
-      Rows'.any-gone
-          (Syntax.tyStruct
-          (List._∷_
-          97
-          (List._∷_
-          110
-          (List._∷_
-          115
-          (List._∷_
-          119
-          (List._∷_
-          101
-          (List._∷_
-          114
-          (List._∷_
-          58
-          (List._∷_
-          58
-          (List._∷_
-          68
-          (List._∷_
-          101
-          (List._∷_
-          115
-          (List._∷_
-          116
-          (List._∷_
-          105
-          (List._∷_
-          110
-          (List._∷_
-          97
-          (List._∷_ 116 (List._∷_ 105 (List._∷_ 111 (List._∷_ 110 List.[])))))))))))))))))))
-          (Syntax.tcons
-          (Syntax.tyArray (Syntax.tyInt Syntax.w8) 16)
-          (Syntax.tcons
-          (Syntax.tyEnum
-          (List._∷_
-          97
-          (List._∷_
-          110
-          (List._∷_
-          115
-          (List._∷_
-          119
-          (List._∷_
-          101
-          (List._∷_
-          114
-          (List._∷_ 58 (List._∷_ 58 (List._∷_ 87 (List._∷_ 97 (List._∷_ 121 List.[])))))))))))
-          (Syntax.ttcons
-          Syntax.tnil
-          (Syntax.ttcons
-          Syntax.tnil
-          (Syntax.ttcons Syntax.tnil (Syntax.ttcons Syntax.tnil Syntax.ttnil)))))
-          Syntax.tnil))),
-    )
-    (List._∷_ (42, Rows'.any-gone (KPost.spelled)) List.[]))))))))))
-
-abbrev pub t55 : List.List Row.Entry
-t55 = List._∷_ (
-  16,
-  Rows'.any-gone
-      (Syntax.tyStruct
-      (List._∷_
-      112
-      (List._∷_
-      108
-      (List._∷_
-      97
-      (List._∷_
-      99
-      (List._∷_
-      101
-      (List._∷_
-      58
-      (List._∷_
-      58
-      (List._∷_
-      82
-      (List._∷_
-      111
-      (List._∷_
-      117
-      (List._∷_
-      116
-      (List._∷_
-      101
-      (List._∷_ 80 (List._∷_ 108 (List._∷_ 97 (List._∷_ 99 (List._∷_ 101 List.[])))))))))))))))))
-      (Syntax.tcons Syntax.tyBool (Syntax.tcons (Syntax.tyInt Syntax.w64) Syntax.tnil))),
-) (List._∷_ (17, Rows'.sc-here (Row.sInt Syntax.w64)) (List._∷_ (
-  18,
-  Rows'.sc-here (Row.sInt Syntax.w64),
-) (List._∷_ (
-  19,
-  Rows'.any-gone
-      (Syntax.tyRef Syntax.erased Syntax.imm (KInstanceRow.named)),
-) (List._∷_ (
-  20,
-  Rows'.any-gone
-      (Syntax.tyStruct
-      (List._∷_ 38 (List._∷_ 91 (List._∷_ 93 List.[])))
-      (Syntax.tcons
-      (Syntax.tyRef Syntax.erased Syntax.imm (KInstanceRow.named))
-      (Syntax.tcons (Syntax.tyInt Syntax.w64) Syntax.tnil))),
-) (List._∷_ (21, Rows'.any-gone Syntax.tyBool) (List._∷_ (
-  22,
-  Rows'.any-gone (KDecided.spelled),
-) (List._∷_ (
-  23,
-  Rows'.any-gone
-      (Syntax.tyRef Syntax.erased Syntax.imm (KRouteRow.named)),
-) (List._∷_ (
-  24,
-  Rows'.any-gone
-      (Syntax.tyStruct
-      (List._∷_ 38 (List._∷_ 91 (List._∷_ 93 List.[])))
-      (Syntax.tcons
-      (Syntax.tyRef Syntax.erased Syntax.imm (KRouteRow.named))
-      (Syntax.tcons (Syntax.tyInt Syntax.w64) Syntax.tnil))),
-)
-    (List._∷_
-    (25, Rows'.any-gone Syntax.tyBool)
-    (List._∷_ (26, Rows'.any-gone Syntax.tyUnit) (List._∷_ (
-      27,
-      Rows'.any-gone
-          (Syntax.tyRef Syntax.erased Syntax.mut (KInstanceRow.named)),
-    ) (List._∷_ (
-      28,
-      Rows'.any-gone
-          (Syntax.tyStruct
-          (List._∷_ 38 (List._∷_ 91 (List._∷_ 93 List.[])))
-          (Syntax.tcons
-          (Syntax.tyRef Syntax.erased Syntax.mut (KInstanceRow.named))
-          (Syntax.tcons (Syntax.tyInt Syntax.w64) Syntax.tnil))),
-    ) (List._∷_ (
-      29,
-      Rows'.any-gone
-          (Syntax.tyRef Syntax.erased Syntax.mut (KRouteRow.named)),
-    ) (List._∷_ (
-      30,
-      Rows'.any-gone
-          (Syntax.tyStruct
-          (List._∷_ 38 (List._∷_ 91 (List._∷_ 93 List.[])))
-          (Syntax.tcons
-          (Syntax.tyRef Syntax.erased Syntax.mut (KRouteRow.named))
-          (Syntax.tcons (Syntax.tyInt Syntax.w64) Syntax.tnil))),
-    ) (List._∷_ (
-      31,
-      Rows'.any-gone (Syntax.tyRef Syntax.erased Syntax.mut (Syntax.tyInt Syntax.w8)),
-    ) List.[])))))))))))))))
-
-abbrev pub t56 : List.List Row.Entry
-t56 = List._∷_ (
-  32,
-  Rows'.any-gone
-      (Syntax.tyStruct
-      (List._∷_ 38 (List._∷_ 91 (List._∷_ 93 List.[])))
-      (Syntax.tcons
-      (Syntax.tyRef Syntax.erased Syntax.mut (Syntax.tyInt Syntax.w8))
-      (Syntax.tcons (Syntax.tyInt Syntax.w64) Syntax.tnil))),
-) (List._∷_ (
-  33,
-  Rows'.any-gone
-      (Syntax.tyRef Syntax.erased Syntax.imm (KOwn.named)),
-)
-    (List._∷_ (
-      34,
-      Rows'.any-gone (Syntax.tyRef Syntax.erased Syntax.mut (Syntax.tyInt Syntax.w8)),
-    ) (List._∷_ (
-      35,
-      Mut.msleft
-          (Referent.rtF (Referent.fInt Syntax.w8))
-          (Syntax.tyRef Syntax.erased Syntax.mut (Syntax.tyInt Syntax.w8)),
-    ) (List._∷_ (
-      36,
-      Rows'.sref
-          (KOwn.R)
-          (Syntax.tyRef Syntax.erased Syntax.imm (KOwn.named))
-          15,
-    ) (List._∷_ (37, Rows'.any-gone (Syntax.tyInt Syntax.w8)) (List._∷_ (
-      38,
-      Rows'.any-gone (KDecided.spelled),
-    ) (List._∷_ (
-      39,
-      Rows'.any-gone
-          (Syntax.tyStruct
-          (List._∷_
-          97
-          (List._∷_
-          110
-          (List._∷_
-          115
-          (List._∷_
-          119
-          (List._∷_
-          101
-          (List._∷_
-          114
-          (List._∷_
-          58
-          (List._∷_
-          58
-          (List._∷_
-          68
-          (List._∷_
-          101
-          (List._∷_
-          115
-          (List._∷_
-          116
-          (List._∷_
-          105
-          (List._∷_
-          110
-          (List._∷_
-          97
-          (List._∷_ 116 (List._∷_ 105 (List._∷_ 111 (List._∷_ 110 List.[])))))))))))))))))))
-          (Syntax.tcons
-          (Syntax.tyArray (Syntax.tyInt Syntax.w8) 16)
-          (Syntax.tcons
-          (Syntax.tyEnum
-          (List._∷_
-          97
-          (List._∷_
-          110
-          (List._∷_
-          115
-          (List._∷_
-          119
-          (List._∷_
-          101
-          (List._∷_
-          114
-          (List._∷_ 58 (List._∷_ 58 (List._∷_ 87 (List._∷_ 97 (List._∷_ 121 List.[])))))))))))
-          (Syntax.ttcons
-          Syntax.tnil
-          (Syntax.ttcons
-          Syntax.tnil
-          (Syntax.ttcons Syntax.tnil (Syntax.ttcons Syntax.tnil Syntax.ttnil)))))
-          Syntax.tnil))),
-    ) (List._∷_ (40, Rows'.any-gone (KPost.spelled)) (List._∷_ (
-      41,
-      Rows'.any-gone
-          (Syntax.tyStruct
-          (List._∷_
-          97
-          (List._∷_
-          110
-          (List._∷_
-          115
-          (List._∷_
-          119
-          (List._∷_
-          101
-          (List._∷_
-          114
-          (List._∷_
-          58
-          (List._∷_
-          58
-          (List._∷_
-          68
-          (List._∷_
-          101
-          (List._∷_
-          115
-          (List._∷_
-          116
-          (List._∷_
-          105
-          (List._∷_
-          110
-          (List._∷_
-          97
-          (List._∷_ 116 (List._∷_ 105 (List._∷_ 111 (List._∷_ 110 List.[])))))))))))))))))))
-          (Syntax.tcons
-          (Syntax.tyArray (Syntax.tyInt Syntax.w8) 16)
-          (Syntax.tcons
-          (Syntax.tyEnum
-          (List._∷_
-          97
-          (List._∷_
-          110
-          (List._∷_
-          115
-          (List._∷_
-          119
-          (List._∷_
-          101
-          (List._∷_
-          114
-          (List._∷_ 58 (List._∷_ 58 (List._∷_ 87 (List._∷_ 97 (List._∷_ 121 List.[])))))))))))
-          (Syntax.ttcons
-          Syntax.tnil
-          (Syntax.ttcons
-          Syntax.tnil
-          (Syntax.ttcons Syntax.tnil (Syntax.ttcons Syntax.tnil Syntax.ttnil)))))
-          Syntax.tnil))),
-    )
-    (List._∷_ (42, Rows'.any-gone (KPost.spelled)) List.[]))))))))))
-
-abbrev pub t57 : List.List Row.Entry
-t57 = List._∷_ (
-  32,
-  Rows'.any-gone
-      (Syntax.tyStruct
-      (List._∷_ 38 (List._∷_ 91 (List._∷_ 93 List.[])))
-      (Syntax.tcons
-      (Syntax.tyRef Syntax.erased Syntax.mut (Syntax.tyInt Syntax.w8))
-      (Syntax.tcons (Syntax.tyInt Syntax.w64) Syntax.tnil))),
-) (List._∷_ (
-  33,
-  Rows'.any-gone
-      (Syntax.tyRef Syntax.erased Syntax.imm (KOwn.named)),
-)
-    (List._∷_ (
-      34,
-      Rows'.any-gone (Syntax.tyRef Syntax.erased Syntax.mut (Syntax.tyInt Syntax.w8)),
-    ) (List._∷_ (
-      35,
-      Mut.msleft
-          (Referent.rtF (Referent.fInt Syntax.w8))
-          (Syntax.tyRef Syntax.erased Syntax.mut (Syntax.tyInt Syntax.w8)),
-    ) (List._∷_ (
-      36,
-      Rows'.any-gone
-          (Syntax.tyRef Syntax.erased Syntax.imm (KOwn.named)),
-    ) (List._∷_ (37, Rows'.any-gone (Syntax.tyInt Syntax.w8)) (List._∷_ (
-      38,
-      Rows'.any-gone (KDecided.spelled),
-    ) (List._∷_ (
-      39,
-      Rows'.any-gone
-          (Syntax.tyStruct
-          (List._∷_
-          97
-          (List._∷_
-          110
-          (List._∷_
-          115
-          (List._∷_
-          119
-          (List._∷_
-          101
-          (List._∷_
-          114
-          (List._∷_
-          58
-          (List._∷_
-          58
-          (List._∷_
-          68
-          (List._∷_
-          101
-          (List._∷_
-          115
-          (List._∷_
-          116
-          (List._∷_
-          105
-          (List._∷_
-          110
-          (List._∷_
-          97
-          (List._∷_ 116 (List._∷_ 105 (List._∷_ 111 (List._∷_ 110 List.[])))))))))))))))))))
-          (Syntax.tcons
-          (Syntax.tyArray (Syntax.tyInt Syntax.w8) 16)
-          (Syntax.tcons
-          (Syntax.tyEnum
-          (List._∷_
-          97
-          (List._∷_
-          110
-          (List._∷_
-          115
-          (List._∷_
-          119
-          (List._∷_
-          101
-          (List._∷_
-          114
-          (List._∷_ 58 (List._∷_ 58 (List._∷_ 87 (List._∷_ 97 (List._∷_ 121 List.[])))))))))))
-          (Syntax.ttcons
-          Syntax.tnil
-          (Syntax.ttcons
-          Syntax.tnil
-          (Syntax.ttcons Syntax.tnil (Syntax.ttcons Syntax.tnil Syntax.ttnil)))))
-          Syntax.tnil))),
-    ) (List._∷_ (40, Rows'.any-gone (KPost.spelled)) (List._∷_ (
-      41,
-      Rows'.any-gone
-          (Syntax.tyStruct
-          (List._∷_
-          97
-          (List._∷_
-          110
-          (List._∷_
-          115
-          (List._∷_
-          119
-          (List._∷_
-          101
-          (List._∷_
-          114
-          (List._∷_
-          58
-          (List._∷_
-          58
-          (List._∷_
-          68
-          (List._∷_
-          101
-          (List._∷_
-          115
-          (List._∷_
-          116
-          (List._∷_
-          105
-          (List._∷_
-          110
-          (List._∷_
-          97
-          (List._∷_ 116 (List._∷_ 105 (List._∷_ 111 (List._∷_ 110 List.[])))))))))))))))))))
-          (Syntax.tcons
-          (Syntax.tyArray (Syntax.tyInt Syntax.w8) 16)
-          (Syntax.tcons
-          (Syntax.tyEnum
-          (List._∷_
-          97
-          (List._∷_
-          110
-          (List._∷_
-          115
-          (List._∷_
-          119
-          (List._∷_
-          101
-          (List._∷_
-          114
-          (List._∷_ 58 (List._∷_ 58 (List._∷_ 87 (List._∷_ 97 (List._∷_ 121 List.[])))))))))))
-          (Syntax.ttcons
-          Syntax.tnil
-          (Syntax.ttcons
-          Syntax.tnil
-          (Syntax.ttcons Syntax.tnil (Syntax.ttcons Syntax.tnil Syntax.ttnil)))))
-          Syntax.tnil))),
-    )
-    (List._∷_ (42, Rows'.any-gone (KPost.spelled)) List.[]))))))))))
-
-abbrev pub t58 : List.List Row.Entry
-t58 = List._∷_ (
   0,
   Rows'.any-gone
       (Syntax.tyStruct
@@ -11737,16 +10524,20 @@ t58 = List._∷_ (
       (Syntax.tcons (Syntax.tyInt Syntax.w8) Syntax.tnil)))))),
 ) (List._∷_ (
   1,
-  Mut.mslice
+  Relend.mslice-owed
       (KInstanceRow.R)
       (Syntax.tyRef (Syntax.named 0) Syntax.mut (KInstanceRow.named))
-      0,
+      0
+      14
+      Row.off,
 ) (List._∷_ (
   2,
-  Mut.mslice
+  Relend.mslice-owed
       (KRouteRow.R)
       (Syntax.tyRef (Syntax.named 1) Syntax.mut (KRouteRow.named))
-      1,
+      1
+      15
+      Row.off,
 ) (List._∷_ (
   3,
   Mut.mslice
@@ -11816,14 +10607,7 @@ t58 = List._∷_ (
       (Syntax.tcons
       (Syntax.tyInt Syntax.w64)
       (Syntax.tcons Syntax.tyBool (Syntax.tcons (Syntax.tyInt Syntax.w64) Syntax.tnil))))),
-) (List._∷_ (
-  14,
-  Rows'.sc-shr
-      (KOwn.row)
-      (KOwn.R)
-      (λ x. x)
-      15,
-) (List._∷_ (
+) (List._∷_ (14, Rows'.any-gone (KOwn.spelled)) (List._∷_ (
   15,
   Rows'.any-gone
       (Syntax.tyStruct
@@ -11851,9 +10635,72 @@ t58 = List._∷_ (
       (Syntax.tcons (Syntax.tyInt Syntax.w64) Syntax.tnil)))),
 ) List.[])))))))))))))))
 
-abbrev pub t59 : List.List Row.Entry
-t59 = List._∷_ (
-  32,
+abbrev pub t55 : List.List Row.Entry
+t55 = List._∷_ (
+  16,
+  Rows'.any-gone
+      (Syntax.tyStruct
+      (List._∷_
+      112
+      (List._∷_
+      108
+      (List._∷_
+      97
+      (List._∷_
+      99
+      (List._∷_
+      101
+      (List._∷_
+      58
+      (List._∷_
+      58
+      (List._∷_
+      82
+      (List._∷_
+      111
+      (List._∷_
+      117
+      (List._∷_
+      116
+      (List._∷_
+      101
+      (List._∷_ 80 (List._∷_ 108 (List._∷_ 97 (List._∷_ 99 (List._∷_ 101 List.[])))))))))))))))))
+      (Syntax.tcons Syntax.tyBool (Syntax.tcons (Syntax.tyInt Syntax.w64) Syntax.tnil))),
+) (List._∷_ (17, Rows'.sc-here (Row.sInt Syntax.w64)) (List._∷_ (
+  18,
+  Rows'.sc-here (Row.sInt Syntax.w64),
+) (List._∷_ (
+  19,
+  Rows'.any-gone
+      (Syntax.tyRef Syntax.erased Syntax.imm (KInstanceRow.named)),
+) (List._∷_ (
+  20,
+  Rows'.any-gone
+      (Syntax.tyStruct
+      (List._∷_ 38 (List._∷_ 91 (List._∷_ 93 List.[])))
+      (Syntax.tcons
+      (Syntax.tyRef Syntax.erased Syntax.imm (KInstanceRow.named))
+      (Syntax.tcons (Syntax.tyInt Syntax.w64) Syntax.tnil))),
+) (List._∷_ (21, Rows'.any-gone Syntax.tyBool) (List._∷_ (
+  22,
+  Rows'.any-gone (KDecided.spelled),
+) (List._∷_ (
+  23,
+  Rows'.any-gone
+      (Syntax.tyRef Syntax.erased Syntax.imm (KRouteRow.named)),
+) (List._∷_ (
+  24,
+  Rows'.any-gone
+      (Syntax.tyStruct
+      (List._∷_ 38 (List._∷_ 91 (List._∷_ 93 List.[])))
+      (Syntax.tcons
+      (Syntax.tyRef Syntax.erased Syntax.imm (KRouteRow.named))
+      (Syntax.tcons (Syntax.tyInt Syntax.w64) Syntax.tnil))),
+) (List._∷_ (25, Rows'.any-gone Syntax.tyBool) (List._∷_ (
+  26,
+  Rows'.any-gone (Syntax.tyRef Syntax.erased Syntax.mut (Syntax.tyInt Syntax.w8)),
+) (List._∷_ (
+  27,
   Rows'.any-gone
       (Syntax.tyStruct
       (List._∷_ 38 (List._∷_ 91 (List._∷_ 93 List.[])))
@@ -11861,15 +10708,15 @@ t59 = List._∷_ (
       (Syntax.tyRef Syntax.erased Syntax.mut (Syntax.tyInt Syntax.w8))
       (Syntax.tcons (Syntax.tyInt Syntax.w64) Syntax.tnil))),
 ) (List._∷_ (
-  33,
+  28,
   Rows'.any-gone
       (Syntax.tyRef Syntax.erased Syntax.imm (KOwn.named)),
 )
     (List._∷_ (
-      34,
+      29,
       Rows'.any-gone (Syntax.tyRef Syntax.erased Syntax.mut (Syntax.tyInt Syntax.w8)),
     ) (List._∷_ (
-      35,
+      30,
       Rows'.any-gone
           (Syntax.tyStruct
           (List._∷_ 38 (List._∷_ 91 (List._∷_ 93 List.[])))
@@ -11877,950 +10724,1564 @@ t59 = List._∷_ (
           (Syntax.tyRef Syntax.erased Syntax.mut (Syntax.tyInt Syntax.w8))
           (Syntax.tcons (Syntax.tyInt Syntax.w64) Syntax.tnil))),
     ) (List._∷_ (
-      36,
+      31,
       Rows'.any-gone
           (Syntax.tyRef Syntax.erased Syntax.imm (KOwn.named)),
-    ) (List._∷_ (37, Rows'.any-gone (Syntax.tyInt Syntax.w8)) (List._∷_ (
-      38,
-      KDecided.row,
-    ) (List._∷_ (
-      39,
-      Rows'.any-gone
-          (Syntax.tyStruct
-          (List._∷_
-          97
-          (List._∷_
-          110
-          (List._∷_
-          115
-          (List._∷_
-          119
-          (List._∷_
-          101
-          (List._∷_
-          114
-          (List._∷_
-          58
-          (List._∷_
-          58
-          (List._∷_
-          68
-          (List._∷_
-          101
-          (List._∷_
-          115
-          (List._∷_
-          116
-          (List._∷_
-          105
-          (List._∷_
-          110
-          (List._∷_
-          97
-          (List._∷_ 116 (List._∷_ 105 (List._∷_ 111 (List._∷_ 110 List.[])))))))))))))))))))
-          (Syntax.tcons
-          (Syntax.tyArray (Syntax.tyInt Syntax.w8) 16)
-          (Syntax.tcons
-          (Syntax.tyEnum
-          (List._∷_
-          97
-          (List._∷_
-          110
-          (List._∷_
-          115
-          (List._∷_
-          119
-          (List._∷_
-          101
-          (List._∷_
-          114
-          (List._∷_ 58 (List._∷_ 58 (List._∷_ 87 (List._∷_ 97 (List._∷_ 121 List.[])))))))))))
-          (Syntax.ttcons
-          Syntax.tnil
-          (Syntax.ttcons
-          Syntax.tnil
-          (Syntax.ttcons Syntax.tnil (Syntax.ttcons Syntax.tnil Syntax.ttnil)))))
-          Syntax.tnil))),
-    ) (List._∷_ (40, Rows'.any-gone (KPost.spelled)) (List._∷_ (
-      41,
-      Rows'.any-gone
-          (Syntax.tyStruct
-          (List._∷_
-          97
-          (List._∷_
-          110
-          (List._∷_
-          115
-          (List._∷_
-          119
-          (List._∷_
-          101
-          (List._∷_
-          114
-          (List._∷_
-          58
-          (List._∷_
-          58
-          (List._∷_
-          68
-          (List._∷_
-          101
-          (List._∷_
-          115
-          (List._∷_
-          116
-          (List._∷_
-          105
-          (List._∷_
-          110
-          (List._∷_
-          97
-          (List._∷_ 116 (List._∷_ 105 (List._∷_ 111 (List._∷_ 110 List.[])))))))))))))))))))
-          (Syntax.tcons
-          (Syntax.tyArray (Syntax.tyInt Syntax.w8) 16)
-          (Syntax.tcons
-          (Syntax.tyEnum
-          (List._∷_
-          97
-          (List._∷_
-          110
-          (List._∷_
-          115
-          (List._∷_
-          119
-          (List._∷_
-          101
-          (List._∷_
-          114
-          (List._∷_ 58 (List._∷_ 58 (List._∷_ 87 (List._∷_ 97 (List._∷_ 121 List.[])))))))))))
-          (Syntax.ttcons
-          Syntax.tnil
-          (Syntax.ttcons
-          Syntax.tnil
-          (Syntax.ttcons Syntax.tnil (Syntax.ttcons Syntax.tnil Syntax.ttnil)))))
-          Syntax.tnil))),
-    )
-    (List._∷_ (42, Rows'.any-gone (KPost.spelled)) List.[]))))))))))
+    ) List.[])))))))))))))))
+
+abbrev pub t56 : List.List Row.Entry
+t56 = List._∷_ (32, Rows'.any-gone Syntax.tyUnit) (List._∷_ (
+  33,
+  Rows'.any-gone
+      (Syntax.tyRef Syntax.erased Syntax.mut (KInstanceRow.named)),
+) (List._∷_ (
+  34,
+  Mut.msleft
+      (KInstanceRow.R)
+      (Syntax.tyRef Syntax.erased Syntax.mut (KInstanceRow.named)),
+) (List._∷_ (
+  35,
+  Rows'.any-gone
+      (Syntax.tyRef Syntax.erased Syntax.mut (KRouteRow.named)),
+) (List._∷_ (
+  36,
+  Mut.msleft
+      (KRouteRow.R)
+      (Syntax.tyRef Syntax.erased Syntax.mut (KRouteRow.named)),
+) (List._∷_ (37, Rows'.any-gone (Syntax.tyInt Syntax.w8)) (List._∷_ (
+  38,
+  Rows'.any-gone (KDecided.spelled),
+) (List._∷_ (
+  39,
+  Rows'.any-gone
+      (Syntax.tyStruct
+      (List._∷_
+      97
+      (List._∷_
+      110
+      (List._∷_
+      115
+      (List._∷_
+      119
+      (List._∷_
+      101
+      (List._∷_
+      114
+      (List._∷_
+      58
+      (List._∷_
+      58
+      (List._∷_
+      68
+      (List._∷_
+      101
+      (List._∷_
+      115
+      (List._∷_
+      116
+      (List._∷_
+      105
+      (List._∷_
+      110
+      (List._∷_
+      97
+      (List._∷_ 116 (List._∷_ 105 (List._∷_ 111 (List._∷_ 110 List.[])))))))))))))))))))
+      (Syntax.tcons
+      (Syntax.tyArray (Syntax.tyInt Syntax.w8) 16)
+      (Syntax.tcons
+      (Syntax.tyEnum
+      (List._∷_
+      97
+      (List._∷_
+      110
+      (List._∷_
+      115
+      (List._∷_
+      119
+      (List._∷_
+      101
+      (List._∷_
+      114
+      (List._∷_ 58 (List._∷_ 58 (List._∷_ 87 (List._∷_ 97 (List._∷_ 121 List.[])))))))))))
+      (Syntax.ttcons
+      Syntax.tnil
+      (Syntax.ttcons
+      Syntax.tnil
+      (Syntax.ttcons Syntax.tnil (Syntax.ttcons Syntax.tnil Syntax.ttnil)))))
+      Syntax.tnil))),
+) (List._∷_ (40, Rows'.any-gone (KPost.spelled)) (List._∷_ (
+  41,
+  Rows'.any-gone
+      (Syntax.tyStruct
+      (List._∷_
+      97
+      (List._∷_
+      110
+      (List._∷_
+      115
+      (List._∷_
+      119
+      (List._∷_
+      101
+      (List._∷_
+      114
+      (List._∷_
+      58
+      (List._∷_
+      58
+      (List._∷_
+      68
+      (List._∷_
+      101
+      (List._∷_
+      115
+      (List._∷_
+      116
+      (List._∷_
+      105
+      (List._∷_
+      110
+      (List._∷_
+      97
+      (List._∷_ 116 (List._∷_ 105 (List._∷_ 111 (List._∷_ 110 List.[])))))))))))))))))))
+      (Syntax.tcons
+      (Syntax.tyArray (Syntax.tyInt Syntax.w8) 16)
+      (Syntax.tcons
+      (Syntax.tyEnum
+      (List._∷_
+      97
+      (List._∷_
+      110
+      (List._∷_
+      115
+      (List._∷_
+      119
+      (List._∷_
+      101
+      (List._∷_
+      114
+      (List._∷_ 58 (List._∷_ 58 (List._∷_ 87 (List._∷_ 97 (List._∷_ 121 List.[])))))))))))
+      (Syntax.ttcons
+      Syntax.tnil
+      (Syntax.ttcons
+      Syntax.tnil
+      (Syntax.ttcons Syntax.tnil (Syntax.ttcons Syntax.tnil Syntax.ttnil)))))
+      Syntax.tnil))),
+) (List._∷_ (42, Rows'.any-gone (KPost.spelled)) List.[]))))))))))
+
+abbrev pub t57 : List.List Row.Entry
+t57 = List._∷_ (
+  0,
+  Rows'.any-gone
+      (Syntax.tyStruct
+      (List._∷_
+      102
+      (List._∷_
+      105
+      (List._∷_
+      110
+      (List._∷_
+      105
+      (List._∷_
+      115
+      (List._∷_
+      104
+      (List._∷_
+      58
+      (List._∷_
+      58
+      (List._∷_
+      79
+      (List._∷_
+      117
+      (List._∷_ 116 (List._∷_ 99 (List._∷_ 111 (List._∷_ 109 (List._∷_ 101 List.[])))))))))))))))
+      (Syntax.tcons
+      (Syntax.tyStruct
+      (List._∷_
+      102
+      (List._∷_
+      105
+      (List._∷_
+      110
+      (List._∷_
+      105
+      (List._∷_
+      115
+      (List._∷_
+      104
+      (List._∷_
+      58
+      (List._∷_ 58 (List._∷_ 83 (List._∷_ 101 (List._∷_ 110 (List._∷_ 116 List.[]))))))))))))
+      (Syntax.tcons
+      (Syntax.tyStruct
+      (List._∷_
+      97
+      (List._∷_
+      110
+      (List._∷_
+      115
+      (List._∷_
+      119
+      (List._∷_
+      101
+      (List._∷_
+      114
+      (List._∷_
+      58
+      (List._∷_
+      58
+      (List._∷_
+      68
+      (List._∷_
+      101
+      (List._∷_
+      115
+      (List._∷_
+      116
+      (List._∷_
+      105
+      (List._∷_
+      110
+      (List._∷_
+      97
+      (List._∷_ 116 (List._∷_ 105 (List._∷_ 111 (List._∷_ 110 List.[])))))))))))))))))))
+      (Syntax.tcons
+      (Syntax.tyArray (Syntax.tyInt Syntax.w8) 16)
+      (Syntax.tcons
+      (Syntax.tyEnum
+      (List._∷_
+      97
+      (List._∷_
+      110
+      (List._∷_
+      115
+      (List._∷_
+      119
+      (List._∷_
+      101
+      (List._∷_
+      114
+      (List._∷_ 58 (List._∷_ 58 (List._∷_ 87 (List._∷_ 97 (List._∷_ 121 List.[])))))))))))
+      (Syntax.ttcons
+      Syntax.tnil
+      (Syntax.ttcons
+      Syntax.tnil
+      (Syntax.ttcons Syntax.tnil (Syntax.ttcons Syntax.tnil Syntax.ttnil)))))
+      Syntax.tnil)))
+      (Syntax.tcons (Syntax.tyInt Syntax.w64) Syntax.tnil)))
+      (Syntax.tcons
+      (Syntax.tyInt Syntax.w64)
+      (Syntax.tcons
+      (Syntax.tyStruct
+      (List._∷_
+      102
+      (List._∷_
+      105
+      (List._∷_
+      110
+      (List._∷_
+      105
+      (List._∷_
+      115
+      (List._∷_
+      104
+      (List._∷_
+      58
+      (List._∷_ 58 (List._∷_ 83 (List._∷_ 101 (List._∷_ 110 (List._∷_ 116 List.[]))))))))))))
+      (Syntax.tcons
+      (Syntax.tyStruct
+      (List._∷_
+      97
+      (List._∷_
+      110
+      (List._∷_
+      115
+      (List._∷_
+      119
+      (List._∷_
+      101
+      (List._∷_
+      114
+      (List._∷_
+      58
+      (List._∷_
+      58
+      (List._∷_
+      68
+      (List._∷_
+      101
+      (List._∷_
+      115
+      (List._∷_
+      116
+      (List._∷_
+      105
+      (List._∷_
+      110
+      (List._∷_
+      97
+      (List._∷_ 116 (List._∷_ 105 (List._∷_ 111 (List._∷_ 110 List.[])))))))))))))))))))
+      (Syntax.tcons
+      (Syntax.tyArray (Syntax.tyInt Syntax.w8) 16)
+      (Syntax.tcons
+      (Syntax.tyEnum
+      (List._∷_
+      97
+      (List._∷_
+      110
+      (List._∷_
+      115
+      (List._∷_
+      119
+      (List._∷_
+      101
+      (List._∷_
+      114
+      (List._∷_ 58 (List._∷_ 58 (List._∷_ 87 (List._∷_ 97 (List._∷_ 121 List.[])))))))))))
+      (Syntax.ttcons
+      Syntax.tnil
+      (Syntax.ttcons
+      Syntax.tnil
+      (Syntax.ttcons Syntax.tnil (Syntax.ttcons Syntax.tnil Syntax.ttnil)))))
+      Syntax.tnil)))
+      (Syntax.tcons (Syntax.tyInt Syntax.w64) Syntax.tnil)))
+      (Syntax.tcons
+      (Syntax.tyEnum
+      (List._∷_
+      97
+      (List._∷_
+      110
+      (List._∷_
+      115
+      (List._∷_
+      119
+      (List._∷_
+      101
+      (List._∷_
+      114
+      (List._∷_
+      58
+      (List._∷_
+      58
+      (List._∷_
+      65
+      (List._∷_ 110 (List._∷_ 115 (List._∷_ 119 (List._∷_ 101 (List._∷_ 114 List.[]))))))))))))))
+      (Syntax.ttcons
+      Syntax.tnil
+      (Syntax.ttcons
+      Syntax.tnil
+      (Syntax.ttcons
+      Syntax.tnil
+      (Syntax.ttcons
+      Syntax.tnil
+      (Syntax.ttcons
+      Syntax.tnil
+      (Syntax.ttcons
+      Syntax.tnil
+      (Syntax.ttcons
+      Syntax.tnil
+      (Syntax.ttcons
+      Syntax.tnil
+      (Syntax.ttcons
+      Syntax.tnil
+      (Syntax.ttcons
+      Syntax.tnil
+      (Syntax.ttcons
+      Syntax.tnil
+      (Syntax.ttcons
+      Syntax.tnil
+      (Syntax.ttcons
+      Syntax.tnil
+      (Syntax.ttcons
+      Syntax.tnil
+      (Syntax.ttcons
+      Syntax.tnil
+      (Syntax.ttcons
+      Syntax.tnil
+      (Syntax.ttcons Syntax.tnil (Syntax.ttcons Syntax.tnil Syntax.ttnil)))))))))))))))))))
+      (Syntax.tcons (Syntax.tyInt Syntax.w8) Syntax.tnil)))))),
+) (List._∷_ (
+  1,
+  Mut.mslice
+      (KInstanceRow.R)
+      (Syntax.tyRef (Syntax.named 0) Syntax.mut (KInstanceRow.named))
+      0,
+) (List._∷_ (
+  2,
+  Relend.mslice-owed
+      (KRouteRow.R)
+      (Syntax.tyRef (Syntax.named 1) Syntax.mut (KRouteRow.named))
+      1
+      15
+      Row.off,
+) (List._∷_ (
+  3,
+  Mut.mslice
+      (Referent.rtF (Referent.fInt Syntax.w8))
+      (Syntax.tyRef (Syntax.named 2) Syntax.mut (Syntax.tyInt Syntax.w8))
+      2,
+) (List._∷_ (
+  4,
+  Mut.mslice
+      (Referent.rtF (Referent.fInt Syntax.w8))
+      (Syntax.tyRef (Syntax.named 3) Syntax.mut (Syntax.tyInt Syntax.w8))
+      3,
+) (List._∷_ (5, Rows'.any-gone (KOwn.spelled)) (List._∷_ (
+  6,
+  Rows'.sc-here (Row.sInt Syntax.w64),
+) (List._∷_ (7, Rows'.sc-here (Row.sInt Syntax.w8)) (List._∷_ (
+  8,
+  Rows'.sc-here (Row.sInt Syntax.w64),
+) (List._∷_ (
+  9,
+  Rows'.sref
+      (Array'.Array (Array'.Array (Referent.rtF (Referent.fInt Syntax.w8)) 16) 16)
+      (Syntax.tyRef
+      (Syntax.named 4)
+      Syntax.imm
+      (Syntax.tyArray (Syntax.tyArray (Syntax.tyInt Syntax.w8) 16) 16))
+      4,
+) (List._∷_ (
+  10,
+  Rows'.sref
+      (KDecided.R)
+      (Syntax.tyRef (Syntax.named 5) Syntax.imm (KDecided.named))
+      5,
+) (List._∷_ (
+  11,
+  Rows'.sref
+      (KPost.R)
+      (Syntax.tyRef (Syntax.named 6) Syntax.imm (KPost.named))
+      6,
+) (List._∷_ (
+  12,
+  Rows'.sref
+      (KPost.R)
+      (Syntax.tyRef (Syntax.named 7) Syntax.imm (KPost.named))
+      7,
+) (List._∷_ (
+  13,
+  Rows'.any-gone
+      (Syntax.tyStruct
+      (List._∷_
+      102
+      (List._∷_
+      105
+      (List._∷_
+      110
+      (List._∷_
+      105
+      (List._∷_
+      115
+      (List._∷_
+      104
+      (List._∷_
+      58
+      (List._∷_ 58 (List._∷_ 76 (List._∷_ 105 (List._∷_ 118 (List._∷_ 101 List.[]))))))))))))
+      (Syntax.tcons
+      Syntax.tyBool
+      (Syntax.tcons
+      (Syntax.tyInt Syntax.w64)
+      (Syntax.tcons Syntax.tyBool (Syntax.tcons (Syntax.tyInt Syntax.w64) Syntax.tnil))))),
+) (List._∷_ (14, Rows'.any-gone (KOwn.spelled)) (List._∷_ (
+  15,
+  Rows'.any-gone
+      (Syntax.tyStruct
+      (List._∷_
+      112
+      (List._∷_
+      108
+      (List._∷_
+      97
+      (List._∷_
+      99
+      (List._∷_
+      101
+      (List._∷_
+      58
+      (List._∷_
+      58
+      (List._∷_
+      80
+      (List._∷_ 108 (List._∷_ 97 (List._∷_ 99 (List._∷_ 101 (List._∷_ 115 List.[])))))))))))))
+      (Syntax.tcons
+      Syntax.tyBool
+      (Syntax.tcons
+      (Syntax.tyInt Syntax.w64)
+      (Syntax.tcons (Syntax.tyInt Syntax.w64) Syntax.tnil)))),
+) List.[])))))))))))))))
+
+abbrev pub t58 : List.List Row.Entry
+t58 = List._∷_ (32, Rows'.any-gone Syntax.tyUnit) (List._∷_ (
+  33,
+  Rows'.any-gone
+      (Syntax.tyRef Syntax.erased Syntax.mut (KInstanceRow.named)),
+) (List._∷_ (
+  34,
+  Rows'.any-gone
+      (Syntax.tyStruct
+      (List._∷_ 38 (List._∷_ 91 (List._∷_ 93 List.[])))
+      (Syntax.tcons
+      (Syntax.tyRef Syntax.erased Syntax.mut (KInstanceRow.named))
+      (Syntax.tcons (Syntax.tyInt Syntax.w64) Syntax.tnil))),
+) (List._∷_ (
+  35,
+  Rows'.any-gone
+      (Syntax.tyRef Syntax.erased Syntax.mut (KRouteRow.named)),
+) (List._∷_ (
+  36,
+  Mut.msleft
+      (KRouteRow.R)
+      (Syntax.tyRef Syntax.erased Syntax.mut (KRouteRow.named)),
+) (List._∷_ (37, Rows'.any-gone (Syntax.tyInt Syntax.w8)) (List._∷_ (
+  38,
+  Rows'.any-gone (KDecided.spelled),
+) (List._∷_ (
+  39,
+  Rows'.any-gone
+      (Syntax.tyStruct
+      (List._∷_
+      97
+      (List._∷_
+      110
+      (List._∷_
+      115
+      (List._∷_
+      119
+      (List._∷_
+      101
+      (List._∷_
+      114
+      (List._∷_
+      58
+      (List._∷_
+      58
+      (List._∷_
+      68
+      (List._∷_
+      101
+      (List._∷_
+      115
+      (List._∷_
+      116
+      (List._∷_
+      105
+      (List._∷_
+      110
+      (List._∷_
+      97
+      (List._∷_ 116 (List._∷_ 105 (List._∷_ 111 (List._∷_ 110 List.[])))))))))))))))))))
+      (Syntax.tcons
+      (Syntax.tyArray (Syntax.tyInt Syntax.w8) 16)
+      (Syntax.tcons
+      (Syntax.tyEnum
+      (List._∷_
+      97
+      (List._∷_
+      110
+      (List._∷_
+      115
+      (List._∷_
+      119
+      (List._∷_
+      101
+      (List._∷_
+      114
+      (List._∷_ 58 (List._∷_ 58 (List._∷_ 87 (List._∷_ 97 (List._∷_ 121 List.[])))))))))))
+      (Syntax.ttcons
+      Syntax.tnil
+      (Syntax.ttcons
+      Syntax.tnil
+      (Syntax.ttcons Syntax.tnil (Syntax.ttcons Syntax.tnil Syntax.ttnil)))))
+      Syntax.tnil))),
+) (List._∷_ (40, Rows'.any-gone (KPost.spelled)) (List._∷_ (
+  41,
+  Rows'.any-gone
+      (Syntax.tyStruct
+      (List._∷_
+      97
+      (List._∷_
+      110
+      (List._∷_
+      115
+      (List._∷_
+      119
+      (List._∷_
+      101
+      (List._∷_
+      114
+      (List._∷_
+      58
+      (List._∷_
+      58
+      (List._∷_
+      68
+      (List._∷_
+      101
+      (List._∷_
+      115
+      (List._∷_
+      116
+      (List._∷_
+      105
+      (List._∷_
+      110
+      (List._∷_
+      97
+      (List._∷_ 116 (List._∷_ 105 (List._∷_ 111 (List._∷_ 110 List.[])))))))))))))))))))
+      (Syntax.tcons
+      (Syntax.tyArray (Syntax.tyInt Syntax.w8) 16)
+      (Syntax.tcons
+      (Syntax.tyEnum
+      (List._∷_
+      97
+      (List._∷_
+      110
+      (List._∷_
+      115
+      (List._∷_
+      119
+      (List._∷_
+      101
+      (List._∷_
+      114
+      (List._∷_ 58 (List._∷_ 58 (List._∷_ 87 (List._∷_ 97 (List._∷_ 121 List.[])))))))))))
+      (Syntax.ttcons
+      Syntax.tnil
+      (Syntax.ttcons
+      Syntax.tnil
+      (Syntax.ttcons Syntax.tnil (Syntax.ttcons Syntax.tnil Syntax.ttnil)))))
+      Syntax.tnil))),
+) (List._∷_ (42, Rows'.any-gone (KPost.spelled)) List.[]))))))))))
+
+abbrev pub t59 : List.List Row.Entry
+t59 = List._∷_ (32, Rows'.any-gone Syntax.tyUnit) (List._∷_ (
+  33,
+  Rows'.any-gone
+      (Syntax.tyRef Syntax.erased Syntax.mut (KInstanceRow.named)),
+) (List._∷_ (
+  34,
+  Rows'.any-gone
+      (Syntax.tyStruct
+      (List._∷_ 38 (List._∷_ 91 (List._∷_ 93 List.[])))
+      (Syntax.tcons
+      (Syntax.tyRef Syntax.erased Syntax.mut (KInstanceRow.named))
+      (Syntax.tcons (Syntax.tyInt Syntax.w64) Syntax.tnil))),
+) (List._∷_ (
+  35,
+  Rows'.any-gone
+      (Syntax.tyRef Syntax.erased Syntax.mut (KRouteRow.named)),
+) (List._∷_ (
+  36,
+  Rows'.any-gone
+      (Syntax.tyStruct
+      (List._∷_ 38 (List._∷_ 91 (List._∷_ 93 List.[])))
+      (Syntax.tcons
+      (Syntax.tyRef Syntax.erased Syntax.mut (KRouteRow.named))
+      (Syntax.tcons (Syntax.tyInt Syntax.w64) Syntax.tnil))),
+) (List._∷_ (37, Rows'.any-gone (Syntax.tyInt Syntax.w8)) (List._∷_ (
+  38,
+  KDecided.row,
+) (List._∷_ (
+  39,
+  Rows'.any-gone
+      (Syntax.tyStruct
+      (List._∷_
+      97
+      (List._∷_
+      110
+      (List._∷_
+      115
+      (List._∷_
+      119
+      (List._∷_
+      101
+      (List._∷_
+      114
+      (List._∷_
+      58
+      (List._∷_
+      58
+      (List._∷_
+      68
+      (List._∷_
+      101
+      (List._∷_
+      115
+      (List._∷_
+      116
+      (List._∷_
+      105
+      (List._∷_
+      110
+      (List._∷_
+      97
+      (List._∷_ 116 (List._∷_ 105 (List._∷_ 111 (List._∷_ 110 List.[])))))))))))))))))))
+      (Syntax.tcons
+      (Syntax.tyArray (Syntax.tyInt Syntax.w8) 16)
+      (Syntax.tcons
+      (Syntax.tyEnum
+      (List._∷_
+      97
+      (List._∷_
+      110
+      (List._∷_
+      115
+      (List._∷_
+      119
+      (List._∷_
+      101
+      (List._∷_
+      114
+      (List._∷_ 58 (List._∷_ 58 (List._∷_ 87 (List._∷_ 97 (List._∷_ 121 List.[])))))))))))
+      (Syntax.ttcons
+      Syntax.tnil
+      (Syntax.ttcons
+      Syntax.tnil
+      (Syntax.ttcons Syntax.tnil (Syntax.ttcons Syntax.tnil Syntax.ttnil)))))
+      Syntax.tnil))),
+) (List._∷_ (40, Rows'.any-gone (KPost.spelled)) (List._∷_ (
+  41,
+  Rows'.any-gone
+      (Syntax.tyStruct
+      (List._∷_
+      97
+      (List._∷_
+      110
+      (List._∷_
+      115
+      (List._∷_
+      119
+      (List._∷_
+      101
+      (List._∷_
+      114
+      (List._∷_
+      58
+      (List._∷_
+      58
+      (List._∷_
+      68
+      (List._∷_
+      101
+      (List._∷_
+      115
+      (List._∷_
+      116
+      (List._∷_
+      105
+      (List._∷_
+      110
+      (List._∷_
+      97
+      (List._∷_ 116 (List._∷_ 105 (List._∷_ 111 (List._∷_ 110 List.[])))))))))))))))))))
+      (Syntax.tcons
+      (Syntax.tyArray (Syntax.tyInt Syntax.w8) 16)
+      (Syntax.tcons
+      (Syntax.tyEnum
+      (List._∷_
+      97
+      (List._∷_
+      110
+      (List._∷_
+      115
+      (List._∷_
+      119
+      (List._∷_
+      101
+      (List._∷_
+      114
+      (List._∷_ 58 (List._∷_ 58 (List._∷_ 87 (List._∷_ 97 (List._∷_ 121 List.[])))))))))))
+      (Syntax.ttcons
+      Syntax.tnil
+      (Syntax.ttcons
+      Syntax.tnil
+      (Syntax.ttcons Syntax.tnil (Syntax.ttcons Syntax.tnil Syntax.ttnil)))))
+      Syntax.tnil))),
+) (List._∷_ (42, Rows'.any-gone (KPost.spelled)) List.[]))))))))))
 
 abbrev pub t60 : List.List Row.Entry
-t60 = List._∷_ (
-  32,
+t60 = List._∷_ (32, Rows'.any-gone Syntax.tyUnit) (List._∷_ (
+  33,
+  Rows'.any-gone
+      (Syntax.tyRef Syntax.erased Syntax.mut (KInstanceRow.named)),
+) (List._∷_ (
+  34,
   Rows'.any-gone
       (Syntax.tyStruct
       (List._∷_ 38 (List._∷_ 91 (List._∷_ 93 List.[])))
       (Syntax.tcons
-      (Syntax.tyRef Syntax.erased Syntax.mut (Syntax.tyInt Syntax.w8))
+      (Syntax.tyRef Syntax.erased Syntax.mut (KInstanceRow.named))
       (Syntax.tcons (Syntax.tyInt Syntax.w64) Syntax.tnil))),
 ) (List._∷_ (
-  33,
+  35,
   Rows'.any-gone
-      (Syntax.tyRef Syntax.erased Syntax.imm (KOwn.named)),
-)
-    (List._∷_ (
-      34,
-      Rows'.any-gone (Syntax.tyRef Syntax.erased Syntax.mut (Syntax.tyInt Syntax.w8)),
-    ) (List._∷_ (
-      35,
-      Rows'.any-gone
-          (Syntax.tyStruct
-          (List._∷_ 38 (List._∷_ 91 (List._∷_ 93 List.[])))
-          (Syntax.tcons
-          (Syntax.tyRef Syntax.erased Syntax.mut (Syntax.tyInt Syntax.w8))
-          (Syntax.tcons (Syntax.tyInt Syntax.w64) Syntax.tnil))),
-    ) (List._∷_ (
-      36,
-      Rows'.any-gone
-          (Syntax.tyRef Syntax.erased Syntax.imm (KOwn.named)),
-    ) (List._∷_ (37, Rows'.sc-here (Row.sInt Syntax.w8)) (List._∷_ (
-      38,
-      KDecided.row,
-    ) (List._∷_ (
-      39,
-      Rows'.any-gone
-          (Syntax.tyStruct
-          (List._∷_
-          97
-          (List._∷_
-          110
-          (List._∷_
-          115
-          (List._∷_
-          119
-          (List._∷_
-          101
-          (List._∷_
-          114
-          (List._∷_
-          58
-          (List._∷_
-          58
-          (List._∷_
-          68
-          (List._∷_
-          101
-          (List._∷_
-          115
-          (List._∷_
-          116
-          (List._∷_
-          105
-          (List._∷_
-          110
-          (List._∷_
-          97
-          (List._∷_ 116 (List._∷_ 105 (List._∷_ 111 (List._∷_ 110 List.[])))))))))))))))))))
-          (Syntax.tcons
-          (Syntax.tyArray (Syntax.tyInt Syntax.w8) 16)
-          (Syntax.tcons
-          (Syntax.tyEnum
-          (List._∷_
-          97
-          (List._∷_
-          110
-          (List._∷_
-          115
-          (List._∷_
-          119
-          (List._∷_
-          101
-          (List._∷_
-          114
-          (List._∷_ 58 (List._∷_ 58 (List._∷_ 87 (List._∷_ 97 (List._∷_ 121 List.[])))))))))))
-          (Syntax.ttcons
-          Syntax.tnil
-          (Syntax.ttcons
-          Syntax.tnil
-          (Syntax.ttcons Syntax.tnil (Syntax.ttcons Syntax.tnil Syntax.ttnil)))))
-          Syntax.tnil))),
-    ) (List._∷_ (40, Rows'.any-gone (KPost.spelled)) (List._∷_ (
-      41,
-      Rows'.any-gone
-          (Syntax.tyStruct
-          (List._∷_
-          97
-          (List._∷_
-          110
-          (List._∷_
-          115
-          (List._∷_
-          119
-          (List._∷_
-          101
-          (List._∷_
-          114
-          (List._∷_
-          58
-          (List._∷_
-          58
-          (List._∷_
-          68
-          (List._∷_
-          101
-          (List._∷_
-          115
-          (List._∷_
-          116
-          (List._∷_
-          105
-          (List._∷_
-          110
-          (List._∷_
-          97
-          (List._∷_ 116 (List._∷_ 105 (List._∷_ 111 (List._∷_ 110 List.[])))))))))))))))))))
-          (Syntax.tcons
-          (Syntax.tyArray (Syntax.tyInt Syntax.w8) 16)
-          (Syntax.tcons
-          (Syntax.tyEnum
-          (List._∷_
-          97
-          (List._∷_
-          110
-          (List._∷_
-          115
-          (List._∷_
-          119
-          (List._∷_
-          101
-          (List._∷_
-          114
-          (List._∷_ 58 (List._∷_ 58 (List._∷_ 87 (List._∷_ 97 (List._∷_ 121 List.[])))))))))))
-          (Syntax.ttcons
-          Syntax.tnil
-          (Syntax.ttcons
-          Syntax.tnil
-          (Syntax.ttcons Syntax.tnil (Syntax.ttcons Syntax.tnil Syntax.ttnil)))))
-          Syntax.tnil))),
-    )
-    (List._∷_ (42, Rows'.any-gone (KPost.spelled)) List.[]))))))))))
+      (Syntax.tyRef Syntax.erased Syntax.mut (KRouteRow.named)),
+) (List._∷_ (
+  36,
+  Rows'.any-gone
+      (Syntax.tyStruct
+      (List._∷_ 38 (List._∷_ 91 (List._∷_ 93 List.[])))
+      (Syntax.tcons
+      (Syntax.tyRef Syntax.erased Syntax.mut (KRouteRow.named))
+      (Syntax.tcons (Syntax.tyInt Syntax.w64) Syntax.tnil))),
+) (List._∷_ (37, Rows'.sc-here (Row.sInt Syntax.w8)) (List._∷_ (
+  38,
+  KDecided.row,
+) (List._∷_ (
+  39,
+  Rows'.any-gone
+      (Syntax.tyStruct
+      (List._∷_
+      97
+      (List._∷_
+      110
+      (List._∷_
+      115
+      (List._∷_
+      119
+      (List._∷_
+      101
+      (List._∷_
+      114
+      (List._∷_
+      58
+      (List._∷_
+      58
+      (List._∷_
+      68
+      (List._∷_
+      101
+      (List._∷_
+      115
+      (List._∷_
+      116
+      (List._∷_
+      105
+      (List._∷_
+      110
+      (List._∷_
+      97
+      (List._∷_ 116 (List._∷_ 105 (List._∷_ 111 (List._∷_ 110 List.[])))))))))))))))))))
+      (Syntax.tcons
+      (Syntax.tyArray (Syntax.tyInt Syntax.w8) 16)
+      (Syntax.tcons
+      (Syntax.tyEnum
+      (List._∷_
+      97
+      (List._∷_
+      110
+      (List._∷_
+      115
+      (List._∷_
+      119
+      (List._∷_
+      101
+      (List._∷_
+      114
+      (List._∷_ 58 (List._∷_ 58 (List._∷_ 87 (List._∷_ 97 (List._∷_ 121 List.[])))))))))))
+      (Syntax.ttcons
+      Syntax.tnil
+      (Syntax.ttcons
+      Syntax.tnil
+      (Syntax.ttcons Syntax.tnil (Syntax.ttcons Syntax.tnil Syntax.ttnil)))))
+      Syntax.tnil))),
+) (List._∷_ (40, Rows'.any-gone (KPost.spelled)) (List._∷_ (
+  41,
+  Rows'.any-gone
+      (Syntax.tyStruct
+      (List._∷_
+      97
+      (List._∷_
+      110
+      (List._∷_
+      115
+      (List._∷_
+      119
+      (List._∷_
+      101
+      (List._∷_
+      114
+      (List._∷_
+      58
+      (List._∷_
+      58
+      (List._∷_
+      68
+      (List._∷_
+      101
+      (List._∷_
+      115
+      (List._∷_
+      116
+      (List._∷_
+      105
+      (List._∷_
+      110
+      (List._∷_
+      97
+      (List._∷_ 116 (List._∷_ 105 (List._∷_ 111 (List._∷_ 110 List.[])))))))))))))))))))
+      (Syntax.tcons
+      (Syntax.tyArray (Syntax.tyInt Syntax.w8) 16)
+      (Syntax.tcons
+      (Syntax.tyEnum
+      (List._∷_
+      97
+      (List._∷_
+      110
+      (List._∷_
+      115
+      (List._∷_
+      119
+      (List._∷_
+      101
+      (List._∷_
+      114
+      (List._∷_ 58 (List._∷_ 58 (List._∷_ 87 (List._∷_ 97 (List._∷_ 121 List.[])))))))))))
+      (Syntax.ttcons
+      Syntax.tnil
+      (Syntax.ttcons
+      Syntax.tnil
+      (Syntax.ttcons Syntax.tnil (Syntax.ttcons Syntax.tnil Syntax.ttnil)))))
+      Syntax.tnil))),
+) (List._∷_ (42, Rows'.any-gone (KPost.spelled)) List.[]))))))))))
 
 abbrev pub t61 : List.List Row.Entry
-t61 = List._∷_ (
-  32,
+t61 = List._∷_ (32, Rows'.any-gone Syntax.tyUnit) (List._∷_ (
+  33,
+  Rows'.any-gone
+      (Syntax.tyRef Syntax.erased Syntax.mut (KInstanceRow.named)),
+) (List._∷_ (
+  34,
   Rows'.any-gone
       (Syntax.tyStruct
       (List._∷_ 38 (List._∷_ 91 (List._∷_ 93 List.[])))
       (Syntax.tcons
-      (Syntax.tyRef Syntax.erased Syntax.mut (Syntax.tyInt Syntax.w8))
+      (Syntax.tyRef Syntax.erased Syntax.mut (KInstanceRow.named))
       (Syntax.tcons (Syntax.tyInt Syntax.w64) Syntax.tnil))),
 ) (List._∷_ (
-  33,
+  35,
   Rows'.any-gone
-      (Syntax.tyRef Syntax.erased Syntax.imm (KOwn.named)),
-)
-    (List._∷_ (
-      34,
-      Rows'.any-gone (Syntax.tyRef Syntax.erased Syntax.mut (Syntax.tyInt Syntax.w8)),
-    ) (List._∷_ (
-      35,
-      Rows'.any-gone
-          (Syntax.tyStruct
-          (List._∷_ 38 (List._∷_ 91 (List._∷_ 93 List.[])))
-          (Syntax.tcons
-          (Syntax.tyRef Syntax.erased Syntax.mut (Syntax.tyInt Syntax.w8))
-          (Syntax.tcons (Syntax.tyInt Syntax.w64) Syntax.tnil))),
-    ) (List._∷_ (
-      36,
-      Rows'.any-gone
-          (Syntax.tyRef Syntax.erased Syntax.imm (KOwn.named)),
-    ) (List._∷_ (37, Rows'.sc-here (Row.sInt Syntax.w8)) (List._∷_ (
-      38,
-      Rows'.any-gone (KDecided.spelled),
-    ) (List._∷_ (
-      39,
-      Rows'.any-gone
-          (Syntax.tyStruct
-          (List._∷_
-          97
-          (List._∷_
-          110
-          (List._∷_
-          115
-          (List._∷_
-          119
-          (List._∷_
-          101
-          (List._∷_
-          114
-          (List._∷_
-          58
-          (List._∷_
-          58
-          (List._∷_
-          68
-          (List._∷_
-          101
-          (List._∷_
-          115
-          (List._∷_
-          116
-          (List._∷_
-          105
-          (List._∷_
-          110
-          (List._∷_
-          97
-          (List._∷_ 116 (List._∷_ 105 (List._∷_ 111 (List._∷_ 110 List.[])))))))))))))))))))
-          (Syntax.tcons
-          (Syntax.tyArray (Syntax.tyInt Syntax.w8) 16)
-          (Syntax.tcons
-          (Syntax.tyEnum
-          (List._∷_
-          97
-          (List._∷_
-          110
-          (List._∷_
-          115
-          (List._∷_
-          119
-          (List._∷_
-          101
-          (List._∷_
-          114
-          (List._∷_ 58 (List._∷_ 58 (List._∷_ 87 (List._∷_ 97 (List._∷_ 121 List.[])))))))))))
-          (Syntax.ttcons
-          Syntax.tnil
-          (Syntax.ttcons
-          Syntax.tnil
-          (Syntax.ttcons Syntax.tnil (Syntax.ttcons Syntax.tnil Syntax.ttnil)))))
-          Syntax.tnil))),
-    ) (List._∷_ (40, Rows'.any-gone (KPost.spelled)) (List._∷_ (
-      41,
-      Rows'.any-gone
-          (Syntax.tyStruct
-          (List._∷_
-          97
-          (List._∷_
-          110
-          (List._∷_
-          115
-          (List._∷_
-          119
-          (List._∷_
-          101
-          (List._∷_
-          114
-          (List._∷_
-          58
-          (List._∷_
-          58
-          (List._∷_
-          68
-          (List._∷_
-          101
-          (List._∷_
-          115
-          (List._∷_
-          116
-          (List._∷_
-          105
-          (List._∷_
-          110
-          (List._∷_
-          97
-          (List._∷_ 116 (List._∷_ 105 (List._∷_ 111 (List._∷_ 110 List.[])))))))))))))))))))
-          (Syntax.tcons
-          (Syntax.tyArray (Syntax.tyInt Syntax.w8) 16)
-          (Syntax.tcons
-          (Syntax.tyEnum
-          (List._∷_
-          97
-          (List._∷_
-          110
-          (List._∷_
-          115
-          (List._∷_
-          119
-          (List._∷_
-          101
-          (List._∷_
-          114
-          (List._∷_ 58 (List._∷_ 58 (List._∷_ 87 (List._∷_ 97 (List._∷_ 121 List.[])))))))))))
-          (Syntax.ttcons
-          Syntax.tnil
-          (Syntax.ttcons
-          Syntax.tnil
-          (Syntax.ttcons Syntax.tnil (Syntax.ttcons Syntax.tnil Syntax.ttnil)))))
-          Syntax.tnil))),
-    )
-    (List._∷_ (42, Rows'.any-gone (KPost.spelled)) List.[]))))))))))
+      (Syntax.tyRef Syntax.erased Syntax.mut (KRouteRow.named)),
+) (List._∷_ (
+  36,
+  Rows'.any-gone
+      (Syntax.tyStruct
+      (List._∷_ 38 (List._∷_ 91 (List._∷_ 93 List.[])))
+      (Syntax.tcons
+      (Syntax.tyRef Syntax.erased Syntax.mut (KRouteRow.named))
+      (Syntax.tcons (Syntax.tyInt Syntax.w64) Syntax.tnil))),
+) (List._∷_ (37, Rows'.sc-here (Row.sInt Syntax.w8)) (List._∷_ (
+  38,
+  Rows'.any-gone (KDecided.spelled),
+) (List._∷_ (
+  39,
+  Rows'.any-gone
+      (Syntax.tyStruct
+      (List._∷_
+      97
+      (List._∷_
+      110
+      (List._∷_
+      115
+      (List._∷_
+      119
+      (List._∷_
+      101
+      (List._∷_
+      114
+      (List._∷_
+      58
+      (List._∷_
+      58
+      (List._∷_
+      68
+      (List._∷_
+      101
+      (List._∷_
+      115
+      (List._∷_
+      116
+      (List._∷_
+      105
+      (List._∷_
+      110
+      (List._∷_
+      97
+      (List._∷_ 116 (List._∷_ 105 (List._∷_ 111 (List._∷_ 110 List.[])))))))))))))))))))
+      (Syntax.tcons
+      (Syntax.tyArray (Syntax.tyInt Syntax.w8) 16)
+      (Syntax.tcons
+      (Syntax.tyEnum
+      (List._∷_
+      97
+      (List._∷_
+      110
+      (List._∷_
+      115
+      (List._∷_
+      119
+      (List._∷_
+      101
+      (List._∷_
+      114
+      (List._∷_ 58 (List._∷_ 58 (List._∷_ 87 (List._∷_ 97 (List._∷_ 121 List.[])))))))))))
+      (Syntax.ttcons
+      Syntax.tnil
+      (Syntax.ttcons
+      Syntax.tnil
+      (Syntax.ttcons Syntax.tnil (Syntax.ttcons Syntax.tnil Syntax.ttnil)))))
+      Syntax.tnil))),
+) (List._∷_ (40, Rows'.any-gone (KPost.spelled)) (List._∷_ (
+  41,
+  Rows'.any-gone
+      (Syntax.tyStruct
+      (List._∷_
+      97
+      (List._∷_
+      110
+      (List._∷_
+      115
+      (List._∷_
+      119
+      (List._∷_
+      101
+      (List._∷_
+      114
+      (List._∷_
+      58
+      (List._∷_
+      58
+      (List._∷_
+      68
+      (List._∷_
+      101
+      (List._∷_
+      115
+      (List._∷_
+      116
+      (List._∷_
+      105
+      (List._∷_
+      110
+      (List._∷_
+      97
+      (List._∷_ 116 (List._∷_ 105 (List._∷_ 111 (List._∷_ 110 List.[])))))))))))))))))))
+      (Syntax.tcons
+      (Syntax.tyArray (Syntax.tyInt Syntax.w8) 16)
+      (Syntax.tcons
+      (Syntax.tyEnum
+      (List._∷_
+      97
+      (List._∷_
+      110
+      (List._∷_
+      115
+      (List._∷_
+      119
+      (List._∷_
+      101
+      (List._∷_
+      114
+      (List._∷_ 58 (List._∷_ 58 (List._∷_ 87 (List._∷_ 97 (List._∷_ 121 List.[])))))))))))
+      (Syntax.ttcons
+      Syntax.tnil
+      (Syntax.ttcons
+      Syntax.tnil
+      (Syntax.ttcons Syntax.tnil (Syntax.ttcons Syntax.tnil Syntax.ttnil)))))
+      Syntax.tnil))),
+) (List._∷_ (42, Rows'.any-gone (KPost.spelled)) List.[]))))))))))
 
 abbrev pub t62 : List.List Row.Entry
-t62 = List._∷_ (
-  32,
+t62 = List._∷_ (32, Rows'.any-gone Syntax.tyUnit) (List._∷_ (
+  33,
+  Rows'.any-gone
+      (Syntax.tyRef Syntax.erased Syntax.mut (KInstanceRow.named)),
+) (List._∷_ (
+  34,
   Rows'.any-gone
       (Syntax.tyStruct
       (List._∷_ 38 (List._∷_ 91 (List._∷_ 93 List.[])))
       (Syntax.tcons
-      (Syntax.tyRef Syntax.erased Syntax.mut (Syntax.tyInt Syntax.w8))
+      (Syntax.tyRef Syntax.erased Syntax.mut (KInstanceRow.named))
       (Syntax.tcons (Syntax.tyInt Syntax.w64) Syntax.tnil))),
 ) (List._∷_ (
-  33,
+  35,
   Rows'.any-gone
-      (Syntax.tyRef Syntax.erased Syntax.imm (KOwn.named)),
-)
-    (List._∷_ (
-      34,
-      Rows'.any-gone (Syntax.tyRef Syntax.erased Syntax.mut (Syntax.tyInt Syntax.w8)),
-    ) (List._∷_ (
-      35,
-      Rows'.any-gone
-          (Syntax.tyStruct
-          (List._∷_ 38 (List._∷_ 91 (List._∷_ 93 List.[])))
-          (Syntax.tcons
-          (Syntax.tyRef Syntax.erased Syntax.mut (Syntax.tyInt Syntax.w8))
-          (Syntax.tcons (Syntax.tyInt Syntax.w64) Syntax.tnil))),
-    ) (List._∷_ (
-      36,
-      Rows'.any-gone
-          (Syntax.tyRef Syntax.erased Syntax.imm (KOwn.named)),
-    ) (List._∷_ (37, Rows'.sc-here (Row.sInt Syntax.w8)) (List._∷_ (
-      38,
-      Rows'.any-gone (KDecided.spelled),
-    ) (List._∷_ (
-      39,
-      Rows'.any-gone
-          (Syntax.tyStruct
-          (List._∷_
-          97
-          (List._∷_
-          110
-          (List._∷_
-          115
-          (List._∷_
-          119
-          (List._∷_
-          101
-          (List._∷_
-          114
-          (List._∷_
-          58
-          (List._∷_
-          58
-          (List._∷_
-          68
-          (List._∷_
-          101
-          (List._∷_
-          115
-          (List._∷_
-          116
-          (List._∷_
-          105
-          (List._∷_
-          110
-          (List._∷_
-          97
-          (List._∷_ 116 (List._∷_ 105 (List._∷_ 111 (List._∷_ 110 List.[])))))))))))))))))))
-          (Syntax.tcons
-          (Syntax.tyArray (Syntax.tyInt Syntax.w8) 16)
-          (Syntax.tcons
-          (Syntax.tyEnum
-          (List._∷_
-          97
-          (List._∷_
-          110
-          (List._∷_
-          115
-          (List._∷_
-          119
-          (List._∷_
-          101
-          (List._∷_
-          114
-          (List._∷_ 58 (List._∷_ 58 (List._∷_ 87 (List._∷_ 97 (List._∷_ 121 List.[])))))))))))
-          (Syntax.ttcons
-          Syntax.tnil
-          (Syntax.ttcons
-          Syntax.tnil
-          (Syntax.ttcons Syntax.tnil (Syntax.ttcons Syntax.tnil Syntax.ttnil)))))
-          Syntax.tnil))),
-    ) (List._∷_ (40, KPost.row) (List._∷_ (
-      41,
-      Rows'.any-gone
-          (Syntax.tyStruct
-          (List._∷_
-          97
-          (List._∷_
-          110
-          (List._∷_
-          115
-          (List._∷_
-          119
-          (List._∷_
-          101
-          (List._∷_
-          114
-          (List._∷_
-          58
-          (List._∷_
-          58
-          (List._∷_
-          68
-          (List._∷_
-          101
-          (List._∷_
-          115
-          (List._∷_
-          116
-          (List._∷_
-          105
-          (List._∷_
-          110
-          (List._∷_
-          97
-          (List._∷_ 116 (List._∷_ 105 (List._∷_ 111 (List._∷_ 110 List.[])))))))))))))))))))
-          (Syntax.tcons
-          (Syntax.tyArray (Syntax.tyInt Syntax.w8) 16)
-          (Syntax.tcons
-          (Syntax.tyEnum
-          (List._∷_
-          97
-          (List._∷_
-          110
-          (List._∷_
-          115
-          (List._∷_
-          119
-          (List._∷_
-          101
-          (List._∷_
-          114
-          (List._∷_ 58 (List._∷_ 58 (List._∷_ 87 (List._∷_ 97 (List._∷_ 121 List.[])))))))))))
-          (Syntax.ttcons
-          Syntax.tnil
-          (Syntax.ttcons
-          Syntax.tnil
-          (Syntax.ttcons Syntax.tnil (Syntax.ttcons Syntax.tnil Syntax.ttnil)))))
-          Syntax.tnil))),
-    )
-    (List._∷_ (42, Rows'.any-gone (KPost.spelled)) List.[]))))))))))
+      (Syntax.tyRef Syntax.erased Syntax.mut (KRouteRow.named)),
+) (List._∷_ (
+  36,
+  Rows'.any-gone
+      (Syntax.tyStruct
+      (List._∷_ 38 (List._∷_ 91 (List._∷_ 93 List.[])))
+      (Syntax.tcons
+      (Syntax.tyRef Syntax.erased Syntax.mut (KRouteRow.named))
+      (Syntax.tcons (Syntax.tyInt Syntax.w64) Syntax.tnil))),
+) (List._∷_ (37, Rows'.sc-here (Row.sInt Syntax.w8)) (List._∷_ (
+  38,
+  Rows'.any-gone (KDecided.spelled),
+) (List._∷_ (
+  39,
+  Rows'.any-gone
+      (Syntax.tyStruct
+      (List._∷_
+      97
+      (List._∷_
+      110
+      (List._∷_
+      115
+      (List._∷_
+      119
+      (List._∷_
+      101
+      (List._∷_
+      114
+      (List._∷_
+      58
+      (List._∷_
+      58
+      (List._∷_
+      68
+      (List._∷_
+      101
+      (List._∷_
+      115
+      (List._∷_
+      116
+      (List._∷_
+      105
+      (List._∷_
+      110
+      (List._∷_
+      97
+      (List._∷_ 116 (List._∷_ 105 (List._∷_ 111 (List._∷_ 110 List.[])))))))))))))))))))
+      (Syntax.tcons
+      (Syntax.tyArray (Syntax.tyInt Syntax.w8) 16)
+      (Syntax.tcons
+      (Syntax.tyEnum
+      (List._∷_
+      97
+      (List._∷_
+      110
+      (List._∷_
+      115
+      (List._∷_
+      119
+      (List._∷_
+      101
+      (List._∷_
+      114
+      (List._∷_ 58 (List._∷_ 58 (List._∷_ 87 (List._∷_ 97 (List._∷_ 121 List.[])))))))))))
+      (Syntax.ttcons
+      Syntax.tnil
+      (Syntax.ttcons
+      Syntax.tnil
+      (Syntax.ttcons Syntax.tnil (Syntax.ttcons Syntax.tnil Syntax.ttnil)))))
+      Syntax.tnil))),
+) (List._∷_ (40, KPost.row) (List._∷_ (
+  41,
+  Rows'.any-gone
+      (Syntax.tyStruct
+      (List._∷_
+      97
+      (List._∷_
+      110
+      (List._∷_
+      115
+      (List._∷_
+      119
+      (List._∷_
+      101
+      (List._∷_
+      114
+      (List._∷_
+      58
+      (List._∷_
+      58
+      (List._∷_
+      68
+      (List._∷_
+      101
+      (List._∷_
+      115
+      (List._∷_
+      116
+      (List._∷_
+      105
+      (List._∷_
+      110
+      (List._∷_
+      97
+      (List._∷_ 116 (List._∷_ 105 (List._∷_ 111 (List._∷_ 110 List.[])))))))))))))))))))
+      (Syntax.tcons
+      (Syntax.tyArray (Syntax.tyInt Syntax.w8) 16)
+      (Syntax.tcons
+      (Syntax.tyEnum
+      (List._∷_
+      97
+      (List._∷_
+      110
+      (List._∷_
+      115
+      (List._∷_
+      119
+      (List._∷_
+      101
+      (List._∷_
+      114
+      (List._∷_ 58 (List._∷_ 58 (List._∷_ 87 (List._∷_ 97 (List._∷_ 121 List.[])))))))))))
+      (Syntax.ttcons
+      Syntax.tnil
+      (Syntax.ttcons
+      Syntax.tnil
+      (Syntax.ttcons Syntax.tnil (Syntax.ttcons Syntax.tnil Syntax.ttnil)))))
+      Syntax.tnil))),
+) (List._∷_ (42, Rows'.any-gone (KPost.spelled)) List.[]))))))))))
 
 abbrev pub t63 : List.List Row.Entry
-t63 = List._∷_ (
-  32,
+t63 = List._∷_ (32, Rows'.any-gone Syntax.tyUnit) (List._∷_ (
+  33,
+  Rows'.any-gone
+      (Syntax.tyRef Syntax.erased Syntax.mut (KInstanceRow.named)),
+) (List._∷_ (
+  34,
   Rows'.any-gone
       (Syntax.tyStruct
       (List._∷_ 38 (List._∷_ 91 (List._∷_ 93 List.[])))
       (Syntax.tcons
-      (Syntax.tyRef Syntax.erased Syntax.mut (Syntax.tyInt Syntax.w8))
+      (Syntax.tyRef Syntax.erased Syntax.mut (KInstanceRow.named))
       (Syntax.tcons (Syntax.tyInt Syntax.w64) Syntax.tnil))),
 ) (List._∷_ (
-  33,
+  35,
   Rows'.any-gone
-      (Syntax.tyRef Syntax.erased Syntax.imm (KOwn.named)),
-)
-    (List._∷_ (
-      34,
-      Rows'.any-gone (Syntax.tyRef Syntax.erased Syntax.mut (Syntax.tyInt Syntax.w8)),
-    ) (List._∷_ (
-      35,
-      Rows'.any-gone
-          (Syntax.tyStruct
-          (List._∷_ 38 (List._∷_ 91 (List._∷_ 93 List.[])))
-          (Syntax.tcons
-          (Syntax.tyRef Syntax.erased Syntax.mut (Syntax.tyInt Syntax.w8))
-          (Syntax.tcons (Syntax.tyInt Syntax.w64) Syntax.tnil))),
-    ) (List._∷_ (
-      36,
-      Rows'.any-gone
-          (Syntax.tyRef Syntax.erased Syntax.imm (KOwn.named)),
-    ) (List._∷_ (37, Rows'.sc-here (Row.sInt Syntax.w8)) (List._∷_ (
-      38,
-      Rows'.any-gone (KDecided.spelled),
-    ) (List._∷_ (39, Rows'.whole (Declared.row Destination.the-type)) (List._∷_ (
-      40,
-      KPost.row,
-    ) (List._∷_ (
-      41,
-      Rows'.any-gone
-          (Syntax.tyStruct
-          (List._∷_
-          97
-          (List._∷_
-          110
-          (List._∷_
-          115
-          (List._∷_
-          119
-          (List._∷_
-          101
-          (List._∷_
-          114
-          (List._∷_
-          58
-          (List._∷_
-          58
-          (List._∷_
-          68
-          (List._∷_
-          101
-          (List._∷_
-          115
-          (List._∷_
-          116
-          (List._∷_
-          105
-          (List._∷_
-          110
-          (List._∷_
-          97
-          (List._∷_ 116 (List._∷_ 105 (List._∷_ 111 (List._∷_ 110 List.[])))))))))))))))))))
-          (Syntax.tcons
-          (Syntax.tyArray (Syntax.tyInt Syntax.w8) 16)
-          (Syntax.tcons
-          (Syntax.tyEnum
-          (List._∷_
-          97
-          (List._∷_
-          110
-          (List._∷_
-          115
-          (List._∷_
-          119
-          (List._∷_
-          101
-          (List._∷_
-          114
-          (List._∷_ 58 (List._∷_ 58 (List._∷_ 87 (List._∷_ 97 (List._∷_ 121 List.[])))))))))))
-          (Syntax.ttcons
-          Syntax.tnil
-          (Syntax.ttcons
-          Syntax.tnil
-          (Syntax.ttcons Syntax.tnil (Syntax.ttcons Syntax.tnil Syntax.ttnil)))))
-          Syntax.tnil))),
-    )
-    (List._∷_ (42, Rows'.any-gone (KPost.spelled)) List.[]))))))))))
+      (Syntax.tyRef Syntax.erased Syntax.mut (KRouteRow.named)),
+) (List._∷_ (
+  36,
+  Rows'.any-gone
+      (Syntax.tyStruct
+      (List._∷_ 38 (List._∷_ 91 (List._∷_ 93 List.[])))
+      (Syntax.tcons
+      (Syntax.tyRef Syntax.erased Syntax.mut (KRouteRow.named))
+      (Syntax.tcons (Syntax.tyInt Syntax.w64) Syntax.tnil))),
+) (List._∷_ (37, Rows'.sc-here (Row.sInt Syntax.w8)) (List._∷_ (
+  38,
+  Rows'.any-gone (KDecided.spelled),
+) (List._∷_ (39, Rows'.whole (Declared.row Destination.the-type)) (List._∷_ (
+  40,
+  KPost.row,
+) (List._∷_ (
+  41,
+  Rows'.any-gone
+      (Syntax.tyStruct
+      (List._∷_
+      97
+      (List._∷_
+      110
+      (List._∷_
+      115
+      (List._∷_
+      119
+      (List._∷_
+      101
+      (List._∷_
+      114
+      (List._∷_
+      58
+      (List._∷_
+      58
+      (List._∷_
+      68
+      (List._∷_
+      101
+      (List._∷_
+      115
+      (List._∷_
+      116
+      (List._∷_
+      105
+      (List._∷_
+      110
+      (List._∷_
+      97
+      (List._∷_ 116 (List._∷_ 105 (List._∷_ 111 (List._∷_ 110 List.[])))))))))))))))))))
+      (Syntax.tcons
+      (Syntax.tyArray (Syntax.tyInt Syntax.w8) 16)
+      (Syntax.tcons
+      (Syntax.tyEnum
+      (List._∷_
+      97
+      (List._∷_
+      110
+      (List._∷_
+      115
+      (List._∷_
+      119
+      (List._∷_
+      101
+      (List._∷_
+      114
+      (List._∷_ 58 (List._∷_ 58 (List._∷_ 87 (List._∷_ 97 (List._∷_ 121 List.[])))))))))))
+      (Syntax.ttcons
+      Syntax.tnil
+      (Syntax.ttcons
+      Syntax.tnil
+      (Syntax.ttcons Syntax.tnil (Syntax.ttcons Syntax.tnil Syntax.ttnil)))))
+      Syntax.tnil))),
+) (List._∷_ (42, Rows'.any-gone (KPost.spelled)) List.[]))))))))))
 
 abbrev pub t64 : List.List Row.Entry
-t64 = List._∷_ (
-  32,
+t64 = List._∷_ (32, Rows'.any-gone Syntax.tyUnit) (List._∷_ (
+  33,
+  Rows'.any-gone
+      (Syntax.tyRef Syntax.erased Syntax.mut (KInstanceRow.named)),
+) (List._∷_ (
+  34,
   Rows'.any-gone
       (Syntax.tyStruct
       (List._∷_ 38 (List._∷_ 91 (List._∷_ 93 List.[])))
       (Syntax.tcons
-      (Syntax.tyRef Syntax.erased Syntax.mut (Syntax.tyInt Syntax.w8))
+      (Syntax.tyRef Syntax.erased Syntax.mut (KInstanceRow.named))
       (Syntax.tcons (Syntax.tyInt Syntax.w64) Syntax.tnil))),
 ) (List._∷_ (
-  33,
+  35,
   Rows'.any-gone
-      (Syntax.tyRef Syntax.erased Syntax.imm (KOwn.named)),
-)
-    (List._∷_ (
-      34,
-      Rows'.any-gone (Syntax.tyRef Syntax.erased Syntax.mut (Syntax.tyInt Syntax.w8)),
-    ) (List._∷_ (
-      35,
-      Rows'.any-gone
-          (Syntax.tyStruct
-          (List._∷_ 38 (List._∷_ 91 (List._∷_ 93 List.[])))
-          (Syntax.tcons
-          (Syntax.tyRef Syntax.erased Syntax.mut (Syntax.tyInt Syntax.w8))
-          (Syntax.tcons (Syntax.tyInt Syntax.w64) Syntax.tnil))),
-    ) (List._∷_ (
-      36,
-      Rows'.any-gone
-          (Syntax.tyRef Syntax.erased Syntax.imm (KOwn.named)),
-    ) (List._∷_ (37, Rows'.sc-here (Row.sInt Syntax.w8)) (List._∷_ (
-      38,
-      Rows'.any-gone (KDecided.spelled),
-    ) (List._∷_ (39, Rows'.whole (Declared.row Destination.the-type)) (List._∷_ (
-      40,
-      Rows'.any-gone (KPost.spelled),
-    ) (List._∷_ (
-      41,
-      Rows'.any-gone
-          (Syntax.tyStruct
-          (List._∷_
-          97
-          (List._∷_
-          110
-          (List._∷_
-          115
-          (List._∷_
-          119
-          (List._∷_
-          101
-          (List._∷_
-          114
-          (List._∷_
-          58
-          (List._∷_
-          58
-          (List._∷_
-          68
-          (List._∷_
-          101
-          (List._∷_
-          115
-          (List._∷_
-          116
-          (List._∷_
-          105
-          (List._∷_
-          110
-          (List._∷_
-          97
-          (List._∷_ 116 (List._∷_ 105 (List._∷_ 111 (List._∷_ 110 List.[])))))))))))))))))))
-          (Syntax.tcons
-          (Syntax.tyArray (Syntax.tyInt Syntax.w8) 16)
-          (Syntax.tcons
-          (Syntax.tyEnum
-          (List._∷_
-          97
-          (List._∷_
-          110
-          (List._∷_
-          115
-          (List._∷_
-          119
-          (List._∷_
-          101
-          (List._∷_
-          114
-          (List._∷_ 58 (List._∷_ 58 (List._∷_ 87 (List._∷_ 97 (List._∷_ 121 List.[])))))))))))
-          (Syntax.ttcons
-          Syntax.tnil
-          (Syntax.ttcons
-          Syntax.tnil
-          (Syntax.ttcons Syntax.tnil (Syntax.ttcons Syntax.tnil Syntax.ttnil)))))
-          Syntax.tnil))),
-    )
-    (List._∷_ (42, Rows'.any-gone (KPost.spelled)) List.[]))))))))))
+      (Syntax.tyRef Syntax.erased Syntax.mut (KRouteRow.named)),
+) (List._∷_ (
+  36,
+  Rows'.any-gone
+      (Syntax.tyStruct
+      (List._∷_ 38 (List._∷_ 91 (List._∷_ 93 List.[])))
+      (Syntax.tcons
+      (Syntax.tyRef Syntax.erased Syntax.mut (KRouteRow.named))
+      (Syntax.tcons (Syntax.tyInt Syntax.w64) Syntax.tnil))),
+) (List._∷_ (37, Rows'.sc-here (Row.sInt Syntax.w8)) (List._∷_ (
+  38,
+  Rows'.any-gone (KDecided.spelled),
+) (List._∷_ (39, Rows'.whole (Declared.row Destination.the-type)) (List._∷_ (
+  40,
+  Rows'.any-gone (KPost.spelled),
+) (List._∷_ (
+  41,
+  Rows'.any-gone
+      (Syntax.tyStruct
+      (List._∷_
+      97
+      (List._∷_
+      110
+      (List._∷_
+      115
+      (List._∷_
+      119
+      (List._∷_
+      101
+      (List._∷_
+      114
+      (List._∷_
+      58
+      (List._∷_
+      58
+      (List._∷_
+      68
+      (List._∷_
+      101
+      (List._∷_
+      115
+      (List._∷_
+      116
+      (List._∷_
+      105
+      (List._∷_
+      110
+      (List._∷_
+      97
+      (List._∷_ 116 (List._∷_ 105 (List._∷_ 111 (List._∷_ 110 List.[])))))))))))))))))))
+      (Syntax.tcons
+      (Syntax.tyArray (Syntax.tyInt Syntax.w8) 16)
+      (Syntax.tcons
+      (Syntax.tyEnum
+      (List._∷_
+      97
+      (List._∷_
+      110
+      (List._∷_
+      115
+      (List._∷_
+      119
+      (List._∷_
+      101
+      (List._∷_
+      114
+      (List._∷_ 58 (List._∷_ 58 (List._∷_ 87 (List._∷_ 97 (List._∷_ 121 List.[])))))))))))
+      (Syntax.ttcons
+      Syntax.tnil
+      (Syntax.ttcons
+      Syntax.tnil
+      (Syntax.ttcons Syntax.tnil (Syntax.ttcons Syntax.tnil Syntax.ttnil)))))
+      Syntax.tnil))),
+) (List._∷_ (42, Rows'.any-gone (KPost.spelled)) List.[]))))))))))
 
 abbrev pub t65 : List.List Row.Entry
-t65 = List._∷_ (
-  32,
+t65 = List._∷_ (32, Rows'.any-gone Syntax.tyUnit) (List._∷_ (
+  33,
+  Rows'.any-gone
+      (Syntax.tyRef Syntax.erased Syntax.mut (KInstanceRow.named)),
+) (List._∷_ (
+  34,
   Rows'.any-gone
       (Syntax.tyStruct
       (List._∷_ 38 (List._∷_ 91 (List._∷_ 93 List.[])))
       (Syntax.tcons
-      (Syntax.tyRef Syntax.erased Syntax.mut (Syntax.tyInt Syntax.w8))
+      (Syntax.tyRef Syntax.erased Syntax.mut (KInstanceRow.named))
       (Syntax.tcons (Syntax.tyInt Syntax.w64) Syntax.tnil))),
 ) (List._∷_ (
-  33,
+  35,
   Rows'.any-gone
-      (Syntax.tyRef Syntax.erased Syntax.imm (KOwn.named)),
-)
-    (List._∷_ (
-      34,
-      Rows'.any-gone (Syntax.tyRef Syntax.erased Syntax.mut (Syntax.tyInt Syntax.w8)),
-    ) (List._∷_ (
-      35,
-      Rows'.any-gone
-          (Syntax.tyStruct
-          (List._∷_ 38 (List._∷_ 91 (List._∷_ 93 List.[])))
-          (Syntax.tcons
-          (Syntax.tyRef Syntax.erased Syntax.mut (Syntax.tyInt Syntax.w8))
-          (Syntax.tcons (Syntax.tyInt Syntax.w64) Syntax.tnil))),
-    ) (List._∷_ (
-      36,
-      Rows'.any-gone
-          (Syntax.tyRef Syntax.erased Syntax.imm (KOwn.named)),
-    ) (List._∷_ (37, Rows'.sc-here (Row.sInt Syntax.w8)) (List._∷_ (
-      38,
-      Rows'.any-gone (KDecided.spelled),
-    ) (List._∷_ (39, Rows'.whole (Declared.row Destination.the-type)) (List._∷_ (
-      40,
-      Rows'.any-gone (KPost.spelled),
-    ) (List._∷_ (
-      41,
-      Rows'.any-gone
-          (Syntax.tyStruct
-          (List._∷_
-          97
-          (List._∷_
-          110
-          (List._∷_
-          115
-          (List._∷_
-          119
-          (List._∷_
-          101
-          (List._∷_
-          114
-          (List._∷_
-          58
-          (List._∷_
-          58
-          (List._∷_
-          68
-          (List._∷_
-          101
-          (List._∷_
-          115
-          (List._∷_
-          116
-          (List._∷_
-          105
-          (List._∷_
-          110
-          (List._∷_
-          97
-          (List._∷_ 116 (List._∷_ 105 (List._∷_ 111 (List._∷_ 110 List.[])))))))))))))))))))
-          (Syntax.tcons
-          (Syntax.tyArray (Syntax.tyInt Syntax.w8) 16)
-          (Syntax.tcons
-          (Syntax.tyEnum
-          (List._∷_
-          97
-          (List._∷_
-          110
-          (List._∷_
-          115
-          (List._∷_
-          119
-          (List._∷_
-          101
-          (List._∷_
-          114
-          (List._∷_ 58 (List._∷_ 58 (List._∷_ 87 (List._∷_ 97 (List._∷_ 121 List.[])))))))))))
-          (Syntax.ttcons
-          Syntax.tnil
-          (Syntax.ttcons
-          Syntax.tnil
-          (Syntax.ttcons Syntax.tnil (Syntax.ttcons Syntax.tnil Syntax.ttnil)))))
-          Syntax.tnil))),
-    ) (List._∷_ (42, KPost.row) List.[]))))))))))
+      (Syntax.tyRef Syntax.erased Syntax.mut (KRouteRow.named)),
+) (List._∷_ (
+  36,
+  Rows'.any-gone
+      (Syntax.tyStruct
+      (List._∷_ 38 (List._∷_ 91 (List._∷_ 93 List.[])))
+      (Syntax.tcons
+      (Syntax.tyRef Syntax.erased Syntax.mut (KRouteRow.named))
+      (Syntax.tcons (Syntax.tyInt Syntax.w64) Syntax.tnil))),
+) (List._∷_ (37, Rows'.sc-here (Row.sInt Syntax.w8)) (List._∷_ (
+  38,
+  Rows'.any-gone (KDecided.spelled),
+) (List._∷_ (39, Rows'.whole (Declared.row Destination.the-type)) (List._∷_ (
+  40,
+  Rows'.any-gone (KPost.spelled),
+) (List._∷_ (
+  41,
+  Rows'.any-gone
+      (Syntax.tyStruct
+      (List._∷_
+      97
+      (List._∷_
+      110
+      (List._∷_
+      115
+      (List._∷_
+      119
+      (List._∷_
+      101
+      (List._∷_
+      114
+      (List._∷_
+      58
+      (List._∷_
+      58
+      (List._∷_
+      68
+      (List._∷_
+      101
+      (List._∷_
+      115
+      (List._∷_
+      116
+      (List._∷_
+      105
+      (List._∷_
+      110
+      (List._∷_
+      97
+      (List._∷_ 116 (List._∷_ 105 (List._∷_ 111 (List._∷_ 110 List.[])))))))))))))))))))
+      (Syntax.tcons
+      (Syntax.tyArray (Syntax.tyInt Syntax.w8) 16)
+      (Syntax.tcons
+      (Syntax.tyEnum
+      (List._∷_
+      97
+      (List._∷_
+      110
+      (List._∷_
+      115
+      (List._∷_
+      119
+      (List._∷_
+      101
+      (List._∷_
+      114
+      (List._∷_ 58 (List._∷_ 58 (List._∷_ 87 (List._∷_ 97 (List._∷_ 121 List.[])))))))))))
+      (Syntax.ttcons
+      Syntax.tnil
+      (Syntax.ttcons
+      Syntax.tnil
+      (Syntax.ttcons Syntax.tnil (Syntax.ttcons Syntax.tnil Syntax.ttnil)))))
+      Syntax.tnil))),
+) (List._∷_ (42, KPost.row) List.[]))))))))))
 
 abbrev pub t66 : List.List Row.Entry
-t66 = List._∷_ (
-  32,
+t66 = List._∷_ (32, Rows'.any-gone Syntax.tyUnit) (List._∷_ (
+  33,
+  Rows'.any-gone
+      (Syntax.tyRef Syntax.erased Syntax.mut (KInstanceRow.named)),
+) (List._∷_ (
+  34,
   Rows'.any-gone
       (Syntax.tyStruct
       (List._∷_ 38 (List._∷_ 91 (List._∷_ 93 List.[])))
       (Syntax.tcons
-      (Syntax.tyRef Syntax.erased Syntax.mut (Syntax.tyInt Syntax.w8))
+      (Syntax.tyRef Syntax.erased Syntax.mut (KInstanceRow.named))
       (Syntax.tcons (Syntax.tyInt Syntax.w64) Syntax.tnil))),
 ) (List._∷_ (
-  33,
+  35,
   Rows'.any-gone
-      (Syntax.tyRef Syntax.erased Syntax.imm (KOwn.named)),
-)
-    (List._∷_ (
-      34,
-      Rows'.any-gone (Syntax.tyRef Syntax.erased Syntax.mut (Syntax.tyInt Syntax.w8)),
-    ) (List._∷_ (
-      35,
-      Rows'.any-gone
-          (Syntax.tyStruct
-          (List._∷_ 38 (List._∷_ 91 (List._∷_ 93 List.[])))
-          (Syntax.tcons
-          (Syntax.tyRef Syntax.erased Syntax.mut (Syntax.tyInt Syntax.w8))
-          (Syntax.tcons (Syntax.tyInt Syntax.w64) Syntax.tnil))),
-    ) (List._∷_ (
-      36,
-      Rows'.any-gone
-          (Syntax.tyRef Syntax.erased Syntax.imm (KOwn.named)),
-    ) (List._∷_ (37, Rows'.sc-here (Row.sInt Syntax.w8)) (List._∷_ (
-      38,
-      Rows'.any-gone (KDecided.spelled),
-    ) (List._∷_ (39, Rows'.whole (Declared.row Destination.the-type)) (List._∷_ (
-      40,
-      Rows'.any-gone (KPost.spelled),
-    ) (List._∷_ (41, Rows'.whole (Declared.row Destination.the-type)) (List._∷_ (
-      42,
-      KPost.row,
-    ) List.[]))))))))))
+      (Syntax.tyRef Syntax.erased Syntax.mut (KRouteRow.named)),
+) (List._∷_ (
+  36,
+  Rows'.any-gone
+      (Syntax.tyStruct
+      (List._∷_ 38 (List._∷_ 91 (List._∷_ 93 List.[])))
+      (Syntax.tcons
+      (Syntax.tyRef Syntax.erased Syntax.mut (KRouteRow.named))
+      (Syntax.tcons (Syntax.tyInt Syntax.w64) Syntax.tnil))),
+) (List._∷_ (37, Rows'.sc-here (Row.sInt Syntax.w8)) (List._∷_ (
+  38,
+  Rows'.any-gone (KDecided.spelled),
+) (List._∷_ (39, Rows'.whole (Declared.row Destination.the-type)) (List._∷_ (
+  40,
+  Rows'.any-gone (KPost.spelled),
+) (List._∷_ (41, Rows'.whole (Declared.row Destination.the-type)) (List._∷_ (
+  42,
+  KPost.row,
+) List.[]))))))))))
 
 abbrev pub t67 : List.List Row.Entry
-t67 = List._∷_ (
-  32,
+t67 = List._∷_ (32, Rows'.any-gone Syntax.tyUnit) (List._∷_ (
+  33,
+  Rows'.any-gone
+      (Syntax.tyRef Syntax.erased Syntax.mut (KInstanceRow.named)),
+) (List._∷_ (
+  34,
   Rows'.any-gone
       (Syntax.tyStruct
       (List._∷_ 38 (List._∷_ 91 (List._∷_ 93 List.[])))
       (Syntax.tcons
-      (Syntax.tyRef Syntax.erased Syntax.mut (Syntax.tyInt Syntax.w8))
+      (Syntax.tyRef Syntax.erased Syntax.mut (KInstanceRow.named))
       (Syntax.tcons (Syntax.tyInt Syntax.w64) Syntax.tnil))),
 ) (List._∷_ (
-  33,
+  35,
   Rows'.any-gone
-      (Syntax.tyRef Syntax.erased Syntax.imm (KOwn.named)),
-)
-    (List._∷_ (
-      34,
-      Rows'.any-gone (Syntax.tyRef Syntax.erased Syntax.mut (Syntax.tyInt Syntax.w8)),
-    ) (List._∷_ (
-      35,
-      Rows'.any-gone
-          (Syntax.tyStruct
-          (List._∷_ 38 (List._∷_ 91 (List._∷_ 93 List.[])))
-          (Syntax.tcons
-          (Syntax.tyRef Syntax.erased Syntax.mut (Syntax.tyInt Syntax.w8))
-          (Syntax.tcons (Syntax.tyInt Syntax.w64) Syntax.tnil))),
-    ) (List._∷_ (
-      36,
-      Rows'.any-gone
-          (Syntax.tyRef Syntax.erased Syntax.imm (KOwn.named)),
-    ) (List._∷_ (37, Rows'.sc-here (Row.sInt Syntax.w8)) (List._∷_ (
-      38,
-      Rows'.any-gone (KDecided.spelled),
-    ) (List._∷_ (39, Rows'.whole (Declared.row Destination.the-type)) (List._∷_ (
-      40,
-      Rows'.any-gone (KPost.spelled),
-    ) (List._∷_ (41, Rows'.whole (Declared.row Destination.the-type)) (List._∷_ (
-      42,
-      Rows'.any-gone (KPost.spelled),
-    ) List.[]))))))))))
+      (Syntax.tyRef Syntax.erased Syntax.mut (KRouteRow.named)),
+) (List._∷_ (
+  36,
+  Rows'.any-gone
+      (Syntax.tyStruct
+      (List._∷_ 38 (List._∷_ 91 (List._∷_ 93 List.[])))
+      (Syntax.tcons
+      (Syntax.tyRef Syntax.erased Syntax.mut (KRouteRow.named))
+      (Syntax.tcons (Syntax.tyInt Syntax.w64) Syntax.tnil))),
+) (List._∷_ (37, Rows'.sc-here (Row.sInt Syntax.w8)) (List._∷_ (
+  38,
+  Rows'.any-gone (KDecided.spelled),
+) (List._∷_ (39, Rows'.whole (Declared.row Destination.the-type)) (List._∷_ (
+  40,
+  Rows'.any-gone (KPost.spelled),
+) (List._∷_ (41, Rows'.whole (Declared.row Destination.the-type)) (List._∷_ (
+  42,
+  Rows'.any-gone (KPost.spelled),
+) List.[]))))))))))
 
 abbrev pub t68 : List.List Row.Entry
 t68 = List._∷_ (0, Rows'.whole (Declared.row Outcome.the-type)) (List._∷_ (
@@ -12933,140 +12394,131 @@ t68 = List._∷_ (0, Rows'.whole (Declared.row Outcome.the-type)) (List._∷_ (
 ) List.[])))))))))))))))
 
 abbrev pub t69 : List.List Row.Entry
-t69 = List._∷_ (
-  32,
+t69 = List._∷_ (32, Rows'.any-gone Syntax.tyUnit) (List._∷_ (
+  33,
+  Rows'.any-gone
+      (Syntax.tyRef Syntax.erased Syntax.mut (KInstanceRow.named)),
+) (List._∷_ (
+  34,
   Rows'.any-gone
       (Syntax.tyStruct
       (List._∷_ 38 (List._∷_ 91 (List._∷_ 93 List.[])))
       (Syntax.tcons
-      (Syntax.tyRef Syntax.erased Syntax.mut (Syntax.tyInt Syntax.w8))
+      (Syntax.tyRef Syntax.erased Syntax.mut (KInstanceRow.named))
       (Syntax.tcons (Syntax.tyInt Syntax.w64) Syntax.tnil))),
 ) (List._∷_ (
-  33,
+  35,
   Rows'.any-gone
-      (Syntax.tyRef Syntax.erased Syntax.imm (KOwn.named)),
-)
-    (List._∷_ (
-      34,
-      Rows'.any-gone (Syntax.tyRef Syntax.erased Syntax.mut (Syntax.tyInt Syntax.w8)),
-    ) (List._∷_ (
-      35,
-      Rows'.any-gone
-          (Syntax.tyStruct
-          (List._∷_ 38 (List._∷_ 91 (List._∷_ 93 List.[])))
-          (Syntax.tcons
-          (Syntax.tyRef Syntax.erased Syntax.mut (Syntax.tyInt Syntax.w8))
-          (Syntax.tcons (Syntax.tyInt Syntax.w64) Syntax.tnil))),
-    ) (List._∷_ (
-      36,
-      Rows'.any-gone
-          (Syntax.tyRef Syntax.erased Syntax.imm (KOwn.named)),
-    ) (List._∷_ (37, Rows'.any-gone (Syntax.tyInt Syntax.w8)) (List._∷_ (
-      38,
-      Rows'.any-gone (KDecided.spelled),
-    ) (List._∷_ (39, Rows'.whole (Declared.row Destination.the-type)) (List._∷_ (
-      40,
-      Rows'.any-gone (KPost.spelled),
-    ) (List._∷_ (41, Rows'.whole (Declared.row Destination.the-type)) (List._∷_ (
-      42,
-      Rows'.any-gone (KPost.spelled),
-    ) List.[]))))))))))
+      (Syntax.tyRef Syntax.erased Syntax.mut (KRouteRow.named)),
+) (List._∷_ (
+  36,
+  Rows'.any-gone
+      (Syntax.tyStruct
+      (List._∷_ 38 (List._∷_ 91 (List._∷_ 93 List.[])))
+      (Syntax.tcons
+      (Syntax.tyRef Syntax.erased Syntax.mut (KRouteRow.named))
+      (Syntax.tcons (Syntax.tyInt Syntax.w64) Syntax.tnil))),
+) (List._∷_ (37, Rows'.any-gone (Syntax.tyInt Syntax.w8)) (List._∷_ (
+  38,
+  Rows'.any-gone (KDecided.spelled),
+) (List._∷_ (39, Rows'.whole (Declared.row Destination.the-type)) (List._∷_ (
+  40,
+  Rows'.any-gone (KPost.spelled),
+) (List._∷_ (41, Rows'.whole (Declared.row Destination.the-type)) (List._∷_ (
+  42,
+  Rows'.any-gone (KPost.spelled),
+) List.[]))))))))))
 
 abbrev pub t70 : List.List Row.Entry
-t70 = List._∷_ (
-  32,
+t70 = List._∷_ (32, Rows'.any-gone Syntax.tyUnit) (List._∷_ (
+  33,
+  Rows'.any-gone
+      (Syntax.tyRef Syntax.erased Syntax.mut (KInstanceRow.named)),
+) (List._∷_ (
+  34,
   Rows'.any-gone
       (Syntax.tyStruct
       (List._∷_ 38 (List._∷_ 91 (List._∷_ 93 List.[])))
       (Syntax.tcons
-      (Syntax.tyRef Syntax.erased Syntax.mut (Syntax.tyInt Syntax.w8))
+      (Syntax.tyRef Syntax.erased Syntax.mut (KInstanceRow.named))
       (Syntax.tcons (Syntax.tyInt Syntax.w64) Syntax.tnil))),
 ) (List._∷_ (
-  33,
+  35,
   Rows'.any-gone
-      (Syntax.tyRef Syntax.erased Syntax.imm (KOwn.named)),
-)
-    (List._∷_ (
-      34,
-      Rows'.any-gone (Syntax.tyRef Syntax.erased Syntax.mut (Syntax.tyInt Syntax.w8)),
-    ) (List._∷_ (
-      35,
-      Rows'.any-gone
-          (Syntax.tyStruct
-          (List._∷_ 38 (List._∷_ 91 (List._∷_ 93 List.[])))
-          (Syntax.tcons
-          (Syntax.tyRef Syntax.erased Syntax.mut (Syntax.tyInt Syntax.w8))
-          (Syntax.tcons (Syntax.tyInt Syntax.w64) Syntax.tnil))),
-    ) (List._∷_ (
-      36,
-      Rows'.any-gone
-          (Syntax.tyRef Syntax.erased Syntax.imm (KOwn.named)),
-    ) (List._∷_ (37, Rows'.any-gone (Syntax.tyInt Syntax.w8)) (List._∷_ (
-      38,
-      Rows'.any-gone (KDecided.spelled),
-    ) (List._∷_ (
-      39,
-      Rows'.any-gone
-          (Syntax.tyStruct
-          (List._∷_
-          97
-          (List._∷_
-          110
-          (List._∷_
-          115
-          (List._∷_
-          119
-          (List._∷_
-          101
-          (List._∷_
-          114
-          (List._∷_
-          58
-          (List._∷_
-          58
-          (List._∷_
-          68
-          (List._∷_
-          101
-          (List._∷_
-          115
-          (List._∷_
-          116
-          (List._∷_
-          105
-          (List._∷_
-          110
-          (List._∷_
-          97
-          (List._∷_ 116 (List._∷_ 105 (List._∷_ 111 (List._∷_ 110 List.[])))))))))))))))))))
-          (Syntax.tcons
-          (Syntax.tyArray (Syntax.tyInt Syntax.w8) 16)
-          (Syntax.tcons
-          (Syntax.tyEnum
-          (List._∷_
-          97
-          (List._∷_
-          110
-          (List._∷_
-          115
-          (List._∷_
-          119
-          (List._∷_
-          101
-          (List._∷_
-          114
-          (List._∷_ 58 (List._∷_ 58 (List._∷_ 87 (List._∷_ 97 (List._∷_ 121 List.[])))))))))))
-          (Syntax.ttcons
-          Syntax.tnil
-          (Syntax.ttcons
-          Syntax.tnil
-          (Syntax.ttcons Syntax.tnil (Syntax.ttcons Syntax.tnil Syntax.ttnil)))))
-          Syntax.tnil))),
-    ) (List._∷_ (40, Rows'.any-gone (KPost.spelled)) (List._∷_ (
-      41,
-      Rows'.whole (Declared.row Destination.the-type),
-    )
-    (List._∷_ (42, Rows'.any-gone (KPost.spelled)) List.[]))))))))))
+      (Syntax.tyRef Syntax.erased Syntax.mut (KRouteRow.named)),
+) (List._∷_ (
+  36,
+  Rows'.any-gone
+      (Syntax.tyStruct
+      (List._∷_ 38 (List._∷_ 91 (List._∷_ 93 List.[])))
+      (Syntax.tcons
+      (Syntax.tyRef Syntax.erased Syntax.mut (KRouteRow.named))
+      (Syntax.tcons (Syntax.tyInt Syntax.w64) Syntax.tnil))),
+) (List._∷_ (37, Rows'.any-gone (Syntax.tyInt Syntax.w8)) (List._∷_ (
+  38,
+  Rows'.any-gone (KDecided.spelled),
+) (List._∷_ (
+  39,
+  Rows'.any-gone
+      (Syntax.tyStruct
+      (List._∷_
+      97
+      (List._∷_
+      110
+      (List._∷_
+      115
+      (List._∷_
+      119
+      (List._∷_
+      101
+      (List._∷_
+      114
+      (List._∷_
+      58
+      (List._∷_
+      58
+      (List._∷_
+      68
+      (List._∷_
+      101
+      (List._∷_
+      115
+      (List._∷_
+      116
+      (List._∷_
+      105
+      (List._∷_
+      110
+      (List._∷_
+      97
+      (List._∷_ 116 (List._∷_ 105 (List._∷_ 111 (List._∷_ 110 List.[])))))))))))))))))))
+      (Syntax.tcons
+      (Syntax.tyArray (Syntax.tyInt Syntax.w8) 16)
+      (Syntax.tcons
+      (Syntax.tyEnum
+      (List._∷_
+      97
+      (List._∷_
+      110
+      (List._∷_
+      115
+      (List._∷_
+      119
+      (List._∷_
+      101
+      (List._∷_
+      114
+      (List._∷_ 58 (List._∷_ 58 (List._∷_ 87 (List._∷_ 97 (List._∷_ 121 List.[])))))))))))
+      (Syntax.ttcons
+      Syntax.tnil
+      (Syntax.ttcons
+      Syntax.tnil
+      (Syntax.ttcons Syntax.tnil (Syntax.ttcons Syntax.tnil Syntax.ttnil)))))
+      Syntax.tnil))),
+) (List._∷_ (40, Rows'.any-gone (KPost.spelled)) (List._∷_ (
+  41,
+  Rows'.whole (Declared.row Destination.the-type),
+) (List._∷_ (42, Rows'.any-gone (KPost.spelled)) List.[]))))))))))
 
 abbrev pub t71 : List.List Row.Entry
 t71 = List._∷_ (0, Rows'.whole (Declared.row Outcome.the-type)) (List._∷_ (
@@ -13349,357 +12801,41 @@ t73 = List._∷_ (
       (Syntax.tcons
       (Syntax.tyRef Syntax.erased Syntax.imm (KRouteRow.named))
       (Syntax.tcons (Syntax.tyInt Syntax.w64) Syntax.tnil))),
+) (List._∷_ (25, Rows'.any-gone Syntax.tyBool) (List._∷_ (
+  26,
+  Rows'.any-gone (Syntax.tyRef Syntax.erased Syntax.mut (Syntax.tyInt Syntax.w8)),
+) (List._∷_ (
+  27,
+  Rows'.any-gone
+      (Syntax.tyStruct
+      (List._∷_ 38 (List._∷_ 91 (List._∷_ 93 List.[])))
+      (Syntax.tcons
+      (Syntax.tyRef Syntax.erased Syntax.mut (Syntax.tyInt Syntax.w8))
+      (Syntax.tcons (Syntax.tyInt Syntax.w64) Syntax.tnil))),
+) (List._∷_ (
+  28,
+  Rows'.any-gone
+      (Syntax.tyRef Syntax.erased Syntax.imm (KOwn.named)),
 )
-    (List._∷_
-    (25, Rows'.any-gone Syntax.tyBool)
-    (List._∷_ (26, Rows'.any-gone Syntax.tyUnit) (List._∷_ (
-      27,
-      Rows'.any-gone
-          (Syntax.tyRef Syntax.erased Syntax.mut (KInstanceRow.named)),
-    ) (List._∷_ (
-      28,
-      Rows'.any-gone
-          (Syntax.tyStruct
-          (List._∷_ 38 (List._∷_ 91 (List._∷_ 93 List.[])))
-          (Syntax.tcons
-          (Syntax.tyRef Syntax.erased Syntax.mut (KInstanceRow.named))
-          (Syntax.tcons (Syntax.tyInt Syntax.w64) Syntax.tnil))),
-    ) (List._∷_ (
+    (List._∷_ (
       29,
-      Rows'.any-gone
-          (Syntax.tyRef Syntax.erased Syntax.mut (KRouteRow.named)),
+      Rows'.any-gone (Syntax.tyRef Syntax.erased Syntax.mut (Syntax.tyInt Syntax.w8)),
     ) (List._∷_ (
       30,
       Rows'.any-gone
           (Syntax.tyStruct
           (List._∷_ 38 (List._∷_ 91 (List._∷_ 93 List.[])))
           (Syntax.tcons
-          (Syntax.tyRef Syntax.erased Syntax.mut (KRouteRow.named))
+          (Syntax.tyRef Syntax.erased Syntax.mut (Syntax.tyInt Syntax.w8))
           (Syntax.tcons (Syntax.tyInt Syntax.w64) Syntax.tnil))),
     ) (List._∷_ (
       31,
-      Rows'.any-gone (Syntax.tyRef Syntax.erased Syntax.mut (Syntax.tyInt Syntax.w8)),
+      Rows'.any-gone
+          (Syntax.tyRef Syntax.erased Syntax.imm (KOwn.named)),
     ) List.[])))))))))))))))
 
 abbrev pub t74 : List.List Row.Entry
 t74 = List._∷_ (
-  0,
-  Rows'.any-gone
-      (Syntax.tyStruct
-      (List._∷_
-      102
-      (List._∷_
-      105
-      (List._∷_
-      110
-      (List._∷_
-      105
-      (List._∷_
-      115
-      (List._∷_
-      104
-      (List._∷_
-      58
-      (List._∷_
-      58
-      (List._∷_
-      79
-      (List._∷_
-      117
-      (List._∷_ 116 (List._∷_ 99 (List._∷_ 111 (List._∷_ 109 (List._∷_ 101 List.[])))))))))))))))
-      (Syntax.tcons
-      (Syntax.tyStruct
-      (List._∷_
-      102
-      (List._∷_
-      105
-      (List._∷_
-      110
-      (List._∷_
-      105
-      (List._∷_
-      115
-      (List._∷_
-      104
-      (List._∷_
-      58
-      (List._∷_ 58 (List._∷_ 83 (List._∷_ 101 (List._∷_ 110 (List._∷_ 116 List.[]))))))))))))
-      (Syntax.tcons
-      (Syntax.tyStruct
-      (List._∷_
-      97
-      (List._∷_
-      110
-      (List._∷_
-      115
-      (List._∷_
-      119
-      (List._∷_
-      101
-      (List._∷_
-      114
-      (List._∷_
-      58
-      (List._∷_
-      58
-      (List._∷_
-      68
-      (List._∷_
-      101
-      (List._∷_
-      115
-      (List._∷_
-      116
-      (List._∷_
-      105
-      (List._∷_
-      110
-      (List._∷_
-      97
-      (List._∷_ 116 (List._∷_ 105 (List._∷_ 111 (List._∷_ 110 List.[])))))))))))))))))))
-      (Syntax.tcons
-      (Syntax.tyArray (Syntax.tyInt Syntax.w8) 16)
-      (Syntax.tcons
-      (Syntax.tyEnum
-      (List._∷_
-      97
-      (List._∷_
-      110
-      (List._∷_
-      115
-      (List._∷_
-      119
-      (List._∷_
-      101
-      (List._∷_
-      114
-      (List._∷_ 58 (List._∷_ 58 (List._∷_ 87 (List._∷_ 97 (List._∷_ 121 List.[])))))))))))
-      (Syntax.ttcons
-      Syntax.tnil
-      (Syntax.ttcons
-      Syntax.tnil
-      (Syntax.ttcons Syntax.tnil (Syntax.ttcons Syntax.tnil Syntax.ttnil)))))
-      Syntax.tnil)))
-      (Syntax.tcons (Syntax.tyInt Syntax.w64) Syntax.tnil)))
-      (Syntax.tcons
-      (Syntax.tyInt Syntax.w64)
-      (Syntax.tcons
-      (Syntax.tyStruct
-      (List._∷_
-      102
-      (List._∷_
-      105
-      (List._∷_
-      110
-      (List._∷_
-      105
-      (List._∷_
-      115
-      (List._∷_
-      104
-      (List._∷_
-      58
-      (List._∷_ 58 (List._∷_ 83 (List._∷_ 101 (List._∷_ 110 (List._∷_ 116 List.[]))))))))))))
-      (Syntax.tcons
-      (Syntax.tyStruct
-      (List._∷_
-      97
-      (List._∷_
-      110
-      (List._∷_
-      115
-      (List._∷_
-      119
-      (List._∷_
-      101
-      (List._∷_
-      114
-      (List._∷_
-      58
-      (List._∷_
-      58
-      (List._∷_
-      68
-      (List._∷_
-      101
-      (List._∷_
-      115
-      (List._∷_
-      116
-      (List._∷_
-      105
-      (List._∷_
-      110
-      (List._∷_
-      97
-      (List._∷_ 116 (List._∷_ 105 (List._∷_ 111 (List._∷_ 110 List.[])))))))))))))))))))
-      (Syntax.tcons
-      (Syntax.tyArray (Syntax.tyInt Syntax.w8) 16)
-      (Syntax.tcons
-      (Syntax.tyEnum
-      (List._∷_
-      97
-      (List._∷_
-      110
-      (List._∷_
-      115
-      (List._∷_
-      119
-      (List._∷_
-      101
-      (List._∷_
-      114
-      (List._∷_ 58 (List._∷_ 58 (List._∷_ 87 (List._∷_ 97 (List._∷_ 121 List.[])))))))))))
-      (Syntax.ttcons
-      Syntax.tnil
-      (Syntax.ttcons
-      Syntax.tnil
-      (Syntax.ttcons Syntax.tnil (Syntax.ttcons Syntax.tnil Syntax.ttnil)))))
-      Syntax.tnil)))
-      (Syntax.tcons (Syntax.tyInt Syntax.w64) Syntax.tnil)))
-      (Syntax.tcons
-      (Syntax.tyEnum
-      (List._∷_
-      97
-      (List._∷_
-      110
-      (List._∷_
-      115
-      (List._∷_
-      119
-      (List._∷_
-      101
-      (List._∷_
-      114
-      (List._∷_
-      58
-      (List._∷_
-      58
-      (List._∷_
-      65
-      (List._∷_ 110 (List._∷_ 115 (List._∷_ 119 (List._∷_ 101 (List._∷_ 114 List.[]))))))))))))))
-      (Syntax.ttcons
-      Syntax.tnil
-      (Syntax.ttcons
-      Syntax.tnil
-      (Syntax.ttcons
-      Syntax.tnil
-      (Syntax.ttcons
-      Syntax.tnil
-      (Syntax.ttcons
-      Syntax.tnil
-      (Syntax.ttcons
-      Syntax.tnil
-      (Syntax.ttcons
-      Syntax.tnil
-      (Syntax.ttcons
-      Syntax.tnil
-      (Syntax.ttcons
-      Syntax.tnil
-      (Syntax.ttcons
-      Syntax.tnil
-      (Syntax.ttcons
-      Syntax.tnil
-      (Syntax.ttcons
-      Syntax.tnil
-      (Syntax.ttcons
-      Syntax.tnil
-      (Syntax.ttcons
-      Syntax.tnil
-      (Syntax.ttcons
-      Syntax.tnil
-      (Syntax.ttcons
-      Syntax.tnil
-      (Syntax.ttcons Syntax.tnil (Syntax.ttcons Syntax.tnil Syntax.ttnil)))))))))))))))))))
-      (Syntax.tcons (Syntax.tyInt Syntax.w8) Syntax.tnil)))))),
-) (List._∷_ (
-  1,
-  Mut.mslice
-      (KInstanceRow.R)
-      (Syntax.tyRef (Syntax.named 0) Syntax.mut (KInstanceRow.named))
-      0,
-) (List._∷_ (
-  2,
-  Mut.mslice
-      (KRouteRow.R)
-      (Syntax.tyRef (Syntax.named 1) Syntax.mut (KRouteRow.named))
-      1,
-) (List._∷_ (
-  3,
-  Mut.mslice
-      (Referent.rtF (Referent.fInt Syntax.w8))
-      (Syntax.tyRef (Syntax.named 2) Syntax.mut (Syntax.tyInt Syntax.w8))
-      2,
-) (List._∷_ (
-  4,
-  Mut.mslice
-      (Referent.rtF (Referent.fInt Syntax.w8))
-      (Syntax.tyRef (Syntax.named 3) Syntax.mut (Syntax.tyInt Syntax.w8))
-      3,
-) (List._∷_ (5, Rows'.any-gone (KOwn.spelled)) (List._∷_ (
-  6,
-  Rows'.sc-here (Row.sInt Syntax.w64),
-) (List._∷_ (7, Rows'.sc-here (Row.sInt Syntax.w8)) (List._∷_ (
-  8,
-  Rows'.sc-here (Row.sInt Syntax.w64),
-) (List._∷_ (
-  9,
-  Rows'.sref
-      (Array'.Array (Array'.Array (Referent.rtF (Referent.fInt Syntax.w8)) 16) 16)
-      (Syntax.tyRef
-      (Syntax.named 4)
-      Syntax.imm
-      (Syntax.tyArray (Syntax.tyArray (Syntax.tyInt Syntax.w8) 16) 16))
-      4,
-) (List._∷_ (
-  10,
-  Rows'.sref
-      (KDecided.R)
-      (Syntax.tyRef (Syntax.named 5) Syntax.imm (KDecided.named))
-      5,
-) (List._∷_ (
-  11,
-  Rows'.sref
-      (KPost.R)
-      (Syntax.tyRef (Syntax.named 6) Syntax.imm (KPost.named))
-      6,
-) (List._∷_ (
-  12,
-  Rows'.sref
-      (KPost.R)
-      (Syntax.tyRef (Syntax.named 7) Syntax.imm (KPost.named))
-      7,
-) (List._∷_ (
-  13,
-  Rows'.any-gone
-      (Syntax.tyStruct
-      (List._∷_
-      102
-      (List._∷_
-      105
-      (List._∷_
-      110
-      (List._∷_
-      105
-      (List._∷_
-      115
-      (List._∷_
-      104
-      (List._∷_
-      58
-      (List._∷_ 58 (List._∷_ 76 (List._∷_ 105 (List._∷_ 118 (List._∷_ 101 List.[]))))))))))))
-      (Syntax.tcons
-      Syntax.tyBool
-      (Syntax.tcons
-      (Syntax.tyInt Syntax.w64)
-      (Syntax.tcons Syntax.tyBool (Syntax.tcons (Syntax.tyInt Syntax.w64) Syntax.tnil))))),
-) (List._∷_ (14, Rows'.any-gone (KOwn.spelled)) (List._∷_ (
-  15,
-  Rows'.whole (Declared.row Places.the-type),
-) List.[])))))))))))))))
-
-abbrev pub t75 : List.List Row.Entry
-t75 = List._∷_ (
   16,
   Rows'.any-gone
       (Syntax.tyStruct
@@ -13759,34 +12895,37 @@ t75 = List._∷_ (
       (Syntax.tcons
       (Syntax.tyRef Syntax.erased Syntax.imm (KRouteRow.named))
       (Syntax.tcons (Syntax.tyInt Syntax.w64) Syntax.tnil))),
-) (List._∷_ (25, Rows'.sc-here Row.sBool) (List._∷_ (26, Rows'.any-gone Syntax.tyUnit) (List._∷_ (
+) (List._∷_ (25, Rows'.sc-here Row.sBool) (List._∷_ (
+  26,
+  Rows'.any-gone (Syntax.tyRef Syntax.erased Syntax.mut (Syntax.tyInt Syntax.w8)),
+) (List._∷_ (
   27,
   Rows'.any-gone
-      (Syntax.tyRef Syntax.erased Syntax.mut (KInstanceRow.named)),
+      (Syntax.tyStruct
+      (List._∷_ 38 (List._∷_ 91 (List._∷_ 93 List.[])))
+      (Syntax.tcons
+      (Syntax.tyRef Syntax.erased Syntax.mut (Syntax.tyInt Syntax.w8))
+      (Syntax.tcons (Syntax.tyInt Syntax.w64) Syntax.tnil))),
 ) (List._∷_ (
   28,
   Rows'.any-gone
-      (Syntax.tyStruct
-      (List._∷_ 38 (List._∷_ 91 (List._∷_ 93 List.[])))
-      (Syntax.tcons
-      (Syntax.tyRef Syntax.erased Syntax.mut (KInstanceRow.named))
-      (Syntax.tcons (Syntax.tyInt Syntax.w64) Syntax.tnil))),
-) (List._∷_ (
-  29,
-  Rows'.any-gone
-      (Syntax.tyRef Syntax.erased Syntax.mut (KRouteRow.named)),
-) (List._∷_ (
-  30,
-  Rows'.any-gone
-      (Syntax.tyStruct
-      (List._∷_ 38 (List._∷_ 91 (List._∷_ 93 List.[])))
-      (Syntax.tcons
-      (Syntax.tyRef Syntax.erased Syntax.mut (KRouteRow.named))
-      (Syntax.tcons (Syntax.tyInt Syntax.w64) Syntax.tnil))),
+      (Syntax.tyRef Syntax.erased Syntax.imm (KOwn.named)),
 )
     (List._∷_ (
-      31,
+      29,
       Rows'.any-gone (Syntax.tyRef Syntax.erased Syntax.mut (Syntax.tyInt Syntax.w8)),
+    ) (List._∷_ (
+      30,
+      Rows'.any-gone
+          (Syntax.tyStruct
+          (List._∷_ 38 (List._∷_ 91 (List._∷_ 93 List.[])))
+          (Syntax.tcons
+          (Syntax.tyRef Syntax.erased Syntax.mut (Syntax.tyInt Syntax.w8))
+          (Syntax.tcons (Syntax.tyInt Syntax.w64) Syntax.tnil))),
+    ) (List._∷_ (
+      31,
+      Rows'.any-gone
+          (Syntax.tyRef Syntax.erased Syntax.imm (KOwn.named)),
     ) List.[])))))))))))))))
 
 abbrev pub T0 : Row.Cx
@@ -13888,71 +13027,71 @@ T39 = record { locals = List._++_ t31 (List._++_ t33 t2); slots = List.[] }
 abbrev pub T40 : Row.Cx
 T40 = record { locals = List._++_ t31 (List._++_ t34 t2); slots = List.[] }
 
-abbrev pub T41 : Row.Cx
-T41 = record { locals = List._++_ t35 (List._++_ t34 t2); slots = List.[] }
-
 abbrev pub T42 : Row.Cx
 T42 = record { locals = List._++_ t35 (List._++_ t36 t2); slots = List.[] }
 
 abbrev pub T43 : Row.Cx
-T43 = record { locals = List._++_ t35 (List._++_ t37 t2); slots = List.[] }
+T43 = record { locals = List._++_ t35 (List._++_ t36 t2); slots = List.[] }
 
-abbrev pub T45 : Row.Cx
-T45 = record { locals = List._++_ t38 (List._++_ t39 t2); slots = List.[] }
+abbrev pub T46 : Row.Cx
+T46 = record { locals = List._++_ t25 (List._++_ t36 t2); slots = List.[] }
 
-abbrev pub T48 : Row.Cx
-T48 = record { locals = List._++_ t40 (List._++_ t1 t2); slots = List.[] }
+abbrev pub T49 : Row.Cx
+T49 = record { locals = List._++_ t37 (List._++_ t38 t2); slots = List.[] }
 
-abbrev pub T51 : Row.Cx
-T51 = record { locals = List._++_ t41 (List._++_ t42 t2); slots = List.[] }
+abbrev pub T50 : Row.Cx
+T50 = record { locals = List._++_ t37 (List._++_ t39 t2); slots = List.[] }
 
 abbrev pub T52 : Row.Cx
-T52 = record { locals = List._++_ t41 (List._++_ t1 t43); slots = List.[] }
+T52 = record { locals = List._++_ t40 (List._++_ t41 t2); slots = List.[] }
+
+abbrev pub T53 : Row.Cx
+T53 = record { locals = List._++_ t40 (List._++_ t42 t2); slots = List.[] }
 
 abbrev pub T54 : Row.Cx
-T54 = record { locals = List._++_ t44 (List._++_ t1 t45); slots = List.[] }
-
-abbrev pub T55 : Row.Cx
-T55 = record { locals = List._++_ t44 (List._++_ t46 t47); slots = List.[] }
+T54 = record { locals = List._++_ t40 (List._++_ t43 t2); slots = List.[] }
 
 abbrev pub T56 : Row.Cx
-T56 = record { locals = List._++_ t44 (List._++_ t46 t48); slots = List.[] }
+T56 = record { locals = List._++_ t44 (List._++_ t45 t2); slots = List.[] }
 
-abbrev pub T58 : Row.Cx
-T58 = record { locals = List._++_ t49 (List._++_ t46 t2); slots = List.[] }
+abbrev pub T57 : Row.Cx
+T57 = record { locals = List._++_ t44 (List._++_ t45 t2); slots = List.[] }
 
-abbrev pub T59 : Row.Cx
-T59 = record { locals = List._++_ t49 (List._++_ t46 t2); slots = List.[] }
+abbrev pub T60 : Row.Cx
+T60 = record { locals = List._++_ t25 (List._++_ t45 t2); slots = List.[] }
 
 abbrev pub T62 : Row.Cx
-T62 = record { locals = List._++_ t40 (List._++_ t46 t2); slots = List.[] }
+T62 = record { locals = List._++_ t46 (List._++_ t45 t2); slots = List.[] }
+
+abbrev pub T64 : Row.Cx
+T64 = record { locals = List._++_ t47 (List._++_ t45 t48); slots = List.[] }
 
 abbrev pub T65 : Row.Cx
-T65 = record { locals = List._++_ t50 (List._++_ t46 t51); slots = List.[] }
+T65 = record { locals = List._++_ t47 (List._++_ t45 t49); slots = List.[] }
 
-abbrev pub T66 : Row.Cx
-T66 = record { locals = List._++_ t50 (List._++_ t46 t52); slots = List.[] }
+abbrev pub T67 : Row.Cx
+T67 = record { locals = List._++_ t50 (List._++_ t45 t51); slots = List.[] }
 
 abbrev pub T68 : Row.Cx
-T68 = record { locals = List._++_ t53 (List._++_ t46 t54); slots = List.[] }
+T68 = record { locals = List._++_ t50 (List._++_ t45 t52); slots = List.[] }
 
 abbrev pub T69 : Row.Cx
-T69 = record { locals = List._++_ t53 (List._++_ t55 t56); slots = List.[] }
+T69 = record { locals = List._++_ t50 (List._++_ t45 t53); slots = List.[] }
 
 abbrev pub T70 : Row.Cx
-T70 = record { locals = List._++_ t53 (List._++_ t55 t57); slots = List.[] }
+T70 = record { locals = List._++_ t54 (List._++_ t45 t53); slots = List.[] }
+
+abbrev pub T71 : Row.Cx
+T71 = record { locals = List._++_ t54 (List._++_ t55 t53); slots = List.[] }
 
 abbrev pub T72 : Row.Cx
-T72 = record { locals = List._++_ t58 (List._++_ t55 t2); slots = List.[] }
+T72 = record { locals = List._++_ t54 (List._++_ t55 t56); slots = List.[] }
 
-abbrev pub T73 : Row.Cx
-T73 = record { locals = List._++_ t58 (List._++_ t55 t2); slots = List.[] }
+abbrev pub T74 : Row.Cx
+T74 = record { locals = List._++_ t57 (List._++_ t55 t58); slots = List.[] }
 
-abbrev pub T76 : Row.Cx
-T76 = record { locals = List._++_ t40 (List._++_ t55 t2); slots = List.[] }
-
-abbrev pub T78 : Row.Cx
-T78 = record { locals = List._++_ t27 (List._++_ t55 t2); slots = List.[] }
+abbrev pub T77 : Row.Cx
+T77 = record { locals = List._++_ t27 (List._++_ t55 t2); slots = List.[] }
 
 abbrev pub T79 : Row.Cx
 T79 = record { locals = List._++_ t27 (List._++_ t55 t59); slots = List.[] }
@@ -14009,13 +13148,13 @@ abbrev pub T96 : Row.Cx
 T96 = record { locals = List._++_ t3 (List._++_ t1 t2); slots = List.[] }
 
 abbrev pub T97 : Row.Cx
-T97 = record { locals = List._++_ t74 (List._++_ t26 t2); slots = List.[] }
+T97 = record { locals = List._++_ t46 (List._++_ t26 t2); slots = List.[] }
 
 abbrev pub T98 : Row.Cx
 T98 = record { locals = List._++_ t27 (List._++_ t26 t2); slots = List.[] }
 
 abbrev pub T99 : Row.Cx
-T99 = record { locals = List._++_ t27 (List._++_ t75 t2); slots = List.[] }
+T99 = record { locals = List._++_ t27 (List._++_ t74 t2); slots = List.[] }
 
 abbrev pub T100 : Row.Cx
 T100 = record { locals = List._++_ t27 (List._++_ t1 t2); slots = List.[] }
@@ -14399,31 +13538,31 @@ module _ (claims· : Claims) where
   abbrev s32 : Typed.Gives T33 T35
   s32 =
       Relend.k-sl-relend
-      (KInstanceRow.R)
+      (Referent.rtF (Referent.fInt Syntax.w8))
       T33
-      1
-      27
-      0
+      3
+      26
+      2
       10
-      (Syntax.tyRef (Syntax.named 0) Syntax.mut (KInstanceRow.named))
-      (Syntax.tyRef Syntax.erased Syntax.mut (KInstanceRow.named))
+      (Syntax.tyRef (Syntax.named 2) Syntax.mut (Syntax.tyInt Syntax.w8))
+      (Syntax.tyRef Syntax.erased Syntax.mut (Syntax.tyInt Syntax.w8))
       Row.off
       λ x. x
 
   abbrev s33 : Typed.Asks T35 T36
   s33 =
       Relend.k-sl-aggregate
-      (KInstanceRow.R)
-      (Relend.asMut (KInstanceRow.R))
+      (Referent.rtF (Referent.fInt Syntax.w8))
+      (Relend.asMut (Referent.rtF (Referent.fInt Syntax.w8)))
       T35
+      26
       27
-      28
       10
-      (Syntax.tyRef Syntax.erased Syntax.mut (KInstanceRow.named))
-      (Syntax.tyRef Syntax.erased Syntax.mut (KInstanceRow.named))
+      (Syntax.tyRef Syntax.erased Syntax.mut (Syntax.tyInt Syntax.w8))
+      (Syntax.tyRef Syntax.erased Syntax.mut (Syntax.tyInt Syntax.w8))
       (λ x. x)
       (Scalar.oFld
-      1
+      3
       (List._∷_ (Syntax.field 1) List.[])
       (Syntax.tyInt Syntax.w64)
       8
@@ -14432,27 +13571,268 @@ module _ (claims· : Claims) where
 
   abbrev s35 : Typed.Gives T36 T38
   s35 =
+      Local.k-sc-share
+      T36
+      14
+      28
+      11
+      (KOwn.R)
+      (Syntax.tyRef Syntax.erased Syntax.imm (KOwn.named))
+      λ x. x
+
+  abbrev s36 : Typed.Both T38 T39
+  s36 = Call.callB ps·5 r·5 (claims· .10) (claims· .11) T38 (
+    record {
+      pos = 27;
+      ty = Syntax.tyRef Syntax.erased Syntax.mut (Syntax.tyInt Syntax.w8);
+      ref = λ x. x;
+    },
+    (
+      record {
+        pos = 28;
+        ty = Syntax.tyRef Syntax.erased Syntax.imm (KOwn.named);
+        ref = λ x. x;
+      },
+      (
+        record {
+          pos = 11;
+          ty = Syntax.tyRef
+              (Syntax.named 6)
+              Syntax.imm
+              (KPost.named);
+          ref = λ x. x;
+        },
+        (
+          record {
+            pos = 9;
+            ty = Syntax.tyRef
+                (Syntax.named 4)
+                Syntax.imm
+                (Syntax.tyArray (Syntax.tyArray (Syntax.tyInt Syntax.w8) 16) 16);
+            ref = λ x. x;
+          },
+          tt,
+        ),
+      ),
+    ),
+  ) 17 (List._∷_ 10 (List._∷_ 11 (List._∷_ 6 (List._∷_ 4 List.[])))) (Syntax.tyInt Syntax.w64)
+
+  abbrev s37 : Typed.Mo T39 → Typed.Mo T40
+  s37 =
+      Scalar.n-room
+      T39
+      28
+      (Syntax.tyRef Syntax.erased Syntax.imm (KOwn.named))
+
+  abbrev s39 : Typed.Both T40 T42
+  s39 =
+      Relend.k-back-sl
+      (Referent.rtF (Referent.fInt Syntax.w8))
+      T40
+      27
+      3
+      2
+      10
+      (Syntax.tyRef (Syntax.named 2) Syntax.mut (Syntax.tyInt Syntax.w8))
+      (Syntax.tyRef Syntax.erased Syntax.mut (Syntax.tyInt Syntax.w8))
+      Row.off
+      (λ x. x)
+      λ x. x
+
+  abbrev s40 : Typed.Gives T42 T43
+  s40 =
+      Know.k-sl-known
+      (Referent.fInt Syntax.w8)
+      T42
+      3
+      2
+      (Syntax.tyRef (Syntax.named 2) Syntax.mut (Syntax.tyInt Syntax.w8))
+      Row.off
+      0
+      λ x. x
+
+  abbrev s43 : Typed.Mo T43 → Typed.Mo T46
+  s43 = Local.n-back-shr T43 14 11 (KOwn.row) λ x. x
+
+  abbrev s46 : Typed.Gives T46 T49
+  s46 =
+      Relend.k-sl-relend
+      (Referent.rtF (Referent.fInt Syntax.w8))
+      T46
+      4
+      29
+      3
+      12
+      (Syntax.tyRef (Syntax.named 3) Syntax.mut (Syntax.tyInt Syntax.w8))
+      (Syntax.tyRef Syntax.erased Syntax.mut (Syntax.tyInt Syntax.w8))
+      Row.off
+      λ x. x
+
+  abbrev s47 : Typed.Asks T49 T50
+  s47 =
+      Relend.k-sl-aggregate
+      (Referent.rtF (Referent.fInt Syntax.w8))
+      (Relend.asMut (Referent.rtF (Referent.fInt Syntax.w8)))
+      T49
+      29
+      30
+      12
+      (Syntax.tyRef Syntax.erased Syntax.mut (Syntax.tyInt Syntax.w8))
+      (Syntax.tyRef Syntax.erased Syntax.mut (Syntax.tyInt Syntax.w8))
+      (λ x. x)
+      (Scalar.oFld
+      4
+      (List._∷_ (Syntax.field 1) List.[])
+      (Syntax.tyInt Syntax.w64)
+      8
+      λ v. Shared.lenV
+      (v .0))
+
+  abbrev s49 : Typed.Gives T50 T52
+  s49 =
+      Local.k-sc-share
+      T50
+      14
+      31
+      13
+      (KOwn.R)
+      (Syntax.tyRef Syntax.erased Syntax.imm (KOwn.named))
+      λ x. x
+
+  abbrev s50 : Typed.Both T52 T53
+  s50 = Call.callB ps·5 r·5 (claims· .10) (claims· .11) T52 (
+    record {
+      pos = 30;
+      ty = Syntax.tyRef Syntax.erased Syntax.mut (Syntax.tyInt Syntax.w8);
+      ref = λ x. x;
+    },
+    (
+      record {
+        pos = 31;
+        ty = Syntax.tyRef Syntax.erased Syntax.imm (KOwn.named);
+        ref = λ x. x;
+      },
+      (
+        record {
+          pos = 12;
+          ty = Syntax.tyRef
+              (Syntax.named 7)
+              Syntax.imm
+              (KPost.named);
+          ref = λ x. x;
+        },
+        (
+          record {
+            pos = 9;
+            ty = Syntax.tyRef
+                (Syntax.named 4)
+                Syntax.imm
+                (Syntax.tyArray (Syntax.tyArray (Syntax.tyInt Syntax.w8) 16) 16);
+            ref = λ x. x;
+          },
+          tt,
+        ),
+      ),
+    ),
+  ) 18 (List._∷_ 12 (List._∷_ 13 (List._∷_ 7 (List._∷_ 4 List.[])))) (Syntax.tyInt Syntax.w64)
+
+  abbrev s51 : Typed.Mo T53 → Typed.Mo T54
+  s51 =
+      Scalar.n-room
+      T53
+      31
+      (Syntax.tyRef Syntax.erased Syntax.imm (KOwn.named))
+
+  abbrev s53 : Typed.Both T54 T56
+  s53 =
+      Relend.k-back-sl
+      (Referent.rtF (Referent.fInt Syntax.w8))
+      T54
+      30
+      4
+      3
+      12
+      (Syntax.tyRef (Syntax.named 3) Syntax.mut (Syntax.tyInt Syntax.w8))
+      (Syntax.tyRef Syntax.erased Syntax.mut (Syntax.tyInt Syntax.w8))
+      Row.off
+      (λ x. x)
+      λ x. x
+
+  abbrev s54 : Typed.Gives T56 T57
+  s54 =
+      Know.k-sl-known
+      (Referent.fInt Syntax.w8)
+      T56
+      4
+      3
+      (Syntax.tyRef (Syntax.named 3) Syntax.mut (Syntax.tyInt Syntax.w8))
+      Row.off
+      0
+      λ x. x
+
+  abbrev s57 : Typed.Mo T57 → Typed.Mo T60
+  s57 = Local.n-back-shr T57 14 13 (KOwn.row) λ x. x
+
+  abbrev s59 : Typed.Mo T60 → Typed.Mo T62
+  s59 = Scalar.n-room T60 14 (KOwn.spelled)
+
+  abbrev s61 : Typed.Gives T62 T64
+  s61 =
+      Relend.k-sl-relend
+      (KInstanceRow.R)
+      T62
+      1
+      33
+      0
+      14
+      (Syntax.tyRef (Syntax.named 0) Syntax.mut (KInstanceRow.named))
+      (Syntax.tyRef Syntax.erased Syntax.mut (KInstanceRow.named))
+      Row.off
+      λ x. x
+
+  abbrev s62 : Typed.Asks T64 T65
+  s62 =
+      Relend.k-sl-aggregate
+      (KInstanceRow.R)
+      (Relend.asMut (KInstanceRow.R))
+      T64
+      33
+      34
+      14
+      (Syntax.tyRef Syntax.erased Syntax.mut (KInstanceRow.named))
+      (Syntax.tyRef Syntax.erased Syntax.mut (KInstanceRow.named))
+      (λ x. x)
+      (Scalar.oFld
+      1
+      (List._∷_ (Syntax.field 1) List.[])
+      (Syntax.tyInt Syntax.w64)
+      8
+      λ v. Shared.lenV
+      (v .0))
+
+  abbrev s64 : Typed.Gives T65 T67
+  s64 =
       Relend.k-sl-relend
       (KRouteRow.R)
-      T36
+      T65
       2
-      29
+      35
       1
-      11
+      15
       (Syntax.tyRef (Syntax.named 1) Syntax.mut (KRouteRow.named))
       (Syntax.tyRef Syntax.erased Syntax.mut (KRouteRow.named))
       Row.off
       λ x. x
 
-  abbrev s36 : Typed.Asks T38 T39
-  s36 =
+  abbrev s65 : Typed.Asks T67 T68
+  s65 =
       Relend.k-sl-aggregate
       (KRouteRow.R)
       (Relend.asMut (KRouteRow.R))
-      T38
-      29
-      30
-      11
+      T67
+      35
+      36
+      15
       (Syntax.tyRef Syntax.erased Syntax.mut (KRouteRow.named))
       (Syntax.tyRef Syntax.erased Syntax.mut (KRouteRow.named))
       (λ x. x)
@@ -14464,16 +13844,16 @@ module _ (claims· : Claims) where
       λ v. Shared.lenV
       (v .0))
 
-  abbrev s37 : Typed.Both T39 T40
-  s37 = Call.callB ps·5 r·5 (claims· .10) (claims· .11) T39 (
+  abbrev s66 : Typed.Both T68 T69
+  s66 = Call.callB ps·6 r·6 (claims· .12) (claims· .13) T68 (
     record {
-      pos = 28;
+      pos = 34;
       ty = Syntax.tyRef Syntax.erased Syntax.mut (KInstanceRow.named);
       ref = λ x. x;
     },
     (
       record {
-        pos = 30;
+        pos = 36;
         ty = Syntax.tyRef Syntax.erased Syntax.mut (KRouteRow.named);
         ref = λ x. x;
       },
@@ -14500,12 +13880,12 @@ module _ (claims· : Claims) where
         ),
       ),
     ),
-  ) 26 (List._∷_ 10 (List._∷_ 11 (List._∷_ 5 List.[]))) Syntax.tyUnit
+  ) 32 (List._∷_ 14 (List._∷_ 15 (List._∷_ 5 List.[]))) Syntax.tyUnit
 
-  abbrev s38 : Typed.Mo T40 → Typed.Mo T41
-  s38 =
+  abbrev s67 : Typed.Mo T69 → Typed.Mo T70
+  s67 =
       Scalar.n-room
-      T40
+      T69
       15
       (Syntax.tyStruct
       (List._∷_
@@ -14531,10 +13911,10 @@ module _ (claims· : Claims) where
       (Syntax.tyInt Syntax.w64)
       (Syntax.tcons (Syntax.tyInt Syntax.w64) Syntax.tnil))))
 
-  abbrev s39 : Typed.Mo T41 → Typed.Mo T42
-  s39 =
+  abbrev s68 : Typed.Mo T70 → Typed.Mo T71
+  s68 =
       Scalar.n-room
-      T41
+      T70
       16
       (Syntax.tyStruct
       (List._∷_
@@ -14564,284 +13944,43 @@ module _ (claims· : Claims) where
       (List._∷_ 80 (List._∷_ 108 (List._∷_ 97 (List._∷_ 99 (List._∷_ 101 List.[])))))))))))))))))
       (Syntax.tcons Syntax.tyBool (Syntax.tcons (Syntax.tyInt Syntax.w64) Syntax.tnil)))
 
-  abbrev s40 : Typed.Mo T42 → Typed.Mo T43
-  s40 = Scalar.n-room T42 26 Syntax.tyUnit
+  abbrev s69 : Typed.Mo T71 → Typed.Mo T72
+  s69 = Scalar.n-room T71 32 Syntax.tyUnit
 
-  abbrev s42 : Typed.Both T43 T45
-  s42 =
+  abbrev s71 : Typed.Both T72 T74
+  s71 =
       Relend.k-back-sl
       (KInstanceRow.R)
-      T43
-      28
+      T72
+      34
       1
       0
-      10
+      14
       (Syntax.tyRef (Syntax.named 0) Syntax.mut (KInstanceRow.named))
       (Syntax.tyRef Syntax.erased Syntax.mut (KInstanceRow.named))
       Row.off
       (λ x. x)
       λ x. x
 
-  abbrev s45 : Typed.Both T45 T48
-  s45 =
+  abbrev s74 : Typed.Both T74 T77
+  s74 =
       Relend.k-back-sl
       (KRouteRow.R)
-      T45
-      30
+      T74
+      36
       2
       1
-      11
+      15
       (Syntax.tyRef (Syntax.named 1) Syntax.mut (KRouteRow.named))
       (Syntax.tyRef Syntax.erased Syntax.mut (KRouteRow.named))
       Row.off
       (λ x. x)
       λ x. x
 
-  abbrev s48 : Typed.Gives T48 T51
-  s48 =
-      Relend.k-sl-relend
-      (Referent.rtF (Referent.fInt Syntax.w8))
-      T48
-      3
-      31
-      2
-      12
-      (Syntax.tyRef (Syntax.named 2) Syntax.mut (Syntax.tyInt Syntax.w8))
-      (Syntax.tyRef Syntax.erased Syntax.mut (Syntax.tyInt Syntax.w8))
-      Row.off
-      λ x. x
-
-  abbrev s49 : Typed.Asks T51 T52
-  s49 =
-      Relend.k-sl-aggregate
-      (Referent.rtF (Referent.fInt Syntax.w8))
-      (Relend.asMut (Referent.rtF (Referent.fInt Syntax.w8)))
-      T51
-      31
-      32
-      12
-      (Syntax.tyRef Syntax.erased Syntax.mut (Syntax.tyInt Syntax.w8))
-      (Syntax.tyRef Syntax.erased Syntax.mut (Syntax.tyInt Syntax.w8))
-      (λ x. x)
-      (Scalar.oFld
-      3
-      (List._∷_ (Syntax.field 1) List.[])
-      (Syntax.tyInt Syntax.w64)
-      8
-      λ v. Shared.lenV
-      (v .0))
-
-  abbrev s51 : Typed.Gives T52 T54
-  s51 =
-      Local.k-sc-share
-      T52
-      14
-      33
-      13
-      (KOwn.R)
-      (Syntax.tyRef Syntax.erased Syntax.imm (KOwn.named))
-      λ x. x
-
-  abbrev s52 : Typed.Both T54 T55
-  s52 = Call.callB ps·6 r·6 (claims· .12) (claims· .13) T54 (
-    record {
-      pos = 32;
-      ty = Syntax.tyRef Syntax.erased Syntax.mut (Syntax.tyInt Syntax.w8);
-      ref = λ x. x;
-    },
-    (
-      record {
-        pos = 33;
-        ty = Syntax.tyRef Syntax.erased Syntax.imm (KOwn.named);
-        ref = λ x. x;
-      },
-      (
-        record {
-          pos = 11;
-          ty = Syntax.tyRef
-              (Syntax.named 6)
-              Syntax.imm
-              (KPost.named);
-          ref = λ x. x;
-        },
-        (
-          record {
-            pos = 9;
-            ty = Syntax.tyRef
-                (Syntax.named 4)
-                Syntax.imm
-                (Syntax.tyArray (Syntax.tyArray (Syntax.tyInt Syntax.w8) 16) 16);
-            ref = λ x. x;
-          },
-          tt,
-        ),
-      ),
-    ),
-  ) 17 (List._∷_ 12 (List._∷_ 13 (List._∷_ 6 (List._∷_ 4 List.[])))) (Syntax.tyInt Syntax.w64)
-
-  abbrev s53 : Typed.Mo T55 → Typed.Mo T56
-  s53 =
-      Scalar.n-room
-      T55
-      33
-      (Syntax.tyRef Syntax.erased Syntax.imm (KOwn.named))
-
-  abbrev s55 : Typed.Both T56 T58
-  s55 =
-      Relend.k-back-sl
-      (Referent.rtF (Referent.fInt Syntax.w8))
-      T56
-      32
-      3
-      2
-      12
-      (Syntax.tyRef (Syntax.named 2) Syntax.mut (Syntax.tyInt Syntax.w8))
-      (Syntax.tyRef Syntax.erased Syntax.mut (Syntax.tyInt Syntax.w8))
-      Row.off
-      (λ x. x)
-      λ x. x
-
-  abbrev s56 : Typed.Gives T58 T59
-  s56 =
-      Know.k-sl-known
-      (Referent.fInt Syntax.w8)
-      T58
-      3
-      2
-      (Syntax.tyRef (Syntax.named 2) Syntax.mut (Syntax.tyInt Syntax.w8))
-      Row.off
-      0
-      λ x. x
-
-  abbrev s59 : Typed.Mo T59 → Typed.Mo T62
-  s59 = Local.n-back-shr T59 14 13 (KOwn.row) λ x. x
-
-  abbrev s62 : Typed.Gives T62 T65
-  s62 =
-      Relend.k-sl-relend
-      (Referent.rtF (Referent.fInt Syntax.w8))
-      T62
-      4
-      34
-      3
-      14
-      (Syntax.tyRef (Syntax.named 3) Syntax.mut (Syntax.tyInt Syntax.w8))
-      (Syntax.tyRef Syntax.erased Syntax.mut (Syntax.tyInt Syntax.w8))
-      Row.off
-      λ x. x
-
-  abbrev s63 : Typed.Asks T65 T66
-  s63 =
-      Relend.k-sl-aggregate
-      (Referent.rtF (Referent.fInt Syntax.w8))
-      (Relend.asMut (Referent.rtF (Referent.fInt Syntax.w8)))
-      T65
-      34
-      35
-      14
-      (Syntax.tyRef Syntax.erased Syntax.mut (Syntax.tyInt Syntax.w8))
-      (Syntax.tyRef Syntax.erased Syntax.mut (Syntax.tyInt Syntax.w8))
-      (λ x. x)
-      (Scalar.oFld
-      4
-      (List._∷_ (Syntax.field 1) List.[])
-      (Syntax.tyInt Syntax.w64)
-      8
-      λ v. Shared.lenV
-      (v .0))
-
-  abbrev s65 : Typed.Gives T66 T68
-  s65 =
-      Local.k-sc-share
-      T66
-      14
-      36
-      15
-      (KOwn.R)
-      (Syntax.tyRef Syntax.erased Syntax.imm (KOwn.named))
-      λ x. x
-
-  abbrev s66 : Typed.Both T68 T69
-  s66 = Call.callB ps·6 r·6 (claims· .12) (claims· .13) T68 (
-    record {
-      pos = 35;
-      ty = Syntax.tyRef Syntax.erased Syntax.mut (Syntax.tyInt Syntax.w8);
-      ref = λ x. x;
-    },
-    (
-      record {
-        pos = 36;
-        ty = Syntax.tyRef Syntax.erased Syntax.imm (KOwn.named);
-        ref = λ x. x;
-      },
-      (
-        record {
-          pos = 12;
-          ty = Syntax.tyRef
-              (Syntax.named 7)
-              Syntax.imm
-              (KPost.named);
-          ref = λ x. x;
-        },
-        (
-          record {
-            pos = 9;
-            ty = Syntax.tyRef
-                (Syntax.named 4)
-                Syntax.imm
-                (Syntax.tyArray (Syntax.tyArray (Syntax.tyInt Syntax.w8) 16) 16);
-            ref = λ x. x;
-          },
-          tt,
-        ),
-      ),
-    ),
-  ) 18 (List._∷_ 14 (List._∷_ 15 (List._∷_ 7 (List._∷_ 4 List.[])))) (Syntax.tyInt Syntax.w64)
-
-  abbrev s67 : Typed.Mo T69 → Typed.Mo T70
-  s67 =
-      Scalar.n-room
-      T69
-      36
-      (Syntax.tyRef Syntax.erased Syntax.imm (KOwn.named))
-
-  abbrev s69 : Typed.Both T70 T72
-  s69 =
-      Relend.k-back-sl
-      (Referent.rtF (Referent.fInt Syntax.w8))
-      T70
-      35
-      4
-      3
-      14
-      (Syntax.tyRef (Syntax.named 3) Syntax.mut (Syntax.tyInt Syntax.w8))
-      (Syntax.tyRef Syntax.erased Syntax.mut (Syntax.tyInt Syntax.w8))
-      Row.off
-      (λ x. x)
-      λ x. x
-
-  abbrev s70 : Typed.Gives T72 T73
-  s70 =
-      Know.k-sl-known
-      (Referent.fInt Syntax.w8)
-      T72
-      4
-      3
-      (Syntax.tyRef (Syntax.named 3) Syntax.mut (Syntax.tyInt Syntax.w8))
-      Row.off
-      0
-      λ x. x
-
-  abbrev s73 : Typed.Mo T73 → Typed.Mo T76
-  s73 = Local.n-back-shr T73 14 15 (KOwn.row) λ x. x
-
-  abbrev s75 : Typed.Mo T76 → Typed.Mo T78
-  s75 = Scalar.n-room T76 14 (KOwn.spelled)
-
-  abbrev s76 : Typed.Gives T78 T79
+  abbrev s76 : Typed.Gives T77 T79
   s76 =
       DerefMove.k-ref-read-copy
-      T78
+      T77
       10
       38
       5
@@ -15740,9 +14879,9 @@ module _ (claims· : Claims) where
           (claims· .3) "place::place_rows") (known2 : Plain.Known 𝓤 H A W 𝓣 0 ps·2 r·2 (claims· .4)
           (claims· .5) "finish::is_routed") (known3 : Plain.Known 𝓤 H A W 𝓣 1 ps·3 r·3 (claims· .6)
           (claims· .7) "place::place_route") (known4 : Plain.Known 𝓤 H A W 𝓣 0 ps·4 r·4
-          (claims· .8) (claims· .9) "finish::has_room") (known5 : Plain.Known 𝓤 H A W 𝓣 3 ps·5 r·5
-          (claims· .10) (claims· .11) "finish::store") (known6 : Plain.Known 𝓤 H A W 𝓣 4 ps·6 r·6
-          (claims· .12) (claims· .13) "post::put_post") (known7 : Plain.Known 𝓤 H A W 𝓣 0 ps·7 r·7
+          (claims· .8) (claims· .9) "finish::has_room") (known5 : Plain.Known 𝓤 H A W 𝓣 4 ps·5 r·5
+          (claims· .10) (claims· .11) "post::put_post") (known6 : Plain.Known 𝓤 H A W 𝓣 3 ps·6 r·6
+          (claims· .12) (claims· .13) "finish::store") (known7 : Plain.Known 𝓤 H A W 𝓣 0 ps·7 r·7
           (claims· .14) (claims· .15) "finish::own_of") (known8 : Plain.Known 𝓤 H A W 𝓣 0 ps·8 r·8
           (claims· .16) (claims· .17) "finish::to_of") (known9 : Plain.Known 𝓤 H A W 𝓣 0 ps·9 r·9
           (claims· .18) (claims· .19) "finish::accepted") (known10 : Plain.Known 𝓤 H A W 𝓣 0 ps·10
@@ -15805,32 +14944,32 @@ module _ (claims· : Claims) where
       abbrev at17 : Typed.TF T79 O1
       at17 = λ Ψ. Typed.both s77 (at16 Ψ)
 
-      abbrev at18 : Typed.TF T78 O1
+      abbrev at18 : Typed.TF T77 O1
       at18 = λ Ψ. Typed.give s76 (at17 Ψ)
 
-      abbrev at19 : Typed.TF T76 O1
-      at19 = λ Ψ. Typed.pass T76 T78 s75 (at18 Ψ)
+      abbrev at19 : Typed.TF T77 O1
+      at19 = λ Ψ. at18 Ψ
 
-      abbrev at20 : Typed.TF T76 O1
-      at20 = λ Ψ. at19 Ψ
+      abbrev at20 : Typed.TF T74 O1
+      at20 = λ Ψ. Typed.both s74 (at19 Ψ)
 
-      abbrev at21 : Typed.TF T73 O1
-      at21 = λ Ψ. Typed.pass T73 T76 s73 (at20 Ψ)
+      abbrev at21 : Typed.TF T74 O1
+      at21 = λ Ψ. at20 Ψ
 
-      abbrev at22 : Typed.TF T73 O1
+      abbrev at22 : Typed.TF T74 O1
       at22 = λ Ψ. at21 Ψ
 
-      abbrev at23 : Typed.TF T73 O1
-      at23 = λ Ψ. at22 Ψ
+      abbrev at23 : Typed.TF T72 O1
+      at23 = λ Ψ. Typed.both s71 (at22 Ψ)
 
       abbrev at24 : Typed.TF T72 O1
-      at24 = λ Ψ. Typed.give s70 (at23 Ψ)
+      at24 = λ Ψ. at23 Ψ
 
-      abbrev at25 : Typed.TF T70 O1
-      at25 = λ Ψ. Typed.both s69 (at24 Ψ)
+      abbrev at25 : Typed.TF T71 O1
+      at25 = λ Ψ. Typed.pass T71 T72 s69 (at24 Ψ)
 
       abbrev at26 : Typed.TF T70 O1
-      at26 = λ Ψ. at25 Ψ
+      at26 = λ Ψ. Typed.pass T70 T71 s68 (at25 Ψ)
 
       abbrev at27 : Typed.TF T69 O1
       at27 = λ Ψ. Typed.pass T69 T70 s67 (at26 Ψ)
@@ -15838,95 +14977,95 @@ module _ (claims· : Claims) where
       abbrev at28 : Typed.TF T68 O1
       at28 = λ Ψ. Typed.both s66 (at27 Ψ)
 
-      abbrev at29 : Typed.TF T66 O1
-      at29 = λ Ψ. Typed.give s65 (at28 Ψ)
+      abbrev at29 : Typed.TF T67 O1
+      at29 = λ Ψ. Typed.ask s65 (at28 Ψ)
 
-      abbrev at30 : Typed.TF T66 O1
-      at30 = λ Ψ. at29 Ψ
+      abbrev at30 : Typed.TF T65 O1
+      at30 = λ Ψ. Typed.give s64 (at29 Ψ)
 
       abbrev at31 : Typed.TF T65 O1
-      at31 = λ Ψ. Typed.ask s63 (at30 Ψ)
+      at31 = λ Ψ. at30 Ψ
 
-      abbrev at32 : Typed.TF T62 O1
-      at32 = λ Ψ. Typed.give s62 (at31 Ψ)
+      abbrev at32 : Typed.TF T64 O1
+      at32 = λ Ψ. Typed.ask s62 (at31 Ψ)
 
       abbrev at33 : Typed.TF T62 O1
-      at33 = λ Ψ. at32 Ψ
+      at33 = λ Ψ. Typed.give s61 (at32 Ψ)
 
       abbrev at34 : Typed.TF T62 O1
       at34 = λ Ψ. at33 Ψ
 
-      abbrev at35 : Typed.TF T59 O1
-      at35 = λ Ψ. Typed.pass T59 T62 s59 (at34 Ψ)
+      abbrev at35 : Typed.TF T60 O1
+      at35 = λ Ψ. Typed.pass T60 T62 s59 (at34 Ψ)
 
-      abbrev at36 : Typed.TF T59 O1
+      abbrev at36 : Typed.TF T60 O1
       at36 = λ Ψ. at35 Ψ
 
-      abbrev at37 : Typed.TF T59 O1
-      at37 = λ Ψ. at36 Ψ
+      abbrev at37 : Typed.TF T57 O1
+      at37 = λ Ψ. Typed.pass T57 T60 s57 (at36 Ψ)
 
-      abbrev at38 : Typed.TF T58 O1
-      at38 = λ Ψ. Typed.give s56 (at37 Ψ)
+      abbrev at38 : Typed.TF T57 O1
+      at38 = λ Ψ. at37 Ψ
 
-      abbrev at39 : Typed.TF T56 O1
-      at39 = λ Ψ. Typed.both s55 (at38 Ψ)
+      abbrev at39 : Typed.TF T57 O1
+      at39 = λ Ψ. at38 Ψ
 
       abbrev at40 : Typed.TF T56 O1
-      at40 = λ Ψ. at39 Ψ
+      at40 = λ Ψ. Typed.give s54 (at39 Ψ)
 
-      abbrev at41 : Typed.TF T55 O1
-      at41 = λ Ψ. Typed.pass T55 T56 s53 (at40 Ψ)
+      abbrev at41 : Typed.TF T54 O1
+      at41 = λ Ψ. Typed.both s53 (at40 Ψ)
 
       abbrev at42 : Typed.TF T54 O1
-      at42 = λ Ψ. Typed.both s52 (at41 Ψ)
+      at42 = λ Ψ. at41 Ψ
 
-      abbrev at43 : Typed.TF T52 O1
-      at43 = λ Ψ. Typed.give s51 (at42 Ψ)
+      abbrev at43 : Typed.TF T53 O1
+      at43 = λ Ψ. Typed.pass T53 T54 s51 (at42 Ψ)
 
       abbrev at44 : Typed.TF T52 O1
-      at44 = λ Ψ. at43 Ψ
+      at44 = λ Ψ. Typed.both s50 (at43 Ψ)
 
-      abbrev at45 : Typed.TF T51 O1
-      at45 = λ Ψ. Typed.ask s49 (at44 Ψ)
+      abbrev at45 : Typed.TF T50 O1
+      at45 = λ Ψ. Typed.give s49 (at44 Ψ)
 
-      abbrev at46 : Typed.TF T48 O1
-      at46 = λ Ψ. Typed.give s48 (at45 Ψ)
+      abbrev at46 : Typed.TF T50 O1
+      at46 = λ Ψ. at45 Ψ
 
-      abbrev at47 : Typed.TF T48 O1
-      at47 = λ Ψ. at46 Ψ
+      abbrev at47 : Typed.TF T49 O1
+      at47 = λ Ψ. Typed.ask s47 (at46 Ψ)
 
-      abbrev at48 : Typed.TF T48 O1
-      at48 = λ Ψ. at47 Ψ
+      abbrev at48 : Typed.TF T46 O1
+      at48 = λ Ψ. Typed.give s46 (at47 Ψ)
 
-      abbrev at49 : Typed.TF T45 O1
-      at49 = λ Ψ. Typed.both s45 (at48 Ψ)
+      abbrev at49 : Typed.TF T46 O1
+      at49 = λ Ψ. at48 Ψ
 
-      abbrev at50 : Typed.TF T45 O1
+      abbrev at50 : Typed.TF T46 O1
       at50 = λ Ψ. at49 Ψ
 
-      abbrev at51 : Typed.TF T45 O1
-      at51 = λ Ψ. at50 Ψ
+      abbrev at51 : Typed.TF T43 O1
+      at51 = λ Ψ. Typed.pass T43 T46 s43 (at50 Ψ)
 
       abbrev at52 : Typed.TF T43 O1
-      at52 = λ Ψ. Typed.both s42 (at51 Ψ)
+      at52 = λ Ψ. at51 Ψ
 
       abbrev at53 : Typed.TF T43 O1
       at53 = λ Ψ. at52 Ψ
 
       abbrev at54 : Typed.TF T42 O1
-      at54 = λ Ψ. Typed.pass T42 T43 s40 (at53 Ψ)
+      at54 = λ Ψ. Typed.give s40 (at53 Ψ)
 
-      abbrev at55 : Typed.TF T41 O1
-      at55 = λ Ψ. Typed.pass T41 T42 s39 (at54 Ψ)
+      abbrev at55 : Typed.TF T40 O1
+      at55 = λ Ψ. Typed.both s39 (at54 Ψ)
 
       abbrev at56 : Typed.TF T40 O1
-      at56 = λ Ψ. Typed.pass T40 T41 s38 (at55 Ψ)
+      at56 = λ Ψ. at55 Ψ
 
       abbrev at57 : Typed.TF T39 O1
-      at57 = λ Ψ. Typed.both s37 (at56 Ψ)
+      at57 = λ Ψ. Typed.pass T39 T40 s37 (at56 Ψ)
 
       abbrev at58 : Typed.TF T38 O1
-      at58 = λ Ψ. Typed.ask s36 (at57 Ψ)
+      at58 = λ Ψ. Typed.both s36 (at57 Ψ)
 
       abbrev at59 : Typed.TF T36 O1
       at59 = λ Ψ. Typed.give s35 (at58 Ψ)
@@ -16084,8 +15223,8 @@ module _ (claims· : Claims) where
             Plain.Known 𝓤 H A W 𝓣 0 ps·2 r·2 (claims· .4) (claims· .5) "finish::is_routed" ×
             Plain.Known 𝓤 H A W 𝓣 1 ps·3 r·3 (claims· .6) (claims· .7) "place::place_route" ×
             Plain.Known 𝓤 H A W 𝓣 0 ps·4 r·4 (claims· .8) (claims· .9) "finish::has_room" ×
-            Plain.Known 𝓤 H A W 𝓣 3 ps·5 r·5 (claims· .10) (claims· .11) "finish::store" ×
-            Plain.Known 𝓤 H A W 𝓣 4 ps·6 r·6 (claims· .12) (claims· .13) "post::put_post" ×
+            Plain.Known 𝓤 H A W 𝓣 4 ps·5 r·5 (claims· .10) (claims· .11) "post::put_post" ×
+            Plain.Known 𝓤 H A W 𝓣 3 ps·6 r·6 (claims· .12) (claims· .13) "finish::store" ×
             Plain.Known 𝓤 H A W 𝓣 0 ps·7 r·7 (claims· .14) (claims· .15) "finish::own_of" ×
             Plain.Known 𝓤 H A W 𝓣 0 ps·8 r·8 (claims· .16) (claims· .17) "finish::to_of" ×
             Plain.Known 𝓤 H A W 𝓣 0 ps·9 r·9 (claims· .18) (claims· .19) "finish::accepted" ×
@@ -17659,15 +16798,13 @@ module _ (claims· : Claims) where
               (Syntax.tcons (Syntax.tyInt Syntax.w8) Syntax.tnil)))))),
         ) (List._∷_ (
           1,
-          Relend.mslice-owed
+          Mut.mslice
               (KInstanceRow.R)
               (Syntax.tyRef
               (Syntax.named 0)
               Syntax.mut
               (KInstanceRow.named))
-              0
-              10
-              (Row.lease (κs .0) (qs .0)),
+              0,
         ) (List._∷_ (
           2,
           Mut.mslice
@@ -17679,10 +16816,12 @@ module _ (claims· : Claims) where
               1,
         ) (List._∷_ (
           3,
-          Mut.mslice
+          Relend.mslice-owed
               (Referent.rtF (Referent.fInt Syntax.w8))
               (Syntax.tyRef (Syntax.named 2) Syntax.mut (Syntax.tyInt Syntax.w8))
-              2,
+              2
+              10
+              (Row.lease (κs .1 .1 .0) (qs .1 .1 .0)),
         ) (List._∷_ (
           4,
           Mut.mslice
@@ -18003,1092 +17142,6 @@ module _ (claims· : Claims) where
               (Syntax.tcons (Syntax.tyInt Syntax.w8) Syntax.tnil)))))),
         ) (List._∷_ (
           1,
-          Relend.mslice-owed
-              (KInstanceRow.R)
-              (Syntax.tyRef
-              (Syntax.named 0)
-              Syntax.mut
-              (KInstanceRow.named))
-              0
-              10
-              (Row.lease (κs .0) (qs .0)),
-        ) (List._∷_ (
-          2,
-          Relend.mslice-owed
-              (KRouteRow.R)
-              (Syntax.tyRef
-              (Syntax.named 1)
-              Syntax.mut
-              (KRouteRow.named))
-              1
-              11
-              (Row.lease (κs .1 .0) (qs .1 .0)),
-        ) (List._∷_ (
-          3,
-          Mut.mslice
-              (Referent.rtF (Referent.fInt Syntax.w8))
-              (Syntax.tyRef (Syntax.named 2) Syntax.mut (Syntax.tyInt Syntax.w8))
-              2,
-        ) (List._∷_ (
-          4,
-          Mut.mslice
-              (Referent.rtF (Referent.fInt Syntax.w8))
-              (Syntax.tyRef (Syntax.named 3) Syntax.mut (Syntax.tyInt Syntax.w8))
-              3,
-        ) (List._∷_ (5, Rows'.any-gone (KOwn.spelled)) (List._∷_ (
-          6,
-          Rows'.sc-here (Row.sInt Syntax.w64),
-        ) (List._∷_ (7, Rows'.sc-here (Row.sInt Syntax.w8)) (List._∷_ (
-          8,
-          Rows'.sc-here (Row.sInt Syntax.w64),
-        ) (List._∷_ (
-          9,
-          Rows'.sref
-              (Array'.Array (Array'.Array (Referent.rtF (Referent.fInt Syntax.w8)) 16) 16)
-              (Syntax.tyRef
-              (Syntax.named 4)
-              Syntax.imm
-              (Syntax.tyArray (Syntax.tyArray (Syntax.tyInt Syntax.w8) 16) 16))
-              4,
-        ) (List._∷_ (
-          10,
-          Rows'.sref
-              (KDecided.R)
-              (Syntax.tyRef
-              (Syntax.named 5)
-              Syntax.imm
-              (KDecided.named))
-              5,
-        ) (List._∷_ (
-          11,
-          Rows'.sref
-              (KPost.R)
-              (Syntax.tyRef
-              (Syntax.named 6)
-              Syntax.imm
-              (KPost.named))
-              6,
-        ) (List._∷_ (
-          12,
-          Rows'.sref
-              (KPost.R)
-              (Syntax.tyRef
-              (Syntax.named 7)
-              Syntax.imm
-              (KPost.named))
-              7,
-        ) (List._∷_ (
-          13,
-          Rows'.any-gone
-              (Syntax.tyStruct
-              (List._∷_
-              102
-              (List._∷_
-              105
-              (List._∷_
-              110
-              (List._∷_
-              105
-              (List._∷_
-              115
-              (List._∷_
-              104
-              (List._∷_
-              58
-              (List._∷_
-              58
-              (List._∷_ 76 (List._∷_ 105 (List._∷_ 118 (List._∷_ 101 List.[]))))))))))))
-              (Syntax.tcons
-              Syntax.tyBool
-              (Syntax.tcons
-              (Syntax.tyInt Syntax.w64)
-              (Syntax.tcons Syntax.tyBool (Syntax.tcons (Syntax.tyInt Syntax.w64) Syntax.tnil))))),
-        ) (List._∷_ (14, KOwn.row) (List._∷_ (
-          15,
-          Rows'.whole (Declared.row Places.the-type),
-        ) List.[])))))))))))))))
-
-        abbrev g35 : List.List Row.Entry
-        g35 = List._∷_ (
-          0,
-          Rows'.any-gone
-              (Syntax.tyStruct
-              (List._∷_
-              102
-              (List._∷_
-              105
-              (List._∷_
-              110
-              (List._∷_
-              105
-              (List._∷_
-              115
-              (List._∷_
-              104
-              (List._∷_
-              58
-              (List._∷_
-              58
-              (List._∷_
-              79
-              (List._∷_
-              117
-              (List._∷_
-              116
-              (List._∷_ 99 (List._∷_ 111 (List._∷_ 109 (List._∷_ 101 List.[])))))))))))))))
-              (Syntax.tcons
-              (Syntax.tyStruct
-              (List._∷_
-              102
-              (List._∷_
-              105
-              (List._∷_
-              110
-              (List._∷_
-              105
-              (List._∷_
-              115
-              (List._∷_
-              104
-              (List._∷_
-              58
-              (List._∷_
-              58
-              (List._∷_ 83 (List._∷_ 101 (List._∷_ 110 (List._∷_ 116 List.[]))))))))))))
-              (Syntax.tcons
-              (Syntax.tyStruct
-              (List._∷_
-              97
-              (List._∷_
-              110
-              (List._∷_
-              115
-              (List._∷_
-              119
-              (List._∷_
-              101
-              (List._∷_
-              114
-              (List._∷_
-              58
-              (List._∷_
-              58
-              (List._∷_
-              68
-              (List._∷_
-              101
-              (List._∷_
-              115
-              (List._∷_
-              116
-              (List._∷_
-              105
-              (List._∷_
-              110
-              (List._∷_
-              97
-              (List._∷_ 116 (List._∷_ 105 (List._∷_ 111 (List._∷_ 110 List.[])))))))))))))))))))
-              (Syntax.tcons
-              (Syntax.tyArray (Syntax.tyInt Syntax.w8) 16)
-              (Syntax.tcons
-              (Syntax.tyEnum
-              (List._∷_
-              97
-              (List._∷_
-              110
-              (List._∷_
-              115
-              (List._∷_
-              119
-              (List._∷_
-              101
-              (List._∷_
-              114
-              (List._∷_ 58 (List._∷_ 58 (List._∷_ 87 (List._∷_ 97 (List._∷_ 121 List.[])))))))))))
-              (Syntax.ttcons
-              Syntax.tnil
-              (Syntax.ttcons
-              Syntax.tnil
-              (Syntax.ttcons Syntax.tnil (Syntax.ttcons Syntax.tnil Syntax.ttnil)))))
-              Syntax.tnil)))
-              (Syntax.tcons (Syntax.tyInt Syntax.w64) Syntax.tnil)))
-              (Syntax.tcons
-              (Syntax.tyInt Syntax.w64)
-              (Syntax.tcons
-              (Syntax.tyStruct
-              (List._∷_
-              102
-              (List._∷_
-              105
-              (List._∷_
-              110
-              (List._∷_
-              105
-              (List._∷_
-              115
-              (List._∷_
-              104
-              (List._∷_
-              58
-              (List._∷_
-              58
-              (List._∷_ 83 (List._∷_ 101 (List._∷_ 110 (List._∷_ 116 List.[]))))))))))))
-              (Syntax.tcons
-              (Syntax.tyStruct
-              (List._∷_
-              97
-              (List._∷_
-              110
-              (List._∷_
-              115
-              (List._∷_
-              119
-              (List._∷_
-              101
-              (List._∷_
-              114
-              (List._∷_
-              58
-              (List._∷_
-              58
-              (List._∷_
-              68
-              (List._∷_
-              101
-              (List._∷_
-              115
-              (List._∷_
-              116
-              (List._∷_
-              105
-              (List._∷_
-              110
-              (List._∷_
-              97
-              (List._∷_ 116 (List._∷_ 105 (List._∷_ 111 (List._∷_ 110 List.[])))))))))))))))))))
-              (Syntax.tcons
-              (Syntax.tyArray (Syntax.tyInt Syntax.w8) 16)
-              (Syntax.tcons
-              (Syntax.tyEnum
-              (List._∷_
-              97
-              (List._∷_
-              110
-              (List._∷_
-              115
-              (List._∷_
-              119
-              (List._∷_
-              101
-              (List._∷_
-              114
-              (List._∷_ 58 (List._∷_ 58 (List._∷_ 87 (List._∷_ 97 (List._∷_ 121 List.[])))))))))))
-              (Syntax.ttcons
-              Syntax.tnil
-              (Syntax.ttcons
-              Syntax.tnil
-              (Syntax.ttcons Syntax.tnil (Syntax.ttcons Syntax.tnil Syntax.ttnil)))))
-              Syntax.tnil)))
-              (Syntax.tcons (Syntax.tyInt Syntax.w64) Syntax.tnil)))
-              (Syntax.tcons
-              (Syntax.tyEnum
-              (List._∷_
-              97
-              (List._∷_
-              110
-              (List._∷_
-              115
-              (List._∷_
-              119
-              (List._∷_
-              101
-              (List._∷_
-              114
-              (List._∷_
-              58
-              (List._∷_
-              58
-              (List._∷_
-              65
-              (List._∷_
-              110
-              (List._∷_ 115 (List._∷_ 119 (List._∷_ 101 (List._∷_ 114 List.[]))))))))))))))
-              (Syntax.ttcons
-              Syntax.tnil
-              (Syntax.ttcons
-              Syntax.tnil
-              (Syntax.ttcons
-              Syntax.tnil
-              (Syntax.ttcons
-              Syntax.tnil
-              (Syntax.ttcons
-              Syntax.tnil
-              (Syntax.ttcons
-              Syntax.tnil
-              (Syntax.ttcons
-              Syntax.tnil
-              (Syntax.ttcons
-              Syntax.tnil
-              (Syntax.ttcons
-              Syntax.tnil
-              (Syntax.ttcons
-              Syntax.tnil
-              (Syntax.ttcons
-              Syntax.tnil
-              (Syntax.ttcons
-              Syntax.tnil
-              (Syntax.ttcons
-              Syntax.tnil
-              (Syntax.ttcons
-              Syntax.tnil
-              (Syntax.ttcons
-              Syntax.tnil
-              (Syntax.ttcons
-              Syntax.tnil
-              (Syntax.ttcons Syntax.tnil (Syntax.ttcons Syntax.tnil Syntax.ttnil)))))))))))))))))))
-              (Syntax.tcons (Syntax.tyInt Syntax.w8) Syntax.tnil)))))),
-        ) (List._∷_ (
-          1,
-          Relend.mslice-owed
-              (KInstanceRow.R)
-              (Syntax.tyRef
-              (Syntax.named 0)
-              Syntax.mut
-              (KInstanceRow.named))
-              0
-              10
-              (Row.lease (κs .0) (qs .0)),
-        ) (List._∷_ (
-          2,
-          Relend.mslice-owed
-              (KRouteRow.R)
-              (Syntax.tyRef
-              (Syntax.named 1)
-              Syntax.mut
-              (KRouteRow.named))
-              1
-              11
-              (Row.lease (κs .1 .0) (qs .1 .0)),
-        ) (List._∷_ (
-          3,
-          Mut.mslice
-              (Referent.rtF (Referent.fInt Syntax.w8))
-              (Syntax.tyRef (Syntax.named 2) Syntax.mut (Syntax.tyInt Syntax.w8))
-              2,
-        ) (List._∷_ (
-          4,
-          Mut.mslice
-              (Referent.rtF (Referent.fInt Syntax.w8))
-              (Syntax.tyRef (Syntax.named 3) Syntax.mut (Syntax.tyInt Syntax.w8))
-              3,
-        ) (List._∷_ (5, Rows'.any-gone (KOwn.spelled)) (List._∷_ (
-          6,
-          Rows'.sc-here (Row.sInt Syntax.w64),
-        ) (List._∷_ (7, Rows'.sc-here (Row.sInt Syntax.w8)) (List._∷_ (
-          8,
-          Rows'.sc-here (Row.sInt Syntax.w64),
-        ) (List._∷_ (
-          9,
-          Rows'.sref
-              (Array'.Array (Array'.Array (Referent.rtF (Referent.fInt Syntax.w8)) 16) 16)
-              (Syntax.tyRef
-              (Syntax.named 4)
-              Syntax.imm
-              (Syntax.tyArray (Syntax.tyArray (Syntax.tyInt Syntax.w8) 16) 16))
-              4,
-        ) (List._∷_ (
-          10,
-          Rows'.sref
-              (KDecided.R)
-              (Syntax.tyRef
-              (Syntax.named 5)
-              Syntax.imm
-              (KDecided.named))
-              5,
-        ) (List._∷_ (
-          11,
-          Rows'.sref
-              (KPost.R)
-              (Syntax.tyRef
-              (Syntax.named 6)
-              Syntax.imm
-              (KPost.named))
-              6,
-        ) (List._∷_ (
-          12,
-          Rows'.sref
-              (KPost.R)
-              (Syntax.tyRef
-              (Syntax.named 7)
-              Syntax.imm
-              (KPost.named))
-              7,
-        ) (List._∷_ (
-          13,
-          Rows'.any-gone
-              (Syntax.tyStruct
-              (List._∷_
-              102
-              (List._∷_
-              105
-              (List._∷_
-              110
-              (List._∷_
-              105
-              (List._∷_
-              115
-              (List._∷_
-              104
-              (List._∷_
-              58
-              (List._∷_
-              58
-              (List._∷_ 76 (List._∷_ 105 (List._∷_ 118 (List._∷_ 101 List.[]))))))))))))
-              (Syntax.tcons
-              Syntax.tyBool
-              (Syntax.tcons
-              (Syntax.tyInt Syntax.w64)
-              (Syntax.tcons Syntax.tyBool (Syntax.tcons (Syntax.tyInt Syntax.w64) Syntax.tnil))))),
-        ) (List._∷_ (14, KOwn.row) (List._∷_ (
-          15,
-          Rows'.any-gone
-              (Syntax.tyStruct
-              (List._∷_
-              112
-              (List._∷_
-              108
-              (List._∷_
-              97
-              (List._∷_
-              99
-              (List._∷_
-              101
-              (List._∷_
-              58
-              (List._∷_
-              58
-              (List._∷_
-              80
-              (List._∷_
-              108
-              (List._∷_ 97 (List._∷_ 99 (List._∷_ 101 (List._∷_ 115 List.[])))))))))))))
-              (Syntax.tcons
-              Syntax.tyBool
-              (Syntax.tcons
-              (Syntax.tyInt Syntax.w64)
-              (Syntax.tcons (Syntax.tyInt Syntax.w64) Syntax.tnil)))),
-        ) List.[])))))))))))))))
-
-        abbrev g38 : List.List Row.Entry
-        g38 = List._∷_ (
-          0,
-          Rows'.any-gone
-              (Syntax.tyStruct
-              (List._∷_
-              102
-              (List._∷_
-              105
-              (List._∷_
-              110
-              (List._∷_
-              105
-              (List._∷_
-              115
-              (List._∷_
-              104
-              (List._∷_
-              58
-              (List._∷_
-              58
-              (List._∷_
-              79
-              (List._∷_
-              117
-              (List._∷_
-              116
-              (List._∷_ 99 (List._∷_ 111 (List._∷_ 109 (List._∷_ 101 List.[])))))))))))))))
-              (Syntax.tcons
-              (Syntax.tyStruct
-              (List._∷_
-              102
-              (List._∷_
-              105
-              (List._∷_
-              110
-              (List._∷_
-              105
-              (List._∷_
-              115
-              (List._∷_
-              104
-              (List._∷_
-              58
-              (List._∷_
-              58
-              (List._∷_ 83 (List._∷_ 101 (List._∷_ 110 (List._∷_ 116 List.[]))))))))))))
-              (Syntax.tcons
-              (Syntax.tyStruct
-              (List._∷_
-              97
-              (List._∷_
-              110
-              (List._∷_
-              115
-              (List._∷_
-              119
-              (List._∷_
-              101
-              (List._∷_
-              114
-              (List._∷_
-              58
-              (List._∷_
-              58
-              (List._∷_
-              68
-              (List._∷_
-              101
-              (List._∷_
-              115
-              (List._∷_
-              116
-              (List._∷_
-              105
-              (List._∷_
-              110
-              (List._∷_
-              97
-              (List._∷_ 116 (List._∷_ 105 (List._∷_ 111 (List._∷_ 110 List.[])))))))))))))))))))
-              (Syntax.tcons
-              (Syntax.tyArray (Syntax.tyInt Syntax.w8) 16)
-              (Syntax.tcons
-              (Syntax.tyEnum
-              (List._∷_
-              97
-              (List._∷_
-              110
-              (List._∷_
-              115
-              (List._∷_
-              119
-              (List._∷_
-              101
-              (List._∷_
-              114
-              (List._∷_ 58 (List._∷_ 58 (List._∷_ 87 (List._∷_ 97 (List._∷_ 121 List.[])))))))))))
-              (Syntax.ttcons
-              Syntax.tnil
-              (Syntax.ttcons
-              Syntax.tnil
-              (Syntax.ttcons Syntax.tnil (Syntax.ttcons Syntax.tnil Syntax.ttnil)))))
-              Syntax.tnil)))
-              (Syntax.tcons (Syntax.tyInt Syntax.w64) Syntax.tnil)))
-              (Syntax.tcons
-              (Syntax.tyInt Syntax.w64)
-              (Syntax.tcons
-              (Syntax.tyStruct
-              (List._∷_
-              102
-              (List._∷_
-              105
-              (List._∷_
-              110
-              (List._∷_
-              105
-              (List._∷_
-              115
-              (List._∷_
-              104
-              (List._∷_
-              58
-              (List._∷_
-              58
-              (List._∷_ 83 (List._∷_ 101 (List._∷_ 110 (List._∷_ 116 List.[]))))))))))))
-              (Syntax.tcons
-              (Syntax.tyStruct
-              (List._∷_
-              97
-              (List._∷_
-              110
-              (List._∷_
-              115
-              (List._∷_
-              119
-              (List._∷_
-              101
-              (List._∷_
-              114
-              (List._∷_
-              58
-              (List._∷_
-              58
-              (List._∷_
-              68
-              (List._∷_
-              101
-              (List._∷_
-              115
-              (List._∷_
-              116
-              (List._∷_
-              105
-              (List._∷_
-              110
-              (List._∷_
-              97
-              (List._∷_ 116 (List._∷_ 105 (List._∷_ 111 (List._∷_ 110 List.[])))))))))))))))))))
-              (Syntax.tcons
-              (Syntax.tyArray (Syntax.tyInt Syntax.w8) 16)
-              (Syntax.tcons
-              (Syntax.tyEnum
-              (List._∷_
-              97
-              (List._∷_
-              110
-              (List._∷_
-              115
-              (List._∷_
-              119
-              (List._∷_
-              101
-              (List._∷_
-              114
-              (List._∷_ 58 (List._∷_ 58 (List._∷_ 87 (List._∷_ 97 (List._∷_ 121 List.[])))))))))))
-              (Syntax.ttcons
-              Syntax.tnil
-              (Syntax.ttcons
-              Syntax.tnil
-              (Syntax.ttcons Syntax.tnil (Syntax.ttcons Syntax.tnil Syntax.ttnil)))))
-              Syntax.tnil)))
-              (Syntax.tcons (Syntax.tyInt Syntax.w64) Syntax.tnil)))
-              (Syntax.tcons
-              (Syntax.tyEnum
-              (List._∷_
-              97
-              (List._∷_
-              110
-              (List._∷_
-              115
-              (List._∷_
-              119
-              (List._∷_
-              101
-              (List._∷_
-              114
-              (List._∷_
-              58
-              (List._∷_
-              58
-              (List._∷_
-              65
-              (List._∷_
-              110
-              (List._∷_ 115 (List._∷_ 119 (List._∷_ 101 (List._∷_ 114 List.[]))))))))))))))
-              (Syntax.ttcons
-              Syntax.tnil
-              (Syntax.ttcons
-              Syntax.tnil
-              (Syntax.ttcons
-              Syntax.tnil
-              (Syntax.ttcons
-              Syntax.tnil
-              (Syntax.ttcons
-              Syntax.tnil
-              (Syntax.ttcons
-              Syntax.tnil
-              (Syntax.ttcons
-              Syntax.tnil
-              (Syntax.ttcons
-              Syntax.tnil
-              (Syntax.ttcons
-              Syntax.tnil
-              (Syntax.ttcons
-              Syntax.tnil
-              (Syntax.ttcons
-              Syntax.tnil
-              (Syntax.ttcons
-              Syntax.tnil
-              (Syntax.ttcons
-              Syntax.tnil
-              (Syntax.ttcons
-              Syntax.tnil
-              (Syntax.ttcons
-              Syntax.tnil
-              (Syntax.ttcons
-              Syntax.tnil
-              (Syntax.ttcons Syntax.tnil (Syntax.ttcons Syntax.tnil Syntax.ttnil)))))))))))))))))))
-              (Syntax.tcons (Syntax.tyInt Syntax.w8) Syntax.tnil)))))),
-        ) (List._∷_ (
-          1,
-          Mut.mslice
-              (KInstanceRow.R)
-              (Syntax.tyRef
-              (Syntax.named 0)
-              Syntax.mut
-              (KInstanceRow.named))
-              0,
-        ) (List._∷_ (
-          2,
-          Relend.mslice-owed
-              (KRouteRow.R)
-              (Syntax.tyRef
-              (Syntax.named 1)
-              Syntax.mut
-              (KRouteRow.named))
-              1
-              11
-              (Row.lease (κs .1 .0) (qs .1 .0)),
-        ) (List._∷_ (
-          3,
-          Mut.mslice
-              (Referent.rtF (Referent.fInt Syntax.w8))
-              (Syntax.tyRef (Syntax.named 2) Syntax.mut (Syntax.tyInt Syntax.w8))
-              2,
-        ) (List._∷_ (
-          4,
-          Mut.mslice
-              (Referent.rtF (Referent.fInt Syntax.w8))
-              (Syntax.tyRef (Syntax.named 3) Syntax.mut (Syntax.tyInt Syntax.w8))
-              3,
-        ) (List._∷_ (5, Rows'.any-gone (KOwn.spelled)) (List._∷_ (
-          6,
-          Rows'.sc-here (Row.sInt Syntax.w64),
-        ) (List._∷_ (7, Rows'.sc-here (Row.sInt Syntax.w8)) (List._∷_ (
-          8,
-          Rows'.sc-here (Row.sInt Syntax.w64),
-        ) (List._∷_ (
-          9,
-          Rows'.sref
-              (Array'.Array (Array'.Array (Referent.rtF (Referent.fInt Syntax.w8)) 16) 16)
-              (Syntax.tyRef
-              (Syntax.named 4)
-              Syntax.imm
-              (Syntax.tyArray (Syntax.tyArray (Syntax.tyInt Syntax.w8) 16) 16))
-              4,
-        ) (List._∷_ (
-          10,
-          Rows'.sref
-              (KDecided.R)
-              (Syntax.tyRef
-              (Syntax.named 5)
-              Syntax.imm
-              (KDecided.named))
-              5,
-        ) (List._∷_ (
-          11,
-          Rows'.sref
-              (KPost.R)
-              (Syntax.tyRef
-              (Syntax.named 6)
-              Syntax.imm
-              (KPost.named))
-              6,
-        ) (List._∷_ (
-          12,
-          Rows'.sref
-              (KPost.R)
-              (Syntax.tyRef
-              (Syntax.named 7)
-              Syntax.imm
-              (KPost.named))
-              7,
-        ) (List._∷_ (
-          13,
-          Rows'.any-gone
-              (Syntax.tyStruct
-              (List._∷_
-              102
-              (List._∷_
-              105
-              (List._∷_
-              110
-              (List._∷_
-              105
-              (List._∷_
-              115
-              (List._∷_
-              104
-              (List._∷_
-              58
-              (List._∷_
-              58
-              (List._∷_ 76 (List._∷_ 105 (List._∷_ 118 (List._∷_ 101 List.[]))))))))))))
-              (Syntax.tcons
-              Syntax.tyBool
-              (Syntax.tcons
-              (Syntax.tyInt Syntax.w64)
-              (Syntax.tcons Syntax.tyBool (Syntax.tcons (Syntax.tyInt Syntax.w64) Syntax.tnil))))),
-        ) (List._∷_ (14, KOwn.row) (List._∷_ (
-          15,
-          Rows'.any-gone
-              (Syntax.tyStruct
-              (List._∷_
-              112
-              (List._∷_
-              108
-              (List._∷_
-              97
-              (List._∷_
-              99
-              (List._∷_
-              101
-              (List._∷_
-              58
-              (List._∷_
-              58
-              (List._∷_
-              80
-              (List._∷_
-              108
-              (List._∷_ 97 (List._∷_ 99 (List._∷_ 101 (List._∷_ 115 List.[])))))))))))))
-              (Syntax.tcons
-              Syntax.tyBool
-              (Syntax.tcons
-              (Syntax.tyInt Syntax.w64)
-              (Syntax.tcons (Syntax.tyInt Syntax.w64) Syntax.tnil)))),
-        ) List.[])))))))))))))))
-
-        abbrev g41 : List.List Row.Entry
-        g41 = List._∷_ (
-          0,
-          Rows'.any-gone
-              (Syntax.tyStruct
-              (List._∷_
-              102
-              (List._∷_
-              105
-              (List._∷_
-              110
-              (List._∷_
-              105
-              (List._∷_
-              115
-              (List._∷_
-              104
-              (List._∷_
-              58
-              (List._∷_
-              58
-              (List._∷_
-              79
-              (List._∷_
-              117
-              (List._∷_
-              116
-              (List._∷_ 99 (List._∷_ 111 (List._∷_ 109 (List._∷_ 101 List.[])))))))))))))))
-              (Syntax.tcons
-              (Syntax.tyStruct
-              (List._∷_
-              102
-              (List._∷_
-              105
-              (List._∷_
-              110
-              (List._∷_
-              105
-              (List._∷_
-              115
-              (List._∷_
-              104
-              (List._∷_
-              58
-              (List._∷_
-              58
-              (List._∷_ 83 (List._∷_ 101 (List._∷_ 110 (List._∷_ 116 List.[]))))))))))))
-              (Syntax.tcons
-              (Syntax.tyStruct
-              (List._∷_
-              97
-              (List._∷_
-              110
-              (List._∷_
-              115
-              (List._∷_
-              119
-              (List._∷_
-              101
-              (List._∷_
-              114
-              (List._∷_
-              58
-              (List._∷_
-              58
-              (List._∷_
-              68
-              (List._∷_
-              101
-              (List._∷_
-              115
-              (List._∷_
-              116
-              (List._∷_
-              105
-              (List._∷_
-              110
-              (List._∷_
-              97
-              (List._∷_ 116 (List._∷_ 105 (List._∷_ 111 (List._∷_ 110 List.[])))))))))))))))))))
-              (Syntax.tcons
-              (Syntax.tyArray (Syntax.tyInt Syntax.w8) 16)
-              (Syntax.tcons
-              (Syntax.tyEnum
-              (List._∷_
-              97
-              (List._∷_
-              110
-              (List._∷_
-              115
-              (List._∷_
-              119
-              (List._∷_
-              101
-              (List._∷_
-              114
-              (List._∷_ 58 (List._∷_ 58 (List._∷_ 87 (List._∷_ 97 (List._∷_ 121 List.[])))))))))))
-              (Syntax.ttcons
-              Syntax.tnil
-              (Syntax.ttcons
-              Syntax.tnil
-              (Syntax.ttcons Syntax.tnil (Syntax.ttcons Syntax.tnil Syntax.ttnil)))))
-              Syntax.tnil)))
-              (Syntax.tcons (Syntax.tyInt Syntax.w64) Syntax.tnil)))
-              (Syntax.tcons
-              (Syntax.tyInt Syntax.w64)
-              (Syntax.tcons
-              (Syntax.tyStruct
-              (List._∷_
-              102
-              (List._∷_
-              105
-              (List._∷_
-              110
-              (List._∷_
-              105
-              (List._∷_
-              115
-              (List._∷_
-              104
-              (List._∷_
-              58
-              (List._∷_
-              58
-              (List._∷_ 83 (List._∷_ 101 (List._∷_ 110 (List._∷_ 116 List.[]))))))))))))
-              (Syntax.tcons
-              (Syntax.tyStruct
-              (List._∷_
-              97
-              (List._∷_
-              110
-              (List._∷_
-              115
-              (List._∷_
-              119
-              (List._∷_
-              101
-              (List._∷_
-              114
-              (List._∷_
-              58
-              (List._∷_
-              58
-              (List._∷_
-              68
-              (List._∷_
-              101
-              (List._∷_
-              115
-              (List._∷_
-              116
-              (List._∷_
-              105
-              (List._∷_
-              110
-              (List._∷_
-              97
-              (List._∷_ 116 (List._∷_ 105 (List._∷_ 111 (List._∷_ 110 List.[])))))))))))))))))))
-              (Syntax.tcons
-              (Syntax.tyArray (Syntax.tyInt Syntax.w8) 16)
-              (Syntax.tcons
-              (Syntax.tyEnum
-              (List._∷_
-              97
-              (List._∷_
-              110
-              (List._∷_
-              115
-              (List._∷_
-              119
-              (List._∷_
-              101
-              (List._∷_
-              114
-              (List._∷_ 58 (List._∷_ 58 (List._∷_ 87 (List._∷_ 97 (List._∷_ 121 List.[])))))))))))
-              (Syntax.ttcons
-              Syntax.tnil
-              (Syntax.ttcons
-              Syntax.tnil
-              (Syntax.ttcons Syntax.tnil (Syntax.ttcons Syntax.tnil Syntax.ttnil)))))
-              Syntax.tnil)))
-              (Syntax.tcons (Syntax.tyInt Syntax.w64) Syntax.tnil)))
-              (Syntax.tcons
-              (Syntax.tyEnum
-              (List._∷_
-              97
-              (List._∷_
-              110
-              (List._∷_
-              115
-              (List._∷_
-              119
-              (List._∷_
-              101
-              (List._∷_
-              114
-              (List._∷_
-              58
-              (List._∷_
-              58
-              (List._∷_
-              65
-              (List._∷_
-              110
-              (List._∷_ 115 (List._∷_ 119 (List._∷_ 101 (List._∷_ 114 List.[]))))))))))))))
-              (Syntax.ttcons
-              Syntax.tnil
-              (Syntax.ttcons
-              Syntax.tnil
-              (Syntax.ttcons
-              Syntax.tnil
-              (Syntax.ttcons
-              Syntax.tnil
-              (Syntax.ttcons
-              Syntax.tnil
-              (Syntax.ttcons
-              Syntax.tnil
-              (Syntax.ttcons
-              Syntax.tnil
-              (Syntax.ttcons
-              Syntax.tnil
-              (Syntax.ttcons
-              Syntax.tnil
-              (Syntax.ttcons
-              Syntax.tnil
-              (Syntax.ttcons
-              Syntax.tnil
-              (Syntax.ttcons
-              Syntax.tnil
-              (Syntax.ttcons
-              Syntax.tnil
-              (Syntax.ttcons
-              Syntax.tnil
-              (Syntax.ttcons
-              Syntax.tnil
-              (Syntax.ttcons
-              Syntax.tnil
-              (Syntax.ttcons Syntax.tnil (Syntax.ttcons Syntax.tnil Syntax.ttnil)))))))))))))))))))
-              (Syntax.tcons (Syntax.tyInt Syntax.w8) Syntax.tnil)))))),
-        ) (List._∷_ (
-          1,
           Mut.mslice
               (KInstanceRow.R)
               (Syntax.tyRef
@@ -19111,376 +17164,7 @@ module _ (claims· : Claims) where
               (Referent.rtF (Referent.fInt Syntax.w8))
               (Syntax.tyRef (Syntax.named 2) Syntax.mut (Syntax.tyInt Syntax.w8))
               2
-              12
-              (Row.lease (κs .1 .1 .0) (qs .1 .1 .0)),
-        ) (List._∷_ (
-          4,
-          Mut.mslice
-              (Referent.rtF (Referent.fInt Syntax.w8))
-              (Syntax.tyRef (Syntax.named 3) Syntax.mut (Syntax.tyInt Syntax.w8))
-              3,
-        ) (List._∷_ (5, Rows'.any-gone (KOwn.spelled)) (List._∷_ (
-          6,
-          Rows'.sc-here (Row.sInt Syntax.w64),
-        ) (List._∷_ (7, Rows'.sc-here (Row.sInt Syntax.w8)) (List._∷_ (
-          8,
-          Rows'.sc-here (Row.sInt Syntax.w64),
-        ) (List._∷_ (
-          9,
-          Rows'.sref
-              (Array'.Array (Array'.Array (Referent.rtF (Referent.fInt Syntax.w8)) 16) 16)
-              (Syntax.tyRef
-              (Syntax.named 4)
-              Syntax.imm
-              (Syntax.tyArray (Syntax.tyArray (Syntax.tyInt Syntax.w8) 16) 16))
-              4,
-        ) (List._∷_ (
-          10,
-          Rows'.sref
-              (KDecided.R)
-              (Syntax.tyRef
-              (Syntax.named 5)
-              Syntax.imm
-              (KDecided.named))
-              5,
-        ) (List._∷_ (
-          11,
-          Rows'.sref
-              (KPost.R)
-              (Syntax.tyRef
-              (Syntax.named 6)
-              Syntax.imm
-              (KPost.named))
-              6,
-        ) (List._∷_ (
-          12,
-          Rows'.sref
-              (KPost.R)
-              (Syntax.tyRef
-              (Syntax.named 7)
-              Syntax.imm
-              (KPost.named))
-              7,
-        ) (List._∷_ (
-          13,
-          Rows'.any-gone
-              (Syntax.tyStruct
-              (List._∷_
-              102
-              (List._∷_
-              105
-              (List._∷_
-              110
-              (List._∷_
-              105
-              (List._∷_
-              115
-              (List._∷_
-              104
-              (List._∷_
-              58
-              (List._∷_
-              58
-              (List._∷_ 76 (List._∷_ 105 (List._∷_ 118 (List._∷_ 101 List.[]))))))))))))
-              (Syntax.tcons
-              Syntax.tyBool
-              (Syntax.tcons
-              (Syntax.tyInt Syntax.w64)
-              (Syntax.tcons Syntax.tyBool (Syntax.tcons (Syntax.tyInt Syntax.w64) Syntax.tnil))))),
-        ) (List._∷_ (14, KOwn.row) (List._∷_ (
-          15,
-          Rows'.any-gone
-              (Syntax.tyStruct
-              (List._∷_
-              112
-              (List._∷_
-              108
-              (List._∷_
-              97
-              (List._∷_
-              99
-              (List._∷_
-              101
-              (List._∷_
-              58
-              (List._∷_
-              58
-              (List._∷_
-              80
-              (List._∷_
-              108
-              (List._∷_ 97 (List._∷_ 99 (List._∷_ 101 (List._∷_ 115 List.[])))))))))))))
-              (Syntax.tcons
-              Syntax.tyBool
-              (Syntax.tcons
-              (Syntax.tyInt Syntax.w64)
-              (Syntax.tcons (Syntax.tyInt Syntax.w64) Syntax.tnil)))),
-        ) List.[])))))))))))))))
-
-        abbrev g44 : List.List Row.Entry
-        g44 = List._∷_ (
-          0,
-          Rows'.any-gone
-              (Syntax.tyStruct
-              (List._∷_
-              102
-              (List._∷_
-              105
-              (List._∷_
-              110
-              (List._∷_
-              105
-              (List._∷_
-              115
-              (List._∷_
-              104
-              (List._∷_
-              58
-              (List._∷_
-              58
-              (List._∷_
-              79
-              (List._∷_
-              117
-              (List._∷_
-              116
-              (List._∷_ 99 (List._∷_ 111 (List._∷_ 109 (List._∷_ 101 List.[])))))))))))))))
-              (Syntax.tcons
-              (Syntax.tyStruct
-              (List._∷_
-              102
-              (List._∷_
-              105
-              (List._∷_
-              110
-              (List._∷_
-              105
-              (List._∷_
-              115
-              (List._∷_
-              104
-              (List._∷_
-              58
-              (List._∷_
-              58
-              (List._∷_ 83 (List._∷_ 101 (List._∷_ 110 (List._∷_ 116 List.[]))))))))))))
-              (Syntax.tcons
-              (Syntax.tyStruct
-              (List._∷_
-              97
-              (List._∷_
-              110
-              (List._∷_
-              115
-              (List._∷_
-              119
-              (List._∷_
-              101
-              (List._∷_
-              114
-              (List._∷_
-              58
-              (List._∷_
-              58
-              (List._∷_
-              68
-              (List._∷_
-              101
-              (List._∷_
-              115
-              (List._∷_
-              116
-              (List._∷_
-              105
-              (List._∷_
-              110
-              (List._∷_
-              97
-              (List._∷_ 116 (List._∷_ 105 (List._∷_ 111 (List._∷_ 110 List.[])))))))))))))))))))
-              (Syntax.tcons
-              (Syntax.tyArray (Syntax.tyInt Syntax.w8) 16)
-              (Syntax.tcons
-              (Syntax.tyEnum
-              (List._∷_
-              97
-              (List._∷_
-              110
-              (List._∷_
-              115
-              (List._∷_
-              119
-              (List._∷_
-              101
-              (List._∷_
-              114
-              (List._∷_ 58 (List._∷_ 58 (List._∷_ 87 (List._∷_ 97 (List._∷_ 121 List.[])))))))))))
-              (Syntax.ttcons
-              Syntax.tnil
-              (Syntax.ttcons
-              Syntax.tnil
-              (Syntax.ttcons Syntax.tnil (Syntax.ttcons Syntax.tnil Syntax.ttnil)))))
-              Syntax.tnil)))
-              (Syntax.tcons (Syntax.tyInt Syntax.w64) Syntax.tnil)))
-              (Syntax.tcons
-              (Syntax.tyInt Syntax.w64)
-              (Syntax.tcons
-              (Syntax.tyStruct
-              (List._∷_
-              102
-              (List._∷_
-              105
-              (List._∷_
-              110
-              (List._∷_
-              105
-              (List._∷_
-              115
-              (List._∷_
-              104
-              (List._∷_
-              58
-              (List._∷_
-              58
-              (List._∷_ 83 (List._∷_ 101 (List._∷_ 110 (List._∷_ 116 List.[]))))))))))))
-              (Syntax.tcons
-              (Syntax.tyStruct
-              (List._∷_
-              97
-              (List._∷_
-              110
-              (List._∷_
-              115
-              (List._∷_
-              119
-              (List._∷_
-              101
-              (List._∷_
-              114
-              (List._∷_
-              58
-              (List._∷_
-              58
-              (List._∷_
-              68
-              (List._∷_
-              101
-              (List._∷_
-              115
-              (List._∷_
-              116
-              (List._∷_
-              105
-              (List._∷_
-              110
-              (List._∷_
-              97
-              (List._∷_ 116 (List._∷_ 105 (List._∷_ 111 (List._∷_ 110 List.[])))))))))))))))))))
-              (Syntax.tcons
-              (Syntax.tyArray (Syntax.tyInt Syntax.w8) 16)
-              (Syntax.tcons
-              (Syntax.tyEnum
-              (List._∷_
-              97
-              (List._∷_
-              110
-              (List._∷_
-              115
-              (List._∷_
-              119
-              (List._∷_
-              101
-              (List._∷_
-              114
-              (List._∷_ 58 (List._∷_ 58 (List._∷_ 87 (List._∷_ 97 (List._∷_ 121 List.[])))))))))))
-              (Syntax.ttcons
-              Syntax.tnil
-              (Syntax.ttcons
-              Syntax.tnil
-              (Syntax.ttcons Syntax.tnil (Syntax.ttcons Syntax.tnil Syntax.ttnil)))))
-              Syntax.tnil)))
-              (Syntax.tcons (Syntax.tyInt Syntax.w64) Syntax.tnil)))
-              (Syntax.tcons
-              (Syntax.tyEnum
-              (List._∷_
-              97
-              (List._∷_
-              110
-              (List._∷_
-              115
-              (List._∷_
-              119
-              (List._∷_
-              101
-              (List._∷_
-              114
-              (List._∷_
-              58
-              (List._∷_
-              58
-              (List._∷_
-              65
-              (List._∷_
-              110
-              (List._∷_ 115 (List._∷_ 119 (List._∷_ 101 (List._∷_ 114 List.[]))))))))))))))
-              (Syntax.ttcons
-              Syntax.tnil
-              (Syntax.ttcons
-              Syntax.tnil
-              (Syntax.ttcons
-              Syntax.tnil
-              (Syntax.ttcons
-              Syntax.tnil
-              (Syntax.ttcons
-              Syntax.tnil
-              (Syntax.ttcons
-              Syntax.tnil
-              (Syntax.ttcons
-              Syntax.tnil
-              (Syntax.ttcons
-              Syntax.tnil
-              (Syntax.ttcons
-              Syntax.tnil
-              (Syntax.ttcons
-              Syntax.tnil
-              (Syntax.ttcons
-              Syntax.tnil
-              (Syntax.ttcons
-              Syntax.tnil
-              (Syntax.ttcons
-              Syntax.tnil
-              (Syntax.ttcons
-              Syntax.tnil
-              (Syntax.ttcons
-              Syntax.tnil
-              (Syntax.ttcons
-              Syntax.tnil
-              (Syntax.ttcons Syntax.tnil (Syntax.ttcons Syntax.tnil Syntax.ttnil)))))))))))))))))))
-              (Syntax.tcons (Syntax.tyInt Syntax.w8) Syntax.tnil)))))),
-        ) (List._∷_ (
-          1,
-          Mut.mslice
-              (KInstanceRow.R)
-              (Syntax.tyRef
-              (Syntax.named 0)
-              Syntax.mut
-              (KInstanceRow.named))
-              0,
-        ) (List._∷_ (
-          2,
-          Mut.mslice
-              (KRouteRow.R)
-              (Syntax.tyRef
-              (Syntax.named 1)
-              Syntax.mut
-              (KRouteRow.named))
-              1,
-        ) (List._∷_ (
-          3,
-          Relend.mslice-owed
-              (Referent.rtF (Referent.fInt Syntax.w8))
-              (Syntax.tyRef (Syntax.named 2) Syntax.mut (Syntax.tyInt Syntax.w8))
-              2
-              12
+              10
               (Row.lease (κs .1 .1 .0) (qs .1 .1 .0)),
         ) (List._∷_ (
           4,
@@ -19562,35 +17246,1043 @@ module _ (claims· : Claims) where
               (KOwn.row)
               (KOwn.R)
               (λ x. x)
-              13,
-        ) (List._∷_ (
-          15,
+              11,
+        ) (List._∷_ (15, Rows'.whole (Declared.row Places.the-type)) List.[])))))))))))))))
+
+        abbrev g37 : List.List Row.Entry
+        g37 = List._∷_ (
+          0,
           Rows'.any-gone
               (Syntax.tyStruct
               (List._∷_
-              112
+              102
               (List._∷_
-              108
+              105
+              (List._∷_
+              110
+              (List._∷_
+              105
+              (List._∷_
+              115
+              (List._∷_
+              104
+              (List._∷_
+              58
+              (List._∷_
+              58
+              (List._∷_
+              79
+              (List._∷_
+              117
+              (List._∷_
+              116
+              (List._∷_ 99 (List._∷_ 111 (List._∷_ 109 (List._∷_ 101 List.[])))))))))))))))
+              (Syntax.tcons
+              (Syntax.tyStruct
+              (List._∷_
+              102
+              (List._∷_
+              105
+              (List._∷_
+              110
+              (List._∷_
+              105
+              (List._∷_
+              115
+              (List._∷_
+              104
+              (List._∷_
+              58
+              (List._∷_
+              58
+              (List._∷_ 83 (List._∷_ 101 (List._∷_ 110 (List._∷_ 116 List.[]))))))))))))
+              (Syntax.tcons
+              (Syntax.tyStruct
               (List._∷_
               97
               (List._∷_
-              99
+              110
+              (List._∷_
+              115
+              (List._∷_
+              119
               (List._∷_
               101
               (List._∷_
+              114
+              (List._∷_
+              58
+              (List._∷_
+              58
+              (List._∷_
+              68
+              (List._∷_
+              101
+              (List._∷_
+              115
+              (List._∷_
+              116
+              (List._∷_
+              105
+              (List._∷_
+              110
+              (List._∷_
+              97
+              (List._∷_ 116 (List._∷_ 105 (List._∷_ 111 (List._∷_ 110 List.[])))))))))))))))))))
+              (Syntax.tcons
+              (Syntax.tyArray (Syntax.tyInt Syntax.w8) 16)
+              (Syntax.tcons
+              (Syntax.tyEnum
+              (List._∷_
+              97
+              (List._∷_
+              110
+              (List._∷_
+              115
+              (List._∷_
+              119
+              (List._∷_
+              101
+              (List._∷_
+              114
+              (List._∷_ 58 (List._∷_ 58 (List._∷_ 87 (List._∷_ 97 (List._∷_ 121 List.[])))))))))))
+              (Syntax.ttcons
+              Syntax.tnil
+              (Syntax.ttcons
+              Syntax.tnil
+              (Syntax.ttcons Syntax.tnil (Syntax.ttcons Syntax.tnil Syntax.ttnil)))))
+              Syntax.tnil)))
+              (Syntax.tcons (Syntax.tyInt Syntax.w64) Syntax.tnil)))
+              (Syntax.tcons
+              (Syntax.tyInt Syntax.w64)
+              (Syntax.tcons
+              (Syntax.tyStruct
+              (List._∷_
+              102
+              (List._∷_
+              105
+              (List._∷_
+              110
+              (List._∷_
+              105
+              (List._∷_
+              115
+              (List._∷_
+              104
+              (List._∷_
+              58
+              (List._∷_
+              58
+              (List._∷_ 83 (List._∷_ 101 (List._∷_ 110 (List._∷_ 116 List.[]))))))))))))
+              (Syntax.tcons
+              (Syntax.tyStruct
+              (List._∷_
+              97
+              (List._∷_
+              110
+              (List._∷_
+              115
+              (List._∷_
+              119
+              (List._∷_
+              101
+              (List._∷_
+              114
+              (List._∷_
               58
               (List._∷_
               58
               (List._∷_
-              80
+              68
               (List._∷_
-              108
-              (List._∷_ 97 (List._∷_ 99 (List._∷_ 101 (List._∷_ 115 List.[])))))))))))))
+              101
+              (List._∷_
+              115
+              (List._∷_
+              116
+              (List._∷_
+              105
+              (List._∷_
+              110
+              (List._∷_
+              97
+              (List._∷_ 116 (List._∷_ 105 (List._∷_ 111 (List._∷_ 110 List.[])))))))))))))))))))
+              (Syntax.tcons
+              (Syntax.tyArray (Syntax.tyInt Syntax.w8) 16)
+              (Syntax.tcons
+              (Syntax.tyEnum
+              (List._∷_
+              97
+              (List._∷_
+              110
+              (List._∷_
+              115
+              (List._∷_
+              119
+              (List._∷_
+              101
+              (List._∷_
+              114
+              (List._∷_ 58 (List._∷_ 58 (List._∷_ 87 (List._∷_ 97 (List._∷_ 121 List.[])))))))))))
+              (Syntax.ttcons
+              Syntax.tnil
+              (Syntax.ttcons
+              Syntax.tnil
+              (Syntax.ttcons Syntax.tnil (Syntax.ttcons Syntax.tnil Syntax.ttnil)))))
+              Syntax.tnil)))
+              (Syntax.tcons (Syntax.tyInt Syntax.w64) Syntax.tnil)))
+              (Syntax.tcons
+              (Syntax.tyEnum
+              (List._∷_
+              97
+              (List._∷_
+              110
+              (List._∷_
+              115
+              (List._∷_
+              119
+              (List._∷_
+              101
+              (List._∷_
+              114
+              (List._∷_
+              58
+              (List._∷_
+              58
+              (List._∷_
+              65
+              (List._∷_
+              110
+              (List._∷_ 115 (List._∷_ 119 (List._∷_ 101 (List._∷_ 114 List.[]))))))))))))))
+              (Syntax.ttcons
+              Syntax.tnil
+              (Syntax.ttcons
+              Syntax.tnil
+              (Syntax.ttcons
+              Syntax.tnil
+              (Syntax.ttcons
+              Syntax.tnil
+              (Syntax.ttcons
+              Syntax.tnil
+              (Syntax.ttcons
+              Syntax.tnil
+              (Syntax.ttcons
+              Syntax.tnil
+              (Syntax.ttcons
+              Syntax.tnil
+              (Syntax.ttcons
+              Syntax.tnil
+              (Syntax.ttcons
+              Syntax.tnil
+              (Syntax.ttcons
+              Syntax.tnil
+              (Syntax.ttcons
+              Syntax.tnil
+              (Syntax.ttcons
+              Syntax.tnil
+              (Syntax.ttcons
+              Syntax.tnil
+              (Syntax.ttcons
+              Syntax.tnil
+              (Syntax.ttcons
+              Syntax.tnil
+              (Syntax.ttcons Syntax.tnil (Syntax.ttcons Syntax.tnil Syntax.ttnil)))))))))))))))))))
+              (Syntax.tcons (Syntax.tyInt Syntax.w8) Syntax.tnil)))))),
+        ) (List._∷_ (
+          1,
+          Mut.mslice
+              (KInstanceRow.R)
+              (Syntax.tyRef
+              (Syntax.named 0)
+              Syntax.mut
+              (KInstanceRow.named))
+              0,
+        ) (List._∷_ (
+          2,
+          Mut.mslice
+              (KRouteRow.R)
+              (Syntax.tyRef
+              (Syntax.named 1)
+              Syntax.mut
+              (KRouteRow.named))
+              1,
+        ) (List._∷_ (
+          3,
+          Mut.mslice
+              (Referent.rtF (Referent.fInt Syntax.w8))
+              (Syntax.tyRef (Syntax.named 2) Syntax.mut (Syntax.tyInt Syntax.w8))
+              2,
+        ) (List._∷_ (
+          4,
+          Relend.mslice-owed
+              (Referent.rtF (Referent.fInt Syntax.w8))
+              (Syntax.tyRef (Syntax.named 3) Syntax.mut (Syntax.tyInt Syntax.w8))
+              3
+              12
+              (Row.lease (κs .1 .1 .1 .0) (qs .1 .1 .1 .0)),
+        ) (List._∷_ (5, Rows'.any-gone (KOwn.spelled)) (List._∷_ (
+          6,
+          Rows'.sc-here (Row.sInt Syntax.w64),
+        ) (List._∷_ (7, Rows'.sc-here (Row.sInt Syntax.w8)) (List._∷_ (
+          8,
+          Rows'.sc-here (Row.sInt Syntax.w64),
+        ) (List._∷_ (
+          9,
+          Rows'.sref
+              (Array'.Array (Array'.Array (Referent.rtF (Referent.fInt Syntax.w8)) 16) 16)
+              (Syntax.tyRef
+              (Syntax.named 4)
+              Syntax.imm
+              (Syntax.tyArray (Syntax.tyArray (Syntax.tyInt Syntax.w8) 16) 16))
+              4,
+        ) (List._∷_ (
+          10,
+          Rows'.sref
+              (KDecided.R)
+              (Syntax.tyRef
+              (Syntax.named 5)
+              Syntax.imm
+              (KDecided.named))
+              5,
+        ) (List._∷_ (
+          11,
+          Rows'.sref
+              (KPost.R)
+              (Syntax.tyRef
+              (Syntax.named 6)
+              Syntax.imm
+              (KPost.named))
+              6,
+        ) (List._∷_ (
+          12,
+          Rows'.sref
+              (KPost.R)
+              (Syntax.tyRef
+              (Syntax.named 7)
+              Syntax.imm
+              (KPost.named))
+              7,
+        ) (List._∷_ (
+          13,
+          Rows'.any-gone
+              (Syntax.tyStruct
+              (List._∷_
+              102
+              (List._∷_
+              105
+              (List._∷_
+              110
+              (List._∷_
+              105
+              (List._∷_
+              115
+              (List._∷_
+              104
+              (List._∷_
+              58
+              (List._∷_
+              58
+              (List._∷_ 76 (List._∷_ 105 (List._∷_ 118 (List._∷_ 101 List.[]))))))))))))
               (Syntax.tcons
               Syntax.tyBool
               (Syntax.tcons
               (Syntax.tyInt Syntax.w64)
-              (Syntax.tcons (Syntax.tyInt Syntax.w64) Syntax.tnil)))),
+              (Syntax.tcons Syntax.tyBool (Syntax.tcons (Syntax.tyInt Syntax.w64) Syntax.tnil))))),
+        ) (List._∷_ (14, KOwn.row) (List._∷_ (
+          15,
+          Rows'.whole (Declared.row Places.the-type),
+        ) List.[])))))))))))))))
+
+        abbrev g40 : List.List Row.Entry
+        g40 = List._∷_ (
+          0,
+          Rows'.any-gone
+              (Syntax.tyStruct
+              (List._∷_
+              102
+              (List._∷_
+              105
+              (List._∷_
+              110
+              (List._∷_
+              105
+              (List._∷_
+              115
+              (List._∷_
+              104
+              (List._∷_
+              58
+              (List._∷_
+              58
+              (List._∷_
+              79
+              (List._∷_
+              117
+              (List._∷_
+              116
+              (List._∷_ 99 (List._∷_ 111 (List._∷_ 109 (List._∷_ 101 List.[])))))))))))))))
+              (Syntax.tcons
+              (Syntax.tyStruct
+              (List._∷_
+              102
+              (List._∷_
+              105
+              (List._∷_
+              110
+              (List._∷_
+              105
+              (List._∷_
+              115
+              (List._∷_
+              104
+              (List._∷_
+              58
+              (List._∷_
+              58
+              (List._∷_ 83 (List._∷_ 101 (List._∷_ 110 (List._∷_ 116 List.[]))))))))))))
+              (Syntax.tcons
+              (Syntax.tyStruct
+              (List._∷_
+              97
+              (List._∷_
+              110
+              (List._∷_
+              115
+              (List._∷_
+              119
+              (List._∷_
+              101
+              (List._∷_
+              114
+              (List._∷_
+              58
+              (List._∷_
+              58
+              (List._∷_
+              68
+              (List._∷_
+              101
+              (List._∷_
+              115
+              (List._∷_
+              116
+              (List._∷_
+              105
+              (List._∷_
+              110
+              (List._∷_
+              97
+              (List._∷_ 116 (List._∷_ 105 (List._∷_ 111 (List._∷_ 110 List.[])))))))))))))))))))
+              (Syntax.tcons
+              (Syntax.tyArray (Syntax.tyInt Syntax.w8) 16)
+              (Syntax.tcons
+              (Syntax.tyEnum
+              (List._∷_
+              97
+              (List._∷_
+              110
+              (List._∷_
+              115
+              (List._∷_
+              119
+              (List._∷_
+              101
+              (List._∷_
+              114
+              (List._∷_ 58 (List._∷_ 58 (List._∷_ 87 (List._∷_ 97 (List._∷_ 121 List.[])))))))))))
+              (Syntax.ttcons
+              Syntax.tnil
+              (Syntax.ttcons
+              Syntax.tnil
+              (Syntax.ttcons Syntax.tnil (Syntax.ttcons Syntax.tnil Syntax.ttnil)))))
+              Syntax.tnil)))
+              (Syntax.tcons (Syntax.tyInt Syntax.w64) Syntax.tnil)))
+              (Syntax.tcons
+              (Syntax.tyInt Syntax.w64)
+              (Syntax.tcons
+              (Syntax.tyStruct
+              (List._∷_
+              102
+              (List._∷_
+              105
+              (List._∷_
+              110
+              (List._∷_
+              105
+              (List._∷_
+              115
+              (List._∷_
+              104
+              (List._∷_
+              58
+              (List._∷_
+              58
+              (List._∷_ 83 (List._∷_ 101 (List._∷_ 110 (List._∷_ 116 List.[]))))))))))))
+              (Syntax.tcons
+              (Syntax.tyStruct
+              (List._∷_
+              97
+              (List._∷_
+              110
+              (List._∷_
+              115
+              (List._∷_
+              119
+              (List._∷_
+              101
+              (List._∷_
+              114
+              (List._∷_
+              58
+              (List._∷_
+              58
+              (List._∷_
+              68
+              (List._∷_
+              101
+              (List._∷_
+              115
+              (List._∷_
+              116
+              (List._∷_
+              105
+              (List._∷_
+              110
+              (List._∷_
+              97
+              (List._∷_ 116 (List._∷_ 105 (List._∷_ 111 (List._∷_ 110 List.[])))))))))))))))))))
+              (Syntax.tcons
+              (Syntax.tyArray (Syntax.tyInt Syntax.w8) 16)
+              (Syntax.tcons
+              (Syntax.tyEnum
+              (List._∷_
+              97
+              (List._∷_
+              110
+              (List._∷_
+              115
+              (List._∷_
+              119
+              (List._∷_
+              101
+              (List._∷_
+              114
+              (List._∷_ 58 (List._∷_ 58 (List._∷_ 87 (List._∷_ 97 (List._∷_ 121 List.[])))))))))))
+              (Syntax.ttcons
+              Syntax.tnil
+              (Syntax.ttcons
+              Syntax.tnil
+              (Syntax.ttcons Syntax.tnil (Syntax.ttcons Syntax.tnil Syntax.ttnil)))))
+              Syntax.tnil)))
+              (Syntax.tcons (Syntax.tyInt Syntax.w64) Syntax.tnil)))
+              (Syntax.tcons
+              (Syntax.tyEnum
+              (List._∷_
+              97
+              (List._∷_
+              110
+              (List._∷_
+              115
+              (List._∷_
+              119
+              (List._∷_
+              101
+              (List._∷_
+              114
+              (List._∷_
+              58
+              (List._∷_
+              58
+              (List._∷_
+              65
+              (List._∷_
+              110
+              (List._∷_ 115 (List._∷_ 119 (List._∷_ 101 (List._∷_ 114 List.[]))))))))))))))
+              (Syntax.ttcons
+              Syntax.tnil
+              (Syntax.ttcons
+              Syntax.tnil
+              (Syntax.ttcons
+              Syntax.tnil
+              (Syntax.ttcons
+              Syntax.tnil
+              (Syntax.ttcons
+              Syntax.tnil
+              (Syntax.ttcons
+              Syntax.tnil
+              (Syntax.ttcons
+              Syntax.tnil
+              (Syntax.ttcons
+              Syntax.tnil
+              (Syntax.ttcons
+              Syntax.tnil
+              (Syntax.ttcons
+              Syntax.tnil
+              (Syntax.ttcons
+              Syntax.tnil
+              (Syntax.ttcons
+              Syntax.tnil
+              (Syntax.ttcons
+              Syntax.tnil
+              (Syntax.ttcons
+              Syntax.tnil
+              (Syntax.ttcons
+              Syntax.tnil
+              (Syntax.ttcons
+              Syntax.tnil
+              (Syntax.ttcons Syntax.tnil (Syntax.ttcons Syntax.tnil Syntax.ttnil)))))))))))))))))))
+              (Syntax.tcons (Syntax.tyInt Syntax.w8) Syntax.tnil)))))),
+        ) (List._∷_ (
+          1,
+          Mut.mslice
+              (KInstanceRow.R)
+              (Syntax.tyRef
+              (Syntax.named 0)
+              Syntax.mut
+              (KInstanceRow.named))
+              0,
+        ) (List._∷_ (
+          2,
+          Mut.mslice
+              (KRouteRow.R)
+              (Syntax.tyRef
+              (Syntax.named 1)
+              Syntax.mut
+              (KRouteRow.named))
+              1,
+        ) (List._∷_ (
+          3,
+          Mut.mslice
+              (Referent.rtF (Referent.fInt Syntax.w8))
+              (Syntax.tyRef (Syntax.named 2) Syntax.mut (Syntax.tyInt Syntax.w8))
+              2,
+        ) (List._∷_ (
+          4,
+          Relend.mslice-owed
+              (Referent.rtF (Referent.fInt Syntax.w8))
+              (Syntax.tyRef (Syntax.named 3) Syntax.mut (Syntax.tyInt Syntax.w8))
+              3
+              12
+              (Row.lease (κs .1 .1 .1 .0) (qs .1 .1 .1 .0)),
+        ) (List._∷_ (5, Rows'.any-gone (KOwn.spelled)) (List._∷_ (
+          6,
+          Rows'.sc-here (Row.sInt Syntax.w64),
+        ) (List._∷_ (7, Rows'.sc-here (Row.sInt Syntax.w8)) (List._∷_ (
+          8,
+          Rows'.sc-here (Row.sInt Syntax.w64),
+        ) (List._∷_ (
+          9,
+          Rows'.sref
+              (Array'.Array (Array'.Array (Referent.rtF (Referent.fInt Syntax.w8)) 16) 16)
+              (Syntax.tyRef
+              (Syntax.named 4)
+              Syntax.imm
+              (Syntax.tyArray (Syntax.tyArray (Syntax.tyInt Syntax.w8) 16) 16))
+              4,
+        ) (List._∷_ (
+          10,
+          Rows'.sref
+              (KDecided.R)
+              (Syntax.tyRef
+              (Syntax.named 5)
+              Syntax.imm
+              (KDecided.named))
+              5,
+        ) (List._∷_ (
+          11,
+          Rows'.sref
+              (KPost.R)
+              (Syntax.tyRef
+              (Syntax.named 6)
+              Syntax.imm
+              (KPost.named))
+              6,
+        ) (List._∷_ (
+          12,
+          Rows'.sref
+              (KPost.R)
+              (Syntax.tyRef
+              (Syntax.named 7)
+              Syntax.imm
+              (KPost.named))
+              7,
+        ) (List._∷_ (
+          13,
+          Rows'.any-gone
+              (Syntax.tyStruct
+              (List._∷_
+              102
+              (List._∷_
+              105
+              (List._∷_
+              110
+              (List._∷_
+              105
+              (List._∷_
+              115
+              (List._∷_
+              104
+              (List._∷_
+              58
+              (List._∷_
+              58
+              (List._∷_ 76 (List._∷_ 105 (List._∷_ 118 (List._∷_ 101 List.[]))))))))))))
+              (Syntax.tcons
+              Syntax.tyBool
+              (Syntax.tcons
+              (Syntax.tyInt Syntax.w64)
+              (Syntax.tcons Syntax.tyBool (Syntax.tcons (Syntax.tyInt Syntax.w64) Syntax.tnil))))),
+        ) (List._∷_ (
+          14,
+          Rows'.sc-shr
+              (KOwn.row)
+              (KOwn.R)
+              (λ x. x)
+              13,
+        ) (List._∷_ (15, Rows'.whole (Declared.row Places.the-type)) List.[])))))))))))))))
+
+        abbrev g47 : List.List Row.Entry
+        g47 = List._∷_ (
+          0,
+          Rows'.any-gone
+              (Syntax.tyStruct
+              (List._∷_
+              102
+              (List._∷_
+              105
+              (List._∷_
+              110
+              (List._∷_
+              105
+              (List._∷_
+              115
+              (List._∷_
+              104
+              (List._∷_
+              58
+              (List._∷_
+              58
+              (List._∷_
+              79
+              (List._∷_
+              117
+              (List._∷_
+              116
+              (List._∷_ 99 (List._∷_ 111 (List._∷_ 109 (List._∷_ 101 List.[])))))))))))))))
+              (Syntax.tcons
+              (Syntax.tyStruct
+              (List._∷_
+              102
+              (List._∷_
+              105
+              (List._∷_
+              110
+              (List._∷_
+              105
+              (List._∷_
+              115
+              (List._∷_
+              104
+              (List._∷_
+              58
+              (List._∷_
+              58
+              (List._∷_ 83 (List._∷_ 101 (List._∷_ 110 (List._∷_ 116 List.[]))))))))))))
+              (Syntax.tcons
+              (Syntax.tyStruct
+              (List._∷_
+              97
+              (List._∷_
+              110
+              (List._∷_
+              115
+              (List._∷_
+              119
+              (List._∷_
+              101
+              (List._∷_
+              114
+              (List._∷_
+              58
+              (List._∷_
+              58
+              (List._∷_
+              68
+              (List._∷_
+              101
+              (List._∷_
+              115
+              (List._∷_
+              116
+              (List._∷_
+              105
+              (List._∷_
+              110
+              (List._∷_
+              97
+              (List._∷_ 116 (List._∷_ 105 (List._∷_ 111 (List._∷_ 110 List.[])))))))))))))))))))
+              (Syntax.tcons
+              (Syntax.tyArray (Syntax.tyInt Syntax.w8) 16)
+              (Syntax.tcons
+              (Syntax.tyEnum
+              (List._∷_
+              97
+              (List._∷_
+              110
+              (List._∷_
+              115
+              (List._∷_
+              119
+              (List._∷_
+              101
+              (List._∷_
+              114
+              (List._∷_ 58 (List._∷_ 58 (List._∷_ 87 (List._∷_ 97 (List._∷_ 121 List.[])))))))))))
+              (Syntax.ttcons
+              Syntax.tnil
+              (Syntax.ttcons
+              Syntax.tnil
+              (Syntax.ttcons Syntax.tnil (Syntax.ttcons Syntax.tnil Syntax.ttnil)))))
+              Syntax.tnil)))
+              (Syntax.tcons (Syntax.tyInt Syntax.w64) Syntax.tnil)))
+              (Syntax.tcons
+              (Syntax.tyInt Syntax.w64)
+              (Syntax.tcons
+              (Syntax.tyStruct
+              (List._∷_
+              102
+              (List._∷_
+              105
+              (List._∷_
+              110
+              (List._∷_
+              105
+              (List._∷_
+              115
+              (List._∷_
+              104
+              (List._∷_
+              58
+              (List._∷_
+              58
+              (List._∷_ 83 (List._∷_ 101 (List._∷_ 110 (List._∷_ 116 List.[]))))))))))))
+              (Syntax.tcons
+              (Syntax.tyStruct
+              (List._∷_
+              97
+              (List._∷_
+              110
+              (List._∷_
+              115
+              (List._∷_
+              119
+              (List._∷_
+              101
+              (List._∷_
+              114
+              (List._∷_
+              58
+              (List._∷_
+              58
+              (List._∷_
+              68
+              (List._∷_
+              101
+              (List._∷_
+              115
+              (List._∷_
+              116
+              (List._∷_
+              105
+              (List._∷_
+              110
+              (List._∷_
+              97
+              (List._∷_ 116 (List._∷_ 105 (List._∷_ 111 (List._∷_ 110 List.[])))))))))))))))))))
+              (Syntax.tcons
+              (Syntax.tyArray (Syntax.tyInt Syntax.w8) 16)
+              (Syntax.tcons
+              (Syntax.tyEnum
+              (List._∷_
+              97
+              (List._∷_
+              110
+              (List._∷_
+              115
+              (List._∷_
+              119
+              (List._∷_
+              101
+              (List._∷_
+              114
+              (List._∷_ 58 (List._∷_ 58 (List._∷_ 87 (List._∷_ 97 (List._∷_ 121 List.[])))))))))))
+              (Syntax.ttcons
+              Syntax.tnil
+              (Syntax.ttcons
+              Syntax.tnil
+              (Syntax.ttcons Syntax.tnil (Syntax.ttcons Syntax.tnil Syntax.ttnil)))))
+              Syntax.tnil)))
+              (Syntax.tcons (Syntax.tyInt Syntax.w64) Syntax.tnil)))
+              (Syntax.tcons
+              (Syntax.tyEnum
+              (List._∷_
+              97
+              (List._∷_
+              110
+              (List._∷_
+              115
+              (List._∷_
+              119
+              (List._∷_
+              101
+              (List._∷_
+              114
+              (List._∷_
+              58
+              (List._∷_
+              58
+              (List._∷_
+              65
+              (List._∷_
+              110
+              (List._∷_ 115 (List._∷_ 119 (List._∷_ 101 (List._∷_ 114 List.[]))))))))))))))
+              (Syntax.ttcons
+              Syntax.tnil
+              (Syntax.ttcons
+              Syntax.tnil
+              (Syntax.ttcons
+              Syntax.tnil
+              (Syntax.ttcons
+              Syntax.tnil
+              (Syntax.ttcons
+              Syntax.tnil
+              (Syntax.ttcons
+              Syntax.tnil
+              (Syntax.ttcons
+              Syntax.tnil
+              (Syntax.ttcons
+              Syntax.tnil
+              (Syntax.ttcons
+              Syntax.tnil
+              (Syntax.ttcons
+              Syntax.tnil
+              (Syntax.ttcons
+              Syntax.tnil
+              (Syntax.ttcons
+              Syntax.tnil
+              (Syntax.ttcons
+              Syntax.tnil
+              (Syntax.ttcons
+              Syntax.tnil
+              (Syntax.ttcons
+              Syntax.tnil
+              (Syntax.ttcons
+              Syntax.tnil
+              (Syntax.ttcons Syntax.tnil (Syntax.ttcons Syntax.tnil Syntax.ttnil)))))))))))))))))))
+              (Syntax.tcons (Syntax.tyInt Syntax.w8) Syntax.tnil)))))),
+        ) (List._∷_ (
+          1,
+          Relend.mslice-owed
+              (KInstanceRow.R)
+              (Syntax.tyRef
+              (Syntax.named 0)
+              Syntax.mut
+              (KInstanceRow.named))
+              0
+              14
+              (Row.lease (κs .0) (qs .0)),
+        ) (List._∷_ (
+          2,
+          Mut.mslice
+              (KRouteRow.R)
+              (Syntax.tyRef
+              (Syntax.named 1)
+              Syntax.mut
+              (KRouteRow.named))
+              1,
+        ) (List._∷_ (
+          3,
+          Mut.mslice
+              (Referent.rtF (Referent.fInt Syntax.w8))
+              (Syntax.tyRef (Syntax.named 2) Syntax.mut (Syntax.tyInt Syntax.w8))
+              2,
+        ) (List._∷_ (
+          4,
+          Mut.mslice
+              (Referent.rtF (Referent.fInt Syntax.w8))
+              (Syntax.tyRef (Syntax.named 3) Syntax.mut (Syntax.tyInt Syntax.w8))
+              3,
+        ) (List._∷_ (5, Rows'.any-gone (KOwn.spelled)) (List._∷_ (
+          6,
+          Rows'.sc-here (Row.sInt Syntax.w64),
+        ) (List._∷_ (7, Rows'.sc-here (Row.sInt Syntax.w8)) (List._∷_ (
+          8,
+          Rows'.sc-here (Row.sInt Syntax.w64),
+        ) (List._∷_ (
+          9,
+          Rows'.sref
+              (Array'.Array (Array'.Array (Referent.rtF (Referent.fInt Syntax.w8)) 16) 16)
+              (Syntax.tyRef
+              (Syntax.named 4)
+              Syntax.imm
+              (Syntax.tyArray (Syntax.tyArray (Syntax.tyInt Syntax.w8) 16) 16))
+              4,
+        ) (List._∷_ (
+          10,
+          Rows'.sref
+              (KDecided.R)
+              (Syntax.tyRef
+              (Syntax.named 5)
+              Syntax.imm
+              (KDecided.named))
+              5,
+        ) (List._∷_ (
+          11,
+          Rows'.sref
+              (KPost.R)
+              (Syntax.tyRef
+              (Syntax.named 6)
+              Syntax.imm
+              (KPost.named))
+              6,
+        ) (List._∷_ (
+          12,
+          Rows'.sref
+              (KPost.R)
+              (Syntax.tyRef
+              (Syntax.named 7)
+              Syntax.imm
+              (KPost.named))
+              7,
+        ) (List._∷_ (
+          13,
+          Rows'.any-gone
+              (Syntax.tyStruct
+              (List._∷_
+              102
+              (List._∷_
+              105
+              (List._∷_
+              110
+              (List._∷_
+              105
+              (List._∷_
+              115
+              (List._∷_
+              104
+              (List._∷_
+              58
+              (List._∷_
+              58
+              (List._∷_ 76 (List._∷_ 105 (List._∷_ 118 (List._∷_ 101 List.[]))))))))))))
+              (Syntax.tcons
+              Syntax.tyBool
+              (Syntax.tcons
+              (Syntax.tyInt Syntax.w64)
+              (Syntax.tcons Syntax.tyBool (Syntax.tcons (Syntax.tyInt Syntax.w64) Syntax.tnil))))),
+        ) (List._∷_ (14, Rows'.any-gone (KOwn.spelled)) (List._∷_ (
+          15,
+          Rows'.whole (Declared.row Places.the-type),
         ) List.[])))))))))))))))
 
         abbrev g50 : List.List Row.Entry
@@ -19834,22 +18526,26 @@ module _ (claims· : Claims) where
               (Syntax.tcons (Syntax.tyInt Syntax.w8) Syntax.tnil)))))),
         ) (List._∷_ (
           1,
-          Mut.mslice
+          Relend.mslice-owed
               (KInstanceRow.R)
               (Syntax.tyRef
               (Syntax.named 0)
               Syntax.mut
               (KInstanceRow.named))
-              0,
+              0
+              14
+              (Row.lease (κs .0) (qs .0)),
         ) (List._∷_ (
           2,
-          Mut.mslice
+          Relend.mslice-owed
               (KRouteRow.R)
               (Syntax.tyRef
               (Syntax.named 1)
               Syntax.mut
               (KRouteRow.named))
-              1,
+              1
+              15
+              (Row.lease (κs .1 .0) (qs .1 .0)),
         ) (List._∷_ (
           3,
           Mut.mslice
@@ -19858,12 +18554,10 @@ module _ (claims· : Claims) where
               2,
         ) (List._∷_ (
           4,
-          Relend.mslice-owed
+          Mut.mslice
               (Referent.rtF (Referent.fInt Syntax.w8))
               (Syntax.tyRef (Syntax.named 3) Syntax.mut (Syntax.tyInt Syntax.w8))
-              3
-              14
-              (Row.lease (κs .1 .1 .1 .0) (qs .1 .1 .1 .0)),
+              3,
         ) (List._∷_ (5, Rows'.any-gone (KOwn.spelled)) (List._∷_ (
           6,
           Rows'.sc-here (Row.sInt Syntax.w64),
@@ -19932,7 +18626,353 @@ module _ (claims· : Claims) where
               (Syntax.tcons
               (Syntax.tyInt Syntax.w64)
               (Syntax.tcons Syntax.tyBool (Syntax.tcons (Syntax.tyInt Syntax.w64) Syntax.tnil))))),
-        ) (List._∷_ (14, KOwn.row) (List._∷_ (
+        ) (List._∷_ (14, Rows'.any-gone (KOwn.spelled)) (List._∷_ (
+          15,
+          Rows'.whole (Declared.row Places.the-type),
+        ) List.[])))))))))))))))
+
+        abbrev g54 : List.List Row.Entry
+        g54 = List._∷_ (
+          0,
+          Rows'.any-gone
+              (Syntax.tyStruct
+              (List._∷_
+              102
+              (List._∷_
+              105
+              (List._∷_
+              110
+              (List._∷_
+              105
+              (List._∷_
+              115
+              (List._∷_
+              104
+              (List._∷_
+              58
+              (List._∷_
+              58
+              (List._∷_
+              79
+              (List._∷_
+              117
+              (List._∷_
+              116
+              (List._∷_ 99 (List._∷_ 111 (List._∷_ 109 (List._∷_ 101 List.[])))))))))))))))
+              (Syntax.tcons
+              (Syntax.tyStruct
+              (List._∷_
+              102
+              (List._∷_
+              105
+              (List._∷_
+              110
+              (List._∷_
+              105
+              (List._∷_
+              115
+              (List._∷_
+              104
+              (List._∷_
+              58
+              (List._∷_
+              58
+              (List._∷_ 83 (List._∷_ 101 (List._∷_ 110 (List._∷_ 116 List.[]))))))))))))
+              (Syntax.tcons
+              (Syntax.tyStruct
+              (List._∷_
+              97
+              (List._∷_
+              110
+              (List._∷_
+              115
+              (List._∷_
+              119
+              (List._∷_
+              101
+              (List._∷_
+              114
+              (List._∷_
+              58
+              (List._∷_
+              58
+              (List._∷_
+              68
+              (List._∷_
+              101
+              (List._∷_
+              115
+              (List._∷_
+              116
+              (List._∷_
+              105
+              (List._∷_
+              110
+              (List._∷_
+              97
+              (List._∷_ 116 (List._∷_ 105 (List._∷_ 111 (List._∷_ 110 List.[])))))))))))))))))))
+              (Syntax.tcons
+              (Syntax.tyArray (Syntax.tyInt Syntax.w8) 16)
+              (Syntax.tcons
+              (Syntax.tyEnum
+              (List._∷_
+              97
+              (List._∷_
+              110
+              (List._∷_
+              115
+              (List._∷_
+              119
+              (List._∷_
+              101
+              (List._∷_
+              114
+              (List._∷_ 58 (List._∷_ 58 (List._∷_ 87 (List._∷_ 97 (List._∷_ 121 List.[])))))))))))
+              (Syntax.ttcons
+              Syntax.tnil
+              (Syntax.ttcons
+              Syntax.tnil
+              (Syntax.ttcons Syntax.tnil (Syntax.ttcons Syntax.tnil Syntax.ttnil)))))
+              Syntax.tnil)))
+              (Syntax.tcons (Syntax.tyInt Syntax.w64) Syntax.tnil)))
+              (Syntax.tcons
+              (Syntax.tyInt Syntax.w64)
+              (Syntax.tcons
+              (Syntax.tyStruct
+              (List._∷_
+              102
+              (List._∷_
+              105
+              (List._∷_
+              110
+              (List._∷_
+              105
+              (List._∷_
+              115
+              (List._∷_
+              104
+              (List._∷_
+              58
+              (List._∷_
+              58
+              (List._∷_ 83 (List._∷_ 101 (List._∷_ 110 (List._∷_ 116 List.[]))))))))))))
+              (Syntax.tcons
+              (Syntax.tyStruct
+              (List._∷_
+              97
+              (List._∷_
+              110
+              (List._∷_
+              115
+              (List._∷_
+              119
+              (List._∷_
+              101
+              (List._∷_
+              114
+              (List._∷_
+              58
+              (List._∷_
+              58
+              (List._∷_
+              68
+              (List._∷_
+              101
+              (List._∷_
+              115
+              (List._∷_
+              116
+              (List._∷_
+              105
+              (List._∷_
+              110
+              (List._∷_
+              97
+              (List._∷_ 116 (List._∷_ 105 (List._∷_ 111 (List._∷_ 110 List.[])))))))))))))))))))
+              (Syntax.tcons
+              (Syntax.tyArray (Syntax.tyInt Syntax.w8) 16)
+              (Syntax.tcons
+              (Syntax.tyEnum
+              (List._∷_
+              97
+              (List._∷_
+              110
+              (List._∷_
+              115
+              (List._∷_
+              119
+              (List._∷_
+              101
+              (List._∷_
+              114
+              (List._∷_ 58 (List._∷_ 58 (List._∷_ 87 (List._∷_ 97 (List._∷_ 121 List.[])))))))))))
+              (Syntax.ttcons
+              Syntax.tnil
+              (Syntax.ttcons
+              Syntax.tnil
+              (Syntax.ttcons Syntax.tnil (Syntax.ttcons Syntax.tnil Syntax.ttnil)))))
+              Syntax.tnil)))
+              (Syntax.tcons (Syntax.tyInt Syntax.w64) Syntax.tnil)))
+              (Syntax.tcons
+              (Syntax.tyEnum
+              (List._∷_
+              97
+              (List._∷_
+              110
+              (List._∷_
+              115
+              (List._∷_
+              119
+              (List._∷_
+              101
+              (List._∷_
+              114
+              (List._∷_
+              58
+              (List._∷_
+              58
+              (List._∷_
+              65
+              (List._∷_
+              110
+              (List._∷_ 115 (List._∷_ 119 (List._∷_ 101 (List._∷_ 114 List.[]))))))))))))))
+              (Syntax.ttcons
+              Syntax.tnil
+              (Syntax.ttcons
+              Syntax.tnil
+              (Syntax.ttcons
+              Syntax.tnil
+              (Syntax.ttcons
+              Syntax.tnil
+              (Syntax.ttcons
+              Syntax.tnil
+              (Syntax.ttcons
+              Syntax.tnil
+              (Syntax.ttcons
+              Syntax.tnil
+              (Syntax.ttcons
+              Syntax.tnil
+              (Syntax.ttcons
+              Syntax.tnil
+              (Syntax.ttcons
+              Syntax.tnil
+              (Syntax.ttcons
+              Syntax.tnil
+              (Syntax.ttcons
+              Syntax.tnil
+              (Syntax.ttcons
+              Syntax.tnil
+              (Syntax.ttcons
+              Syntax.tnil
+              (Syntax.ttcons
+              Syntax.tnil
+              (Syntax.ttcons
+              Syntax.tnil
+              (Syntax.ttcons Syntax.tnil (Syntax.ttcons Syntax.tnil Syntax.ttnil)))))))))))))))))))
+              (Syntax.tcons (Syntax.tyInt Syntax.w8) Syntax.tnil)))))),
+        ) (List._∷_ (
+          1,
+          Relend.mslice-owed
+              (KInstanceRow.R)
+              (Syntax.tyRef
+              (Syntax.named 0)
+              Syntax.mut
+              (KInstanceRow.named))
+              0
+              14
+              (Row.lease (κs .0) (qs .0)),
+        ) (List._∷_ (
+          2,
+          Relend.mslice-owed
+              (KRouteRow.R)
+              (Syntax.tyRef
+              (Syntax.named 1)
+              Syntax.mut
+              (KRouteRow.named))
+              1
+              15
+              (Row.lease (κs .1 .0) (qs .1 .0)),
+        ) (List._∷_ (
+          3,
+          Mut.mslice
+              (Referent.rtF (Referent.fInt Syntax.w8))
+              (Syntax.tyRef (Syntax.named 2) Syntax.mut (Syntax.tyInt Syntax.w8))
+              2,
+        ) (List._∷_ (
+          4,
+          Mut.mslice
+              (Referent.rtF (Referent.fInt Syntax.w8))
+              (Syntax.tyRef (Syntax.named 3) Syntax.mut (Syntax.tyInt Syntax.w8))
+              3,
+        ) (List._∷_ (5, Rows'.any-gone (KOwn.spelled)) (List._∷_ (
+          6,
+          Rows'.sc-here (Row.sInt Syntax.w64),
+        ) (List._∷_ (7, Rows'.sc-here (Row.sInt Syntax.w8)) (List._∷_ (
+          8,
+          Rows'.sc-here (Row.sInt Syntax.w64),
+        ) (List._∷_ (
+          9,
+          Rows'.sref
+              (Array'.Array (Array'.Array (Referent.rtF (Referent.fInt Syntax.w8)) 16) 16)
+              (Syntax.tyRef
+              (Syntax.named 4)
+              Syntax.imm
+              (Syntax.tyArray (Syntax.tyArray (Syntax.tyInt Syntax.w8) 16) 16))
+              4,
+        ) (List._∷_ (
+          10,
+          Rows'.sref
+              (KDecided.R)
+              (Syntax.tyRef
+              (Syntax.named 5)
+              Syntax.imm
+              (KDecided.named))
+              5,
+        ) (List._∷_ (
+          11,
+          Rows'.sref
+              (KPost.R)
+              (Syntax.tyRef
+              (Syntax.named 6)
+              Syntax.imm
+              (KPost.named))
+              6,
+        ) (List._∷_ (
+          12,
+          Rows'.sref
+              (KPost.R)
+              (Syntax.tyRef
+              (Syntax.named 7)
+              Syntax.imm
+              (KPost.named))
+              7,
+        ) (List._∷_ (
+          13,
+          Rows'.any-gone
+              (Syntax.tyStruct
+              (List._∷_
+              102
+              (List._∷_
+              105
+              (List._∷_
+              110
+              (List._∷_
+              105
+              (List._∷_
+              115
+              (List._∷_
+              104
+              (List._∷_
+              58
+              (List._∷_
+              58
+              (List._∷_ 76 (List._∷_ 105 (List._∷_ 118 (List._∷_ 101 List.[]))))))))))))
+              (Syntax.tcons
+              Syntax.tyBool
+              (Syntax.tcons
+              (Syntax.tyInt Syntax.w64)
+              (Syntax.tcons Syntax.tyBool (Syntax.tcons (Syntax.tyInt Syntax.w64) Syntax.tnil))))),
+        ) (List._∷_ (14, Rows'.any-gone (KOwn.spelled)) (List._∷_ (
           15,
           Rows'.any-gone
               (Syntax.tyStruct
@@ -19962,8 +19002,8 @@ module _ (claims· : Claims) where
               (Syntax.tcons (Syntax.tyInt Syntax.w64) Syntax.tnil)))),
         ) List.[])))))))))))))))
 
-        abbrev g53 : List.List Row.Entry
-        g53 = List._∷_ (
+        abbrev g57 : List.List Row.Entry
+        g57 = List._∷_ (
           0,
           Rows'.any-gone
               (Syntax.tyStruct
@@ -20212,13 +19252,15 @@ module _ (claims· : Claims) where
               0,
         ) (List._∷_ (
           2,
-          Mut.mslice
+          Relend.mslice-owed
               (KRouteRow.R)
               (Syntax.tyRef
               (Syntax.named 1)
               Syntax.mut
               (KRouteRow.named))
-              1,
+              1
+              15
+              (Row.lease (κs .1 .0) (qs .1 .0)),
         ) (List._∷_ (
           3,
           Mut.mslice
@@ -20227,12 +19269,10 @@ module _ (claims· : Claims) where
               2,
         ) (List._∷_ (
           4,
-          Relend.mslice-owed
+          Mut.mslice
               (Referent.rtF (Referent.fInt Syntax.w8))
               (Syntax.tyRef (Syntax.named 3) Syntax.mut (Syntax.tyInt Syntax.w8))
-              3
-              14
-              (Row.lease (κs .1 .1 .1 .0) (qs .1 .1 .1 .0)),
+              3,
         ) (List._∷_ (5, Rows'.any-gone (KOwn.spelled)) (List._∷_ (
           6,
           Rows'.sc-here (Row.sInt Syntax.w64),
@@ -20301,14 +19341,7 @@ module _ (claims· : Claims) where
               (Syntax.tcons
               (Syntax.tyInt Syntax.w64)
               (Syntax.tcons Syntax.tyBool (Syntax.tcons (Syntax.tyInt Syntax.w64) Syntax.tnil))))),
-        ) (List._∷_ (
-          14,
-          Rows'.sc-shr
-              (KOwn.row)
-              (KOwn.R)
-              (λ x. x)
-              15,
-        ) (List._∷_ (
+        ) (List._∷_ (14, Rows'.any-gone (KOwn.spelled)) (List._∷_ (
           15,
           Rows'.any-gone
               (Syntax.tyStruct
@@ -21462,11 +20495,11 @@ module _ (claims· : Claims) where
         G35 = record {
           locals = List._++_ g28 (List._++_ t29 t2);
           slots = List._∷_
-              Row.off
+              (Row.lease (κs .0) (qs .0))
               (List._∷_
               (Row.lease (κs .1 .0) (qs .1 .0))
               (List._∷_
-              (Row.lease (κs .1 .1 .0) (qs .1 .1 .0))
+              Row.off
               (List._∷_
               (Row.lease (κs .1 .1 .1 .0) (qs .1 .1 .1 .0))
               (List._∷_
@@ -21494,11 +20527,11 @@ module _ (claims· : Claims) where
         G36 = record {
           locals = List._++_ g28 (List._++_ t30 t2);
           slots = List._∷_
-              Row.off
+              (Row.lease (κs .0) (qs .0))
               (List._∷_
               (Row.lease (κs .1 .0) (qs .1 .0))
               (List._∷_
-              (Row.lease (κs .1 .1 .0) (qs .1 .1 .0))
+              Row.off
               (List._∷_
               (Row.lease (κs .1 .1 .1 .0) (qs .1 .1 .1 .0))
               (List._∷_
@@ -21526,11 +20559,11 @@ module _ (claims· : Claims) where
         G37 = record {
           locals = List._++_ g28 (List._++_ t30 t2);
           slots = List._∷_
-              Row.off
+              (Row.lease (κs .0) (qs .0))
               (List._∷_
               (Row.lease (κs .1 .0) (qs .1 .0))
               (List._∷_
-              (Row.lease (κs .1 .1 .0) (qs .1 .1 .0))
+              Row.off
               (List._∷_
               (Row.lease (κs .1 .1 .1 .0) (qs .1 .1 .1 .0))
               (List._∷_
@@ -21558,11 +20591,11 @@ module _ (claims· : Claims) where
         G38 = record {
           locals = List._++_ g31 (List._++_ t32 t2);
           slots = List._∷_
-              Row.off
+              (Row.lease (κs .0) (qs .0))
+              (List._∷_
+              (Row.lease (κs .1 .0) (qs .1 .0))
               (List._∷_
               Row.off
-              (List._∷_
-              (Row.lease (κs .1 .1 .0) (qs .1 .1 .0))
               (List._∷_
               (Row.lease (κs .1 .1 .1 .0) (qs .1 .1 .1 .0))
               (List._∷_
@@ -21590,11 +20623,11 @@ module _ (claims· : Claims) where
         G39 = record {
           locals = List._++_ g31 (List._++_ t33 t2);
           slots = List._∷_
-              Row.off
+              (Row.lease (κs .0) (qs .0))
+              (List._∷_
+              (Row.lease (κs .1 .0) (qs .1 .0))
               (List._∷_
               Row.off
-              (List._∷_
-              (Row.lease (κs .1 .1 .0) (qs .1 .1 .0))
               (List._∷_
               (Row.lease (κs .1 .1 .1 .0) (qs .1 .1 .1 .0))
               (List._∷_
@@ -21622,11 +20655,11 @@ module _ (claims· : Claims) where
         G40 = record {
           locals = List._++_ g31 (List._++_ t34 t2);
           slots = List._∷_
-              Row.off
+              (Row.lease (κs .0) (qs .0))
+              (List._∷_
+              (Row.lease (κs .1 .0) (qs .1 .0))
               (List._∷_
               Row.off
-              (List._∷_
-              (Row.lease (κs .1 .1 .0) (qs .1 .1 .0))
               (List._∷_
               (Row.lease (κs .1 .1 .1 .0) (qs .1 .1 .1 .0))
               (List._∷_
@@ -21652,13 +20685,13 @@ module _ (claims· : Claims) where
 
         abbrev G41 : Row.Cx
         G41 = record {
-          locals = List._++_ g35 (List._++_ t34 t2);
+          locals = List._++_ g31 (List._++_ t34 t2);
           slots = List._∷_
-              Row.off
+              (Row.lease (κs .0) (qs .0))
+              (List._∷_
+              (Row.lease (κs .1 .0) (qs .1 .0))
               (List._∷_
               Row.off
-              (List._∷_
-              (Row.lease (κs .1 .1 .0) (qs .1 .1 .0))
               (List._∷_
               (Row.lease (κs .1 .1 .1 .0) (qs .1 .1 .1 .0))
               (List._∷_
@@ -21674,7 +20707,7 @@ module _ (claims· : Claims) where
               (List._∷_
               Row.off
               (List._∷_
-              Row.alive
+              Row.dead
               (List._∷_
               Row.alive
               (List._∷_
@@ -21684,11 +20717,11 @@ module _ (claims· : Claims) where
 
         abbrev G42 : Row.Cx
         G42 = record {
-          locals = List._++_ g35 (List._++_ t36 t2);
+          locals = List._++_ t35 (List._++_ t36 t2);
           slots = List._∷_
-              Row.off
+              (Row.lease (κs .0) (qs .0))
               (List._∷_
-              Row.off
+              (Row.lease (κs .1 .0) (qs .1 .0))
               (List._∷_
               (Row.lease (κs .1 .1 .0) (qs .1 .1 .0))
               (List._∷_
@@ -21706,7 +20739,7 @@ module _ (claims· : Claims) where
               (List._∷_
               Row.off
               (List._∷_
-              Row.alive
+              Row.dead
               (List._∷_
               Row.alive
               (List._∷_
@@ -21716,11 +20749,11 @@ module _ (claims· : Claims) where
 
         abbrev G43 : Row.Cx
         G43 = record {
-          locals = List._++_ g35 (List._++_ t37 t2);
+          locals = List._++_ t35 (List._++_ t36 t2);
           slots = List._∷_
-              Row.off
+              (Row.lease (κs .0) (qs .0))
               (List._∷_
-              Row.off
+              (Row.lease (κs .1 .0) (qs .1 .0))
               (List._∷_
               (Row.lease (κs .1 .1 .0) (qs .1 .1 .0))
               (List._∷_
@@ -21738,7 +20771,7 @@ module _ (claims· : Claims) where
               (List._∷_
               Row.off
               (List._∷_
-              Row.alive
+              Row.dead
               (List._∷_
               Row.alive
               (List._∷_
@@ -21748,11 +20781,11 @@ module _ (claims· : Claims) where
 
         abbrev G44 : Row.Cx
         G44 = record {
-          locals = List._++_ g35 (List._++_ t37 t2);
+          locals = List._++_ t35 (List._++_ t36 t2);
           slots = List._∷_
-              Row.off
+              (Row.lease (κs .0) (qs .0))
               (List._∷_
-              Row.off
+              (Row.lease (κs .1 .0) (qs .1 .0))
               (List._∷_
               (Row.lease (κs .1 .1 .0) (qs .1 .1 .0))
               (List._∷_
@@ -21770,7 +20803,7 @@ module _ (claims· : Claims) where
               (List._∷_
               Row.off
               (List._∷_
-              Row.dead
+              Row.off
               (List._∷_
               Row.alive
               (List._∷_
@@ -21780,11 +20813,11 @@ module _ (claims· : Claims) where
 
         abbrev G45 : Row.Cx
         G45 = record {
-          locals = List._++_ g38 (List._++_ t39 t2);
+          locals = List._++_ t35 (List._++_ t36 t2);
           slots = List._∷_
               (Row.lease (κs .0) (qs .0))
               (List._∷_
-              Row.off
+              (Row.lease (κs .1 .0) (qs .1 .0))
               (List._∷_
               (Row.lease (κs .1 .1 .0) (qs .1 .1 .0))
               (List._∷_
@@ -21802,9 +20835,9 @@ module _ (claims· : Claims) where
               (List._∷_
               Row.off
               (List._∷_
-              Row.dead
+              Row.off
               (List._∷_
-              Row.alive
+              Row.dead
               (List._∷_
               Row.off
               (List._∷_ Row.off (List._∷_ Row.off (List._∷_ Row.off List.[])))))))))))))));
@@ -21812,11 +20845,11 @@ module _ (claims· : Claims) where
 
         abbrev G46 : Row.Cx
         G46 = record {
-          locals = List._++_ g38 (List._++_ t39 t2);
+          locals = List._++_ t25 (List._++_ t36 t2);
           slots = List._∷_
               (Row.lease (κs .0) (qs .0))
               (List._∷_
-              Row.off
+              (Row.lease (κs .1 .0) (qs .1 .0))
               (List._∷_
               (Row.lease (κs .1 .1 .0) (qs .1 .1 .0))
               (List._∷_
@@ -21829,6 +20862,72 @@ module _ (claims· : Claims) where
               (Row.lease (κs .1 .1 .1 .1 .1 .1 .0) (qs .1 .1 .1 .1 .1 .1 .0))
               (List._∷_
               (Row.lease (κs .1 .1 .1 .1 .1 .1 .1 .0) (qs .1 .1 .1 .1 .1 .1 .1 .0))
+              (List._∷_
+              Row.off
+              (List._∷_
+              Row.off
+              (List._∷_
+              Row.off
+              (List._∷_
+              Row.dead
+              (List._∷_
+              Row.off
+              (List._∷_ Row.off (List._∷_ Row.off (List._∷_ Row.off List.[])))))))))))))));
+        }
+
+        abbrev G47 : Row.Cx
+        G47 = record {
+          locals = List._++_ t25 (List._++_ t36 t2);
+          slots = List._∷_
+              (Row.lease (κs .0) (qs .0))
+              (List._∷_
+              (Row.lease (κs .1 .0) (qs .1 .0))
+              (List._∷_
+              (Row.lease (κs .1 .1 .0) (qs .1 .1 .0))
+              (List._∷_
+              (Row.lease (κs .1 .1 .1 .0) (qs .1 .1 .1 .0))
+              (List._∷_
+              (Row.lease (κs .1 .1 .1 .1 .0) (qs .1 .1 .1 .1 .0))
+              (List._∷_
+              (Row.lease (κs .1 .1 .1 .1 .1 .0) (qs .1 .1 .1 .1 .1 .0))
+              (List._∷_
+              (Row.lease (κs .1 .1 .1 .1 .1 .1 .0) (qs .1 .1 .1 .1 .1 .1 .0))
+              (List._∷_
+              (Row.lease (κs .1 .1 .1 .1 .1 .1 .1 .0) (qs .1 .1 .1 .1 .1 .1 .1 .0))
+              (List._∷_
+              Row.off
+              (List._∷_
+              Row.off
+              (List._∷_
+              Row.off
+              (List._∷_
+              Row.off
+              (List._∷_
+              Row.off
+              (List._∷_ Row.off (List._∷_ Row.off (List._∷_ Row.off List.[])))))))))))))));
+        }
+
+        abbrev G48 : Row.Cx
+        G48 = record {
+          locals = List._++_ t25 (List._++_ t36 t2);
+          slots = List._∷_
+              (Row.lease (κs .0) (qs .0))
+              (List._∷_
+              (Row.lease (κs .1 .0) (qs .1 .0))
+              (List._∷_
+              (Row.lease (κs .1 .1 .0) (qs .1 .1 .0))
+              (List._∷_
+              (Row.lease (κs .1 .1 .1 .0) (qs .1 .1 .1 .0))
+              (List._∷_
+              (Row.lease (κs .1 .1 .1 .1 .0) (qs .1 .1 .1 .1 .0))
+              (List._∷_
+              (Row.lease (κs .1 .1 .1 .1 .1 .0) (qs .1 .1 .1 .1 .1 .0))
+              (List._∷_
+              (Row.lease (κs .1 .1 .1 .1 .1 .1 .0) (qs .1 .1 .1 .1 .1 .1 .0))
+              (List._∷_
+              (Row.lease (κs .1 .1 .1 .1 .1 .1 .1 .0) (qs .1 .1 .1 .1 .1 .1 .1 .0))
+              (List._∷_
+              Row.off
               (List._∷_
               Row.off
               (List._∷_
@@ -21837,78 +20936,12 @@ module _ (claims· : Claims) where
               Row.off
               (List._∷_
               Row.alive
-              (List._∷_
-              Row.off
-              (List._∷_ Row.off (List._∷_ Row.off (List._∷_ Row.off List.[])))))))))))))));
-        }
-
-        abbrev G47 : Row.Cx
-        G47 = record {
-          locals = List._++_ g38 (List._++_ t39 t2);
-          slots = List._∷_
-              (Row.lease (κs .0) (qs .0))
-              (List._∷_
-              Row.off
-              (List._∷_
-              (Row.lease (κs .1 .1 .0) (qs .1 .1 .0))
-              (List._∷_
-              (Row.lease (κs .1 .1 .1 .0) (qs .1 .1 .1 .0))
-              (List._∷_
-              (Row.lease (κs .1 .1 .1 .1 .0) (qs .1 .1 .1 .1 .0))
-              (List._∷_
-              (Row.lease (κs .1 .1 .1 .1 .1 .0) (qs .1 .1 .1 .1 .1 .0))
-              (List._∷_
-              (Row.lease (κs .1 .1 .1 .1 .1 .1 .0) (qs .1 .1 .1 .1 .1 .1 .0))
-              (List._∷_
-              (Row.lease (κs .1 .1 .1 .1 .1 .1 .1 .0) (qs .1 .1 .1 .1 .1 .1 .1 .0))
-              (List._∷_
-              Row.off
-              (List._∷_
-              Row.off
-              (List._∷_
-              Row.off
-              (List._∷_
-              Row.dead
-              (List._∷_
-              Row.off
-              (List._∷_ Row.off (List._∷_ Row.off (List._∷_ Row.off List.[])))))))))))))));
-        }
-
-        abbrev G48 : Row.Cx
-        G48 = record {
-          locals = List._++_ t40 (List._++_ t1 t2);
-          slots = List._∷_
-              (Row.lease (κs .0) (qs .0))
-              (List._∷_
-              (Row.lease (κs .1 .0) (qs .1 .0))
-              (List._∷_
-              (Row.lease (κs .1 .1 .0) (qs .1 .1 .0))
-              (List._∷_
-              (Row.lease (κs .1 .1 .1 .0) (qs .1 .1 .1 .0))
-              (List._∷_
-              (Row.lease (κs .1 .1 .1 .1 .0) (qs .1 .1 .1 .1 .0))
-              (List._∷_
-              (Row.lease (κs .1 .1 .1 .1 .1 .0) (qs .1 .1 .1 .1 .1 .0))
-              (List._∷_
-              (Row.lease (κs .1 .1 .1 .1 .1 .1 .0) (qs .1 .1 .1 .1 .1 .1 .0))
-              (List._∷_
-              (Row.lease (κs .1 .1 .1 .1 .1 .1 .1 .0) (qs .1 .1 .1 .1 .1 .1 .1 .0))
-              (List._∷_
-              Row.off
-              (List._∷_
-              Row.off
-              (List._∷_
-              Row.off
-              (List._∷_
-              Row.dead
-              (List._∷_
-              Row.off
               (List._∷_ Row.off (List._∷_ Row.off (List._∷_ Row.off List.[])))))))))))))));
         }
 
         abbrev G49 : Row.Cx
         G49 = record {
-          locals = List._++_ t40 (List._++_ t1 t2);
+          locals = List._++_ g37 (List._++_ t38 t2);
           slots = List._∷_
               (Row.lease (κs .0) (qs .0))
               (List._∷_
@@ -21916,7 +20949,7 @@ module _ (claims· : Claims) where
               (List._∷_
               (Row.lease (κs .1 .1 .0) (qs .1 .1 .0))
               (List._∷_
-              (Row.lease (κs .1 .1 .1 .0) (qs .1 .1 .1 .0))
+              Row.off
               (List._∷_
               (Row.lease (κs .1 .1 .1 .1 .0) (qs .1 .1 .1 .1 .0))
               (List._∷_
@@ -21934,13 +20967,13 @@ module _ (claims· : Claims) where
               (List._∷_
               Row.off
               (List._∷_
-              Row.off
+              Row.alive
               (List._∷_ Row.off (List._∷_ Row.off (List._∷_ Row.off List.[])))))))))))))));
         }
 
         abbrev G50 : Row.Cx
         G50 = record {
-          locals = List._++_ t40 (List._++_ t1 t2);
+          locals = List._++_ g37 (List._++_ t39 t2);
           slots = List._∷_
               (Row.lease (κs .0) (qs .0))
               (List._∷_
@@ -21948,7 +20981,7 @@ module _ (claims· : Claims) where
               (List._∷_
               (Row.lease (κs .1 .1 .0) (qs .1 .1 .0))
               (List._∷_
-              (Row.lease (κs .1 .1 .1 .0) (qs .1 .1 .1 .0))
+              Row.off
               (List._∷_
               (Row.lease (κs .1 .1 .1 .1 .0) (qs .1 .1 .1 .1 .0))
               (List._∷_
@@ -21972,15 +21005,15 @@ module _ (claims· : Claims) where
 
         abbrev G51 : Row.Cx
         G51 = record {
-          locals = List._++_ g41 (List._++_ t42 t2);
+          locals = List._++_ g37 (List._++_ t39 t2);
           slots = List._∷_
               (Row.lease (κs .0) (qs .0))
               (List._∷_
               (Row.lease (κs .1 .0) (qs .1 .0))
               (List._∷_
-              Row.off
+              (Row.lease (κs .1 .1 .0) (qs .1 .1 .0))
               (List._∷_
-              (Row.lease (κs .1 .1 .1 .0) (qs .1 .1 .1 .0))
+              Row.off
               (List._∷_
               (Row.lease (κs .1 .1 .1 .1 .0) (qs .1 .1 .1 .1 .0))
               (List._∷_
@@ -21999,20 +21032,20 @@ module _ (claims· : Claims) where
               Row.off
               (List._∷_
               Row.alive
-              (List._∷_ Row.off (List._∷_ Row.off (List._∷_ Row.off List.[])))))))))))))));
+              (List._∷_ Row.alive (List._∷_ Row.off (List._∷_ Row.off List.[])))))))))))))));
         }
 
         abbrev G52 : Row.Cx
         G52 = record {
-          locals = List._++_ g41 (List._++_ t1 t43);
+          locals = List._++_ g40 (List._++_ t41 t2);
           slots = List._∷_
               (Row.lease (κs .0) (qs .0))
               (List._∷_
               (Row.lease (κs .1 .0) (qs .1 .0))
               (List._∷_
-              Row.off
+              (Row.lease (κs .1 .1 .0) (qs .1 .1 .0))
               (List._∷_
-              (Row.lease (κs .1 .1 .1 .0) (qs .1 .1 .1 .0))
+              Row.off
               (List._∷_
               (Row.lease (κs .1 .1 .1 .1 .0) (qs .1 .1 .1 .1 .0))
               (List._∷_
@@ -22031,20 +21064,20 @@ module _ (claims· : Claims) where
               Row.off
               (List._∷_
               Row.alive
-              (List._∷_ Row.off (List._∷_ Row.off (List._∷_ Row.off List.[])))))))))))))));
+              (List._∷_ Row.alive (List._∷_ Row.off (List._∷_ Row.off List.[])))))))))))))));
         }
 
         abbrev G53 : Row.Cx
         G53 = record {
-          locals = List._++_ g41 (List._++_ t1 t43);
+          locals = List._++_ g40 (List._++_ t42 t2);
           slots = List._∷_
               (Row.lease (κs .0) (qs .0))
               (List._∷_
               (Row.lease (κs .1 .0) (qs .1 .0))
               (List._∷_
-              Row.off
+              (Row.lease (κs .1 .1 .0) (qs .1 .1 .0))
               (List._∷_
-              (Row.lease (κs .1 .1 .1 .0) (qs .1 .1 .1 .0))
+              Row.off
               (List._∷_
               (Row.lease (κs .1 .1 .1 .1 .0) (qs .1 .1 .1 .1 .0))
               (List._∷_
@@ -22068,15 +21101,15 @@ module _ (claims· : Claims) where
 
         abbrev G54 : Row.Cx
         G54 = record {
-          locals = List._++_ g44 (List._++_ t1 t45);
+          locals = List._++_ g40 (List._++_ t43 t2);
           slots = List._∷_
               (Row.lease (κs .0) (qs .0))
               (List._∷_
               (Row.lease (κs .1 .0) (qs .1 .0))
               (List._∷_
-              Row.off
+              (Row.lease (κs .1 .1 .0) (qs .1 .1 .0))
               (List._∷_
-              (Row.lease (κs .1 .1 .1 .0) (qs .1 .1 .1 .0))
+              Row.off
               (List._∷_
               (Row.lease (κs .1 .1 .1 .1 .0) (qs .1 .1 .1 .1 .0))
               (List._∷_
@@ -22100,15 +21133,15 @@ module _ (claims· : Claims) where
 
         abbrev G55 : Row.Cx
         G55 = record {
-          locals = List._++_ g44 (List._++_ t46 t47);
+          locals = List._++_ g40 (List._++_ t43 t2);
           slots = List._∷_
               (Row.lease (κs .0) (qs .0))
               (List._∷_
               (Row.lease (κs .1 .0) (qs .1 .0))
               (List._∷_
-              Row.off
+              (Row.lease (κs .1 .1 .0) (qs .1 .1 .0))
               (List._∷_
-              (Row.lease (κs .1 .1 .1 .0) (qs .1 .1 .1 .0))
+              Row.off
               (List._∷_
               (Row.lease (κs .1 .1 .1 .1 .0) (qs .1 .1 .1 .1 .0))
               (List._∷_
@@ -22126,19 +21159,19 @@ module _ (claims· : Claims) where
               (List._∷_
               Row.off
               (List._∷_
-              Row.alive
+              Row.dead
               (List._∷_ Row.alive (List._∷_ Row.off (List._∷_ Row.off List.[])))))))))))))));
         }
 
         abbrev G56 : Row.Cx
         G56 = record {
-          locals = List._++_ g44 (List._++_ t46 t48);
+          locals = List._++_ t44 (List._++_ t45 t2);
           slots = List._∷_
               (Row.lease (κs .0) (qs .0))
               (List._∷_
               (Row.lease (κs .1 .0) (qs .1 .0))
               (List._∷_
-              Row.off
+              (Row.lease (κs .1 .1 .0) (qs .1 .1 .0))
               (List._∷_
               (Row.lease (κs .1 .1 .1 .0) (qs .1 .1 .1 .0))
               (List._∷_
@@ -22158,19 +21191,19 @@ module _ (claims· : Claims) where
               (List._∷_
               Row.off
               (List._∷_
-              Row.alive
+              Row.dead
               (List._∷_ Row.alive (List._∷_ Row.off (List._∷_ Row.off List.[])))))))))))))));
         }
 
         abbrev G57 : Row.Cx
         G57 = record {
-          locals = List._++_ g44 (List._++_ t46 t48);
+          locals = List._++_ t44 (List._++_ t45 t2);
           slots = List._∷_
               (Row.lease (κs .0) (qs .0))
               (List._∷_
               (Row.lease (κs .1 .0) (qs .1 .0))
               (List._∷_
-              Row.off
+              (Row.lease (κs .1 .1 .0) (qs .1 .1 .0))
               (List._∷_
               (Row.lease (κs .1 .1 .1 .0) (qs .1 .1 .1 .0))
               (List._∷_
@@ -22196,7 +21229,7 @@ module _ (claims· : Claims) where
 
         abbrev G58 : Row.Cx
         G58 = record {
-          locals = List._++_ t49 (List._++_ t46 t2);
+          locals = List._++_ t44 (List._++_ t45 t2);
           slots = List._∷_
               (Row.lease (κs .0) (qs .0))
               (List._∷_
@@ -22222,13 +21255,13 @@ module _ (claims· : Claims) where
               (List._∷_
               Row.off
               (List._∷_
-              Row.dead
+              Row.off
               (List._∷_ Row.alive (List._∷_ Row.off (List._∷_ Row.off List.[])))))))))))))));
         }
 
         abbrev G59 : Row.Cx
         G59 = record {
-          locals = List._++_ t49 (List._++_ t46 t2);
+          locals = List._++_ t44 (List._++_ t45 t2);
           slots = List._∷_
               (Row.lease (κs .0) (qs .0))
               (List._∷_
@@ -22254,13 +21287,13 @@ module _ (claims· : Claims) where
               (List._∷_
               Row.off
               (List._∷_
-              Row.dead
-              (List._∷_ Row.alive (List._∷_ Row.off (List._∷_ Row.off List.[])))))))))))))));
+              Row.off
+              (List._∷_ Row.dead (List._∷_ Row.off (List._∷_ Row.off List.[])))))))))))))));
         }
 
         abbrev G60 : Row.Cx
         G60 = record {
-          locals = List._++_ t49 (List._++_ t46 t2);
+          locals = List._++_ t25 (List._++_ t45 t2);
           slots = List._∷_
               (Row.lease (κs .0) (qs .0))
               (List._∷_
@@ -22287,76 +21320,12 @@ module _ (claims· : Claims) where
               Row.off
               (List._∷_
               Row.off
-              (List._∷_ Row.alive (List._∷_ Row.off (List._∷_ Row.off List.[])))))))))))))));
+              (List._∷_ Row.dead (List._∷_ Row.off (List._∷_ Row.off List.[])))))))))))))));
         }
 
         abbrev G61 : Row.Cx
         G61 = record {
-          locals = List._++_ t49 (List._++_ t46 t2);
-          slots = List._∷_
-              (Row.lease (κs .0) (qs .0))
-              (List._∷_
-              (Row.lease (κs .1 .0) (qs .1 .0))
-              (List._∷_
-              (Row.lease (κs .1 .1 .0) (qs .1 .1 .0))
-              (List._∷_
-              (Row.lease (κs .1 .1 .1 .0) (qs .1 .1 .1 .0))
-              (List._∷_
-              (Row.lease (κs .1 .1 .1 .1 .0) (qs .1 .1 .1 .1 .0))
-              (List._∷_
-              (Row.lease (κs .1 .1 .1 .1 .1 .0) (qs .1 .1 .1 .1 .1 .0))
-              (List._∷_
-              (Row.lease (κs .1 .1 .1 .1 .1 .1 .0) (qs .1 .1 .1 .1 .1 .1 .0))
-              (List._∷_
-              (Row.lease (κs .1 .1 .1 .1 .1 .1 .1 .0) (qs .1 .1 .1 .1 .1 .1 .1 .0))
-              (List._∷_
-              Row.off
-              (List._∷_
-              Row.off
-              (List._∷_
-              Row.off
-              (List._∷_
-              Row.off
-              (List._∷_
-              Row.off
-              (List._∷_ Row.dead (List._∷_ Row.off (List._∷_ Row.off List.[])))))))))))))));
-        }
-
-        abbrev G62 : Row.Cx
-        G62 = record {
-          locals = List._++_ t40 (List._++_ t46 t2);
-          slots = List._∷_
-              (Row.lease (κs .0) (qs .0))
-              (List._∷_
-              (Row.lease (κs .1 .0) (qs .1 .0))
-              (List._∷_
-              (Row.lease (κs .1 .1 .0) (qs .1 .1 .0))
-              (List._∷_
-              (Row.lease (κs .1 .1 .1 .0) (qs .1 .1 .1 .0))
-              (List._∷_
-              (Row.lease (κs .1 .1 .1 .1 .0) (qs .1 .1 .1 .1 .0))
-              (List._∷_
-              (Row.lease (κs .1 .1 .1 .1 .1 .0) (qs .1 .1 .1 .1 .1 .0))
-              (List._∷_
-              (Row.lease (κs .1 .1 .1 .1 .1 .1 .0) (qs .1 .1 .1 .1 .1 .1 .0))
-              (List._∷_
-              (Row.lease (κs .1 .1 .1 .1 .1 .1 .1 .0) (qs .1 .1 .1 .1 .1 .1 .1 .0))
-              (List._∷_
-              Row.off
-              (List._∷_
-              Row.off
-              (List._∷_
-              Row.off
-              (List._∷_
-              Row.off
-              (List._∷_
-              Row.off
-              (List._∷_ Row.dead (List._∷_ Row.off (List._∷_ Row.off List.[])))))))))))))));
-        }
-
-        abbrev G63 : Row.Cx
-        G63 = record {
-          locals = List._++_ t40 (List._++_ t46 t2);
+          locals = List._++_ t25 (List._++_ t45 t2);
           slots = List._∷_
               (Row.lease (κs .0) (qs .0))
               (List._∷_
@@ -22386,11 +21355,75 @@ module _ (claims· : Claims) where
               (List._∷_ Row.off (List._∷_ Row.off (List._∷_ Row.off List.[])))))))))))))));
         }
 
-        abbrev G64 : Row.Cx
-        G64 = record {
-          locals = List._++_ t40 (List._++_ t46 t2);
+        abbrev G62 : Row.Cx
+        G62 = record {
+          locals = List._++_ t46 (List._++_ t45 t2);
           slots = List._∷_
               (Row.lease (κs .0) (qs .0))
+              (List._∷_
+              (Row.lease (κs .1 .0) (qs .1 .0))
+              (List._∷_
+              (Row.lease (κs .1 .1 .0) (qs .1 .1 .0))
+              (List._∷_
+              (Row.lease (κs .1 .1 .1 .0) (qs .1 .1 .1 .0))
+              (List._∷_
+              (Row.lease (κs .1 .1 .1 .1 .0) (qs .1 .1 .1 .1 .0))
+              (List._∷_
+              (Row.lease (κs .1 .1 .1 .1 .1 .0) (qs .1 .1 .1 .1 .1 .0))
+              (List._∷_
+              (Row.lease (κs .1 .1 .1 .1 .1 .1 .0) (qs .1 .1 .1 .1 .1 .1 .0))
+              (List._∷_
+              (Row.lease (κs .1 .1 .1 .1 .1 .1 .1 .0) (qs .1 .1 .1 .1 .1 .1 .1 .0))
+              (List._∷_
+              Row.off
+              (List._∷_
+              Row.off
+              (List._∷_
+              Row.off
+              (List._∷_
+              Row.off
+              (List._∷_
+              Row.off
+              (List._∷_ Row.off (List._∷_ Row.off (List._∷_ Row.off List.[])))))))))))))));
+        }
+
+        abbrev G63 : Row.Cx
+        G63 = record {
+          locals = List._++_ t46 (List._++_ t45 t2);
+          slots = List._∷_
+              (Row.lease (κs .0) (qs .0))
+              (List._∷_
+              (Row.lease (κs .1 .0) (qs .1 .0))
+              (List._∷_
+              (Row.lease (κs .1 .1 .0) (qs .1 .1 .0))
+              (List._∷_
+              (Row.lease (κs .1 .1 .1 .0) (qs .1 .1 .1 .0))
+              (List._∷_
+              (Row.lease (κs .1 .1 .1 .1 .0) (qs .1 .1 .1 .1 .0))
+              (List._∷_
+              (Row.lease (κs .1 .1 .1 .1 .1 .0) (qs .1 .1 .1 .1 .1 .0))
+              (List._∷_
+              (Row.lease (κs .1 .1 .1 .1 .1 .1 .0) (qs .1 .1 .1 .1 .1 .1 .0))
+              (List._∷_
+              (Row.lease (κs .1 .1 .1 .1 .1 .1 .1 .0) (qs .1 .1 .1 .1 .1 .1 .1 .0))
+              (List._∷_
+              Row.off
+              (List._∷_
+              Row.off
+              (List._∷_
+              Row.off
+              (List._∷_
+              Row.off
+              (List._∷_
+              Row.off
+              (List._∷_ Row.off (List._∷_ Row.alive (List._∷_ Row.off List.[])))))))))))))));
+        }
+
+        abbrev G64 : Row.Cx
+        G64 = record {
+          locals = List._++_ g47 (List._++_ t45 t48);
+          slots = List._∷_
+              Row.off
               (List._∷_
               (Row.lease (κs .1 .0) (qs .1 .0))
               (List._∷_
@@ -22420,233 +21453,9 @@ module _ (claims· : Claims) where
 
         abbrev G65 : Row.Cx
         G65 = record {
-          locals = List._++_ g50 (List._++_ t46 t51);
+          locals = List._++_ g47 (List._++_ t45 t49);
           slots = List._∷_
-              (Row.lease (κs .0) (qs .0))
-              (List._∷_
-              (Row.lease (κs .1 .0) (qs .1 .0))
-              (List._∷_
-              (Row.lease (κs .1 .1 .0) (qs .1 .1 .0))
-              (List._∷_
               Row.off
-              (List._∷_
-              (Row.lease (κs .1 .1 .1 .1 .0) (qs .1 .1 .1 .1 .0))
-              (List._∷_
-              (Row.lease (κs .1 .1 .1 .1 .1 .0) (qs .1 .1 .1 .1 .1 .0))
-              (List._∷_
-              (Row.lease (κs .1 .1 .1 .1 .1 .1 .0) (qs .1 .1 .1 .1 .1 .1 .0))
-              (List._∷_
-              (Row.lease (κs .1 .1 .1 .1 .1 .1 .1 .0) (qs .1 .1 .1 .1 .1 .1 .1 .0))
-              (List._∷_
-              Row.off
-              (List._∷_
-              Row.off
-              (List._∷_
-              Row.off
-              (List._∷_
-              Row.off
-              (List._∷_
-              Row.off
-              (List._∷_ Row.off (List._∷_ Row.alive (List._∷_ Row.off List.[])))))))))))))));
-        }
-
-        abbrev G66 : Row.Cx
-        G66 = record {
-          locals = List._++_ g50 (List._++_ t46 t52);
-          slots = List._∷_
-              (Row.lease (κs .0) (qs .0))
-              (List._∷_
-              (Row.lease (κs .1 .0) (qs .1 .0))
-              (List._∷_
-              (Row.lease (κs .1 .1 .0) (qs .1 .1 .0))
-              (List._∷_
-              Row.off
-              (List._∷_
-              (Row.lease (κs .1 .1 .1 .1 .0) (qs .1 .1 .1 .1 .0))
-              (List._∷_
-              (Row.lease (κs .1 .1 .1 .1 .1 .0) (qs .1 .1 .1 .1 .1 .0))
-              (List._∷_
-              (Row.lease (κs .1 .1 .1 .1 .1 .1 .0) (qs .1 .1 .1 .1 .1 .1 .0))
-              (List._∷_
-              (Row.lease (κs .1 .1 .1 .1 .1 .1 .1 .0) (qs .1 .1 .1 .1 .1 .1 .1 .0))
-              (List._∷_
-              Row.off
-              (List._∷_
-              Row.off
-              (List._∷_
-              Row.off
-              (List._∷_
-              Row.off
-              (List._∷_
-              Row.off
-              (List._∷_ Row.off (List._∷_ Row.alive (List._∷_ Row.off List.[])))))))))))))));
-        }
-
-        abbrev G67 : Row.Cx
-        G67 = record {
-          locals = List._++_ g50 (List._++_ t46 t52);
-          slots = List._∷_
-              (Row.lease (κs .0) (qs .0))
-              (List._∷_
-              (Row.lease (κs .1 .0) (qs .1 .0))
-              (List._∷_
-              (Row.lease (κs .1 .1 .0) (qs .1 .1 .0))
-              (List._∷_
-              Row.off
-              (List._∷_
-              (Row.lease (κs .1 .1 .1 .1 .0) (qs .1 .1 .1 .1 .0))
-              (List._∷_
-              (Row.lease (κs .1 .1 .1 .1 .1 .0) (qs .1 .1 .1 .1 .1 .0))
-              (List._∷_
-              (Row.lease (κs .1 .1 .1 .1 .1 .1 .0) (qs .1 .1 .1 .1 .1 .1 .0))
-              (List._∷_
-              (Row.lease (κs .1 .1 .1 .1 .1 .1 .1 .0) (qs .1 .1 .1 .1 .1 .1 .1 .0))
-              (List._∷_
-              Row.off
-              (List._∷_
-              Row.off
-              (List._∷_
-              Row.off
-              (List._∷_
-              Row.off
-              (List._∷_
-              Row.off
-              (List._∷_ Row.off (List._∷_ Row.alive (List._∷_ Row.alive List.[])))))))))))))));
-        }
-
-        abbrev G68 : Row.Cx
-        G68 = record {
-          locals = List._++_ g53 (List._++_ t46 t54);
-          slots = List._∷_
-              (Row.lease (κs .0) (qs .0))
-              (List._∷_
-              (Row.lease (κs .1 .0) (qs .1 .0))
-              (List._∷_
-              (Row.lease (κs .1 .1 .0) (qs .1 .1 .0))
-              (List._∷_
-              Row.off
-              (List._∷_
-              (Row.lease (κs .1 .1 .1 .1 .0) (qs .1 .1 .1 .1 .0))
-              (List._∷_
-              (Row.lease (κs .1 .1 .1 .1 .1 .0) (qs .1 .1 .1 .1 .1 .0))
-              (List._∷_
-              (Row.lease (κs .1 .1 .1 .1 .1 .1 .0) (qs .1 .1 .1 .1 .1 .1 .0))
-              (List._∷_
-              (Row.lease (κs .1 .1 .1 .1 .1 .1 .1 .0) (qs .1 .1 .1 .1 .1 .1 .1 .0))
-              (List._∷_
-              Row.off
-              (List._∷_
-              Row.off
-              (List._∷_
-              Row.off
-              (List._∷_
-              Row.off
-              (List._∷_
-              Row.off
-              (List._∷_ Row.off (List._∷_ Row.alive (List._∷_ Row.alive List.[])))))))))))))));
-        }
-
-        abbrev G69 : Row.Cx
-        G69 = record {
-          locals = List._++_ g53 (List._++_ t55 t56);
-          slots = List._∷_
-              (Row.lease (κs .0) (qs .0))
-              (List._∷_
-              (Row.lease (κs .1 .0) (qs .1 .0))
-              (List._∷_
-              (Row.lease (κs .1 .1 .0) (qs .1 .1 .0))
-              (List._∷_
-              Row.off
-              (List._∷_
-              (Row.lease (κs .1 .1 .1 .1 .0) (qs .1 .1 .1 .1 .0))
-              (List._∷_
-              (Row.lease (κs .1 .1 .1 .1 .1 .0) (qs .1 .1 .1 .1 .1 .0))
-              (List._∷_
-              (Row.lease (κs .1 .1 .1 .1 .1 .1 .0) (qs .1 .1 .1 .1 .1 .1 .0))
-              (List._∷_
-              (Row.lease (κs .1 .1 .1 .1 .1 .1 .1 .0) (qs .1 .1 .1 .1 .1 .1 .1 .0))
-              (List._∷_
-              Row.off
-              (List._∷_
-              Row.off
-              (List._∷_
-              Row.off
-              (List._∷_
-              Row.off
-              (List._∷_
-              Row.off
-              (List._∷_ Row.off (List._∷_ Row.alive (List._∷_ Row.alive List.[])))))))))))))));
-        }
-
-        abbrev G70 : Row.Cx
-        G70 = record {
-          locals = List._++_ g53 (List._++_ t55 t57);
-          slots = List._∷_
-              (Row.lease (κs .0) (qs .0))
-              (List._∷_
-              (Row.lease (κs .1 .0) (qs .1 .0))
-              (List._∷_
-              (Row.lease (κs .1 .1 .0) (qs .1 .1 .0))
-              (List._∷_
-              Row.off
-              (List._∷_
-              (Row.lease (κs .1 .1 .1 .1 .0) (qs .1 .1 .1 .1 .0))
-              (List._∷_
-              (Row.lease (κs .1 .1 .1 .1 .1 .0) (qs .1 .1 .1 .1 .1 .0))
-              (List._∷_
-              (Row.lease (κs .1 .1 .1 .1 .1 .1 .0) (qs .1 .1 .1 .1 .1 .1 .0))
-              (List._∷_
-              (Row.lease (κs .1 .1 .1 .1 .1 .1 .1 .0) (qs .1 .1 .1 .1 .1 .1 .1 .0))
-              (List._∷_
-              Row.off
-              (List._∷_
-              Row.off
-              (List._∷_
-              Row.off
-              (List._∷_
-              Row.off
-              (List._∷_
-              Row.off
-              (List._∷_ Row.off (List._∷_ Row.alive (List._∷_ Row.alive List.[])))))))))))))));
-        }
-
-        abbrev G71 : Row.Cx
-        G71 = record {
-          locals = List._++_ g53 (List._++_ t55 t57);
-          slots = List._∷_
-              (Row.lease (κs .0) (qs .0))
-              (List._∷_
-              (Row.lease (κs .1 .0) (qs .1 .0))
-              (List._∷_
-              (Row.lease (κs .1 .1 .0) (qs .1 .1 .0))
-              (List._∷_
-              Row.off
-              (List._∷_
-              (Row.lease (κs .1 .1 .1 .1 .0) (qs .1 .1 .1 .1 .0))
-              (List._∷_
-              (Row.lease (κs .1 .1 .1 .1 .1 .0) (qs .1 .1 .1 .1 .1 .0))
-              (List._∷_
-              (Row.lease (κs .1 .1 .1 .1 .1 .1 .0) (qs .1 .1 .1 .1 .1 .1 .0))
-              (List._∷_
-              (Row.lease (κs .1 .1 .1 .1 .1 .1 .1 .0) (qs .1 .1 .1 .1 .1 .1 .1 .0))
-              (List._∷_
-              Row.off
-              (List._∷_
-              Row.off
-              (List._∷_
-              Row.off
-              (List._∷_
-              Row.off
-              (List._∷_
-              Row.off
-              (List._∷_ Row.off (List._∷_ Row.dead (List._∷_ Row.alive List.[])))))))))))))));
-        }
-
-        abbrev G72 : Row.Cx
-        G72 = record {
-          locals = List._++_ t58 (List._++_ t55 t2);
-          slots = List._∷_
-              (Row.lease (κs .0) (qs .0))
               (List._∷_
               (Row.lease (κs .1 .0) (qs .1 .0))
               (List._∷_
@@ -22671,16 +21480,240 @@ module _ (claims· : Claims) where
               Row.off
               (List._∷_
               Row.off
-              (List._∷_ Row.off (List._∷_ Row.dead (List._∷_ Row.alive List.[])))))))))))))));
+              (List._∷_ Row.off (List._∷_ Row.alive (List._∷_ Row.off List.[])))))))))))))));
+        }
+
+        abbrev G66 : Row.Cx
+        G66 = record {
+          locals = List._++_ g47 (List._++_ t45 t49);
+          slots = List._∷_
+              Row.off
+              (List._∷_
+              (Row.lease (κs .1 .0) (qs .1 .0))
+              (List._∷_
+              (Row.lease (κs .1 .1 .0) (qs .1 .1 .0))
+              (List._∷_
+              (Row.lease (κs .1 .1 .1 .0) (qs .1 .1 .1 .0))
+              (List._∷_
+              (Row.lease (κs .1 .1 .1 .1 .0) (qs .1 .1 .1 .1 .0))
+              (List._∷_
+              (Row.lease (κs .1 .1 .1 .1 .1 .0) (qs .1 .1 .1 .1 .1 .0))
+              (List._∷_
+              (Row.lease (κs .1 .1 .1 .1 .1 .1 .0) (qs .1 .1 .1 .1 .1 .1 .0))
+              (List._∷_
+              (Row.lease (κs .1 .1 .1 .1 .1 .1 .1 .0) (qs .1 .1 .1 .1 .1 .1 .1 .0))
+              (List._∷_
+              Row.off
+              (List._∷_
+              Row.off
+              (List._∷_
+              Row.off
+              (List._∷_
+              Row.off
+              (List._∷_
+              Row.off
+              (List._∷_ Row.off (List._∷_ Row.alive (List._∷_ Row.alive List.[])))))))))))))));
+        }
+
+        abbrev G67 : Row.Cx
+        G67 = record {
+          locals = List._++_ g50 (List._++_ t45 t51);
+          slots = List._∷_
+              Row.off
+              (List._∷_
+              Row.off
+              (List._∷_
+              (Row.lease (κs .1 .1 .0) (qs .1 .1 .0))
+              (List._∷_
+              (Row.lease (κs .1 .1 .1 .0) (qs .1 .1 .1 .0))
+              (List._∷_
+              (Row.lease (κs .1 .1 .1 .1 .0) (qs .1 .1 .1 .1 .0))
+              (List._∷_
+              (Row.lease (κs .1 .1 .1 .1 .1 .0) (qs .1 .1 .1 .1 .1 .0))
+              (List._∷_
+              (Row.lease (κs .1 .1 .1 .1 .1 .1 .0) (qs .1 .1 .1 .1 .1 .1 .0))
+              (List._∷_
+              (Row.lease (κs .1 .1 .1 .1 .1 .1 .1 .0) (qs .1 .1 .1 .1 .1 .1 .1 .0))
+              (List._∷_
+              Row.off
+              (List._∷_
+              Row.off
+              (List._∷_
+              Row.off
+              (List._∷_
+              Row.off
+              (List._∷_
+              Row.off
+              (List._∷_ Row.off (List._∷_ Row.alive (List._∷_ Row.alive List.[])))))))))))))));
+        }
+
+        abbrev G68 : Row.Cx
+        G68 = record {
+          locals = List._++_ g50 (List._++_ t45 t52);
+          slots = List._∷_
+              Row.off
+              (List._∷_
+              Row.off
+              (List._∷_
+              (Row.lease (κs .1 .1 .0) (qs .1 .1 .0))
+              (List._∷_
+              (Row.lease (κs .1 .1 .1 .0) (qs .1 .1 .1 .0))
+              (List._∷_
+              (Row.lease (κs .1 .1 .1 .1 .0) (qs .1 .1 .1 .1 .0))
+              (List._∷_
+              (Row.lease (κs .1 .1 .1 .1 .1 .0) (qs .1 .1 .1 .1 .1 .0))
+              (List._∷_
+              (Row.lease (κs .1 .1 .1 .1 .1 .1 .0) (qs .1 .1 .1 .1 .1 .1 .0))
+              (List._∷_
+              (Row.lease (κs .1 .1 .1 .1 .1 .1 .1 .0) (qs .1 .1 .1 .1 .1 .1 .1 .0))
+              (List._∷_
+              Row.off
+              (List._∷_
+              Row.off
+              (List._∷_
+              Row.off
+              (List._∷_
+              Row.off
+              (List._∷_
+              Row.off
+              (List._∷_ Row.off (List._∷_ Row.alive (List._∷_ Row.alive List.[])))))))))))))));
+        }
+
+        abbrev G69 : Row.Cx
+        G69 = record {
+          locals = List._++_ g50 (List._++_ t45 t53);
+          slots = List._∷_
+              Row.off
+              (List._∷_
+              Row.off
+              (List._∷_
+              (Row.lease (κs .1 .1 .0) (qs .1 .1 .0))
+              (List._∷_
+              (Row.lease (κs .1 .1 .1 .0) (qs .1 .1 .1 .0))
+              (List._∷_
+              (Row.lease (κs .1 .1 .1 .1 .0) (qs .1 .1 .1 .1 .0))
+              (List._∷_
+              (Row.lease (κs .1 .1 .1 .1 .1 .0) (qs .1 .1 .1 .1 .1 .0))
+              (List._∷_
+              (Row.lease (κs .1 .1 .1 .1 .1 .1 .0) (qs .1 .1 .1 .1 .1 .1 .0))
+              (List._∷_
+              (Row.lease (κs .1 .1 .1 .1 .1 .1 .1 .0) (qs .1 .1 .1 .1 .1 .1 .1 .0))
+              (List._∷_
+              Row.off
+              (List._∷_
+              Row.off
+              (List._∷_
+              Row.off
+              (List._∷_
+              Row.off
+              (List._∷_
+              Row.off
+              (List._∷_ Row.off (List._∷_ Row.alive (List._∷_ Row.alive List.[])))))))))))))));
+        }
+
+        abbrev G70 : Row.Cx
+        G70 = record {
+          locals = List._++_ g54 (List._++_ t45 t53);
+          slots = List._∷_
+              Row.off
+              (List._∷_
+              Row.off
+              (List._∷_
+              (Row.lease (κs .1 .1 .0) (qs .1 .1 .0))
+              (List._∷_
+              (Row.lease (κs .1 .1 .1 .0) (qs .1 .1 .1 .0))
+              (List._∷_
+              (Row.lease (κs .1 .1 .1 .1 .0) (qs .1 .1 .1 .1 .0))
+              (List._∷_
+              (Row.lease (κs .1 .1 .1 .1 .1 .0) (qs .1 .1 .1 .1 .1 .0))
+              (List._∷_
+              (Row.lease (κs .1 .1 .1 .1 .1 .1 .0) (qs .1 .1 .1 .1 .1 .1 .0))
+              (List._∷_
+              (Row.lease (κs .1 .1 .1 .1 .1 .1 .1 .0) (qs .1 .1 .1 .1 .1 .1 .1 .0))
+              (List._∷_
+              Row.off
+              (List._∷_
+              Row.off
+              (List._∷_
+              Row.off
+              (List._∷_
+              Row.off
+              (List._∷_
+              Row.off
+              (List._∷_ Row.off (List._∷_ Row.alive (List._∷_ Row.alive List.[])))))))))))))));
+        }
+
+        abbrev G71 : Row.Cx
+        G71 = record {
+          locals = List._++_ g54 (List._++_ t55 t53);
+          slots = List._∷_
+              Row.off
+              (List._∷_
+              Row.off
+              (List._∷_
+              (Row.lease (κs .1 .1 .0) (qs .1 .1 .0))
+              (List._∷_
+              (Row.lease (κs .1 .1 .1 .0) (qs .1 .1 .1 .0))
+              (List._∷_
+              (Row.lease (κs .1 .1 .1 .1 .0) (qs .1 .1 .1 .1 .0))
+              (List._∷_
+              (Row.lease (κs .1 .1 .1 .1 .1 .0) (qs .1 .1 .1 .1 .1 .0))
+              (List._∷_
+              (Row.lease (κs .1 .1 .1 .1 .1 .1 .0) (qs .1 .1 .1 .1 .1 .1 .0))
+              (List._∷_
+              (Row.lease (κs .1 .1 .1 .1 .1 .1 .1 .0) (qs .1 .1 .1 .1 .1 .1 .1 .0))
+              (List._∷_
+              Row.off
+              (List._∷_
+              Row.off
+              (List._∷_
+              Row.off
+              (List._∷_
+              Row.off
+              (List._∷_
+              Row.off
+              (List._∷_ Row.off (List._∷_ Row.alive (List._∷_ Row.alive List.[])))))))))))))));
+        }
+
+        abbrev G72 : Row.Cx
+        G72 = record {
+          locals = List._++_ g54 (List._++_ t55 t56);
+          slots = List._∷_
+              Row.off
+              (List._∷_
+              Row.off
+              (List._∷_
+              (Row.lease (κs .1 .1 .0) (qs .1 .1 .0))
+              (List._∷_
+              (Row.lease (κs .1 .1 .1 .0) (qs .1 .1 .1 .0))
+              (List._∷_
+              (Row.lease (κs .1 .1 .1 .1 .0) (qs .1 .1 .1 .1 .0))
+              (List._∷_
+              (Row.lease (κs .1 .1 .1 .1 .1 .0) (qs .1 .1 .1 .1 .1 .0))
+              (List._∷_
+              (Row.lease (κs .1 .1 .1 .1 .1 .1 .0) (qs .1 .1 .1 .1 .1 .1 .0))
+              (List._∷_
+              (Row.lease (κs .1 .1 .1 .1 .1 .1 .1 .0) (qs .1 .1 .1 .1 .1 .1 .1 .0))
+              (List._∷_
+              Row.off
+              (List._∷_
+              Row.off
+              (List._∷_
+              Row.off
+              (List._∷_
+              Row.off
+              (List._∷_
+              Row.off
+              (List._∷_ Row.off (List._∷_ Row.alive (List._∷_ Row.alive List.[])))))))))))))));
         }
 
         abbrev G73 : Row.Cx
         G73 = record {
-          locals = List._++_ t58 (List._++_ t55 t2);
+          locals = List._++_ g54 (List._++_ t55 t56);
           slots = List._∷_
-              (Row.lease (κs .0) (qs .0))
+              Row.off
               (List._∷_
-              (Row.lease (κs .1 .0) (qs .1 .0))
+              Row.off
               (List._∷_
               (Row.lease (κs .1 .1 .0) (qs .1 .1 .0))
               (List._∷_
@@ -22708,11 +21741,43 @@ module _ (claims· : Claims) where
 
         abbrev G74 : Row.Cx
         G74 = record {
-          locals = List._++_ t58 (List._++_ t55 t2);
+          locals = List._++_ g57 (List._++_ t55 t58);
           slots = List._∷_
               (Row.lease (κs .0) (qs .0))
               (List._∷_
-              (Row.lease (κs .1 .0) (qs .1 .0))
+              Row.off
+              (List._∷_
+              (Row.lease (κs .1 .1 .0) (qs .1 .1 .0))
+              (List._∷_
+              (Row.lease (κs .1 .1 .1 .0) (qs .1 .1 .1 .0))
+              (List._∷_
+              (Row.lease (κs .1 .1 .1 .1 .0) (qs .1 .1 .1 .1 .0))
+              (List._∷_
+              (Row.lease (κs .1 .1 .1 .1 .1 .0) (qs .1 .1 .1 .1 .1 .0))
+              (List._∷_
+              (Row.lease (κs .1 .1 .1 .1 .1 .1 .0) (qs .1 .1 .1 .1 .1 .1 .0))
+              (List._∷_
+              (Row.lease (κs .1 .1 .1 .1 .1 .1 .1 .0) (qs .1 .1 .1 .1 .1 .1 .1 .0))
+              (List._∷_
+              Row.off
+              (List._∷_
+              Row.off
+              (List._∷_
+              Row.off
+              (List._∷_
+              Row.off
+              (List._∷_
+              Row.off
+              (List._∷_ Row.off (List._∷_ Row.dead (List._∷_ Row.alive List.[])))))))))))))));
+        }
+
+        abbrev G75 : Row.Cx
+        G75 = record {
+          locals = List._++_ g57 (List._++_ t55 t58);
+          slots = List._∷_
+              (Row.lease (κs .0) (qs .0))
+              (List._∷_
+              Row.off
               (List._∷_
               (Row.lease (κs .1 .1 .0) (qs .1 .1 .0))
               (List._∷_
@@ -22738,45 +21803,13 @@ module _ (claims· : Claims) where
               (List._∷_ Row.off (List._∷_ Row.off (List._∷_ Row.alive List.[])))))))))))))));
         }
 
-        abbrev G75 : Row.Cx
-        G75 = record {
-          locals = List._++_ t58 (List._++_ t55 t2);
-          slots = List._∷_
-              (Row.lease (κs .0) (qs .0))
-              (List._∷_
-              (Row.lease (κs .1 .0) (qs .1 .0))
-              (List._∷_
-              (Row.lease (κs .1 .1 .0) (qs .1 .1 .0))
-              (List._∷_
-              (Row.lease (κs .1 .1 .1 .0) (qs .1 .1 .1 .0))
-              (List._∷_
-              (Row.lease (κs .1 .1 .1 .1 .0) (qs .1 .1 .1 .1 .0))
-              (List._∷_
-              (Row.lease (κs .1 .1 .1 .1 .1 .0) (qs .1 .1 .1 .1 .1 .0))
-              (List._∷_
-              (Row.lease (κs .1 .1 .1 .1 .1 .1 .0) (qs .1 .1 .1 .1 .1 .1 .0))
-              (List._∷_
-              (Row.lease (κs .1 .1 .1 .1 .1 .1 .1 .0) (qs .1 .1 .1 .1 .1 .1 .1 .0))
-              (List._∷_
-              Row.off
-              (List._∷_
-              Row.off
-              (List._∷_
-              Row.off
-              (List._∷_
-              Row.off
-              (List._∷_
-              Row.off
-              (List._∷_ Row.off (List._∷_ Row.off (List._∷_ Row.dead List.[])))))))))))))));
-        }
-
         abbrev G76 : Row.Cx
         G76 = record {
-          locals = List._++_ t40 (List._++_ t55 t2);
+          locals = List._++_ g57 (List._++_ t55 t58);
           slots = List._∷_
               (Row.lease (κs .0) (qs .0))
               (List._∷_
-              (Row.lease (κs .1 .0) (qs .1 .0))
+              Row.off
               (List._∷_
               (Row.lease (κs .1 .1 .0) (qs .1 .1 .0))
               (List._∷_
@@ -22804,7 +21837,7 @@ module _ (claims· : Claims) where
 
         abbrev G77 : Row.Cx
         G77 = record {
-          locals = List._++_ t40 (List._++_ t55 t2);
+          locals = List._++_ t27 (List._++_ t55 t2);
           slots = List._∷_
               (Row.lease (κs .0) (qs .0))
               (List._∷_
@@ -22831,7 +21864,7 @@ module _ (claims· : Claims) where
               Row.off
               (List._∷_
               Row.off
-              (List._∷_ Row.off (List._∷_ Row.off (List._∷_ Row.off List.[])))))))))))))));
+              (List._∷_ Row.off (List._∷_ Row.off (List._∷_ Row.dead List.[])))))))))))))));
         }
 
         abbrev G78 : Row.Cx
@@ -23444,7 +22477,7 @@ module _ (claims· : Claims) where
 
         abbrev G97 : Row.Cx
         G97 = record {
-          locals = List._++_ t74 (List._++_ t26 t2);
+          locals = List._++_ t46 (List._++_ t26 t2);
           slots = List._∷_
               (Row.lease (κs .0) (qs .0))
               (List._∷_
@@ -23508,7 +22541,7 @@ module _ (claims· : Claims) where
 
         abbrev G99 : Row.Cx
         G99 = record {
-          locals = List._++_ t27 (List._++_ t75 t2);
+          locals = List._++_ t27 (List._++_ t74 t2);
           slots = List._∷_
               (Row.lease (κs .0) (qs .0))
               (List._∷_
@@ -25140,18 +24173,9 @@ module _ (claims· : Claims) where
               G78
               b39
               Δ1
-              (Typed.pass T76 T78 s75)
+              (λ Ψ. Ψ)
               at18
-              (Scalar.g-room
-              𝓤
-              H
-              A
-              W
-              E
-              G77
-              14
-              (KOwn.spelled)
-              (KOwn.room 𝓤 H A W))
+              (Lifetime.g-forget 𝓤 H A W E G77 15 Row.dead Path'.refl)
               d18
 
           d20 : Typed.Typed 𝓤 H A 𝓣 E G76 b39 Δ1 at20
@@ -25167,9 +24191,53 @@ module _ (claims· : Claims) where
               G77
               b39
               Δ1
-              (λ Ψ. Ψ)
+              (Typed.both s74)
               at19
-              (Lifetime.g-forget 𝓤 H A W E G76 15 Row.dead Path'.refl)
+              (Relend.g-back-sl
+              𝓤
+              H
+              A
+              W
+              E
+              (KRouteRow.R)
+              G76
+              36
+              2
+              1
+              15
+              (Syntax.tyRef
+              (Syntax.named 1)
+              Syntax.mut
+              (KRouteRow.named))
+              (Syntax.tyRef Syntax.erased Syntax.mut (KRouteRow.named))
+              (Row.lease (κs .1 .0) (qs .1 .0))
+              (λ x. x)
+              (λ x. x)
+              (Reads'.as-is
+              𝓤
+              H
+              A
+              (Mut.msleft
+              (KRouteRow.R)
+              (Syntax.tyRef
+              Syntax.erased
+              Syntax.mut
+              (KRouteRow.named))))
+              (Reads'.as-is
+              𝓤
+              H
+              A
+              (Relend.mslice-owed
+              (KRouteRow.R)
+              (Syntax.tyRef
+              (Syntax.named 1)
+              Syntax.mut
+              (KRouteRow.named))
+              1
+              15
+              (Row.lease (κs .1 .0) (qs .1 .0))))
+              Path'.refl
+              Path'.refl)
               d19
 
           d21 : Typed.Typed 𝓤 H A 𝓣 E G75 b39 Δ1 at21
@@ -25185,41 +24253,9 @@ module _ (claims· : Claims) where
               G76
               b39
               Δ1
-              (Typed.pass T73 T76 s73)
+              (λ Ψ. Ψ)
               at20
-              (Local.g-back-shr
-              𝓤
-              H
-              A
-              W
-              E
-              G75
-              14
-              15
-              (KOwn.row)
-              (KOwn.R)
-              (λ x. x)
-              (λ x. x)
-              (Reads'.as-is
-              𝓤
-              H
-              A
-              (Rows'.sc-shr
-              (KOwn.row)
-              (KOwn.R)
-              (λ x. x)
-              15))
-              (Local.home-of
-              𝓤
-              H
-              A
-              (KOwn.row)
-              (KOwn.R)
-              (λ x. x)
-              (λ x. x)
-              (KOwn.of-mem 𝓤 H A W)
-              λ x k. Path'.refl)
-              Path'.refl)
+              (Lifetime.g-end 𝓤 H A W E G75 15 Path'.refl)
               d20
 
           d22 : Typed.Typed 𝓤 H A 𝓣 E G74 b39 Δ1 at22
@@ -25237,7 +24273,7 @@ module _ (claims· : Claims) where
               Δ1
               (λ Ψ. Ψ)
               at21
-              (Lifetime.g-end 𝓤 H A W E G74 15 Path'.refl)
+              (Lifetime.g-forget 𝓤 H A W E G74 14 Row.dead Path'.refl)
               d21
 
           d23 : Typed.Typed 𝓤 H A 𝓣 E G73 b39 Δ1 at23
@@ -25253,9 +24289,53 @@ module _ (claims· : Claims) where
               G74
               b39
               Δ1
-              (λ Ψ. Ψ)
+              (Typed.both s71)
               at22
-              (Lifetime.g-forget 𝓤 H A W E G73 14 Row.dead Path'.refl)
+              (Relend.g-back-sl
+              𝓤
+              H
+              A
+              W
+              E
+              (KInstanceRow.R)
+              G73
+              34
+              1
+              0
+              14
+              (Syntax.tyRef
+              (Syntax.named 0)
+              Syntax.mut
+              (KInstanceRow.named))
+              (Syntax.tyRef Syntax.erased Syntax.mut (KInstanceRow.named))
+              (Row.lease (κs .0) (qs .0))
+              (λ x. x)
+              (λ x. x)
+              (Reads'.as-is
+              𝓤
+              H
+              A
+              (Mut.msleft
+              (KInstanceRow.R)
+              (Syntax.tyRef
+              Syntax.erased
+              Syntax.mut
+              (KInstanceRow.named))))
+              (Reads'.as-is
+              𝓤
+              H
+              A
+              (Relend.mslice-owed
+              (KInstanceRow.R)
+              (Syntax.tyRef
+              (Syntax.named 0)
+              Syntax.mut
+              (KInstanceRow.named))
+              0
+              14
+              (Row.lease (κs .0) (qs .0))))
+              Path'.refl
+              Path'.refl)
               d22
 
           d24 : Typed.Typed 𝓤 H A 𝓣 E G72 b39 Δ1 at24
@@ -25271,33 +24351,9 @@ module _ (claims· : Claims) where
               G73
               b39
               Δ1
-              (Typed.give s70)
+              (λ Ψ. Ψ)
               at23
-              (Know.g-sl-known
-              𝓤
-              H
-              A
-              W
-              (Referent.fInt Syntax.w8)
-              E
-              G72
-              4
-              3
-              (Syntax.tyRef (Syntax.named 3) Syntax.mut (Syntax.tyInt Syntax.w8))
-              (Row.lease (κs .1 .1 .1 .0) (qs .1 .1 .1 .0))
-              0
-              (λ x. x)
-              record { fits = Dec'.lit< tt }
-              (Reads'.as-is
-              𝓤
-              H
-              A
-              (Mut.mslice
-              (Referent.rtF (Referent.fInt Syntax.w8))
-              (Syntax.tyRef (Syntax.named 3) Syntax.mut (Syntax.tyInt Syntax.w8))
-              3))
-              Path'.refl
-              tt)
+              (Lifetime.g-end 𝓤 H A W E G72 14 Path'.refl)
               d23
 
           d25 : Typed.Typed 𝓤 H A 𝓣 E G71 b39 Δ1 at25
@@ -25313,44 +24369,9 @@ module _ (claims· : Claims) where
               G72
               b39
               Δ1
-              (Typed.both s69)
+              (Typed.pass T71 T72 s69)
               at24
-              (Relend.g-back-sl
-              𝓤
-              H
-              A
-              W
-              E
-              (Referent.rtF (Referent.fInt Syntax.w8))
-              G71
-              35
-              4
-              3
-              14
-              (Syntax.tyRef (Syntax.named 3) Syntax.mut (Syntax.tyInt Syntax.w8))
-              (Syntax.tyRef Syntax.erased Syntax.mut (Syntax.tyInt Syntax.w8))
-              (Row.lease (κs .1 .1 .1 .0) (qs .1 .1 .1 .0))
-              (λ x. x)
-              (λ x. x)
-              (Reads'.as-is
-              𝓤
-              H
-              A
-              (Mut.msleft
-              (Referent.rtF (Referent.fInt Syntax.w8))
-              (Syntax.tyRef Syntax.erased Syntax.mut (Syntax.tyInt Syntax.w8))))
-              (Reads'.as-is
-              𝓤
-              H
-              A
-              (Relend.mslice-owed
-              (Referent.rtF (Referent.fInt Syntax.w8))
-              (Syntax.tyRef (Syntax.named 3) Syntax.mut (Syntax.tyInt Syntax.w8))
-              3
-              14
-              (Row.lease (κs .1 .1 .1 .0) (qs .1 .1 .1 .0))))
-              Path'.refl
-              Path'.refl)
+              (Scalar.g-room 𝓤 H A W E G71 32 Syntax.tyUnit (Scalar.room-sc 𝓤 H A W Row.sUnit))
               d24
 
           d26 : Typed.Typed 𝓤 H A 𝓣 E G70 b39 Δ1 at26
@@ -25366,9 +24387,81 @@ module _ (claims· : Claims) where
               G71
               b39
               Δ1
-              (λ Ψ. Ψ)
+              (Typed.pass T70 T71 s68)
               at25
-              (Lifetime.g-end 𝓤 H A W E G70 14 Path'.refl)
+              (Scalar.g-room
+              𝓤
+              H
+              A
+              W
+              E
+              G70
+              16
+              (Syntax.tyStruct
+              (List._∷_
+              112
+              (List._∷_
+              108
+              (List._∷_
+              97
+              (List._∷_
+              99
+              (List._∷_
+              101
+              (List._∷_
+              58
+              (List._∷_
+              58
+              (List._∷_
+              82
+              (List._∷_
+              111
+              (List._∷_
+              117
+              (List._∷_
+              116
+              (List._∷_
+              101
+              (List._∷_
+              80
+              (List._∷_ 108 (List._∷_ 97 (List._∷_ 99 (List._∷_ 101 List.[])))))))))))))))))
+              (Syntax.tcons Syntax.tyBool (Syntax.tcons (Syntax.tyInt Syntax.w64) Syntax.tnil)))
+              (Local.room-whole
+              𝓤
+              H
+              A
+              W
+              (Declared.row RoutePlace.the-type)
+              (Syntax.tyStruct
+              (List._∷_
+              112
+              (List._∷_
+              108
+              (List._∷_
+              97
+              (List._∷_
+              99
+              (List._∷_
+              101
+              (List._∷_
+              58
+              (List._∷_
+              58
+              (List._∷_
+              82
+              (List._∷_
+              111
+              (List._∷_
+              117
+              (List._∷_
+              116
+              (List._∷_
+              101
+              (List._∷_
+              80
+              (List._∷_ 108 (List._∷_ 97 (List._∷_ 99 (List._∷_ 101 List.[])))))))))))))))))
+              (Syntax.tcons Syntax.tyBool (Syntax.tcons (Syntax.tyInt Syntax.w64) Syntax.tnil)))
+              Path'.refl))
               d25
 
           d27 : Typed.Typed 𝓤 H A 𝓣 E G69 b39 Δ1 at27
@@ -25386,26 +24479,71 @@ module _ (claims· : Claims) where
               Δ1
               (Typed.pass T69 T70 s67)
               at26
-              (Local.g-drop-sref
+              (Scalar.g-room
               𝓤
               H
               A
               W
               E
               G69
-              36
               15
-              (KOwn.R)
-              (Syntax.tyRef Syntax.erased Syntax.imm (KOwn.named))
-              (λ x. x)
-              (Reads'.as-is
+              (Syntax.tyStruct
+              (List._∷_
+              112
+              (List._∷_
+              108
+              (List._∷_
+              97
+              (List._∷_
+              99
+              (List._∷_
+              101
+              (List._∷_
+              58
+              (List._∷_
+              58
+              (List._∷_
+              80
+              (List._∷_
+              108
+              (List._∷_ 97 (List._∷_ 99 (List._∷_ 101 (List._∷_ 115 List.[])))))))))))))
+              (Syntax.tcons
+              Syntax.tyBool
+              (Syntax.tcons
+              (Syntax.tyInt Syntax.w64)
+              (Syntax.tcons (Syntax.tyInt Syntax.w64) Syntax.tnil))))
+              (Local.room-whole
               𝓤
               H
               A
-              (Rows'.sref
-              (KOwn.R)
-              (Syntax.tyRef Syntax.erased Syntax.imm (KOwn.named))
-              15)))
+              W
+              (Declared.row Places.the-type)
+              (Syntax.tyStruct
+              (List._∷_
+              112
+              (List._∷_
+              108
+              (List._∷_
+              97
+              (List._∷_
+              99
+              (List._∷_
+              101
+              (List._∷_
+              58
+              (List._∷_
+              58
+              (List._∷_
+              80
+              (List._∷_
+              108
+              (List._∷_ 97 (List._∷_ 99 (List._∷_ 101 (List._∷_ 115 List.[])))))))))))))
+              (Syntax.tcons
+              Syntax.tyBool
+              (Syntax.tcons
+              (Syntax.tyInt Syntax.w64)
+              (Syntax.tcons (Syntax.tyInt Syntax.w64) Syntax.tnil))))
+              Path'.refl))
               d26
 
           d28 : Typed.Typed 𝓤 H A 𝓣 E G68 b40 Δ1 at28
@@ -25430,24 +24568,1084 @@ module _ (claims· : Claims) where
               A
               W
               𝓣
-              4
+              3
               ps·6
               r·6
               (claims· .12)
               (claims· .13)
-              "post::put_post"
+              "finish::store"
               (known .6)
               E
               (λ pos β. β)
               G68 (
                 record {
-                  pos = 35;
-                  ty = Syntax.tyRef Syntax.erased Syntax.mut (Syntax.tyInt Syntax.w8);
+                  pos = 34;
+                  ty = Syntax.tyRef
+                      Syntax.erased
+                      Syntax.mut
+                      (KInstanceRow.named);
                   ref = λ x. x;
                 },
                 (
                   record {
                     pos = 36;
+                    ty = Syntax.tyRef
+                        Syntax.erased
+                        Syntax.mut
+                        (KRouteRow.named);
+                    ref = λ x. x;
+                  },
+                  (
+                    record { pos = 15; st = List.[]; d = 0; at = λ x. x },
+                    (
+                      Num.vFld
+                          16
+                          (List._∷_ (Syntax.field 1) List.[])
+                          8
+                          λ x. RoutePlace.struct .as-values
+                          x .1 .0,
+                      (
+                        record {
+                          pos = 10;
+                          ty = Syntax.tyRef
+                              (Syntax.named 5)
+                              Syntax.imm
+                              (KDecided.named);
+                          ref = λ x. x;
+                        },
+                        tt,
+                      ),
+                    ),
+                  ),
+                ),
+              )
+              32
+              (List._∷_ 14 (List._∷_ 15 (List._∷_ 5 List.[])))
+              (Call.sub-id 𝓤 H A W (G68 .slots)) (
+                Reads'.as-is
+                    𝓤
+                    H
+                    A
+                    (Mut.mslice
+                    (KInstanceRow.R)
+                    (Syntax.tyRef
+                    Syntax.erased
+                    Syntax.mut
+                    (KInstanceRow.named))
+                    14),
+                Mut.reads-mslice
+                    𝓤
+                    H
+                    A
+                    W
+                    (KInstanceRow.R)
+                    (Syntax.tyRef
+                    Syntax.erased
+                    Syntax.mut
+                    (KInstanceRow.named))
+                    14,
+                Path'.refl,
+                (
+                  Reads'.as-is
+                      𝓤
+                      H
+                      A
+                      (Mut.mslice
+                      (KRouteRow.R)
+                      (Syntax.tyRef
+                      Syntax.erased
+                      Syntax.mut
+                      (KRouteRow.named))
+                      15),
+                  Mut.reads-mslice
+                      𝓤
+                      H
+                      A
+                      W
+                      (KRouteRow.R)
+                      (Syntax.tyRef
+                      Syntax.erased
+                      Syntax.mut
+                      (KRouteRow.named))
+                      15,
+                  Path'.refl,
+                  (
+                    (
+                      Yields.yields-copy
+                          𝓤
+                          H
+                          A
+                          W
+                          (λ ρ. Unit)
+                          (Declared.row Places.the-type)
+                          Path'.refl
+                          (Copies.cStruct
+                          Places.the-type
+                          Laws'3.the-laws
+                          Laws'3.the-copy .copy
+                          𝓤
+                          H
+                          A
+                          W)
+                          (Rows'.whole (Declared.row Places.the-type))
+                          (λ x. x)
+                          (λ x. x)
+                          (λ ρ told. Local.mem-whole 𝓤 H A W (Declared.row Places.the-type) ρ)
+                          λ ρ told. Local.whole-mem
+                          𝓤
+                          H
+                          A
+                          W
+                          (Declared.row Places.the-type)
+                          ρ,
+                      Path'.refl,
+                    ),
+                    (
+                      (
+                        Reads.reads-field
+                            𝓤
+                            H
+                            A
+                            W
+                            RoutePlace.the-type
+                            Laws'4.the-laws
+                            1
+                            (Syntax.tyInt Syntax.w64)
+                            8
+                            Path'.refl,
+                        Path'.refl,
+                      ),
+                      (
+                        ShrRef.spares-sref
+                            𝓤
+                            H
+                            A
+                            W
+                            (KDecided.R)
+                            (Syntax.tyRef
+                            (Syntax.named 5)
+                            Syntax.imm
+                            (KDecided.named))
+                            5,
+                        Reads'.reads-sref
+                            𝓤
+                            H
+                            A
+                            W
+                            (KDecided.R)
+                            (Syntax.tyRef
+                            (Syntax.named 5)
+                            Syntax.imm
+                            (KDecided.named))
+                            5,
+                        Path'.refl,
+                        tt,
+                      ),
+                    ),
+                  ),
+                ),
+              )
+              (Reads'.room-gone 𝓤 H A Syntax.tyUnit)
+              (tt, (tt, (tt, tt)))
+              Path'.refl)
+              d27
+
+          d29 : Typed.Typed 𝓤 H A 𝓣 E G67 b41 Δ1 at29
+          d29 =
+              Typed.s-seq
+              𝓤
+              H
+              A
+              W
+              𝓣
+              E
+              G67
+              G68
+              b23
+              b40
+              Δ1
+              (Typed.ask s65)
+              at28
+              (Relend.t-sl-aggregate
+              𝓤
+              H
+              A
+              W
+              E
+              (KRouteRow.R)
+              𝓣
+              (Relend.asMut (KRouteRow.R))
+              G67
+              35
+              36
+              15
+              (Syntax.tyRef Syntax.erased Syntax.mut (KRouteRow.named))
+              (Syntax.tyRef Syntax.erased Syntax.mut (KRouteRow.named))
+              (λ x. x)
+              (Scalar.oFld
+              2
+              (List._∷_ (Syntax.field 1) List.[])
+              (Syntax.tyInt Syntax.w64)
+              8
+              λ v. Shared.lenV
+              (v .0))
+              (Reads'.as-is
+              𝓤
+              H
+              A
+              (Relend.msptr
+              (KRouteRow.R)
+              (Syntax.tyRef Syntax.erased Syntax.mut (KRouteRow.named))
+              15))
+              (Reads'.room-gone
+              𝓤
+              H
+              A
+              (Syntax.tyStruct
+              (List._∷_ 38 (List._∷_ 91 (List._∷_ 93 List.[])))
+              (Syntax.tcons
+              (Syntax.tyRef Syntax.erased Syntax.mut (KRouteRow.named))
+              (Syntax.tcons (Syntax.tyInt Syntax.w64) Syntax.tnil)))) (
+                Relend.reads-owed-len
+                    𝓤
+                    H
+                    A
+                    W
+                    (KRouteRow.R)
+                    (Syntax.tyRef
+                    (Syntax.named 1)
+                    Syntax.mut
+                    (KRouteRow.named))
+                    1
+                    15
+                    (Row.lease (κs .1 .0) (qs .1 .0))
+                    8
+                    Path'.refl,
+                Path'.refl,
+              )
+              Path'.refl
+              Path'.refl
+              λ b o k. tt)
+              d28
+
+          d30 : Typed.Typed 𝓤 H A 𝓣 E G66 b42 Δ1 at30
+          d30 =
+              Typed.s-seq
+              𝓤
+              H
+              A
+              W
+              𝓣
+              E
+              G66
+              G67
+              b22
+              b41
+              Δ1
+              (Typed.give s64)
+              at29
+              (Relend.t-sl-relend
+              𝓤
+              H
+              A
+              W
+              E
+              (KRouteRow.R)
+              𝓣
+              G66
+              2
+              35
+              1
+              15
+              (Syntax.tyRef
+              (Syntax.named 1)
+              Syntax.mut
+              (KRouteRow.named))
+              (Syntax.tyRef Syntax.erased Syntax.mut (KRouteRow.named))
+              (Row.lease (κs .1 .0) (qs .1 .0))
+              0
+              (λ x. x)
+              (Reads'.as-is
+              𝓤
+              H
+              A
+              (Mut.mslice
+              (KRouteRow.R)
+              (Syntax.tyRef
+              (Syntax.named 1)
+              Syntax.mut
+              (KRouteRow.named))
+              1))
+              (Reads'.room-gone
+              𝓤
+              H
+              A
+              (Syntax.tyRef Syntax.erased Syntax.mut (KRouteRow.named)))
+              Path'.refl
+              tt
+              Path'.refl
+              Path'.refl
+              Path'.refl
+              λ b o. tt)
+              d29
+
+          d31 : Typed.Typed 𝓤 H A 𝓣 E G65 b42 Δ1 at31
+          d31 =
+              Typed.g-pre
+              𝓤
+              H
+              A
+              W
+              𝓣
+              E
+              G65
+              G66
+              b42
+              Δ1
+              (λ Ψ. Ψ)
+              at30
+              (Lifetime.g-begin 𝓤 H A W E G65 15 (
+                tt,
+                (
+                  (tt, tt),
+                  (
+                    tt,
+                    (
+                      tt,
+                      (
+                        tt,
+                        (
+                          tt,
+                          (
+                            tt,
+                            (
+                              tt,
+                              (
+                                tt,
+                                (
+                                  tt,
+                                  (
+                                    tt,
+                                    (
+                                      tt,
+                                      (
+                                        tt,
+                                        (
+                                          tt,
+                                          (
+                                            tt,
+                                            (
+                                              tt,
+                                              (
+                                                tt,
+                                                (
+                                                  tt,
+                                                  (
+                                                    tt,
+                                                    (
+                                                      tt,
+                                                      (
+                                                        tt,
+                                                        (
+                                                          tt,
+                                                          (
+                                                            tt,
+                                                            (
+                                                              tt,
+                                                              (
+                                                                tt,
+                                                                (
+                                                                  tt,
+                                                                  (
+                                                                    tt,
+                                                                    (
+                                                                      tt,
+                                                                      (
+                                                                        tt,
+                                                                        (
+                                                                          tt,
+                                                                          (
+                                                                            tt,
+                                                                            (
+                                                                              tt,
+                                                                              (
+                                                                                tt,
+                                                                                (
+                                                                                  tt,
+                                                                                  (
+                                                                                    tt,
+                                                                                    (
+                                                                                      tt,
+                                                                                      (
+                                                                                        tt,
+                                                                                        (
+                                                                                          tt,
+                                                                                          (
+                                                                                            tt,
+                                                                                            (
+                                                                                              tt,
+                                                                                              (
+                                                                                                tt,
+                                                                                                (
+                                                                                                  tt,
+                                                                                                  (
+                                                                                                    tt,
+                                                                                                    tt,
+                                                                                                  ),
+                                                                                                ),
+                                                                                              ),
+                                                                                            ),
+                                                                                          ),
+                                                                                        ),
+                                                                                      ),
+                                                                                    ),
+                                                                                  ),
+                                                                                ),
+                                                                              ),
+                                                                            ),
+                                                                          ),
+                                                                        ),
+                                                                      ),
+                                                                    ),
+                                                                  ),
+                                                                ),
+                                                              ),
+                                                            ),
+                                                          ),
+                                                        ),
+                                                      ),
+                                                    ),
+                                                  ),
+                                                ),
+                                              ),
+                                            ),
+                                          ),
+                                        ),
+                                      ),
+                                    ),
+                                  ),
+                                ),
+                              ),
+                            ),
+                          ),
+                        ),
+                      ),
+                    ),
+                  ),
+                ),
+              ))
+              d30
+
+          d32 : Typed.Typed 𝓤 H A 𝓣 E G64 b43 Δ1 at32
+          d32 =
+              Typed.s-seq
+              𝓤
+              H
+              A
+              W
+              𝓣
+              E
+              G64
+              G65
+              b21
+              b42
+              Δ1
+              (Typed.ask s62)
+              at31
+              (Relend.t-sl-aggregate
+              𝓤
+              H
+              A
+              W
+              E
+              (KInstanceRow.R)
+              𝓣
+              (Relend.asMut (KInstanceRow.R))
+              G64
+              33
+              34
+              14
+              (Syntax.tyRef Syntax.erased Syntax.mut (KInstanceRow.named))
+              (Syntax.tyRef Syntax.erased Syntax.mut (KInstanceRow.named))
+              (λ x. x)
+              (Scalar.oFld
+              1
+              (List._∷_ (Syntax.field 1) List.[])
+              (Syntax.tyInt Syntax.w64)
+              8
+              λ v. Shared.lenV
+              (v .0))
+              (Reads'.as-is
+              𝓤
+              H
+              A
+              (Relend.msptr
+              (KInstanceRow.R)
+              (Syntax.tyRef Syntax.erased Syntax.mut (KInstanceRow.named))
+              14))
+              (Reads'.room-gone
+              𝓤
+              H
+              A
+              (Syntax.tyStruct
+              (List._∷_ 38 (List._∷_ 91 (List._∷_ 93 List.[])))
+              (Syntax.tcons
+              (Syntax.tyRef Syntax.erased Syntax.mut (KInstanceRow.named))
+              (Syntax.tcons (Syntax.tyInt Syntax.w64) Syntax.tnil)))) (
+                Relend.reads-owed-len
+                    𝓤
+                    H
+                    A
+                    W
+                    (KInstanceRow.R)
+                    (Syntax.tyRef
+                    (Syntax.named 0)
+                    Syntax.mut
+                    (KInstanceRow.named))
+                    0
+                    14
+                    (Row.lease (κs .0) (qs .0))
+                    8
+                    Path'.refl,
+                Path'.refl,
+              )
+              Path'.refl
+              Path'.refl
+              λ b o k. tt)
+              d31
+
+          d33 : Typed.Typed 𝓤 H A 𝓣 E G63 b44 Δ1 at33
+          d33 =
+              Typed.s-seq
+              𝓤
+              H
+              A
+              W
+              𝓣
+              E
+              G63
+              G64
+              b20
+              b43
+              Δ1
+              (Typed.give s61)
+              at32
+              (Relend.t-sl-relend
+              𝓤
+              H
+              A
+              W
+              E
+              (KInstanceRow.R)
+              𝓣
+              G63
+              1
+              33
+              0
+              14
+              (Syntax.tyRef
+              (Syntax.named 0)
+              Syntax.mut
+              (KInstanceRow.named))
+              (Syntax.tyRef Syntax.erased Syntax.mut (KInstanceRow.named))
+              (Row.lease (κs .0) (qs .0))
+              0
+              (λ x. x)
+              (Reads'.as-is
+              𝓤
+              H
+              A
+              (Mut.mslice
+              (KInstanceRow.R)
+              (Syntax.tyRef
+              (Syntax.named 0)
+              Syntax.mut
+              (KInstanceRow.named))
+              0))
+              (Reads'.room-gone
+              𝓤
+              H
+              A
+              (Syntax.tyRef
+              Syntax.erased
+              Syntax.mut
+              (KInstanceRow.named)))
+              Path'.refl
+              tt
+              Path'.refl
+              Path'.refl
+              Path'.refl
+              λ b o. tt)
+              d32
+
+          d34 : Typed.Typed 𝓤 H A 𝓣 E G62 b44 Δ1 at34
+          d34 =
+              Typed.g-pre
+              𝓤
+              H
+              A
+              W
+              𝓣
+              E
+              G62
+              G63
+              b44
+              Δ1
+              (λ Ψ. Ψ)
+              at33
+              (Lifetime.g-begin 𝓤 H A W E G62 14 (
+                tt,
+                (
+                  tt,
+                  (
+                    tt,
+                    (
+                      tt,
+                      (
+                        tt,
+                        (
+                          tt,
+                          (
+                            tt,
+                            (
+                              tt,
+                              (
+                                tt,
+                                (
+                                  tt,
+                                  (
+                                    tt,
+                                    (
+                                      tt,
+                                      (
+                                        tt,
+                                        (
+                                          tt,
+                                          (
+                                            tt,
+                                            (
+                                              tt,
+                                              (
+                                                tt,
+                                                (
+                                                  tt,
+                                                  (
+                                                    tt,
+                                                    (
+                                                      tt,
+                                                      (
+                                                        tt,
+                                                        (
+                                                          tt,
+                                                          (
+                                                            tt,
+                                                            (
+                                                              tt,
+                                                              (
+                                                                tt,
+                                                                (
+                                                                  tt,
+                                                                  (
+                                                                    tt,
+                                                                    (
+                                                                      tt,
+                                                                      (
+                                                                        tt,
+                                                                        (
+                                                                          tt,
+                                                                          (
+                                                                            tt,
+                                                                            (
+                                                                              tt,
+                                                                              (
+                                                                                tt,
+                                                                                (
+                                                                                  tt,
+                                                                                  (
+                                                                                    tt,
+                                                                                    (
+                                                                                      tt,
+                                                                                      (
+                                                                                        tt,
+                                                                                        (
+                                                                                          tt,
+                                                                                          (
+                                                                                            tt,
+                                                                                            (
+                                                                                              tt,
+                                                                                              (
+                                                                                                tt,
+                                                                                                (
+                                                                                                  tt,
+                                                                                                  (
+                                                                                                    tt,
+                                                                                                    tt,
+                                                                                                  ),
+                                                                                                ),
+                                                                                              ),
+                                                                                            ),
+                                                                                          ),
+                                                                                        ),
+                                                                                      ),
+                                                                                    ),
+                                                                                  ),
+                                                                                ),
+                                                                              ),
+                                                                            ),
+                                                                          ),
+                                                                        ),
+                                                                      ),
+                                                                    ),
+                                                                  ),
+                                                                ),
+                                                              ),
+                                                            ),
+                                                          ),
+                                                        ),
+                                                      ),
+                                                    ),
+                                                  ),
+                                                ),
+                                              ),
+                                            ),
+                                          ),
+                                        ),
+                                      ),
+                                    ),
+                                  ),
+                                ),
+                              ),
+                            ),
+                          ),
+                        ),
+                      ),
+                    ),
+                  ),
+                ),
+              ))
+              d33
+
+          d35 : Typed.Typed 𝓤 H A 𝓣 E G61 b44 Δ1 at35
+          d35 =
+              Typed.g-pre
+              𝓤
+              H
+              A
+              W
+              𝓣
+              E
+              G61
+              G62
+              b44
+              Δ1
+              (Typed.pass T60 T62 s59)
+              at34
+              (Scalar.g-room
+              𝓤
+              H
+              A
+              W
+              E
+              G61
+              14
+              (KOwn.spelled)
+              (KOwn.room 𝓤 H A W))
+              d34
+
+          d36 : Typed.Typed 𝓤 H A 𝓣 E G60 b44 Δ1 at36
+          d36 =
+              Typed.g-pre
+              𝓤
+              H
+              A
+              W
+              𝓣
+              E
+              G60
+              G61
+              b44
+              Δ1
+              (λ Ψ. Ψ)
+              at35
+              (Lifetime.g-forget 𝓤 H A W E G60 13 Row.dead Path'.refl)
+              d35
+
+          d37 : Typed.Typed 𝓤 H A 𝓣 E G59 b44 Δ1 at37
+          d37 =
+              Typed.g-pre
+              𝓤
+              H
+              A
+              W
+              𝓣
+              E
+              G59
+              G60
+              b44
+              Δ1
+              (Typed.pass T57 T60 s57)
+              at36
+              (Local.g-back-shr
+              𝓤
+              H
+              A
+              W
+              E
+              G59
+              14
+              13
+              (KOwn.row)
+              (KOwn.R)
+              (λ x. x)
+              (λ x. x)
+              (Reads'.as-is
+              𝓤
+              H
+              A
+              (Rows'.sc-shr
+              (KOwn.row)
+              (KOwn.R)
+              (λ x. x)
+              13))
+              (Local.home-of
+              𝓤
+              H
+              A
+              (KOwn.row)
+              (KOwn.R)
+              (λ x. x)
+              (λ x. x)
+              (KOwn.of-mem 𝓤 H A W)
+              λ x k. Path'.refl)
+              Path'.refl)
+              d36
+
+          d38 : Typed.Typed 𝓤 H A 𝓣 E G58 b44 Δ1 at38
+          d38 =
+              Typed.g-pre
+              𝓤
+              H
+              A
+              W
+              𝓣
+              E
+              G58
+              G59
+              b44
+              Δ1
+              (λ Ψ. Ψ)
+              at37
+              (Lifetime.g-end 𝓤 H A W E G58 13 Path'.refl)
+              d37
+
+          d39 : Typed.Typed 𝓤 H A 𝓣 E G57 b44 Δ1 at39
+          d39 =
+              Typed.g-pre
+              𝓤
+              H
+              A
+              W
+              𝓣
+              E
+              G57
+              G58
+              b44
+              Δ1
+              (λ Ψ. Ψ)
+              at38
+              (Lifetime.g-forget 𝓤 H A W E G57 12 Row.dead Path'.refl)
+              d38
+
+          d40 : Typed.Typed 𝓤 H A 𝓣 E G56 b44 Δ1 at40
+          d40 =
+              Typed.g-pre
+              𝓤
+              H
+              A
+              W
+              𝓣
+              E
+              G56
+              G57
+              b44
+              Δ1
+              (Typed.give s54)
+              at39
+              (Know.g-sl-known
+              𝓤
+              H
+              A
+              W
+              (Referent.fInt Syntax.w8)
+              E
+              G56
+              4
+              3
+              (Syntax.tyRef (Syntax.named 3) Syntax.mut (Syntax.tyInt Syntax.w8))
+              (Row.lease (κs .1 .1 .1 .0) (qs .1 .1 .1 .0))
+              0
+              (λ x. x)
+              record { fits = Dec'.lit< tt }
+              (Reads'.as-is
+              𝓤
+              H
+              A
+              (Mut.mslice
+              (Referent.rtF (Referent.fInt Syntax.w8))
+              (Syntax.tyRef (Syntax.named 3) Syntax.mut (Syntax.tyInt Syntax.w8))
+              3))
+              Path'.refl
+              tt)
+              d39
+
+          d41 : Typed.Typed 𝓤 H A 𝓣 E G55 b44 Δ1 at41
+          d41 =
+              Typed.g-pre
+              𝓤
+              H
+              A
+              W
+              𝓣
+              E
+              G55
+              G56
+              b44
+              Δ1
+              (Typed.both s53)
+              at40
+              (Relend.g-back-sl
+              𝓤
+              H
+              A
+              W
+              E
+              (Referent.rtF (Referent.fInt Syntax.w8))
+              G55
+              30
+              4
+              3
+              12
+              (Syntax.tyRef (Syntax.named 3) Syntax.mut (Syntax.tyInt Syntax.w8))
+              (Syntax.tyRef Syntax.erased Syntax.mut (Syntax.tyInt Syntax.w8))
+              (Row.lease (κs .1 .1 .1 .0) (qs .1 .1 .1 .0))
+              (λ x. x)
+              (λ x. x)
+              (Reads'.as-is
+              𝓤
+              H
+              A
+              (Mut.msleft
+              (Referent.rtF (Referent.fInt Syntax.w8))
+              (Syntax.tyRef Syntax.erased Syntax.mut (Syntax.tyInt Syntax.w8))))
+              (Reads'.as-is
+              𝓤
+              H
+              A
+              (Relend.mslice-owed
+              (Referent.rtF (Referent.fInt Syntax.w8))
+              (Syntax.tyRef (Syntax.named 3) Syntax.mut (Syntax.tyInt Syntax.w8))
+              3
+              12
+              (Row.lease (κs .1 .1 .1 .0) (qs .1 .1 .1 .0))))
+              Path'.refl
+              Path'.refl)
+              d40
+
+          d42 : Typed.Typed 𝓤 H A 𝓣 E G54 b44 Δ1 at42
+          d42 =
+              Typed.g-pre
+              𝓤
+              H
+              A
+              W
+              𝓣
+              E
+              G54
+              G55
+              b44
+              Δ1
+              (λ Ψ. Ψ)
+              at41
+              (Lifetime.g-end 𝓤 H A W E G54 12 Path'.refl)
+              d41
+
+          d43 : Typed.Typed 𝓤 H A 𝓣 E G53 b44 Δ1 at43
+          d43 =
+              Typed.g-pre
+              𝓤
+              H
+              A
+              W
+              𝓣
+              E
+              G53
+              G54
+              b44
+              Δ1
+              (Typed.pass T53 T54 s51)
+              at42
+              (Local.g-drop-sref
+              𝓤
+              H
+              A
+              W
+              E
+              G53
+              31
+              13
+              (KOwn.R)
+              (Syntax.tyRef Syntax.erased Syntax.imm (KOwn.named))
+              (λ x. x)
+              (Reads'.as-is
+              𝓤
+              H
+              A
+              (Rows'.sref
+              (KOwn.R)
+              (Syntax.tyRef Syntax.erased Syntax.imm (KOwn.named))
+              13)))
+              d42
+
+          d44 : Typed.Typed 𝓤 H A 𝓣 E G52 b45 Δ1 at44
+          d44 =
+              Typed.s-seq
+              𝓤
+              H
+              A
+              W
+              𝓣
+              E
+              G52
+              G53
+              b19
+              b44
+              Δ1
+              (Typed.both s50)
+              at43
+              (Plain.t-call-plain
+              𝓤
+              H
+              A
+              W
+              𝓣
+              4
+              ps·5
+              r·5
+              (claims· .10)
+              (claims· .11)
+              "post::put_post"
+              (known .5)
+              E
+              (λ pos β. β)
+              G52 (
+                record {
+                  pos = 30;
+                  ty = Syntax.tyRef Syntax.erased Syntax.mut (Syntax.tyInt Syntax.w8);
+                  ref = λ x. x;
+                },
+                (
+                  record {
+                    pos = 31;
                     ty = Syntax.tyRef
                         Syntax.erased
                         Syntax.imm
@@ -25478,8 +25676,8 @@ module _ (claims· : Claims) where
                 ),
               )
               18
-              (List._∷_ 14 (List._∷_ 15 (List._∷_ 7 (List._∷_ 4 List.[]))))
-              (Call.sub-id 𝓤 H A W (G68 .slots)) (
+              (List._∷_ 12 (List._∷_ 13 (List._∷_ 7 (List._∷_ 4 List.[]))))
+              (Call.sub-id 𝓤 H A W (G52 .slots)) (
                 Reads'.as-is
                     𝓤
                     H
@@ -25487,7 +25685,7 @@ module _ (claims· : Claims) where
                     (Mut.mslice
                     (Referent.rtF (Referent.fInt Syntax.w8))
                     (Syntax.tyRef Syntax.erased Syntax.mut (Syntax.tyInt Syntax.w8))
-                    14),
+                    12),
                 Mut.reads-mslice
                     𝓤
                     H
@@ -25495,7 +25693,7 @@ module _ (claims· : Claims) where
                     W
                     (Referent.rtF (Referent.fInt Syntax.w8))
                     (Syntax.tyRef Syntax.erased Syntax.mut (Syntax.tyInt Syntax.w8))
-                    14,
+                    12,
                 Path'.refl,
                 (
                   ShrRef.spares-sref
@@ -25508,7 +25706,7 @@ module _ (claims· : Claims) where
                       Syntax.erased
                       Syntax.imm
                       (KOwn.named))
-                      15,
+                      13,
                   Reads'.reads-sref
                       𝓤
                       H
@@ -25519,7 +25717,7 @@ module _ (claims· : Claims) where
                       Syntax.erased
                       Syntax.imm
                       (KOwn.named))
-                      15,
+                      13,
                   Path'.refl,
                   (
                     ShrRef.spares-sref
@@ -25581,10 +25779,10 @@ module _ (claims· : Claims) where
               (Reads'.room-gone 𝓤 H A (Syntax.tyInt Syntax.w64))
               (tt, (tt, (tt, (tt, tt))))
               Path'.refl)
-              d27
+              d43
 
-          d29 : Typed.Typed 𝓤 H A 𝓣 E G67 b41 Δ1 at29
-          d29 =
+          d45 : Typed.Typed 𝓤 H A 𝓣 E G51 b46 Δ1 at45
+          d45 =
               Typed.s-seq
               𝓤
               H
@@ -25592,13 +25790,13 @@ module _ (claims· : Claims) where
               W
               𝓣
               E
-              G67
-              G68
-              b23
-              b40
+              G51
+              G52
+              b18
+              b45
               Δ1
-              (Typed.give s65)
-              at28
+              (Typed.give s49)
+              at44
               (Local.t-sc-share
               𝓤
               H
@@ -25606,10 +25804,10 @@ module _ (claims· : Claims) where
               W
               E
               𝓣
-              G67
+              G51
               14
-              36
-              15
+              31
+              13
               (KOwn.R)
               (Syntax.tyRef Syntax.erased Syntax.imm (KOwn.named))
               (λ x. x)
@@ -25621,10 +25819,10 @@ module _ (claims· : Claims) where
               (Syntax.tyRef Syntax.erased Syntax.imm (KOwn.named)))
               Path'.refl
               λ b o. tt)
-              d28
+              d44
 
-          d30 : Typed.Typed 𝓤 H A 𝓣 E G66 b41 Δ1 at30
-          d30 =
+          d46 : Typed.Typed 𝓤 H A 𝓣 E G50 b46 Δ1 at46
+          d46 =
               Typed.g-pre
               𝓤
               H
@@ -25632,13 +25830,13 @@ module _ (claims· : Claims) where
               W
               𝓣
               E
-              G66
-              G67
-              b41
+              G50
+              G51
+              b46
               Δ1
               (λ Ψ. Ψ)
-              at29
-              (Lifetime.g-begin 𝓤 H A W E G66 15 (
+              at45
+              (Lifetime.g-begin 𝓤 H A W E G50 13 (
                 tt,
                 (
                   tt,
@@ -25768,10 +25966,10 @@ module _ (claims· : Claims) where
                   ),
                 ),
               ))
-              d29
+              d45
 
-          d31 : Typed.Typed 𝓤 H A 𝓣 E G65 b42 Δ1 at31
-          d31 =
+          d47 : Typed.Typed 𝓤 H A 𝓣 E G49 b47 Δ1 at47
+          d47 =
               Typed.s-seq
               𝓤
               H
@@ -25779,13 +25977,13 @@ module _ (claims· : Claims) where
               W
               𝓣
               E
-              G65
-              G66
-              b22
-              b41
+              G49
+              G50
+              b17
+              b46
               Δ1
-              (Typed.ask s63)
-              at30
+              (Typed.ask s47)
+              at46
               (Relend.t-sl-aggregate
               𝓤
               H
@@ -25795,10 +25993,10 @@ module _ (claims· : Claims) where
               (Referent.rtF (Referent.fInt Syntax.w8))
               𝓣
               (Relend.asMut (Referent.rtF (Referent.fInt Syntax.w8)))
-              G65
-              34
-              35
-              14
+              G49
+              29
+              30
+              12
               (Syntax.tyRef Syntax.erased Syntax.mut (Syntax.tyInt Syntax.w8))
               (Syntax.tyRef Syntax.erased Syntax.mut (Syntax.tyInt Syntax.w8))
               (λ x. x)
@@ -25816,7 +26014,7 @@ module _ (claims· : Claims) where
               (Relend.msptr
               (Referent.rtF (Referent.fInt Syntax.w8))
               (Syntax.tyRef Syntax.erased Syntax.mut (Syntax.tyInt Syntax.w8))
-              14))
+              12))
               (Reads'.room-gone
               𝓤
               H
@@ -25834,7 +26032,7 @@ module _ (claims· : Claims) where
                     (Referent.rtF (Referent.fInt Syntax.w8))
                     (Syntax.tyRef (Syntax.named 3) Syntax.mut (Syntax.tyInt Syntax.w8))
                     3
-                    14
+                    12
                     (Row.lease (κs .1 .1 .1 .0) (qs .1 .1 .1 .0))
                     8
                     Path'.refl,
@@ -25843,10 +26041,10 @@ module _ (claims· : Claims) where
               Path'.refl
               Path'.refl
               λ b o k. tt)
-              d30
+              d46
 
-          d32 : Typed.Typed 𝓤 H A 𝓣 E G64 b43 Δ1 at32
-          d32 =
+          d48 : Typed.Typed 𝓤 H A 𝓣 E G48 b48 Δ1 at48
+          d48 =
               Typed.s-seq
               𝓤
               H
@@ -25854,13 +26052,13 @@ module _ (claims· : Claims) where
               W
               𝓣
               E
-              G64
-              G65
-              b21
-              b42
+              G48
+              G49
+              b16
+              b47
               Δ1
-              (Typed.give s62)
-              at31
+              (Typed.give s46)
+              at47
               (Relend.t-sl-relend
               𝓤
               H
@@ -25869,11 +26067,11 @@ module _ (claims· : Claims) where
               E
               (Referent.rtF (Referent.fInt Syntax.w8))
               𝓣
-              G64
+              G48
               4
-              34
+              29
               3
-              14
+              12
               (Syntax.tyRef (Syntax.named 3) Syntax.mut (Syntax.tyInt Syntax.w8))
               (Syntax.tyRef Syntax.erased Syntax.mut (Syntax.tyInt Syntax.w8))
               (Row.lease (κs .1 .1 .1 .0) (qs .1 .1 .1 .0))
@@ -25898,10 +26096,10 @@ module _ (claims· : Claims) where
               Path'.refl
               Path'.refl
               λ b o. tt)
-              d31
+              d47
 
-          d33 : Typed.Typed 𝓤 H A 𝓣 E G63 b43 Δ1 at33
-          d33 =
+          d49 : Typed.Typed 𝓤 H A 𝓣 E G47 b48 Δ1 at49
+          d49 =
               Typed.g-pre
               𝓤
               H
@@ -25909,13 +26107,13 @@ module _ (claims· : Claims) where
               W
               𝓣
               E
-              G63
-              G64
-              b43
+              G47
+              G48
+              b48
               Δ1
               (λ Ψ. Ψ)
-              at32
-              (Lifetime.g-begin 𝓤 H A W E G63 14 (
+              at48
+              (Lifetime.g-begin 𝓤 H A W E G47 12 (
                 tt,
                 (
                   tt,
@@ -26045,10 +26243,10 @@ module _ (claims· : Claims) where
                   ),
                 ),
               ))
-              d32
+              d48
 
-          d34 : Typed.Typed 𝓤 H A 𝓣 E G62 b43 Δ1 at34
-          d34 =
+          d50 : Typed.Typed 𝓤 H A 𝓣 E G46 b48 Δ1 at50
+          d50 =
               Typed.g-pre
               𝓤
               H
@@ -26056,17 +26254,17 @@ module _ (claims· : Claims) where
               W
               𝓣
               E
-              G62
-              G63
-              b43
+              G46
+              G47
+              b48
               Δ1
               (λ Ψ. Ψ)
-              at33
-              (Lifetime.g-forget 𝓤 H A W E G62 13 Row.dead Path'.refl)
-              d33
+              at49
+              (Lifetime.g-forget 𝓤 H A W E G46 11 Row.dead Path'.refl)
+              d49
 
-          d35 : Typed.Typed 𝓤 H A 𝓣 E G61 b43 Δ1 at35
-          d35 =
+          d51 : Typed.Typed 𝓤 H A 𝓣 E G45 b48 Δ1 at51
+          d51 =
               Typed.g-pre
               𝓤
               H
@@ -26074,21 +26272,21 @@ module _ (claims· : Claims) where
               W
               𝓣
               E
-              G61
-              G62
-              b43
+              G45
+              G46
+              b48
               Δ1
-              (Typed.pass T59 T62 s59)
-              at34
+              (Typed.pass T43 T46 s43)
+              at50
               (Local.g-back-shr
               𝓤
               H
               A
               W
               E
-              G61
+              G45
               14
-              13
+              11
               (KOwn.row)
               (KOwn.R)
               (λ x. x)
@@ -26101,7 +26299,7 @@ module _ (claims· : Claims) where
               (KOwn.row)
               (KOwn.R)
               (λ x. x)
-              13))
+              11))
               (Local.home-of
               𝓤
               H
@@ -26113,10 +26311,10 @@ module _ (claims· : Claims) where
               (KOwn.of-mem 𝓤 H A W)
               λ x k. Path'.refl)
               Path'.refl)
-              d34
+              d50
 
-          d36 : Typed.Typed 𝓤 H A 𝓣 E G60 b43 Δ1 at36
-          d36 =
+          d52 : Typed.Typed 𝓤 H A 𝓣 E G44 b48 Δ1 at52
+          d52 =
               Typed.g-pre
               𝓤
               H
@@ -26124,17 +26322,17 @@ module _ (claims· : Claims) where
               W
               𝓣
               E
-              G60
-              G61
-              b43
+              G44
+              G45
+              b48
               Δ1
               (λ Ψ. Ψ)
-              at35
-              (Lifetime.g-end 𝓤 H A W E G60 13 Path'.refl)
-              d35
+              at51
+              (Lifetime.g-end 𝓤 H A W E G44 11 Path'.refl)
+              d51
 
-          d37 : Typed.Typed 𝓤 H A 𝓣 E G59 b43 Δ1 at37
-          d37 =
+          d53 : Typed.Typed 𝓤 H A 𝓣 E G43 b48 Δ1 at53
+          d53 =
               Typed.g-pre
               𝓤
               H
@@ -26142,17 +26340,17 @@ module _ (claims· : Claims) where
               W
               𝓣
               E
-              G59
-              G60
-              b43
+              G43
+              G44
+              b48
               Δ1
               (λ Ψ. Ψ)
-              at36
-              (Lifetime.g-forget 𝓤 H A W E G59 12 Row.dead Path'.refl)
-              d36
+              at52
+              (Lifetime.g-forget 𝓤 H A W E G43 10 Row.dead Path'.refl)
+              d52
 
-          d38 : Typed.Typed 𝓤 H A 𝓣 E G58 b43 Δ1 at38
-          d38 =
+          d54 : Typed.Typed 𝓤 H A 𝓣 E G42 b48 Δ1 at54
+          d54 =
               Typed.g-pre
               𝓤
               H
@@ -26160,12 +26358,12 @@ module _ (claims· : Claims) where
               W
               𝓣
               E
-              G58
-              G59
-              b43
+              G42
+              G43
+              b48
               Δ1
-              (Typed.give s56)
-              at37
+              (Typed.give s40)
+              at53
               (Know.g-sl-known
               𝓤
               H
@@ -26173,7 +26371,7 @@ module _ (claims· : Claims) where
               W
               (Referent.fInt Syntax.w8)
               E
-              G58
+              G42
               3
               2
               (Syntax.tyRef (Syntax.named 2) Syntax.mut (Syntax.tyInt Syntax.w8))
@@ -26191,10 +26389,10 @@ module _ (claims· : Claims) where
               2))
               Path'.refl
               tt)
-              d37
+              d53
 
-          d39 : Typed.Typed 𝓤 H A 𝓣 E G57 b43 Δ1 at39
-          d39 =
+          d55 : Typed.Typed 𝓤 H A 𝓣 E G41 b48 Δ1 at55
+          d55 =
               Typed.g-pre
               𝓤
               H
@@ -26202,12 +26400,12 @@ module _ (claims· : Claims) where
               W
               𝓣
               E
-              G57
-              G58
-              b43
+              G41
+              G42
+              b48
               Δ1
-              (Typed.both s55)
-              at38
+              (Typed.both s39)
+              at54
               (Relend.g-back-sl
               𝓤
               H
@@ -26215,11 +26413,11 @@ module _ (claims· : Claims) where
               W
               E
               (Referent.rtF (Referent.fInt Syntax.w8))
-              G57
-              32
+              G41
+              27
               3
               2
-              12
+              10
               (Syntax.tyRef (Syntax.named 2) Syntax.mut (Syntax.tyInt Syntax.w8))
               (Syntax.tyRef Syntax.erased Syntax.mut (Syntax.tyInt Syntax.w8))
               (Row.lease (κs .1 .1 .0) (qs .1 .1 .0))
@@ -26240,14 +26438,14 @@ module _ (claims· : Claims) where
               (Referent.rtF (Referent.fInt Syntax.w8))
               (Syntax.tyRef (Syntax.named 2) Syntax.mut (Syntax.tyInt Syntax.w8))
               2
-              12
+              10
               (Row.lease (κs .1 .1 .0) (qs .1 .1 .0))))
               Path'.refl
               Path'.refl)
-              d38
+              d54
 
-          d40 : Typed.Typed 𝓤 H A 𝓣 E G56 b43 Δ1 at40
-          d40 =
+          d56 : Typed.Typed 𝓤 H A 𝓣 E G40 b48 Δ1 at56
+          d56 =
               Typed.g-pre
               𝓤
               H
@@ -26255,17 +26453,17 @@ module _ (claims· : Claims) where
               W
               𝓣
               E
-              G56
-              G57
-              b43
+              G40
+              G41
+              b48
               Δ1
               (λ Ψ. Ψ)
-              at39
-              (Lifetime.g-end 𝓤 H A W E G56 12 Path'.refl)
-              d39
+              at55
+              (Lifetime.g-end 𝓤 H A W E G40 10 Path'.refl)
+              d55
 
-          d41 : Typed.Typed 𝓤 H A 𝓣 E G55 b43 Δ1 at41
-          d41 =
+          d57 : Typed.Typed 𝓤 H A 𝓣 E G39 b48 Δ1 at57
+          d57 =
               Typed.g-pre
               𝓤
               H
@@ -26273,21 +26471,21 @@ module _ (claims· : Claims) where
               W
               𝓣
               E
-              G55
-              G56
-              b43
+              G39
+              G40
+              b48
               Δ1
-              (Typed.pass T55 T56 s53)
-              at40
+              (Typed.pass T39 T40 s37)
+              at56
               (Local.g-drop-sref
               𝓤
               H
               A
               W
               E
-              G55
-              33
-              13
+              G39
+              28
+              11
               (KOwn.R)
               (Syntax.tyRef Syntax.erased Syntax.imm (KOwn.named))
               (λ x. x)
@@ -26298,11 +26496,11 @@ module _ (claims· : Claims) where
               (Rows'.sref
               (KOwn.R)
               (Syntax.tyRef Syntax.erased Syntax.imm (KOwn.named))
-              13)))
-              d40
+              11)))
+              d56
 
-          d42 : Typed.Typed 𝓤 H A 𝓣 E G54 b44 Δ1 at42
-          d42 =
+          d58 : Typed.Typed 𝓤 H A 𝓣 E G38 b49 Δ1 at58
+          d58 =
               Typed.s-seq
               𝓤
               H
@@ -26310,13 +26508,13 @@ module _ (claims· : Claims) where
               W
               𝓣
               E
-              G54
-              G55
-              b20
-              b43
+              G38
+              G39
+              b15
+              b48
               Δ1
-              (Typed.both s52)
-              at41
+              (Typed.both s36)
+              at57
               (Plain.t-call-plain
               𝓤
               H
@@ -26324,23 +26522,23 @@ module _ (claims· : Claims) where
               W
               𝓣
               4
-              ps·6
-              r·6
-              (claims· .12)
-              (claims· .13)
+              ps·5
+              r·5
+              (claims· .10)
+              (claims· .11)
               "post::put_post"
-              (known .6)
+              (known .5)
               E
               (λ pos β. β)
-              G54 (
+              G38 (
                 record {
-                  pos = 32;
+                  pos = 27;
                   ty = Syntax.tyRef Syntax.erased Syntax.mut (Syntax.tyInt Syntax.w8);
                   ref = λ x. x;
                 },
                 (
                   record {
-                    pos = 33;
+                    pos = 28;
                     ty = Syntax.tyRef
                         Syntax.erased
                         Syntax.imm
@@ -26371,8 +26569,8 @@ module _ (claims· : Claims) where
                 ),
               )
               17
-              (List._∷_ 12 (List._∷_ 13 (List._∷_ 6 (List._∷_ 4 List.[]))))
-              (Call.sub-id 𝓤 H A W (G54 .slots)) (
+              (List._∷_ 10 (List._∷_ 11 (List._∷_ 6 (List._∷_ 4 List.[]))))
+              (Call.sub-id 𝓤 H A W (G38 .slots)) (
                 Reads'.as-is
                     𝓤
                     H
@@ -26380,7 +26578,7 @@ module _ (claims· : Claims) where
                     (Mut.mslice
                     (Referent.rtF (Referent.fInt Syntax.w8))
                     (Syntax.tyRef Syntax.erased Syntax.mut (Syntax.tyInt Syntax.w8))
-                    12),
+                    10),
                 Mut.reads-mslice
                     𝓤
                     H
@@ -26388,7 +26586,7 @@ module _ (claims· : Claims) where
                     W
                     (Referent.rtF (Referent.fInt Syntax.w8))
                     (Syntax.tyRef Syntax.erased Syntax.mut (Syntax.tyInt Syntax.w8))
-                    12,
+                    10,
                 Path'.refl,
                 (
                   ShrRef.spares-sref
@@ -26401,7 +26599,7 @@ module _ (claims· : Claims) where
                       Syntax.erased
                       Syntax.imm
                       (KOwn.named))
-                      13,
+                      11,
                   Reads'.reads-sref
                       𝓤
                       H
@@ -26412,7 +26610,7 @@ module _ (claims· : Claims) where
                       Syntax.erased
                       Syntax.imm
                       (KOwn.named))
-                      13,
+                      11,
                   Path'.refl,
                   (
                     ShrRef.spares-sref
@@ -26474,1138 +26672,6 @@ module _ (claims· : Claims) where
               (Reads'.room-gone 𝓤 H A (Syntax.tyInt Syntax.w64))
               (tt, (tt, (tt, (tt, tt))))
               Path'.refl)
-              d41
-
-          d43 : Typed.Typed 𝓤 H A 𝓣 E G53 b45 Δ1 at43
-          d43 =
-              Typed.s-seq
-              𝓤
-              H
-              A
-              W
-              𝓣
-              E
-              G53
-              G54
-              b19
-              b44
-              Δ1
-              (Typed.give s51)
-              at42
-              (Local.t-sc-share
-              𝓤
-              H
-              A
-              W
-              E
-              𝓣
-              G53
-              14
-              33
-              13
-              (KOwn.R)
-              (Syntax.tyRef Syntax.erased Syntax.imm (KOwn.named))
-              (λ x. x)
-              (KOwn.in-mem 𝓤 H A W)
-              (Reads'.room-gone
-              𝓤
-              H
-              A
-              (Syntax.tyRef Syntax.erased Syntax.imm (KOwn.named)))
-              Path'.refl
-              λ b o. tt)
-              d42
-
-          d44 : Typed.Typed 𝓤 H A 𝓣 E G52 b45 Δ1 at44
-          d44 =
-              Typed.g-pre
-              𝓤
-              H
-              A
-              W
-              𝓣
-              E
-              G52
-              G53
-              b45
-              Δ1
-              (λ Ψ. Ψ)
-              at43
-              (Lifetime.g-begin 𝓤 H A W E G52 13 (
-                tt,
-                (
-                  tt,
-                  (
-                    tt,
-                    (
-                      (tt, tt),
-                      (
-                        tt,
-                        (
-                          tt,
-                          (
-                            tt,
-                            (
-                              tt,
-                              (
-                                tt,
-                                (
-                                  tt,
-                                  (
-                                    tt,
-                                    (
-                                      tt,
-                                      (
-                                        tt,
-                                        (
-                                          tt,
-                                          (
-                                            tt,
-                                            (
-                                              tt,
-                                              (
-                                                tt,
-                                                (
-                                                  tt,
-                                                  (
-                                                    tt,
-                                                    (
-                                                      tt,
-                                                      (
-                                                        tt,
-                                                        (
-                                                          tt,
-                                                          (
-                                                            tt,
-                                                            (
-                                                              tt,
-                                                              (
-                                                                tt,
-                                                                (
-                                                                  tt,
-                                                                  (
-                                                                    tt,
-                                                                    (
-                                                                      tt,
-                                                                      (
-                                                                        tt,
-                                                                        (
-                                                                          tt,
-                                                                          (
-                                                                            tt,
-                                                                            (
-                                                                              tt,
-                                                                              (
-                                                                                tt,
-                                                                                (
-                                                                                  tt,
-                                                                                  (
-                                                                                    tt,
-                                                                                    (
-                                                                                      tt,
-                                                                                      (
-                                                                                        tt,
-                                                                                        (
-                                                                                          tt,
-                                                                                          (
-                                                                                            tt,
-                                                                                            (
-                                                                                              tt,
-                                                                                              (
-                                                                                                tt,
-                                                                                                (
-                                                                                                  tt,
-                                                                                                  (
-                                                                                                    tt,
-                                                                                                    tt,
-                                                                                                  ),
-                                                                                                ),
-                                                                                              ),
-                                                                                            ),
-                                                                                          ),
-                                                                                        ),
-                                                                                      ),
-                                                                                    ),
-                                                                                  ),
-                                                                                ),
-                                                                              ),
-                                                                            ),
-                                                                          ),
-                                                                        ),
-                                                                      ),
-                                                                    ),
-                                                                  ),
-                                                                ),
-                                                              ),
-                                                            ),
-                                                          ),
-                                                        ),
-                                                      ),
-                                                    ),
-                                                  ),
-                                                ),
-                                              ),
-                                            ),
-                                          ),
-                                        ),
-                                      ),
-                                    ),
-                                  ),
-                                ),
-                              ),
-                            ),
-                          ),
-                        ),
-                      ),
-                    ),
-                  ),
-                ),
-              ))
-              d43
-
-          d45 : Typed.Typed 𝓤 H A 𝓣 E G51 b46 Δ1 at45
-          d45 =
-              Typed.s-seq
-              𝓤
-              H
-              A
-              W
-              𝓣
-              E
-              G51
-              G52
-              b18
-              b45
-              Δ1
-              (Typed.ask s49)
-              at44
-              (Relend.t-sl-aggregate
-              𝓤
-              H
-              A
-              W
-              E
-              (Referent.rtF (Referent.fInt Syntax.w8))
-              𝓣
-              (Relend.asMut (Referent.rtF (Referent.fInt Syntax.w8)))
-              G51
-              31
-              32
-              12
-              (Syntax.tyRef Syntax.erased Syntax.mut (Syntax.tyInt Syntax.w8))
-              (Syntax.tyRef Syntax.erased Syntax.mut (Syntax.tyInt Syntax.w8))
-              (λ x. x)
-              (Scalar.oFld
-              3
-              (List._∷_ (Syntax.field 1) List.[])
-              (Syntax.tyInt Syntax.w64)
-              8
-              λ v. Shared.lenV
-              (v .0))
-              (Reads'.as-is
-              𝓤
-              H
-              A
-              (Relend.msptr
-              (Referent.rtF (Referent.fInt Syntax.w8))
-              (Syntax.tyRef Syntax.erased Syntax.mut (Syntax.tyInt Syntax.w8))
-              12))
-              (Reads'.room-gone
-              𝓤
-              H
-              A
-              (Syntax.tyStruct
-              (List._∷_ 38 (List._∷_ 91 (List._∷_ 93 List.[])))
-              (Syntax.tcons
-              (Syntax.tyRef Syntax.erased Syntax.mut (Syntax.tyInt Syntax.w8))
-              (Syntax.tcons (Syntax.tyInt Syntax.w64) Syntax.tnil)))) (
-                Relend.reads-owed-len
-                    𝓤
-                    H
-                    A
-                    W
-                    (Referent.rtF (Referent.fInt Syntax.w8))
-                    (Syntax.tyRef (Syntax.named 2) Syntax.mut (Syntax.tyInt Syntax.w8))
-                    2
-                    12
-                    (Row.lease (κs .1 .1 .0) (qs .1 .1 .0))
-                    8
-                    Path'.refl,
-                Path'.refl,
-              )
-              Path'.refl
-              Path'.refl
-              λ b o k. tt)
-              d44
-
-          d46 : Typed.Typed 𝓤 H A 𝓣 E G50 b47 Δ1 at46
-          d46 =
-              Typed.s-seq
-              𝓤
-              H
-              A
-              W
-              𝓣
-              E
-              G50
-              G51
-              b17
-              b46
-              Δ1
-              (Typed.give s48)
-              at45
-              (Relend.t-sl-relend
-              𝓤
-              H
-              A
-              W
-              E
-              (Referent.rtF (Referent.fInt Syntax.w8))
-              𝓣
-              G50
-              3
-              31
-              2
-              12
-              (Syntax.tyRef (Syntax.named 2) Syntax.mut (Syntax.tyInt Syntax.w8))
-              (Syntax.tyRef Syntax.erased Syntax.mut (Syntax.tyInt Syntax.w8))
-              (Row.lease (κs .1 .1 .0) (qs .1 .1 .0))
-              0
-              (λ x. x)
-              (Reads'.as-is
-              𝓤
-              H
-              A
-              (Mut.mslice
-              (Referent.rtF (Referent.fInt Syntax.w8))
-              (Syntax.tyRef (Syntax.named 2) Syntax.mut (Syntax.tyInt Syntax.w8))
-              2))
-              (Reads'.room-gone
-              𝓤
-              H
-              A
-              (Syntax.tyRef Syntax.erased Syntax.mut (Syntax.tyInt Syntax.w8)))
-              Path'.refl
-              tt
-              Path'.refl
-              Path'.refl
-              Path'.refl
-              λ b o. tt)
-              d45
-
-          d47 : Typed.Typed 𝓤 H A 𝓣 E G49 b47 Δ1 at47
-          d47 =
-              Typed.g-pre
-              𝓤
-              H
-              A
-              W
-              𝓣
-              E
-              G49
-              G50
-              b47
-              Δ1
-              (λ Ψ. Ψ)
-              at46
-              (Lifetime.g-begin 𝓤 H A W E G49 12 (
-                tt,
-                (
-                  tt,
-                  (
-                    tt,
-                    (
-                      tt,
-                      (
-                        tt,
-                        (
-                          tt,
-                          (
-                            tt,
-                            (
-                              tt,
-                              (
-                                tt,
-                                (
-                                  tt,
-                                  (
-                                    tt,
-                                    (
-                                      tt,
-                                      (
-                                        tt,
-                                        (
-                                          tt,
-                                          (
-                                            tt,
-                                            (
-                                              tt,
-                                              (
-                                                tt,
-                                                (
-                                                  tt,
-                                                  (
-                                                    tt,
-                                                    (
-                                                      tt,
-                                                      (
-                                                        tt,
-                                                        (
-                                                          tt,
-                                                          (
-                                                            tt,
-                                                            (
-                                                              tt,
-                                                              (
-                                                                tt,
-                                                                (
-                                                                  tt,
-                                                                  (
-                                                                    tt,
-                                                                    (
-                                                                      tt,
-                                                                      (
-                                                                        tt,
-                                                                        (
-                                                                          tt,
-                                                                          (
-                                                                            tt,
-                                                                            (
-                                                                              tt,
-                                                                              (
-                                                                                tt,
-                                                                                (
-                                                                                  tt,
-                                                                                  (
-                                                                                    tt,
-                                                                                    (
-                                                                                      tt,
-                                                                                      (
-                                                                                        tt,
-                                                                                        (
-                                                                                          tt,
-                                                                                          (
-                                                                                            tt,
-                                                                                            (
-                                                                                              tt,
-                                                                                              (
-                                                                                                tt,
-                                                                                                (
-                                                                                                  tt,
-                                                                                                  (
-                                                                                                    tt,
-                                                                                                    tt,
-                                                                                                  ),
-                                                                                                ),
-                                                                                              ),
-                                                                                            ),
-                                                                                          ),
-                                                                                        ),
-                                                                                      ),
-                                                                                    ),
-                                                                                  ),
-                                                                                ),
-                                                                              ),
-                                                                            ),
-                                                                          ),
-                                                                        ),
-                                                                      ),
-                                                                    ),
-                                                                  ),
-                                                                ),
-                                                              ),
-                                                            ),
-                                                          ),
-                                                        ),
-                                                      ),
-                                                    ),
-                                                  ),
-                                                ),
-                                              ),
-                                            ),
-                                          ),
-                                        ),
-                                      ),
-                                    ),
-                                  ),
-                                ),
-                              ),
-                            ),
-                          ),
-                        ),
-                      ),
-                    ),
-                  ),
-                ),
-              ))
-              d46
-
-          d48 : Typed.Typed 𝓤 H A 𝓣 E G48 b47 Δ1 at48
-          d48 =
-              Typed.g-pre
-              𝓤
-              H
-              A
-              W
-              𝓣
-              E
-              G48
-              G49
-              b47
-              Δ1
-              (λ Ψ. Ψ)
-              at47
-              (Lifetime.g-forget 𝓤 H A W E G48 11 Row.dead Path'.refl)
-              d47
-
-          d49 : Typed.Typed 𝓤 H A 𝓣 E G47 b47 Δ1 at49
-          d49 =
-              Typed.g-pre
-              𝓤
-              H
-              A
-              W
-              𝓣
-              E
-              G47
-              G48
-              b47
-              Δ1
-              (Typed.both s45)
-              at48
-              (Relend.g-back-sl
-              𝓤
-              H
-              A
-              W
-              E
-              (KRouteRow.R)
-              G47
-              30
-              2
-              1
-              11
-              (Syntax.tyRef
-              (Syntax.named 1)
-              Syntax.mut
-              (KRouteRow.named))
-              (Syntax.tyRef Syntax.erased Syntax.mut (KRouteRow.named))
-              (Row.lease (κs .1 .0) (qs .1 .0))
-              (λ x. x)
-              (λ x. x)
-              (Reads'.as-is
-              𝓤
-              H
-              A
-              (Mut.msleft
-              (KRouteRow.R)
-              (Syntax.tyRef
-              Syntax.erased
-              Syntax.mut
-              (KRouteRow.named))))
-              (Reads'.as-is
-              𝓤
-              H
-              A
-              (Relend.mslice-owed
-              (KRouteRow.R)
-              (Syntax.tyRef
-              (Syntax.named 1)
-              Syntax.mut
-              (KRouteRow.named))
-              1
-              11
-              (Row.lease (κs .1 .0) (qs .1 .0))))
-              Path'.refl
-              Path'.refl)
-              d48
-
-          d50 : Typed.Typed 𝓤 H A 𝓣 E G46 b47 Δ1 at50
-          d50 =
-              Typed.g-pre
-              𝓤
-              H
-              A
-              W
-              𝓣
-              E
-              G46
-              G47
-              b47
-              Δ1
-              (λ Ψ. Ψ)
-              at49
-              (Lifetime.g-end 𝓤 H A W E G46 11 Path'.refl)
-              d49
-
-          d51 : Typed.Typed 𝓤 H A 𝓣 E G45 b47 Δ1 at51
-          d51 =
-              Typed.g-pre
-              𝓤
-              H
-              A
-              W
-              𝓣
-              E
-              G45
-              G46
-              b47
-              Δ1
-              (λ Ψ. Ψ)
-              at50
-              (Lifetime.g-forget 𝓤 H A W E G45 10 Row.dead Path'.refl)
-              d50
-
-          d52 : Typed.Typed 𝓤 H A 𝓣 E G44 b47 Δ1 at52
-          d52 =
-              Typed.g-pre
-              𝓤
-              H
-              A
-              W
-              𝓣
-              E
-              G44
-              G45
-              b47
-              Δ1
-              (Typed.both s42)
-              at51
-              (Relend.g-back-sl
-              𝓤
-              H
-              A
-              W
-              E
-              (KInstanceRow.R)
-              G44
-              28
-              1
-              0
-              10
-              (Syntax.tyRef
-              (Syntax.named 0)
-              Syntax.mut
-              (KInstanceRow.named))
-              (Syntax.tyRef Syntax.erased Syntax.mut (KInstanceRow.named))
-              (Row.lease (κs .0) (qs .0))
-              (λ x. x)
-              (λ x. x)
-              (Reads'.as-is
-              𝓤
-              H
-              A
-              (Mut.msleft
-              (KInstanceRow.R)
-              (Syntax.tyRef
-              Syntax.erased
-              Syntax.mut
-              (KInstanceRow.named))))
-              (Reads'.as-is
-              𝓤
-              H
-              A
-              (Relend.mslice-owed
-              (KInstanceRow.R)
-              (Syntax.tyRef
-              (Syntax.named 0)
-              Syntax.mut
-              (KInstanceRow.named))
-              0
-              10
-              (Row.lease (κs .0) (qs .0))))
-              Path'.refl
-              Path'.refl)
-              d51
-
-          d53 : Typed.Typed 𝓤 H A 𝓣 E G43 b47 Δ1 at53
-          d53 =
-              Typed.g-pre
-              𝓤
-              H
-              A
-              W
-              𝓣
-              E
-              G43
-              G44
-              b47
-              Δ1
-              (λ Ψ. Ψ)
-              at52
-              (Lifetime.g-end 𝓤 H A W E G43 10 Path'.refl)
-              d52
-
-          d54 : Typed.Typed 𝓤 H A 𝓣 E G42 b47 Δ1 at54
-          d54 =
-              Typed.g-pre
-              𝓤
-              H
-              A
-              W
-              𝓣
-              E
-              G42
-              G43
-              b47
-              Δ1
-              (Typed.pass T42 T43 s40)
-              at53
-              (Scalar.g-room 𝓤 H A W E G42 26 Syntax.tyUnit (Scalar.room-sc 𝓤 H A W Row.sUnit))
-              d53
-
-          d55 : Typed.Typed 𝓤 H A 𝓣 E G41 b47 Δ1 at55
-          d55 =
-              Typed.g-pre
-              𝓤
-              H
-              A
-              W
-              𝓣
-              E
-              G41
-              G42
-              b47
-              Δ1
-              (Typed.pass T41 T42 s39)
-              at54
-              (Scalar.g-room
-              𝓤
-              H
-              A
-              W
-              E
-              G41
-              16
-              (Syntax.tyStruct
-              (List._∷_
-              112
-              (List._∷_
-              108
-              (List._∷_
-              97
-              (List._∷_
-              99
-              (List._∷_
-              101
-              (List._∷_
-              58
-              (List._∷_
-              58
-              (List._∷_
-              82
-              (List._∷_
-              111
-              (List._∷_
-              117
-              (List._∷_
-              116
-              (List._∷_
-              101
-              (List._∷_
-              80
-              (List._∷_ 108 (List._∷_ 97 (List._∷_ 99 (List._∷_ 101 List.[])))))))))))))))))
-              (Syntax.tcons Syntax.tyBool (Syntax.tcons (Syntax.tyInt Syntax.w64) Syntax.tnil)))
-              (Local.room-whole
-              𝓤
-              H
-              A
-              W
-              (Declared.row RoutePlace.the-type)
-              (Syntax.tyStruct
-              (List._∷_
-              112
-              (List._∷_
-              108
-              (List._∷_
-              97
-              (List._∷_
-              99
-              (List._∷_
-              101
-              (List._∷_
-              58
-              (List._∷_
-              58
-              (List._∷_
-              82
-              (List._∷_
-              111
-              (List._∷_
-              117
-              (List._∷_
-              116
-              (List._∷_
-              101
-              (List._∷_
-              80
-              (List._∷_ 108 (List._∷_ 97 (List._∷_ 99 (List._∷_ 101 List.[])))))))))))))))))
-              (Syntax.tcons Syntax.tyBool (Syntax.tcons (Syntax.tyInt Syntax.w64) Syntax.tnil)))
-              Path'.refl))
-              d54
-
-          d56 : Typed.Typed 𝓤 H A 𝓣 E G40 b47 Δ1 at56
-          d56 =
-              Typed.g-pre
-              𝓤
-              H
-              A
-              W
-              𝓣
-              E
-              G40
-              G41
-              b47
-              Δ1
-              (Typed.pass T40 T41 s38)
-              at55
-              (Scalar.g-room
-              𝓤
-              H
-              A
-              W
-              E
-              G40
-              15
-              (Syntax.tyStruct
-              (List._∷_
-              112
-              (List._∷_
-              108
-              (List._∷_
-              97
-              (List._∷_
-              99
-              (List._∷_
-              101
-              (List._∷_
-              58
-              (List._∷_
-              58
-              (List._∷_
-              80
-              (List._∷_
-              108
-              (List._∷_ 97 (List._∷_ 99 (List._∷_ 101 (List._∷_ 115 List.[])))))))))))))
-              (Syntax.tcons
-              Syntax.tyBool
-              (Syntax.tcons
-              (Syntax.tyInt Syntax.w64)
-              (Syntax.tcons (Syntax.tyInt Syntax.w64) Syntax.tnil))))
-              (Local.room-whole
-              𝓤
-              H
-              A
-              W
-              (Declared.row Places.the-type)
-              (Syntax.tyStruct
-              (List._∷_
-              112
-              (List._∷_
-              108
-              (List._∷_
-              97
-              (List._∷_
-              99
-              (List._∷_
-              101
-              (List._∷_
-              58
-              (List._∷_
-              58
-              (List._∷_
-              80
-              (List._∷_
-              108
-              (List._∷_ 97 (List._∷_ 99 (List._∷_ 101 (List._∷_ 115 List.[])))))))))))))
-              (Syntax.tcons
-              Syntax.tyBool
-              (Syntax.tcons
-              (Syntax.tyInt Syntax.w64)
-              (Syntax.tcons (Syntax.tyInt Syntax.w64) Syntax.tnil))))
-              Path'.refl))
-              d55
-
-          d57 : Typed.Typed 𝓤 H A 𝓣 E G39 b48 Δ1 at57
-          d57 =
-              Typed.s-seq
-              𝓤
-              H
-              A
-              W
-              𝓣
-              E
-              G39
-              G40
-              b16
-              b47
-              Δ1
-              (Typed.both s37)
-              at56
-              (Plain.t-call-plain
-              𝓤
-              H
-              A
-              W
-              𝓣
-              3
-              ps·5
-              r·5
-              (claims· .10)
-              (claims· .11)
-              "finish::store"
-              (known .5)
-              E
-              (λ pos β. β)
-              G39 (
-                record {
-                  pos = 28;
-                  ty = Syntax.tyRef
-                      Syntax.erased
-                      Syntax.mut
-                      (KInstanceRow.named);
-                  ref = λ x. x;
-                },
-                (
-                  record {
-                    pos = 30;
-                    ty = Syntax.tyRef
-                        Syntax.erased
-                        Syntax.mut
-                        (KRouteRow.named);
-                    ref = λ x. x;
-                  },
-                  (
-                    record { pos = 15; st = List.[]; d = 0; at = λ x. x },
-                    (
-                      Num.vFld
-                          16
-                          (List._∷_ (Syntax.field 1) List.[])
-                          8
-                          λ x. RoutePlace.struct .as-values
-                          x .1 .0,
-                      (
-                        record {
-                          pos = 10;
-                          ty = Syntax.tyRef
-                              (Syntax.named 5)
-                              Syntax.imm
-                              (KDecided.named);
-                          ref = λ x. x;
-                        },
-                        tt,
-                      ),
-                    ),
-                  ),
-                ),
-              )
-              26
-              (List._∷_ 10 (List._∷_ 11 (List._∷_ 5 List.[])))
-              (Call.sub-id 𝓤 H A W (G39 .slots)) (
-                Reads'.as-is
-                    𝓤
-                    H
-                    A
-                    (Mut.mslice
-                    (KInstanceRow.R)
-                    (Syntax.tyRef
-                    Syntax.erased
-                    Syntax.mut
-                    (KInstanceRow.named))
-                    10),
-                Mut.reads-mslice
-                    𝓤
-                    H
-                    A
-                    W
-                    (KInstanceRow.R)
-                    (Syntax.tyRef
-                    Syntax.erased
-                    Syntax.mut
-                    (KInstanceRow.named))
-                    10,
-                Path'.refl,
-                (
-                  Reads'.as-is
-                      𝓤
-                      H
-                      A
-                      (Mut.mslice
-                      (KRouteRow.R)
-                      (Syntax.tyRef
-                      Syntax.erased
-                      Syntax.mut
-                      (KRouteRow.named))
-                      11),
-                  Mut.reads-mslice
-                      𝓤
-                      H
-                      A
-                      W
-                      (KRouteRow.R)
-                      (Syntax.tyRef
-                      Syntax.erased
-                      Syntax.mut
-                      (KRouteRow.named))
-                      11,
-                  Path'.refl,
-                  (
-                    (
-                      Yields.yields-copy
-                          𝓤
-                          H
-                          A
-                          W
-                          (λ ρ. Unit)
-                          (Declared.row Places.the-type)
-                          Path'.refl
-                          (Copies.cStruct
-                          Places.the-type
-                          Laws'3.the-laws
-                          Laws'3.the-copy .copy
-                          𝓤
-                          H
-                          A
-                          W)
-                          (Rows'.whole (Declared.row Places.the-type))
-                          (λ x. x)
-                          (λ x. x)
-                          (λ ρ told. Local.mem-whole 𝓤 H A W (Declared.row Places.the-type) ρ)
-                          λ ρ told. Local.whole-mem
-                          𝓤
-                          H
-                          A
-                          W
-                          (Declared.row Places.the-type)
-                          ρ,
-                      Path'.refl,
-                    ),
-                    (
-                      (
-                        Reads.reads-field
-                            𝓤
-                            H
-                            A
-                            W
-                            RoutePlace.the-type
-                            Laws'4.the-laws
-                            1
-                            (Syntax.tyInt Syntax.w64)
-                            8
-                            Path'.refl,
-                        Path'.refl,
-                      ),
-                      (
-                        ShrRef.spares-sref
-                            𝓤
-                            H
-                            A
-                            W
-                            (KDecided.R)
-                            (Syntax.tyRef
-                            (Syntax.named 5)
-                            Syntax.imm
-                            (KDecided.named))
-                            5,
-                        Reads'.reads-sref
-                            𝓤
-                            H
-                            A
-                            W
-                            (KDecided.R)
-                            (Syntax.tyRef
-                            (Syntax.named 5)
-                            Syntax.imm
-                            (KDecided.named))
-                            5,
-                        Path'.refl,
-                        tt,
-                      ),
-                    ),
-                  ),
-                ),
-              )
-              (Reads'.room-gone 𝓤 H A Syntax.tyUnit)
-              (tt, (tt, (tt, tt)))
-              Path'.refl)
-              d56
-
-          d58 : Typed.Typed 𝓤 H A 𝓣 E G38 b49 Δ1 at58
-          d58 =
-              Typed.s-seq
-              𝓤
-              H
-              A
-              W
-              𝓣
-              E
-              G38
-              G39
-              b15
-              b48
-              Δ1
-              (Typed.ask s36)
-              at57
-              (Relend.t-sl-aggregate
-              𝓤
-              H
-              A
-              W
-              E
-              (KRouteRow.R)
-              𝓣
-              (Relend.asMut (KRouteRow.R))
-              G38
-              29
-              30
-              11
-              (Syntax.tyRef Syntax.erased Syntax.mut (KRouteRow.named))
-              (Syntax.tyRef Syntax.erased Syntax.mut (KRouteRow.named))
-              (λ x. x)
-              (Scalar.oFld
-              2
-              (List._∷_ (Syntax.field 1) List.[])
-              (Syntax.tyInt Syntax.w64)
-              8
-              λ v. Shared.lenV
-              (v .0))
-              (Reads'.as-is
-              𝓤
-              H
-              A
-              (Relend.msptr
-              (KRouteRow.R)
-              (Syntax.tyRef Syntax.erased Syntax.mut (KRouteRow.named))
-              11))
-              (Reads'.room-gone
-              𝓤
-              H
-              A
-              (Syntax.tyStruct
-              (List._∷_ 38 (List._∷_ 91 (List._∷_ 93 List.[])))
-              (Syntax.tcons
-              (Syntax.tyRef Syntax.erased Syntax.mut (KRouteRow.named))
-              (Syntax.tcons (Syntax.tyInt Syntax.w64) Syntax.tnil)))) (
-                Relend.reads-owed-len
-                    𝓤
-                    H
-                    A
-                    W
-                    (KRouteRow.R)
-                    (Syntax.tyRef
-                    (Syntax.named 1)
-                    Syntax.mut
-                    (KRouteRow.named))
-                    1
-                    11
-                    (Row.lease (κs .1 .0) (qs .1 .0))
-                    8
-                    Path'.refl,
-                Path'.refl,
-              )
-              Path'.refl
-              Path'.refl
-              λ b o k. tt)
               d57
 
           d59 : Typed.Typed 𝓤 H A 𝓣 E G37 b50 Δ1 at59
@@ -27624,47 +26690,26 @@ module _ (claims· : Claims) where
               Δ1
               (Typed.give s35)
               at58
-              (Relend.t-sl-relend
+              (Local.t-sc-share
               𝓤
               H
               A
               W
               E
-              (KRouteRow.R)
               𝓣
               G37
-              2
-              29
-              1
+              14
+              28
               11
-              (Syntax.tyRef
-              (Syntax.named 1)
-              Syntax.mut
-              (KRouteRow.named))
-              (Syntax.tyRef Syntax.erased Syntax.mut (KRouteRow.named))
-              (Row.lease (κs .1 .0) (qs .1 .0))
-              0
+              (KOwn.R)
+              (Syntax.tyRef Syntax.erased Syntax.imm (KOwn.named))
               (λ x. x)
-              (Reads'.as-is
-              𝓤
-              H
-              A
-              (Mut.mslice
-              (KRouteRow.R)
-              (Syntax.tyRef
-              (Syntax.named 1)
-              Syntax.mut
-              (KRouteRow.named))
-              1))
+              (KOwn.in-mem 𝓤 H A W)
               (Reads'.room-gone
               𝓤
               H
               A
-              (Syntax.tyRef Syntax.erased Syntax.mut (KRouteRow.named)))
-              Path'.refl
-              tt
-              Path'.refl
-              Path'.refl
+              (Syntax.tyRef Syntax.erased Syntax.imm (KOwn.named)))
               Path'.refl
               λ b o. tt)
               d58
@@ -27687,11 +26732,11 @@ module _ (claims· : Claims) where
               (Lifetime.g-begin 𝓤 H A W E G36 11 (
                 tt,
                 (
-                  (tt, tt),
+                  tt,
                   (
                     tt,
                     (
-                      tt,
+                      (tt, tt),
                       (
                         tt,
                         (
@@ -27838,18 +26883,18 @@ module _ (claims· : Claims) where
               A
               W
               E
-              (KInstanceRow.R)
+              (Referent.rtF (Referent.fInt Syntax.w8))
               𝓣
-              (Relend.asMut (KInstanceRow.R))
+              (Relend.asMut (Referent.rtF (Referent.fInt Syntax.w8)))
               G35
+              26
               27
-              28
               10
-              (Syntax.tyRef Syntax.erased Syntax.mut (KInstanceRow.named))
-              (Syntax.tyRef Syntax.erased Syntax.mut (KInstanceRow.named))
+              (Syntax.tyRef Syntax.erased Syntax.mut (Syntax.tyInt Syntax.w8))
+              (Syntax.tyRef Syntax.erased Syntax.mut (Syntax.tyInt Syntax.w8))
               (λ x. x)
               (Scalar.oFld
-              1
+              3
               (List._∷_ (Syntax.field 1) List.[])
               (Syntax.tyInt Syntax.w64)
               8
@@ -27860,8 +26905,8 @@ module _ (claims· : Claims) where
               H
               A
               (Relend.msptr
-              (KInstanceRow.R)
-              (Syntax.tyRef Syntax.erased Syntax.mut (KInstanceRow.named))
+              (Referent.rtF (Referent.fInt Syntax.w8))
+              (Syntax.tyRef Syntax.erased Syntax.mut (Syntax.tyInt Syntax.w8))
               10))
               (Reads'.room-gone
               𝓤
@@ -27870,21 +26915,18 @@ module _ (claims· : Claims) where
               (Syntax.tyStruct
               (List._∷_ 38 (List._∷_ 91 (List._∷_ 93 List.[])))
               (Syntax.tcons
-              (Syntax.tyRef Syntax.erased Syntax.mut (KInstanceRow.named))
+              (Syntax.tyRef Syntax.erased Syntax.mut (Syntax.tyInt Syntax.w8))
               (Syntax.tcons (Syntax.tyInt Syntax.w64) Syntax.tnil)))) (
                 Relend.reads-owed-len
                     𝓤
                     H
                     A
                     W
-                    (KInstanceRow.R)
-                    (Syntax.tyRef
-                    (Syntax.named 0)
-                    Syntax.mut
-                    (KInstanceRow.named))
-                    0
+                    (Referent.rtF (Referent.fInt Syntax.w8))
+                    (Syntax.tyRef (Syntax.named 2) Syntax.mut (Syntax.tyInt Syntax.w8))
+                    2
                     10
-                    (Row.lease (κs .0) (qs .0))
+                    (Row.lease (κs .1 .1 .0) (qs .1 .1 .0))
                     8
                     Path'.refl,
                 Path'.refl,
@@ -27916,19 +26958,16 @@ module _ (claims· : Claims) where
               A
               W
               E
-              (KInstanceRow.R)
+              (Referent.rtF (Referent.fInt Syntax.w8))
               𝓣
               G34
-              1
-              27
-              0
+              3
+              26
+              2
               10
-              (Syntax.tyRef
-              (Syntax.named 0)
-              Syntax.mut
-              (KInstanceRow.named))
-              (Syntax.tyRef Syntax.erased Syntax.mut (KInstanceRow.named))
-              (Row.lease (κs .0) (qs .0))
+              (Syntax.tyRef (Syntax.named 2) Syntax.mut (Syntax.tyInt Syntax.w8))
+              (Syntax.tyRef Syntax.erased Syntax.mut (Syntax.tyInt Syntax.w8))
+              (Row.lease (κs .1 .1 .0) (qs .1 .1 .0))
               0
               (λ x. x)
               (Reads'.as-is
@@ -27936,20 +26975,14 @@ module _ (claims· : Claims) where
               H
               A
               (Mut.mslice
-              (KInstanceRow.R)
-              (Syntax.tyRef
-              (Syntax.named 0)
-              Syntax.mut
-              (KInstanceRow.named))
-              0))
+              (Referent.rtF (Referent.fInt Syntax.w8))
+              (Syntax.tyRef (Syntax.named 2) Syntax.mut (Syntax.tyInt Syntax.w8))
+              2))
               (Reads'.room-gone
               𝓤
               H
               A
-              (Syntax.tyRef
-              Syntax.erased
-              Syntax.mut
-              (KInstanceRow.named)))
+              (Syntax.tyRef Syntax.erased Syntax.mut (Syntax.tyInt Syntax.w8)))
               Path'.refl
               tt
               Path'.refl
@@ -31152,28 +30185,372 @@ module _ (claims· : Claims) where
       m27 = λ before given. s33 .next (m26 before given)
 
       module _ (before· : Then1) where
-        pub record After-store-arg·own : Type 0 where
+        pub record After-put-post-arg·own : Type 0 where
           pub given : s32 .gives (m25 (before· .before))
 
-      pub record After-store-arg : Type 0 where
+      pub record After-put-post-arg : Type 0 where
         pub before : Then1
-        pub store-arg : After-store-arg·own before
+        pub put-post-arg : After-put-post-arg·own before
 
       abbrev pub m28 :
-          (before : After-store-arg) →
-          (given : s35 .gives (m27 (before .before) (before .store-arg .given))) →
+          (before : After-put-post-arg) →
+          (given : s35 .gives (m27 (before .before) (before .put-post-arg .given))) →
           Typed.Mo T38
-      m28 = λ before given. s35 .next (m27 (before .before) (before .store-arg .given)) given
+      m28 = λ before given. s35 .next (m27 (before .before) (before .put-post-arg .given)) given
+
+      module _ (before· : After-put-post-arg) where
+        pub record After-o·own : Type 0 where
+          pub given : s35 .gives (m27 (before· .before) (before· .put-post-arg .given))
+
+      pub record After-o : Type 0 where
+        pub before : After-put-post-arg
+        pub o : After-o·own before
+
+      abbrev pub Need-put-post-requires : Type 0
+      Need-put-post-requires = (c : After-o) → s36 .asks (m28 (c .before) (c .o .given))
 
       abbrev pub m29 :
-          (before : After-store-arg) →
-          (given : s35 .gives (m27 (before .before) (before .store-arg .given))) →
+          (before : After-o) →
+          (given : s36 .gives (m28 (before .before) (before .o .given))) →
           Typed.Mo T39
-      m29 = λ before given. s36 .next (m28 before given)
+      m29 = λ before given. s36 .next (m28 (before .before) (before .o .given)) given
+
+      module _ (before· : After-o) where
+        abbrev pub After-put-post·own : Type 0
+        After-put-post·own = Called.Called ps·5 r·5 (claims· .11) T38 (
+          record {
+            pos = 27;
+            ty = Syntax.tyRef Syntax.erased Syntax.mut (Syntax.tyInt Syntax.w8);
+            ref = λ x. x;
+          },
+          (
+            record {
+              pos = 28;
+              ty = Syntax.tyRef
+                  Syntax.erased
+                  Syntax.imm
+                  (KOwn.named);
+              ref = λ x. x;
+            },
+            (
+              record {
+                pos = 11;
+                ty = Syntax.tyRef
+                    (Syntax.named 6)
+                    Syntax.imm
+                    (KPost.named);
+                ref = λ x. x;
+              },
+              (
+                record {
+                  pos = 9;
+                  ty = Syntax.tyRef
+                      (Syntax.named 4)
+                      Syntax.imm
+                      (Syntax.tyArray (Syntax.tyArray (Syntax.tyInt Syntax.w8) 16) 16);
+                  ref = λ x. x;
+                },
+                tt,
+              ),
+            ),
+          ),
+        ) (m28 (before· .before) (before· .o .given))
+
+      pub record After-put-post : Type 0 where
+        pub before : After-o
+        pub put-post : After-put-post·own before
+
+      abbrev pub After-put-post·gave :
+          (c : After-put-post) → s36 .gives (m28 (c .before .before) (c .before .o .given))
+      After-put-post·gave = λ c. Called.given ps·5 r·5 (claims· .11) T38 (
+        record {
+          pos = 27;
+          ty = Syntax.tyRef Syntax.erased Syntax.mut (Syntax.tyInt Syntax.w8);
+          ref = λ x. x;
+        },
+        (
+          record {
+            pos = 28;
+            ty = Syntax.tyRef
+                Syntax.erased
+                Syntax.imm
+                (KOwn.named);
+            ref = λ x. x;
+          },
+          (
+            record {
+              pos = 11;
+              ty = Syntax.tyRef
+                  (Syntax.named 6)
+                  Syntax.imm
+                  (KPost.named);
+              ref = λ x. x;
+            },
+            (
+              record {
+                pos = 9;
+                ty = Syntax.tyRef
+                    (Syntax.named 4)
+                    Syntax.imm
+                    (Syntax.tyArray (Syntax.tyArray (Syntax.tyInt Syntax.w8) 16) 16);
+                ref = λ x. x;
+              },
+              tt,
+            ),
+          ),
+        ),
+      ) (m28 (c .before .before) (c .before .o .given)) (c .put-post)
+
+      abbrev pub m30 :
+          (before : After-o) →
+          (given : s36 .gives (m28 (before .before) (before .o .given))) →
+          Typed.Mo T40
+      m30 = λ before given. s37 (m29 before given)
+
+      abbrev pub m31 :
+          (before : After-put-post) →
+          (given : s39 .gives (m30 (before .before) (After-put-post·gave before))) →
+          Typed.Mo T42
+      m31 = λ before given. s39 .next (m30 (before .before) (After-put-post·gave before)) given
+
+      module _ (before· : After-put-post) where
+        pub record After-forward·own : Type 0 where
+          pub given : s39 .gives (m30 (before· .before) (After-put-post·gave before·))
+
+      pub record After-forward : Type 0 where
+        pub before : After-put-post
+        pub forward : After-forward·own before
+
+      abbrev pub m32 :
+          (before : After-forward) →
+          (given : s40 .gives (m31 (before .before) (before .forward .given))) →
+          Typed.Mo T43
+      m32 = λ before given. s40 .next (m31 (before .before) (before .forward .given)) given
+
+      abbrev pub m33 :
+          (before : After-forward) →
+          (given : s40 .gives (m31 (before .before) (before .forward .given))) →
+          Typed.Mo T46
+      m33 = λ before given. s43 (m32 before given)
+
+      module _ (before· : After-forward) where
+        pub record After-slice-known3·own : Type 0 where
+          pub given : s40 .gives (m31 (before· .before) (before· .forward .given))
+
+      pub record After-slice-known3 : Type 0 where
+        pub before : After-forward
+        pub slice-known3 : After-slice-known3·own before
+
+      abbrev pub m34 :
+          (before : After-slice-known3) →
+          (given : s46 .gives (m33 (before .before) (before .slice-known3 .given))) →
+          Typed.Mo T49
+      m34 = λ before given. s46 .next (m33 (before .before) (before .slice-known3 .given)) given
+
+      abbrev pub m35 :
+          (before : After-slice-known3) →
+          (given : s46 .gives (m33 (before .before) (before .slice-known3 .given))) →
+          Typed.Mo T50
+      m35 = λ before given. s47 .next (m34 before given)
+
+      module _ (before· : After-slice-known3) where
+        pub record After-put-post-arg2·own : Type 0 where
+          pub given : s46 .gives (m33 (before· .before) (before· .slice-known3 .given))
+
+      pub record After-put-post-arg2 : Type 0 where
+        pub before : After-slice-known3
+        pub put-post-arg2 : After-put-post-arg2·own before
+
+      abbrev pub m36 :
+          (before : After-put-post-arg2) →
+          (given : s49 .gives (m35 (before .before) (before .put-post-arg2 .given))) →
+          Typed.Mo T52
+      m36 = λ before given. s49 .next (m35 (before .before) (before .put-post-arg2 .given)) given
+
+      module _ (before· : After-put-post-arg2) where
+        pub record After-o2·own : Type 0 where
+          pub given : s49 .gives (m35 (before· .before) (before· .put-post-arg2 .given))
+
+      pub record After-o2 : Type 0 where
+        pub before : After-put-post-arg2
+        pub o2 : After-o2·own before
+
+      abbrev pub Need-put-post-requires-2 : Type 0
+      Need-put-post-requires-2 = (c : After-o2) → s50 .asks (m36 (c .before) (c .o2 .given))
+
+      abbrev pub m37 :
+          (before : After-o2) →
+          (given : s50 .gives (m36 (before .before) (before .o2 .given))) →
+          Typed.Mo T53
+      m37 = λ before given. s50 .next (m36 (before .before) (before .o2 .given)) given
+
+      module _ (before· : After-o2) where
+        abbrev pub After-put-post2·own : Type 0
+        After-put-post2·own = Called.Called ps·5 r·5 (claims· .11) T52 (
+          record {
+            pos = 30;
+            ty = Syntax.tyRef Syntax.erased Syntax.mut (Syntax.tyInt Syntax.w8);
+            ref = λ x. x;
+          },
+          (
+            record {
+              pos = 31;
+              ty = Syntax.tyRef
+                  Syntax.erased
+                  Syntax.imm
+                  (KOwn.named);
+              ref = λ x. x;
+            },
+            (
+              record {
+                pos = 12;
+                ty = Syntax.tyRef
+                    (Syntax.named 7)
+                    Syntax.imm
+                    (KPost.named);
+                ref = λ x. x;
+              },
+              (
+                record {
+                  pos = 9;
+                  ty = Syntax.tyRef
+                      (Syntax.named 4)
+                      Syntax.imm
+                      (Syntax.tyArray (Syntax.tyArray (Syntax.tyInt Syntax.w8) 16) 16);
+                  ref = λ x. x;
+                },
+                tt,
+              ),
+            ),
+          ),
+        ) (m36 (before· .before) (before· .o2 .given))
+
+      pub record After-put-post2 : Type 0 where
+        pub before : After-o2
+        pub put-post2 : After-put-post2·own before
+
+      abbrev pub After-put-post2·gave :
+          (c : After-put-post2) → s50 .gives (m36 (c .before .before) (c .before .o2 .given))
+      After-put-post2·gave = λ c. Called.given ps·5 r·5 (claims· .11) T52 (
+        record {
+          pos = 30;
+          ty = Syntax.tyRef Syntax.erased Syntax.mut (Syntax.tyInt Syntax.w8);
+          ref = λ x. x;
+        },
+        (
+          record {
+            pos = 31;
+            ty = Syntax.tyRef
+                Syntax.erased
+                Syntax.imm
+                (KOwn.named);
+            ref = λ x. x;
+          },
+          (
+            record {
+              pos = 12;
+              ty = Syntax.tyRef
+                  (Syntax.named 7)
+                  Syntax.imm
+                  (KPost.named);
+              ref = λ x. x;
+            },
+            (
+              record {
+                pos = 9;
+                ty = Syntax.tyRef
+                    (Syntax.named 4)
+                    Syntax.imm
+                    (Syntax.tyArray (Syntax.tyArray (Syntax.tyInt Syntax.w8) 16) 16);
+                ref = λ x. x;
+              },
+              tt,
+            ),
+          ),
+        ),
+      ) (m36 (c .before .before) (c .before .o2 .given)) (c .put-post2)
+
+      abbrev pub m38 :
+          (before : After-o2) →
+          (given : s50 .gives (m36 (before .before) (before .o2 .given))) →
+          Typed.Mo T54
+      m38 = λ before given. s51 (m37 before given)
+
+      abbrev pub m39 :
+          (before : After-put-post2) →
+          (given : s53 .gives (m38 (before .before) (After-put-post2·gave before))) →
+          Typed.Mo T56
+      m39 = λ before given. s53 .next (m38 (before .before) (After-put-post2·gave before)) given
+
+      module _ (before· : After-put-post2) where
+        pub record After-reply·own : Type 0 where
+          pub given : s53 .gives (m38 (before· .before) (After-put-post2·gave before·))
+
+      pub record After-reply : Type 0 where
+        pub before : After-put-post2
+        pub reply : After-reply·own before
+
+      abbrev pub m40 :
+          (before : After-reply) →
+          (given : s54 .gives (m39 (before .before) (before .reply .given))) →
+          Typed.Mo T57
+      m40 = λ before given. s54 .next (m39 (before .before) (before .reply .given)) given
+
+      abbrev pub m41 :
+          (before : After-reply) →
+          (given : s54 .gives (m39 (before .before) (before .reply .given))) →
+          Typed.Mo T60
+      m41 = λ before given. s57 (m40 before given)
+
+      abbrev pub m42 :
+          (before : After-reply) →
+          (given : s54 .gives (m39 (before .before) (before .reply .given))) →
+          Typed.Mo T62
+      m42 = λ before given. s59 (m41 before given)
+
+      module _ (before· : After-reply) where
+        pub record After-slice-known4·own : Type 0 where
+          pub given : s54 .gives (m39 (before· .before) (before· .reply .given))
+
+      pub record After-slice-known4 : Type 0 where
+        pub before : After-reply
+        pub slice-known4 : After-slice-known4·own before
+
+      abbrev pub m43 :
+          (before : After-slice-known4) →
+          (given : s61 .gives (m42 (before .before) (before .slice-known4 .given))) →
+          Typed.Mo T64
+      m43 = λ before given. s61 .next (m42 (before .before) (before .slice-known4 .given)) given
+
+      abbrev pub m44 :
+          (before : After-slice-known4) →
+          (given : s61 .gives (m42 (before .before) (before .slice-known4 .given))) →
+          Typed.Mo T65
+      m44 = λ before given. s62 .next (m43 before given)
+
+      module _ (before· : After-slice-known4) where
+        pub record After-store-arg·own : Type 0 where
+          pub given : s61 .gives (m42 (before· .before) (before· .slice-known4 .given))
+
+      pub record After-store-arg : Type 0 where
+        pub before : After-slice-known4
+        pub store-arg : After-store-arg·own before
+
+      abbrev pub m45 :
+          (before : After-store-arg) →
+          (given : s64 .gives (m44 (before .before) (before .store-arg .given))) →
+          Typed.Mo T67
+      m45 = λ before given. s64 .next (m44 (before .before) (before .store-arg .given)) given
+
+      abbrev pub m46 :
+          (before : After-store-arg) →
+          (given : s64 .gives (m44 (before .before) (before .store-arg .given))) →
+          Typed.Mo T68
+      m46 = λ before given. s65 .next (m45 before given)
 
       module _ (before· : After-store-arg) where
         pub record After-store-arg2·own : Type 0 where
-          pub given : s35 .gives (m27 (before· .before) (before· .store-arg .given))
+          pub given : s64 .gives (m44 (before· .before) (before· .store-arg .given))
 
       pub record After-store-arg2 : Type 0 where
         pub before : After-store-arg
@@ -31181,19 +30558,19 @@ module _ (claims· : Claims) where
 
       abbrev pub Need-store-requires : Type 0
       Need-store-requires =
-          (c : After-store-arg2) → s37 .asks (m29 (c .before) (c .store-arg2 .given))
+          (c : After-store-arg2) → s66 .asks (m46 (c .before) (c .store-arg2 .given))
 
-      abbrev pub m30 :
+      abbrev pub m47 :
           (before : After-store-arg2) →
-          (given : s37 .gives (m29 (before .before) (before .store-arg2 .given))) →
-          Typed.Mo T40
-      m30 = λ before given. s37 .next (m29 (before .before) (before .store-arg2 .given)) given
+          (given : s66 .gives (m46 (before .before) (before .store-arg2 .given))) →
+          Typed.Mo T69
+      m47 = λ before given. s66 .next (m46 (before .before) (before .store-arg2 .given)) given
 
       module _ (before· : After-store-arg2) where
         abbrev pub After-store·own : Type 0
-        After-store·own = Called.Called ps·5 r·5 (claims· .11) T39 (
+        After-store·own = Called.Called ps·6 r·6 (claims· .13) T68 (
           record {
-            pos = 28;
+            pos = 34;
             ty = Syntax.tyRef
                 Syntax.erased
                 Syntax.mut
@@ -31202,7 +30579,7 @@ module _ (claims· : Claims) where
           },
           (
             record {
-              pos = 30;
+              pos = 36;
               ty = Syntax.tyRef
                   Syntax.erased
                   Syntax.mut
@@ -31232,23 +30609,23 @@ module _ (claims· : Claims) where
               ),
             ),
           ),
-        ) (m29 (before· .before) (before· .store-arg2 .given))
+        ) (m46 (before· .before) (before· .store-arg2 .given))
 
       pub record After-store : Type 0 where
         pub before : After-store-arg2
         pub store : After-store·own before
 
       abbrev pub After-store·gave :
-          (c : After-store) → s37 .gives (m29 (c .before .before) (c .before .store-arg2 .given))
-      After-store·gave = λ c. Called.given ps·5 r·5 (claims· .11) T39 (
+          (c : After-store) → s66 .gives (m46 (c .before .before) (c .before .store-arg2 .given))
+      After-store·gave = λ c. Called.given ps·6 r·6 (claims· .13) T68 (
         record {
-          pos = 28;
+          pos = 34;
           ty = Syntax.tyRef Syntax.erased Syntax.mut (KInstanceRow.named);
           ref = λ x. x;
         },
         (
           record {
-            pos = 30;
+            pos = 36;
             ty = Syntax.tyRef
                 Syntax.erased
                 Syntax.mut
@@ -31278,410 +30655,66 @@ module _ (claims· : Claims) where
             ),
           ),
         ),
-      ) (m29 (c .before .before) (c .before .store-arg2 .given)) (c .store)
+      ) (m46 (c .before .before) (c .before .store-arg2 .given)) (c .store)
 
-      abbrev pub m31 :
+      abbrev pub m48 :
           (before : After-store-arg2) →
-          (given : s37 .gives (m29 (before .before) (before .store-arg2 .given))) →
-          Typed.Mo T41
-      m31 = λ before given. s38 (m30 before given)
+          (given : s66 .gives (m46 (before .before) (before .store-arg2 .given))) →
+          Typed.Mo T70
+      m48 = λ before given. s67 (m47 before given)
 
-      abbrev pub m32 :
+      abbrev pub m49 :
           (before : After-store-arg2) →
-          (given : s37 .gives (m29 (before .before) (before .store-arg2 .given))) →
-          Typed.Mo T42
-      m32 = λ before given. s39 (m31 before given)
+          (given : s66 .gives (m46 (before .before) (before .store-arg2 .given))) →
+          Typed.Mo T71
+      m49 = λ before given. s68 (m48 before given)
 
-      abbrev pub m33 :
+      abbrev pub m50 :
           (before : After-store-arg2) →
-          (given : s37 .gives (m29 (before .before) (before .store-arg2 .given))) →
-          Typed.Mo T43
-      m33 = λ before given. s40 (m32 before given)
+          (given : s66 .gives (m46 (before .before) (before .store-arg2 .given))) →
+          Typed.Mo T72
+      m50 = λ before given. s69 (m49 before given)
 
-      abbrev pub m34 :
+      abbrev pub m51 :
           (before : After-store) →
-          (given : s42 .gives (m33 (before .before) (After-store·gave before))) →
-          Typed.Mo T45
-      m34 = λ before given. s42 .next (m33 (before .before) (After-store·gave before)) given
+          (given : s71 .gives (m50 (before .before) (After-store·gave before))) →
+          Typed.Mo T74
+      m51 = λ before given. s71 .next (m50 (before .before) (After-store·gave before)) given
 
       module _ (before· : After-store) where
         pub record After-instances·own : Type 0 where
-          pub given : s42 .gives (m33 (before· .before) (After-store·gave before·))
+          pub given : s71 .gives (m50 (before· .before) (After-store·gave before·))
 
       pub record After-instances : Type 0 where
         pub before : After-store
         pub instances : After-instances·own before
 
-      abbrev pub m35 :
+      abbrev pub m52 :
           (before : After-instances) →
-          (given : s45 .gives (m34 (before .before) (before .instances .given))) →
-          Typed.Mo T48
-      m35 = λ before given. s45 .next (m34 (before .before) (before .instances .given)) given
+          (given : s74 .gives (m51 (before .before) (before .instances .given))) →
+          Typed.Mo T77
+      m52 = λ before given. s74 .next (m51 (before .before) (before .instances .given)) given
 
       module _ (before· : After-instances) where
         pub record After-routes·own : Type 0 where
-          pub given : s45 .gives (m34 (before· .before) (before· .instances .given))
+          pub given : s74 .gives (m51 (before· .before) (before· .instances .given))
 
       pub record After-routes : Type 0 where
         pub before : After-instances
         pub routes : After-routes·own before
 
-      abbrev pub m36 :
+      abbrev pub m53 :
           (before : After-routes) →
-          (given : s48 .gives (m35 (before .before) (before .routes .given))) →
-          Typed.Mo T51
-      m36 = λ before given. s48 .next (m35 (before .before) (before .routes .given)) given
-
-      abbrev pub m37 :
-          (before : After-routes) →
-          (given : s48 .gives (m35 (before .before) (before .routes .given))) →
-          Typed.Mo T52
-      m37 = λ before given. s49 .next (m36 before given)
+          (given : s76 .gives (m52 (before .before) (before .routes .given))) →
+          Typed.Mo T79
+      m53 = λ before given. s76 .next (m52 (before .before) (before .routes .given)) given
 
       module _ (before· : After-routes) where
-        pub record After-put-post-arg·own : Type 0 where
-          pub given : s48 .gives (m35 (before· .before) (before· .routes .given))
-
-      pub record After-put-post-arg : Type 0 where
-        pub before : After-routes
-        pub put-post-arg : After-put-post-arg·own before
-
-      abbrev pub m38 :
-          (before : After-put-post-arg) →
-          (given : s51 .gives (m37 (before .before) (before .put-post-arg .given))) →
-          Typed.Mo T54
-      m38 = λ before given. s51 .next (m37 (before .before) (before .put-post-arg .given)) given
-
-      module _ (before· : After-put-post-arg) where
-        pub record After-o·own : Type 0 where
-          pub given : s51 .gives (m37 (before· .before) (before· .put-post-arg .given))
-
-      pub record After-o : Type 0 where
-        pub before : After-put-post-arg
-        pub o : After-o·own before
-
-      abbrev pub Need-put-post-requires : Type 0
-      Need-put-post-requires = (c : After-o) → s52 .asks (m38 (c .before) (c .o .given))
-
-      abbrev pub m39 :
-          (before : After-o) →
-          (given : s52 .gives (m38 (before .before) (before .o .given))) →
-          Typed.Mo T55
-      m39 = λ before given. s52 .next (m38 (before .before) (before .o .given)) given
-
-      module _ (before· : After-o) where
-        abbrev pub After-put-post·own : Type 0
-        After-put-post·own = Called.Called ps·6 r·6 (claims· .13) T54 (
-          record {
-            pos = 32;
-            ty = Syntax.tyRef Syntax.erased Syntax.mut (Syntax.tyInt Syntax.w8);
-            ref = λ x. x;
-          },
-          (
-            record {
-              pos = 33;
-              ty = Syntax.tyRef
-                  Syntax.erased
-                  Syntax.imm
-                  (KOwn.named);
-              ref = λ x. x;
-            },
-            (
-              record {
-                pos = 11;
-                ty = Syntax.tyRef
-                    (Syntax.named 6)
-                    Syntax.imm
-                    (KPost.named);
-                ref = λ x. x;
-              },
-              (
-                record {
-                  pos = 9;
-                  ty = Syntax.tyRef
-                      (Syntax.named 4)
-                      Syntax.imm
-                      (Syntax.tyArray (Syntax.tyArray (Syntax.tyInt Syntax.w8) 16) 16);
-                  ref = λ x. x;
-                },
-                tt,
-              ),
-            ),
-          ),
-        ) (m38 (before· .before) (before· .o .given))
-
-      pub record After-put-post : Type 0 where
-        pub before : After-o
-        pub put-post : After-put-post·own before
-
-      abbrev pub After-put-post·gave :
-          (c : After-put-post) → s52 .gives (m38 (c .before .before) (c .before .o .given))
-      After-put-post·gave = λ c. Called.given ps·6 r·6 (claims· .13) T54 (
-        record {
-          pos = 32;
-          ty = Syntax.tyRef Syntax.erased Syntax.mut (Syntax.tyInt Syntax.w8);
-          ref = λ x. x;
-        },
-        (
-          record {
-            pos = 33;
-            ty = Syntax.tyRef
-                Syntax.erased
-                Syntax.imm
-                (KOwn.named);
-            ref = λ x. x;
-          },
-          (
-            record {
-              pos = 11;
-              ty = Syntax.tyRef
-                  (Syntax.named 6)
-                  Syntax.imm
-                  (KPost.named);
-              ref = λ x. x;
-            },
-            (
-              record {
-                pos = 9;
-                ty = Syntax.tyRef
-                    (Syntax.named 4)
-                    Syntax.imm
-                    (Syntax.tyArray (Syntax.tyArray (Syntax.tyInt Syntax.w8) 16) 16);
-                ref = λ x. x;
-              },
-              tt,
-            ),
-          ),
-        ),
-      ) (m38 (c .before .before) (c .before .o .given)) (c .put-post)
-
-      abbrev pub m40 :
-          (before : After-o) →
-          (given : s52 .gives (m38 (before .before) (before .o .given))) →
-          Typed.Mo T56
-      m40 = λ before given. s53 (m39 before given)
-
-      abbrev pub m41 :
-          (before : After-put-post) →
-          (given : s55 .gives (m40 (before .before) (After-put-post·gave before))) →
-          Typed.Mo T58
-      m41 = λ before given. s55 .next (m40 (before .before) (After-put-post·gave before)) given
-
-      module _ (before· : After-put-post) where
-        pub record After-forward·own : Type 0 where
-          pub given : s55 .gives (m40 (before· .before) (After-put-post·gave before·))
-
-      pub record After-forward : Type 0 where
-        pub before : After-put-post
-        pub forward : After-forward·own before
-
-      abbrev pub m42 :
-          (before : After-forward) →
-          (given : s56 .gives (m41 (before .before) (before .forward .given))) →
-          Typed.Mo T59
-      m42 = λ before given. s56 .next (m41 (before .before) (before .forward .given)) given
-
-      abbrev pub m43 :
-          (before : After-forward) →
-          (given : s56 .gives (m41 (before .before) (before .forward .given))) →
-          Typed.Mo T62
-      m43 = λ before given. s59 (m42 before given)
-
-      module _ (before· : After-forward) where
-        pub record After-slice-known3·own : Type 0 where
-          pub given : s56 .gives (m41 (before· .before) (before· .forward .given))
-
-      pub record After-slice-known3 : Type 0 where
-        pub before : After-forward
-        pub slice-known3 : After-slice-known3·own before
-
-      abbrev pub m44 :
-          (before : After-slice-known3) →
-          (given : s62 .gives (m43 (before .before) (before .slice-known3 .given))) →
-          Typed.Mo T65
-      m44 = λ before given. s62 .next (m43 (before .before) (before .slice-known3 .given)) given
-
-      abbrev pub m45 :
-          (before : After-slice-known3) →
-          (given : s62 .gives (m43 (before .before) (before .slice-known3 .given))) →
-          Typed.Mo T66
-      m45 = λ before given. s63 .next (m44 before given)
-
-      module _ (before· : After-slice-known3) where
-        pub record After-put-post-arg2·own : Type 0 where
-          pub given : s62 .gives (m43 (before· .before) (before· .slice-known3 .given))
-
-      pub record After-put-post-arg2 : Type 0 where
-        pub before : After-slice-known3
-        pub put-post-arg2 : After-put-post-arg2·own before
-
-      abbrev pub m46 :
-          (before : After-put-post-arg2) →
-          (given : s65 .gives (m45 (before .before) (before .put-post-arg2 .given))) →
-          Typed.Mo T68
-      m46 = λ before given. s65 .next (m45 (before .before) (before .put-post-arg2 .given)) given
-
-      module _ (before· : After-put-post-arg2) where
-        pub record After-o2·own : Type 0 where
-          pub given : s65 .gives (m45 (before· .before) (before· .put-post-arg2 .given))
-
-      pub record After-o2 : Type 0 where
-        pub before : After-put-post-arg2
-        pub o2 : After-o2·own before
-
-      abbrev pub Need-put-post-requires-2 : Type 0
-      Need-put-post-requires-2 = (c : After-o2) → s66 .asks (m46 (c .before) (c .o2 .given))
-
-      abbrev pub m47 :
-          (before : After-o2) →
-          (given : s66 .gives (m46 (before .before) (before .o2 .given))) →
-          Typed.Mo T69
-      m47 = λ before given. s66 .next (m46 (before .before) (before .o2 .given)) given
-
-      module _ (before· : After-o2) where
-        abbrev pub After-put-post2·own : Type 0
-        After-put-post2·own = Called.Called ps·6 r·6 (claims· .13) T68 (
-          record {
-            pos = 35;
-            ty = Syntax.tyRef Syntax.erased Syntax.mut (Syntax.tyInt Syntax.w8);
-            ref = λ x. x;
-          },
-          (
-            record {
-              pos = 36;
-              ty = Syntax.tyRef
-                  Syntax.erased
-                  Syntax.imm
-                  (KOwn.named);
-              ref = λ x. x;
-            },
-            (
-              record {
-                pos = 12;
-                ty = Syntax.tyRef
-                    (Syntax.named 7)
-                    Syntax.imm
-                    (KPost.named);
-                ref = λ x. x;
-              },
-              (
-                record {
-                  pos = 9;
-                  ty = Syntax.tyRef
-                      (Syntax.named 4)
-                      Syntax.imm
-                      (Syntax.tyArray (Syntax.tyArray (Syntax.tyInt Syntax.w8) 16) 16);
-                  ref = λ x. x;
-                },
-                tt,
-              ),
-            ),
-          ),
-        ) (m46 (before· .before) (before· .o2 .given))
-
-      pub record After-put-post2 : Type 0 where
-        pub before : After-o2
-        pub put-post2 : After-put-post2·own before
-
-      abbrev pub After-put-post2·gave :
-          (c : After-put-post2) → s66 .gives (m46 (c .before .before) (c .before .o2 .given))
-      After-put-post2·gave = λ c. Called.given ps·6 r·6 (claims· .13) T68 (
-        record {
-          pos = 35;
-          ty = Syntax.tyRef Syntax.erased Syntax.mut (Syntax.tyInt Syntax.w8);
-          ref = λ x. x;
-        },
-        (
-          record {
-            pos = 36;
-            ty = Syntax.tyRef
-                Syntax.erased
-                Syntax.imm
-                (KOwn.named);
-            ref = λ x. x;
-          },
-          (
-            record {
-              pos = 12;
-              ty = Syntax.tyRef
-                  (Syntax.named 7)
-                  Syntax.imm
-                  (KPost.named);
-              ref = λ x. x;
-            },
-            (
-              record {
-                pos = 9;
-                ty = Syntax.tyRef
-                    (Syntax.named 4)
-                    Syntax.imm
-                    (Syntax.tyArray (Syntax.tyArray (Syntax.tyInt Syntax.w8) 16) 16);
-                ref = λ x. x;
-              },
-              tt,
-            ),
-          ),
-        ),
-      ) (m46 (c .before .before) (c .before .o2 .given)) (c .put-post2)
-
-      abbrev pub m48 :
-          (before : After-o2) →
-          (given : s66 .gives (m46 (before .before) (before .o2 .given))) →
-          Typed.Mo T70
-      m48 = λ before given. s67 (m47 before given)
-
-      abbrev pub m49 :
-          (before : After-put-post2) →
-          (given : s69 .gives (m48 (before .before) (After-put-post2·gave before))) →
-          Typed.Mo T72
-      m49 = λ before given. s69 .next (m48 (before .before) (After-put-post2·gave before)) given
-
-      module _ (before· : After-put-post2) where
-        pub record After-reply·own : Type 0 where
-          pub given : s69 .gives (m48 (before· .before) (After-put-post2·gave before·))
-
-      pub record After-reply : Type 0 where
-        pub before : After-put-post2
-        pub reply : After-reply·own before
-
-      abbrev pub m50 :
-          (before : After-reply) →
-          (given : s70 .gives (m49 (before .before) (before .reply .given))) →
-          Typed.Mo T73
-      m50 = λ before given. s70 .next (m49 (before .before) (before .reply .given)) given
-
-      abbrev pub m51 :
-          (before : After-reply) →
-          (given : s70 .gives (m49 (before .before) (before .reply .given))) →
-          Typed.Mo T76
-      m51 = λ before given. s73 (m50 before given)
-
-      abbrev pub m52 :
-          (before : After-reply) →
-          (given : s70 .gives (m49 (before .before) (before .reply .given))) →
-          Typed.Mo T78
-      m52 = λ before given. s75 (m51 before given)
-
-      module _ (before· : After-reply) where
-        pub record After-slice-known4·own : Type 0 where
-          pub given : s70 .gives (m49 (before· .before) (before· .reply .given))
-
-      pub record After-slice-known4 : Type 0 where
-        pub before : After-reply
-        pub slice-known4 : After-slice-known4·own before
-
-      abbrev pub m53 :
-          (before : After-slice-known4) →
-          (given : s76 .gives (m52 (before .before) (before .slice-known4 .given))) →
-          Typed.Mo T79
-      m53 = λ before given. s76 .next (m52 (before .before) (before .slice-known4 .given)) given
-
-      module _ (before· : After-slice-known4) where
         pub record After-own-of-arg·own : Type 0 where
-          pub given : s76 .gives (m52 (before· .before) (before· .slice-known4 .given))
+          pub given : s76 .gives (m52 (before· .before) (before· .routes .given))
 
       pub record After-own-of-arg : Type 0 where
-        pub before : After-slice-known4
+        pub before : After-routes
         pub own-of-arg : After-own-of-arg·own before
 
       abbrev pub Need-own-of-requires : Type 0
@@ -32106,15 +31139,15 @@ module _ (claims· : Claims) where
           (place-rows-requires : Need-place-rows-requires)
           (is-routed-requires : Need-is-routed-requires)
           (place-route-requires : Need-place-route-requires)
-          (has-room-requires : Need-has-room-requires) (store-requires : Need-store-requires)
-          (put-post-requires : Need-put-post-requires)
-          (put-post-requires-2 : Need-put-post-requires-2) (own-of-requires : Need-own-of-requires)
-          (to-of-requires : Need-to-of-requires) (to-of-requires-2 : Need-to-of-requires-2)
-          (accepted-requires : Need-accepted-requires) (same-length : Need-same-length)
-          (same-length-2 : Need-same-length-2) (same-length-3 : Need-same-length-3)
-          (same-length-4 : Need-same-length-4) (returns : Need-returns)
-          (without-room-requires : Need-without-room-requires) (same-length-5 : Need-same-length-5)
-          (same-length-6 : Need-same-length-6) (returns-2 : Need-returns-2) where
+          (has-room-requires : Need-has-room-requires) (put-post-requires : Need-put-post-requires)
+          (put-post-requires-2 : Need-put-post-requires-2) (store-requires : Need-store-requires)
+          (own-of-requires : Need-own-of-requires) (to-of-requires : Need-to-of-requires)
+          (to-of-requires-2 : Need-to-of-requires-2) (accepted-requires : Need-accepted-requires)
+          (same-length : Need-same-length) (same-length-2 : Need-same-length-2)
+          (same-length-3 : Need-same-length-3) (same-length-4 : Need-same-length-4)
+          (returns : Need-returns) (without-room-requires : Need-without-room-requires)
+          (same-length-5 : Need-same-length-5) (same-length-6 : Need-same-length-6)
+          (returns-2 : Need-returns-2) where
         lay14 :
             (c : After-without-room) → at74 (W0
             (c .before .before .before .before .before .before .before .before .before .before
@@ -32343,271 +31376,97 @@ module _ (claims· : Claims) where
         )
 
         lay8 :
-            (c : After-put-post2) → at27 (W1
+            (c : After-store) → at27 (W1
             (c .before .before .before .before .before .before .before .before .before .before
             .before .before .before .before .before) (After-has-room·gave
             (c .before .before .before .before .before .before .before .before .before .before
-            .before .before .before .before))) (m47 (c .before) (After-put-post2·gave c))
+            .before .before .before .before))) (m47 (c .before) (After-store·gave c))
         lay8 = λ c. (
           Path'.refl,
-          λ g. λ g'. λ g''. (
-            own-of-requires record {
-              before = record {
-                before = record {
-                  before = record { before = c .before; put-post2 = c .put-post2 };
-                  reply = record { given = g };
-                };
-                slice-known4 = record { given = g' };
-              };
-              own-of-arg = record { given = g'' };
-            },
-            λ g'3. lay9 record {
-              before = record {
+          λ g. (
+            Path'.refl,
+            λ g'. λ g''. (
+              own-of-requires record {
                 before = record {
                   before = record {
-                    before = record { before = c .before; put-post2 = c .put-post2 };
-                    reply = record { given = g };
+                    before = record { before = c .before; store = c .store };
+                    instances = record { given = g };
                   };
-                  slice-known4 = record { given = g' };
+                  routes = record { given = g' };
                 };
                 own-of-arg = record { given = g'' };
-              };
-              own-of = Called.called ps·7 r·7 (claims· .15) T79 (
-                record { pos = 38; st = List.[]; d = 0; at = λ x. x },
-                tt,
-              ) (m53 record {
+              },
+              λ g'3. lay9 record {
                 before = record {
-                  before = record { before = c .before; put-post2 = c .put-post2 };
-                  reply = record { given = g };
+                  before = record {
+                    before = record {
+                      before = record { before = c .before; store = c .store };
+                      instances = record { given = g };
+                    };
+                    routes = record { given = g' };
+                  };
+                  own-of-arg = record { given = g'' };
                 };
-                slice-known4 = record { given = g' };
-              } g'') g'3;
-            },
+                own-of = Called.called ps·7 r·7 (claims· .15) T79 (
+                  record { pos = 38; st = List.[]; d = 0; at = λ x. x },
+                  tt,
+                ) (m53 record {
+                  before = record {
+                    before = record { before = c .before; store = c .store };
+                    instances = record { given = g };
+                  };
+                  routes = record { given = g' };
+                } g'') g'3;
+              },
+            ),
           ),
         )
 
         lay7 :
-            (c : After-put-post) →
-            at41
+            (c : After-put-post2) →
+            at43
             (W1
             (c .before .before .before .before .before .before .before .before .before .before)
             (After-has-room·gave
             (c .before .before .before .before .before .before .before .before .before)))
-            (m39 (c .before) (After-put-post·gave c))
+            (m37 (c .before) (After-put-post2·gave c))
         lay7 = λ c. (
           Path'.refl,
           λ g. λ g'. λ g''. (
             Path'.refl,
             λ g'3. (
-              put-post-requires-2 record {
-                before = record {
-                  before = record {
-                    before = record {
-                      before = record { before = c .before; put-post = c .put-post };
-                      forward = record { given = g };
-                    };
-                    slice-known3 = record { given = g' };
-                  };
-                  put-post-arg2 = record { given = g'' };
-                };
-                o2 = record { given = g'3 };
-              },
-              λ g'4. lay8 record {
-                before = record {
-                  before = record {
-                    before = record {
-                      before = record {
-                        before = record { before = c .before; put-post = c .put-post };
-                        forward = record { given = g };
-                      };
-                      slice-known3 = record { given = g' };
-                    };
-                    put-post-arg2 = record { given = g'' };
-                  };
-                  o2 = record { given = g'3 };
-                };
-                put-post2 = Called.called ps·6 r·6 (claims· .13) T68 (
-                  record {
-                    pos = 35;
-                    ty = Syntax.tyRef Syntax.erased Syntax.mut (Syntax.tyInt Syntax.w8);
-                    ref = λ x. x;
-                  },
-                  (
-                    record {
-                      pos = 36;
-                      ty = Syntax.tyRef
-                          Syntax.erased
-                          Syntax.imm
-                          (KOwn.named);
-                      ref = λ x. x;
-                    },
-                    (
-                      record {
-                        pos = 12;
-                        ty = Syntax.tyRef
-                            (Syntax.named 7)
-                            Syntax.imm
-                            (KPost.named);
-                        ref = λ x. x;
-                      },
-                      (
-                        record {
-                          pos = 9;
-                          ty = Syntax.tyRef
-                              (Syntax.named 4)
-                              Syntax.imm
-                              (Syntax.tyArray (Syntax.tyArray (Syntax.tyInt Syntax.w8) 16) 16);
-                          ref = λ x. x;
-                        },
-                        tt,
-                      ),
-                    ),
-                  ),
-                ) (m46 record {
-                  before = record {
-                    before = record {
-                      before = record { before = c .before; put-post = c .put-post };
-                      forward = record { given = g };
-                    };
-                    slice-known3 = record { given = g' };
-                  };
-                  put-post-arg2 = record { given = g'' };
-                } g'3) g'4;
-              },
-            ),
-          ),
-        )
-
-        lay6 :
-            (c : After-store) →
-            at56
-            (W1
-            (c .before .before .before .before .before)
-            (After-has-room·gave (c .before .before .before .before)))
-            (m30 (c .before) (After-store·gave c))
-        lay6 = λ c. (
-          Path'.refl,
-          λ g. (
-            Path'.refl,
-            λ g'. λ g''. (
-              Path'.refl,
-              λ g'3. (
-                put-post-requires record {
-                  before = record {
-                    before = record {
-                      before = record {
-                        before = record { before = c .before; store = c .store };
-                        instances = record { given = g };
-                      };
-                      routes = record { given = g' };
-                    };
-                    put-post-arg = record { given = g'' };
-                  };
-                  o = record { given = g'3 };
-                },
-                λ g'4. lay7 record {
-                  before = record {
-                    before = record {
-                      before = record {
-                        before = record {
-                          before = record { before = c .before; store = c .store };
-                          instances = record { given = g };
-                        };
-                        routes = record { given = g' };
-                      };
-                      put-post-arg = record { given = g'' };
-                    };
-                    o = record { given = g'3 };
-                  };
-                  put-post = Called.called ps·6 r·6 (claims· .13) T54 (
-                    record {
-                      pos = 32;
-                      ty = Syntax.tyRef Syntax.erased Syntax.mut (Syntax.tyInt Syntax.w8);
-                      ref = λ x. x;
-                    },
-                    (
-                      record {
-                        pos = 33;
-                        ty = Syntax.tyRef
-                            Syntax.erased
-                            Syntax.imm
-                            (KOwn.named);
-                        ref = λ x. x;
-                      },
-                      (
-                        record {
-                          pos = 11;
-                          ty = Syntax.tyRef
-                              (Syntax.named 6)
-                              Syntax.imm
-                              (KPost.named);
-                          ref = λ x. x;
-                        },
-                        (
-                          record {
-                            pos = 9;
-                            ty = Syntax.tyRef
-                                (Syntax.named 4)
-                                Syntax.imm
-                                (Syntax.tyArray (Syntax.tyArray (Syntax.tyInt Syntax.w8) 16) 16);
-                            ref = λ x. x;
-                          },
-                          tt,
-                        ),
-                      ),
-                    ),
-                  ) (m38 record {
-                    before = record {
-                      before = record {
-                        before = record { before = c .before; store = c .store };
-                        instances = record { given = g };
-                      };
-                      routes = record { given = g' };
-                    };
-                    put-post-arg = record { given = g'' };
-                  } g'3) g'4;
-                },
-              ),
-            ),
-          ),
-        )
-
-        lay5 :
-            (c : After-has-room) → at76 (W0
-            (c .before .before .before .before .before .before .before .before .before .before
-            .before .κs)
-            (c .before .before .before .before .before .before .before .before .before .before
-            .before .args)) (m24 (c .before) (After-has-room·gave c))
-        lay5 = λ c. (
-          λ taken. λ g. (
-            Path'.refl,
-            λ g'. (
               Path'.refl,
               (
                 store-requires record {
                   before = record {
                     before = record {
-                      before = record { before = c .before; has-room = c .has-room };
-                      if1 = record { taken = taken };
+                      before = record {
+                        before = record { before = c .before; put-post2 = c .put-post2 };
+                        reply = record { given = g };
+                      };
+                      slice-known4 = record { given = g' };
                     };
-                    store-arg = record { given = g };
+                    store-arg = record { given = g'' };
                   };
-                  store-arg2 = record { given = g' };
+                  store-arg2 = record { given = g'3 };
                 },
-                λ g''. lay6 record {
+                λ g'4. lay8 record {
                   before = record {
                     before = record {
                       before = record {
-                        before = record { before = c .before; has-room = c .has-room };
-                        if1 = record { taken = taken };
+                        before = record {
+                          before = record { before = c .before; put-post2 = c .put-post2 };
+                          reply = record { given = g };
+                        };
+                        slice-known4 = record { given = g' };
                       };
-                      store-arg = record { given = g };
+                      store-arg = record { given = g'' };
                     };
-                    store-arg2 = record { given = g' };
+                    store-arg2 = record { given = g'3 };
                   };
-                  store = Called.called ps·5 r·5 (claims· .11) T39 (
+                  store = Called.called ps·6 r·6 (claims· .13) T68 (
                     record {
-                      pos = 28;
+                      pos = 34;
                       ty = Syntax.tyRef
                           Syntax.erased
                           Syntax.mut
@@ -32616,7 +31475,7 @@ module _ (claims· : Claims) where
                     },
                     (
                       record {
-                        pos = 30;
+                        pos = 36;
                         ty = Syntax.tyRef
                             Syntax.erased
                             Syntax.mut
@@ -32646,15 +31505,189 @@ module _ (claims· : Claims) where
                         ),
                       ),
                     ),
-                  ) (m29 record {
+                  ) (m46 record {
+                    before = record {
+                      before = record {
+                        before = record { before = c .before; put-post2 = c .put-post2 };
+                        reply = record { given = g };
+                      };
+                      slice-known4 = record { given = g' };
+                    };
+                    store-arg = record { given = g'' };
+                  } g'3) g'4;
+                },
+              ),
+            ),
+          ),
+        )
+
+        lay6 :
+            (c : After-put-post) →
+            at57
+            (W1
+            (c .before .before .before .before .before)
+            (After-has-room·gave (c .before .before .before .before)))
+            (m29 (c .before) (After-put-post·gave c))
+        lay6 = λ c. (
+          Path'.refl,
+          λ g. λ g'. λ g''. (
+            Path'.refl,
+            λ g'3. (
+              put-post-requires-2 record {
+                before = record {
+                  before = record {
+                    before = record {
+                      before = record { before = c .before; put-post = c .put-post };
+                      forward = record { given = g };
+                    };
+                    slice-known3 = record { given = g' };
+                  };
+                  put-post-arg2 = record { given = g'' };
+                };
+                o2 = record { given = g'3 };
+              },
+              λ g'4. lay7 record {
+                before = record {
+                  before = record {
+                    before = record {
+                      before = record {
+                        before = record { before = c .before; put-post = c .put-post };
+                        forward = record { given = g };
+                      };
+                      slice-known3 = record { given = g' };
+                    };
+                    put-post-arg2 = record { given = g'' };
+                  };
+                  o2 = record { given = g'3 };
+                };
+                put-post2 = Called.called ps·5 r·5 (claims· .11) T52 (
+                  record {
+                    pos = 30;
+                    ty = Syntax.tyRef Syntax.erased Syntax.mut (Syntax.tyInt Syntax.w8);
+                    ref = λ x. x;
+                  },
+                  (
+                    record {
+                      pos = 31;
+                      ty = Syntax.tyRef
+                          Syntax.erased
+                          Syntax.imm
+                          (KOwn.named);
+                      ref = λ x. x;
+                    },
+                    (
+                      record {
+                        pos = 12;
+                        ty = Syntax.tyRef
+                            (Syntax.named 7)
+                            Syntax.imm
+                            (KPost.named);
+                        ref = λ x. x;
+                      },
+                      (
+                        record {
+                          pos = 9;
+                          ty = Syntax.tyRef
+                              (Syntax.named 4)
+                              Syntax.imm
+                              (Syntax.tyArray (Syntax.tyArray (Syntax.tyInt Syntax.w8) 16) 16);
+                          ref = λ x. x;
+                        },
+                        tt,
+                      ),
+                    ),
+                  ),
+                ) (m36 record {
+                  before = record {
+                    before = record {
+                      before = record { before = c .before; put-post = c .put-post };
+                      forward = record { given = g };
+                    };
+                    slice-known3 = record { given = g' };
+                  };
+                  put-post-arg2 = record { given = g'' };
+                } g'3) g'4;
+              },
+            ),
+          ),
+        )
+
+        lay5 :
+            (c : After-has-room) → at76 (W0
+            (c .before .before .before .before .before .before .before .before .before .before
+            .before .κs)
+            (c .before .before .before .before .before .before .before .before .before .before
+            .before .args)) (m24 (c .before) (After-has-room·gave c))
+        lay5 = λ c. (
+          λ taken. λ g. (
+            Path'.refl,
+            λ g'. (
+              put-post-requires record {
+                before = record {
+                  before = record {
+                    before = record { before = c .before; has-room = c .has-room };
+                    if1 = record { taken = taken };
+                  };
+                  put-post-arg = record { given = g };
+                };
+                o = record { given = g' };
+              },
+              λ g''. lay6 record {
+                before = record {
+                  before = record {
                     before = record {
                       before = record { before = c .before; has-room = c .has-room };
                       if1 = record { taken = taken };
                     };
-                    store-arg = record { given = g };
-                  } g') g'';
-                },
-              ),
+                    put-post-arg = record { given = g };
+                  };
+                  o = record { given = g' };
+                };
+                put-post = Called.called ps·5 r·5 (claims· .11) T38 (
+                  record {
+                    pos = 27;
+                    ty = Syntax.tyRef Syntax.erased Syntax.mut (Syntax.tyInt Syntax.w8);
+                    ref = λ x. x;
+                  },
+                  (
+                    record {
+                      pos = 28;
+                      ty = Syntax.tyRef
+                          Syntax.erased
+                          Syntax.imm
+                          (KOwn.named);
+                      ref = λ x. x;
+                    },
+                    (
+                      record {
+                        pos = 11;
+                        ty = Syntax.tyRef
+                            (Syntax.named 6)
+                            Syntax.imm
+                            (KPost.named);
+                        ref = λ x. x;
+                      },
+                      (
+                        record {
+                          pos = 9;
+                          ty = Syntax.tyRef
+                              (Syntax.named 4)
+                              Syntax.imm
+                              (Syntax.tyArray (Syntax.tyArray (Syntax.tyInt Syntax.w8) 16) 16);
+                          ref = λ x. x;
+                        },
+                        tt,
+                      ),
+                    ),
+                  ),
+                ) (m28 record {
+                  before = record {
+                    before = record { before = c .before; has-room = c .has-room };
+                    if1 = record { taken = taken };
+                  };
+                  put-post-arg = record { given = g };
+                } g') g'';
+              },
             ),
           ),
           λ left. lay13 record {
@@ -32940,19 +31973,19 @@ module _ (claims· : Claims) where
             (claims· .8)
             (claims· .9)
             "finish::has_room")
-            (known5 : Plain.Known 𝓤 H A W 𝓣 3 ps·5 r·5 (claims· .10) (claims· .11) "finish::store")
-            (known6 : Plain.Known
+            (known5 : Plain.Known
             𝓤
             H
             A
             W
             𝓣
             4
-            ps·6
-            r·6
-            (claims· .12)
-            (claims· .13)
+            ps·5
+            r·5
+            (claims· .10)
+            (claims· .11)
             "post::put_post")
+            (known6 : Plain.Known 𝓤 H A W 𝓣 3 ps·6 r·6 (claims· .12) (claims· .13) "finish::store")
             (known7 : Plain.Known
             𝓤
             H
