@@ -39,16 +39,6 @@ unfolding grownCount
 grown-length x true v = refl
 grown-length x false v = length-append v (ownVector x)
 
-pub grown-above : (x : Settings) (h : Bool) (n : ℕ) → n ≤ grownCount x h n
-unfolding grownCount
-grown-above x true n = omega arith
-grown-above x false n = omega arith
-
-pub grown-below : (x : Settings) (h : Bool) (n : ℕ) → grownCount x h n ≤ n + 2
-unfolding grownCount
-grown-below x true n = omega arith
-grown-below x false n = omega (arith, own-length x)
-
 -- ---- Ours stand in the array after the n that were there
 
 module _ (x : Settings) (h : Bool) (n : ℕ) (f : h ≡ false) where
