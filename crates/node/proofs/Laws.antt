@@ -16,7 +16,7 @@ use Rattle.plain.specs.Given.{Settings, Received, RequestRow, ReplyRow, Instanc
 use Rattle.plain.specs.Table.{Numbered, Change, put, noChange}
 use Rattle.plain.specs.Octets.{Message, mostTargets}
 use Rattle.plain.specs.Answers.{View, viewOf, goodInstance, allGood, goodDeadline, goodState, wrongState, requests, replies, requestTwins, replyTwins, routeTwins, answerOf, liveRequest}
-use Rattle.plain.specs.Request.{Accepted, Asked, askedWith, asked, requestLines, acceptRequest, freeDelta, deltaTaken, routeChange, withReplyRow, startLines, acceptStart}
+use Rattle.plain.specs.Request.{Accepted, Asked, areTargNode, askedWith, asked, forwards, repliesNow, requestRow, forwardedRequest, requestLines, acceptRequest, freeDelta, deltaTaken, routeChange, withReplyRow, startLines, acceptStart}
 use Rattle.plain.specs.Reply.{Answered, partnerOf, answeredWith, answered, replyLines, acceptReply, origNode, partnerNumber}
 use Rattle.plain.specs.Plain.{Decision, enact, linesWith, acceptWith, idle}
 use Rattle.plain.specs.declared.Target.{Target}
@@ -187,16 +187,46 @@ module _ {B : Type 0} (f : Found) (b : B) (g : FoundRoute) (l : Live) (el : l �
 
 -- ---- the facts of a request, from what was found
 
+-- Facts from which a request has one answer and one outcome.
+pub record Alike (x : Settings) (own t : ℕ) (c : Received) (m : Message) (a b : Asked) : Type 0 where
+  pub answers : answerOf (requestLines x c m a) ≡ answerOf (requestLines x c m b)
+  pub outcomes : acceptRequest x own t c m a ≡ acceptRequest x own t c m b
+
+alike-same : (x : Settings) (own t : ℕ) (c : Received) (m : Message) (a b : Asked) → a ≡ b → Alike x own t c m a b
+alike-same x own t c m a b e = rw e (record { answers = refl; outcomes = refl })
+
+-- where we are not TargNode, nothing rests on the Delta
+not-targ : (x : Settings) (own t : ℕ) (c : Received) (m : Message) (row : Option (Numbered RequestRow)) (route : Option (Numbered Route))
+    (d e : Option ℕ) → areTargNode x m ≡ false → Alike x own t c m (askedWith x c m row route d) (askedWith x c m row route e)
+unfolding askedWith requestLines answerOf acceptRequest repliesNow forwards withReplyRow requestRow forwardedRequest
+not-targ x own t c m row route d e n = rw n (record { answers = refl; outcomes = refl })
+
 module _ (clock seq t : ℕ) (rows : List InstanceRow) (routes : List RouteRow) (o : Own) (k : Link) (p : Parsed) (vector : List Address)
     (instance : ℕ) (dodagid receiving : Address) (e1 : instance ≡ p .base .instance) (e2 : dodagid ≡ p .base .dodagid) (e3 : receiving ≡ o .receiving)
     (f : Found) (g : FoundRoute) (free : FreeDelta)
     (sf : requestFound f ≡ requestSeen clock rows t instance dodagid)
-    (sg : routeFound g ≡ routeSeen clock routes t receiving dodagid instance)
-    (sd : deltaFound free ≡ deltaSeen clock rows t instance receiving) where
-  pub asked-is : askedWith (settingsOf o) (receivedBy k []) (messageIn p vector) (requestFound f) (routeFound g) (deltaFound free)
-      ≡ asked (settingsOf o) (viewOf (stateOf clock seq rows routes)) t (receivedBy k []) (messageIn p vector)
+    (sg : routeFound g ≡ routeSeen clock routes t receiving dodagid instance) where
+  abbrev xs : Settings
+  xs = settingsOf o
+
+  abbrev view : View
+  view = viewOf (stateOf clock seq rows routes)
+
+  asked-with : (d : Option ℕ) → d ≡ deltaSeen clock rows t instance receiving
+      → askedWith xs (receivedBy k []) (messageIn p vector) (requestFound f) (routeFound g) d ≡ asked xs view t (receivedBy k []) (messageIn p vector)
   unfolding asked requestSeen routeSeen deltaSeen freeDelta deltaTaken messageIn
-  asked-is = rw (sf, sg, sd, e1, e2, e3)
+  asked-with d sd = rw (sf, sg, sd, e1, e2, e3)
+
+  pub asked-is : (targ : Bool) → targ ≡ areTargNode xs (messageIn p vector)
+      → (targ ≡ true → deltaFound free ≡ deltaSeen clock rows t instance receiving)
+      → Alike xs seq t (receivedBy k []) (messageIn p vector)
+      (askedWith xs (receivedBy k []) (messageIn p vector) (requestFound f) (routeFound g) (deltaFound free))
+      (asked xs view t (receivedBy k []) (messageIn p vector))
+  asked-is true et sd = alike-same xs seq t (receivedBy k []) (messageIn p vector) _ _ (asked-with (deltaFound free) (sd refl))
+  asked-is false et sd =
+      rw (← asked-with (deltaSeen clock rows t instance receiving) refl)
+      (not-targ xs seq t (receivedBy k []) (messageIn p vector) (requestFound f) (routeFound g) (deltaFound free)
+      (deltaSeen clock rows t instance receiving) (sym et))
 
 -- two answers are the two halves of a good state
 pub and-are : {a b c d : Bool} → a ≡ c → b ≡ d → a && b ≡ c && d

@@ -1,4 +1,4 @@
--- What a request comes to, from what its parts give: `a` are its facts, which mean what was found in the tables.
+-- What a request comes to, from what its parts give: `a` are its facts, from which it has the answer and the outcome that it has by the tables.
 use Prim.Native.Nat.{ℕ, _≤_}
 use mathlib.Core.Path.{_≡_, sym, ap, subst, _∙_}
 use mathlib.Core.Bool.{true}
@@ -39,13 +39,14 @@ use Rattle.finish.specs.declared.Live.{Live}
 use Rattle.finish.specs.declared.Outcome.{Outcome}
 use Rattle.finish.proofs.Laws.{refused-gives}
 use Rattle.node.specs.Taken.{requestDecision}
-use Rattle.node.proofs.Laws.{settled}
+use Rattle.node.proofs.Laws.{Alike, settled}
 
 module _ (clock seq t : ℕ) (rows : List InstanceRow) (routes : List RouteRow) (o : Own) (k : Link) (p : Parsed) (vector : List Address)
     (f : Found) (g : FoundRoute) (free : FreeDelta) (a : RequestFacts)
     (gathered : Gathered (askedWith (settingsOf o) (receivedBy k []) (messageIn p vector) (requestFound f) (routeFound g) (deltaFound free)) a)
-    (found : askedWith (settingsOf o) (receivedBy k []) (messageIn p vector) (requestFound f) (routeFound g) (deltaFound free)
-    ≡ asked (settingsOf o) (viewOf (stateOf clock seq rows routes)) t (receivedBy k []) (messageIn p vector)) where
+    (found : Alike (settingsOf o) seq t (receivedBy k []) (messageIn p vector)
+    (askedWith (settingsOf o) (receivedBy k []) (messageIn p vector) (requestFound f) (routeFound g) (deltaFound free))
+    (asked (settingsOf o) (viewOf (stateOf clock seq rows routes)) t (receivedBy k []) (messageIn p vector))) where
   abbrev x : Settings
   x = settingsOf o
 
@@ -72,7 +73,7 @@ module _ (clock seq t : ℕ) (rows : List InstanceRow) (routes : List RouteRow) 
       → Gives (enact t s (requestDecision x s t c m)) rows rows routes routes forward forward reply reply r
   unfolding requestDecision
   request-refused forward reply answer n r ea en h er =
-      let e = ea ∙ ap (λ (q : Asked). answerOf (requestLines x c m q)) (gathered .means ∙ found) in
+      let e = ea ∙ (ap (λ (q : Asked). answerOf (requestLines x c m q)) (gathered .means) ∙ found .answers) in
       refused-gives clock seq t rows routes forward reply _ _ answer r e (λ z. h (en ∙ (e ∙ z))) er
 
   rank-is : a .rank ≡ ownRank (p .base .rank) (k .increase)
@@ -97,7 +98,7 @@ module _ (clock seq t : ℕ) (rows : List InstanceRow) (routes : List RouteRow) 
     unfolding requestDecision
     request-taken =
         let e : answerOf (requestLines x c m asking) ≡ 0 = subst (λ (q : Asked). answerOf (requestLines x c m q) ≡ 0) (gathered .means) zero in
-        rw (← found, eq-eqb (answerOf (requestLines x c m asking)) 0 e)
+        rw (← found .answers, ← found .outcomes, eq-eqb (answerOf (requestLines x c m asking)) 0 e)
 
   stored-as : (d : Decided) → Stores (acceptRequest x seq t c m (askedOf a)) (requestFound (a .row)) (routeFound (a .route)) d
       → Stores acc (requestFound f) (routeFound g) d

@@ -158,8 +158,9 @@ pub fn take_request(
     let receiving = receiving_of(o);
     let f = search::search_request(instances, t, instance, dodagid);
     let g = search::search_route(routes, t, receiving, dodagid, instance);
-    let free = search::free_delta(instances, t, instance, receiving);
-    let a = request::gather(o, k, *p, f, g, free);
+    let targ = request::is_targ_node(o, *p);
+    let free = search::free_delta_if(targ, instances, t, instance, receiving);
+    let a = request::gather(o, k, *p, targ, f, g, free);
     let answer = request::judge(o, k, *p, vector, a);
     if answer::number(answer) != 0 {
         return finish::refused(answer, clock, seq);

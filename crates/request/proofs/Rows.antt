@@ -17,11 +17,11 @@ use Rattle.plain.specs.Lists.{any, given}
 use Rattle.plain.specs.Address.{Address}
 use Rattle.plain.specs.Given.{Settings}
 use Rattle.plain.specs.Rank.{ownRank}
-use Rattle.plain.specs.Request.{rowTargets, deltaOr0, matchesUs, requestStanding, targetsKept, askedWith}
+use Rattle.plain.specs.Request.{rowTargets, deltaOr0, matchesUs, areTargNode, requestStanding, targetsKept, askedWith}
 use Rattle.row.specs.Meaning.{requestOf}
 use Rattle.row.proofs.Laws.{targets-within}
 use Rattle.writer_option.specs.Sendable.{shortPrefix, shortPrefixes}
-use Rattle.matching.specs.Kept.{Kept}
+use Rattle.matching.specs.Kept.{listOf, Kept}
 use Rattle.message.specs.Message.{messageIn, receivedBy, requestFound, routeFound, deltaFound}
 use Rattle.row.specs.declared.InstanceRow.{InstanceRow}
 use Rattle.art.specs.declared.Targets.{Targets}
@@ -32,6 +32,7 @@ use Rattle.message.specs.declared.FreeDelta.{FreeDelta}
 use Rattle.message.specs.declared.Parsed.{Parsed}
 use Rattle.message.specs.declared.Link.{Link}
 use Rattle.request.specs.Facts.{askedOf, Gathered}
+use Rattle.rule.specs.Heard.{Heard}
 use Rattle.rule.proofs.Types.{length-mapped}
 use Rattle.request.proofs.Kept.{all-kept}
 
@@ -77,21 +78,32 @@ facts-eight a vs g = list-eight (a .targets) _ (g .1 .1 .1 .1 .1 .1 .1 .0)
 
 -- ---- The facts, from their parts
 
-pub gathered-is : (x : Settings) (k : Link) (p : Parsed) (f : Found) (g : FoundRoute) (d : FreeDelta) (a : RequestFacts)
+pub named-is : (x : Settings) (p : Parsed) (ts : Targets) → ts ≡ record { over = false; count = p .count; list = p .targets } → (v : List Address)
+    → any (matchesUs x) (listOf ts) ≡ areTargNode x (messageIn p v)
+unfolding messageIn
+named-is x p ts e v = rw e
+
+pub named-kept : (p : Parsed) (ts : Targets) → ts ≡ record { over = false; count = p .count; list = p .targets } → Heard p → Kept (listOf ts) ts
+named-kept p ts e h = rw e (record { held = record { whole = refl; few = h .targets; listed = refl }; padded = h .padded })
+
+pub gathered-is : (x : Settings) (k : Link) (p : Parsed) (f : Found) (g : FoundRoute) (d : FreeDelta) (ts : Targets) (a : RequestFacts)
     → shortPrefixes (take (p .count) (p .targets)) ≡ true
     → a .row ≡ f
     → a .route ≡ g
     → a .delta ≡ d
     → a .rank ≡ ownRank (p .base .rank) (k .increase)
     → a .standing ≡ requestStanding (requestFound f) (p .discovery .number) (a .rank)
-    → a .targ ≡ any (matchesUs x) (take (p .count) (p .targets))
-    → Kept (targetsKept x (a .standing) (requestFound f) (take (p .count) (p .targets))) (a .targets)
+    → a .targ ≡ areTargNode x (messageIn p [])
+    → ts ≡ record { over = false; count = p .count; list = p .targets }
+    → Kept (targetsKept x (a .standing) (requestFound f) (listOf ts)) (a .targets)
     → (v : List Address)
     → Gathered (askedWith x (receivedBy k []) (messageIn p v) (requestFound f) (routeFound g) (deltaFound d)) a
 unfolding askedOf askedWith messageIn
-gathered-is x k p f g d a short ef eg ed er es et kept v = record {
-  means = rw (ef, eg, ed, kept .held .listed, et, es, er);
-  few = kept .held .few;
-  prefixes = rw (kept .held .listed) (all-kept shortPrefix x (a .standing) (requestFound f) (take (p .count) (p .targets)) short);
-  padded = kept .padded;
-}
+gathered-is x k p f g d ts a short ef eg ed er es et en kept v =
+    let held : Kept (targetsKept x (a .standing) (requestFound f) (take (p .count) (p .targets))) (a .targets) = rw en at kept in
+    record {
+      means = rw (ef, eg, ed, held .held .listed, et, es, er);
+      few = held .held .few;
+      prefixes = rw (held .held .listed) (all-kept shortPrefix x (a .standing) (requestFound f) (take (p .count) (p .targets)) short);
+      padded = held .padded;
+    }

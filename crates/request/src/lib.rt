@@ -10,7 +10,7 @@ use own::Own;
 use plain::Standing;
 ghost use Prim.Native.Nat.{_≤_};
 ghost use mathlib.Core.Path.{_≡_};
-ghost use mathlib.Core.Bool.{true, not, _&&_, _||_};
+ghost use mathlib.Core.Bool.{true, false, not, _&&_, _||_};
 ghost use mathlib.Core.List.{List, []};
 ghost use lib.Dec.{eqb, ltb};
 ghost use lib.ListN.{length};
@@ -18,7 +18,7 @@ ghost use Rattle.plain.specs.Address.{Address};
 ghost use Rattle.plain.specs.Lists.{any, given};
 ghost use Rattle.plain.specs.Answers.{answerOf};
 ghost use Rattle.plain.specs.Rank.{minHop, integerPart, ownRank, rankRefused};
-ghost use Rattle.plain.specs.Request.{matchesUs, grown, cannotGrow, requestStanding, isStale, routeStale, rowTargets, targetsKept, askedWith, forwards, repliesNow, requestLines};
+ghost use Rattle.plain.specs.Request.{matchesUs, areTargNode, grown, cannotGrow, requestStanding, isStale, routeStale, rowTargets, targetsKept, askedWith, forwards, repliesNow, requestLines};
 ghost use Rattle.answer.specs.Answer.{answerNumber};
 ghost use Rattle.matching.specs.Kept.{listOf, Held, Kept};
 ghost use Rattle.own.specs.Settings.{settingsOf, Whole};
@@ -99,24 +99,46 @@ fn targets_kept(o: Own, s: Standing, f: Found, ts: Targets, targ: bool) -> Targe
     ts
 }
 
-// The facts of a request.
-pub fn gather(o: Own, k: Link, p: Parsed, f: Found, g: FoundRoute, d: FreeDelta) -> RequestFacts
-    requires { ⌜ Heard p ⌝ }
-    requires { ⌜ (f .is ≡ true → f .row .count ≤ 8) ⌝ }
-    ensures { λ r. ⌜ ((vector : List Address) → Gathered (askedWith (settingsOf o) (receivedBy k []) (messageIn p vector) (requestFound f) (routeFound g) (deltaFound d)) r) ⌝ }
+// The targets of a message.
+fn named_in(p: Parsed) -> Targets
+    ensures { λ r. ⌜ r ≡ record { over = false; count = p .count; list = p .targets } ⌝ }
 {
     let list = p.targets;
-    let named = Targets {
+    Targets {
         over: false,
         count: p.count,
         list,
-    };
+    }
+}
+
+// "We are TargNode if a target in the message equals one of our addresses, or shares its first Prefix Length bits."
+pub fn is_targ_node(o: Own, p: Parsed) -> bool
+    requires { ⌜ Heard p ⌝ }
+    ensures { λ r. ⌜ ((vector : List Address) → r ≡ areTargNode (settingsOf o) (messageIn p vector)) ⌝ }
+{
     let receiving = o.receiving;
     let sending = o.sending;
+    matching::is_named(named_in(p), receiving, sending)
+}
+
+// The facts of a request, of which we are TargNode or not.
+pub fn gather(
+    o: Own,
+    k: Link,
+    p: Parsed,
+    targ: bool,
+    f: Found,
+    g: FoundRoute,
+    d: FreeDelta,
+) -> RequestFacts
+    requires { ⌜ Heard p ⌝ }
+    requires { ⌜ targ ≡ areTargNode (settingsOf o) (messageIn p []) ⌝ }
+    requires { ⌜ (f .is ≡ true → f .row .count ≤ 8) ⌝ }
+    ensures { λ r. ⌜ ((vector : List Address) → Gathered (askedWith (settingsOf o) (receivedBy k []) (messageIn p vector) (requestFound f) (routeFound g) (deltaFound d)) r) ⌝ }
+{
     let rank = own_rank(p.base.rank, k.increase);
     let standing = how_it_stands(f, p.discovery.number, rank);
-    let targ = matching::is_named(named, receiving, sending);
-    let targets = targets_kept(o, standing, f, named, targ);
+    let targets = targets_kept(o, standing, f, named_in(p), targ);
     RequestFacts {
         row: f,
         route: g,

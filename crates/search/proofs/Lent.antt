@@ -1,5 +1,6 @@
 pub mod find_partner
 pub mod free_delta
+pub mod free_delta_if
 pub mod search_partner
 pub mod search_reply
 pub mod search_request

@@ -161,7 +161,7 @@ pub fn search_route(
 }
 
 // "Delta is the least of 0..63 for which RPLInstanceID plus Delta .. is not in use by a live reply row with that DODAGID."
-pub fn free_delta(rows: &[InstanceRow], t: u64, instance: u8, dodagid: [u8; 16]) -> FreeDelta
+fn free_delta(rows: &[InstanceRow], t: u64, instance: u8, dodagid: [u8; 16]) -> FreeDelta
     ensures { λ r. ⌜ ((clock : ℕ) → clock ≤ t → deltaFound r ≡ deltaSeen clock (now (rows .entry)) t instance dodagid) ⌝ }
 {
     let mut delta: u8 = 0;
@@ -173,6 +173,22 @@ pub fn free_delta(rows: &[InstanceRow], t: u64, instance: u8, dodagid: [u8; 16])
         } else {
             return free(delta);
         }
+    }
+    none_free()
+}
+
+// The free Delta where one is needed: finding it is a pass over the table.
+pub fn free_delta_if(
+    needed: bool,
+    rows: &[InstanceRow],
+    t: u64,
+    instance: u8,
+    dodagid: [u8; 16],
+) -> FreeDelta
+    ensures { λ r. ⌜ (needed ≡ true → (clock : ℕ) → clock ≤ t → deltaFound r ≡ deltaSeen clock (now (rows .entry)) t instance dodagid) ⌝ }
+{
+    if needed {
+        return free_delta(rows, t, instance, dodagid);
     }
     none_free()
 }

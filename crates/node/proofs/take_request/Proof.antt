@@ -2,6 +2,7 @@ pub mod Lts
 pub mod Tie
 use denote.Ref.{now}
 use mathlib.Core.Path.{sym, _∙_}
+use mathlib.Core.List.{[]}
 use Rattle.row.specs.Meaning.{requestOf}
 use Rattle.own.specs.Settings.{settingsOf}
 use Rattle.rule.proofs.Types.{own-sixteen}
@@ -31,19 +32,22 @@ search-request-requires c = search needs
 search-route-requires : tie.Need-search-route-requires
 search-route-requires c = search needs
 
-free-delta-requires : tie.Need-free-delta-requires
-free-delta-requires c = search needs
+is-targ-node-requires : tie.Need-is-targ-node-requires
+is-targ-node-requires c κs = c .before .before .before .before .before .before .before .before .before .before .before .before .before .pre .heard
+
+free-delta-if-requires : tie.Need-free-delta-if-requires
+free-delta-if-requires c = search needs
 
 gather-requires : tie.Need-gather-requires
 gather-requires c κs =
-    let o = c .before .before .before .before .before .before .before .before .before .before .before .before .before .before .before in
-    let f = c .before .before .before .before .before .search-request in
-    (o .pre .heard, row-few (now (o .args .instances)) (o .args .t) (f .result) (o .pre .good) (f .ensures .1) (f .ensures .0 .1))
+    let o = c .before .before .before .before .before .before .before .before .before .before .before .before .before .before .before .before .before in
+    let f = c .before .before .before .before .before .before .before .search-request in
+    (o .pre .heard, (c .before .before .before .is-targ-node .ensures [], row-few (now (o .args .instances)) (o .args .t) (f .result) (o .pre .good) (f .ensures .1) (f .ensures .0 .1)))
 
 judge-requires : tie.Need-judge-requires
 judge-requires c κs =
-    let o = c .before .before .before .before .before .before .before .before .before .before .before .before .before .before .before .before .before in
-    let w = c .before .before .before .before .before .before .before .before .before .before .before .before .before .before .whole in
+    let o = c .before .before .before .before .before .before .before .before .before .before .before .before .before .before .before .before .before .before .before in
+    let w = c .before .before .before .before .before .before .before .before .before .before .before .before .before .before .before .before .whole in
     (o .pre .heard, record { places = w .ensures .0; whole = w .ensures .1 })
 
 number-requires : tie.Need-number-requires
@@ -60,48 +64,6 @@ same-length-2 c = search needs
 
 returns : tie.Need-returns
 returns c =
-    let o = c .before .before .before .before .before .before .before .before .before .before .before .before .before .before .before .before .before .before .before .before .before in
-    let a = o .args in
-    let rows = now (a .instances) in
-    let routes = now (a .routes) in
-    let vector = now (a .vector) in
-    let instance = c .before .before .before .before .before .before .before .before .before .before .before .before .before .before .before .before .instance-of in
-    let dodagid = c .before .before .before .before .before .before .before .before .before .before .before .before .before .before .dodagid-of in
-    let receiving = c .before .before .before .before .before .before .before .before .before .before .before .before .before .receiving-of in
-    let f = c .before .before .before .before .before .before .before .before .before .before .before .search-request in
-    let g = c .before .before .before .before .before .before .before .before .before .search-route in
-    let free = c .before .before .before .before .before .before .before .free-delta in
-    let facts = c .before .before .before .before .before .gather in
-    let found =
-    asked-is (a .clock) (a .seq) (a .t) rows routes (a .o) (a .k) (now (a .p)) vector (instance .result) (dodagid .result) (receiving .result)
-    (instance .ensures) (dodagid .ensures) (receiving .ensures) (f .result) (g .result) (free .result) (f .ensures .0 .0 (a .clock) (o .pre .later))
-    (g .ensures .0 (a .clock) (o .pre .later)) (free .ensures (a .clock) (o .pre .later)) in
-    request-refused (a .clock) (a .seq) (a .t) rows routes (a .o) (a .k) (now (a .p)) vector (f .result) (g .result) (free .result) (facts .result) (facts .ensures vector) found (now (a .forward)) (now (a .reply)) (c .before .before .before .judge .result)
-    (c .before .before .number .result) (c .refused .result) (c .before .before .before .judge .ensures) (c .before .before .number .ensures) (c .before .if1 .taken) (c .refused .ensures)
-
-accepted-requires : tie.Need-accepted-requires
-accepted-requires c κs =
-    let o = c .before .before .before .before .before .before .before .before .before .before .before .before .before .before .before .before .before .before .before .before .before in
-    let a = o .args in
-    let rows = now (a .instances) in
-    let routes = now (a .routes) in
-    let vector = now (a .vector) in
-    let instance = c .before .before .before .before .before .before .before .before .before .before .before .before .before .before .before .before .instance-of in
-    let dodagid = c .before .before .before .before .before .before .before .before .before .before .before .before .before .before .dodagid-of in
-    let receiving = c .before .before .before .before .before .before .before .before .before .before .before .before .before .receiving-of in
-    let f = c .before .before .before .before .before .before .before .before .before .before .before .search-request in
-    let g = c .before .before .before .before .before .before .before .before .before .search-route in
-    let free = c .before .before .before .before .before .before .before .free-delta in
-    let facts = c .before .before .before .before .before .gather in
-    let found =
-    asked-is (a .clock) (a .seq) (a .t) rows routes (a .o) (a .k) (now (a .p)) vector (instance .result) (dodagid .result) (receiving .result)
-    (instance .ensures) (dodagid .ensures) (receiving .ensures) (f .result) (g .result) (free .result) (f .ensures .0 .0 (a .clock) (o .pre .later))
-    (g .ensures .0 (a .clock) (o .pre .later)) (free .ensures (a .clock) (o .pre .later)) in
-    let zero = sym (c .before .before .before .judge .ensures) ∙ (sym (c .before .before .number .ensures) ∙ c .before .if1 .left) in
-    (o .pre .time, request-sendable (a .clock) (a .seq) (a .t) rows routes (a .o) (a .k) (now (a .p)) vector (f .result) (g .result) (free .result) (facts .result) (facts .ensures vector) found zero)
-
-forward-post-requires : tie.Need-forward-post-requires
-forward-post-requires c κs =
     let o = c .before .before .before .before .before .before .before .before .before .before .before .before .before .before .before .before .before .before .before .before .before .before .before in
     let a = o .args in
     let rows = now (a .instances) in
@@ -112,42 +74,88 @@ forward-post-requires c κs =
     let receiving = c .before .before .before .before .before .before .before .before .before .before .before .before .before .before .before .receiving-of in
     let f = c .before .before .before .before .before .before .before .before .before .before .before .before .before .search-request in
     let g = c .before .before .before .before .before .before .before .before .before .before .before .search-route in
-    let free = c .before .before .before .before .before .before .before .before .before .free-delta in
+    let targ = c .before .before .before .before .before .before .before .before .before .is-targ-node in
+    let free = c .before .before .before .before .before .before .before .free-delta-if in
+    let facts = c .before .before .before .before .before .gather in
+    let found =
+    asked-is (a .clock) (a .seq) (a .t) rows routes (a .o) (a .k) (now (a .p)) vector (instance .result) (dodagid .result) (receiving .result)
+    (instance .ensures) (dodagid .ensures) (receiving .ensures) (f .result) (g .result) (free .result) (f .ensures .0 .0 (a .clock) (o .pre .later))
+    (g .ensures .0 (a .clock) (o .pre .later)) (targ .result) (targ .ensures vector) (λ e. free .ensures e (a .clock) (o .pre .later)) in
+    request-refused (a .clock) (a .seq) (a .t) rows routes (a .o) (a .k) (now (a .p)) vector (f .result) (g .result) (free .result) (facts .result) (facts .ensures vector) found (now (a .forward)) (now (a .reply)) (c .before .before .before .judge .result)
+    (c .before .before .number .result) (c .refused .result) (c .before .before .before .judge .ensures) (c .before .before .number .ensures) (c .before .if1 .taken) (c .refused .ensures)
+
+accepted-requires : tie.Need-accepted-requires
+accepted-requires c κs =
+    let o = c .before .before .before .before .before .before .before .before .before .before .before .before .before .before .before .before .before .before .before .before .before .before .before in
+    let a = o .args in
+    let rows = now (a .instances) in
+    let routes = now (a .routes) in
+    let vector = now (a .vector) in
+    let instance = c .before .before .before .before .before .before .before .before .before .before .before .before .before .before .before .before .before .before .instance-of in
+    let dodagid = c .before .before .before .before .before .before .before .before .before .before .before .before .before .before .before .before .dodagid-of in
+    let receiving = c .before .before .before .before .before .before .before .before .before .before .before .before .before .before .before .receiving-of in
+    let f = c .before .before .before .before .before .before .before .before .before .before .before .before .before .search-request in
+    let g = c .before .before .before .before .before .before .before .before .before .before .before .search-route in
+    let targ = c .before .before .before .before .before .before .before .before .before .is-targ-node in
+    let free = c .before .before .before .before .before .before .before .free-delta-if in
+    let facts = c .before .before .before .before .before .gather in
+    let found =
+    asked-is (a .clock) (a .seq) (a .t) rows routes (a .o) (a .k) (now (a .p)) vector (instance .result) (dodagid .result) (receiving .result)
+    (instance .ensures) (dodagid .ensures) (receiving .ensures) (f .result) (g .result) (free .result) (f .ensures .0 .0 (a .clock) (o .pre .later))
+    (g .ensures .0 (a .clock) (o .pre .later)) (targ .result) (targ .ensures vector) (λ e. free .ensures e (a .clock) (o .pre .later)) in
+    let zero = sym (c .before .before .before .judge .ensures) ∙ (sym (c .before .before .number .ensures) ∙ c .before .if1 .left) in
+    (o .pre .time, request-sendable (a .clock) (a .seq) (a .t) rows routes (a .o) (a .k) (now (a .p)) vector (f .result) (g .result) (free .result) (facts .result) (facts .ensures vector) found zero)
+
+forward-post-requires : tie.Need-forward-post-requires
+forward-post-requires c κs =
+    let o = c .before .before .before .before .before .before .before .before .before .before .before .before .before .before .before .before .before .before .before .before .before .before .before .before .before in
+    let a = o .args in
+    let rows = now (a .instances) in
+    let routes = now (a .routes) in
+    let vector = now (a .vector) in
+    let instance = c .before .before .before .before .before .before .before .before .before .before .before .before .before .before .before .before .before .before .before .before .instance-of in
+    let dodagid = c .before .before .before .before .before .before .before .before .before .before .before .before .before .before .before .before .before .before .dodagid-of in
+    let receiving = c .before .before .before .before .before .before .before .before .before .before .before .before .before .before .before .before .before .receiving-of in
+    let f = c .before .before .before .before .before .before .before .before .before .before .before .before .before .before .before .search-request in
+    let g = c .before .before .before .before .before .before .before .before .before .before .before .before .before .search-route in
+    let targ = c .before .before .before .before .before .before .before .before .before .before .before .is-targ-node in
+    let free = c .before .before .before .before .before .before .before .before .before .free-delta-if in
     let facts = c .before .before .before .before .before .before .before .gather in
     let found =
     asked-is (a .clock) (a .seq) (a .t) rows routes (a .o) (a .k) (now (a .p)) vector (instance .result) (dodagid .result) (receiving .result)
     (instance .ensures) (dodagid .ensures) (receiving .ensures) (f .result) (g .result) (free .result) (f .ensures .0 .0 (a .clock) (o .pre .later))
-    (g .ensures .0 (a .clock) (o .pre .later)) (free .ensures (a .clock) (o .pre .later)) in
+    (g .ensures .0 (a .clock) (o .pre .later)) (targ .result) (targ .ensures vector) (λ e. free .ensures e (a .clock) (o .pre .later)) in
     let zero = sym (c .before .before .before .before .before .judge .ensures) ∙ (sym (c .before .before .before .before .number .ensures) ∙ c .before .before .before .if1 .left) in
     (o .pre .heard, request-sendable (a .clock) (a .seq) (a .t) rows routes (a .o) (a .k) (now (a .p)) vector (f .result) (g .result) (free .result) (facts .result) (facts .ensures vector) found zero)
 
 reply-post-requires : tie.Need-reply-post-requires
-reply-post-requires c κs = c .before .before .before .before .before .before .before .before .before .before .before .before .before .before .before .before .before .before .before .before .before .before .before .before .before .pre .heard
+reply-post-requires c κs = c .before .before .before .before .before .before .before .before .before .before .before .before .before .before .before .before .before .before .before .before .before .before .before .before .before .before .before .pre .heard
 
 live-of-requires : tie.Need-live-of-requires
 live-of-requires c = search needs
 
 finish-requires : tie.Need-finish-requires
 finish-requires c κs =
-    let o = c .before .before .before .before .before .before .before .before .before .before .before .before .before .before .before .before .before .before .before .before .before .before .before .before .before .before .before .before .before .before .before .before .before .before in
+    let o = c .before .before .before .before .before .before .before .before .before .before .before .before .before .before .before .before .before .before .before .before .before .before .before .before .before .before .before .before .before .before .before .before .before .before .before .before in
     let a = o .args in
     let rows = now (a .instances) in
     let routes = now (a .routes) in
     let vector = now (a .vector) in
-    let instance = c .before .before .before .before .before .before .before .before .before .before .before .before .before .before .before .before .before .before .before .before .before .before .before .before .before .before .before .before .before .instance-of in
-    let dodagid = c .before .before .before .before .before .before .before .before .before .before .before .before .before .before .before .before .before .before .before .before .before .before .before .before .before .before .before .dodagid-of in
-    let receiving = c .before .before .before .before .before .before .before .before .before .before .before .before .before .before .before .before .before .before .before .before .before .before .before .before .before .before .receiving-of in
-    let f = c .before .before .before .before .before .before .before .before .before .before .before .before .before .before .before .before .before .before .before .before .before .before .before .before .search-request in
-    let g = c .before .before .before .before .before .before .before .before .before .before .before .before .before .before .before .before .before .before .before .before .before .before .search-route in
-    let free = c .before .before .before .before .before .before .before .before .before .before .before .before .before .before .before .before .before .before .before .before .free-delta in
+    let instance = c .before .before .before .before .before .before .before .before .before .before .before .before .before .before .before .before .before .before .before .before .before .before .before .before .before .before .before .before .before .before .before .instance-of in
+    let dodagid = c .before .before .before .before .before .before .before .before .before .before .before .before .before .before .before .before .before .before .before .before .before .before .before .before .before .before .before .before .before .dodagid-of in
+    let receiving = c .before .before .before .before .before .before .before .before .before .before .before .before .before .before .before .before .before .before .before .before .before .before .before .before .before .before .before .before .receiving-of in
+    let f = c .before .before .before .before .before .before .before .before .before .before .before .before .before .before .before .before .before .before .before .before .before .before .before .before .before .before .search-request in
+    let g = c .before .before .before .before .before .before .before .before .before .before .before .before .before .before .before .before .before .before .before .before .before .before .before .before .search-route in
+    let targ = c .before .before .before .before .before .before .before .before .before .before .before .before .before .before .before .before .before .before .before .before .before .before .is-targ-node in
+    let free = c .before .before .before .before .before .before .before .before .before .before .before .before .before .before .before .before .before .before .before .before .free-delta-if in
     let facts = c .before .before .before .before .before .before .before .before .before .before .before .before .before .before .before .before .before .before .gather in
     let found =
     asked-is (a .clock) (a .seq) (a .t) rows routes (a .o) (a .k) (now (a .p)) vector (instance .result) (dodagid .result) (receiving .result)
     (instance .ensures) (dodagid .ensures) (receiving .ensures) (f .result) (g .result) (free .result) (f .ensures .0 .0 (a .clock) (o .pre .later))
-    (g .ensures .0 (a .clock) (o .pre .later)) (free .ensures (a .clock) (o .pre .later)) in
+    (g .ensures .0 (a .clock) (o .pre .later)) (targ .result) (targ .ensures vector) (λ e. free .ensures e (a .clock) (o .pre .later)) in
     let zero = sym (c .before .before .before .before .before .before .before .before .before .before .before .before .before .before .before .before .judge .ensures) ∙ (sym (c .before .before .before .before .before .before .before .before .before .before .before .before .before .before .before .number .ensures) ∙ c .before .before .before .before .before .before .before .before .before .before .before .before .before .before .if1 .left) in
     let sixteen = own-sixteen (a .o) _ (o .good .1 .1 .1 .1 .0) in
-    let w = c .before .before .before .before .before .before .before .before .before .before .before .before .before .before .before .before .before .before .before .before .before .before .before .before .before .before .before .before .before .before .before .whole in
+    let w = c .before .before .before .before .before .before .before .before .before .before .before .before .before .before .before .before .before .before .before .before .before .before .before .before .before .before .before .before .before .before .before .before .before .whole in
     let d = c .before .before .before .before .before .before .before .before .before .before .before .before .accepted in
     let there = c .before .before .before .before .before .before .before .before .before .before .forward-post in
     let back = c .before .before .before .before .before .before .before .before .reply-post in
@@ -174,25 +182,26 @@ same-length-6 c = search needs
 
 returns-2 : tie.Need-returns-2
 returns-2 c =
-    let o = c .before .before .before .before .before .before .before .before .before .before .before .before .before .before .before .before .before .before .before .before .before .before .before .before .before .before .before .before .before .before .before .before .before .before .before .before .before .before .before .before .before in
+    let o = c .before .before .before .before .before .before .before .before .before .before .before .before .before .before .before .before .before .before .before .before .before .before .before .before .before .before .before .before .before .before .before .before .before .before .before .before .before .before .before .before .before .before .before in
     let a = o .args in
     let rows = now (a .instances) in
     let routes = now (a .routes) in
     let vector = now (a .vector) in
-    let instance = c .before .before .before .before .before .before .before .before .before .before .before .before .before .before .before .before .before .before .before .before .before .before .before .before .before .before .before .before .before .before .before .before .before .before .before .before .instance-of in
-    let dodagid = c .before .before .before .before .before .before .before .before .before .before .before .before .before .before .before .before .before .before .before .before .before .before .before .before .before .before .before .before .before .before .before .before .before .before .dodagid-of in
-    let receiving = c .before .before .before .before .before .before .before .before .before .before .before .before .before .before .before .before .before .before .before .before .before .before .before .before .before .before .before .before .before .before .before .before .before .receiving-of in
-    let f = c .before .before .before .before .before .before .before .before .before .before .before .before .before .before .before .before .before .before .before .before .before .before .before .before .before .before .before .before .before .before .before .search-request in
-    let g = c .before .before .before .before .before .before .before .before .before .before .before .before .before .before .before .before .before .before .before .before .before .before .before .before .before .before .before .before .before .search-route in
-    let free = c .before .before .before .before .before .before .before .before .before .before .before .before .before .before .before .before .before .before .before .before .before .before .before .before .before .before .before .free-delta in
+    let instance = c .before .before .before .before .before .before .before .before .before .before .before .before .before .before .before .before .before .before .before .before .before .before .before .before .before .before .before .before .before .before .before .before .before .before .before .before .before .before .instance-of in
+    let dodagid = c .before .before .before .before .before .before .before .before .before .before .before .before .before .before .before .before .before .before .before .before .before .before .before .before .before .before .before .before .before .before .before .before .before .before .before .before .dodagid-of in
+    let receiving = c .before .before .before .before .before .before .before .before .before .before .before .before .before .before .before .before .before .before .before .before .before .before .before .before .before .before .before .before .before .before .before .before .before .before .before .receiving-of in
+    let f = c .before .before .before .before .before .before .before .before .before .before .before .before .before .before .before .before .before .before .before .before .before .before .before .before .before .before .before .before .before .before .before .before .before .search-request in
+    let g = c .before .before .before .before .before .before .before .before .before .before .before .before .before .before .before .before .before .before .before .before .before .before .before .before .before .before .before .before .before .before .before .search-route in
+    let targ = c .before .before .before .before .before .before .before .before .before .before .before .before .before .before .before .before .before .before .before .before .before .before .before .before .before .before .before .before .before .is-targ-node in
+    let free = c .before .before .before .before .before .before .before .before .before .before .before .before .before .before .before .before .before .before .before .before .before .before .before .before .before .before .before .free-delta-if in
     let facts = c .before .before .before .before .before .before .before .before .before .before .before .before .before .before .before .before .before .before .before .before .before .before .before .before .before .gather in
     let found =
     asked-is (a .clock) (a .seq) (a .t) rows routes (a .o) (a .k) (now (a .p)) vector (instance .result) (dodagid .result) (receiving .result)
     (instance .ensures) (dodagid .ensures) (receiving .ensures) (f .result) (g .result) (free .result) (f .ensures .0 .0 (a .clock) (o .pre .later))
-    (g .ensures .0 (a .clock) (o .pre .later)) (free .ensures (a .clock) (o .pre .later)) in
+    (g .ensures .0 (a .clock) (o .pre .later)) (targ .result) (targ .ensures vector) (λ e. free .ensures e (a .clock) (o .pre .later)) in
     let zero = sym (c .before .before .before .before .before .before .before .before .before .before .before .before .before .before .before .before .before .before .before .before .before .before .before .judge .ensures) ∙ (sym (c .before .before .before .before .before .before .before .before .before .before .before .before .before .before .before .before .before .before .before .before .before .before .number .ensures) ∙ c .before .before .before .before .before .before .before .before .before .before .before .before .before .before .before .before .before .before .before .before .before .if1 .left) in
     let sixteen = own-sixteen (a .o) _ (o .good .1 .1 .1 .1 .0) in
-    let w = c .before .before .before .before .before .before .before .before .before .before .before .before .before .before .before .before .before .before .before .before .before .before .before .before .before .before .before .before .before .before .before .before .before .before .before .before .before .before .whole in
+    let w = c .before .before .before .before .before .before .before .before .before .before .before .before .before .before .before .before .before .before .before .before .before .before .before .before .before .before .before .before .before .before .before .before .before .before .before .before .before .before .before .before .whole in
     let d = c .before .before .before .before .before .before .before .before .before .before .before .before .before .before .before .before .before .before .before .accepted in
     let there = c .before .before .before .before .before .before .before .before .before .before .before .before .before .before .before .before .before .forward-post in
     let back = c .before .before .before .before .before .before .before .before .before .before .before .before .before .before .before .reply-post in
@@ -206,4 +215,4 @@ returns-2 c =
     (request-settled (a .clock) (a .seq) (a .t) rows routes (a .o) (a .k) (now (a .p)) vector (f .result) (g .result) (free .result) (facts .result) (facts .ensures vector) found (l .result) (l .ensures) (d .result) (there .result) (back .result) (d .ensures vector) pf pr))
 
 pub take-request-spec : {M : Type 1} → statement M
-take-request-spec = tie.close (tie.spec whole-requires instance-of-requires dodagid-of-requires receiving-of-requires search-request-requires search-route-requires free-delta-requires gather-requires judge-requires number-requires refused-requires same-length same-length-2 returns accepted-requires forward-post-requires reply-post-requires live-of-requires finish-requires same-length-3 same-length-4 same-length-5 same-length-6 returns-2)
+take-request-spec = tie.close (tie.spec whole-requires instance-of-requires dodagid-of-requires receiving-of-requires search-request-requires search-route-requires is-targ-node-requires free-delta-if-requires gather-requires judge-requires number-requires refused-requires same-length same-length-2 returns accepted-requires forward-post-requires reply-post-requires live-of-requires finish-requires same-length-3 same-length-4 same-length-5 same-length-6 returns-2)

@@ -1,6 +1,7 @@
-use mathlib.Core.Path.{refl}
+use mathlib.Core.Path.{refl, sym, _∙_}
+use mathlib.Core.List.{[]}
 use Rattle.own.specs.Settings.{settingsOf}
-use Rattle.request.proofs.Rows.{gathered-is}
+use Rattle.request.proofs.Rows.{named-is, named-kept, gathered-is}
 use borrow.Author.Needs.{needs}
 use Rattle.request.proofs.gather.Statement.{statement}
 use Rattle.request.proofs.gather.Tie as tie
@@ -11,20 +12,28 @@ own-rank-requires c κs = search needs
 how-it-stands-requires : tie.Need-how-it-stands-requires
 how-it-stands-requires c κs = search needs
 
-is-named-requires : tie.Need-is-named-requires
-is-named-requires c κs = search needs
+named-in-requires : tie.Need-named-in-requires
+named-in-requires c κs = search needs
 
 targets-kept-requires : tie.Need-targets-kept-requires
 targets-kept-requires c κs =
-    let h = c .before .before .before .before .before .before .pre in
-    (h .1, (record { held = record { whole = refl; few = search needs; listed = refl }; padded = h .0 .padded }, c .is-named .ensures))
+    let s = c .before .before .before in
+    let named = c .named-in in (
+      s .pre .1 .1,
+      (
+        named-kept (s .args .p) (named .result) (named .ensures) (s .pre .0),
+        s .pre .1 .0 ∙ sym (named-is (settingsOf (s .args .o)) (s .args .p) (named .result) (named .ensures) []),
+      ),
+    )
 
 returns : tie.Need-returns
 returns c =
     λ v.
-    let s = c .before .before .before .before .before .before .before .args in
-    gathered-is (settingsOf (s .o)) (s .k) (s .p) (s .f) (s .g) (s .d) _ (c .before .before .before .before .before .before .before .pre .0 .prefixes) refl refl refl
-    (c .before .before .before .own-rank .ensures) (c .before .before .how-it-stands .ensures) (c .before .is-named .ensures) (c .targets-kept .ensures) v
+    let s = c .before .before .before .before in
+    let a = s .args in
+    let named = c .before .named-in in
+    gathered-is (settingsOf (a .o)) (a .k) (a .p) (a .f) (a .g) (a .d) (named .result) _ (s .pre .0 .prefixes) refl refl refl
+    (c .before .before .before .own-rank .ensures) (c .before .before .how-it-stands .ensures) (s .pre .1 .0) (named .ensures) (c .targets-kept .ensures) v
 
 pub gather-spec : {M : Type 1} → statement M
 gather-spec =
@@ -32,6 +41,6 @@ gather-spec =
     (tie.spec
     own-rank-requires
     how-it-stands-requires
-    is-named-requires
+    named-in-requires
     targets-kept-requires
     returns)
