@@ -146,7 +146,7 @@ module _ {R : Type 0} (hash : R → ℕ) (twins : R → R → Bool) (mask : ℕ)
   any-class x (y ∷ ys) f =
       let c = classOf mask (hash y) in
       let e : inClass hash mask c twins x y || any (inClass hash mask c twins x) ys ≡ false =
-      f c (omega (arith, and-le-r (hash y / 65536 % 65536) mask)) in
+      f c (omega (arith, and-le-r (hash y % 65536) mask)) in
       let g : inClass hash mask c twins x y ≡ false = or-left (inClass hash mask c twins x y) (any (inClass hash mask c twins x) ys) e in
       or-neither (twins x y) (any (twins x) ys) (rw (eq-eqb c c refl) at g)
       (any-class x ys (λ q l. or-right (inClass hash mask q twins x y) (any (inClass hash mask q twins x) ys) (f q l)))
@@ -171,7 +171,7 @@ module _ {R : Type 0} (hash : R → ℕ) (twins : R → R → Bool) (mask : ℕ)
 -- every row is of the one class
 pub one-chosen : (v : Bool) (h : ℕ) → v ≡ chosenOf 0 0 v h
 unfolding chosenOf classOf
-one-chosen true h = sym (eq-eqb (bitAnd (h / 65536 % 65536) 0) 0 (omega (arith, and-le-r (h / 65536 % 65536) 0)))
+one-chosen true h = sym (eq-eqb (bitAnd (h % 65536) 0) 0 (omega (arith, and-le-r (h % 65536) 0)))
 one-chosen false h = refl
 
 pub all-class : {R : Type 0} (hash : R → ℕ) (twins : R → R → Bool) (rows : List R) → anyTwo (inClass hash 0 0 twins) rows ≡ false

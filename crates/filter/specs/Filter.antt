@@ -13,7 +13,7 @@ unfoldable pub quadOf : ℕ → ℕ → ℕ → ℕ → ℕ
 quadOf a b c d = a + b * 256 + c * 65536 + d * 16777216
 
 unfoldable pub spreadOf : ℕ → ℕ → ℕ
-spreadOf a b = bitXor (a * 2654435761) (b * 2246822519)
+spreadOf a b = bitXor (a * 2654435769) (b * 2246822519)
 
 unfoldable pub mixOf : ℕ → ℕ → ℕ → ℕ → ℕ → ℕ
 mixOf k a b c d = spreadOf (bitXor (bitXor a d) k) (bitXor b c)
@@ -28,7 +28,7 @@ hashAddress k d =
     (quadOf (getD d 8 0) (getD d 9 0) (getD d 10 0) (getD d 11 0)) (quadOf (getD d 12 0) (getD d 13 0) (getD d 14 0) (getD d 15 0))
 
 unfoldable pub hashRow : InstanceRow → ℕ
-hashRow r = finishOf (hashAddress (r .kind * 256 + r .instance) (r .dodagid))
+hashRow r = finishOf (hashAddress (r .kind + r .instance * 256) (r .dodagid))
 
 unfoldable pub hashRoute : RouteRow → ℕ
 hashRoute r = finishOf (bitXor (hashAddress (r .instance) (r .source)) (hashAddress 0 (r .destination) / 2048))
@@ -36,18 +36,18 @@ hashRoute r = finishOf (bitXor (hashAddress (r .instance) (r .source)) (hashAddr
 -- ---- the words
 
 unfoldable pub fewSlotOf : ℕ → ℕ
-fewSlotOf h = h / 35184372088832 % 64
+fewSlotOf h = h % 4294967296 / 67108864
 
 unfoldable pub slotOf : ℕ → ℕ
-slotOf h = h / 16777216 % 4294967296 * 3 / 8388608
+slotOf h = h % 4294967296 * 3 / 8388608
 
 abbrev pub bitAt : ℕ → ℕ
 bitAt k = 1 * 2 ^ k % 18446744073709551616
 
 unfoldable pub bitsOf : ℕ → ℕ
 bitsOf h =
-    bitOr (bitOr (bitOr (bitOr (bitAt (h / 549755813888 % 64)) (bitAt (h / 8589934592 % 64))) (bitAt (h / 134217728 % 64)))
-    (bitAt (h / 72057594037927936 % 64))) (bitAt (h / 2097152 % 64))
+    bitOr (bitOr (bitOr (bitOr (bitAt (h / 4294967296 % 64)) (bitAt (h / 274877906944 % 64))) (bitAt (h / 17592186044416 % 64)))
+    (bitAt (h / 1125899906842624 % 64))) (bitAt (h / 16384 % 64))
 
 unfoldable pub hasBits : ℕ → ℕ → Bool
 hasBits w h = eqb (bitOr w (bitsOf h)) w
@@ -61,7 +61,7 @@ markedOf on w h = cond on (bitOr w (bitsOf h)) w
 -- ---- the passes
 
 unfoldable pub classOf : ℕ → ℕ → ℕ
-classOf mask h = bitAnd (h / 65536 % 65536) mask
+classOf mask h = bitAnd (h % 65536) mask
 
 -- a row is looked at in a pass where it is live and its hash is of the pass's class
 unfoldable pub chosenOf : ℕ → ℕ → Bool → ℕ → Bool

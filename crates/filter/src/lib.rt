@@ -17,7 +17,7 @@ fn quad(a: u8, b: u8, c: u8, d: u8) -> u32
 fn spread(a: u32, b: u32) -> u64
     ensures { λ r. ⌜ r ≡ spreadOf a b ⌝ }
 {
-    a as u64 * 2654435761 ^ b as u64 * 2246822519
+    a as u64 * 2654435769 ^ b as u64 * 2246822519
 }
 
 // The words are first put together in pairs, since products cost most. In most addresses one word of a pair is part of a prefix that all
@@ -46,9 +46,9 @@ fn hash_address(k: u16, d: [u8; 16]) -> u64
 }
 
 fn pair(a: u8, b: u8) -> u16
-    ensures { λ r. ⌜ r ≡ a * 256 + b ⌝ }
+    ensures { λ r. ⌜ r ≡ a + b * 256 ⌝ }
 {
-    a as u16 * 256 + b as u16
+    a as u16 + b as u16 * 256
 }
 
 pub fn hash_row(r: InstanceRow) -> u64
@@ -70,31 +70,31 @@ pub fn hash_route(r: RouteRow) -> u64
     finish(x ^ y / 2048)
 }
 
-// ---- the filter: 64 or 1,536 words, in each of which a hash has five bits
+// ---- the filter: 64 or 1,536 words. The high end of the hash's low half tells the word, other parts of the hash five bits of it.
 
 pub fn few_slot_of(h: u64) -> usize
     ensures { λ r. ⌜ r ≡ fewSlotOf h ⌝ }
     ensures { λ r. ⌜ r < 64 ⌝ }
 {
-    (h / 35184372088832 % 64) as usize
+    (h % 4294967296 / 67108864) as usize
 }
 
-// 1,536 times the part of 2^32 that 32 bits of the hash are: a remainder by 1,536 would cost more.
+// 1,536 times the part of 2^32 that the low half of the hash is: a remainder by 1,536 would cost more.
 pub fn slot_of(h: u64) -> usize
     ensures { λ r. ⌜ r ≡ slotOf h ⌝ }
     ensures { λ r. ⌜ r < 1536 ⌝ }
 {
-    (h / 16777216 % 4294967296 * 3 / 8388608) as usize
+    (h % 4294967296 * 3 / 8388608) as usize
 }
 
 fn bits_of(h: u64) -> u64
     ensures { λ r. ⌜ r ≡ bitsOf h ⌝ }
 {
-    1 << (h / 549755813888 % 64)
-        | 1 << (h / 8589934592 % 64)
-        | 1 << (h / 134217728 % 64)
-        | 1 << (h / 72057594037927936 % 64)
-        | 1 << (h / 2097152 % 64)
+    1 << (h / 4294967296 % 64)
+        | 1 << (h / 274877906944 % 64)
+        | 1 << (h / 17592186044416 % 64)
+        | 1 << (h / 1125899906842624 % 64)
+        | 1 << (h / 16384 % 64)
 }
 
 // Whether an earlier row may have the key: all five bits are set.
@@ -121,7 +121,7 @@ pub fn marked(on: bool, w: u64, h: u64) -> u64
 fn class_of(mask: u64, h: u64) -> u64
     ensures { λ r. ⌜ r ≡ classOf mask h ⌝ }
 {
-    h / 65536 % 65536 & mask
+    h % 65536 & mask
 }
 
 // A live row of the pass's class.
