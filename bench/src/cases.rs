@@ -103,11 +103,17 @@ pub struct Case {
     pub event: Event,
 }
 
-pub fn all() -> Vec<Case> {
+/// So many tables are drawn for a point. In a long table it is luck how many rows
+/// our filter cannot tell from an earlier one.
+const DRAWS: u64 = 5;
+
+/// Every kind at every number of rows, each over some tables.
+pub fn all() -> Vec<Vec<Case>> {
     let points = KINDS
         .into_iter()
         .flat_map(|kind| SIZES.map(|rows| (kind, rows)));
-    points.map(|(kind, rows)| case(kind, rows)).collect()
+    let draws = |(kind, rows)| (0..DRAWS).map(|draw| case(kind, rows, draw)).collect();
+    points.map(draws).collect()
 }
 
 /// OrigNode of the message; TargNode of a reply; others on the way.
@@ -119,8 +125,8 @@ struct World {
     others: [Address; 6],
 }
 
-fn case(kind: Kind, rows: usize) -> Case {
-    let random = &mut Random(rows as u64);
+fn case(kind: Kind, rows: usize, draw: u64) -> Case {
+    let random = &mut Random((draw << 32) + rows as u64);
     let world = World {
         receiving: random.address(),
         orig: random.address(),

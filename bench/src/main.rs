@@ -21,7 +21,7 @@ fn main() {
     match words[..] {
         ["write", archive, folder] => write(archive, PathBuf::from(folder)),
         ["print", kind, rows] => print(kind, rows),
-        ["stack"] => print!("{}", report::depths(&stack::deepest(&cases::all()))),
+        ["stack"] => print!("{}", report::depths(&stack::deepest(&flat(cases::all())))),
         ["ours", kind, rows, calls] | ["second", kind, rows, calls] => {
             repeat(words[0] == "ours", kind, rows, calls)
         }
@@ -34,8 +34,9 @@ fn main() {
 
 /// The whole table, to FOLDER.
 fn write(archive: &str, folder: PathBuf) {
-    let points: Vec<_> = cases::all().iter().map(measure::point).collect();
-    let stacks = stack::deepest(&cases::all());
+    let cases = cases::all();
+    let points: Vec<_> = cases.iter().map(|draws| measure::point(draws)).collect();
+    let stacks = stack::deepest(&flat(cases));
     let text = report::text(&points, &stacks, &machine::describe(), archive);
     print!("{text}");
     fs::write(folder.join("BENCHMARKS.md"), text).expect("BENCHMARKS.md");
@@ -45,18 +46,23 @@ fn write(archive: &str, folder: PathBuf) {
 /// A part of the table: "all" is every kind, 0 every number of rows.
 fn print(kind: &str, rows: &str) {
     let rows: usize = rows.parse().expect("ROWS");
-    for case in cases::all() {
+    for draws in cases::all() {
+        let case = &draws[0];
         if (kind == "all" || kind == case.kind.tag()) && (rows == 0 || rows == case.rows) {
-            println!("{}", report::line(&measure::point(&case)));
+            println!("{}", report::line(&measure::point(&draws)));
         }
     }
+}
+
+fn flat(draws: Vec<Vec<cases::Case>>) -> Vec<cases::Case> {
+    draws.into_iter().flatten().collect()
 }
 
 /// One program alone, for a profiler.
 fn repeat(is_ours: bool, kind: &str, rows: &str, calls: &str) {
     let rows: usize = rows.parse().expect("ROWS");
     let calls: usize = calls.parse().expect("CALLS");
-    let case = cases::all()
+    let case = flat(cases::all())
         .into_iter()
         .find(|case| case.kind.tag() == kind && case.rows == rows)
         .expect("no such case");

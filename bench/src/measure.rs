@@ -16,7 +16,7 @@ pub trait Node {
     fn undo(&mut self);
 }
 
-/// Least times of a call, in ns.
+/// Least times of a call, in ns: means over the tables.
 pub struct Point {
     pub kind: Kind,
     pub rows: usize,
@@ -32,23 +32,30 @@ impl Point {
 
 /// A round is this long, so that a switch to another process spoils few.
 const ROUND: Duration = Duration::from_micros(400);
-const ROUNDS: usize = 500;
+const ROUNDS: usize = 200;
 
-pub fn point(case: &Case) -> Point {
+pub fn point(draws: &[Case]) -> Point {
+    let times: Vec<_> = draws.iter().map(least).collect();
+    let mean = |sum: f64| sum / draws.len() as f64;
+    Point {
+        kind: draws[0].kind,
+        rows: draws[0].rows,
+        ours: mean(times.iter().map(|time| time.0).sum()),
+        second: mean(times.iter().map(|time| time.1).sum()),
+    }
+}
+
+/// Our least time over one table, and the second program's.
+fn least(case: &Case) -> (f64, f64) {
     check(case);
     let (ours, second) = (&mut Ours::new(case), &mut Second::new(case));
     let (many, many_second) = (calls_of(ours), calls_of(second));
-    let mut point = Point {
-        kind: case.kind,
-        rows: case.rows,
-        ours: f64::MAX,
-        second: f64::MAX,
-    };
+    let mut least = (f64::MAX, f64::MAX);
     for _ in 0..ROUNDS {
-        point.ours = point.ours.min(round(ours, many));
-        point.second = point.second.min(round(second, many_second));
+        least.0 = least.0.min(round(ours, many));
+        least.1 = least.1.min(round(second, many_second));
     }
-    point
+    least
 }
 
 /// How many calls fill a round.
