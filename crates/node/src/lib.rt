@@ -165,9 +165,9 @@ pub fn take_request(
     if answer::number(answer) != 0 {
         return finish::refused(answer, clock, seq);
     }
-    let d = request_accepted::accepted(o, seq, t, k, *p, a);
-    let there = request_accepted::forward_post(k, *p, a);
-    let back = request_accepted::reply_post(o, k, *p, a, seq);
+    let d = request_stored::accepted(o, seq, t, k, *p, a);
+    let there = request_sent::forward_post(k, *p, a);
+    let back = request_sent::reply_post(o, k, *p, a, seq);
     let l = live_of(f, g);
     finish::finish(
         instances,

@@ -33,7 +33,6 @@ use borrow.Fn.Function
 use borrow.Fn.Kinds
 use borrow.Fn.Plain
 use borrow.Kind.Array
-use borrow.Kind.Bool
 use borrow.Kind.MutSlice
 use borrow.Kind.Num
 use borrow.Kind.ShrRef
@@ -219,8 +218,6 @@ xs =
     (Syntax.tcons
     (Syntax.tyInt Syntax.w64)
     (Syntax.tcons (KRouteRow.spelled) Syntax.tnil))))
-    (List._∷_
-    Syntax.tyBool
     (List._∷_
     (Syntax.tyStruct
     (List._∷_
@@ -617,7 +614,7 @@ xs =
     (Syntax.tyRef Syntax.erased Syntax.imm (KPost.named))
     (List._∷_
     (Syntax.tyRef Syntax.erased Syntax.imm (KPost.named))
-    List.[])))))))))))))))))))))))))))))))))))
+    List.[]))))))))))))))))))))))))))))))))))
 
 abbrev pub m : Nat.ℕ
 m = 10
@@ -722,41 +719,18 @@ r·5 = Value.rVal record {
   of-mem = Local.whole-mem 𝓤 H A W (Declared'.row FoundRoute.the-type);
 }
 
-abbrev pub ps·6 : List.List (Kinds.PK 0)
-ps·6 = List._∷_ (Value.pVal record {
-  ty = Declared'.row Own.the-type;
-  one = Path'.refl;
-  val = Laws'10.val Own.the-type Laws'7.the-laws;
-  tells = Laws'10.tells Own.the-type Laws'7.the-laws;
-  still = Laws'10.still Own.the-type Laws'7.the-copy Exit.yes;
-  row = Rows'.whole (Declared'.row Own.the-type);
-  rd = λ x. x;
-  mk = λ x. x;
-} λ M 𝓤 H A W. record {
-  copies = Laws'10.copy Own.the-type Laws'7.the-copy 𝓤 H A W;
-  lawful = Laws'10.lawful Own.the-type Laws'7.the-laws 𝓤 H A W;
-  makes = Laws'10.makes Own.the-type Laws'7.the-plain 𝓤 H A;
-  in-mem = Local.mem-whole 𝓤 H A W (Declared'.row Own.the-type);
-  of-mem = Local.whole-mem 𝓤 H A W (Declared'.row Own.the-type);
-}) (List._∷_ (KParsed.pk) List.[])
-
-abbrev pub r·6 : Kinds.RK 0
-r·6 = Bool.rBool
-
-abbrev pub ps·7 : List.List (Kinds.PK 1)
-ps·7 =
+abbrev pub ps·6 : List.List (Kinds.PK 1)
+ps·6 =
     List._∷_
-    Bool.pBool
-    (List._∷_
     (ShrSlice.pShrS (KInstanceRow.R) 0 tt)
     (List._∷_
     (Num.pNum Syntax.w64)
     (List._∷_
     (Num.pNum Syntax.w8)
-    (List._∷_ (Array.pArr (Array.eInt Syntax.w8) (Array.eInt-laws Syntax.w8) 16) List.[]))))
+    (List._∷_ (Array.pArr (Array.eInt Syntax.w8) (Array.eInt-laws Syntax.w8) 16) List.[])))
 
-abbrev pub r·7 : Kinds.RK 1
-r·7 = Value.rVal record {
+abbrev pub r·6 : Kinds.RK 1
+r·6 = Value.rVal record {
   ty = Declared'.row FreeDelta.the-type;
   one = Path'.refl;
   val = Laws'10.val FreeDelta.the-type Laws'5.the-laws;
@@ -773,8 +747,8 @@ r·7 = Value.rVal record {
   of-mem = Local.whole-mem 𝓤 H A W (Declared'.row FreeDelta.the-type);
 }
 
-abbrev pub ps·8 : List.List (Kinds.PK 0)
-ps·8 = List._∷_ (Value.pVal record {
+abbrev pub ps·7 : List.List (Kinds.PK 0)
+ps·7 = List._∷_ (Value.pVal record {
   ty = Declared'.row Own.the-type;
   one = Path'.refl;
   val = Laws'10.val Own.the-type Laws'7.the-laws;
@@ -807,7 +781,7 @@ ps·8 = List._∷_ (Value.pVal record {
 })
     (List._∷_
     (KParsed.pk)
-    (List._∷_ Bool.pBool (List._∷_ (Value.pVal record {
+    (List._∷_ (Value.pVal record {
       ty = Declared'.row Found.the-type;
       one = Path'.refl;
       val = Laws'10.val Found.the-type Laws'3.the-laws;
@@ -852,10 +826,10 @@ ps·8 = List._∷_ (Value.pVal record {
       makes = Laws'10.makes FreeDelta.the-type Laws'5.the-plain 𝓤 H A;
       in-mem = Local.mem-whole 𝓤 H A W (Declared'.row FreeDelta.the-type);
       of-mem = Local.whole-mem 𝓤 H A W (Declared'.row FreeDelta.the-type);
-    }) List.[]))))))
+    }) List.[])))))
 
-abbrev pub r·8 : Kinds.RK 0
-r·8 = Value.rVal record {
+abbrev pub r·7 : Kinds.RK 0
+r·7 = Value.rVal record {
   ty = Declared'.row RequestFacts.the-type;
   one = Path'.refl;
   val = Laws'10.val RequestFacts.the-type Laws'8.the-laws;
@@ -872,8 +846,8 @@ r·8 = Value.rVal record {
   of-mem = Local.whole-mem 𝓤 H A W (Declared'.row RequestFacts.the-type);
 }
 
-abbrev pub ps·9 : List.List (Kinds.PK 1)
-ps·9 = List._∷_ (Value.pVal record {
+abbrev pub ps·8 : List.List (Kinds.PK 1)
+ps·8 = List._∷_ (Value.pVal record {
   ty = Declared'.row Own.the-type;
   one = Path'.refl;
   val = Laws'10.val Own.the-type Laws'7.the-laws;
@@ -925,8 +899,8 @@ ps·9 = List._∷_ (Value.pVal record {
       of-mem = Local.whole-mem 𝓤 H A W (Declared'.row RequestFacts.the-type);
     }) List.[]))))
 
-abbrev pub r·9 : Kinds.RK 1
-r·9 = Value.rVal record {
+abbrev pub r·8 : Kinds.RK 1
+r·8 = Value.rVal record {
   ty = Declared.row Answer.the-type;
   one = Path'.refl;
   val = Laws'9.val Answer.the-type Laws.the-laws;
@@ -942,6 +916,27 @@ r·9 = Value.rVal record {
   in-mem = Local.mem-whole 𝓤 H A W (Declared.row Answer.the-type);
   of-mem = Local.whole-mem 𝓤 H A W (Declared.row Answer.the-type);
 }
+
+abbrev pub ps·9 : List.List (Kinds.PK 0)
+ps·9 = List._∷_ (Value.pVal record {
+  ty = Declared.row Answer.the-type;
+  one = Path'.refl;
+  val = Laws'9.val Answer.the-type Laws.the-laws;
+  tells = Laws'9.tells Answer.the-type Laws.the-laws;
+  still = Laws'9.still Answer.the-type Laws.the-copy Exit.yes;
+  row = Rows'.whole (Declared.row Answer.the-type);
+  rd = λ x. x;
+  mk = λ x. x;
+} λ M 𝓤 H A W. record {
+  copies = Laws'9.copy Answer.the-type Laws.the-copy 𝓤 H A W;
+  lawful = Laws'9.lawful Answer.the-type Laws.the-laws 𝓤 H A W tt;
+  makes = Laws'9.makes Answer.the-type Laws.the-plain 𝓤 H A;
+  in-mem = Local.mem-whole 𝓤 H A W (Declared.row Answer.the-type);
+  of-mem = Local.whole-mem 𝓤 H A W (Declared.row Answer.the-type);
+}) List.[]
+
+abbrev pub r·9 : Kinds.RK 0
+r·9 = Num.rNum Syntax.w8
 
 abbrev pub ps·10 : List.List (Kinds.PK 0)
 ps·10 = List._∷_ (Value.pVal record {
@@ -959,31 +954,10 @@ ps·10 = List._∷_ (Value.pVal record {
   makes = Laws'9.makes Answer.the-type Laws.the-plain 𝓤 H A;
   in-mem = Local.mem-whole 𝓤 H A W (Declared.row Answer.the-type);
   of-mem = Local.whole-mem 𝓤 H A W (Declared.row Answer.the-type);
-}) List.[]
-
-abbrev pub r·10 : Kinds.RK 0
-r·10 = Num.rNum Syntax.w8
-
-abbrev pub ps·11 : List.List (Kinds.PK 0)
-ps·11 = List._∷_ (Value.pVal record {
-  ty = Declared.row Answer.the-type;
-  one = Path'.refl;
-  val = Laws'9.val Answer.the-type Laws.the-laws;
-  tells = Laws'9.tells Answer.the-type Laws.the-laws;
-  still = Laws'9.still Answer.the-type Laws.the-copy Exit.yes;
-  row = Rows'.whole (Declared.row Answer.the-type);
-  rd = λ x. x;
-  mk = λ x. x;
-} λ M 𝓤 H A W. record {
-  copies = Laws'9.copy Answer.the-type Laws.the-copy 𝓤 H A W;
-  lawful = Laws'9.lawful Answer.the-type Laws.the-laws 𝓤 H A W tt;
-  makes = Laws'9.makes Answer.the-type Laws.the-plain 𝓤 H A;
-  in-mem = Local.mem-whole 𝓤 H A W (Declared.row Answer.the-type);
-  of-mem = Local.whole-mem 𝓤 H A W (Declared.row Answer.the-type);
 }) (List._∷_ (Num.pNum Syntax.w64) (List._∷_ (Num.pNum Syntax.w8) List.[]))
 
-abbrev pub r·11 : Kinds.RK 0
-r·11 = Value.rVal record {
+abbrev pub r·10 : Kinds.RK 0
+r·10 = Value.rVal record {
   ty = Declared'.row Outcome.the-type;
   one = Path'.refl;
   val = Laws'10.val Outcome.the-type Laws''.the-laws;
@@ -1000,8 +974,8 @@ r·11 = Value.rVal record {
   of-mem = Local.whole-mem 𝓤 H A W (Declared'.row Outcome.the-type);
 }
 
-abbrev pub ps·12 : List.List (Kinds.PK 0)
-ps·12 = List._∷_ (Value.pVal record {
+abbrev pub ps·11 : List.List (Kinds.PK 0)
+ps·11 = List._∷_ (Value.pVal record {
   ty = Declared'.row Own.the-type;
   one = Path'.refl;
   val = Laws'10.val Own.the-type Laws'7.the-laws;
@@ -1051,11 +1025,11 @@ ps·12 = List._∷_ (Value.pVal record {
       of-mem = Local.whole-mem 𝓤 H A W (Declared'.row RequestFacts.the-type);
     }) List.[])))))
 
-abbrev pub r·12 : Kinds.RK 0
-r·12 = KDecided.rk
+abbrev pub r·11 : Kinds.RK 0
+r·11 = KDecided.rk
 
-abbrev pub ps·13 : List.List (Kinds.PK 0)
-ps·13 = List._∷_ (Value.pVal record {
+abbrev pub ps·12 : List.List (Kinds.PK 0)
+ps·12 = List._∷_ (Value.pVal record {
   ty = Declared'.row Link.the-type;
   one = Path'.refl;
   val = Laws'10.val Link.the-type Laws'6.the-laws;
@@ -1090,11 +1064,11 @@ ps·13 = List._∷_ (Value.pVal record {
       of-mem = Local.whole-mem 𝓤 H A W (Declared'.row RequestFacts.the-type);
     }) List.[]))
 
-abbrev pub r·13 : Kinds.RK 0
-r·13 = KPost.rk
+abbrev pub r·12 : Kinds.RK 0
+r·12 = KPost.rk
 
-abbrev pub ps·14 : List.List (Kinds.PK 0)
-ps·14 = List._∷_ (Value.pVal record {
+abbrev pub ps·13 : List.List (Kinds.PK 0)
+ps·13 = List._∷_ (Value.pVal record {
   ty = Declared'.row Own.the-type;
   one = Path'.refl;
   val = Laws'10.val Own.the-type Laws'7.the-laws;
@@ -1144,11 +1118,11 @@ ps·14 = List._∷_ (Value.pVal record {
       of-mem = Local.whole-mem 𝓤 H A W (Declared'.row RequestFacts.the-type);
     }) (List._∷_ (Num.pNum Syntax.w8) List.[]))))
 
-abbrev pub r·14 : Kinds.RK 0
-r·14 = KPost.rk
+abbrev pub r·13 : Kinds.RK 0
+r·13 = KPost.rk
 
-abbrev pub ps·15 : List.List (Kinds.PK 0)
-ps·15 = List._∷_ (Value.pVal record {
+abbrev pub ps·14 : List.List (Kinds.PK 0)
+ps·14 = List._∷_ (Value.pVal record {
   ty = Declared'.row Found.the-type;
   one = Path'.refl;
   val = Laws'10.val Found.the-type Laws'3.the-laws;
@@ -1180,8 +1154,8 @@ ps·15 = List._∷_ (Value.pVal record {
   of-mem = Local.whole-mem 𝓤 H A W (Declared'.row FoundRoute.the-type);
 }) List.[])
 
-abbrev pub r·15 : Kinds.RK 0
-r·15 = Value.rVal record {
+abbrev pub r·14 : Kinds.RK 0
+r·14 = Value.rVal record {
   ty = Declared'.row Live.the-type;
   one = Path'.refl;
   val = Laws'10.val Live.the-type Laws'.the-laws;
@@ -1198,8 +1172,8 @@ r·15 = Value.rVal record {
   of-mem = Local.whole-mem 𝓤 H A W (Declared'.row Live.the-type);
 }
 
-abbrev pub ps·16 : List.List (Kinds.PK 8)
-ps·16 =
+abbrev pub ps·15 : List.List (Kinds.PK 8)
+ps·15 =
     List._∷_
     (MutSlice.pMutS (KInstanceRow.R) 0 tt)
     (List._∷_
@@ -1255,8 +1229,8 @@ ps·16 =
       of-mem = Local.whole-mem 𝓤 H A W (Declared'.row Live.the-type);
     }) List.[]))))))))))))
 
-abbrev pub r·16 : Kinds.RK 8
-r·16 = Value.rVal record {
+abbrev pub r·15 : Kinds.RK 8
+r·15 = Value.rVal record {
   ty = Declared'.row Outcome.the-type;
   one = Path'.refl;
   val = Laws'10.val Outcome.the-type Laws''.the-laws;
@@ -1316,8 +1290,6 @@ hs =
     (List._∷_
     Syntax.valueLocal
     (List._∷_
-    Syntax.valueLocal
-    (List._∷_
     Syntax.memorySlot
     (List._∷_
     Syntax.memorySlot
@@ -1369,19 +1341,19 @@ hs =
     Syntax.valueLocal
     (List._∷_
     Syntax.valueLocal
-    (List._∷_ Syntax.valueLocal List.[])))))))))))))))))))))))))))))))))))))))))))))))
+    (List._∷_ Syntax.valueLocal List.[]))))))))))))))))))))))))))))))))))))))))))))))
 
 abbrev b0 : Syntax.Body
 b0 =
     Syntax.call
     "own::whole"
     (List._∷_ (Syntax.copy (Syntax.place 11 List.[])) List.[])
-    (Syntax.place 25 List.[])
+    (Syntax.place 24 List.[])
 
 abbrev b1 : Syntax.Body
 b1 =
     Syntax.assign
-    (Syntax.place 26 List.[])
+    (Syntax.place 25 List.[])
     (Syntax.rvOpd
     (Syntax.copy
     (Syntax.place
@@ -1392,13 +1364,13 @@ abbrev b2 : Syntax.Body
 b2 =
     Syntax.call
     "node::instance_of"
-    (List._∷_ (Syntax.copy (Syntax.place 26 List.[])) List.[])
+    (List._∷_ (Syntax.copy (Syntax.place 25 List.[])) List.[])
     (Syntax.place 12 List.[])
 
 abbrev b3 : Syntax.Body
 b3 =
     Syntax.assign
-    (Syntax.place 26 List.[])
+    (Syntax.place 25 List.[])
     (Syntax.rvOpd
     (Syntax.copy
     (Syntax.place
@@ -1409,7 +1381,7 @@ abbrev b4 : Syntax.Body
 b4 =
     Syntax.call
     "node::dodagid_of"
-    (List._∷_ (Syntax.copy (Syntax.place 26 List.[])) List.[])
+    (List._∷_ (Syntax.copy (Syntax.place 25 List.[])) List.[])
     (Syntax.place 13 List.[])
 
 abbrev b5 : Syntax.Body
@@ -1422,7 +1394,7 @@ b5 =
 abbrev b6 : Syntax.Body
 b6 =
     Syntax.assign
-    (Syntax.place 27 List.[])
+    (Syntax.place 26 List.[])
     (Syntax.addrOf
     (Syntax.place
     1
@@ -1433,10 +1405,10 @@ b6 =
 abbrev b7 : Syntax.Body
 b7 =
     Syntax.assign
-    (Syntax.place 28 List.[])
+    (Syntax.place 27 List.[])
     (Syntax.aggregate
     (List._∷_
-    (Syntax.copy (Syntax.place 27 List.[]))
+    (Syntax.copy (Syntax.place 26 List.[]))
     (List._∷_ (Syntax.copy (Syntax.place 1 (List._∷_ (Syntax.field 1) List.[]))) List.[])))
 
 abbrev b8 : Syntax.Body
@@ -1444,7 +1416,7 @@ b8 =
     Syntax.call
     "search::search_request"
     (List._∷_
-    (Syntax.copy (Syntax.place 28 List.[]))
+    (Syntax.copy (Syntax.place 27 List.[]))
     (List._∷_
     (Syntax.copy (Syntax.place 8 List.[]))
     (List._∷_
@@ -1455,7 +1427,7 @@ b8 =
 abbrev b9 : Syntax.Body
 b9 =
     Syntax.assign
-    (Syntax.place 29 List.[])
+    (Syntax.place 28 List.[])
     (Syntax.addrOf
     (Syntax.place
     2
@@ -1466,10 +1438,10 @@ b9 =
 abbrev b10 : Syntax.Body
 b10 =
     Syntax.assign
-    (Syntax.place 30 List.[])
+    (Syntax.place 29 List.[])
     (Syntax.aggregate
     (List._∷_
-    (Syntax.copy (Syntax.place 29 List.[]))
+    (Syntax.copy (Syntax.place 28 List.[]))
     (List._∷_ (Syntax.copy (Syntax.place 2 (List._∷_ (Syntax.field 1) List.[]))) List.[])))
 
 abbrev b11 : Syntax.Body
@@ -1477,7 +1449,7 @@ b11 =
     Syntax.call
     "search::search_route"
     (List._∷_
-    (Syntax.copy (Syntax.place 30 List.[]))
+    (Syntax.copy (Syntax.place 29 List.[]))
     (List._∷_
     (Syntax.copy (Syntax.place 8 List.[]))
     (List._∷_
@@ -1490,26 +1462,7 @@ b11 =
 abbrev b12 : Syntax.Body
 b12 =
     Syntax.assign
-    (Syntax.place 26 List.[])
-    (Syntax.rvOpd
-    (Syntax.copy
-    (Syntax.place
-    10
-    (List._∷_ (Syntax.deref (KParsed.spelled)) List.[]))))
-
-abbrev b13 : Syntax.Body
-b13 =
-    Syntax.call
-    "request::is_targ_node"
-    (List._∷_
-    (Syntax.copy (Syntax.place 5 List.[]))
-    (List._∷_ (Syntax.copy (Syntax.place 26 List.[])) List.[]))
-    (Syntax.place 17 List.[])
-
-abbrev b14 : Syntax.Body
-b14 =
-    Syntax.assign
-    (Syntax.place 31 List.[])
+    (Syntax.place 30 List.[])
     (Syntax.addrOf
     (Syntax.place
     1
@@ -1517,34 +1470,59 @@ b14 =
     (Syntax.field 0)
     (List._∷_ (Syntax.deref (KInstanceRow.spelled)) List.[]))))
 
-abbrev b15 : Syntax.Body
-b15 =
+abbrev b13 : Syntax.Body
+b13 =
     Syntax.assign
-    (Syntax.place 32 List.[])
+    (Syntax.place 31 List.[])
     (Syntax.aggregate
     (List._∷_
-    (Syntax.copy (Syntax.place 31 List.[]))
+    (Syntax.copy (Syntax.place 30 List.[]))
     (List._∷_ (Syntax.copy (Syntax.place 1 (List._∷_ (Syntax.field 1) List.[]))) List.[])))
 
-abbrev b16 : Syntax.Body
-b16 =
+abbrev b14 : Syntax.Body
+b14 =
     Syntax.call
-    "search::free_delta_if"
+    "search::free_delta"
     (List._∷_
-    (Syntax.copy (Syntax.place 17 List.[]))
-    (List._∷_
-    (Syntax.copy (Syntax.place 32 List.[]))
+    (Syntax.copy (Syntax.place 31 List.[]))
     (List._∷_
     (Syntax.copy (Syntax.place 8 List.[]))
     (List._∷_
     (Syntax.copy (Syntax.place 12 List.[]))
-    (List._∷_ (Syntax.copy (Syntax.place 14 List.[])) List.[])))))
+    (List._∷_ (Syntax.copy (Syntax.place 14 List.[])) List.[]))))
+    (Syntax.place 17 List.[])
+
+abbrev b15 : Syntax.Body
+b15 =
+    Syntax.assign
+    (Syntax.place 25 List.[])
+    (Syntax.rvOpd
+    (Syntax.copy
+    (Syntax.place
+    10
+    (List._∷_ (Syntax.deref (KParsed.spelled)) List.[]))))
+
+abbrev b16 : Syntax.Body
+b16 =
+    Syntax.call
+    "request::gather"
+    (List._∷_
+    (Syntax.copy (Syntax.place 5 List.[]))
+    (List._∷_
+    (Syntax.copy (Syntax.place 9 List.[]))
+    (List._∷_
+    (Syntax.copy (Syntax.place 25 List.[]))
+    (List._∷_
+    (Syntax.copy (Syntax.place 15 List.[]))
+    (List._∷_
+    (Syntax.copy (Syntax.place 16 List.[]))
+    (List._∷_ (Syntax.copy (Syntax.place 17 List.[])) List.[]))))))
     (Syntax.place 18 List.[])
 
 abbrev b17 : Syntax.Body
 b17 =
     Syntax.assign
-    (Syntax.place 26 List.[])
+    (Syntax.place 25 List.[])
     (Syntax.rvOpd
     (Syntax.copy
     (Syntax.place
@@ -1554,97 +1532,68 @@ b17 =
 abbrev b18 : Syntax.Body
 b18 =
     Syntax.call
-    "request::gather"
-    (List._∷_
-    (Syntax.copy (Syntax.place 5 List.[]))
-    (List._∷_
-    (Syntax.copy (Syntax.place 9 List.[]))
-    (List._∷_
-    (Syntax.copy (Syntax.place 26 List.[]))
-    (List._∷_
-    (Syntax.copy (Syntax.place 17 List.[]))
-    (List._∷_
-    (Syntax.copy (Syntax.place 15 List.[]))
-    (List._∷_
-    (Syntax.copy (Syntax.place 16 List.[]))
-    (List._∷_ (Syntax.copy (Syntax.place 18 List.[])) List.[])))))))
-    (Syntax.place 19 List.[])
-
-abbrev b19 : Syntax.Body
-b19 =
-    Syntax.assign
-    (Syntax.place 26 List.[])
-    (Syntax.rvOpd
-    (Syntax.copy
-    (Syntax.place
-    10
-    (List._∷_ (Syntax.deref (KParsed.spelled)) List.[]))))
-
-abbrev b20 : Syntax.Body
-b20 =
-    Syntax.call
     "request::judge"
     (List._∷_
     (Syntax.copy (Syntax.place 5 List.[]))
     (List._∷_
     (Syntax.copy (Syntax.place 9 List.[]))
     (List._∷_
-    (Syntax.copy (Syntax.place 26 List.[]))
+    (Syntax.copy (Syntax.place 25 List.[]))
     (List._∷_
     (Syntax.copy (Syntax.place 11 List.[]))
-    (List._∷_ (Syntax.copy (Syntax.place 19 List.[])) List.[])))))
-    (Syntax.place 20 List.[])
+    (List._∷_ (Syntax.copy (Syntax.place 18 List.[])) List.[])))))
+    (Syntax.place 19 List.[])
+
+abbrev b19 : Syntax.Body
+b19 =
+    Syntax.call
+    "answer::number"
+    (List._∷_ (Syntax.copy (Syntax.place 19 List.[])) List.[])
+    (Syntax.place 32 List.[])
+
+abbrev b20 : Syntax.Body
+b20 =
+    Syntax.assign
+    (Syntax.place 33 List.[])
+    (Syntax.op2 Syntax.ne (Syntax.copy (Syntax.place 32 List.[])) (Syntax.int Syntax.w8 0))
 
 abbrev b21 : Syntax.Body
 b21 =
     Syntax.call
-    "answer::number"
-    (List._∷_ (Syntax.copy (Syntax.place 20 List.[])) List.[])
-    (Syntax.place 33 List.[])
-
-abbrev b22 : Syntax.Body
-b22 =
-    Syntax.assign
-    (Syntax.place 34 List.[])
-    (Syntax.op2 Syntax.ne (Syntax.copy (Syntax.place 33 List.[])) (Syntax.int Syntax.w8 0))
-
-abbrev b23 : Syntax.Body
-b23 =
-    Syntax.call
     "finish::refused"
     (List._∷_
-    (Syntax.copy (Syntax.place 20 List.[]))
+    (Syntax.copy (Syntax.place 19 List.[]))
     (List._∷_
     (Syntax.copy (Syntax.place 6 List.[]))
     (List._∷_ (Syntax.copy (Syntax.place 7 List.[])) List.[])))
     (Syntax.place 0 List.[])
 
+abbrev b22 : Syntax.Body
+b22 = Syntax.return
+
+abbrev b23 : Syntax.Body
+b23 = Syntax.seq b21 b22
+
 abbrev b24 : Syntax.Body
-b24 = Syntax.return
+b24 = Syntax.skip
 
 abbrev b25 : Syntax.Body
-b25 = Syntax.seq b23 b24
+b25 = Syntax.cond (Syntax.copy (Syntax.place 33 List.[])) b23 b24
 
 abbrev b26 : Syntax.Body
-b26 = Syntax.skip
-
-abbrev b27 : Syntax.Body
-b27 = Syntax.cond (Syntax.copy (Syntax.place 34 List.[])) b25 b26
-
-abbrev b28 : Syntax.Body
-b28 =
+b26 =
     Syntax.assign
-    (Syntax.place 26 List.[])
+    (Syntax.place 25 List.[])
     (Syntax.rvOpd
     (Syntax.copy
     (Syntax.place
     10
     (List._∷_ (Syntax.deref (KParsed.spelled)) List.[]))))
 
-abbrev b29 : Syntax.Body
-b29 =
+abbrev b27 : Syntax.Body
+b27 =
     Syntax.call
-    "request_accepted::accepted"
+    "request_stored::accepted"
     (List._∷_
     (Syntax.copy (Syntax.place 5 List.[]))
     (List._∷_
@@ -1654,81 +1603,81 @@ b29 =
     (List._∷_
     (Syntax.copy (Syntax.place 9 List.[]))
     (List._∷_
-    (Syntax.copy (Syntax.place 26 List.[]))
-    (List._∷_ (Syntax.copy (Syntax.place 19 List.[])) List.[]))))))
-    (Syntax.place 35 List.[])
+    (Syntax.copy (Syntax.place 25 List.[]))
+    (List._∷_ (Syntax.copy (Syntax.place 18 List.[])) List.[]))))))
+    (Syntax.place 34 List.[])
+
+abbrev b28 : Syntax.Body
+b28 =
+    Syntax.assign (Syntax.place 20 List.[]) (Syntax.rvOpd (Syntax.copy (Syntax.place 34 List.[])))
+
+abbrev b29 : Syntax.Body
+b29 =
+    Syntax.assign
+    (Syntax.place 25 List.[])
+    (Syntax.rvOpd
+    (Syntax.copy
+    (Syntax.place
+    10
+    (List._∷_ (Syntax.deref (KParsed.spelled)) List.[]))))
 
 abbrev b30 : Syntax.Body
 b30 =
-    Syntax.assign (Syntax.place 21 List.[]) (Syntax.rvOpd (Syntax.copy (Syntax.place 35 List.[])))
-
-abbrev b31 : Syntax.Body
-b31 =
-    Syntax.assign
-    (Syntax.place 26 List.[])
-    (Syntax.rvOpd
-    (Syntax.copy
-    (Syntax.place
-    10
-    (List._∷_ (Syntax.deref (KParsed.spelled)) List.[]))))
-
-abbrev b32 : Syntax.Body
-b32 =
     Syntax.call
-    "request_accepted::forward_post"
+    "request_sent::forward_post"
     (List._∷_
     (Syntax.copy (Syntax.place 9 List.[]))
     (List._∷_
-    (Syntax.copy (Syntax.place 26 List.[]))
-    (List._∷_ (Syntax.copy (Syntax.place 19 List.[])) List.[])))
-    (Syntax.place 36 List.[])
+    (Syntax.copy (Syntax.place 25 List.[]))
+    (List._∷_ (Syntax.copy (Syntax.place 18 List.[])) List.[])))
+    (Syntax.place 35 List.[])
 
-abbrev b33 : Syntax.Body
-b33 =
-    Syntax.assign (Syntax.place 22 List.[]) (Syntax.rvOpd (Syntax.copy (Syntax.place 36 List.[])))
+abbrev b31 : Syntax.Body
+b31 =
+    Syntax.assign (Syntax.place 21 List.[]) (Syntax.rvOpd (Syntax.copy (Syntax.place 35 List.[])))
 
-abbrev b34 : Syntax.Body
-b34 =
+abbrev b32 : Syntax.Body
+b32 =
     Syntax.assign
-    (Syntax.place 26 List.[])
+    (Syntax.place 25 List.[])
     (Syntax.rvOpd
     (Syntax.copy
     (Syntax.place
     10
     (List._∷_ (Syntax.deref (KParsed.spelled)) List.[]))))
 
-abbrev b35 : Syntax.Body
-b35 =
+abbrev b33 : Syntax.Body
+b33 =
     Syntax.call
-    "request_accepted::reply_post"
+    "request_sent::reply_post"
     (List._∷_
     (Syntax.copy (Syntax.place 5 List.[]))
     (List._∷_
     (Syntax.copy (Syntax.place 9 List.[]))
     (List._∷_
-    (Syntax.copy (Syntax.place 26 List.[]))
+    (Syntax.copy (Syntax.place 25 List.[]))
     (List._∷_
-    (Syntax.copy (Syntax.place 19 List.[]))
+    (Syntax.copy (Syntax.place 18 List.[]))
     (List._∷_ (Syntax.copy (Syntax.place 7 List.[])) List.[])))))
-    (Syntax.place 36 List.[])
+    (Syntax.place 35 List.[])
 
-abbrev b36 : Syntax.Body
-b36 =
-    Syntax.assign (Syntax.place 23 List.[]) (Syntax.rvOpd (Syntax.copy (Syntax.place 36 List.[])))
+abbrev b34 : Syntax.Body
+b34 =
+    Syntax.assign (Syntax.place 22 List.[]) (Syntax.rvOpd (Syntax.copy (Syntax.place 35 List.[])))
 
-abbrev b37 : Syntax.Body
-b37 =
+abbrev b35 : Syntax.Body
+b35 =
     Syntax.call
     "node::live_of"
     (List._∷_
     (Syntax.copy (Syntax.place 15 List.[]))
     (List._∷_ (Syntax.copy (Syntax.place 16 List.[])) List.[]))
-    (Syntax.place 24 List.[])
+    (Syntax.place 23 List.[])
 
-abbrev b38 : Syntax.Body
-b38 =
+abbrev b36 : Syntax.Body
+b36 =
     Syntax.assign
-    (Syntax.place 37 List.[])
+    (Syntax.place 36 List.[])
     (Syntax.addrOf
     (Syntax.place
     1
@@ -1736,19 +1685,19 @@ b38 =
     (Syntax.field 0)
     (List._∷_ (Syntax.deref (KInstanceRow.spelled)) List.[]))))
 
-abbrev b39 : Syntax.Body
-b39 =
+abbrev b37 : Syntax.Body
+b37 =
     Syntax.assign
-    (Syntax.place 38 List.[])
+    (Syntax.place 37 List.[])
     (Syntax.aggregate
     (List._∷_
-    (Syntax.copy (Syntax.place 37 List.[]))
+    (Syntax.copy (Syntax.place 36 List.[]))
     (List._∷_ (Syntax.copy (Syntax.place 1 (List._∷_ (Syntax.field 1) List.[]))) List.[])))
 
-abbrev b40 : Syntax.Body
-b40 =
+abbrev b38 : Syntax.Body
+b38 =
     Syntax.assign
-    (Syntax.place 39 List.[])
+    (Syntax.place 38 List.[])
     (Syntax.addrOf
     (Syntax.place
     2
@@ -1756,72 +1705,72 @@ b40 =
     (Syntax.field 0)
     (List._∷_ (Syntax.deref (KRouteRow.spelled)) List.[]))))
 
-abbrev b41 : Syntax.Body
-b41 =
+abbrev b39 : Syntax.Body
+b39 =
     Syntax.assign
-    (Syntax.place 40 List.[])
+    (Syntax.place 39 List.[])
     (Syntax.aggregate
     (List._∷_
-    (Syntax.copy (Syntax.place 39 List.[]))
+    (Syntax.copy (Syntax.place 38 List.[]))
     (List._∷_ (Syntax.copy (Syntax.place 2 (List._∷_ (Syntax.field 1) List.[]))) List.[])))
 
-abbrev b42 : Syntax.Body
-b42 =
+abbrev b40 : Syntax.Body
+b40 =
     Syntax.assign
-    (Syntax.place 41 List.[])
+    (Syntax.place 40 List.[])
     (Syntax.addrOf
     (Syntax.place
     3
     (List._∷_ (Syntax.field 0) (List._∷_ (Syntax.deref (Syntax.tyInt Syntax.w8)) List.[]))))
 
-abbrev b43 : Syntax.Body
-b43 =
+abbrev b41 : Syntax.Body
+b41 =
     Syntax.assign
-    (Syntax.place 42 List.[])
+    (Syntax.place 41 List.[])
     (Syntax.aggregate
     (List._∷_
-    (Syntax.copy (Syntax.place 41 List.[]))
+    (Syntax.copy (Syntax.place 40 List.[]))
     (List._∷_ (Syntax.copy (Syntax.place 3 (List._∷_ (Syntax.field 1) List.[]))) List.[])))
 
-abbrev b44 : Syntax.Body
-b44 =
+abbrev b42 : Syntax.Body
+b42 =
     Syntax.assign
-    (Syntax.place 43 List.[])
+    (Syntax.place 42 List.[])
     (Syntax.addrOf
     (Syntax.place
     4
     (List._∷_ (Syntax.field 0) (List._∷_ (Syntax.deref (Syntax.tyInt Syntax.w8)) List.[]))))
 
-abbrev b45 : Syntax.Body
-b45 =
+abbrev b43 : Syntax.Body
+b43 =
     Syntax.assign
-    (Syntax.place 44 List.[])
+    (Syntax.place 43 List.[])
     (Syntax.aggregate
     (List._∷_
-    (Syntax.copy (Syntax.place 43 List.[]))
+    (Syntax.copy (Syntax.place 42 List.[]))
     (List._∷_ (Syntax.copy (Syntax.place 4 (List._∷_ (Syntax.field 1) List.[]))) List.[])))
 
+abbrev b44 : Syntax.Body
+b44 = Syntax.assign (Syntax.place 44 List.[]) (Syntax.addrOf (Syntax.place 20 List.[]))
+
+abbrev b45 : Syntax.Body
+b45 = Syntax.assign (Syntax.place 45 List.[]) (Syntax.addrOf (Syntax.place 21 List.[]))
+
 abbrev b46 : Syntax.Body
-b46 = Syntax.assign (Syntax.place 45 List.[]) (Syntax.addrOf (Syntax.place 21 List.[]))
+b46 = Syntax.assign (Syntax.place 46 List.[]) (Syntax.addrOf (Syntax.place 22 List.[]))
 
 abbrev b47 : Syntax.Body
-b47 = Syntax.assign (Syntax.place 46 List.[]) (Syntax.addrOf (Syntax.place 22 List.[]))
-
-abbrev b48 : Syntax.Body
-b48 = Syntax.assign (Syntax.place 47 List.[]) (Syntax.addrOf (Syntax.place 23 List.[]))
-
-abbrev b49 : Syntax.Body
-b49 =
+b47 =
     Syntax.call
     "finish::finish"
     (List._∷_
-    (Syntax.copy (Syntax.place 38 List.[]))
+    (Syntax.copy (Syntax.place 37 List.[]))
     (List._∷_
-    (Syntax.copy (Syntax.place 40 List.[]))
+    (Syntax.copy (Syntax.place 39 List.[]))
     (List._∷_
-    (Syntax.copy (Syntax.place 42 List.[]))
+    (Syntax.copy (Syntax.place 41 List.[]))
     (List._∷_
-    (Syntax.copy (Syntax.place 44 List.[]))
+    (Syntax.copy (Syntax.place 43 List.[]))
     (List._∷_
     (Syntax.copy (Syntax.place 5 List.[]))
     (List._∷_
@@ -1833,157 +1782,151 @@ b49 =
     (List._∷_
     (Syntax.copy (Syntax.place 11 List.[]))
     (List._∷_
+    (Syntax.copy (Syntax.place 44 List.[]))
+    (List._∷_
     (Syntax.copy (Syntax.place 45 List.[]))
     (List._∷_
     (Syntax.copy (Syntax.place 46 List.[]))
-    (List._∷_
-    (Syntax.copy (Syntax.place 47 List.[]))
-    (List._∷_ (Syntax.copy (Syntax.place 24 List.[])) List.[])))))))))))))
+    (List._∷_ (Syntax.copy (Syntax.place 23 List.[])) List.[])))))))))))))
     (Syntax.place 0 List.[])
 
+abbrev b48 : Syntax.Body
+b48 = Syntax.return
+
+abbrev b49 : Syntax.Body
+b49 = Syntax.seq b47 b48
+
 abbrev b50 : Syntax.Body
-b50 = Syntax.return
+b50 = Syntax.seq b46 b49
 
 abbrev b51 : Syntax.Body
-b51 = Syntax.seq b49 b50
+b51 = Syntax.seq b45 b50
 
 abbrev b52 : Syntax.Body
-b52 = Syntax.seq b48 b51
+b52 = Syntax.seq b44 b51
 
 abbrev b53 : Syntax.Body
-b53 = Syntax.seq b47 b52
+b53 = Syntax.seq b43 b52
 
 abbrev b54 : Syntax.Body
-b54 = Syntax.seq b46 b53
+b54 = Syntax.seq b42 b53
 
 abbrev b55 : Syntax.Body
-b55 = Syntax.seq b45 b54
+b55 = Syntax.seq b41 b54
 
 abbrev b56 : Syntax.Body
-b56 = Syntax.seq b44 b55
+b56 = Syntax.seq b40 b55
 
 abbrev b57 : Syntax.Body
-b57 = Syntax.seq b43 b56
+b57 = Syntax.seq b39 b56
 
 abbrev b58 : Syntax.Body
-b58 = Syntax.seq b42 b57
+b58 = Syntax.seq b38 b57
 
 abbrev b59 : Syntax.Body
-b59 = Syntax.seq b41 b58
+b59 = Syntax.seq b37 b58
 
 abbrev b60 : Syntax.Body
-b60 = Syntax.seq b40 b59
+b60 = Syntax.seq b36 b59
 
 abbrev b61 : Syntax.Body
-b61 = Syntax.seq b39 b60
+b61 = Syntax.seq b35 b60
 
 abbrev b62 : Syntax.Body
-b62 = Syntax.seq b38 b61
+b62 = Syntax.seq b34 b61
 
 abbrev b63 : Syntax.Body
-b63 = Syntax.seq b37 b62
+b63 = Syntax.seq b33 b62
 
 abbrev b64 : Syntax.Body
-b64 = Syntax.seq b36 b63
+b64 = Syntax.seq b32 b63
 
 abbrev b65 : Syntax.Body
-b65 = Syntax.seq b35 b64
+b65 = Syntax.seq b31 b64
 
 abbrev b66 : Syntax.Body
-b66 = Syntax.seq b34 b65
+b66 = Syntax.seq b30 b65
 
 abbrev b67 : Syntax.Body
-b67 = Syntax.seq b33 b66
+b67 = Syntax.seq b29 b66
 
 abbrev b68 : Syntax.Body
-b68 = Syntax.seq b32 b67
+b68 = Syntax.seq b28 b67
 
 abbrev b69 : Syntax.Body
-b69 = Syntax.seq b31 b68
+b69 = Syntax.seq b27 b68
 
 abbrev b70 : Syntax.Body
-b70 = Syntax.seq b30 b69
+b70 = Syntax.seq b26 b69
 
 abbrev b71 : Syntax.Body
-b71 = Syntax.seq b29 b70
+b71 = Syntax.seq b25 b70
 
 abbrev b72 : Syntax.Body
-b72 = Syntax.seq b28 b71
+b72 = Syntax.seq b20 b71
 
 abbrev b73 : Syntax.Body
-b73 = Syntax.seq b27 b72
+b73 = Syntax.seq b19 b72
 
 abbrev b74 : Syntax.Body
-b74 = Syntax.seq b22 b73
+b74 = Syntax.seq b18 b73
 
 abbrev b75 : Syntax.Body
-b75 = Syntax.seq b21 b74
+b75 = Syntax.seq b17 b74
 
 abbrev b76 : Syntax.Body
-b76 = Syntax.seq b20 b75
+b76 = Syntax.seq b16 b75
 
 abbrev b77 : Syntax.Body
-b77 = Syntax.seq b19 b76
+b77 = Syntax.seq b15 b76
 
 abbrev b78 : Syntax.Body
-b78 = Syntax.seq b18 b77
+b78 = Syntax.seq b14 b77
 
 abbrev b79 : Syntax.Body
-b79 = Syntax.seq b17 b78
+b79 = Syntax.seq b13 b78
 
 abbrev b80 : Syntax.Body
-b80 = Syntax.seq b16 b79
+b80 = Syntax.seq b12 b79
 
 abbrev b81 : Syntax.Body
-b81 = Syntax.seq b15 b80
+b81 = Syntax.seq b11 b80
 
 abbrev b82 : Syntax.Body
-b82 = Syntax.seq b14 b81
+b82 = Syntax.seq b10 b81
 
 abbrev b83 : Syntax.Body
-b83 = Syntax.seq b13 b82
+b83 = Syntax.seq b9 b82
 
 abbrev b84 : Syntax.Body
-b84 = Syntax.seq b12 b83
+b84 = Syntax.seq b8 b83
 
 abbrev b85 : Syntax.Body
-b85 = Syntax.seq b11 b84
+b85 = Syntax.seq b7 b84
 
 abbrev b86 : Syntax.Body
-b86 = Syntax.seq b10 b85
+b86 = Syntax.seq b6 b85
 
 abbrev b87 : Syntax.Body
-b87 = Syntax.seq b9 b86
+b87 = Syntax.seq b5 b86
 
 abbrev b88 : Syntax.Body
-b88 = Syntax.seq b8 b87
+b88 = Syntax.seq b4 b87
 
 abbrev b89 : Syntax.Body
-b89 = Syntax.seq b7 b88
+b89 = Syntax.seq b3 b88
 
 abbrev b90 : Syntax.Body
-b90 = Syntax.seq b6 b89
+b90 = Syntax.seq b2 b89
 
 abbrev b91 : Syntax.Body
-b91 = Syntax.seq b5 b90
+b91 = Syntax.seq b1 b90
 
 abbrev b92 : Syntax.Body
-b92 = Syntax.seq b4 b91
-
-abbrev b93 : Syntax.Body
-b93 = Syntax.seq b3 b92
-
-abbrev b94 : Syntax.Body
-b94 = Syntax.seq b2 b93
-
-abbrev b95 : Syntax.Body
-b95 = Syntax.seq b1 b94
-
-abbrev b96 : Syntax.Body
-b96 = Syntax.seq b0 b95
+b92 = Syntax.seq b0 b91
 
 abbrev pub body : Syntax.Body
-body = b96
+body = b92
 
 abbrev pub Claims : Type 1
 Claims =
@@ -1999,14 +1942,14 @@ Claims =
     Kinds.Out 1 ps·4 r·4 ×
     Kinds.In 1 ps·5 ×
     Kinds.Out 1 ps·5 r·5 ×
-    Kinds.In 0 ps·6 ×
-    Kinds.Out 0 ps·6 r·6 ×
-    Kinds.In 1 ps·7 ×
-    Kinds.Out 1 ps·7 r·7 ×
-    Kinds.In 0 ps·8 ×
-    Kinds.Out 0 ps·8 r·8 ×
-    Kinds.In 1 ps·9 ×
-    Kinds.Out 1 ps·9 r·9 ×
+    Kinds.In 1 ps·6 ×
+    Kinds.Out 1 ps·6 r·6 ×
+    Kinds.In 0 ps·7 ×
+    Kinds.Out 0 ps·7 r·7 ×
+    Kinds.In 1 ps·8 ×
+    Kinds.Out 1 ps·8 r·8 ×
+    Kinds.In 0 ps·9 ×
+    Kinds.Out 0 ps·9 r·9 ×
     Kinds.In 0 ps·10 ×
     Kinds.Out 0 ps·10 r·10 ×
     Kinds.In 0 ps·11 ×
@@ -2017,10 +1960,8 @@ Claims =
     Kinds.Out 0 ps·13 r·13 ×
     Kinds.In 0 ps·14 ×
     Kinds.Out 0 ps·14 r·14 ×
-    Kinds.In 0 ps·15 ×
-    Kinds.Out 0 ps·15 r·15 ×
-    Kinds.In 8 ps·16 ×
-    Kinds.Out 8 ps·16 r·16
+    Kinds.In 8 ps·15 ×
+    Kinds.Out 8 ps·15 r·15
 
 abbrev pub t0 : List.List Row.Entry
 t0 = List._∷_ (
@@ -2372,8 +2313,8 @@ t1 = List._∷_ (
       (Syntax.tcons
       (Syntax.tyInt Syntax.w64)
       (Syntax.tcons (KRouteRow.spelled) Syntax.tnil)))),
-) (List._∷_ (17, Rows'.any-gone Syntax.tyBool) (List._∷_ (
-  18,
+) (List._∷_ (
+  17,
   Rows'.any-gone
       (Syntax.tyStruct
       (List._∷_
@@ -2405,7 +2346,7 @@ t1 = List._∷_ (
       (List._∷_ 68 (List._∷_ 101 (List._∷_ 108 (List._∷_ 116 (List._∷_ 97 List.[]))))))))))))))))))
       (Syntax.tcons Syntax.tyBool (Syntax.tcons (Syntax.tyInt Syntax.w8) Syntax.tnil))),
 ) (List._∷_ (
-  19,
+  18,
   Rows'.any-gone
       (Syntax.tyStruct
       (List._∷_
@@ -2621,7 +2562,7 @@ t1 = List._∷_ (
       (Syntax.tcons Syntax.tyBool (Syntax.tcons (Syntax.tyInt Syntax.w8) Syntax.tnil)))
       Syntax.tnil)))))))),
 ) (List._∷_ (
-  20,
+  19,
   Rows'.any-gone
       (Syntax.tyEnum
       (List._∷_
@@ -2676,11 +2617,11 @@ t1 = List._∷_ (
       (Syntax.ttcons
       Syntax.tnil
       (Syntax.ttcons Syntax.tnil (Syntax.ttcons Syntax.tnil Syntax.ttnil))))))))))))))))))),
-) (List._∷_ (21, Rows'.any-gone (KDecided.spelled)) (List._∷_ (
-  22,
+) (List._∷_ (20, Rows'.any-gone (KDecided.spelled)) (List._∷_ (
+  21,
   Rows'.any-gone (KPost.spelled),
-) (List._∷_ (23, Rows'.any-gone (KPost.spelled)) (List._∷_ (
-  24,
+) (List._∷_ (22, Rows'.any-gone (KPost.spelled)) (List._∷_ (
+  23,
   Rows'.any-gone
       (Syntax.tyStruct
       (List._∷_
@@ -2703,15 +2644,15 @@ t1 = List._∷_ (
       (Syntax.tcons
       (Syntax.tyInt Syntax.w64)
       (Syntax.tcons Syntax.tyBool (Syntax.tcons (Syntax.tyInt Syntax.w64) Syntax.tnil))))),
-) (List._∷_ (25, Rows'.any-gone Syntax.tyUnit) (List._∷_ (
-  26,
+) (List._∷_ (24, Rows'.any-gone Syntax.tyUnit) (List._∷_ (
+  25,
   Rows'.any-gone (KParsed.spelled),
 ) (List._∷_ (
-  27,
+  26,
   Rows'.any-gone
       (Syntax.tyRef Syntax.erased Syntax.imm (KInstanceRow.named)),
 ) (List._∷_ (
-  28,
+  27,
   Rows'.any-gone
       (Syntax.tyStruct
       (List._∷_ 38 (List._∷_ 91 (List._∷_ 93 List.[])))
@@ -2719,11 +2660,11 @@ t1 = List._∷_ (
       (Syntax.tyRef Syntax.erased Syntax.imm (KInstanceRow.named))
       (Syntax.tcons (Syntax.tyInt Syntax.w64) Syntax.tnil))),
 ) (List._∷_ (
-  29,
+  28,
   Rows'.any-gone
       (Syntax.tyRef Syntax.erased Syntax.imm (KRouteRow.named)),
 ) (List._∷_ (
-  30,
+  29,
   Rows'.any-gone
       (Syntax.tyStruct
       (List._∷_ 38 (List._∷_ 91 (List._∷_ 93 List.[])))
@@ -2731,32 +2672,32 @@ t1 = List._∷_ (
       (Syntax.tyRef Syntax.erased Syntax.imm (KRouteRow.named))
       (Syntax.tcons (Syntax.tyInt Syntax.w64) Syntax.tnil))),
 ) (List._∷_ (
-  31,
+  30,
   Rows'.any-gone
       (Syntax.tyRef Syntax.erased Syntax.imm (KInstanceRow.named)),
-) List.[])))))))))))))))
-
-abbrev pub t2 : List.List Row.Entry
-t2 = List._∷_ (
-  32,
+) (List._∷_ (
+  31,
   Rows'.any-gone
       (Syntax.tyStruct
       (List._∷_ 38 (List._∷_ 91 (List._∷_ 93 List.[])))
       (Syntax.tcons
       (Syntax.tyRef Syntax.erased Syntax.imm (KInstanceRow.named))
       (Syntax.tcons (Syntax.tyInt Syntax.w64) Syntax.tnil))),
-) (List._∷_ (33, Rows'.any-gone (Syntax.tyInt Syntax.w8)) (List._∷_ (
-  34,
+) List.[])))))))))))))))
+
+abbrev pub t2 : List.List Row.Entry
+t2 = List._∷_ (32, Rows'.any-gone (Syntax.tyInt Syntax.w8)) (List._∷_ (
+  33,
   Rows'.any-gone Syntax.tyBool,
-) (List._∷_ (35, Rows'.any-gone (KDecided.spelled)) (List._∷_ (
-  36,
+) (List._∷_ (34, Rows'.any-gone (KDecided.spelled)) (List._∷_ (
+  35,
   Rows'.any-gone (KPost.spelled),
 ) (List._∷_ (
-  37,
+  36,
   Rows'.any-gone
       (Syntax.tyRef Syntax.erased Syntax.mut (KInstanceRow.named)),
 ) (List._∷_ (
-  38,
+  37,
   Rows'.any-gone
       (Syntax.tyStruct
       (List._∷_ 38 (List._∷_ 91 (List._∷_ 93 List.[])))
@@ -2764,11 +2705,11 @@ t2 = List._∷_ (
       (Syntax.tyRef Syntax.erased Syntax.mut (KInstanceRow.named))
       (Syntax.tcons (Syntax.tyInt Syntax.w64) Syntax.tnil))),
 ) (List._∷_ (
-  39,
+  38,
   Rows'.any-gone
       (Syntax.tyRef Syntax.erased Syntax.mut (KRouteRow.named)),
 ) (List._∷_ (
-  40,
+  39,
   Rows'.any-gone
       (Syntax.tyStruct
       (List._∷_ 38 (List._∷_ 91 (List._∷_ 93 List.[])))
@@ -2777,10 +2718,10 @@ t2 = List._∷_ (
       (Syntax.tcons (Syntax.tyInt Syntax.w64) Syntax.tnil))),
 )
     (List._∷_ (
-      41,
+      40,
       Rows'.any-gone (Syntax.tyRef Syntax.erased Syntax.mut (Syntax.tyInt Syntax.w8)),
     ) (List._∷_ (
-      42,
+      41,
       Rows'.any-gone
           (Syntax.tyStruct
           (List._∷_ 38 (List._∷_ 91 (List._∷_ 93 List.[])))
@@ -2788,29 +2729,29 @@ t2 = List._∷_ (
           (Syntax.tyRef Syntax.erased Syntax.mut (Syntax.tyInt Syntax.w8))
           (Syntax.tcons (Syntax.tyInt Syntax.w64) Syntax.tnil))),
     ) (List._∷_ (
-      43,
+      42,
       Rows'.any-gone (Syntax.tyRef Syntax.erased Syntax.mut (Syntax.tyInt Syntax.w8)),
+    ) (List._∷_ (
+      43,
+      Rows'.any-gone
+          (Syntax.tyStruct
+          (List._∷_ 38 (List._∷_ 91 (List._∷_ 93 List.[])))
+          (Syntax.tcons
+          (Syntax.tyRef Syntax.erased Syntax.mut (Syntax.tyInt Syntax.w8))
+          (Syntax.tcons (Syntax.tyInt Syntax.w64) Syntax.tnil))),
     ) (List._∷_ (
       44,
       Rows'.any-gone
-          (Syntax.tyStruct
-          (List._∷_ 38 (List._∷_ 91 (List._∷_ 93 List.[])))
-          (Syntax.tcons
-          (Syntax.tyRef Syntax.erased Syntax.mut (Syntax.tyInt Syntax.w8))
-          (Syntax.tcons (Syntax.tyInt Syntax.w64) Syntax.tnil))),
+          (Syntax.tyRef Syntax.erased Syntax.imm (KDecided.named)),
     ) (List._∷_ (
       45,
       Rows'.any-gone
-          (Syntax.tyRef Syntax.erased Syntax.imm (KDecided.named)),
+          (Syntax.tyRef Syntax.erased Syntax.imm (KPost.named)),
     ) (List._∷_ (
       46,
       Rows'.any-gone
           (Syntax.tyRef Syntax.erased Syntax.imm (KPost.named)),
-    ) (List._∷_ (
-      47,
-      Rows'.any-gone
-          (Syntax.tyRef Syntax.erased Syntax.imm (KPost.named)),
-    ) List.[])))))))))))))))
+    ) List.[]))))))))))))))
 
 abbrev pub t3 : List.List Row.Entry
 t3 = List._∷_ (0, Rows'.whole (Declared'.row Outcome.the-type)) (List._∷_ (
@@ -2971,8 +2912,8 @@ t4 = List._∷_ (
       (Syntax.tcons
       (Syntax.tyInt Syntax.w64)
       (Syntax.tcons (KRouteRow.spelled) Syntax.tnil)))),
-) (List._∷_ (17, Rows'.any-gone Syntax.tyBool) (List._∷_ (
-  18,
+) (List._∷_ (
+  17,
   Rows'.any-gone
       (Syntax.tyStruct
       (List._∷_
@@ -3004,7 +2945,7 @@ t4 = List._∷_ (
       (List._∷_ 68 (List._∷_ 101 (List._∷_ 108 (List._∷_ 116 (List._∷_ 97 List.[]))))))))))))))))))
       (Syntax.tcons Syntax.tyBool (Syntax.tcons (Syntax.tyInt Syntax.w8) Syntax.tnil))),
 ) (List._∷_ (
-  19,
+  18,
   Rows'.any-gone
       (Syntax.tyStruct
       (List._∷_
@@ -3220,7 +3161,7 @@ t4 = List._∷_ (
       (Syntax.tcons Syntax.tyBool (Syntax.tcons (Syntax.tyInt Syntax.w8) Syntax.tnil)))
       Syntax.tnil)))))))),
 ) (List._∷_ (
-  20,
+  19,
   Rows'.any-gone
       (Syntax.tyEnum
       (List._∷_
@@ -3275,11 +3216,11 @@ t4 = List._∷_ (
       (Syntax.ttcons
       Syntax.tnil
       (Syntax.ttcons Syntax.tnil (Syntax.ttcons Syntax.tnil Syntax.ttnil))))))))))))))))))),
-) (List._∷_ (21, Rows'.any-gone (KDecided.spelled)) (List._∷_ (
-  22,
+) (List._∷_ (20, Rows'.any-gone (KDecided.spelled)) (List._∷_ (
+  21,
   Rows'.any-gone (KPost.spelled),
-) (List._∷_ (23, Rows'.any-gone (KPost.spelled)) (List._∷_ (
-  24,
+) (List._∷_ (22, Rows'.any-gone (KPost.spelled)) (List._∷_ (
+  23,
   Rows'.any-gone
       (Syntax.tyStruct
       (List._∷_
@@ -3302,15 +3243,15 @@ t4 = List._∷_ (
       (Syntax.tcons
       (Syntax.tyInt Syntax.w64)
       (Syntax.tcons Syntax.tyBool (Syntax.tcons (Syntax.tyInt Syntax.w64) Syntax.tnil))))),
-) (List._∷_ (25, Rows'.sc-here Row.sUnit) (List._∷_ (
-  26,
+) (List._∷_ (24, Rows'.sc-here Row.sUnit) (List._∷_ (
+  25,
   Rows'.any-gone (KParsed.spelled),
 ) (List._∷_ (
-  27,
+  26,
   Rows'.any-gone
       (Syntax.tyRef Syntax.erased Syntax.imm (KInstanceRow.named)),
 ) (List._∷_ (
-  28,
+  27,
   Rows'.any-gone
       (Syntax.tyStruct
       (List._∷_ 38 (List._∷_ 91 (List._∷_ 93 List.[])))
@@ -3318,11 +3259,11 @@ t4 = List._∷_ (
       (Syntax.tyRef Syntax.erased Syntax.imm (KInstanceRow.named))
       (Syntax.tcons (Syntax.tyInt Syntax.w64) Syntax.tnil))),
 ) (List._∷_ (
-  29,
+  28,
   Rows'.any-gone
       (Syntax.tyRef Syntax.erased Syntax.imm (KRouteRow.named)),
 ) (List._∷_ (
-  30,
+  29,
   Rows'.any-gone
       (Syntax.tyStruct
       (List._∷_ 38 (List._∷_ 91 (List._∷_ 93 List.[])))
@@ -3330,9 +3271,17 @@ t4 = List._∷_ (
       (Syntax.tyRef Syntax.erased Syntax.imm (KRouteRow.named))
       (Syntax.tcons (Syntax.tyInt Syntax.w64) Syntax.tnil))),
 ) (List._∷_ (
-  31,
+  30,
   Rows'.any-gone
       (Syntax.tyRef Syntax.erased Syntax.imm (KInstanceRow.named)),
+) (List._∷_ (
+  31,
+  Rows'.any-gone
+      (Syntax.tyStruct
+      (List._∷_ 38 (List._∷_ 91 (List._∷_ 93 List.[])))
+      (Syntax.tcons
+      (Syntax.tyRef Syntax.erased Syntax.imm (KInstanceRow.named))
+      (Syntax.tcons (Syntax.tyInt Syntax.w64) Syntax.tnil))),
 ) List.[])))))))))))))))
 
 abbrev pub t5 : List.List Row.Entry
@@ -3376,8 +3325,8 @@ t5 = List._∷_ (
       (Syntax.tcons
       (Syntax.tyInt Syntax.w64)
       (Syntax.tcons (KRouteRow.spelled) Syntax.tnil)))),
-) (List._∷_ (17, Rows'.any-gone Syntax.tyBool) (List._∷_ (
-  18,
+) (List._∷_ (
+  17,
   Rows'.any-gone
       (Syntax.tyStruct
       (List._∷_
@@ -3409,7 +3358,7 @@ t5 = List._∷_ (
       (List._∷_ 68 (List._∷_ 101 (List._∷_ 108 (List._∷_ 116 (List._∷_ 97 List.[]))))))))))))))))))
       (Syntax.tcons Syntax.tyBool (Syntax.tcons (Syntax.tyInt Syntax.w8) Syntax.tnil))),
 ) (List._∷_ (
-  19,
+  18,
   Rows'.any-gone
       (Syntax.tyStruct
       (List._∷_
@@ -3625,7 +3574,7 @@ t5 = List._∷_ (
       (Syntax.tcons Syntax.tyBool (Syntax.tcons (Syntax.tyInt Syntax.w8) Syntax.tnil)))
       Syntax.tnil)))))))),
 ) (List._∷_ (
-  20,
+  19,
   Rows'.any-gone
       (Syntax.tyEnum
       (List._∷_
@@ -3680,11 +3629,11 @@ t5 = List._∷_ (
       (Syntax.ttcons
       Syntax.tnil
       (Syntax.ttcons Syntax.tnil (Syntax.ttcons Syntax.tnil Syntax.ttnil))))))))))))))))))),
-) (List._∷_ (21, Rows'.any-gone (KDecided.spelled)) (List._∷_ (
-  22,
+) (List._∷_ (20, Rows'.any-gone (KDecided.spelled)) (List._∷_ (
+  21,
   Rows'.any-gone (KPost.spelled),
-) (List._∷_ (23, Rows'.any-gone (KPost.spelled)) (List._∷_ (
-  24,
+) (List._∷_ (22, Rows'.any-gone (KPost.spelled)) (List._∷_ (
+  23,
   Rows'.any-gone
       (Syntax.tyStruct
       (List._∷_
@@ -3707,15 +3656,15 @@ t5 = List._∷_ (
       (Syntax.tcons
       (Syntax.tyInt Syntax.w64)
       (Syntax.tcons Syntax.tyBool (Syntax.tcons (Syntax.tyInt Syntax.w64) Syntax.tnil))))),
-) (List._∷_ (25, Rows'.any-gone Syntax.tyUnit) (List._∷_ (
-  26,
+) (List._∷_ (24, Rows'.any-gone Syntax.tyUnit) (List._∷_ (
+  25,
   KParsed.row,
 ) (List._∷_ (
-  27,
+  26,
   Rows'.any-gone
       (Syntax.tyRef Syntax.erased Syntax.imm (KInstanceRow.named)),
 ) (List._∷_ (
-  28,
+  27,
   Rows'.any-gone
       (Syntax.tyStruct
       (List._∷_ 38 (List._∷_ 91 (List._∷_ 93 List.[])))
@@ -3723,11 +3672,11 @@ t5 = List._∷_ (
       (Syntax.tyRef Syntax.erased Syntax.imm (KInstanceRow.named))
       (Syntax.tcons (Syntax.tyInt Syntax.w64) Syntax.tnil))),
 ) (List._∷_ (
-  29,
+  28,
   Rows'.any-gone
       (Syntax.tyRef Syntax.erased Syntax.imm (KRouteRow.named)),
 ) (List._∷_ (
-  30,
+  29,
   Rows'.any-gone
       (Syntax.tyStruct
       (List._∷_ 38 (List._∷_ 91 (List._∷_ 93 List.[])))
@@ -3735,9 +3684,17 @@ t5 = List._∷_ (
       (Syntax.tyRef Syntax.erased Syntax.imm (KRouteRow.named))
       (Syntax.tcons (Syntax.tyInt Syntax.w64) Syntax.tnil))),
 ) (List._∷_ (
-  31,
+  30,
   Rows'.any-gone
       (Syntax.tyRef Syntax.erased Syntax.imm (KInstanceRow.named)),
+) (List._∷_ (
+  31,
+  Rows'.any-gone
+      (Syntax.tyStruct
+      (List._∷_ 38 (List._∷_ 91 (List._∷_ 93 List.[])))
+      (Syntax.tcons
+      (Syntax.tyRef Syntax.erased Syntax.imm (KInstanceRow.named))
+      (Syntax.tcons (Syntax.tyInt Syntax.w64) Syntax.tnil))),
 ) List.[])))))))))))))))
 
 abbrev pub t6 : List.List Row.Entry
@@ -5019,8 +4976,8 @@ t10 = List._∷_ (
       (Syntax.tcons
       (Syntax.tyInt Syntax.w64)
       (Syntax.tcons (KRouteRow.spelled) Syntax.tnil)))),
-) (List._∷_ (17, Rows'.any-gone Syntax.tyBool) (List._∷_ (
-  18,
+) (List._∷_ (
+  17,
   Rows'.any-gone
       (Syntax.tyStruct
       (List._∷_
@@ -5052,7 +5009,7 @@ t10 = List._∷_ (
       (List._∷_ 68 (List._∷_ 101 (List._∷_ 108 (List._∷_ 116 (List._∷_ 97 List.[]))))))))))))))))))
       (Syntax.tcons Syntax.tyBool (Syntax.tcons (Syntax.tyInt Syntax.w8) Syntax.tnil))),
 ) (List._∷_ (
-  19,
+  18,
   Rows'.any-gone
       (Syntax.tyStruct
       (List._∷_
@@ -5268,7 +5225,7 @@ t10 = List._∷_ (
       (Syntax.tcons Syntax.tyBool (Syntax.tcons (Syntax.tyInt Syntax.w8) Syntax.tnil)))
       Syntax.tnil)))))))),
 ) (List._∷_ (
-  20,
+  19,
   Rows'.any-gone
       (Syntax.tyEnum
       (List._∷_
@@ -5323,11 +5280,11 @@ t10 = List._∷_ (
       (Syntax.ttcons
       Syntax.tnil
       (Syntax.ttcons Syntax.tnil (Syntax.ttcons Syntax.tnil Syntax.ttnil))))))))))))))))))),
-) (List._∷_ (21, Rows'.any-gone (KDecided.spelled)) (List._∷_ (
-  22,
+) (List._∷_ (20, Rows'.any-gone (KDecided.spelled)) (List._∷_ (
+  21,
   Rows'.any-gone (KPost.spelled),
-) (List._∷_ (23, Rows'.any-gone (KPost.spelled)) (List._∷_ (
-  24,
+) (List._∷_ (22, Rows'.any-gone (KPost.spelled)) (List._∷_ (
+  23,
   Rows'.any-gone
       (Syntax.tyStruct
       (List._∷_
@@ -5350,17 +5307,17 @@ t10 = List._∷_ (
       (Syntax.tcons
       (Syntax.tyInt Syntax.w64)
       (Syntax.tcons Syntax.tyBool (Syntax.tcons (Syntax.tyInt Syntax.w64) Syntax.tnil))))),
-) (List._∷_ (25, Rows'.any-gone Syntax.tyUnit) (List._∷_ (
-  26,
+) (List._∷_ (24, Rows'.any-gone Syntax.tyUnit) (List._∷_ (
+  25,
   Rows'.any-gone (KParsed.spelled),
 ) (List._∷_ (
-  27,
+  26,
   Relend.ssptr
       (KInstanceRow.R)
       (Syntax.tyRef Syntax.erased Syntax.imm (KInstanceRow.named))
       6,
 ) (List._∷_ (
-  28,
+  27,
   Rows'.any-gone
       (Syntax.tyStruct
       (List._∷_ 38 (List._∷_ 91 (List._∷_ 93 List.[])))
@@ -5368,11 +5325,11 @@ t10 = List._∷_ (
       (Syntax.tyRef Syntax.erased Syntax.imm (KInstanceRow.named))
       (Syntax.tcons (Syntax.tyInt Syntax.w64) Syntax.tnil))),
 ) (List._∷_ (
-  29,
+  28,
   Rows'.any-gone
       (Syntax.tyRef Syntax.erased Syntax.imm (KRouteRow.named)),
 ) (List._∷_ (
-  30,
+  29,
   Rows'.any-gone
       (Syntax.tyStruct
       (List._∷_ 38 (List._∷_ 91 (List._∷_ 93 List.[])))
@@ -5380,9 +5337,17 @@ t10 = List._∷_ (
       (Syntax.tyRef Syntax.erased Syntax.imm (KRouteRow.named))
       (Syntax.tcons (Syntax.tyInt Syntax.w64) Syntax.tnil))),
 ) (List._∷_ (
-  31,
+  30,
   Rows'.any-gone
       (Syntax.tyRef Syntax.erased Syntax.imm (KInstanceRow.named)),
+) (List._∷_ (
+  31,
+  Rows'.any-gone
+      (Syntax.tyStruct
+      (List._∷_ 38 (List._∷_ 91 (List._∷_ 93 List.[])))
+      (Syntax.tcons
+      (Syntax.tyRef Syntax.erased Syntax.imm (KInstanceRow.named))
+      (Syntax.tcons (Syntax.tyInt Syntax.w64) Syntax.tnil))),
 ) List.[])))))))))))))))
 
 abbrev pub t11 : List.List Row.Entry
@@ -5426,8 +5391,8 @@ t11 = List._∷_ (
       (Syntax.tcons
       (Syntax.tyInt Syntax.w64)
       (Syntax.tcons (KRouteRow.spelled) Syntax.tnil)))),
-) (List._∷_ (17, Rows'.any-gone Syntax.tyBool) (List._∷_ (
-  18,
+) (List._∷_ (
+  17,
   Rows'.any-gone
       (Syntax.tyStruct
       (List._∷_
@@ -5459,7 +5424,7 @@ t11 = List._∷_ (
       (List._∷_ 68 (List._∷_ 101 (List._∷_ 108 (List._∷_ 116 (List._∷_ 97 List.[]))))))))))))))))))
       (Syntax.tcons Syntax.tyBool (Syntax.tcons (Syntax.tyInt Syntax.w8) Syntax.tnil))),
 ) (List._∷_ (
-  19,
+  18,
   Rows'.any-gone
       (Syntax.tyStruct
       (List._∷_
@@ -5675,7 +5640,7 @@ t11 = List._∷_ (
       (Syntax.tcons Syntax.tyBool (Syntax.tcons (Syntax.tyInt Syntax.w8) Syntax.tnil)))
       Syntax.tnil)))))))),
 ) (List._∷_ (
-  20,
+  19,
   Rows'.any-gone
       (Syntax.tyEnum
       (List._∷_
@@ -5730,11 +5695,11 @@ t11 = List._∷_ (
       (Syntax.ttcons
       Syntax.tnil
       (Syntax.ttcons Syntax.tnil (Syntax.ttcons Syntax.tnil Syntax.ttnil))))))))))))))))))),
-) (List._∷_ (21, Rows'.any-gone (KDecided.spelled)) (List._∷_ (
-  22,
+) (List._∷_ (20, Rows'.any-gone (KDecided.spelled)) (List._∷_ (
+  21,
   Rows'.any-gone (KPost.spelled),
-) (List._∷_ (23, Rows'.any-gone (KPost.spelled)) (List._∷_ (
-  24,
+) (List._∷_ (22, Rows'.any-gone (KPost.spelled)) (List._∷_ (
+  23,
   Rows'.any-gone
       (Syntax.tyStruct
       (List._∷_
@@ -5757,25 +5722,25 @@ t11 = List._∷_ (
       (Syntax.tcons
       (Syntax.tyInt Syntax.w64)
       (Syntax.tcons Syntax.tyBool (Syntax.tcons (Syntax.tyInt Syntax.w64) Syntax.tnil))))),
-) (List._∷_ (25, Rows'.any-gone Syntax.tyUnit) (List._∷_ (
-  26,
+) (List._∷_ (24, Rows'.any-gone Syntax.tyUnit) (List._∷_ (
+  25,
   Rows'.any-gone (KParsed.spelled),
 ) (List._∷_ (
-  27,
+  26,
   Rows'.any-gone
       (Syntax.tyRef Syntax.erased Syntax.imm (KInstanceRow.named)),
 ) (List._∷_ (
-  28,
+  27,
   Rows'.sslice
       (KInstanceRow.R)
       (Syntax.tyRef Syntax.erased Syntax.imm (KInstanceRow.named))
       6,
 ) (List._∷_ (
-  29,
+  28,
   Rows'.any-gone
       (Syntax.tyRef Syntax.erased Syntax.imm (KRouteRow.named)),
 ) (List._∷_ (
-  30,
+  29,
   Rows'.any-gone
       (Syntax.tyStruct
       (List._∷_ 38 (List._∷_ 91 (List._∷_ 93 List.[])))
@@ -5783,9 +5748,17 @@ t11 = List._∷_ (
       (Syntax.tyRef Syntax.erased Syntax.imm (KRouteRow.named))
       (Syntax.tcons (Syntax.tyInt Syntax.w64) Syntax.tnil))),
 ) (List._∷_ (
-  31,
+  30,
   Rows'.any-gone
       (Syntax.tyRef Syntax.erased Syntax.imm (KInstanceRow.named)),
+) (List._∷_ (
+  31,
+  Rows'.any-gone
+      (Syntax.tyStruct
+      (List._∷_ 38 (List._∷_ 91 (List._∷_ 93 List.[])))
+      (Syntax.tcons
+      (Syntax.tyRef Syntax.erased Syntax.imm (KInstanceRow.named))
+      (Syntax.tcons (Syntax.tyInt Syntax.w64) Syntax.tnil))),
 ) List.[])))))))))))))))
 
 abbrev pub t12 : List.List Row.Entry
@@ -6685,8 +6658,8 @@ t15 = List._∷_ (
       (Syntax.tcons
       (Syntax.tyInt Syntax.w64)
       (Syntax.tcons (KRouteRow.spelled) Syntax.tnil)))),
-) (List._∷_ (17, Rows'.any-gone Syntax.tyBool) (List._∷_ (
-  18,
+) (List._∷_ (
+  17,
   Rows'.any-gone
       (Syntax.tyStruct
       (List._∷_
@@ -6718,7 +6691,7 @@ t15 = List._∷_ (
       (List._∷_ 68 (List._∷_ 101 (List._∷_ 108 (List._∷_ 116 (List._∷_ 97 List.[]))))))))))))))))))
       (Syntax.tcons Syntax.tyBool (Syntax.tcons (Syntax.tyInt Syntax.w8) Syntax.tnil))),
 ) (List._∷_ (
-  19,
+  18,
   Rows'.any-gone
       (Syntax.tyStruct
       (List._∷_
@@ -6934,7 +6907,7 @@ t15 = List._∷_ (
       (Syntax.tcons Syntax.tyBool (Syntax.tcons (Syntax.tyInt Syntax.w8) Syntax.tnil)))
       Syntax.tnil)))))))),
 ) (List._∷_ (
-  20,
+  19,
   Rows'.any-gone
       (Syntax.tyEnum
       (List._∷_
@@ -6989,11 +6962,11 @@ t15 = List._∷_ (
       (Syntax.ttcons
       Syntax.tnil
       (Syntax.ttcons Syntax.tnil (Syntax.ttcons Syntax.tnil Syntax.ttnil))))))))))))))))))),
-) (List._∷_ (21, Rows'.any-gone (KDecided.spelled)) (List._∷_ (
-  22,
+) (List._∷_ (20, Rows'.any-gone (KDecided.spelled)) (List._∷_ (
+  21,
   Rows'.any-gone (KPost.spelled),
-) (List._∷_ (23, Rows'.any-gone (KPost.spelled)) (List._∷_ (
-  24,
+) (List._∷_ (22, Rows'.any-gone (KPost.spelled)) (List._∷_ (
+  23,
   Rows'.any-gone
       (Syntax.tyStruct
       (List._∷_
@@ -7016,15 +6989,15 @@ t15 = List._∷_ (
       (Syntax.tcons
       (Syntax.tyInt Syntax.w64)
       (Syntax.tcons Syntax.tyBool (Syntax.tcons (Syntax.tyInt Syntax.w64) Syntax.tnil))))),
-) (List._∷_ (25, Rows'.any-gone Syntax.tyUnit) (List._∷_ (
-  26,
+) (List._∷_ (24, Rows'.any-gone Syntax.tyUnit) (List._∷_ (
+  25,
   Rows'.any-gone (KParsed.spelled),
 ) (List._∷_ (
-  27,
+  26,
   Rows'.any-gone
       (Syntax.tyRef Syntax.erased Syntax.imm (KInstanceRow.named)),
 ) (List._∷_ (
-  28,
+  27,
   Rows'.any-gone
       (Syntax.tyStruct
       (List._∷_ 38 (List._∷_ 91 (List._∷_ 93 List.[])))
@@ -7032,13 +7005,13 @@ t15 = List._∷_ (
       (Syntax.tyRef Syntax.erased Syntax.imm (KInstanceRow.named))
       (Syntax.tcons (Syntax.tyInt Syntax.w64) Syntax.tnil))),
 ) (List._∷_ (
-  29,
+  28,
   Relend.ssptr
       (KRouteRow.R)
       (Syntax.tyRef Syntax.erased Syntax.imm (KRouteRow.named))
       7,
 ) (List._∷_ (
-  30,
+  29,
   Rows'.any-gone
       (Syntax.tyStruct
       (List._∷_ 38 (List._∷_ 91 (List._∷_ 93 List.[])))
@@ -7046,9 +7019,17 @@ t15 = List._∷_ (
       (Syntax.tyRef Syntax.erased Syntax.imm (KRouteRow.named))
       (Syntax.tcons (Syntax.tyInt Syntax.w64) Syntax.tnil))),
 ) (List._∷_ (
-  31,
+  30,
   Rows'.any-gone
       (Syntax.tyRef Syntax.erased Syntax.imm (KInstanceRow.named)),
+) (List._∷_ (
+  31,
+  Rows'.any-gone
+      (Syntax.tyStruct
+      (List._∷_ 38 (List._∷_ 91 (List._∷_ 93 List.[])))
+      (Syntax.tcons
+      (Syntax.tyRef Syntax.erased Syntax.imm (KInstanceRow.named))
+      (Syntax.tcons (Syntax.tyInt Syntax.w64) Syntax.tnil))),
 ) List.[])))))))))))))))
 
 abbrev pub t16 : List.List Row.Entry
@@ -7092,8 +7073,8 @@ t16 = List._∷_ (
       (Syntax.tcons
       (Syntax.tyInt Syntax.w64)
       (Syntax.tcons (KRouteRow.spelled) Syntax.tnil)))),
-) (List._∷_ (17, Rows'.any-gone Syntax.tyBool) (List._∷_ (
-  18,
+) (List._∷_ (
+  17,
   Rows'.any-gone
       (Syntax.tyStruct
       (List._∷_
@@ -7125,7 +7106,7 @@ t16 = List._∷_ (
       (List._∷_ 68 (List._∷_ 101 (List._∷_ 108 (List._∷_ 116 (List._∷_ 97 List.[]))))))))))))))))))
       (Syntax.tcons Syntax.tyBool (Syntax.tcons (Syntax.tyInt Syntax.w8) Syntax.tnil))),
 ) (List._∷_ (
-  19,
+  18,
   Rows'.any-gone
       (Syntax.tyStruct
       (List._∷_
@@ -7341,7 +7322,7 @@ t16 = List._∷_ (
       (Syntax.tcons Syntax.tyBool (Syntax.tcons (Syntax.tyInt Syntax.w8) Syntax.tnil)))
       Syntax.tnil)))))))),
 ) (List._∷_ (
-  20,
+  19,
   Rows'.any-gone
       (Syntax.tyEnum
       (List._∷_
@@ -7396,11 +7377,11 @@ t16 = List._∷_ (
       (Syntax.ttcons
       Syntax.tnil
       (Syntax.ttcons Syntax.tnil (Syntax.ttcons Syntax.tnil Syntax.ttnil))))))))))))))))))),
-) (List._∷_ (21, Rows'.any-gone (KDecided.spelled)) (List._∷_ (
-  22,
+) (List._∷_ (20, Rows'.any-gone (KDecided.spelled)) (List._∷_ (
+  21,
   Rows'.any-gone (KPost.spelled),
-) (List._∷_ (23, Rows'.any-gone (KPost.spelled)) (List._∷_ (
-  24,
+) (List._∷_ (22, Rows'.any-gone (KPost.spelled)) (List._∷_ (
+  23,
   Rows'.any-gone
       (Syntax.tyStruct
       (List._∷_
@@ -7423,15 +7404,15 @@ t16 = List._∷_ (
       (Syntax.tcons
       (Syntax.tyInt Syntax.w64)
       (Syntax.tcons Syntax.tyBool (Syntax.tcons (Syntax.tyInt Syntax.w64) Syntax.tnil))))),
-) (List._∷_ (25, Rows'.any-gone Syntax.tyUnit) (List._∷_ (
-  26,
+) (List._∷_ (24, Rows'.any-gone Syntax.tyUnit) (List._∷_ (
+  25,
   Rows'.any-gone (KParsed.spelled),
 ) (List._∷_ (
-  27,
+  26,
   Rows'.any-gone
       (Syntax.tyRef Syntax.erased Syntax.imm (KInstanceRow.named)),
 ) (List._∷_ (
-  28,
+  27,
   Rows'.any-gone
       (Syntax.tyStruct
       (List._∷_ 38 (List._∷_ 91 (List._∷_ 93 List.[])))
@@ -7439,27 +7420,32 @@ t16 = List._∷_ (
       (Syntax.tyRef Syntax.erased Syntax.imm (KInstanceRow.named))
       (Syntax.tcons (Syntax.tyInt Syntax.w64) Syntax.tnil))),
 ) (List._∷_ (
-  29,
+  28,
   Rows'.any-gone
       (Syntax.tyRef Syntax.erased Syntax.imm (KRouteRow.named)),
 ) (List._∷_ (
-  30,
+  29,
   Rows'.sslice
       (KRouteRow.R)
       (Syntax.tyRef Syntax.erased Syntax.imm (KRouteRow.named))
       7,
 ) (List._∷_ (
-  31,
+  30,
   Rows'.any-gone
       (Syntax.tyRef Syntax.erased Syntax.imm (KInstanceRow.named)),
+) (List._∷_ (
+  31,
+  Rows'.any-gone
+      (Syntax.tyStruct
+      (List._∷_ 38 (List._∷_ 91 (List._∷_ 93 List.[])))
+      (Syntax.tcons
+      (Syntax.tyRef Syntax.erased Syntax.imm (KInstanceRow.named))
+      (Syntax.tcons (Syntax.tyInt Syntax.w64) Syntax.tnil))),
 ) List.[])))))))))))))))
 
 abbrev pub t17 : List.List Row.Entry
 t17 = List._∷_ (16, Rows'.whole (Declared'.row FoundRoute.the-type)) (List._∷_ (
   17,
-  Rows'.any-gone Syntax.tyBool,
-) (List._∷_ (
-  18,
   Rows'.any-gone
       (Syntax.tyStruct
       (List._∷_
@@ -7491,7 +7477,7 @@ t17 = List._∷_ (16, Rows'.whole (Declared'.row FoundRoute.the-type)) (List._�
       (List._∷_ 68 (List._∷_ 101 (List._∷_ 108 (List._∷_ 116 (List._∷_ 97 List.[]))))))))))))))))))
       (Syntax.tcons Syntax.tyBool (Syntax.tcons (Syntax.tyInt Syntax.w8) Syntax.tnil))),
 ) (List._∷_ (
-  19,
+  18,
   Rows'.any-gone
       (Syntax.tyStruct
       (List._∷_
@@ -7707,7 +7693,7 @@ t17 = List._∷_ (16, Rows'.whole (Declared'.row FoundRoute.the-type)) (List._�
       (Syntax.tcons Syntax.tyBool (Syntax.tcons (Syntax.tyInt Syntax.w8) Syntax.tnil)))
       Syntax.tnil)))))))),
 ) (List._∷_ (
-  20,
+  19,
   Rows'.any-gone
       (Syntax.tyEnum
       (List._∷_
@@ -7762,11 +7748,11 @@ t17 = List._∷_ (16, Rows'.whole (Declared'.row FoundRoute.the-type)) (List._�
       (Syntax.ttcons
       Syntax.tnil
       (Syntax.ttcons Syntax.tnil (Syntax.ttcons Syntax.tnil Syntax.ttnil))))))))))))))))))),
-) (List._∷_ (21, Rows'.any-gone (KDecided.spelled)) (List._∷_ (
-  22,
+) (List._∷_ (20, Rows'.any-gone (KDecided.spelled)) (List._∷_ (
+  21,
   Rows'.any-gone (KPost.spelled),
-) (List._∷_ (23, Rows'.any-gone (KPost.spelled)) (List._∷_ (
-  24,
+) (List._∷_ (22, Rows'.any-gone (KPost.spelled)) (List._∷_ (
+  23,
   Rows'.any-gone
       (Syntax.tyStruct
       (List._∷_
@@ -7789,15 +7775,15 @@ t17 = List._∷_ (16, Rows'.whole (Declared'.row FoundRoute.the-type)) (List._�
       (Syntax.tcons
       (Syntax.tyInt Syntax.w64)
       (Syntax.tcons Syntax.tyBool (Syntax.tcons (Syntax.tyInt Syntax.w64) Syntax.tnil))))),
-) (List._∷_ (25, Rows'.any-gone Syntax.tyUnit) (List._∷_ (
-  26,
+) (List._∷_ (24, Rows'.any-gone Syntax.tyUnit) (List._∷_ (
+  25,
   Rows'.any-gone (KParsed.spelled),
 ) (List._∷_ (
-  27,
+  26,
   Rows'.any-gone
       (Syntax.tyRef Syntax.erased Syntax.imm (KInstanceRow.named)),
 ) (List._∷_ (
-  28,
+  27,
   Rows'.any-gone
       (Syntax.tyStruct
       (List._∷_ 38 (List._∷_ 91 (List._∷_ 93 List.[])))
@@ -7805,27 +7791,32 @@ t17 = List._∷_ (16, Rows'.whole (Declared'.row FoundRoute.the-type)) (List._�
       (Syntax.tyRef Syntax.erased Syntax.imm (KInstanceRow.named))
       (Syntax.tcons (Syntax.tyInt Syntax.w64) Syntax.tnil))),
 ) (List._∷_ (
-  29,
+  28,
   Rows'.any-gone
       (Syntax.tyRef Syntax.erased Syntax.imm (KRouteRow.named)),
 ) (List._∷_ (
-  30,
+  29,
   Rows'.sslice
       (KRouteRow.R)
       (Syntax.tyRef Syntax.erased Syntax.imm (KRouteRow.named))
       7,
 ) (List._∷_ (
-  31,
+  30,
   Rows'.any-gone
       (Syntax.tyRef Syntax.erased Syntax.imm (KInstanceRow.named)),
+) (List._∷_ (
+  31,
+  Rows'.any-gone
+      (Syntax.tyStruct
+      (List._∷_ 38 (List._∷_ 91 (List._∷_ 93 List.[])))
+      (Syntax.tcons
+      (Syntax.tyRef Syntax.erased Syntax.imm (KInstanceRow.named))
+      (Syntax.tcons (Syntax.tyInt Syntax.w64) Syntax.tnil))),
 ) List.[])))))))))))))))
 
 abbrev pub t18 : List.List Row.Entry
 t18 = List._∷_ (16, Rows'.whole (Declared'.row FoundRoute.the-type)) (List._∷_ (
   17,
-  Rows'.any-gone Syntax.tyBool,
-) (List._∷_ (
-  18,
   Rows'.any-gone
       (Syntax.tyStruct
       (List._∷_
@@ -7857,7 +7848,7 @@ t18 = List._∷_ (16, Rows'.whole (Declared'.row FoundRoute.the-type)) (List._�
       (List._∷_ 68 (List._∷_ 101 (List._∷_ 108 (List._∷_ 116 (List._∷_ 97 List.[]))))))))))))))))))
       (Syntax.tcons Syntax.tyBool (Syntax.tcons (Syntax.tyInt Syntax.w8) Syntax.tnil))),
 ) (List._∷_ (
-  19,
+  18,
   Rows'.any-gone
       (Syntax.tyStruct
       (List._∷_
@@ -8073,7 +8064,7 @@ t18 = List._∷_ (16, Rows'.whole (Declared'.row FoundRoute.the-type)) (List._�
       (Syntax.tcons Syntax.tyBool (Syntax.tcons (Syntax.tyInt Syntax.w8) Syntax.tnil)))
       Syntax.tnil)))))))),
 ) (List._∷_ (
-  20,
+  19,
   Rows'.any-gone
       (Syntax.tyEnum
       (List._∷_
@@ -8128,11 +8119,11 @@ t18 = List._∷_ (16, Rows'.whole (Declared'.row FoundRoute.the-type)) (List._�
       (Syntax.ttcons
       Syntax.tnil
       (Syntax.ttcons Syntax.tnil (Syntax.ttcons Syntax.tnil Syntax.ttnil))))))))))))))))))),
-) (List._∷_ (21, Rows'.any-gone (KDecided.spelled)) (List._∷_ (
-  22,
+) (List._∷_ (20, Rows'.any-gone (KDecided.spelled)) (List._∷_ (
+  21,
   Rows'.any-gone (KPost.spelled),
-) (List._∷_ (23, Rows'.any-gone (KPost.spelled)) (List._∷_ (
-  24,
+) (List._∷_ (22, Rows'.any-gone (KPost.spelled)) (List._∷_ (
+  23,
   Rows'.any-gone
       (Syntax.tyStruct
       (List._∷_
@@ -8155,15 +8146,15 @@ t18 = List._∷_ (16, Rows'.whole (Declared'.row FoundRoute.the-type)) (List._�
       (Syntax.tcons
       (Syntax.tyInt Syntax.w64)
       (Syntax.tcons Syntax.tyBool (Syntax.tcons (Syntax.tyInt Syntax.w64) Syntax.tnil))))),
-) (List._∷_ (25, Rows'.any-gone Syntax.tyUnit) (List._∷_ (
-  26,
+) (List._∷_ (24, Rows'.any-gone Syntax.tyUnit) (List._∷_ (
+  25,
   Rows'.any-gone (KParsed.spelled),
 ) (List._∷_ (
-  27,
+  26,
   Rows'.any-gone
       (Syntax.tyRef Syntax.erased Syntax.imm (KInstanceRow.named)),
 ) (List._∷_ (
-  28,
+  27,
   Rows'.any-gone
       (Syntax.tyStruct
       (List._∷_ 38 (List._∷_ 91 (List._∷_ 93 List.[])))
@@ -8171,11 +8162,11 @@ t18 = List._∷_ (16, Rows'.whole (Declared'.row FoundRoute.the-type)) (List._�
       (Syntax.tyRef Syntax.erased Syntax.imm (KInstanceRow.named))
       (Syntax.tcons (Syntax.tyInt Syntax.w64) Syntax.tnil))),
 ) (List._∷_ (
-  29,
+  28,
   Rows'.any-gone
       (Syntax.tyRef Syntax.erased Syntax.imm (KRouteRow.named)),
 ) (List._∷_ (
-  30,
+  29,
   Rows'.any-gone
       (Syntax.tyStruct
       (List._∷_ 38 (List._∷_ 91 (List._∷_ 93 List.[])))
@@ -8183,9 +8174,17 @@ t18 = List._∷_ (16, Rows'.whole (Declared'.row FoundRoute.the-type)) (List._�
       (Syntax.tyRef Syntax.erased Syntax.imm (KRouteRow.named))
       (Syntax.tcons (Syntax.tyInt Syntax.w64) Syntax.tnil))),
 ) (List._∷_ (
-  31,
+  30,
   Rows'.any-gone
       (Syntax.tyRef Syntax.erased Syntax.imm (KInstanceRow.named)),
+) (List._∷_ (
+  31,
+  Rows'.any-gone
+      (Syntax.tyStruct
+      (List._∷_ 38 (List._∷_ 91 (List._∷_ 93 List.[])))
+      (Syntax.tcons
+      (Syntax.tyRef Syntax.erased Syntax.imm (KInstanceRow.named))
+      (Syntax.tcons (Syntax.tyInt Syntax.w64) Syntax.tnil))),
 ) List.[])))))))))))))))
 
 abbrev pub t19 : List.List Row.Entry
@@ -8759,1111 +8758,7 @@ t20 = List._∷_ (
 ) List.[])))))))))))))))
 
 abbrev pub t21 : List.List Row.Entry
-t21 = List._∷_ (16, Rows'.whole (Declared'.row FoundRoute.the-type)) (List._∷_ (
-  17,
-  Rows'.any-gone Syntax.tyBool,
-) (List._∷_ (
-  18,
-  Rows'.any-gone
-      (Syntax.tyStruct
-      (List._∷_
-      109
-      (List._∷_
-      101
-      (List._∷_
-      115
-      (List._∷_
-      115
-      (List._∷_
-      97
-      (List._∷_
-      103
-      (List._∷_
-      101
-      (List._∷_
-      58
-      (List._∷_
-      58
-      (List._∷_
-      70
-      (List._∷_
-      114
-      (List._∷_
-      101
-      (List._∷_
-      101
-      (List._∷_ 68 (List._∷_ 101 (List._∷_ 108 (List._∷_ 116 (List._∷_ 97 List.[]))))))))))))))))))
-      (Syntax.tcons Syntax.tyBool (Syntax.tcons (Syntax.tyInt Syntax.w8) Syntax.tnil))),
-) (List._∷_ (
-  19,
-  Rows'.any-gone
-      (Syntax.tyStruct
-      (List._∷_
-      114
-      (List._∷_
-      101
-      (List._∷_
-      113
-      (List._∷_
-      117
-      (List._∷_
-      101
-      (List._∷_
-      115
-      (List._∷_
-      116
-      (List._∷_
-      58
-      (List._∷_
-      58
-      (List._∷_
-      82
-      (List._∷_
-      101
-      (List._∷_
-      113
-      (List._∷_
-      117
-      (List._∷_
-      101
-      (List._∷_
-      115
-      (List._∷_
-      116
-      (List._∷_
-      70
-      (List._∷_ 97 (List._∷_ 99 (List._∷_ 116 (List._∷_ 115 List.[])))))))))))))))))))))
-      (Syntax.tcons
-      (Syntax.tyStruct
-      (List._∷_
-      109
-      (List._∷_
-      101
-      (List._∷_
-      115
-      (List._∷_
-      115
-      (List._∷_
-      97
-      (List._∷_
-      103
-      (List._∷_
-      101
-      (List._∷_
-      58
-      (List._∷_
-      58
-      (List._∷_ 70 (List._∷_ 111 (List._∷_ 117 (List._∷_ 110 (List._∷_ 100 List.[]))))))))))))))
-      (Syntax.tcons
-      Syntax.tyBool
-      (Syntax.tcons
-      (Syntax.tyInt Syntax.w64)
-      (Syntax.tcons (KInstanceRow.spelled) Syntax.tnil))))
-      (Syntax.tcons
-      (Syntax.tyStruct
-      (List._∷_
-      109
-      (List._∷_
-      101
-      (List._∷_
-      115
-      (List._∷_
-      115
-      (List._∷_
-      97
-      (List._∷_
-      103
-      (List._∷_
-      101
-      (List._∷_
-      58
-      (List._∷_
-      58
-      (List._∷_
-      70
-      (List._∷_
-      111
-      (List._∷_
-      117
-      (List._∷_
-      110
-      (List._∷_
-      100
-      (List._∷_
-      82
-      (List._∷_ 111 (List._∷_ 117 (List._∷_ 116 (List._∷_ 101 List.[])))))))))))))))))))
-      (Syntax.tcons
-      Syntax.tyBool
-      (Syntax.tcons
-      (Syntax.tyInt Syntax.w64)
-      (Syntax.tcons (KRouteRow.spelled) Syntax.tnil))))
-      (Syntax.tcons
-      (Syntax.tyInt Syntax.w32)
-      (Syntax.tcons
-      (Syntax.tyEnum
-      (List._∷_
-      112
-      (List._∷_
-      108
-      (List._∷_
-      97
-      (List._∷_
-      105
-      (List._∷_
-      110
-      (List._∷_
-      58
-      (List._∷_
-      58
-      (List._∷_
-      83
-      (List._∷_
-      116
-      (List._∷_
-      97
-      (List._∷_ 110 (List._∷_ 100 (List._∷_ 105 (List._∷_ 110 (List._∷_ 103 List.[])))))))))))))))
-      (Syntax.ttcons
-      Syntax.tnil
-      (Syntax.ttcons
-      Syntax.tnil
-      (Syntax.ttcons
-      Syntax.tnil
-      (Syntax.ttcons Syntax.tnil (Syntax.ttcons Syntax.tnil Syntax.ttnil))))))
-      (Syntax.tcons
-      Syntax.tyBool
-      (Syntax.tcons
-      (Syntax.tyStruct
-      (List._∷_
-      97
-      (List._∷_
-      114
-      (List._∷_
-      116
-      (List._∷_
-      58
-      (List._∷_
-      58
-      (List._∷_
-      84
-      (List._∷_
-      97
-      (List._∷_ 114 (List._∷_ 103 (List._∷_ 101 (List._∷_ 116 (List._∷_ 115 List.[]))))))))))))
-      (Syntax.tcons
-      Syntax.tyBool
-      (Syntax.tcons
-      (Syntax.tyInt Syntax.w64)
-      (Syntax.tcons
-      (Syntax.tyArray
-      (Syntax.tyStruct
-      (List._∷_
-      112
-      (List._∷_
-      108
-      (List._∷_
-      97
-      (List._∷_
-      105
-      (List._∷_
-      110
-      (List._∷_
-      58
-      (List._∷_
-      58
-      (List._∷_
-      84
-      (List._∷_ 97 (List._∷_ 114 (List._∷_ 103 (List._∷_ 101 (List._∷_ 116 List.[])))))))))))))
-      (Syntax.tcons
-      (Syntax.tyInt Syntax.w8)
-      (Syntax.tcons
-      (Syntax.tyInt Syntax.w8)
-      (Syntax.tcons (Syntax.tyArray (Syntax.tyInt Syntax.w8) 16) Syntax.tnil))))
-      8)
-      Syntax.tnil))))
-      (Syntax.tcons
-      (Syntax.tyStruct
-      (List._∷_
-      109
-      (List._∷_
-      101
-      (List._∷_
-      115
-      (List._∷_
-      115
-      (List._∷_
-      97
-      (List._∷_
-      103
-      (List._∷_
-      101
-      (List._∷_
-      58
-      (List._∷_
-      58
-      (List._∷_
-      70
-      (List._∷_
-      114
-      (List._∷_
-      101
-      (List._∷_
-      101
-      (List._∷_ 68 (List._∷_ 101 (List._∷_ 108 (List._∷_ 116 (List._∷_ 97 List.[]))))))))))))))))))
-      (Syntax.tcons Syntax.tyBool (Syntax.tcons (Syntax.tyInt Syntax.w8) Syntax.tnil)))
-      Syntax.tnil)))))))),
-) (List._∷_ (
-  20,
-  Rows'.any-gone
-      (Syntax.tyEnum
-      (List._∷_
-      97
-      (List._∷_
-      110
-      (List._∷_
-      115
-      (List._∷_
-      119
-      (List._∷_
-      101
-      (List._∷_
-      114
-      (List._∷_
-      58
-      (List._∷_
-      58
-      (List._∷_
-      65
-      (List._∷_ 110 (List._∷_ 115 (List._∷_ 119 (List._∷_ 101 (List._∷_ 114 List.[]))))))))))))))
-      (Syntax.ttcons
-      Syntax.tnil
-      (Syntax.ttcons
-      Syntax.tnil
-      (Syntax.ttcons
-      Syntax.tnil
-      (Syntax.ttcons
-      Syntax.tnil
-      (Syntax.ttcons
-      Syntax.tnil
-      (Syntax.ttcons
-      Syntax.tnil
-      (Syntax.ttcons
-      Syntax.tnil
-      (Syntax.ttcons
-      Syntax.tnil
-      (Syntax.ttcons
-      Syntax.tnil
-      (Syntax.ttcons
-      Syntax.tnil
-      (Syntax.ttcons
-      Syntax.tnil
-      (Syntax.ttcons
-      Syntax.tnil
-      (Syntax.ttcons
-      Syntax.tnil
-      (Syntax.ttcons
-      Syntax.tnil
-      (Syntax.ttcons
-      Syntax.tnil
-      (Syntax.ttcons
-      Syntax.tnil
-      (Syntax.ttcons Syntax.tnil (Syntax.ttcons Syntax.tnil Syntax.ttnil))))))))))))))))))),
-) (List._∷_ (21, Rows'.any-gone (KDecided.spelled)) (List._∷_ (
-  22,
-  Rows'.any-gone (KPost.spelled),
-) (List._∷_ (23, Rows'.any-gone (KPost.spelled)) (List._∷_ (
-  24,
-  Rows'.any-gone
-      (Syntax.tyStruct
-      (List._∷_
-      102
-      (List._∷_
-      105
-      (List._∷_
-      110
-      (List._∷_
-      105
-      (List._∷_
-      115
-      (List._∷_
-      104
-      (List._∷_
-      58
-      (List._∷_ 58 (List._∷_ 76 (List._∷_ 105 (List._∷_ 118 (List._∷_ 101 List.[]))))))))))))
-      (Syntax.tcons
-      Syntax.tyBool
-      (Syntax.tcons
-      (Syntax.tyInt Syntax.w64)
-      (Syntax.tcons Syntax.tyBool (Syntax.tcons (Syntax.tyInt Syntax.w64) Syntax.tnil))))),
-) (List._∷_ (25, Rows'.any-gone Syntax.tyUnit) (List._∷_ (
-  26,
-  KParsed.row,
-) (List._∷_ (
-  27,
-  Rows'.any-gone
-      (Syntax.tyRef Syntax.erased Syntax.imm (KInstanceRow.named)),
-) (List._∷_ (
-  28,
-  Rows'.any-gone
-      (Syntax.tyStruct
-      (List._∷_ 38 (List._∷_ 91 (List._∷_ 93 List.[])))
-      (Syntax.tcons
-      (Syntax.tyRef Syntax.erased Syntax.imm (KInstanceRow.named))
-      (Syntax.tcons (Syntax.tyInt Syntax.w64) Syntax.tnil))),
-) (List._∷_ (
-  29,
-  Rows'.any-gone
-      (Syntax.tyRef Syntax.erased Syntax.imm (KRouteRow.named)),
-) (List._∷_ (
-  30,
-  Rows'.any-gone
-      (Syntax.tyStruct
-      (List._∷_ 38 (List._∷_ 91 (List._∷_ 93 List.[])))
-      (Syntax.tcons
-      (Syntax.tyRef Syntax.erased Syntax.imm (KRouteRow.named))
-      (Syntax.tcons (Syntax.tyInt Syntax.w64) Syntax.tnil))),
-) (List._∷_ (
-  31,
-  Rows'.any-gone
-      (Syntax.tyRef Syntax.erased Syntax.imm (KInstanceRow.named)),
-) List.[])))))))))))))))
-
-abbrev pub t22 : List.List Row.Entry
-t22 = List._∷_ (16, Rows'.whole (Declared'.row FoundRoute.the-type)) (List._∷_ (
-  17,
-  Rows'.sc-here Row.sBool,
-) (List._∷_ (
-  18,
-  Rows'.any-gone
-      (Syntax.tyStruct
-      (List._∷_
-      109
-      (List._∷_
-      101
-      (List._∷_
-      115
-      (List._∷_
-      115
-      (List._∷_
-      97
-      (List._∷_
-      103
-      (List._∷_
-      101
-      (List._∷_
-      58
-      (List._∷_
-      58
-      (List._∷_
-      70
-      (List._∷_
-      114
-      (List._∷_
-      101
-      (List._∷_
-      101
-      (List._∷_ 68 (List._∷_ 101 (List._∷_ 108 (List._∷_ 116 (List._∷_ 97 List.[]))))))))))))))))))
-      (Syntax.tcons Syntax.tyBool (Syntax.tcons (Syntax.tyInt Syntax.w8) Syntax.tnil))),
-) (List._∷_ (
-  19,
-  Rows'.any-gone
-      (Syntax.tyStruct
-      (List._∷_
-      114
-      (List._∷_
-      101
-      (List._∷_
-      113
-      (List._∷_
-      117
-      (List._∷_
-      101
-      (List._∷_
-      115
-      (List._∷_
-      116
-      (List._∷_
-      58
-      (List._∷_
-      58
-      (List._∷_
-      82
-      (List._∷_
-      101
-      (List._∷_
-      113
-      (List._∷_
-      117
-      (List._∷_
-      101
-      (List._∷_
-      115
-      (List._∷_
-      116
-      (List._∷_
-      70
-      (List._∷_ 97 (List._∷_ 99 (List._∷_ 116 (List._∷_ 115 List.[])))))))))))))))))))))
-      (Syntax.tcons
-      (Syntax.tyStruct
-      (List._∷_
-      109
-      (List._∷_
-      101
-      (List._∷_
-      115
-      (List._∷_
-      115
-      (List._∷_
-      97
-      (List._∷_
-      103
-      (List._∷_
-      101
-      (List._∷_
-      58
-      (List._∷_
-      58
-      (List._∷_ 70 (List._∷_ 111 (List._∷_ 117 (List._∷_ 110 (List._∷_ 100 List.[]))))))))))))))
-      (Syntax.tcons
-      Syntax.tyBool
-      (Syntax.tcons
-      (Syntax.tyInt Syntax.w64)
-      (Syntax.tcons (KInstanceRow.spelled) Syntax.tnil))))
-      (Syntax.tcons
-      (Syntax.tyStruct
-      (List._∷_
-      109
-      (List._∷_
-      101
-      (List._∷_
-      115
-      (List._∷_
-      115
-      (List._∷_
-      97
-      (List._∷_
-      103
-      (List._∷_
-      101
-      (List._∷_
-      58
-      (List._∷_
-      58
-      (List._∷_
-      70
-      (List._∷_
-      111
-      (List._∷_
-      117
-      (List._∷_
-      110
-      (List._∷_
-      100
-      (List._∷_
-      82
-      (List._∷_ 111 (List._∷_ 117 (List._∷_ 116 (List._∷_ 101 List.[])))))))))))))))))))
-      (Syntax.tcons
-      Syntax.tyBool
-      (Syntax.tcons
-      (Syntax.tyInt Syntax.w64)
-      (Syntax.tcons (KRouteRow.spelled) Syntax.tnil))))
-      (Syntax.tcons
-      (Syntax.tyInt Syntax.w32)
-      (Syntax.tcons
-      (Syntax.tyEnum
-      (List._∷_
-      112
-      (List._∷_
-      108
-      (List._∷_
-      97
-      (List._∷_
-      105
-      (List._∷_
-      110
-      (List._∷_
-      58
-      (List._∷_
-      58
-      (List._∷_
-      83
-      (List._∷_
-      116
-      (List._∷_
-      97
-      (List._∷_ 110 (List._∷_ 100 (List._∷_ 105 (List._∷_ 110 (List._∷_ 103 List.[])))))))))))))))
-      (Syntax.ttcons
-      Syntax.tnil
-      (Syntax.ttcons
-      Syntax.tnil
-      (Syntax.ttcons
-      Syntax.tnil
-      (Syntax.ttcons Syntax.tnil (Syntax.ttcons Syntax.tnil Syntax.ttnil))))))
-      (Syntax.tcons
-      Syntax.tyBool
-      (Syntax.tcons
-      (Syntax.tyStruct
-      (List._∷_
-      97
-      (List._∷_
-      114
-      (List._∷_
-      116
-      (List._∷_
-      58
-      (List._∷_
-      58
-      (List._∷_
-      84
-      (List._∷_
-      97
-      (List._∷_ 114 (List._∷_ 103 (List._∷_ 101 (List._∷_ 116 (List._∷_ 115 List.[]))))))))))))
-      (Syntax.tcons
-      Syntax.tyBool
-      (Syntax.tcons
-      (Syntax.tyInt Syntax.w64)
-      (Syntax.tcons
-      (Syntax.tyArray
-      (Syntax.tyStruct
-      (List._∷_
-      112
-      (List._∷_
-      108
-      (List._∷_
-      97
-      (List._∷_
-      105
-      (List._∷_
-      110
-      (List._∷_
-      58
-      (List._∷_
-      58
-      (List._∷_
-      84
-      (List._∷_ 97 (List._∷_ 114 (List._∷_ 103 (List._∷_ 101 (List._∷_ 116 List.[])))))))))))))
-      (Syntax.tcons
-      (Syntax.tyInt Syntax.w8)
-      (Syntax.tcons
-      (Syntax.tyInt Syntax.w8)
-      (Syntax.tcons (Syntax.tyArray (Syntax.tyInt Syntax.w8) 16) Syntax.tnil))))
-      8)
-      Syntax.tnil))))
-      (Syntax.tcons
-      (Syntax.tyStruct
-      (List._∷_
-      109
-      (List._∷_
-      101
-      (List._∷_
-      115
-      (List._∷_
-      115
-      (List._∷_
-      97
-      (List._∷_
-      103
-      (List._∷_
-      101
-      (List._∷_
-      58
-      (List._∷_
-      58
-      (List._∷_
-      70
-      (List._∷_
-      114
-      (List._∷_
-      101
-      (List._∷_
-      101
-      (List._∷_ 68 (List._∷_ 101 (List._∷_ 108 (List._∷_ 116 (List._∷_ 97 List.[]))))))))))))))))))
-      (Syntax.tcons Syntax.tyBool (Syntax.tcons (Syntax.tyInt Syntax.w8) Syntax.tnil)))
-      Syntax.tnil)))))))),
-) (List._∷_ (
-  20,
-  Rows'.any-gone
-      (Syntax.tyEnum
-      (List._∷_
-      97
-      (List._∷_
-      110
-      (List._∷_
-      115
-      (List._∷_
-      119
-      (List._∷_
-      101
-      (List._∷_
-      114
-      (List._∷_
-      58
-      (List._∷_
-      58
-      (List._∷_
-      65
-      (List._∷_ 110 (List._∷_ 115 (List._∷_ 119 (List._∷_ 101 (List._∷_ 114 List.[]))))))))))))))
-      (Syntax.ttcons
-      Syntax.tnil
-      (Syntax.ttcons
-      Syntax.tnil
-      (Syntax.ttcons
-      Syntax.tnil
-      (Syntax.ttcons
-      Syntax.tnil
-      (Syntax.ttcons
-      Syntax.tnil
-      (Syntax.ttcons
-      Syntax.tnil
-      (Syntax.ttcons
-      Syntax.tnil
-      (Syntax.ttcons
-      Syntax.tnil
-      (Syntax.ttcons
-      Syntax.tnil
-      (Syntax.ttcons
-      Syntax.tnil
-      (Syntax.ttcons
-      Syntax.tnil
-      (Syntax.ttcons
-      Syntax.tnil
-      (Syntax.ttcons
-      Syntax.tnil
-      (Syntax.ttcons
-      Syntax.tnil
-      (Syntax.ttcons
-      Syntax.tnil
-      (Syntax.ttcons
-      Syntax.tnil
-      (Syntax.ttcons Syntax.tnil (Syntax.ttcons Syntax.tnil Syntax.ttnil))))))))))))))))))),
-) (List._∷_ (21, Rows'.any-gone (KDecided.spelled)) (List._∷_ (
-  22,
-  Rows'.any-gone (KPost.spelled),
-) (List._∷_ (23, Rows'.any-gone (KPost.spelled)) (List._∷_ (
-  24,
-  Rows'.any-gone
-      (Syntax.tyStruct
-      (List._∷_
-      102
-      (List._∷_
-      105
-      (List._∷_
-      110
-      (List._∷_
-      105
-      (List._∷_
-      115
-      (List._∷_
-      104
-      (List._∷_
-      58
-      (List._∷_ 58 (List._∷_ 76 (List._∷_ 105 (List._∷_ 118 (List._∷_ 101 List.[]))))))))))))
-      (Syntax.tcons
-      Syntax.tyBool
-      (Syntax.tcons
-      (Syntax.tyInt Syntax.w64)
-      (Syntax.tcons Syntax.tyBool (Syntax.tcons (Syntax.tyInt Syntax.w64) Syntax.tnil))))),
-) (List._∷_ (25, Rows'.any-gone Syntax.tyUnit) (List._∷_ (
-  26,
-  KParsed.row,
-) (List._∷_ (
-  27,
-  Rows'.any-gone
-      (Syntax.tyRef Syntax.erased Syntax.imm (KInstanceRow.named)),
-) (List._∷_ (
-  28,
-  Rows'.any-gone
-      (Syntax.tyStruct
-      (List._∷_ 38 (List._∷_ 91 (List._∷_ 93 List.[])))
-      (Syntax.tcons
-      (Syntax.tyRef Syntax.erased Syntax.imm (KInstanceRow.named))
-      (Syntax.tcons (Syntax.tyInt Syntax.w64) Syntax.tnil))),
-) (List._∷_ (
-  29,
-  Rows'.any-gone
-      (Syntax.tyRef Syntax.erased Syntax.imm (KRouteRow.named)),
-) (List._∷_ (
-  30,
-  Rows'.any-gone
-      (Syntax.tyStruct
-      (List._∷_ 38 (List._∷_ 91 (List._∷_ 93 List.[])))
-      (Syntax.tcons
-      (Syntax.tyRef Syntax.erased Syntax.imm (KRouteRow.named))
-      (Syntax.tcons (Syntax.tyInt Syntax.w64) Syntax.tnil))),
-) (List._∷_ (
-  31,
-  Rows'.any-gone
-      (Syntax.tyRef Syntax.erased Syntax.imm (KInstanceRow.named)),
-) List.[])))))))))))))))
-
-abbrev pub t23 : List.List Row.Entry
-t23 = List._∷_ (16, Rows'.whole (Declared'.row FoundRoute.the-type)) (List._∷_ (
-  17,
-  Rows'.sc-here Row.sBool,
-) (List._∷_ (
-  18,
-  Rows'.any-gone
-      (Syntax.tyStruct
-      (List._∷_
-      109
-      (List._∷_
-      101
-      (List._∷_
-      115
-      (List._∷_
-      115
-      (List._∷_
-      97
-      (List._∷_
-      103
-      (List._∷_
-      101
-      (List._∷_
-      58
-      (List._∷_
-      58
-      (List._∷_
-      70
-      (List._∷_
-      114
-      (List._∷_
-      101
-      (List._∷_
-      101
-      (List._∷_ 68 (List._∷_ 101 (List._∷_ 108 (List._∷_ 116 (List._∷_ 97 List.[]))))))))))))))))))
-      (Syntax.tcons Syntax.tyBool (Syntax.tcons (Syntax.tyInt Syntax.w8) Syntax.tnil))),
-) (List._∷_ (
-  19,
-  Rows'.any-gone
-      (Syntax.tyStruct
-      (List._∷_
-      114
-      (List._∷_
-      101
-      (List._∷_
-      113
-      (List._∷_
-      117
-      (List._∷_
-      101
-      (List._∷_
-      115
-      (List._∷_
-      116
-      (List._∷_
-      58
-      (List._∷_
-      58
-      (List._∷_
-      82
-      (List._∷_
-      101
-      (List._∷_
-      113
-      (List._∷_
-      117
-      (List._∷_
-      101
-      (List._∷_
-      115
-      (List._∷_
-      116
-      (List._∷_
-      70
-      (List._∷_ 97 (List._∷_ 99 (List._∷_ 116 (List._∷_ 115 List.[])))))))))))))))))))))
-      (Syntax.tcons
-      (Syntax.tyStruct
-      (List._∷_
-      109
-      (List._∷_
-      101
-      (List._∷_
-      115
-      (List._∷_
-      115
-      (List._∷_
-      97
-      (List._∷_
-      103
-      (List._∷_
-      101
-      (List._∷_
-      58
-      (List._∷_
-      58
-      (List._∷_ 70 (List._∷_ 111 (List._∷_ 117 (List._∷_ 110 (List._∷_ 100 List.[]))))))))))))))
-      (Syntax.tcons
-      Syntax.tyBool
-      (Syntax.tcons
-      (Syntax.tyInt Syntax.w64)
-      (Syntax.tcons (KInstanceRow.spelled) Syntax.tnil))))
-      (Syntax.tcons
-      (Syntax.tyStruct
-      (List._∷_
-      109
-      (List._∷_
-      101
-      (List._∷_
-      115
-      (List._∷_
-      115
-      (List._∷_
-      97
-      (List._∷_
-      103
-      (List._∷_
-      101
-      (List._∷_
-      58
-      (List._∷_
-      58
-      (List._∷_
-      70
-      (List._∷_
-      111
-      (List._∷_
-      117
-      (List._∷_
-      110
-      (List._∷_
-      100
-      (List._∷_
-      82
-      (List._∷_ 111 (List._∷_ 117 (List._∷_ 116 (List._∷_ 101 List.[])))))))))))))))))))
-      (Syntax.tcons
-      Syntax.tyBool
-      (Syntax.tcons
-      (Syntax.tyInt Syntax.w64)
-      (Syntax.tcons (KRouteRow.spelled) Syntax.tnil))))
-      (Syntax.tcons
-      (Syntax.tyInt Syntax.w32)
-      (Syntax.tcons
-      (Syntax.tyEnum
-      (List._∷_
-      112
-      (List._∷_
-      108
-      (List._∷_
-      97
-      (List._∷_
-      105
-      (List._∷_
-      110
-      (List._∷_
-      58
-      (List._∷_
-      58
-      (List._∷_
-      83
-      (List._∷_
-      116
-      (List._∷_
-      97
-      (List._∷_ 110 (List._∷_ 100 (List._∷_ 105 (List._∷_ 110 (List._∷_ 103 List.[])))))))))))))))
-      (Syntax.ttcons
-      Syntax.tnil
-      (Syntax.ttcons
-      Syntax.tnil
-      (Syntax.ttcons
-      Syntax.tnil
-      (Syntax.ttcons Syntax.tnil (Syntax.ttcons Syntax.tnil Syntax.ttnil))))))
-      (Syntax.tcons
-      Syntax.tyBool
-      (Syntax.tcons
-      (Syntax.tyStruct
-      (List._∷_
-      97
-      (List._∷_
-      114
-      (List._∷_
-      116
-      (List._∷_
-      58
-      (List._∷_
-      58
-      (List._∷_
-      84
-      (List._∷_
-      97
-      (List._∷_ 114 (List._∷_ 103 (List._∷_ 101 (List._∷_ 116 (List._∷_ 115 List.[]))))))))))))
-      (Syntax.tcons
-      Syntax.tyBool
-      (Syntax.tcons
-      (Syntax.tyInt Syntax.w64)
-      (Syntax.tcons
-      (Syntax.tyArray
-      (Syntax.tyStruct
-      (List._∷_
-      112
-      (List._∷_
-      108
-      (List._∷_
-      97
-      (List._∷_
-      105
-      (List._∷_
-      110
-      (List._∷_
-      58
-      (List._∷_
-      58
-      (List._∷_
-      84
-      (List._∷_ 97 (List._∷_ 114 (List._∷_ 103 (List._∷_ 101 (List._∷_ 116 List.[])))))))))))))
-      (Syntax.tcons
-      (Syntax.tyInt Syntax.w8)
-      (Syntax.tcons
-      (Syntax.tyInt Syntax.w8)
-      (Syntax.tcons (Syntax.tyArray (Syntax.tyInt Syntax.w8) 16) Syntax.tnil))))
-      8)
-      Syntax.tnil))))
-      (Syntax.tcons
-      (Syntax.tyStruct
-      (List._∷_
-      109
-      (List._∷_
-      101
-      (List._∷_
-      115
-      (List._∷_
-      115
-      (List._∷_
-      97
-      (List._∷_
-      103
-      (List._∷_
-      101
-      (List._∷_
-      58
-      (List._∷_
-      58
-      (List._∷_
-      70
-      (List._∷_
-      114
-      (List._∷_
-      101
-      (List._∷_
-      101
-      (List._∷_ 68 (List._∷_ 101 (List._∷_ 108 (List._∷_ 116 (List._∷_ 97 List.[]))))))))))))))))))
-      (Syntax.tcons Syntax.tyBool (Syntax.tcons (Syntax.tyInt Syntax.w8) Syntax.tnil)))
-      Syntax.tnil)))))))),
-) (List._∷_ (
-  20,
-  Rows'.any-gone
-      (Syntax.tyEnum
-      (List._∷_
-      97
-      (List._∷_
-      110
-      (List._∷_
-      115
-      (List._∷_
-      119
-      (List._∷_
-      101
-      (List._∷_
-      114
-      (List._∷_
-      58
-      (List._∷_
-      58
-      (List._∷_
-      65
-      (List._∷_ 110 (List._∷_ 115 (List._∷_ 119 (List._∷_ 101 (List._∷_ 114 List.[]))))))))))))))
-      (Syntax.ttcons
-      Syntax.tnil
-      (Syntax.ttcons
-      Syntax.tnil
-      (Syntax.ttcons
-      Syntax.tnil
-      (Syntax.ttcons
-      Syntax.tnil
-      (Syntax.ttcons
-      Syntax.tnil
-      (Syntax.ttcons
-      Syntax.tnil
-      (Syntax.ttcons
-      Syntax.tnil
-      (Syntax.ttcons
-      Syntax.tnil
-      (Syntax.ttcons
-      Syntax.tnil
-      (Syntax.ttcons
-      Syntax.tnil
-      (Syntax.ttcons
-      Syntax.tnil
-      (Syntax.ttcons
-      Syntax.tnil
-      (Syntax.ttcons
-      Syntax.tnil
-      (Syntax.ttcons
-      Syntax.tnil
-      (Syntax.ttcons
-      Syntax.tnil
-      (Syntax.ttcons
-      Syntax.tnil
-      (Syntax.ttcons Syntax.tnil (Syntax.ttcons Syntax.tnil Syntax.ttnil))))))))))))))))))),
-) (List._∷_ (21, Rows'.any-gone (KDecided.spelled)) (List._∷_ (
-  22,
-  Rows'.any-gone (KPost.spelled),
-) (List._∷_ (23, Rows'.any-gone (KPost.spelled)) (List._∷_ (
-  24,
-  Rows'.any-gone
-      (Syntax.tyStruct
-      (List._∷_
-      102
-      (List._∷_
-      105
-      (List._∷_
-      110
-      (List._∷_
-      105
-      (List._∷_
-      115
-      (List._∷_
-      104
-      (List._∷_
-      58
-      (List._∷_ 58 (List._∷_ 76 (List._∷_ 105 (List._∷_ 118 (List._∷_ 101 List.[]))))))))))))
-      (Syntax.tcons
-      Syntax.tyBool
-      (Syntax.tcons
-      (Syntax.tyInt Syntax.w64)
-      (Syntax.tcons Syntax.tyBool (Syntax.tcons (Syntax.tyInt Syntax.w64) Syntax.tnil))))),
-) (List._∷_ (25, Rows'.any-gone Syntax.tyUnit) (List._∷_ (
-  26,
-  Rows'.any-gone (KParsed.spelled),
-) (List._∷_ (
-  27,
-  Rows'.any-gone
-      (Syntax.tyRef Syntax.erased Syntax.imm (KInstanceRow.named)),
-) (List._∷_ (
-  28,
-  Rows'.any-gone
-      (Syntax.tyStruct
-      (List._∷_ 38 (List._∷_ 91 (List._∷_ 93 List.[])))
-      (Syntax.tcons
-      (Syntax.tyRef Syntax.erased Syntax.imm (KInstanceRow.named))
-      (Syntax.tcons (Syntax.tyInt Syntax.w64) Syntax.tnil))),
-) (List._∷_ (
-  29,
-  Rows'.any-gone
-      (Syntax.tyRef Syntax.erased Syntax.imm (KRouteRow.named)),
-) (List._∷_ (
-  30,
-  Rows'.any-gone
-      (Syntax.tyStruct
-      (List._∷_ 38 (List._∷_ 91 (List._∷_ 93 List.[])))
-      (Syntax.tcons
-      (Syntax.tyRef Syntax.erased Syntax.imm (KRouteRow.named))
-      (Syntax.tcons (Syntax.tyInt Syntax.w64) Syntax.tnil))),
-) (List._∷_ (
-  31,
-  Rows'.any-gone
-      (Syntax.tyRef Syntax.erased Syntax.imm (KInstanceRow.named)),
-) List.[])))))))))))))))
-
-abbrev pub t24 : List.List Row.Entry
-t24 = List._∷_ (
+t21 = List._∷_ (
   0,
   Rows'.any-gone
       (Syntax.tyStruct
@@ -10148,12 +9043,9 @@ t24 = List._∷_ (
   Rows'.whole (Declared'.row Found.the-type),
 ) List.[])))))))))))))))
 
-abbrev pub t25 : List.List Row.Entry
-t25 = List._∷_ (16, Rows'.whole (Declared'.row FoundRoute.the-type)) (List._∷_ (
+abbrev pub t22 : List.List Row.Entry
+t22 = List._∷_ (16, Rows'.whole (Declared'.row FoundRoute.the-type)) (List._∷_ (
   17,
-  Rows'.sc-here Row.sBool,
-) (List._∷_ (
-  18,
   Rows'.any-gone
       (Syntax.tyStruct
       (List._∷_
@@ -10185,7 +9077,7 @@ t25 = List._∷_ (16, Rows'.whole (Declared'.row FoundRoute.the-type)) (List._�
       (List._∷_ 68 (List._∷_ 101 (List._∷_ 108 (List._∷_ 116 (List._∷_ 97 List.[]))))))))))))))))))
       (Syntax.tcons Syntax.tyBool (Syntax.tcons (Syntax.tyInt Syntax.w8) Syntax.tnil))),
 ) (List._∷_ (
-  19,
+  18,
   Rows'.any-gone
       (Syntax.tyStruct
       (List._∷_
@@ -10401,7 +9293,7 @@ t25 = List._∷_ (16, Rows'.whole (Declared'.row FoundRoute.the-type)) (List._�
       (Syntax.tcons Syntax.tyBool (Syntax.tcons (Syntax.tyInt Syntax.w8) Syntax.tnil)))
       Syntax.tnil)))))))),
 ) (List._∷_ (
-  20,
+  19,
   Rows'.any-gone
       (Syntax.tyEnum
       (List._∷_
@@ -10456,11 +9348,11 @@ t25 = List._∷_ (16, Rows'.whole (Declared'.row FoundRoute.the-type)) (List._�
       (Syntax.ttcons
       Syntax.tnil
       (Syntax.ttcons Syntax.tnil (Syntax.ttcons Syntax.tnil Syntax.ttnil))))))))))))))))))),
-) (List._∷_ (21, Rows'.any-gone (KDecided.spelled)) (List._∷_ (
-  22,
+) (List._∷_ (20, Rows'.any-gone (KDecided.spelled)) (List._∷_ (
+  21,
   Rows'.any-gone (KPost.spelled),
-) (List._∷_ (23, Rows'.any-gone (KPost.spelled)) (List._∷_ (
-  24,
+) (List._∷_ (22, Rows'.any-gone (KPost.spelled)) (List._∷_ (
+  23,
   Rows'.any-gone
       (Syntax.tyStruct
       (List._∷_
@@ -10483,15 +9375,15 @@ t25 = List._∷_ (16, Rows'.whole (Declared'.row FoundRoute.the-type)) (List._�
       (Syntax.tcons
       (Syntax.tyInt Syntax.w64)
       (Syntax.tcons Syntax.tyBool (Syntax.tcons (Syntax.tyInt Syntax.w64) Syntax.tnil))))),
-) (List._∷_ (25, Rows'.any-gone Syntax.tyUnit) (List._∷_ (
-  26,
+) (List._∷_ (24, Rows'.any-gone Syntax.tyUnit) (List._∷_ (
+  25,
   Rows'.any-gone (KParsed.spelled),
 ) (List._∷_ (
-  27,
+  26,
   Rows'.any-gone
       (Syntax.tyRef Syntax.erased Syntax.imm (KInstanceRow.named)),
 ) (List._∷_ (
-  28,
+  27,
   Rows'.any-gone
       (Syntax.tyStruct
       (List._∷_ 38 (List._∷_ 91 (List._∷_ 93 List.[])))
@@ -10499,11 +9391,11 @@ t25 = List._∷_ (16, Rows'.whole (Declared'.row FoundRoute.the-type)) (List._�
       (Syntax.tyRef Syntax.erased Syntax.imm (KInstanceRow.named))
       (Syntax.tcons (Syntax.tyInt Syntax.w64) Syntax.tnil))),
 ) (List._∷_ (
-  29,
+  28,
   Rows'.any-gone
       (Syntax.tyRef Syntax.erased Syntax.imm (KRouteRow.named)),
 ) (List._∷_ (
-  30,
+  29,
   Rows'.any-gone
       (Syntax.tyStruct
       (List._∷_ 38 (List._∷_ 91 (List._∷_ 93 List.[])))
@@ -10511,93 +9403,56 @@ t25 = List._∷_ (16, Rows'.whole (Declared'.row FoundRoute.the-type)) (List._�
       (Syntax.tyRef Syntax.erased Syntax.imm (KRouteRow.named))
       (Syntax.tcons (Syntax.tyInt Syntax.w64) Syntax.tnil))),
 ) (List._∷_ (
-  31,
+  30,
   Relend.ssptr
       (KInstanceRow.R)
       (Syntax.tyRef Syntax.erased Syntax.imm (KInstanceRow.named))
       8,
+) (List._∷_ (
+  31,
+  Rows'.any-gone
+      (Syntax.tyStruct
+      (List._∷_ 38 (List._∷_ 91 (List._∷_ 93 List.[])))
+      (Syntax.tcons
+      (Syntax.tyRef Syntax.erased Syntax.imm (KInstanceRow.named))
+      (Syntax.tcons (Syntax.tyInt Syntax.w64) Syntax.tnil))),
 ) List.[])))))))))))))))
 
-abbrev pub t26 : List.List Row.Entry
-t26 = List._∷_ (
-  32,
-  Rows'.sslice
-      (KInstanceRow.R)
-      (Syntax.tyRef Syntax.erased Syntax.imm (KInstanceRow.named))
-      8,
-) (List._∷_ (33, Rows'.any-gone (Syntax.tyInt Syntax.w8)) (List._∷_ (
-  34,
-  Rows'.any-gone Syntax.tyBool,
-) (List._∷_ (35, Rows'.any-gone (KDecided.spelled)) (List._∷_ (
-  36,
-  Rows'.any-gone (KPost.spelled),
-) (List._∷_ (
-  37,
-  Rows'.any-gone
-      (Syntax.tyRef Syntax.erased Syntax.mut (KInstanceRow.named)),
-) (List._∷_ (
-  38,
-  Rows'.any-gone
-      (Syntax.tyStruct
-      (List._∷_ 38 (List._∷_ 91 (List._∷_ 93 List.[])))
-      (Syntax.tcons
-      (Syntax.tyRef Syntax.erased Syntax.mut (KInstanceRow.named))
-      (Syntax.tcons (Syntax.tyInt Syntax.w64) Syntax.tnil))),
-) (List._∷_ (
-  39,
-  Rows'.any-gone
-      (Syntax.tyRef Syntax.erased Syntax.mut (KRouteRow.named)),
-) (List._∷_ (
-  40,
-  Rows'.any-gone
-      (Syntax.tyStruct
-      (List._∷_ 38 (List._∷_ 91 (List._∷_ 93 List.[])))
-      (Syntax.tcons
-      (Syntax.tyRef Syntax.erased Syntax.mut (KRouteRow.named))
-      (Syntax.tcons (Syntax.tyInt Syntax.w64) Syntax.tnil))),
-)
-    (List._∷_ (
-      41,
-      Rows'.any-gone (Syntax.tyRef Syntax.erased Syntax.mut (Syntax.tyInt Syntax.w8)),
-    ) (List._∷_ (
-      42,
-      Rows'.any-gone
-          (Syntax.tyStruct
-          (List._∷_ 38 (List._∷_ 91 (List._∷_ 93 List.[])))
-          (Syntax.tcons
-          (Syntax.tyRef Syntax.erased Syntax.mut (Syntax.tyInt Syntax.w8))
-          (Syntax.tcons (Syntax.tyInt Syntax.w64) Syntax.tnil))),
-    ) (List._∷_ (
-      43,
-      Rows'.any-gone (Syntax.tyRef Syntax.erased Syntax.mut (Syntax.tyInt Syntax.w8)),
-    ) (List._∷_ (
-      44,
-      Rows'.any-gone
-          (Syntax.tyStruct
-          (List._∷_ 38 (List._∷_ 91 (List._∷_ 93 List.[])))
-          (Syntax.tcons
-          (Syntax.tyRef Syntax.erased Syntax.mut (Syntax.tyInt Syntax.w8))
-          (Syntax.tcons (Syntax.tyInt Syntax.w64) Syntax.tnil))),
-    ) (List._∷_ (
-      45,
-      Rows'.any-gone
-          (Syntax.tyRef Syntax.erased Syntax.imm (KDecided.named)),
-    ) (List._∷_ (
-      46,
-      Rows'.any-gone
-          (Syntax.tyRef Syntax.erased Syntax.imm (KPost.named)),
-    ) (List._∷_ (
-      47,
-      Rows'.any-gone
-          (Syntax.tyRef Syntax.erased Syntax.imm (KPost.named)),
-    ) List.[])))))))))))))))
-
-abbrev pub t27 : List.List Row.Entry
-t27 = List._∷_ (16, Rows'.whole (Declared'.row FoundRoute.the-type)) (List._∷_ (
+abbrev pub t23 : List.List Row.Entry
+t23 = List._∷_ (16, Rows'.whole (Declared'.row FoundRoute.the-type)) (List._∷_ (
   17,
-  Rows'.sc-here Row.sBool,
-) (List._∷_ (18, Rows'.whole (Declared'.row FreeDelta.the-type)) (List._∷_ (
-  19,
+  Rows'.any-gone
+      (Syntax.tyStruct
+      (List._∷_
+      109
+      (List._∷_
+      101
+      (List._∷_
+      115
+      (List._∷_
+      115
+      (List._∷_
+      97
+      (List._∷_
+      103
+      (List._∷_
+      101
+      (List._∷_
+      58
+      (List._∷_
+      58
+      (List._∷_
+      70
+      (List._∷_
+      114
+      (List._∷_
+      101
+      (List._∷_
+      101
+      (List._∷_ 68 (List._∷_ 101 (List._∷_ 108 (List._∷_ 116 (List._∷_ 97 List.[]))))))))))))))))))
+      (Syntax.tcons Syntax.tyBool (Syntax.tcons (Syntax.tyInt Syntax.w8) Syntax.tnil))),
+) (List._∷_ (
+  18,
   Rows'.any-gone
       (Syntax.tyStruct
       (List._∷_
@@ -10813,7 +9668,7 @@ t27 = List._∷_ (16, Rows'.whole (Declared'.row FoundRoute.the-type)) (List._�
       (Syntax.tcons Syntax.tyBool (Syntax.tcons (Syntax.tyInt Syntax.w8) Syntax.tnil)))
       Syntax.tnil)))))))),
 ) (List._∷_ (
-  20,
+  19,
   Rows'.any-gone
       (Syntax.tyEnum
       (List._∷_
@@ -10868,11 +9723,11 @@ t27 = List._∷_ (16, Rows'.whole (Declared'.row FoundRoute.the-type)) (List._�
       (Syntax.ttcons
       Syntax.tnil
       (Syntax.ttcons Syntax.tnil (Syntax.ttcons Syntax.tnil Syntax.ttnil))))))))))))))))))),
-) (List._∷_ (21, Rows'.any-gone (KDecided.spelled)) (List._∷_ (
-  22,
+) (List._∷_ (20, Rows'.any-gone (KDecided.spelled)) (List._∷_ (
+  21,
   Rows'.any-gone (KPost.spelled),
-) (List._∷_ (23, Rows'.any-gone (KPost.spelled)) (List._∷_ (
-  24,
+) (List._∷_ (22, Rows'.any-gone (KPost.spelled)) (List._∷_ (
+  23,
   Rows'.any-gone
       (Syntax.tyStruct
       (List._∷_
@@ -10895,15 +9750,15 @@ t27 = List._∷_ (16, Rows'.whole (Declared'.row FoundRoute.the-type)) (List._�
       (Syntax.tcons
       (Syntax.tyInt Syntax.w64)
       (Syntax.tcons Syntax.tyBool (Syntax.tcons (Syntax.tyInt Syntax.w64) Syntax.tnil))))),
-) (List._∷_ (25, Rows'.any-gone Syntax.tyUnit) (List._∷_ (
-  26,
+) (List._∷_ (24, Rows'.any-gone Syntax.tyUnit) (List._∷_ (
+  25,
   Rows'.any-gone (KParsed.spelled),
 ) (List._∷_ (
-  27,
+  26,
   Rows'.any-gone
       (Syntax.tyRef Syntax.erased Syntax.imm (KInstanceRow.named)),
 ) (List._∷_ (
-  28,
+  27,
   Rows'.any-gone
       (Syntax.tyStruct
       (List._∷_ 38 (List._∷_ 91 (List._∷_ 93 List.[])))
@@ -10911,11 +9766,11 @@ t27 = List._∷_ (16, Rows'.whole (Declared'.row FoundRoute.the-type)) (List._�
       (Syntax.tyRef Syntax.erased Syntax.imm (KInstanceRow.named))
       (Syntax.tcons (Syntax.tyInt Syntax.w64) Syntax.tnil))),
 ) (List._∷_ (
-  29,
+  28,
   Rows'.any-gone
       (Syntax.tyRef Syntax.erased Syntax.imm (KRouteRow.named)),
 ) (List._∷_ (
-  30,
+  29,
   Rows'.any-gone
       (Syntax.tyStruct
       (List._∷_ 38 (List._∷_ 91 (List._∷_ 93 List.[])))
@@ -10923,13 +9778,705 @@ t27 = List._∷_ (16, Rows'.whole (Declared'.row FoundRoute.the-type)) (List._�
       (Syntax.tyRef Syntax.erased Syntax.imm (KRouteRow.named))
       (Syntax.tcons (Syntax.tyInt Syntax.w64) Syntax.tnil))),
 ) (List._∷_ (
-  31,
+  30,
   Rows'.any-gone
       (Syntax.tyRef Syntax.erased Syntax.imm (KInstanceRow.named)),
+) (List._∷_ (
+  31,
+  Rows'.sslice
+      (KInstanceRow.R)
+      (Syntax.tyRef Syntax.erased Syntax.imm (KInstanceRow.named))
+      8,
 ) List.[])))))))))))))))
 
-abbrev pub t28 : List.List Row.Entry
-t28 = List._∷_ (
+abbrev pub t24 : List.List Row.Entry
+t24 = List._∷_ (16, Rows'.whole (Declared'.row FoundRoute.the-type)) (List._∷_ (
+  17,
+  Rows'.whole (Declared'.row FreeDelta.the-type),
+) (List._∷_ (
+  18,
+  Rows'.any-gone
+      (Syntax.tyStruct
+      (List._∷_
+      114
+      (List._∷_
+      101
+      (List._∷_
+      113
+      (List._∷_
+      117
+      (List._∷_
+      101
+      (List._∷_
+      115
+      (List._∷_
+      116
+      (List._∷_
+      58
+      (List._∷_
+      58
+      (List._∷_
+      82
+      (List._∷_
+      101
+      (List._∷_
+      113
+      (List._∷_
+      117
+      (List._∷_
+      101
+      (List._∷_
+      115
+      (List._∷_
+      116
+      (List._∷_
+      70
+      (List._∷_ 97 (List._∷_ 99 (List._∷_ 116 (List._∷_ 115 List.[])))))))))))))))))))))
+      (Syntax.tcons
+      (Syntax.tyStruct
+      (List._∷_
+      109
+      (List._∷_
+      101
+      (List._∷_
+      115
+      (List._∷_
+      115
+      (List._∷_
+      97
+      (List._∷_
+      103
+      (List._∷_
+      101
+      (List._∷_
+      58
+      (List._∷_
+      58
+      (List._∷_ 70 (List._∷_ 111 (List._∷_ 117 (List._∷_ 110 (List._∷_ 100 List.[]))))))))))))))
+      (Syntax.tcons
+      Syntax.tyBool
+      (Syntax.tcons
+      (Syntax.tyInt Syntax.w64)
+      (Syntax.tcons (KInstanceRow.spelled) Syntax.tnil))))
+      (Syntax.tcons
+      (Syntax.tyStruct
+      (List._∷_
+      109
+      (List._∷_
+      101
+      (List._∷_
+      115
+      (List._∷_
+      115
+      (List._∷_
+      97
+      (List._∷_
+      103
+      (List._∷_
+      101
+      (List._∷_
+      58
+      (List._∷_
+      58
+      (List._∷_
+      70
+      (List._∷_
+      111
+      (List._∷_
+      117
+      (List._∷_
+      110
+      (List._∷_
+      100
+      (List._∷_
+      82
+      (List._∷_ 111 (List._∷_ 117 (List._∷_ 116 (List._∷_ 101 List.[])))))))))))))))))))
+      (Syntax.tcons
+      Syntax.tyBool
+      (Syntax.tcons
+      (Syntax.tyInt Syntax.w64)
+      (Syntax.tcons (KRouteRow.spelled) Syntax.tnil))))
+      (Syntax.tcons
+      (Syntax.tyInt Syntax.w32)
+      (Syntax.tcons
+      (Syntax.tyEnum
+      (List._∷_
+      112
+      (List._∷_
+      108
+      (List._∷_
+      97
+      (List._∷_
+      105
+      (List._∷_
+      110
+      (List._∷_
+      58
+      (List._∷_
+      58
+      (List._∷_
+      83
+      (List._∷_
+      116
+      (List._∷_
+      97
+      (List._∷_ 110 (List._∷_ 100 (List._∷_ 105 (List._∷_ 110 (List._∷_ 103 List.[])))))))))))))))
+      (Syntax.ttcons
+      Syntax.tnil
+      (Syntax.ttcons
+      Syntax.tnil
+      (Syntax.ttcons
+      Syntax.tnil
+      (Syntax.ttcons Syntax.tnil (Syntax.ttcons Syntax.tnil Syntax.ttnil))))))
+      (Syntax.tcons
+      Syntax.tyBool
+      (Syntax.tcons
+      (Syntax.tyStruct
+      (List._∷_
+      97
+      (List._∷_
+      114
+      (List._∷_
+      116
+      (List._∷_
+      58
+      (List._∷_
+      58
+      (List._∷_
+      84
+      (List._∷_
+      97
+      (List._∷_ 114 (List._∷_ 103 (List._∷_ 101 (List._∷_ 116 (List._∷_ 115 List.[]))))))))))))
+      (Syntax.tcons
+      Syntax.tyBool
+      (Syntax.tcons
+      (Syntax.tyInt Syntax.w64)
+      (Syntax.tcons
+      (Syntax.tyArray
+      (Syntax.tyStruct
+      (List._∷_
+      112
+      (List._∷_
+      108
+      (List._∷_
+      97
+      (List._∷_
+      105
+      (List._∷_
+      110
+      (List._∷_
+      58
+      (List._∷_
+      58
+      (List._∷_
+      84
+      (List._∷_ 97 (List._∷_ 114 (List._∷_ 103 (List._∷_ 101 (List._∷_ 116 List.[])))))))))))))
+      (Syntax.tcons
+      (Syntax.tyInt Syntax.w8)
+      (Syntax.tcons
+      (Syntax.tyInt Syntax.w8)
+      (Syntax.tcons (Syntax.tyArray (Syntax.tyInt Syntax.w8) 16) Syntax.tnil))))
+      8)
+      Syntax.tnil))))
+      (Syntax.tcons
+      (Syntax.tyStruct
+      (List._∷_
+      109
+      (List._∷_
+      101
+      (List._∷_
+      115
+      (List._∷_
+      115
+      (List._∷_
+      97
+      (List._∷_
+      103
+      (List._∷_
+      101
+      (List._∷_
+      58
+      (List._∷_
+      58
+      (List._∷_
+      70
+      (List._∷_
+      114
+      (List._∷_
+      101
+      (List._∷_
+      101
+      (List._∷_ 68 (List._∷_ 101 (List._∷_ 108 (List._∷_ 116 (List._∷_ 97 List.[]))))))))))))))))))
+      (Syntax.tcons Syntax.tyBool (Syntax.tcons (Syntax.tyInt Syntax.w8) Syntax.tnil)))
+      Syntax.tnil)))))))),
+) (List._∷_ (
+  19,
+  Rows'.any-gone
+      (Syntax.tyEnum
+      (List._∷_
+      97
+      (List._∷_
+      110
+      (List._∷_
+      115
+      (List._∷_
+      119
+      (List._∷_
+      101
+      (List._∷_
+      114
+      (List._∷_
+      58
+      (List._∷_
+      58
+      (List._∷_
+      65
+      (List._∷_ 110 (List._∷_ 115 (List._∷_ 119 (List._∷_ 101 (List._∷_ 114 List.[]))))))))))))))
+      (Syntax.ttcons
+      Syntax.tnil
+      (Syntax.ttcons
+      Syntax.tnil
+      (Syntax.ttcons
+      Syntax.tnil
+      (Syntax.ttcons
+      Syntax.tnil
+      (Syntax.ttcons
+      Syntax.tnil
+      (Syntax.ttcons
+      Syntax.tnil
+      (Syntax.ttcons
+      Syntax.tnil
+      (Syntax.ttcons
+      Syntax.tnil
+      (Syntax.ttcons
+      Syntax.tnil
+      (Syntax.ttcons
+      Syntax.tnil
+      (Syntax.ttcons
+      Syntax.tnil
+      (Syntax.ttcons
+      Syntax.tnil
+      (Syntax.ttcons
+      Syntax.tnil
+      (Syntax.ttcons
+      Syntax.tnil
+      (Syntax.ttcons
+      Syntax.tnil
+      (Syntax.ttcons
+      Syntax.tnil
+      (Syntax.ttcons Syntax.tnil (Syntax.ttcons Syntax.tnil Syntax.ttnil))))))))))))))))))),
+) (List._∷_ (20, Rows'.any-gone (KDecided.spelled)) (List._∷_ (
+  21,
+  Rows'.any-gone (KPost.spelled),
+) (List._∷_ (22, Rows'.any-gone (KPost.spelled)) (List._∷_ (
+  23,
+  Rows'.any-gone
+      (Syntax.tyStruct
+      (List._∷_
+      102
+      (List._∷_
+      105
+      (List._∷_
+      110
+      (List._∷_
+      105
+      (List._∷_
+      115
+      (List._∷_
+      104
+      (List._∷_
+      58
+      (List._∷_ 58 (List._∷_ 76 (List._∷_ 105 (List._∷_ 118 (List._∷_ 101 List.[]))))))))))))
+      (Syntax.tcons
+      Syntax.tyBool
+      (Syntax.tcons
+      (Syntax.tyInt Syntax.w64)
+      (Syntax.tcons Syntax.tyBool (Syntax.tcons (Syntax.tyInt Syntax.w64) Syntax.tnil))))),
+) (List._∷_ (24, Rows'.any-gone Syntax.tyUnit) (List._∷_ (
+  25,
+  Rows'.any-gone (KParsed.spelled),
+) (List._∷_ (
+  26,
+  Rows'.any-gone
+      (Syntax.tyRef Syntax.erased Syntax.imm (KInstanceRow.named)),
+) (List._∷_ (
+  27,
+  Rows'.any-gone
+      (Syntax.tyStruct
+      (List._∷_ 38 (List._∷_ 91 (List._∷_ 93 List.[])))
+      (Syntax.tcons
+      (Syntax.tyRef Syntax.erased Syntax.imm (KInstanceRow.named))
+      (Syntax.tcons (Syntax.tyInt Syntax.w64) Syntax.tnil))),
+) (List._∷_ (
+  28,
+  Rows'.any-gone
+      (Syntax.tyRef Syntax.erased Syntax.imm (KRouteRow.named)),
+) (List._∷_ (
+  29,
+  Rows'.any-gone
+      (Syntax.tyStruct
+      (List._∷_ 38 (List._∷_ 91 (List._∷_ 93 List.[])))
+      (Syntax.tcons
+      (Syntax.tyRef Syntax.erased Syntax.imm (KRouteRow.named))
+      (Syntax.tcons (Syntax.tyInt Syntax.w64) Syntax.tnil))),
+) (List._∷_ (
+  30,
+  Rows'.any-gone
+      (Syntax.tyRef Syntax.erased Syntax.imm (KInstanceRow.named)),
+) (List._∷_ (
+  31,
+  Rows'.sslice
+      (KInstanceRow.R)
+      (Syntax.tyRef Syntax.erased Syntax.imm (KInstanceRow.named))
+      8,
+) List.[])))))))))))))))
+
+abbrev pub t25 : List.List Row.Entry
+t25 = List._∷_ (16, Rows'.whole (Declared'.row FoundRoute.the-type)) (List._∷_ (
+  17,
+  Rows'.whole (Declared'.row FreeDelta.the-type),
+) (List._∷_ (
+  18,
+  Rows'.any-gone
+      (Syntax.tyStruct
+      (List._∷_
+      114
+      (List._∷_
+      101
+      (List._∷_
+      113
+      (List._∷_
+      117
+      (List._∷_
+      101
+      (List._∷_
+      115
+      (List._∷_
+      116
+      (List._∷_
+      58
+      (List._∷_
+      58
+      (List._∷_
+      82
+      (List._∷_
+      101
+      (List._∷_
+      113
+      (List._∷_
+      117
+      (List._∷_
+      101
+      (List._∷_
+      115
+      (List._∷_
+      116
+      (List._∷_
+      70
+      (List._∷_ 97 (List._∷_ 99 (List._∷_ 116 (List._∷_ 115 List.[])))))))))))))))))))))
+      (Syntax.tcons
+      (Syntax.tyStruct
+      (List._∷_
+      109
+      (List._∷_
+      101
+      (List._∷_
+      115
+      (List._∷_
+      115
+      (List._∷_
+      97
+      (List._∷_
+      103
+      (List._∷_
+      101
+      (List._∷_
+      58
+      (List._∷_
+      58
+      (List._∷_ 70 (List._∷_ 111 (List._∷_ 117 (List._∷_ 110 (List._∷_ 100 List.[]))))))))))))))
+      (Syntax.tcons
+      Syntax.tyBool
+      (Syntax.tcons
+      (Syntax.tyInt Syntax.w64)
+      (Syntax.tcons (KInstanceRow.spelled) Syntax.tnil))))
+      (Syntax.tcons
+      (Syntax.tyStruct
+      (List._∷_
+      109
+      (List._∷_
+      101
+      (List._∷_
+      115
+      (List._∷_
+      115
+      (List._∷_
+      97
+      (List._∷_
+      103
+      (List._∷_
+      101
+      (List._∷_
+      58
+      (List._∷_
+      58
+      (List._∷_
+      70
+      (List._∷_
+      111
+      (List._∷_
+      117
+      (List._∷_
+      110
+      (List._∷_
+      100
+      (List._∷_
+      82
+      (List._∷_ 111 (List._∷_ 117 (List._∷_ 116 (List._∷_ 101 List.[])))))))))))))))))))
+      (Syntax.tcons
+      Syntax.tyBool
+      (Syntax.tcons
+      (Syntax.tyInt Syntax.w64)
+      (Syntax.tcons (KRouteRow.spelled) Syntax.tnil))))
+      (Syntax.tcons
+      (Syntax.tyInt Syntax.w32)
+      (Syntax.tcons
+      (Syntax.tyEnum
+      (List._∷_
+      112
+      (List._∷_
+      108
+      (List._∷_
+      97
+      (List._∷_
+      105
+      (List._∷_
+      110
+      (List._∷_
+      58
+      (List._∷_
+      58
+      (List._∷_
+      83
+      (List._∷_
+      116
+      (List._∷_
+      97
+      (List._∷_ 110 (List._∷_ 100 (List._∷_ 105 (List._∷_ 110 (List._∷_ 103 List.[])))))))))))))))
+      (Syntax.ttcons
+      Syntax.tnil
+      (Syntax.ttcons
+      Syntax.tnil
+      (Syntax.ttcons
+      Syntax.tnil
+      (Syntax.ttcons Syntax.tnil (Syntax.ttcons Syntax.tnil Syntax.ttnil))))))
+      (Syntax.tcons
+      Syntax.tyBool
+      (Syntax.tcons
+      (Syntax.tyStruct
+      (List._∷_
+      97
+      (List._∷_
+      114
+      (List._∷_
+      116
+      (List._∷_
+      58
+      (List._∷_
+      58
+      (List._∷_
+      84
+      (List._∷_
+      97
+      (List._∷_ 114 (List._∷_ 103 (List._∷_ 101 (List._∷_ 116 (List._∷_ 115 List.[]))))))))))))
+      (Syntax.tcons
+      Syntax.tyBool
+      (Syntax.tcons
+      (Syntax.tyInt Syntax.w64)
+      (Syntax.tcons
+      (Syntax.tyArray
+      (Syntax.tyStruct
+      (List._∷_
+      112
+      (List._∷_
+      108
+      (List._∷_
+      97
+      (List._∷_
+      105
+      (List._∷_
+      110
+      (List._∷_
+      58
+      (List._∷_
+      58
+      (List._∷_
+      84
+      (List._∷_ 97 (List._∷_ 114 (List._∷_ 103 (List._∷_ 101 (List._∷_ 116 List.[])))))))))))))
+      (Syntax.tcons
+      (Syntax.tyInt Syntax.w8)
+      (Syntax.tcons
+      (Syntax.tyInt Syntax.w8)
+      (Syntax.tcons (Syntax.tyArray (Syntax.tyInt Syntax.w8) 16) Syntax.tnil))))
+      8)
+      Syntax.tnil))))
+      (Syntax.tcons
+      (Syntax.tyStruct
+      (List._∷_
+      109
+      (List._∷_
+      101
+      (List._∷_
+      115
+      (List._∷_
+      115
+      (List._∷_
+      97
+      (List._∷_
+      103
+      (List._∷_
+      101
+      (List._∷_
+      58
+      (List._∷_
+      58
+      (List._∷_
+      70
+      (List._∷_
+      114
+      (List._∷_
+      101
+      (List._∷_
+      101
+      (List._∷_ 68 (List._∷_ 101 (List._∷_ 108 (List._∷_ 116 (List._∷_ 97 List.[]))))))))))))))))))
+      (Syntax.tcons Syntax.tyBool (Syntax.tcons (Syntax.tyInt Syntax.w8) Syntax.tnil)))
+      Syntax.tnil)))))))),
+) (List._∷_ (
+  19,
+  Rows'.any-gone
+      (Syntax.tyEnum
+      (List._∷_
+      97
+      (List._∷_
+      110
+      (List._∷_
+      115
+      (List._∷_
+      119
+      (List._∷_
+      101
+      (List._∷_
+      114
+      (List._∷_
+      58
+      (List._∷_
+      58
+      (List._∷_
+      65
+      (List._∷_ 110 (List._∷_ 115 (List._∷_ 119 (List._∷_ 101 (List._∷_ 114 List.[]))))))))))))))
+      (Syntax.ttcons
+      Syntax.tnil
+      (Syntax.ttcons
+      Syntax.tnil
+      (Syntax.ttcons
+      Syntax.tnil
+      (Syntax.ttcons
+      Syntax.tnil
+      (Syntax.ttcons
+      Syntax.tnil
+      (Syntax.ttcons
+      Syntax.tnil
+      (Syntax.ttcons
+      Syntax.tnil
+      (Syntax.ttcons
+      Syntax.tnil
+      (Syntax.ttcons
+      Syntax.tnil
+      (Syntax.ttcons
+      Syntax.tnil
+      (Syntax.ttcons
+      Syntax.tnil
+      (Syntax.ttcons
+      Syntax.tnil
+      (Syntax.ttcons
+      Syntax.tnil
+      (Syntax.ttcons
+      Syntax.tnil
+      (Syntax.ttcons
+      Syntax.tnil
+      (Syntax.ttcons
+      Syntax.tnil
+      (Syntax.ttcons Syntax.tnil (Syntax.ttcons Syntax.tnil Syntax.ttnil))))))))))))))))))),
+) (List._∷_ (20, Rows'.any-gone (KDecided.spelled)) (List._∷_ (
+  21,
+  Rows'.any-gone (KPost.spelled),
+) (List._∷_ (22, Rows'.any-gone (KPost.spelled)) (List._∷_ (
+  23,
+  Rows'.any-gone
+      (Syntax.tyStruct
+      (List._∷_
+      102
+      (List._∷_
+      105
+      (List._∷_
+      110
+      (List._∷_
+      105
+      (List._∷_
+      115
+      (List._∷_
+      104
+      (List._∷_
+      58
+      (List._∷_ 58 (List._∷_ 76 (List._∷_ 105 (List._∷_ 118 (List._∷_ 101 List.[]))))))))))))
+      (Syntax.tcons
+      Syntax.tyBool
+      (Syntax.tcons
+      (Syntax.tyInt Syntax.w64)
+      (Syntax.tcons Syntax.tyBool (Syntax.tcons (Syntax.tyInt Syntax.w64) Syntax.tnil))))),
+) (List._∷_ (24, Rows'.any-gone Syntax.tyUnit) (List._∷_ (
+  25,
+  Rows'.any-gone (KParsed.spelled),
+) (List._∷_ (
+  26,
+  Rows'.any-gone
+      (Syntax.tyRef Syntax.erased Syntax.imm (KInstanceRow.named)),
+) (List._∷_ (
+  27,
+  Rows'.any-gone
+      (Syntax.tyStruct
+      (List._∷_ 38 (List._∷_ 91 (List._∷_ 93 List.[])))
+      (Syntax.tcons
+      (Syntax.tyRef Syntax.erased Syntax.imm (KInstanceRow.named))
+      (Syntax.tcons (Syntax.tyInt Syntax.w64) Syntax.tnil))),
+) (List._∷_ (
+  28,
+  Rows'.any-gone
+      (Syntax.tyRef Syntax.erased Syntax.imm (KRouteRow.named)),
+) (List._∷_ (
+  29,
+  Rows'.any-gone
+      (Syntax.tyStruct
+      (List._∷_ 38 (List._∷_ 91 (List._∷_ 93 List.[])))
+      (Syntax.tcons
+      (Syntax.tyRef Syntax.erased Syntax.imm (KRouteRow.named))
+      (Syntax.tcons (Syntax.tyInt Syntax.w64) Syntax.tnil))),
+) (List._∷_ (
+  30,
+  Rows'.any-gone
+      (Syntax.tyRef Syntax.erased Syntax.imm (KInstanceRow.named)),
+) (List._∷_ (
+  31,
+  Rows'.any-gone
+      (Syntax.tyStruct
+      (List._∷_ 38 (List._∷_ 91 (List._∷_ 93 List.[])))
+      (Syntax.tcons
+      (Syntax.tyRef Syntax.erased Syntax.imm (KInstanceRow.named))
+      (Syntax.tcons (Syntax.tyInt Syntax.w64) Syntax.tnil))),
+) List.[])))))))))))))))
+
+abbrev pub t26 : List.List Row.Entry
+t26 = List._∷_ (
   0,
   Rows'.any-gone
       (Syntax.tyStruct
@@ -11214,8 +10761,8 @@ t28 = List._∷_ (
   Rows'.whole (Declared'.row Found.the-type),
 ) List.[])))))))))))))))
 
-abbrev pub t29 : List.List Row.Entry
-t29 = List._∷_ (
+abbrev pub t27 : List.List Row.Entry
+t27 = List._∷_ (
   0,
   Rows'.any-gone
       (Syntax.tyStruct
@@ -11498,12 +11045,12 @@ t29 = List._∷_ (
   Rows'.whole (Declared'.row Found.the-type),
 ) List.[])))))))))))))))
 
-abbrev pub t30 : List.List Row.Entry
-t30 = List._∷_ (16, Rows'.whole (Declared'.row FoundRoute.the-type)) (List._∷_ (
+abbrev pub t28 : List.List Row.Entry
+t28 = List._∷_ (16, Rows'.whole (Declared'.row FoundRoute.the-type)) (List._∷_ (
   17,
-  Rows'.sc-here Row.sBool,
-) (List._∷_ (18, Rows'.whole (Declared'.row FreeDelta.the-type)) (List._∷_ (
-  19,
+  Rows'.whole (Declared'.row FreeDelta.the-type),
+) (List._∷_ (
+  18,
   Rows'.any-gone
       (Syntax.tyStruct
       (List._∷_
@@ -11719,7 +11266,7 @@ t30 = List._∷_ (16, Rows'.whole (Declared'.row FoundRoute.the-type)) (List._�
       (Syntax.tcons Syntax.tyBool (Syntax.tcons (Syntax.tyInt Syntax.w8) Syntax.tnil)))
       Syntax.tnil)))))))),
 ) (List._∷_ (
-  20,
+  19,
   Rows'.any-gone
       (Syntax.tyEnum
       (List._∷_
@@ -11774,11 +11321,11 @@ t30 = List._∷_ (16, Rows'.whole (Declared'.row FoundRoute.the-type)) (List._�
       (Syntax.ttcons
       Syntax.tnil
       (Syntax.ttcons Syntax.tnil (Syntax.ttcons Syntax.tnil Syntax.ttnil))))))))))))))))))),
-) (List._∷_ (21, Rows'.any-gone (KDecided.spelled)) (List._∷_ (
-  22,
+) (List._∷_ (20, Rows'.any-gone (KDecided.spelled)) (List._∷_ (
+  21,
   Rows'.any-gone (KPost.spelled),
-) (List._∷_ (23, Rows'.any-gone (KPost.spelled)) (List._∷_ (
-  24,
+) (List._∷_ (22, Rows'.any-gone (KPost.spelled)) (List._∷_ (
+  23,
   Rows'.any-gone
       (Syntax.tyStruct
       (List._∷_
@@ -11801,15 +11348,15 @@ t30 = List._∷_ (16, Rows'.whole (Declared'.row FoundRoute.the-type)) (List._�
       (Syntax.tcons
       (Syntax.tyInt Syntax.w64)
       (Syntax.tcons Syntax.tyBool (Syntax.tcons (Syntax.tyInt Syntax.w64) Syntax.tnil))))),
-) (List._∷_ (25, Rows'.any-gone Syntax.tyUnit) (List._∷_ (
-  26,
+) (List._∷_ (24, Rows'.any-gone Syntax.tyUnit) (List._∷_ (
+  25,
   KParsed.row,
 ) (List._∷_ (
-  27,
+  26,
   Rows'.any-gone
       (Syntax.tyRef Syntax.erased Syntax.imm (KInstanceRow.named)),
 ) (List._∷_ (
-  28,
+  27,
   Rows'.any-gone
       (Syntax.tyStruct
       (List._∷_ 38 (List._∷_ 91 (List._∷_ 93 List.[])))
@@ -11817,11 +11364,11 @@ t30 = List._∷_ (16, Rows'.whole (Declared'.row FoundRoute.the-type)) (List._�
       (Syntax.tyRef Syntax.erased Syntax.imm (KInstanceRow.named))
       (Syntax.tcons (Syntax.tyInt Syntax.w64) Syntax.tnil))),
 ) (List._∷_ (
-  29,
+  28,
   Rows'.any-gone
       (Syntax.tyRef Syntax.erased Syntax.imm (KRouteRow.named)),
 ) (List._∷_ (
-  30,
+  29,
   Rows'.any-gone
       (Syntax.tyStruct
       (List._∷_ 38 (List._∷_ 91 (List._∷_ 93 List.[])))
@@ -11829,20 +11376,339 @@ t30 = List._∷_ (16, Rows'.whole (Declared'.row FoundRoute.the-type)) (List._�
       (Syntax.tyRef Syntax.erased Syntax.imm (KRouteRow.named))
       (Syntax.tcons (Syntax.tyInt Syntax.w64) Syntax.tnil))),
 ) (List._∷_ (
-  31,
+  30,
   Rows'.any-gone
       (Syntax.tyRef Syntax.erased Syntax.imm (KInstanceRow.named)),
+) (List._∷_ (
+  31,
+  Rows'.any-gone
+      (Syntax.tyStruct
+      (List._∷_ 38 (List._∷_ 91 (List._∷_ 93 List.[])))
+      (Syntax.tcons
+      (Syntax.tyRef Syntax.erased Syntax.imm (KInstanceRow.named))
+      (Syntax.tcons (Syntax.tyInt Syntax.w64) Syntax.tnil))),
+) List.[])))))))))))))))
+
+abbrev pub t29 : List.List Row.Entry
+t29 = List._∷_ (16, Rows'.whole (Declared'.row FoundRoute.the-type)) (List._∷_ (
+  17,
+  Rows'.whole (Declared'.row FreeDelta.the-type),
+) (List._∷_ (18, Rows'.whole (Declared'.row RequestFacts.the-type)) (List._∷_ (
+  19,
+  Rows'.any-gone
+      (Syntax.tyEnum
+      (List._∷_
+      97
+      (List._∷_
+      110
+      (List._∷_
+      115
+      (List._∷_
+      119
+      (List._∷_
+      101
+      (List._∷_
+      114
+      (List._∷_
+      58
+      (List._∷_
+      58
+      (List._∷_
+      65
+      (List._∷_ 110 (List._∷_ 115 (List._∷_ 119 (List._∷_ 101 (List._∷_ 114 List.[]))))))))))))))
+      (Syntax.ttcons
+      Syntax.tnil
+      (Syntax.ttcons
+      Syntax.tnil
+      (Syntax.ttcons
+      Syntax.tnil
+      (Syntax.ttcons
+      Syntax.tnil
+      (Syntax.ttcons
+      Syntax.tnil
+      (Syntax.ttcons
+      Syntax.tnil
+      (Syntax.ttcons
+      Syntax.tnil
+      (Syntax.ttcons
+      Syntax.tnil
+      (Syntax.ttcons
+      Syntax.tnil
+      (Syntax.ttcons
+      Syntax.tnil
+      (Syntax.ttcons
+      Syntax.tnil
+      (Syntax.ttcons
+      Syntax.tnil
+      (Syntax.ttcons
+      Syntax.tnil
+      (Syntax.ttcons
+      Syntax.tnil
+      (Syntax.ttcons
+      Syntax.tnil
+      (Syntax.ttcons
+      Syntax.tnil
+      (Syntax.ttcons Syntax.tnil (Syntax.ttcons Syntax.tnil Syntax.ttnil))))))))))))))))))),
+) (List._∷_ (20, Rows'.any-gone (KDecided.spelled)) (List._∷_ (
+  21,
+  Rows'.any-gone (KPost.spelled),
+) (List._∷_ (22, Rows'.any-gone (KPost.spelled)) (List._∷_ (
+  23,
+  Rows'.any-gone
+      (Syntax.tyStruct
+      (List._∷_
+      102
+      (List._∷_
+      105
+      (List._∷_
+      110
+      (List._∷_
+      105
+      (List._∷_
+      115
+      (List._∷_
+      104
+      (List._∷_
+      58
+      (List._∷_ 58 (List._∷_ 76 (List._∷_ 105 (List._∷_ 118 (List._∷_ 101 List.[]))))))))))))
+      (Syntax.tcons
+      Syntax.tyBool
+      (Syntax.tcons
+      (Syntax.tyInt Syntax.w64)
+      (Syntax.tcons Syntax.tyBool (Syntax.tcons (Syntax.tyInt Syntax.w64) Syntax.tnil))))),
+) (List._∷_ (24, Rows'.any-gone Syntax.tyUnit) (List._∷_ (
+  25,
+  KParsed.row,
+) (List._∷_ (
+  26,
+  Rows'.any-gone
+      (Syntax.tyRef Syntax.erased Syntax.imm (KInstanceRow.named)),
+) (List._∷_ (
+  27,
+  Rows'.any-gone
+      (Syntax.tyStruct
+      (List._∷_ 38 (List._∷_ 91 (List._∷_ 93 List.[])))
+      (Syntax.tcons
+      (Syntax.tyRef Syntax.erased Syntax.imm (KInstanceRow.named))
+      (Syntax.tcons (Syntax.tyInt Syntax.w64) Syntax.tnil))),
+) (List._∷_ (
+  28,
+  Rows'.any-gone
+      (Syntax.tyRef Syntax.erased Syntax.imm (KRouteRow.named)),
+) (List._∷_ (
+  29,
+  Rows'.any-gone
+      (Syntax.tyStruct
+      (List._∷_ 38 (List._∷_ 91 (List._∷_ 93 List.[])))
+      (Syntax.tcons
+      (Syntax.tyRef Syntax.erased Syntax.imm (KRouteRow.named))
+      (Syntax.tcons (Syntax.tyInt Syntax.w64) Syntax.tnil))),
+) (List._∷_ (
+  30,
+  Rows'.any-gone
+      (Syntax.tyRef Syntax.erased Syntax.imm (KInstanceRow.named)),
+) (List._∷_ (
+  31,
+  Rows'.any-gone
+      (Syntax.tyStruct
+      (List._∷_ 38 (List._∷_ 91 (List._∷_ 93 List.[])))
+      (Syntax.tcons
+      (Syntax.tyRef Syntax.erased Syntax.imm (KInstanceRow.named))
+      (Syntax.tcons (Syntax.tyInt Syntax.w64) Syntax.tnil))),
+) List.[])))))))))))))))
+
+abbrev pub t30 : List.List Row.Entry
+t30 = List._∷_ (16, Rows'.whole (Declared'.row FoundRoute.the-type)) (List._∷_ (
+  17,
+  Rows'.any-gone
+      (Syntax.tyStruct
+      (List._∷_
+      109
+      (List._∷_
+      101
+      (List._∷_
+      115
+      (List._∷_
+      115
+      (List._∷_
+      97
+      (List._∷_
+      103
+      (List._∷_
+      101
+      (List._∷_
+      58
+      (List._∷_
+      58
+      (List._∷_
+      70
+      (List._∷_
+      114
+      (List._∷_
+      101
+      (List._∷_
+      101
+      (List._∷_ 68 (List._∷_ 101 (List._∷_ 108 (List._∷_ 116 (List._∷_ 97 List.[]))))))))))))))))))
+      (Syntax.tcons Syntax.tyBool (Syntax.tcons (Syntax.tyInt Syntax.w8) Syntax.tnil))),
+) (List._∷_ (18, Rows'.whole (Declared'.row RequestFacts.the-type)) (List._∷_ (
+  19,
+  Rows'.any-gone
+      (Syntax.tyEnum
+      (List._∷_
+      97
+      (List._∷_
+      110
+      (List._∷_
+      115
+      (List._∷_
+      119
+      (List._∷_
+      101
+      (List._∷_
+      114
+      (List._∷_
+      58
+      (List._∷_
+      58
+      (List._∷_
+      65
+      (List._∷_ 110 (List._∷_ 115 (List._∷_ 119 (List._∷_ 101 (List._∷_ 114 List.[]))))))))))))))
+      (Syntax.ttcons
+      Syntax.tnil
+      (Syntax.ttcons
+      Syntax.tnil
+      (Syntax.ttcons
+      Syntax.tnil
+      (Syntax.ttcons
+      Syntax.tnil
+      (Syntax.ttcons
+      Syntax.tnil
+      (Syntax.ttcons
+      Syntax.tnil
+      (Syntax.ttcons
+      Syntax.tnil
+      (Syntax.ttcons
+      Syntax.tnil
+      (Syntax.ttcons
+      Syntax.tnil
+      (Syntax.ttcons
+      Syntax.tnil
+      (Syntax.ttcons
+      Syntax.tnil
+      (Syntax.ttcons
+      Syntax.tnil
+      (Syntax.ttcons
+      Syntax.tnil
+      (Syntax.ttcons
+      Syntax.tnil
+      (Syntax.ttcons
+      Syntax.tnil
+      (Syntax.ttcons
+      Syntax.tnil
+      (Syntax.ttcons Syntax.tnil (Syntax.ttcons Syntax.tnil Syntax.ttnil))))))))))))))))))),
+) (List._∷_ (20, Rows'.any-gone (KDecided.spelled)) (List._∷_ (
+  21,
+  Rows'.any-gone (KPost.spelled),
+) (List._∷_ (22, Rows'.any-gone (KPost.spelled)) (List._∷_ (
+  23,
+  Rows'.any-gone
+      (Syntax.tyStruct
+      (List._∷_
+      102
+      (List._∷_
+      105
+      (List._∷_
+      110
+      (List._∷_
+      105
+      (List._∷_
+      115
+      (List._∷_
+      104
+      (List._∷_
+      58
+      (List._∷_ 58 (List._∷_ 76 (List._∷_ 105 (List._∷_ 118 (List._∷_ 101 List.[]))))))))))))
+      (Syntax.tcons
+      Syntax.tyBool
+      (Syntax.tcons
+      (Syntax.tyInt Syntax.w64)
+      (Syntax.tcons Syntax.tyBool (Syntax.tcons (Syntax.tyInt Syntax.w64) Syntax.tnil))))),
+) (List._∷_ (24, Rows'.any-gone Syntax.tyUnit) (List._∷_ (
+  25,
+  KParsed.row,
+) (List._∷_ (
+  26,
+  Rows'.any-gone
+      (Syntax.tyRef Syntax.erased Syntax.imm (KInstanceRow.named)),
+) (List._∷_ (
+  27,
+  Rows'.any-gone
+      (Syntax.tyStruct
+      (List._∷_ 38 (List._∷_ 91 (List._∷_ 93 List.[])))
+      (Syntax.tcons
+      (Syntax.tyRef Syntax.erased Syntax.imm (KInstanceRow.named))
+      (Syntax.tcons (Syntax.tyInt Syntax.w64) Syntax.tnil))),
+) (List._∷_ (
+  28,
+  Rows'.any-gone
+      (Syntax.tyRef Syntax.erased Syntax.imm (KRouteRow.named)),
+) (List._∷_ (
+  29,
+  Rows'.any-gone
+      (Syntax.tyStruct
+      (List._∷_ 38 (List._∷_ 91 (List._∷_ 93 List.[])))
+      (Syntax.tcons
+      (Syntax.tyRef Syntax.erased Syntax.imm (KRouteRow.named))
+      (Syntax.tcons (Syntax.tyInt Syntax.w64) Syntax.tnil))),
+) (List._∷_ (
+  30,
+  Rows'.any-gone
+      (Syntax.tyRef Syntax.erased Syntax.imm (KInstanceRow.named)),
+) (List._∷_ (
+  31,
+  Rows'.any-gone
+      (Syntax.tyStruct
+      (List._∷_ 38 (List._∷_ 91 (List._∷_ 93 List.[])))
+      (Syntax.tcons
+      (Syntax.tyRef Syntax.erased Syntax.imm (KInstanceRow.named))
+      (Syntax.tcons (Syntax.tyInt Syntax.w64) Syntax.tnil))),
 ) List.[])))))))))))))))
 
 abbrev pub t31 : List.List Row.Entry
 t31 = List._∷_ (16, Rows'.whole (Declared'.row FoundRoute.the-type)) (List._∷_ (
   17,
-  Rows'.sc-here Row.sBool,
-) (List._∷_ (18, Rows'.whole (Declared'.row FreeDelta.the-type)) (List._∷_ (
+  Rows'.any-gone
+      (Syntax.tyStruct
+      (List._∷_
+      109
+      (List._∷_
+      101
+      (List._∷_
+      115
+      (List._∷_
+      115
+      (List._∷_
+      97
+      (List._∷_
+      103
+      (List._∷_
+      101
+      (List._∷_
+      58
+      (List._∷_
+      58
+      (List._∷_
+      70
+      (List._∷_
+      114
+      (List._∷_
+      101
+      (List._∷_
+      101
+      (List._∷_ 68 (List._∷_ 101 (List._∷_ 108 (List._∷_ 116 (List._∷_ 97 List.[]))))))))))))))))))
+      (Syntax.tcons Syntax.tyBool (Syntax.tcons (Syntax.tyInt Syntax.w8) Syntax.tnil))),
+) (List._∷_ (18, Rows'.whole (Declared'.row RequestFacts.the-type)) (List._∷_ (
   19,
-  Rows'.whole (Declared'.row RequestFacts.the-type),
-) (List._∷_ (
-  20,
   Rows'.any-gone
       (Syntax.tyEnum
       (List._∷_
@@ -11897,11 +11763,11 @@ t31 = List._∷_ (16, Rows'.whole (Declared'.row FoundRoute.the-type)) (List._�
       (Syntax.ttcons
       Syntax.tnil
       (Syntax.ttcons Syntax.tnil (Syntax.ttcons Syntax.tnil Syntax.ttnil))))))))))))))))))),
-) (List._∷_ (21, Rows'.any-gone (KDecided.spelled)) (List._∷_ (
-  22,
+) (List._∷_ (20, Rows'.any-gone (KDecided.spelled)) (List._∷_ (
+  21,
   Rows'.any-gone (KPost.spelled),
-) (List._∷_ (23, Rows'.any-gone (KPost.spelled)) (List._∷_ (
-  24,
+) (List._∷_ (22, Rows'.any-gone (KPost.spelled)) (List._∷_ (
+  23,
   Rows'.any-gone
       (Syntax.tyStruct
       (List._∷_
@@ -11924,15 +11790,15 @@ t31 = List._∷_ (16, Rows'.whole (Declared'.row FoundRoute.the-type)) (List._�
       (Syntax.tcons
       (Syntax.tyInt Syntax.w64)
       (Syntax.tcons Syntax.tyBool (Syntax.tcons (Syntax.tyInt Syntax.w64) Syntax.tnil))))),
-) (List._∷_ (25, Rows'.any-gone Syntax.tyUnit) (List._∷_ (
-  26,
-  KParsed.row,
+) (List._∷_ (24, Rows'.any-gone Syntax.tyUnit) (List._∷_ (
+  25,
+  Rows'.any-gone (KParsed.spelled),
 ) (List._∷_ (
-  27,
+  26,
   Rows'.any-gone
       (Syntax.tyRef Syntax.erased Syntax.imm (KInstanceRow.named)),
 ) (List._∷_ (
-  28,
+  27,
   Rows'.any-gone
       (Syntax.tyStruct
       (List._∷_ 38 (List._∷_ 91 (List._∷_ 93 List.[])))
@@ -11940,11 +11806,11 @@ t31 = List._∷_ (16, Rows'.whole (Declared'.row FoundRoute.the-type)) (List._�
       (Syntax.tyRef Syntax.erased Syntax.imm (KInstanceRow.named))
       (Syntax.tcons (Syntax.tyInt Syntax.w64) Syntax.tnil))),
 ) (List._∷_ (
-  29,
+  28,
   Rows'.any-gone
       (Syntax.tyRef Syntax.erased Syntax.imm (KRouteRow.named)),
 ) (List._∷_ (
-  30,
+  29,
   Rows'.any-gone
       (Syntax.tyStruct
       (List._∷_ 38 (List._∷_ 91 (List._∷_ 93 List.[])))
@@ -11952,17 +11818,22 @@ t31 = List._∷_ (16, Rows'.whole (Declared'.row FoundRoute.the-type)) (List._�
       (Syntax.tyRef Syntax.erased Syntax.imm (KRouteRow.named))
       (Syntax.tcons (Syntax.tyInt Syntax.w64) Syntax.tnil))),
 ) (List._∷_ (
-  31,
+  30,
   Rows'.any-gone
       (Syntax.tyRef Syntax.erased Syntax.imm (KInstanceRow.named)),
+) (List._∷_ (
+  31,
+  Rows'.any-gone
+      (Syntax.tyStruct
+      (List._∷_ 38 (List._∷_ 91 (List._∷_ 93 List.[])))
+      (Syntax.tcons
+      (Syntax.tyRef Syntax.erased Syntax.imm (KInstanceRow.named))
+      (Syntax.tcons (Syntax.tyInt Syntax.w64) Syntax.tnil))),
 ) List.[])))))))))))))))
 
 abbrev pub t32 : List.List Row.Entry
 t32 = List._∷_ (16, Rows'.whole (Declared'.row FoundRoute.the-type)) (List._∷_ (
   17,
-  Rows'.sc-here Row.sBool,
-) (List._∷_ (
-  18,
   Rows'.any-gone
       (Syntax.tyStruct
       (List._∷_
@@ -11993,67 +11864,14 @@ t32 = List._∷_ (16, Rows'.whole (Declared'.row FoundRoute.the-type)) (List._�
       101
       (List._∷_ 68 (List._∷_ 101 (List._∷_ 108 (List._∷_ 116 (List._∷_ 97 List.[]))))))))))))))))))
       (Syntax.tcons Syntax.tyBool (Syntax.tcons (Syntax.tyInt Syntax.w8) Syntax.tnil))),
-) (List._∷_ (19, Rows'.whole (Declared'.row RequestFacts.the-type)) (List._∷_ (
-  20,
-  Rows'.any-gone
-      (Syntax.tyEnum
-      (List._∷_
-      97
-      (List._∷_
-      110
-      (List._∷_
-      115
-      (List._∷_
-      119
-      (List._∷_
-      101
-      (List._∷_
-      114
-      (List._∷_
-      58
-      (List._∷_
-      58
-      (List._∷_
-      65
-      (List._∷_ 110 (List._∷_ 115 (List._∷_ 119 (List._∷_ 101 (List._∷_ 114 List.[]))))))))))))))
-      (Syntax.ttcons
-      Syntax.tnil
-      (Syntax.ttcons
-      Syntax.tnil
-      (Syntax.ttcons
-      Syntax.tnil
-      (Syntax.ttcons
-      Syntax.tnil
-      (Syntax.ttcons
-      Syntax.tnil
-      (Syntax.ttcons
-      Syntax.tnil
-      (Syntax.ttcons
-      Syntax.tnil
-      (Syntax.ttcons
-      Syntax.tnil
-      (Syntax.ttcons
-      Syntax.tnil
-      (Syntax.ttcons
-      Syntax.tnil
-      (Syntax.ttcons
-      Syntax.tnil
-      (Syntax.ttcons
-      Syntax.tnil
-      (Syntax.ttcons
-      Syntax.tnil
-      (Syntax.ttcons
-      Syntax.tnil
-      (Syntax.ttcons
-      Syntax.tnil
-      (Syntax.ttcons
-      Syntax.tnil
-      (Syntax.ttcons Syntax.tnil (Syntax.ttcons Syntax.tnil Syntax.ttnil))))))))))))))))))),
-) (List._∷_ (21, Rows'.any-gone (KDecided.spelled)) (List._∷_ (
-  22,
+) (List._∷_ (18, Rows'.whole (Declared'.row RequestFacts.the-type)) (List._∷_ (
+  19,
+  Rows'.whole (Declared.row Answer.the-type),
+) (List._∷_ (20, Rows'.any-gone (KDecided.spelled)) (List._∷_ (
+  21,
   Rows'.any-gone (KPost.spelled),
-) (List._∷_ (23, Rows'.any-gone (KPost.spelled)) (List._∷_ (
-  24,
+) (List._∷_ (22, Rows'.any-gone (KPost.spelled)) (List._∷_ (
+  23,
   Rows'.any-gone
       (Syntax.tyStruct
       (List._∷_
@@ -12076,15 +11894,15 @@ t32 = List._∷_ (16, Rows'.whole (Declared'.row FoundRoute.the-type)) (List._�
       (Syntax.tcons
       (Syntax.tyInt Syntax.w64)
       (Syntax.tcons Syntax.tyBool (Syntax.tcons (Syntax.tyInt Syntax.w64) Syntax.tnil))))),
-) (List._∷_ (25, Rows'.any-gone Syntax.tyUnit) (List._∷_ (
-  26,
+) (List._∷_ (24, Rows'.any-gone Syntax.tyUnit) (List._∷_ (
+  25,
   KParsed.row,
 ) (List._∷_ (
-  27,
+  26,
   Rows'.any-gone
       (Syntax.tyRef Syntax.erased Syntax.imm (KInstanceRow.named)),
 ) (List._∷_ (
-  28,
+  27,
   Rows'.any-gone
       (Syntax.tyStruct
       (List._∷_ 38 (List._∷_ 91 (List._∷_ 93 List.[])))
@@ -12092,11 +11910,11 @@ t32 = List._∷_ (16, Rows'.whole (Declared'.row FoundRoute.the-type)) (List._�
       (Syntax.tyRef Syntax.erased Syntax.imm (KInstanceRow.named))
       (Syntax.tcons (Syntax.tyInt Syntax.w64) Syntax.tnil))),
 ) (List._∷_ (
-  29,
+  28,
   Rows'.any-gone
       (Syntax.tyRef Syntax.erased Syntax.imm (KRouteRow.named)),
 ) (List._∷_ (
-  30,
+  29,
   Rows'.any-gone
       (Syntax.tyStruct
       (List._∷_ 38 (List._∷_ 91 (List._∷_ 93 List.[])))
@@ -12104,17 +11922,22 @@ t32 = List._∷_ (16, Rows'.whole (Declared'.row FoundRoute.the-type)) (List._�
       (Syntax.tyRef Syntax.erased Syntax.imm (KRouteRow.named))
       (Syntax.tcons (Syntax.tyInt Syntax.w64) Syntax.tnil))),
 ) (List._∷_ (
-  31,
+  30,
   Rows'.any-gone
       (Syntax.tyRef Syntax.erased Syntax.imm (KInstanceRow.named)),
+) (List._∷_ (
+  31,
+  Rows'.any-gone
+      (Syntax.tyStruct
+      (List._∷_ 38 (List._∷_ 91 (List._∷_ 93 List.[])))
+      (Syntax.tcons
+      (Syntax.tyRef Syntax.erased Syntax.imm (KInstanceRow.named))
+      (Syntax.tcons (Syntax.tyInt Syntax.w64) Syntax.tnil))),
 ) List.[])))))))))))))))
 
 abbrev pub t33 : List.List Row.Entry
 t33 = List._∷_ (16, Rows'.whole (Declared'.row FoundRoute.the-type)) (List._∷_ (
   17,
-  Rows'.sc-here Row.sBool,
-) (List._∷_ (
-  18,
   Rows'.any-gone
       (Syntax.tyStruct
       (List._∷_
@@ -12145,67 +11968,14 @@ t33 = List._∷_ (16, Rows'.whole (Declared'.row FoundRoute.the-type)) (List._�
       101
       (List._∷_ 68 (List._∷_ 101 (List._∷_ 108 (List._∷_ 116 (List._∷_ 97 List.[]))))))))))))))))))
       (Syntax.tcons Syntax.tyBool (Syntax.tcons (Syntax.tyInt Syntax.w8) Syntax.tnil))),
-) (List._∷_ (19, Rows'.whole (Declared'.row RequestFacts.the-type)) (List._∷_ (
-  20,
-  Rows'.any-gone
-      (Syntax.tyEnum
-      (List._∷_
-      97
-      (List._∷_
-      110
-      (List._∷_
-      115
-      (List._∷_
-      119
-      (List._∷_
-      101
-      (List._∷_
-      114
-      (List._∷_
-      58
-      (List._∷_
-      58
-      (List._∷_
-      65
-      (List._∷_ 110 (List._∷_ 115 (List._∷_ 119 (List._∷_ 101 (List._∷_ 114 List.[]))))))))))))))
-      (Syntax.ttcons
-      Syntax.tnil
-      (Syntax.ttcons
-      Syntax.tnil
-      (Syntax.ttcons
-      Syntax.tnil
-      (Syntax.ttcons
-      Syntax.tnil
-      (Syntax.ttcons
-      Syntax.tnil
-      (Syntax.ttcons
-      Syntax.tnil
-      (Syntax.ttcons
-      Syntax.tnil
-      (Syntax.ttcons
-      Syntax.tnil
-      (Syntax.ttcons
-      Syntax.tnil
-      (Syntax.ttcons
-      Syntax.tnil
-      (Syntax.ttcons
-      Syntax.tnil
-      (Syntax.ttcons
-      Syntax.tnil
-      (Syntax.ttcons
-      Syntax.tnil
-      (Syntax.ttcons
-      Syntax.tnil
-      (Syntax.ttcons
-      Syntax.tnil
-      (Syntax.ttcons
-      Syntax.tnil
-      (Syntax.ttcons Syntax.tnil (Syntax.ttcons Syntax.tnil Syntax.ttnil))))))))))))))))))),
-) (List._∷_ (21, Rows'.any-gone (KDecided.spelled)) (List._∷_ (
-  22,
+) (List._∷_ (18, Rows'.whole (Declared'.row RequestFacts.the-type)) (List._∷_ (
+  19,
+  Rows'.whole (Declared.row Answer.the-type),
+) (List._∷_ (20, Rows'.any-gone (KDecided.spelled)) (List._∷_ (
+  21,
   Rows'.any-gone (KPost.spelled),
-) (List._∷_ (23, Rows'.any-gone (KPost.spelled)) (List._∷_ (
-  24,
+) (List._∷_ (22, Rows'.any-gone (KPost.spelled)) (List._∷_ (
+  23,
   Rows'.any-gone
       (Syntax.tyStruct
       (List._∷_
@@ -12228,15 +11998,15 @@ t33 = List._∷_ (16, Rows'.whole (Declared'.row FoundRoute.the-type)) (List._�
       (Syntax.tcons
       (Syntax.tyInt Syntax.w64)
       (Syntax.tcons Syntax.tyBool (Syntax.tcons (Syntax.tyInt Syntax.w64) Syntax.tnil))))),
-) (List._∷_ (25, Rows'.any-gone Syntax.tyUnit) (List._∷_ (
-  26,
+) (List._∷_ (24, Rows'.any-gone Syntax.tyUnit) (List._∷_ (
+  25,
   Rows'.any-gone (KParsed.spelled),
 ) (List._∷_ (
-  27,
+  26,
   Rows'.any-gone
       (Syntax.tyRef Syntax.erased Syntax.imm (KInstanceRow.named)),
 ) (List._∷_ (
-  28,
+  27,
   Rows'.any-gone
       (Syntax.tyStruct
       (List._∷_ 38 (List._∷_ 91 (List._∷_ 93 List.[])))
@@ -12244,11 +12014,11 @@ t33 = List._∷_ (16, Rows'.whole (Declared'.row FoundRoute.the-type)) (List._�
       (Syntax.tyRef Syntax.erased Syntax.imm (KInstanceRow.named))
       (Syntax.tcons (Syntax.tyInt Syntax.w64) Syntax.tnil))),
 ) (List._∷_ (
-  29,
+  28,
   Rows'.any-gone
       (Syntax.tyRef Syntax.erased Syntax.imm (KRouteRow.named)),
 ) (List._∷_ (
-  30,
+  29,
   Rows'.any-gone
       (Syntax.tyStruct
       (List._∷_ 38 (List._∷_ 91 (List._∷_ 93 List.[])))
@@ -12256,231 +12026,100 @@ t33 = List._∷_ (16, Rows'.whole (Declared'.row FoundRoute.the-type)) (List._�
       (Syntax.tyRef Syntax.erased Syntax.imm (KRouteRow.named))
       (Syntax.tcons (Syntax.tyInt Syntax.w64) Syntax.tnil))),
 ) (List._∷_ (
-  31,
+  30,
   Rows'.any-gone
       (Syntax.tyRef Syntax.erased Syntax.imm (KInstanceRow.named)),
+) (List._∷_ (
+  31,
+  Rows'.any-gone
+      (Syntax.tyStruct
+      (List._∷_ 38 (List._∷_ 91 (List._∷_ 93 List.[])))
+      (Syntax.tcons
+      (Syntax.tyRef Syntax.erased Syntax.imm (KInstanceRow.named))
+      (Syntax.tcons (Syntax.tyInt Syntax.w64) Syntax.tnil))),
 ) List.[])))))))))))))))
 
 abbrev pub t34 : List.List Row.Entry
-t34 = List._∷_ (16, Rows'.whole (Declared'.row FoundRoute.the-type)) (List._∷_ (
-  17,
-  Rows'.sc-here Row.sBool,
-) (List._∷_ (
-  18,
-  Rows'.any-gone
-      (Syntax.tyStruct
-      (List._∷_
-      109
-      (List._∷_
-      101
-      (List._∷_
-      115
-      (List._∷_
-      115
-      (List._∷_
-      97
-      (List._∷_
-      103
-      (List._∷_
-      101
-      (List._∷_
-      58
-      (List._∷_
-      58
-      (List._∷_
-      70
-      (List._∷_
-      114
-      (List._∷_
-      101
-      (List._∷_
-      101
-      (List._∷_ 68 (List._∷_ 101 (List._∷_ 108 (List._∷_ 116 (List._∷_ 97 List.[]))))))))))))))))))
-      (Syntax.tcons Syntax.tyBool (Syntax.tcons (Syntax.tyInt Syntax.w8) Syntax.tnil))),
-) (List._∷_ (19, Rows'.whole (Declared'.row RequestFacts.the-type)) (List._∷_ (
-  20,
-  Rows'.whole (Declared.row Answer.the-type),
-) (List._∷_ (21, Rows'.any-gone (KDecided.spelled)) (List._∷_ (
-  22,
+t34 = List._∷_ (32, Rows'.sc-here (Row.sInt Syntax.w8)) (List._∷_ (
+  33,
+  Rows'.any-gone Syntax.tyBool,
+) (List._∷_ (34, Rows'.any-gone (KDecided.spelled)) (List._∷_ (
+  35,
   Rows'.any-gone (KPost.spelled),
-) (List._∷_ (23, Rows'.any-gone (KPost.spelled)) (List._∷_ (
-  24,
-  Rows'.any-gone
-      (Syntax.tyStruct
-      (List._∷_
-      102
-      (List._∷_
-      105
-      (List._∷_
-      110
-      (List._∷_
-      105
-      (List._∷_
-      115
-      (List._∷_
-      104
-      (List._∷_
-      58
-      (List._∷_ 58 (List._∷_ 76 (List._∷_ 105 (List._∷_ 118 (List._∷_ 101 List.[]))))))))))))
-      (Syntax.tcons
-      Syntax.tyBool
-      (Syntax.tcons
-      (Syntax.tyInt Syntax.w64)
-      (Syntax.tcons Syntax.tyBool (Syntax.tcons (Syntax.tyInt Syntax.w64) Syntax.tnil))))),
-) (List._∷_ (25, Rows'.any-gone Syntax.tyUnit) (List._∷_ (
-  26,
-  KParsed.row,
 ) (List._∷_ (
-  27,
+  36,
   Rows'.any-gone
-      (Syntax.tyRef Syntax.erased Syntax.imm (KInstanceRow.named)),
+      (Syntax.tyRef Syntax.erased Syntax.mut (KInstanceRow.named)),
 ) (List._∷_ (
-  28,
+  37,
   Rows'.any-gone
       (Syntax.tyStruct
       (List._∷_ 38 (List._∷_ 91 (List._∷_ 93 List.[])))
       (Syntax.tcons
-      (Syntax.tyRef Syntax.erased Syntax.imm (KInstanceRow.named))
+      (Syntax.tyRef Syntax.erased Syntax.mut (KInstanceRow.named))
       (Syntax.tcons (Syntax.tyInt Syntax.w64) Syntax.tnil))),
 ) (List._∷_ (
-  29,
+  38,
   Rows'.any-gone
-      (Syntax.tyRef Syntax.erased Syntax.imm (KRouteRow.named)),
+      (Syntax.tyRef Syntax.erased Syntax.mut (KRouteRow.named)),
 ) (List._∷_ (
-  30,
+  39,
   Rows'.any-gone
       (Syntax.tyStruct
       (List._∷_ 38 (List._∷_ 91 (List._∷_ 93 List.[])))
       (Syntax.tcons
-      (Syntax.tyRef Syntax.erased Syntax.imm (KRouteRow.named))
-      (Syntax.tcons (Syntax.tyInt Syntax.w64) Syntax.tnil))),
-) (List._∷_ (
-  31,
-  Rows'.any-gone
-      (Syntax.tyRef Syntax.erased Syntax.imm (KInstanceRow.named)),
-) List.[])))))))))))))))
-
-abbrev pub t35 : List.List Row.Entry
-t35 = List._∷_ (16, Rows'.whole (Declared'.row FoundRoute.the-type)) (List._∷_ (
-  17,
-  Rows'.sc-here Row.sBool,
-) (List._∷_ (
-  18,
-  Rows'.any-gone
-      (Syntax.tyStruct
-      (List._∷_
-      109
-      (List._∷_
-      101
-      (List._∷_
-      115
-      (List._∷_
-      115
-      (List._∷_
-      97
-      (List._∷_
-      103
-      (List._∷_
-      101
-      (List._∷_
-      58
-      (List._∷_
-      58
-      (List._∷_
-      70
-      (List._∷_
-      114
-      (List._∷_
-      101
-      (List._∷_
-      101
-      (List._∷_ 68 (List._∷_ 101 (List._∷_ 108 (List._∷_ 116 (List._∷_ 97 List.[]))))))))))))))))))
-      (Syntax.tcons Syntax.tyBool (Syntax.tcons (Syntax.tyInt Syntax.w8) Syntax.tnil))),
-) (List._∷_ (19, Rows'.whole (Declared'.row RequestFacts.the-type)) (List._∷_ (
-  20,
-  Rows'.whole (Declared.row Answer.the-type),
-) (List._∷_ (21, Rows'.any-gone (KDecided.spelled)) (List._∷_ (
-  22,
-  Rows'.any-gone (KPost.spelled),
-) (List._∷_ (23, Rows'.any-gone (KPost.spelled)) (List._∷_ (
-  24,
-  Rows'.any-gone
-      (Syntax.tyStruct
-      (List._∷_
-      102
-      (List._∷_
-      105
-      (List._∷_
-      110
-      (List._∷_
-      105
-      (List._∷_
-      115
-      (List._∷_
-      104
-      (List._∷_
-      58
-      (List._∷_ 58 (List._∷_ 76 (List._∷_ 105 (List._∷_ 118 (List._∷_ 101 List.[]))))))))))))
-      (Syntax.tcons
-      Syntax.tyBool
-      (Syntax.tcons
-      (Syntax.tyInt Syntax.w64)
-      (Syntax.tcons Syntax.tyBool (Syntax.tcons (Syntax.tyInt Syntax.w64) Syntax.tnil))))),
-) (List._∷_ (25, Rows'.any-gone Syntax.tyUnit) (List._∷_ (
-  26,
-  Rows'.any-gone (KParsed.spelled),
-) (List._∷_ (
-  27,
-  Rows'.any-gone
-      (Syntax.tyRef Syntax.erased Syntax.imm (KInstanceRow.named)),
-) (List._∷_ (
-  28,
-  Rows'.any-gone
-      (Syntax.tyStruct
-      (List._∷_ 38 (List._∷_ 91 (List._∷_ 93 List.[])))
-      (Syntax.tcons
-      (Syntax.tyRef Syntax.erased Syntax.imm (KInstanceRow.named))
-      (Syntax.tcons (Syntax.tyInt Syntax.w64) Syntax.tnil))),
-) (List._∷_ (
-  29,
-  Rows'.any-gone
-      (Syntax.tyRef Syntax.erased Syntax.imm (KRouteRow.named)),
-) (List._∷_ (
-  30,
-  Rows'.any-gone
-      (Syntax.tyStruct
-      (List._∷_ 38 (List._∷_ 91 (List._∷_ 93 List.[])))
-      (Syntax.tcons
-      (Syntax.tyRef Syntax.erased Syntax.imm (KRouteRow.named))
-      (Syntax.tcons (Syntax.tyInt Syntax.w64) Syntax.tnil))),
-) (List._∷_ (
-  31,
-  Rows'.any-gone
-      (Syntax.tyRef Syntax.erased Syntax.imm (KInstanceRow.named)),
-) List.[])))))))))))))))
-
-abbrev pub t36 : List.List Row.Entry
-t36 = List._∷_ (
-  32,
-  Rows'.any-gone
-      (Syntax.tyStruct
-      (List._∷_ 38 (List._∷_ 91 (List._∷_ 93 List.[])))
-      (Syntax.tcons
-      (Syntax.tyRef Syntax.erased Syntax.imm (KInstanceRow.named))
+      (Syntax.tyRef Syntax.erased Syntax.mut (KRouteRow.named))
       (Syntax.tcons (Syntax.tyInt Syntax.w64) Syntax.tnil))),
 )
-    (List._∷_ (33, Rows'.sc-here (Row.sInt Syntax.w8)) (List._∷_ (
-      34,
-      Rows'.any-gone Syntax.tyBool,
-    ) (List._∷_ (35, Rows'.any-gone (KDecided.spelled)) (List._∷_ (
-      36,
-      Rows'.any-gone (KPost.spelled),
+    (List._∷_ (
+      40,
+      Rows'.any-gone (Syntax.tyRef Syntax.erased Syntax.mut (Syntax.tyInt Syntax.w8)),
     ) (List._∷_ (
-      37,
+      41,
+      Rows'.any-gone
+          (Syntax.tyStruct
+          (List._∷_ 38 (List._∷_ 91 (List._∷_ 93 List.[])))
+          (Syntax.tcons
+          (Syntax.tyRef Syntax.erased Syntax.mut (Syntax.tyInt Syntax.w8))
+          (Syntax.tcons (Syntax.tyInt Syntax.w64) Syntax.tnil))),
+    ) (List._∷_ (
+      42,
+      Rows'.any-gone (Syntax.tyRef Syntax.erased Syntax.mut (Syntax.tyInt Syntax.w8)),
+    ) (List._∷_ (
+      43,
+      Rows'.any-gone
+          (Syntax.tyStruct
+          (List._∷_ 38 (List._∷_ 91 (List._∷_ 93 List.[])))
+          (Syntax.tcons
+          (Syntax.tyRef Syntax.erased Syntax.mut (Syntax.tyInt Syntax.w8))
+          (Syntax.tcons (Syntax.tyInt Syntax.w64) Syntax.tnil))),
+    ) (List._∷_ (
+      44,
+      Rows'.any-gone
+          (Syntax.tyRef Syntax.erased Syntax.imm (KDecided.named)),
+    ) (List._∷_ (
+      45,
+      Rows'.any-gone
+          (Syntax.tyRef Syntax.erased Syntax.imm (KPost.named)),
+    ) (List._∷_ (
+      46,
+      Rows'.any-gone
+          (Syntax.tyRef Syntax.erased Syntax.imm (KPost.named)),
+    ) List.[]))))))))))))))
+
+abbrev pub t35 : List.List Row.Entry
+t35 =
+    List._∷_
+    (32, Rows'.sc-here (Row.sInt Syntax.w8))
+    (List._∷_ (33, Rows'.sc-here Row.sBool) (List._∷_ (
+      34,
+      Rows'.any-gone (KDecided.spelled),
+    ) (List._∷_ (35, Rows'.any-gone (KPost.spelled)) (List._∷_ (
+      36,
       Rows'.any-gone
           (Syntax.tyRef Syntax.erased Syntax.mut (KInstanceRow.named)),
     ) (List._∷_ (
-      38,
+      37,
       Rows'.any-gone
           (Syntax.tyStruct
           (List._∷_ 38 (List._∷_ 91 (List._∷_ 93 List.[])))
@@ -12488,11 +12127,11 @@ t36 = List._∷_ (
           (Syntax.tyRef Syntax.erased Syntax.mut (KInstanceRow.named))
           (Syntax.tcons (Syntax.tyInt Syntax.w64) Syntax.tnil))),
     ) (List._∷_ (
-      39,
+      38,
       Rows'.any-gone
           (Syntax.tyRef Syntax.erased Syntax.mut (KRouteRow.named)),
     ) (List._∷_ (
-      40,
+      39,
       Rows'.any-gone
           (Syntax.tyStruct
           (List._∷_ 38 (List._∷_ 91 (List._∷_ 93 List.[])))
@@ -12500,10 +12139,10 @@ t36 = List._∷_ (
           (Syntax.tyRef Syntax.erased Syntax.mut (KRouteRow.named))
           (Syntax.tcons (Syntax.tyInt Syntax.w64) Syntax.tnil))),
     ) (List._∷_ (
-      41,
+      40,
       Rows'.any-gone (Syntax.tyRef Syntax.erased Syntax.mut (Syntax.tyInt Syntax.w8)),
     ) (List._∷_ (
-      42,
+      41,
       Rows'.any-gone
           (Syntax.tyStruct
           (List._∷_ 38 (List._∷_ 91 (List._∷_ 93 List.[])))
@@ -12511,183 +12150,100 @@ t36 = List._∷_ (
           (Syntax.tyRef Syntax.erased Syntax.mut (Syntax.tyInt Syntax.w8))
           (Syntax.tcons (Syntax.tyInt Syntax.w64) Syntax.tnil))),
     ) (List._∷_ (
-      43,
+      42,
       Rows'.any-gone (Syntax.tyRef Syntax.erased Syntax.mut (Syntax.tyInt Syntax.w8)),
+    ) (List._∷_ (
+      43,
+      Rows'.any-gone
+          (Syntax.tyStruct
+          (List._∷_ 38 (List._∷_ 91 (List._∷_ 93 List.[])))
+          (Syntax.tcons
+          (Syntax.tyRef Syntax.erased Syntax.mut (Syntax.tyInt Syntax.w8))
+          (Syntax.tcons (Syntax.tyInt Syntax.w64) Syntax.tnil))),
     ) (List._∷_ (
       44,
       Rows'.any-gone
-          (Syntax.tyStruct
-          (List._∷_ 38 (List._∷_ 91 (List._∷_ 93 List.[])))
-          (Syntax.tcons
-          (Syntax.tyRef Syntax.erased Syntax.mut (Syntax.tyInt Syntax.w8))
-          (Syntax.tcons (Syntax.tyInt Syntax.w64) Syntax.tnil))),
+          (Syntax.tyRef Syntax.erased Syntax.imm (KDecided.named)),
     ) (List._∷_ (
       45,
       Rows'.any-gone
-          (Syntax.tyRef Syntax.erased Syntax.imm (KDecided.named)),
+          (Syntax.tyRef Syntax.erased Syntax.imm (KPost.named)),
     ) (List._∷_ (
       46,
       Rows'.any-gone
           (Syntax.tyRef Syntax.erased Syntax.imm (KPost.named)),
+    ) List.[]))))))))))))))
+
+abbrev pub t36 : List.List Row.Entry
+t36 = List._∷_ (32, Rows'.any-gone (Syntax.tyInt Syntax.w8)) (List._∷_ (
+  33,
+  Rows'.sc-here Row.sBool,
+) (List._∷_ (34, Rows'.any-gone (KDecided.spelled)) (List._∷_ (
+  35,
+  Rows'.any-gone (KPost.spelled),
+) (List._∷_ (
+  36,
+  Rows'.any-gone
+      (Syntax.tyRef Syntax.erased Syntax.mut (KInstanceRow.named)),
+) (List._∷_ (
+  37,
+  Rows'.any-gone
+      (Syntax.tyStruct
+      (List._∷_ 38 (List._∷_ 91 (List._∷_ 93 List.[])))
+      (Syntax.tcons
+      (Syntax.tyRef Syntax.erased Syntax.mut (KInstanceRow.named))
+      (Syntax.tcons (Syntax.tyInt Syntax.w64) Syntax.tnil))),
+) (List._∷_ (
+  38,
+  Rows'.any-gone
+      (Syntax.tyRef Syntax.erased Syntax.mut (KRouteRow.named)),
+) (List._∷_ (
+  39,
+  Rows'.any-gone
+      (Syntax.tyStruct
+      (List._∷_ 38 (List._∷_ 91 (List._∷_ 93 List.[])))
+      (Syntax.tcons
+      (Syntax.tyRef Syntax.erased Syntax.mut (KRouteRow.named))
+      (Syntax.tcons (Syntax.tyInt Syntax.w64) Syntax.tnil))),
+)
+    (List._∷_ (
+      40,
+      Rows'.any-gone (Syntax.tyRef Syntax.erased Syntax.mut (Syntax.tyInt Syntax.w8)),
     ) (List._∷_ (
-      47,
+      41,
+      Rows'.any-gone
+          (Syntax.tyStruct
+          (List._∷_ 38 (List._∷_ 91 (List._∷_ 93 List.[])))
+          (Syntax.tcons
+          (Syntax.tyRef Syntax.erased Syntax.mut (Syntax.tyInt Syntax.w8))
+          (Syntax.tcons (Syntax.tyInt Syntax.w64) Syntax.tnil))),
+    ) (List._∷_ (
+      42,
+      Rows'.any-gone (Syntax.tyRef Syntax.erased Syntax.mut (Syntax.tyInt Syntax.w8)),
+    ) (List._∷_ (
+      43,
+      Rows'.any-gone
+          (Syntax.tyStruct
+          (List._∷_ 38 (List._∷_ 91 (List._∷_ 93 List.[])))
+          (Syntax.tcons
+          (Syntax.tyRef Syntax.erased Syntax.mut (Syntax.tyInt Syntax.w8))
+          (Syntax.tcons (Syntax.tyInt Syntax.w64) Syntax.tnil))),
+    ) (List._∷_ (
+      44,
+      Rows'.any-gone
+          (Syntax.tyRef Syntax.erased Syntax.imm (KDecided.named)),
+    ) (List._∷_ (
+      45,
       Rows'.any-gone
           (Syntax.tyRef Syntax.erased Syntax.imm (KPost.named)),
-    ) List.[])))))))))))))))
+    ) (List._∷_ (
+      46,
+      Rows'.any-gone
+          (Syntax.tyRef Syntax.erased Syntax.imm (KPost.named)),
+    ) List.[]))))))))))))))
 
 abbrev pub t37 : List.List Row.Entry
 t37 = List._∷_ (
-  32,
-  Rows'.any-gone
-      (Syntax.tyStruct
-      (List._∷_ 38 (List._∷_ 91 (List._∷_ 93 List.[])))
-      (Syntax.tcons
-      (Syntax.tyRef Syntax.erased Syntax.imm (KInstanceRow.named))
-      (Syntax.tcons (Syntax.tyInt Syntax.w64) Syntax.tnil))),
-)
-    (List._∷_
-    (33, Rows'.sc-here (Row.sInt Syntax.w8))
-    (List._∷_ (34, Rows'.sc-here Row.sBool) (List._∷_ (
-      35,
-      Rows'.any-gone (KDecided.spelled),
-    ) (List._∷_ (36, Rows'.any-gone (KPost.spelled)) (List._∷_ (
-      37,
-      Rows'.any-gone
-          (Syntax.tyRef Syntax.erased Syntax.mut (KInstanceRow.named)),
-    ) (List._∷_ (
-      38,
-      Rows'.any-gone
-          (Syntax.tyStruct
-          (List._∷_ 38 (List._∷_ 91 (List._∷_ 93 List.[])))
-          (Syntax.tcons
-          (Syntax.tyRef Syntax.erased Syntax.mut (KInstanceRow.named))
-          (Syntax.tcons (Syntax.tyInt Syntax.w64) Syntax.tnil))),
-    ) (List._∷_ (
-      39,
-      Rows'.any-gone
-          (Syntax.tyRef Syntax.erased Syntax.mut (KRouteRow.named)),
-    ) (List._∷_ (
-      40,
-      Rows'.any-gone
-          (Syntax.tyStruct
-          (List._∷_ 38 (List._∷_ 91 (List._∷_ 93 List.[])))
-          (Syntax.tcons
-          (Syntax.tyRef Syntax.erased Syntax.mut (KRouteRow.named))
-          (Syntax.tcons (Syntax.tyInt Syntax.w64) Syntax.tnil))),
-    ) (List._∷_ (
-      41,
-      Rows'.any-gone (Syntax.tyRef Syntax.erased Syntax.mut (Syntax.tyInt Syntax.w8)),
-    ) (List._∷_ (
-      42,
-      Rows'.any-gone
-          (Syntax.tyStruct
-          (List._∷_ 38 (List._∷_ 91 (List._∷_ 93 List.[])))
-          (Syntax.tcons
-          (Syntax.tyRef Syntax.erased Syntax.mut (Syntax.tyInt Syntax.w8))
-          (Syntax.tcons (Syntax.tyInt Syntax.w64) Syntax.tnil))),
-    ) (List._∷_ (
-      43,
-      Rows'.any-gone (Syntax.tyRef Syntax.erased Syntax.mut (Syntax.tyInt Syntax.w8)),
-    ) (List._∷_ (
-      44,
-      Rows'.any-gone
-          (Syntax.tyStruct
-          (List._∷_ 38 (List._∷_ 91 (List._∷_ 93 List.[])))
-          (Syntax.tcons
-          (Syntax.tyRef Syntax.erased Syntax.mut (Syntax.tyInt Syntax.w8))
-          (Syntax.tcons (Syntax.tyInt Syntax.w64) Syntax.tnil))),
-    ) (List._∷_ (
-      45,
-      Rows'.any-gone
-          (Syntax.tyRef Syntax.erased Syntax.imm (KDecided.named)),
-    ) (List._∷_ (
-      46,
-      Rows'.any-gone
-          (Syntax.tyRef Syntax.erased Syntax.imm (KPost.named)),
-    ) (List._∷_ (
-      47,
-      Rows'.any-gone
-          (Syntax.tyRef Syntax.erased Syntax.imm (KPost.named)),
-    ) List.[])))))))))))))))
-
-abbrev pub t38 : List.List Row.Entry
-t38 = List._∷_ (
-  32,
-  Rows'.any-gone
-      (Syntax.tyStruct
-      (List._∷_ 38 (List._∷_ 91 (List._∷_ 93 List.[])))
-      (Syntax.tcons
-      (Syntax.tyRef Syntax.erased Syntax.imm (KInstanceRow.named))
-      (Syntax.tcons (Syntax.tyInt Syntax.w64) Syntax.tnil))),
-)
-    (List._∷_ (33, Rows'.any-gone (Syntax.tyInt Syntax.w8)) (List._∷_ (
-      34,
-      Rows'.sc-here Row.sBool,
-    ) (List._∷_ (35, Rows'.any-gone (KDecided.spelled)) (List._∷_ (
-      36,
-      Rows'.any-gone (KPost.spelled),
-    ) (List._∷_ (
-      37,
-      Rows'.any-gone
-          (Syntax.tyRef Syntax.erased Syntax.mut (KInstanceRow.named)),
-    ) (List._∷_ (
-      38,
-      Rows'.any-gone
-          (Syntax.tyStruct
-          (List._∷_ 38 (List._∷_ 91 (List._∷_ 93 List.[])))
-          (Syntax.tcons
-          (Syntax.tyRef Syntax.erased Syntax.mut (KInstanceRow.named))
-          (Syntax.tcons (Syntax.tyInt Syntax.w64) Syntax.tnil))),
-    ) (List._∷_ (
-      39,
-      Rows'.any-gone
-          (Syntax.tyRef Syntax.erased Syntax.mut (KRouteRow.named)),
-    ) (List._∷_ (
-      40,
-      Rows'.any-gone
-          (Syntax.tyStruct
-          (List._∷_ 38 (List._∷_ 91 (List._∷_ 93 List.[])))
-          (Syntax.tcons
-          (Syntax.tyRef Syntax.erased Syntax.mut (KRouteRow.named))
-          (Syntax.tcons (Syntax.tyInt Syntax.w64) Syntax.tnil))),
-    ) (List._∷_ (
-      41,
-      Rows'.any-gone (Syntax.tyRef Syntax.erased Syntax.mut (Syntax.tyInt Syntax.w8)),
-    ) (List._∷_ (
-      42,
-      Rows'.any-gone
-          (Syntax.tyStruct
-          (List._∷_ 38 (List._∷_ 91 (List._∷_ 93 List.[])))
-          (Syntax.tcons
-          (Syntax.tyRef Syntax.erased Syntax.mut (Syntax.tyInt Syntax.w8))
-          (Syntax.tcons (Syntax.tyInt Syntax.w64) Syntax.tnil))),
-    ) (List._∷_ (
-      43,
-      Rows'.any-gone (Syntax.tyRef Syntax.erased Syntax.mut (Syntax.tyInt Syntax.w8)),
-    ) (List._∷_ (
-      44,
-      Rows'.any-gone
-          (Syntax.tyStruct
-          (List._∷_ 38 (List._∷_ 91 (List._∷_ 93 List.[])))
-          (Syntax.tcons
-          (Syntax.tyRef Syntax.erased Syntax.mut (Syntax.tyInt Syntax.w8))
-          (Syntax.tcons (Syntax.tyInt Syntax.w64) Syntax.tnil))),
-    ) (List._∷_ (
-      45,
-      Rows'.any-gone
-          (Syntax.tyRef Syntax.erased Syntax.imm (KDecided.named)),
-    ) (List._∷_ (
-      46,
-      Rows'.any-gone
-          (Syntax.tyRef Syntax.erased Syntax.imm (KPost.named)),
-    ) (List._∷_ (
-      47,
-      Rows'.any-gone
-          (Syntax.tyRef Syntax.erased Syntax.imm (KPost.named)),
-    ) List.[])))))))))))))))
-
-abbrev pub t39 : List.List Row.Entry
-t39 = List._∷_ (
   0,
   Rows'.any-gone
       (Syntax.tyStruct
@@ -12984,8 +12540,8 @@ t39 = List._∷_ (
   Rows'.whole (Declared'.row Found.the-type),
 ) List.[])))))))))))))))
 
-abbrev pub t40 : List.List Row.Entry
-t40 = List._∷_ (
+abbrev pub t38 : List.List Row.Entry
+t38 = List._∷_ (
   0,
   Rows'.any-gone
       (Syntax.tyStruct
@@ -13307,8 +12863,8 @@ t40 = List._∷_ (
   Rows'.whole (Declared'.row Found.the-type),
 ) List.[])))))))))))))))
 
-abbrev pub t41 : List.List Row.Entry
-t41 = List._∷_ (
+abbrev pub t39 : List.List Row.Entry
+t39 = List._∷_ (
   0,
   Rows'.any-gone
       (Syntax.tyStruct
@@ -13655,8 +13211,8 @@ t41 = List._∷_ (
       (Syntax.tcons (KInstanceRow.spelled) Syntax.tnil)))),
 ) List.[])))))))))))))))
 
-abbrev pub t42 : List.List Row.Entry
-t42 = List._∷_ (
+abbrev pub t40 : List.List Row.Entry
+t40 = List._∷_ (
   16,
   Rows'.any-gone
       (Syntax.tyStruct
@@ -13696,8 +13252,8 @@ t42 = List._∷_ (
       (Syntax.tcons
       (Syntax.tyInt Syntax.w64)
       (Syntax.tcons (KRouteRow.spelled) Syntax.tnil)))),
-) (List._∷_ (17, Rows'.sc-here Row.sBool) (List._∷_ (
-  18,
+) (List._∷_ (
+  17,
   Rows'.any-gone
       (Syntax.tyStruct
       (List._∷_
@@ -13728,14 +13284,14 @@ t42 = List._∷_ (
       101
       (List._∷_ 68 (List._∷_ 101 (List._∷_ 108 (List._∷_ 116 (List._∷_ 97 List.[]))))))))))))))))))
       (Syntax.tcons Syntax.tyBool (Syntax.tcons (Syntax.tyInt Syntax.w8) Syntax.tnil))),
-) (List._∷_ (19, Rows'.whole (Declared'.row RequestFacts.the-type)) (List._∷_ (
-  20,
+) (List._∷_ (18, Rows'.whole (Declared'.row RequestFacts.the-type)) (List._∷_ (
+  19,
   Rows'.whole (Declared.row Answer.the-type),
-) (List._∷_ (21, Rows'.any-gone (KDecided.spelled)) (List._∷_ (
-  22,
+) (List._∷_ (20, Rows'.any-gone (KDecided.spelled)) (List._∷_ (
+  21,
   Rows'.any-gone (KPost.spelled),
-) (List._∷_ (23, Rows'.any-gone (KPost.spelled)) (List._∷_ (
-  24,
+) (List._∷_ (22, Rows'.any-gone (KPost.spelled)) (List._∷_ (
+  23,
   Rows'.any-gone
       (Syntax.tyStruct
       (List._∷_
@@ -13758,15 +13314,15 @@ t42 = List._∷_ (
       (Syntax.tcons
       (Syntax.tyInt Syntax.w64)
       (Syntax.tcons Syntax.tyBool (Syntax.tcons (Syntax.tyInt Syntax.w64) Syntax.tnil))))),
-) (List._∷_ (25, Rows'.any-gone Syntax.tyUnit) (List._∷_ (
-  26,
+) (List._∷_ (24, Rows'.any-gone Syntax.tyUnit) (List._∷_ (
+  25,
   Rows'.any-gone (KParsed.spelled),
 ) (List._∷_ (
-  27,
+  26,
   Rows'.any-gone
       (Syntax.tyRef Syntax.erased Syntax.imm (KInstanceRow.named)),
 ) (List._∷_ (
-  28,
+  27,
   Rows'.any-gone
       (Syntax.tyStruct
       (List._∷_ 38 (List._∷_ 91 (List._∷_ 93 List.[])))
@@ -13774,11 +13330,11 @@ t42 = List._∷_ (
       (Syntax.tyRef Syntax.erased Syntax.imm (KInstanceRow.named))
       (Syntax.tcons (Syntax.tyInt Syntax.w64) Syntax.tnil))),
 ) (List._∷_ (
-  29,
+  28,
   Rows'.any-gone
       (Syntax.tyRef Syntax.erased Syntax.imm (KRouteRow.named)),
 ) (List._∷_ (
-  30,
+  29,
   Rows'.any-gone
       (Syntax.tyStruct
       (List._∷_ 38 (List._∷_ 91 (List._∷_ 93 List.[])))
@@ -13786,13 +13342,21 @@ t42 = List._∷_ (
       (Syntax.tyRef Syntax.erased Syntax.imm (KRouteRow.named))
       (Syntax.tcons (Syntax.tyInt Syntax.w64) Syntax.tnil))),
 ) (List._∷_ (
-  31,
+  30,
   Rows'.any-gone
       (Syntax.tyRef Syntax.erased Syntax.imm (KInstanceRow.named)),
+) (List._∷_ (
+  31,
+  Rows'.any-gone
+      (Syntax.tyStruct
+      (List._∷_ 38 (List._∷_ 91 (List._∷_ 93 List.[])))
+      (Syntax.tcons
+      (Syntax.tyRef Syntax.erased Syntax.imm (KInstanceRow.named))
+      (Syntax.tcons (Syntax.tyInt Syntax.w64) Syntax.tnil))),
 ) List.[])))))))))))))))
 
-abbrev pub t43 : List.List Row.Entry
-t43 = List._∷_ (
+abbrev pub t41 : List.List Row.Entry
+t41 = List._∷_ (
   16,
   Rows'.any-gone
       (Syntax.tyStruct
@@ -13832,8 +13396,8 @@ t43 = List._∷_ (
       (Syntax.tcons
       (Syntax.tyInt Syntax.w64)
       (Syntax.tcons (KRouteRow.spelled) Syntax.tnil)))),
-) (List._∷_ (17, Rows'.sc-here Row.sBool) (List._∷_ (
-  18,
+) (List._∷_ (
+  17,
   Rows'.any-gone
       (Syntax.tyStruct
       (List._∷_
@@ -13865,7 +13429,7 @@ t43 = List._∷_ (
       (List._∷_ 68 (List._∷_ 101 (List._∷_ 108 (List._∷_ 116 (List._∷_ 97 List.[]))))))))))))))))))
       (Syntax.tcons Syntax.tyBool (Syntax.tcons (Syntax.tyInt Syntax.w8) Syntax.tnil))),
 ) (List._∷_ (
-  19,
+  18,
   Rows'.any-gone
       (Syntax.tyStruct
       (List._∷_
@@ -14080,14 +13644,14 @@ t43 = List._∷_ (
       (List._∷_ 68 (List._∷_ 101 (List._∷_ 108 (List._∷_ 116 (List._∷_ 97 List.[]))))))))))))))))))
       (Syntax.tcons Syntax.tyBool (Syntax.tcons (Syntax.tyInt Syntax.w8) Syntax.tnil)))
       Syntax.tnil)))))))),
-) (List._∷_ (20, Rows'.whole (Declared.row Answer.the-type)) (List._∷_ (
-  21,
+) (List._∷_ (19, Rows'.whole (Declared.row Answer.the-type)) (List._∷_ (
+  20,
   Rows'.any-gone (KDecided.spelled),
-) (List._∷_ (22, Rows'.any-gone (KPost.spelled)) (List._∷_ (
-  23,
+) (List._∷_ (21, Rows'.any-gone (KPost.spelled)) (List._∷_ (
+  22,
   Rows'.any-gone (KPost.spelled),
 ) (List._∷_ (
-  24,
+  23,
   Rows'.any-gone
       (Syntax.tyStruct
       (List._∷_
@@ -14110,15 +13674,15 @@ t43 = List._∷_ (
       (Syntax.tcons
       (Syntax.tyInt Syntax.w64)
       (Syntax.tcons Syntax.tyBool (Syntax.tcons (Syntax.tyInt Syntax.w64) Syntax.tnil))))),
-) (List._∷_ (25, Rows'.any-gone Syntax.tyUnit) (List._∷_ (
-  26,
+) (List._∷_ (24, Rows'.any-gone Syntax.tyUnit) (List._∷_ (
+  25,
   Rows'.any-gone (KParsed.spelled),
 ) (List._∷_ (
-  27,
+  26,
   Rows'.any-gone
       (Syntax.tyRef Syntax.erased Syntax.imm (KInstanceRow.named)),
 ) (List._∷_ (
-  28,
+  27,
   Rows'.any-gone
       (Syntax.tyStruct
       (List._∷_ 38 (List._∷_ 91 (List._∷_ 93 List.[])))
@@ -14126,11 +13690,11 @@ t43 = List._∷_ (
       (Syntax.tyRef Syntax.erased Syntax.imm (KInstanceRow.named))
       (Syntax.tcons (Syntax.tyInt Syntax.w64) Syntax.tnil))),
 ) (List._∷_ (
-  29,
+  28,
   Rows'.any-gone
       (Syntax.tyRef Syntax.erased Syntax.imm (KRouteRow.named)),
 ) (List._∷_ (
-  30,
+  29,
   Rows'.any-gone
       (Syntax.tyStruct
       (List._∷_ 38 (List._∷_ 91 (List._∷_ 93 List.[])))
@@ -14138,13 +13702,21 @@ t43 = List._∷_ (
       (Syntax.tyRef Syntax.erased Syntax.imm (KRouteRow.named))
       (Syntax.tcons (Syntax.tyInt Syntax.w64) Syntax.tnil))),
 ) (List._∷_ (
-  31,
+  30,
   Rows'.any-gone
       (Syntax.tyRef Syntax.erased Syntax.imm (KInstanceRow.named)),
+) (List._∷_ (
+  31,
+  Rows'.any-gone
+      (Syntax.tyStruct
+      (List._∷_ 38 (List._∷_ 91 (List._∷_ 93 List.[])))
+      (Syntax.tcons
+      (Syntax.tyRef Syntax.erased Syntax.imm (KInstanceRow.named))
+      (Syntax.tcons (Syntax.tyInt Syntax.w64) Syntax.tnil))),
 ) List.[])))))))))))))))
 
-abbrev pub t44 : List.List Row.Entry
-t44 = List._∷_ (0, Rows'.whole (Declared'.row Outcome.the-type)) (List._∷_ (
+abbrev pub t42 : List.List Row.Entry
+t42 = List._∷_ (0, Rows'.whole (Declared'.row Outcome.the-type)) (List._∷_ (
   1,
   Mut.mslice
       (KInstanceRow.R)
@@ -14261,413 +13833,8 @@ t44 = List._∷_ (0, Rows'.whole (Declared'.row Outcome.the-type)) (List._∷_ (
       (Syntax.tcons (KInstanceRow.spelled) Syntax.tnil)))),
 ) List.[])))))))))))))))
 
-abbrev pub t45 : List.List Row.Entry
-t45 = List._∷_ (
-  16,
-  Rows'.any-gone
-      (Syntax.tyStruct
-      (List._∷_
-      109
-      (List._∷_
-      101
-      (List._∷_
-      115
-      (List._∷_
-      115
-      (List._∷_
-      97
-      (List._∷_
-      103
-      (List._∷_
-      101
-      (List._∷_
-      58
-      (List._∷_
-      58
-      (List._∷_
-      70
-      (List._∷_
-      111
-      (List._∷_
-      117
-      (List._∷_
-      110
-      (List._∷_
-      100
-      (List._∷_
-      82
-      (List._∷_ 111 (List._∷_ 117 (List._∷_ 116 (List._∷_ 101 List.[])))))))))))))))))))
-      (Syntax.tcons
-      Syntax.tyBool
-      (Syntax.tcons
-      (Syntax.tyInt Syntax.w64)
-      (Syntax.tcons (KRouteRow.spelled) Syntax.tnil)))),
-) (List._∷_ (17, Rows'.sc-here Row.sBool) (List._∷_ (
-  18,
-  Rows'.any-gone
-      (Syntax.tyStruct
-      (List._∷_
-      109
-      (List._∷_
-      101
-      (List._∷_
-      115
-      (List._∷_
-      115
-      (List._∷_
-      97
-      (List._∷_
-      103
-      (List._∷_
-      101
-      (List._∷_
-      58
-      (List._∷_
-      58
-      (List._∷_
-      70
-      (List._∷_
-      114
-      (List._∷_
-      101
-      (List._∷_
-      101
-      (List._∷_ 68 (List._∷_ 101 (List._∷_ 108 (List._∷_ 116 (List._∷_ 97 List.[]))))))))))))))))))
-      (Syntax.tcons Syntax.tyBool (Syntax.tcons (Syntax.tyInt Syntax.w8) Syntax.tnil))),
-) (List._∷_ (
-  19,
-  Rows'.any-gone
-      (Syntax.tyStruct
-      (List._∷_
-      114
-      (List._∷_
-      101
-      (List._∷_
-      113
-      (List._∷_
-      117
-      (List._∷_
-      101
-      (List._∷_
-      115
-      (List._∷_
-      116
-      (List._∷_
-      58
-      (List._∷_
-      58
-      (List._∷_
-      82
-      (List._∷_
-      101
-      (List._∷_
-      113
-      (List._∷_
-      117
-      (List._∷_
-      101
-      (List._∷_
-      115
-      (List._∷_
-      116
-      (List._∷_
-      70
-      (List._∷_ 97 (List._∷_ 99 (List._∷_ 116 (List._∷_ 115 List.[])))))))))))))))))))))
-      (Syntax.tcons
-      (Syntax.tyStruct
-      (List._∷_
-      109
-      (List._∷_
-      101
-      (List._∷_
-      115
-      (List._∷_
-      115
-      (List._∷_
-      97
-      (List._∷_
-      103
-      (List._∷_
-      101
-      (List._∷_
-      58
-      (List._∷_
-      58
-      (List._∷_ 70 (List._∷_ 111 (List._∷_ 117 (List._∷_ 110 (List._∷_ 100 List.[]))))))))))))))
-      (Syntax.tcons
-      Syntax.tyBool
-      (Syntax.tcons
-      (Syntax.tyInt Syntax.w64)
-      (Syntax.tcons (KInstanceRow.spelled) Syntax.tnil))))
-      (Syntax.tcons
-      (Syntax.tyStruct
-      (List._∷_
-      109
-      (List._∷_
-      101
-      (List._∷_
-      115
-      (List._∷_
-      115
-      (List._∷_
-      97
-      (List._∷_
-      103
-      (List._∷_
-      101
-      (List._∷_
-      58
-      (List._∷_
-      58
-      (List._∷_
-      70
-      (List._∷_
-      111
-      (List._∷_
-      117
-      (List._∷_
-      110
-      (List._∷_
-      100
-      (List._∷_
-      82
-      (List._∷_ 111 (List._∷_ 117 (List._∷_ 116 (List._∷_ 101 List.[])))))))))))))))))))
-      (Syntax.tcons
-      Syntax.tyBool
-      (Syntax.tcons
-      (Syntax.tyInt Syntax.w64)
-      (Syntax.tcons (KRouteRow.spelled) Syntax.tnil))))
-      (Syntax.tcons
-      (Syntax.tyInt Syntax.w32)
-      (Syntax.tcons
-      (Syntax.tyEnum
-      (List._∷_
-      112
-      (List._∷_
-      108
-      (List._∷_
-      97
-      (List._∷_
-      105
-      (List._∷_
-      110
-      (List._∷_
-      58
-      (List._∷_
-      58
-      (List._∷_
-      83
-      (List._∷_
-      116
-      (List._∷_
-      97
-      (List._∷_ 110 (List._∷_ 100 (List._∷_ 105 (List._∷_ 110 (List._∷_ 103 List.[])))))))))))))))
-      (Syntax.ttcons
-      Syntax.tnil
-      (Syntax.ttcons
-      Syntax.tnil
-      (Syntax.ttcons
-      Syntax.tnil
-      (Syntax.ttcons Syntax.tnil (Syntax.ttcons Syntax.tnil Syntax.ttnil))))))
-      (Syntax.tcons
-      Syntax.tyBool
-      (Syntax.tcons
-      (Syntax.tyStruct
-      (List._∷_
-      97
-      (List._∷_
-      114
-      (List._∷_
-      116
-      (List._∷_
-      58
-      (List._∷_
-      58
-      (List._∷_
-      84
-      (List._∷_
-      97
-      (List._∷_ 114 (List._∷_ 103 (List._∷_ 101 (List._∷_ 116 (List._∷_ 115 List.[]))))))))))))
-      (Syntax.tcons
-      Syntax.tyBool
-      (Syntax.tcons
-      (Syntax.tyInt Syntax.w64)
-      (Syntax.tcons
-      (Syntax.tyArray
-      (Syntax.tyStruct
-      (List._∷_
-      112
-      (List._∷_
-      108
-      (List._∷_
-      97
-      (List._∷_
-      105
-      (List._∷_
-      110
-      (List._∷_
-      58
-      (List._∷_
-      58
-      (List._∷_
-      84
-      (List._∷_ 97 (List._∷_ 114 (List._∷_ 103 (List._∷_ 101 (List._∷_ 116 List.[])))))))))))))
-      (Syntax.tcons
-      (Syntax.tyInt Syntax.w8)
-      (Syntax.tcons
-      (Syntax.tyInt Syntax.w8)
-      (Syntax.tcons (Syntax.tyArray (Syntax.tyInt Syntax.w8) 16) Syntax.tnil))))
-      8)
-      Syntax.tnil))))
-      (Syntax.tcons
-      (Syntax.tyStruct
-      (List._∷_
-      109
-      (List._∷_
-      101
-      (List._∷_
-      115
-      (List._∷_
-      115
-      (List._∷_
-      97
-      (List._∷_
-      103
-      (List._∷_
-      101
-      (List._∷_
-      58
-      (List._∷_
-      58
-      (List._∷_
-      70
-      (List._∷_
-      114
-      (List._∷_
-      101
-      (List._∷_
-      101
-      (List._∷_ 68 (List._∷_ 101 (List._∷_ 108 (List._∷_ 116 (List._∷_ 97 List.[]))))))))))))))))))
-      (Syntax.tcons Syntax.tyBool (Syntax.tcons (Syntax.tyInt Syntax.w8) Syntax.tnil)))
-      Syntax.tnil)))))))),
-) (List._∷_ (
-  20,
-  Rows'.any-gone
-      (Syntax.tyEnum
-      (List._∷_
-      97
-      (List._∷_
-      110
-      (List._∷_
-      115
-      (List._∷_
-      119
-      (List._∷_
-      101
-      (List._∷_
-      114
-      (List._∷_
-      58
-      (List._∷_
-      58
-      (List._∷_
-      65
-      (List._∷_ 110 (List._∷_ 115 (List._∷_ 119 (List._∷_ 101 (List._∷_ 114 List.[]))))))))))))))
-      (Syntax.ttcons
-      Syntax.tnil
-      (Syntax.ttcons
-      Syntax.tnil
-      (Syntax.ttcons
-      Syntax.tnil
-      (Syntax.ttcons
-      Syntax.tnil
-      (Syntax.ttcons
-      Syntax.tnil
-      (Syntax.ttcons
-      Syntax.tnil
-      (Syntax.ttcons
-      Syntax.tnil
-      (Syntax.ttcons
-      Syntax.tnil
-      (Syntax.ttcons
-      Syntax.tnil
-      (Syntax.ttcons
-      Syntax.tnil
-      (Syntax.ttcons
-      Syntax.tnil
-      (Syntax.ttcons
-      Syntax.tnil
-      (Syntax.ttcons
-      Syntax.tnil
-      (Syntax.ttcons
-      Syntax.tnil
-      (Syntax.ttcons
-      Syntax.tnil
-      (Syntax.ttcons
-      Syntax.tnil
-      (Syntax.ttcons Syntax.tnil (Syntax.ttcons Syntax.tnil Syntax.ttnil))))))))))))))))))),
-) (List._∷_ (21, Rows'.any-gone (KDecided.spelled)) (List._∷_ (
-  22,
-  Rows'.any-gone (KPost.spelled),
-) (List._∷_ (23, Rows'.any-gone (KPost.spelled)) (List._∷_ (
-  24,
-  Rows'.any-gone
-      (Syntax.tyStruct
-      (List._∷_
-      102
-      (List._∷_
-      105
-      (List._∷_
-      110
-      (List._∷_
-      105
-      (List._∷_
-      115
-      (List._∷_
-      104
-      (List._∷_
-      58
-      (List._∷_ 58 (List._∷_ 76 (List._∷_ 105 (List._∷_ 118 (List._∷_ 101 List.[]))))))))))))
-      (Syntax.tcons
-      Syntax.tyBool
-      (Syntax.tcons
-      (Syntax.tyInt Syntax.w64)
-      (Syntax.tcons Syntax.tyBool (Syntax.tcons (Syntax.tyInt Syntax.w64) Syntax.tnil))))),
-) (List._∷_ (25, Rows'.any-gone Syntax.tyUnit) (List._∷_ (
-  26,
-  Rows'.any-gone (KParsed.spelled),
-) (List._∷_ (
-  27,
-  Rows'.any-gone
-      (Syntax.tyRef Syntax.erased Syntax.imm (KInstanceRow.named)),
-) (List._∷_ (
-  28,
-  Rows'.any-gone
-      (Syntax.tyStruct
-      (List._∷_ 38 (List._∷_ 91 (List._∷_ 93 List.[])))
-      (Syntax.tcons
-      (Syntax.tyRef Syntax.erased Syntax.imm (KInstanceRow.named))
-      (Syntax.tcons (Syntax.tyInt Syntax.w64) Syntax.tnil))),
-) (List._∷_ (
-  29,
-  Rows'.any-gone
-      (Syntax.tyRef Syntax.erased Syntax.imm (KRouteRow.named)),
-) (List._∷_ (
-  30,
-  Rows'.any-gone
-      (Syntax.tyStruct
-      (List._∷_ 38 (List._∷_ 91 (List._∷_ 93 List.[])))
-      (Syntax.tcons
-      (Syntax.tyRef Syntax.erased Syntax.imm (KRouteRow.named))
-      (Syntax.tcons (Syntax.tyInt Syntax.w64) Syntax.tnil))),
-) (List._∷_ (
-  31,
-  Rows'.any-gone
-      (Syntax.tyRef Syntax.erased Syntax.imm (KInstanceRow.named)),
-) List.[])))))))))))))))
-
-abbrev pub t46 : List.List Row.Entry
-t46 = List._∷_ (0, Rows'.whole (Declared'.row Outcome.the-type)) (List._∷_ (
+abbrev pub t43 : List.List Row.Entry
+t43 = List._∷_ (0, Rows'.whole (Declared'.row Outcome.the-type)) (List._∷_ (
   1,
   Mut.mslice
       (KInstanceRow.R)
@@ -14784,8 +13951,8 @@ t46 = List._∷_ (0, Rows'.whole (Declared'.row Outcome.the-type)) (List._∷_ (
       (Syntax.tcons (KInstanceRow.spelled) Syntax.tnil)))),
 ) List.[])))))))))))))))
 
-abbrev pub t47 : List.List Row.Entry
-t47 = List._∷_ (0, Rows'.whole (Declared'.row Outcome.the-type)) (List._∷_ (
+abbrev pub t44 : List.List Row.Entry
+t44 = List._∷_ (0, Rows'.whole (Declared'.row Outcome.the-type)) (List._∷_ (
   1,
   Mut.mslice
       (KInstanceRow.R)
@@ -14902,8 +14069,8 @@ t47 = List._∷_ (0, Rows'.whole (Declared'.row Outcome.the-type)) (List._∷_ (
       (Syntax.tcons (KInstanceRow.spelled) Syntax.tnil)))),
 ) List.[])))))))))))))))
 
-abbrev pub t48 : List.List Row.Entry
-t48 = List._∷_ (0, Rows'.whole (Declared'.row Outcome.the-type)) (List._∷_ (
+abbrev pub t45 : List.List Row.Entry
+t45 = List._∷_ (0, Rows'.whole (Declared'.row Outcome.the-type)) (List._∷_ (
   1,
   Mut.mslice
       (KInstanceRow.R)
@@ -15020,27 +14187,19 @@ t48 = List._∷_ (0, Rows'.whole (Declared'.row Outcome.the-type)) (List._∷_ (
       (Syntax.tcons (KInstanceRow.spelled) Syntax.tnil)))),
 ) List.[])))))))))))))))
 
-abbrev pub t49 : List.List Row.Entry
-t49 = List._∷_ (
-  32,
-  Rows'.any-gone
-      (Syntax.tyStruct
-      (List._∷_ 38 (List._∷_ 91 (List._∷_ 93 List.[])))
-      (Syntax.tcons
-      (Syntax.tyRef Syntax.erased Syntax.imm (KInstanceRow.named))
-      (Syntax.tcons (Syntax.tyInt Syntax.w64) Syntax.tnil))),
-) (List._∷_ (33, Rows'.any-gone (Syntax.tyInt Syntax.w8)) (List._∷_ (
-  34,
+abbrev pub t46 : List.List Row.Entry
+t46 = List._∷_ (32, Rows'.any-gone (Syntax.tyInt Syntax.w8)) (List._∷_ (
+  33,
   Rows'.any-gone Syntax.tyBool,
-) (List._∷_ (35, KDecided.row) (List._∷_ (
-  36,
+) (List._∷_ (34, KDecided.row) (List._∷_ (
+  35,
   Rows'.any-gone (KPost.spelled),
 ) (List._∷_ (
-  37,
+  36,
   Rows'.any-gone
       (Syntax.tyRef Syntax.erased Syntax.mut (KInstanceRow.named)),
 ) (List._∷_ (
-  38,
+  37,
   Rows'.any-gone
       (Syntax.tyStruct
       (List._∷_ 38 (List._∷_ 91 (List._∷_ 93 List.[])))
@@ -15048,11 +14207,11 @@ t49 = List._∷_ (
       (Syntax.tyRef Syntax.erased Syntax.mut (KInstanceRow.named))
       (Syntax.tcons (Syntax.tyInt Syntax.w64) Syntax.tnil))),
 ) (List._∷_ (
-  39,
+  38,
   Rows'.any-gone
       (Syntax.tyRef Syntax.erased Syntax.mut (KRouteRow.named)),
 ) (List._∷_ (
-  40,
+  39,
   Rows'.any-gone
       (Syntax.tyStruct
       (List._∷_ 38 (List._∷_ 91 (List._∷_ 93 List.[])))
@@ -15061,10 +14220,10 @@ t49 = List._∷_ (
       (Syntax.tcons (Syntax.tyInt Syntax.w64) Syntax.tnil))),
 )
     (List._∷_ (
-      41,
+      40,
       Rows'.any-gone (Syntax.tyRef Syntax.erased Syntax.mut (Syntax.tyInt Syntax.w8)),
     ) (List._∷_ (
-      42,
+      41,
       Rows'.any-gone
           (Syntax.tyStruct
           (List._∷_ 38 (List._∷_ 91 (List._∷_ 93 List.[])))
@@ -15072,36 +14231,33 @@ t49 = List._∷_ (
           (Syntax.tyRef Syntax.erased Syntax.mut (Syntax.tyInt Syntax.w8))
           (Syntax.tcons (Syntax.tyInt Syntax.w64) Syntax.tnil))),
     ) (List._∷_ (
-      43,
+      42,
       Rows'.any-gone (Syntax.tyRef Syntax.erased Syntax.mut (Syntax.tyInt Syntax.w8)),
+    ) (List._∷_ (
+      43,
+      Rows'.any-gone
+          (Syntax.tyStruct
+          (List._∷_ 38 (List._∷_ 91 (List._∷_ 93 List.[])))
+          (Syntax.tcons
+          (Syntax.tyRef Syntax.erased Syntax.mut (Syntax.tyInt Syntax.w8))
+          (Syntax.tcons (Syntax.tyInt Syntax.w64) Syntax.tnil))),
     ) (List._∷_ (
       44,
       Rows'.any-gone
-          (Syntax.tyStruct
-          (List._∷_ 38 (List._∷_ 91 (List._∷_ 93 List.[])))
-          (Syntax.tcons
-          (Syntax.tyRef Syntax.erased Syntax.mut (Syntax.tyInt Syntax.w8))
-          (Syntax.tcons (Syntax.tyInt Syntax.w64) Syntax.tnil))),
+          (Syntax.tyRef Syntax.erased Syntax.imm (KDecided.named)),
     ) (List._∷_ (
       45,
       Rows'.any-gone
-          (Syntax.tyRef Syntax.erased Syntax.imm (KDecided.named)),
+          (Syntax.tyRef Syntax.erased Syntax.imm (KPost.named)),
     ) (List._∷_ (
       46,
       Rows'.any-gone
           (Syntax.tyRef Syntax.erased Syntax.imm (KPost.named)),
-    ) (List._∷_ (
-      47,
-      Rows'.any-gone
-          (Syntax.tyRef Syntax.erased Syntax.imm (KPost.named)),
-    ) List.[])))))))))))))))
+    ) List.[]))))))))))))))
 
-abbrev pub t50 : List.List Row.Entry
-t50 = List._∷_ (16, Rows'.whole (Declared'.row FoundRoute.the-type)) (List._∷_ (
+abbrev pub t47 : List.List Row.Entry
+t47 = List._∷_ (16, Rows'.whole (Declared'.row FoundRoute.the-type)) (List._∷_ (
   17,
-  Rows'.sc-here Row.sBool,
-) (List._∷_ (
-  18,
   Rows'.any-gone
       (Syntax.tyStruct
       (List._∷_
@@ -15132,8 +14288,8 @@ t50 = List._∷_ (16, Rows'.whole (Declared'.row FoundRoute.the-type)) (List._�
       101
       (List._∷_ 68 (List._∷_ 101 (List._∷_ 108 (List._∷_ 116 (List._∷_ 97 List.[]))))))))))))))))))
       (Syntax.tcons Syntax.tyBool (Syntax.tcons (Syntax.tyInt Syntax.w8) Syntax.tnil))),
-) (List._∷_ (19, Rows'.whole (Declared'.row RequestFacts.the-type)) (List._∷_ (
-  20,
+) (List._∷_ (18, Rows'.whole (Declared'.row RequestFacts.the-type)) (List._∷_ (
+  19,
   Rows'.any-gone
       (Syntax.tyEnum
       (List._∷_
@@ -15188,11 +14344,11 @@ t50 = List._∷_ (16, Rows'.whole (Declared'.row FoundRoute.the-type)) (List._�
       (Syntax.ttcons
       Syntax.tnil
       (Syntax.ttcons Syntax.tnil (Syntax.ttcons Syntax.tnil Syntax.ttnil))))))))))))))))))),
-) (List._∷_ (21, KDecided.row) (List._∷_ (
-  22,
+) (List._∷_ (20, KDecided.row) (List._∷_ (
+  21,
   Rows'.any-gone (KPost.spelled),
-) (List._∷_ (23, Rows'.any-gone (KPost.spelled)) (List._∷_ (
-  24,
+) (List._∷_ (22, Rows'.any-gone (KPost.spelled)) (List._∷_ (
+  23,
   Rows'.any-gone
       (Syntax.tyStruct
       (List._∷_
@@ -15215,15 +14371,15 @@ t50 = List._∷_ (16, Rows'.whole (Declared'.row FoundRoute.the-type)) (List._�
       (Syntax.tcons
       (Syntax.tyInt Syntax.w64)
       (Syntax.tcons Syntax.tyBool (Syntax.tcons (Syntax.tyInt Syntax.w64) Syntax.tnil))))),
-) (List._∷_ (25, Rows'.any-gone Syntax.tyUnit) (List._∷_ (
-  26,
+) (List._∷_ (24, Rows'.any-gone Syntax.tyUnit) (List._∷_ (
+  25,
   Rows'.any-gone (KParsed.spelled),
 ) (List._∷_ (
-  27,
+  26,
   Rows'.any-gone
       (Syntax.tyRef Syntax.erased Syntax.imm (KInstanceRow.named)),
 ) (List._∷_ (
-  28,
+  27,
   Rows'.any-gone
       (Syntax.tyStruct
       (List._∷_ 38 (List._∷_ 91 (List._∷_ 93 List.[])))
@@ -15231,11 +14387,11 @@ t50 = List._∷_ (16, Rows'.whole (Declared'.row FoundRoute.the-type)) (List._�
       (Syntax.tyRef Syntax.erased Syntax.imm (KInstanceRow.named))
       (Syntax.tcons (Syntax.tyInt Syntax.w64) Syntax.tnil))),
 ) (List._∷_ (
-  29,
+  28,
   Rows'.any-gone
       (Syntax.tyRef Syntax.erased Syntax.imm (KRouteRow.named)),
 ) (List._∷_ (
-  30,
+  29,
   Rows'.any-gone
       (Syntax.tyStruct
       (List._∷_ 38 (List._∷_ 91 (List._∷_ 93 List.[])))
@@ -15243,17 +14399,404 @@ t50 = List._∷_ (16, Rows'.whole (Declared'.row FoundRoute.the-type)) (List._�
       (Syntax.tyRef Syntax.erased Syntax.imm (KRouteRow.named))
       (Syntax.tcons (Syntax.tyInt Syntax.w64) Syntax.tnil))),
 ) (List._∷_ (
-  31,
+  30,
   Rows'.any-gone
       (Syntax.tyRef Syntax.erased Syntax.imm (KInstanceRow.named)),
+) (List._∷_ (
+  31,
+  Rows'.any-gone
+      (Syntax.tyStruct
+      (List._∷_ 38 (List._∷_ 91 (List._∷_ 93 List.[])))
+      (Syntax.tcons
+      (Syntax.tyRef Syntax.erased Syntax.imm (KInstanceRow.named))
+      (Syntax.tcons (Syntax.tyInt Syntax.w64) Syntax.tnil))),
+) List.[])))))))))))))))
+
+abbrev pub t48 : List.List Row.Entry
+t48 = List._∷_ (16, Rows'.whole (Declared'.row FoundRoute.the-type)) (List._∷_ (
+  17,
+  Rows'.any-gone
+      (Syntax.tyStruct
+      (List._∷_
+      109
+      (List._∷_
+      101
+      (List._∷_
+      115
+      (List._∷_
+      115
+      (List._∷_
+      97
+      (List._∷_
+      103
+      (List._∷_
+      101
+      (List._∷_
+      58
+      (List._∷_
+      58
+      (List._∷_
+      70
+      (List._∷_
+      114
+      (List._∷_
+      101
+      (List._∷_
+      101
+      (List._∷_ 68 (List._∷_ 101 (List._∷_ 108 (List._∷_ 116 (List._∷_ 97 List.[]))))))))))))))))))
+      (Syntax.tcons Syntax.tyBool (Syntax.tcons (Syntax.tyInt Syntax.w8) Syntax.tnil))),
+) (List._∷_ (18, Rows'.whole (Declared'.row RequestFacts.the-type)) (List._∷_ (
+  19,
+  Rows'.any-gone
+      (Syntax.tyEnum
+      (List._∷_
+      97
+      (List._∷_
+      110
+      (List._∷_
+      115
+      (List._∷_
+      119
+      (List._∷_
+      101
+      (List._∷_
+      114
+      (List._∷_
+      58
+      (List._∷_
+      58
+      (List._∷_
+      65
+      (List._∷_ 110 (List._∷_ 115 (List._∷_ 119 (List._∷_ 101 (List._∷_ 114 List.[]))))))))))))))
+      (Syntax.ttcons
+      Syntax.tnil
+      (Syntax.ttcons
+      Syntax.tnil
+      (Syntax.ttcons
+      Syntax.tnil
+      (Syntax.ttcons
+      Syntax.tnil
+      (Syntax.ttcons
+      Syntax.tnil
+      (Syntax.ttcons
+      Syntax.tnil
+      (Syntax.ttcons
+      Syntax.tnil
+      (Syntax.ttcons
+      Syntax.tnil
+      (Syntax.ttcons
+      Syntax.tnil
+      (Syntax.ttcons
+      Syntax.tnil
+      (Syntax.ttcons
+      Syntax.tnil
+      (Syntax.ttcons
+      Syntax.tnil
+      (Syntax.ttcons
+      Syntax.tnil
+      (Syntax.ttcons
+      Syntax.tnil
+      (Syntax.ttcons
+      Syntax.tnil
+      (Syntax.ttcons
+      Syntax.tnil
+      (Syntax.ttcons Syntax.tnil (Syntax.ttcons Syntax.tnil Syntax.ttnil))))))))))))))))))),
+) (List._∷_ (20, KDecided.row) (List._∷_ (
+  21,
+  Rows'.any-gone (KPost.spelled),
+) (List._∷_ (22, Rows'.any-gone (KPost.spelled)) (List._∷_ (
+  23,
+  Rows'.any-gone
+      (Syntax.tyStruct
+      (List._∷_
+      102
+      (List._∷_
+      105
+      (List._∷_
+      110
+      (List._∷_
+      105
+      (List._∷_
+      115
+      (List._∷_
+      104
+      (List._∷_
+      58
+      (List._∷_ 58 (List._∷_ 76 (List._∷_ 105 (List._∷_ 118 (List._∷_ 101 List.[]))))))))))))
+      (Syntax.tcons
+      Syntax.tyBool
+      (Syntax.tcons
+      (Syntax.tyInt Syntax.w64)
+      (Syntax.tcons Syntax.tyBool (Syntax.tcons (Syntax.tyInt Syntax.w64) Syntax.tnil))))),
+) (List._∷_ (24, Rows'.any-gone Syntax.tyUnit) (List._∷_ (
+  25,
+  KParsed.row,
+) (List._∷_ (
+  26,
+  Rows'.any-gone
+      (Syntax.tyRef Syntax.erased Syntax.imm (KInstanceRow.named)),
+) (List._∷_ (
+  27,
+  Rows'.any-gone
+      (Syntax.tyStruct
+      (List._∷_ 38 (List._∷_ 91 (List._∷_ 93 List.[])))
+      (Syntax.tcons
+      (Syntax.tyRef Syntax.erased Syntax.imm (KInstanceRow.named))
+      (Syntax.tcons (Syntax.tyInt Syntax.w64) Syntax.tnil))),
+) (List._∷_ (
+  28,
+  Rows'.any-gone
+      (Syntax.tyRef Syntax.erased Syntax.imm (KRouteRow.named)),
+) (List._∷_ (
+  29,
+  Rows'.any-gone
+      (Syntax.tyStruct
+      (List._∷_ 38 (List._∷_ 91 (List._∷_ 93 List.[])))
+      (Syntax.tcons
+      (Syntax.tyRef Syntax.erased Syntax.imm (KRouteRow.named))
+      (Syntax.tcons (Syntax.tyInt Syntax.w64) Syntax.tnil))),
+) (List._∷_ (
+  30,
+  Rows'.any-gone
+      (Syntax.tyRef Syntax.erased Syntax.imm (KInstanceRow.named)),
+) (List._∷_ (
+  31,
+  Rows'.any-gone
+      (Syntax.tyStruct
+      (List._∷_ 38 (List._∷_ 91 (List._∷_ 93 List.[])))
+      (Syntax.tcons
+      (Syntax.tyRef Syntax.erased Syntax.imm (KInstanceRow.named))
+      (Syntax.tcons (Syntax.tyInt Syntax.w64) Syntax.tnil))),
+) List.[])))))))))))))))
+
+abbrev pub t49 : List.List Row.Entry
+t49 = List._∷_ (32, Rows'.any-gone (Syntax.tyInt Syntax.w8)) (List._∷_ (
+  33,
+  Rows'.any-gone Syntax.tyBool,
+) (List._∷_ (34, Rows'.any-gone (KDecided.spelled)) (List._∷_ (
+  35,
+  KPost.row,
+) (List._∷_ (
+  36,
+  Rows'.any-gone
+      (Syntax.tyRef Syntax.erased Syntax.mut (KInstanceRow.named)),
+) (List._∷_ (
+  37,
+  Rows'.any-gone
+      (Syntax.tyStruct
+      (List._∷_ 38 (List._∷_ 91 (List._∷_ 93 List.[])))
+      (Syntax.tcons
+      (Syntax.tyRef Syntax.erased Syntax.mut (KInstanceRow.named))
+      (Syntax.tcons (Syntax.tyInt Syntax.w64) Syntax.tnil))),
+) (List._∷_ (
+  38,
+  Rows'.any-gone
+      (Syntax.tyRef Syntax.erased Syntax.mut (KRouteRow.named)),
+) (List._∷_ (
+  39,
+  Rows'.any-gone
+      (Syntax.tyStruct
+      (List._∷_ 38 (List._∷_ 91 (List._∷_ 93 List.[])))
+      (Syntax.tcons
+      (Syntax.tyRef Syntax.erased Syntax.mut (KRouteRow.named))
+      (Syntax.tcons (Syntax.tyInt Syntax.w64) Syntax.tnil))),
+)
+    (List._∷_ (
+      40,
+      Rows'.any-gone (Syntax.tyRef Syntax.erased Syntax.mut (Syntax.tyInt Syntax.w8)),
+    ) (List._∷_ (
+      41,
+      Rows'.any-gone
+          (Syntax.tyStruct
+          (List._∷_ 38 (List._∷_ 91 (List._∷_ 93 List.[])))
+          (Syntax.tcons
+          (Syntax.tyRef Syntax.erased Syntax.mut (Syntax.tyInt Syntax.w8))
+          (Syntax.tcons (Syntax.tyInt Syntax.w64) Syntax.tnil))),
+    ) (List._∷_ (
+      42,
+      Rows'.any-gone (Syntax.tyRef Syntax.erased Syntax.mut (Syntax.tyInt Syntax.w8)),
+    ) (List._∷_ (
+      43,
+      Rows'.any-gone
+          (Syntax.tyStruct
+          (List._∷_ 38 (List._∷_ 91 (List._∷_ 93 List.[])))
+          (Syntax.tcons
+          (Syntax.tyRef Syntax.erased Syntax.mut (Syntax.tyInt Syntax.w8))
+          (Syntax.tcons (Syntax.tyInt Syntax.w64) Syntax.tnil))),
+    ) (List._∷_ (
+      44,
+      Rows'.any-gone
+          (Syntax.tyRef Syntax.erased Syntax.imm (KDecided.named)),
+    ) (List._∷_ (
+      45,
+      Rows'.any-gone
+          (Syntax.tyRef Syntax.erased Syntax.imm (KPost.named)),
+    ) (List._∷_ (
+      46,
+      Rows'.any-gone
+          (Syntax.tyRef Syntax.erased Syntax.imm (KPost.named)),
+    ) List.[]))))))))))))))
+
+abbrev pub t50 : List.List Row.Entry
+t50 = List._∷_ (16, Rows'.whole (Declared'.row FoundRoute.the-type)) (List._∷_ (
+  17,
+  Rows'.any-gone
+      (Syntax.tyStruct
+      (List._∷_
+      109
+      (List._∷_
+      101
+      (List._∷_
+      115
+      (List._∷_
+      115
+      (List._∷_
+      97
+      (List._∷_
+      103
+      (List._∷_
+      101
+      (List._∷_
+      58
+      (List._∷_
+      58
+      (List._∷_
+      70
+      (List._∷_
+      114
+      (List._∷_
+      101
+      (List._∷_
+      101
+      (List._∷_ 68 (List._∷_ 101 (List._∷_ 108 (List._∷_ 116 (List._∷_ 97 List.[]))))))))))))))))))
+      (Syntax.tcons Syntax.tyBool (Syntax.tcons (Syntax.tyInt Syntax.w8) Syntax.tnil))),
+) (List._∷_ (18, Rows'.whole (Declared'.row RequestFacts.the-type)) (List._∷_ (
+  19,
+  Rows'.any-gone
+      (Syntax.tyEnum
+      (List._∷_
+      97
+      (List._∷_
+      110
+      (List._∷_
+      115
+      (List._∷_
+      119
+      (List._∷_
+      101
+      (List._∷_
+      114
+      (List._∷_
+      58
+      (List._∷_
+      58
+      (List._∷_
+      65
+      (List._∷_ 110 (List._∷_ 115 (List._∷_ 119 (List._∷_ 101 (List._∷_ 114 List.[]))))))))))))))
+      (Syntax.ttcons
+      Syntax.tnil
+      (Syntax.ttcons
+      Syntax.tnil
+      (Syntax.ttcons
+      Syntax.tnil
+      (Syntax.ttcons
+      Syntax.tnil
+      (Syntax.ttcons
+      Syntax.tnil
+      (Syntax.ttcons
+      Syntax.tnil
+      (Syntax.ttcons
+      Syntax.tnil
+      (Syntax.ttcons
+      Syntax.tnil
+      (Syntax.ttcons
+      Syntax.tnil
+      (Syntax.ttcons
+      Syntax.tnil
+      (Syntax.ttcons
+      Syntax.tnil
+      (Syntax.ttcons
+      Syntax.tnil
+      (Syntax.ttcons
+      Syntax.tnil
+      (Syntax.ttcons
+      Syntax.tnil
+      (Syntax.ttcons
+      Syntax.tnil
+      (Syntax.ttcons
+      Syntax.tnil
+      (Syntax.ttcons Syntax.tnil (Syntax.ttcons Syntax.tnil Syntax.ttnil))))))))))))))))))),
+) (List._∷_ (20, KDecided.row) (List._∷_ (
+  21,
+  KPost.row,
+) (List._∷_ (22, Rows'.any-gone (KPost.spelled)) (List._∷_ (
+  23,
+  Rows'.any-gone
+      (Syntax.tyStruct
+      (List._∷_
+      102
+      (List._∷_
+      105
+      (List._∷_
+      110
+      (List._∷_
+      105
+      (List._∷_
+      115
+      (List._∷_
+      104
+      (List._∷_
+      58
+      (List._∷_ 58 (List._∷_ 76 (List._∷_ 105 (List._∷_ 118 (List._∷_ 101 List.[]))))))))))))
+      (Syntax.tcons
+      Syntax.tyBool
+      (Syntax.tcons
+      (Syntax.tyInt Syntax.w64)
+      (Syntax.tcons Syntax.tyBool (Syntax.tcons (Syntax.tyInt Syntax.w64) Syntax.tnil))))),
+) (List._∷_ (24, Rows'.any-gone Syntax.tyUnit) (List._∷_ (
+  25,
+  Rows'.any-gone (KParsed.spelled),
+) (List._∷_ (
+  26,
+  Rows'.any-gone
+      (Syntax.tyRef Syntax.erased Syntax.imm (KInstanceRow.named)),
+) (List._∷_ (
+  27,
+  Rows'.any-gone
+      (Syntax.tyStruct
+      (List._∷_ 38 (List._∷_ 91 (List._∷_ 93 List.[])))
+      (Syntax.tcons
+      (Syntax.tyRef Syntax.erased Syntax.imm (KInstanceRow.named))
+      (Syntax.tcons (Syntax.tyInt Syntax.w64) Syntax.tnil))),
+) (List._∷_ (
+  28,
+  Rows'.any-gone
+      (Syntax.tyRef Syntax.erased Syntax.imm (KRouteRow.named)),
+) (List._∷_ (
+  29,
+  Rows'.any-gone
+      (Syntax.tyStruct
+      (List._∷_ 38 (List._∷_ 91 (List._∷_ 93 List.[])))
+      (Syntax.tcons
+      (Syntax.tyRef Syntax.erased Syntax.imm (KRouteRow.named))
+      (Syntax.tcons (Syntax.tyInt Syntax.w64) Syntax.tnil))),
+) (List._∷_ (
+  30,
+  Rows'.any-gone
+      (Syntax.tyRef Syntax.erased Syntax.imm (KInstanceRow.named)),
+) (List._∷_ (
+  31,
+  Rows'.any-gone
+      (Syntax.tyStruct
+      (List._∷_ 38 (List._∷_ 91 (List._∷_ 93 List.[])))
+      (Syntax.tcons
+      (Syntax.tyRef Syntax.erased Syntax.imm (KInstanceRow.named))
+      (Syntax.tcons (Syntax.tyInt Syntax.w64) Syntax.tnil))),
 ) List.[])))))))))))))))
 
 abbrev pub t51 : List.List Row.Entry
 t51 = List._∷_ (16, Rows'.whole (Declared'.row FoundRoute.the-type)) (List._∷_ (
   17,
-  Rows'.sc-here Row.sBool,
-) (List._∷_ (
-  18,
   Rows'.any-gone
       (Syntax.tyStruct
       (List._∷_
@@ -15284,8 +14827,8 @@ t51 = List._∷_ (16, Rows'.whole (Declared'.row FoundRoute.the-type)) (List._�
       101
       (List._∷_ 68 (List._∷_ 101 (List._∷_ 108 (List._∷_ 116 (List._∷_ 97 List.[]))))))))))))))))))
       (Syntax.tcons Syntax.tyBool (Syntax.tcons (Syntax.tyInt Syntax.w8) Syntax.tnil))),
-) (List._∷_ (19, Rows'.whole (Declared'.row RequestFacts.the-type)) (List._∷_ (
-  20,
+) (List._∷_ (18, Rows'.whole (Declared'.row RequestFacts.the-type)) (List._∷_ (
+  19,
   Rows'.any-gone
       (Syntax.tyEnum
       (List._∷_
@@ -15340,11 +14883,11 @@ t51 = List._∷_ (16, Rows'.whole (Declared'.row FoundRoute.the-type)) (List._�
       (Syntax.ttcons
       Syntax.tnil
       (Syntax.ttcons Syntax.tnil (Syntax.ttcons Syntax.tnil Syntax.ttnil))))))))))))))))))),
-) (List._∷_ (21, KDecided.row) (List._∷_ (
-  22,
-  Rows'.any-gone (KPost.spelled),
-) (List._∷_ (23, Rows'.any-gone (KPost.spelled)) (List._∷_ (
-  24,
+) (List._∷_ (20, KDecided.row) (List._∷_ (
+  21,
+  KPost.row,
+) (List._∷_ (22, Rows'.any-gone (KPost.spelled)) (List._∷_ (
+  23,
   Rows'.any-gone
       (Syntax.tyStruct
       (List._∷_
@@ -15367,15 +14910,15 @@ t51 = List._∷_ (16, Rows'.whole (Declared'.row FoundRoute.the-type)) (List._�
       (Syntax.tcons
       (Syntax.tyInt Syntax.w64)
       (Syntax.tcons Syntax.tyBool (Syntax.tcons (Syntax.tyInt Syntax.w64) Syntax.tnil))))),
-) (List._∷_ (25, Rows'.any-gone Syntax.tyUnit) (List._∷_ (
-  26,
+) (List._∷_ (24, Rows'.any-gone Syntax.tyUnit) (List._∷_ (
+  25,
   KParsed.row,
 ) (List._∷_ (
-  27,
+  26,
   Rows'.any-gone
       (Syntax.tyRef Syntax.erased Syntax.imm (KInstanceRow.named)),
 ) (List._∷_ (
-  28,
+  27,
   Rows'.any-gone
       (Syntax.tyStruct
       (List._∷_ 38 (List._∷_ 91 (List._∷_ 93 List.[])))
@@ -15383,11 +14926,11 @@ t51 = List._∷_ (16, Rows'.whole (Declared'.row FoundRoute.the-type)) (List._�
       (Syntax.tyRef Syntax.erased Syntax.imm (KInstanceRow.named))
       (Syntax.tcons (Syntax.tyInt Syntax.w64) Syntax.tnil))),
 ) (List._∷_ (
-  29,
+  28,
   Rows'.any-gone
       (Syntax.tyRef Syntax.erased Syntax.imm (KRouteRow.named)),
 ) (List._∷_ (
-  30,
+  29,
   Rows'.any-gone
       (Syntax.tyStruct
       (List._∷_ 38 (List._∷_ 91 (List._∷_ 93 List.[])))
@@ -15395,393 +14938,21 @@ t51 = List._∷_ (16, Rows'.whole (Declared'.row FoundRoute.the-type)) (List._�
       (Syntax.tyRef Syntax.erased Syntax.imm (KRouteRow.named))
       (Syntax.tcons (Syntax.tyInt Syntax.w64) Syntax.tnil))),
 ) (List._∷_ (
-  31,
+  30,
   Rows'.any-gone
       (Syntax.tyRef Syntax.erased Syntax.imm (KInstanceRow.named)),
+) (List._∷_ (
+  31,
+  Rows'.any-gone
+      (Syntax.tyStruct
+      (List._∷_ 38 (List._∷_ 91 (List._∷_ 93 List.[])))
+      (Syntax.tcons
+      (Syntax.tyRef Syntax.erased Syntax.imm (KInstanceRow.named))
+      (Syntax.tcons (Syntax.tyInt Syntax.w64) Syntax.tnil))),
 ) List.[])))))))))))))))
 
 abbrev pub t52 : List.List Row.Entry
 t52 = List._∷_ (
-  32,
-  Rows'.any-gone
-      (Syntax.tyStruct
-      (List._∷_ 38 (List._∷_ 91 (List._∷_ 93 List.[])))
-      (Syntax.tcons
-      (Syntax.tyRef Syntax.erased Syntax.imm (KInstanceRow.named))
-      (Syntax.tcons (Syntax.tyInt Syntax.w64) Syntax.tnil))),
-) (List._∷_ (33, Rows'.any-gone (Syntax.tyInt Syntax.w8)) (List._∷_ (
-  34,
-  Rows'.any-gone Syntax.tyBool,
-) (List._∷_ (35, Rows'.any-gone (KDecided.spelled)) (List._∷_ (
-  36,
-  KPost.row,
-) (List._∷_ (
-  37,
-  Rows'.any-gone
-      (Syntax.tyRef Syntax.erased Syntax.mut (KInstanceRow.named)),
-) (List._∷_ (
-  38,
-  Rows'.any-gone
-      (Syntax.tyStruct
-      (List._∷_ 38 (List._∷_ 91 (List._∷_ 93 List.[])))
-      (Syntax.tcons
-      (Syntax.tyRef Syntax.erased Syntax.mut (KInstanceRow.named))
-      (Syntax.tcons (Syntax.tyInt Syntax.w64) Syntax.tnil))),
-) (List._∷_ (
-  39,
-  Rows'.any-gone
-      (Syntax.tyRef Syntax.erased Syntax.mut (KRouteRow.named)),
-) (List._∷_ (
-  40,
-  Rows'.any-gone
-      (Syntax.tyStruct
-      (List._∷_ 38 (List._∷_ 91 (List._∷_ 93 List.[])))
-      (Syntax.tcons
-      (Syntax.tyRef Syntax.erased Syntax.mut (KRouteRow.named))
-      (Syntax.tcons (Syntax.tyInt Syntax.w64) Syntax.tnil))),
-)
-    (List._∷_ (
-      41,
-      Rows'.any-gone (Syntax.tyRef Syntax.erased Syntax.mut (Syntax.tyInt Syntax.w8)),
-    ) (List._∷_ (
-      42,
-      Rows'.any-gone
-          (Syntax.tyStruct
-          (List._∷_ 38 (List._∷_ 91 (List._∷_ 93 List.[])))
-          (Syntax.tcons
-          (Syntax.tyRef Syntax.erased Syntax.mut (Syntax.tyInt Syntax.w8))
-          (Syntax.tcons (Syntax.tyInt Syntax.w64) Syntax.tnil))),
-    ) (List._∷_ (
-      43,
-      Rows'.any-gone (Syntax.tyRef Syntax.erased Syntax.mut (Syntax.tyInt Syntax.w8)),
-    ) (List._∷_ (
-      44,
-      Rows'.any-gone
-          (Syntax.tyStruct
-          (List._∷_ 38 (List._∷_ 91 (List._∷_ 93 List.[])))
-          (Syntax.tcons
-          (Syntax.tyRef Syntax.erased Syntax.mut (Syntax.tyInt Syntax.w8))
-          (Syntax.tcons (Syntax.tyInt Syntax.w64) Syntax.tnil))),
-    ) (List._∷_ (
-      45,
-      Rows'.any-gone
-          (Syntax.tyRef Syntax.erased Syntax.imm (KDecided.named)),
-    ) (List._∷_ (
-      46,
-      Rows'.any-gone
-          (Syntax.tyRef Syntax.erased Syntax.imm (KPost.named)),
-    ) (List._∷_ (
-      47,
-      Rows'.any-gone
-          (Syntax.tyRef Syntax.erased Syntax.imm (KPost.named)),
-    ) List.[])))))))))))))))
-
-abbrev pub t53 : List.List Row.Entry
-t53 = List._∷_ (16, Rows'.whole (Declared'.row FoundRoute.the-type)) (List._∷_ (
-  17,
-  Rows'.sc-here Row.sBool,
-) (List._∷_ (
-  18,
-  Rows'.any-gone
-      (Syntax.tyStruct
-      (List._∷_
-      109
-      (List._∷_
-      101
-      (List._∷_
-      115
-      (List._∷_
-      115
-      (List._∷_
-      97
-      (List._∷_
-      103
-      (List._∷_
-      101
-      (List._∷_
-      58
-      (List._∷_
-      58
-      (List._∷_
-      70
-      (List._∷_
-      114
-      (List._∷_
-      101
-      (List._∷_
-      101
-      (List._∷_ 68 (List._∷_ 101 (List._∷_ 108 (List._∷_ 116 (List._∷_ 97 List.[]))))))))))))))))))
-      (Syntax.tcons Syntax.tyBool (Syntax.tcons (Syntax.tyInt Syntax.w8) Syntax.tnil))),
-) (List._∷_ (19, Rows'.whole (Declared'.row RequestFacts.the-type)) (List._∷_ (
-  20,
-  Rows'.any-gone
-      (Syntax.tyEnum
-      (List._∷_
-      97
-      (List._∷_
-      110
-      (List._∷_
-      115
-      (List._∷_
-      119
-      (List._∷_
-      101
-      (List._∷_
-      114
-      (List._∷_
-      58
-      (List._∷_
-      58
-      (List._∷_
-      65
-      (List._∷_ 110 (List._∷_ 115 (List._∷_ 119 (List._∷_ 101 (List._∷_ 114 List.[]))))))))))))))
-      (Syntax.ttcons
-      Syntax.tnil
-      (Syntax.ttcons
-      Syntax.tnil
-      (Syntax.ttcons
-      Syntax.tnil
-      (Syntax.ttcons
-      Syntax.tnil
-      (Syntax.ttcons
-      Syntax.tnil
-      (Syntax.ttcons
-      Syntax.tnil
-      (Syntax.ttcons
-      Syntax.tnil
-      (Syntax.ttcons
-      Syntax.tnil
-      (Syntax.ttcons
-      Syntax.tnil
-      (Syntax.ttcons
-      Syntax.tnil
-      (Syntax.ttcons
-      Syntax.tnil
-      (Syntax.ttcons
-      Syntax.tnil
-      (Syntax.ttcons
-      Syntax.tnil
-      (Syntax.ttcons
-      Syntax.tnil
-      (Syntax.ttcons
-      Syntax.tnil
-      (Syntax.ttcons
-      Syntax.tnil
-      (Syntax.ttcons Syntax.tnil (Syntax.ttcons Syntax.tnil Syntax.ttnil))))))))))))))))))),
-) (List._∷_ (21, KDecided.row) (List._∷_ (
-  22,
-  KPost.row,
-) (List._∷_ (23, Rows'.any-gone (KPost.spelled)) (List._∷_ (
-  24,
-  Rows'.any-gone
-      (Syntax.tyStruct
-      (List._∷_
-      102
-      (List._∷_
-      105
-      (List._∷_
-      110
-      (List._∷_
-      105
-      (List._∷_
-      115
-      (List._∷_
-      104
-      (List._∷_
-      58
-      (List._∷_ 58 (List._∷_ 76 (List._∷_ 105 (List._∷_ 118 (List._∷_ 101 List.[]))))))))))))
-      (Syntax.tcons
-      Syntax.tyBool
-      (Syntax.tcons
-      (Syntax.tyInt Syntax.w64)
-      (Syntax.tcons Syntax.tyBool (Syntax.tcons (Syntax.tyInt Syntax.w64) Syntax.tnil))))),
-) (List._∷_ (25, Rows'.any-gone Syntax.tyUnit) (List._∷_ (
-  26,
-  Rows'.any-gone (KParsed.spelled),
-) (List._∷_ (
-  27,
-  Rows'.any-gone
-      (Syntax.tyRef Syntax.erased Syntax.imm (KInstanceRow.named)),
-) (List._∷_ (
-  28,
-  Rows'.any-gone
-      (Syntax.tyStruct
-      (List._∷_ 38 (List._∷_ 91 (List._∷_ 93 List.[])))
-      (Syntax.tcons
-      (Syntax.tyRef Syntax.erased Syntax.imm (KInstanceRow.named))
-      (Syntax.tcons (Syntax.tyInt Syntax.w64) Syntax.tnil))),
-) (List._∷_ (
-  29,
-  Rows'.any-gone
-      (Syntax.tyRef Syntax.erased Syntax.imm (KRouteRow.named)),
-) (List._∷_ (
-  30,
-  Rows'.any-gone
-      (Syntax.tyStruct
-      (List._∷_ 38 (List._∷_ 91 (List._∷_ 93 List.[])))
-      (Syntax.tcons
-      (Syntax.tyRef Syntax.erased Syntax.imm (KRouteRow.named))
-      (Syntax.tcons (Syntax.tyInt Syntax.w64) Syntax.tnil))),
-) (List._∷_ (
-  31,
-  Rows'.any-gone
-      (Syntax.tyRef Syntax.erased Syntax.imm (KInstanceRow.named)),
-) List.[])))))))))))))))
-
-abbrev pub t54 : List.List Row.Entry
-t54 = List._∷_ (16, Rows'.whole (Declared'.row FoundRoute.the-type)) (List._∷_ (
-  17,
-  Rows'.sc-here Row.sBool,
-) (List._∷_ (
-  18,
-  Rows'.any-gone
-      (Syntax.tyStruct
-      (List._∷_
-      109
-      (List._∷_
-      101
-      (List._∷_
-      115
-      (List._∷_
-      115
-      (List._∷_
-      97
-      (List._∷_
-      103
-      (List._∷_
-      101
-      (List._∷_
-      58
-      (List._∷_
-      58
-      (List._∷_
-      70
-      (List._∷_
-      114
-      (List._∷_
-      101
-      (List._∷_
-      101
-      (List._∷_ 68 (List._∷_ 101 (List._∷_ 108 (List._∷_ 116 (List._∷_ 97 List.[]))))))))))))))))))
-      (Syntax.tcons Syntax.tyBool (Syntax.tcons (Syntax.tyInt Syntax.w8) Syntax.tnil))),
-) (List._∷_ (19, Rows'.whole (Declared'.row RequestFacts.the-type)) (List._∷_ (
-  20,
-  Rows'.any-gone
-      (Syntax.tyEnum
-      (List._∷_
-      97
-      (List._∷_
-      110
-      (List._∷_
-      115
-      (List._∷_
-      119
-      (List._∷_
-      101
-      (List._∷_
-      114
-      (List._∷_
-      58
-      (List._∷_
-      58
-      (List._∷_
-      65
-      (List._∷_ 110 (List._∷_ 115 (List._∷_ 119 (List._∷_ 101 (List._∷_ 114 List.[]))))))))))))))
-      (Syntax.ttcons
-      Syntax.tnil
-      (Syntax.ttcons
-      Syntax.tnil
-      (Syntax.ttcons
-      Syntax.tnil
-      (Syntax.ttcons
-      Syntax.tnil
-      (Syntax.ttcons
-      Syntax.tnil
-      (Syntax.ttcons
-      Syntax.tnil
-      (Syntax.ttcons
-      Syntax.tnil
-      (Syntax.ttcons
-      Syntax.tnil
-      (Syntax.ttcons
-      Syntax.tnil
-      (Syntax.ttcons
-      Syntax.tnil
-      (Syntax.ttcons
-      Syntax.tnil
-      (Syntax.ttcons
-      Syntax.tnil
-      (Syntax.ttcons
-      Syntax.tnil
-      (Syntax.ttcons
-      Syntax.tnil
-      (Syntax.ttcons
-      Syntax.tnil
-      (Syntax.ttcons
-      Syntax.tnil
-      (Syntax.ttcons Syntax.tnil (Syntax.ttcons Syntax.tnil Syntax.ttnil))))))))))))))))))),
-) (List._∷_ (21, KDecided.row) (List._∷_ (
-  22,
-  KPost.row,
-) (List._∷_ (23, Rows'.any-gone (KPost.spelled)) (List._∷_ (
-  24,
-  Rows'.any-gone
-      (Syntax.tyStruct
-      (List._∷_
-      102
-      (List._∷_
-      105
-      (List._∷_
-      110
-      (List._∷_
-      105
-      (List._∷_
-      115
-      (List._∷_
-      104
-      (List._∷_
-      58
-      (List._∷_ 58 (List._∷_ 76 (List._∷_ 105 (List._∷_ 118 (List._∷_ 101 List.[]))))))))))))
-      (Syntax.tcons
-      Syntax.tyBool
-      (Syntax.tcons
-      (Syntax.tyInt Syntax.w64)
-      (Syntax.tcons Syntax.tyBool (Syntax.tcons (Syntax.tyInt Syntax.w64) Syntax.tnil))))),
-) (List._∷_ (25, Rows'.any-gone Syntax.tyUnit) (List._∷_ (
-  26,
-  KParsed.row,
-) (List._∷_ (
-  27,
-  Rows'.any-gone
-      (Syntax.tyRef Syntax.erased Syntax.imm (KInstanceRow.named)),
-) (List._∷_ (
-  28,
-  Rows'.any-gone
-      (Syntax.tyStruct
-      (List._∷_ 38 (List._∷_ 91 (List._∷_ 93 List.[])))
-      (Syntax.tcons
-      (Syntax.tyRef Syntax.erased Syntax.imm (KInstanceRow.named))
-      (Syntax.tcons (Syntax.tyInt Syntax.w64) Syntax.tnil))),
-) (List._∷_ (
-  29,
-  Rows'.any-gone
-      (Syntax.tyRef Syntax.erased Syntax.imm (KRouteRow.named)),
-) (List._∷_ (
-  30,
-  Rows'.any-gone
-      (Syntax.tyStruct
-      (List._∷_ 38 (List._∷_ 91 (List._∷_ 93 List.[])))
-      (Syntax.tcons
-      (Syntax.tyRef Syntax.erased Syntax.imm (KRouteRow.named))
-      (Syntax.tcons (Syntax.tyInt Syntax.w64) Syntax.tnil))),
-) (List._∷_ (
-  31,
-  Rows'.any-gone
-      (Syntax.tyRef Syntax.erased Syntax.imm (KInstanceRow.named)),
-) List.[])))))))))))))))
-
-abbrev pub t55 : List.List Row.Entry
-t55 = List._∷_ (
   0,
   Rows'.any-gone
       (Syntax.tyStruct
@@ -16092,12 +15263,1128 @@ t55 = List._∷_ (
   Rows'.whole (Declared'.row Found.the-type),
 ) List.[])))))))))))))))
 
+abbrev pub t53 : List.List Row.Entry
+t53 = List._∷_ (16, Rows'.whole (Declared'.row FoundRoute.the-type)) (List._∷_ (
+  17,
+  Rows'.any-gone
+      (Syntax.tyStruct
+      (List._∷_
+      109
+      (List._∷_
+      101
+      (List._∷_
+      115
+      (List._∷_
+      115
+      (List._∷_
+      97
+      (List._∷_
+      103
+      (List._∷_
+      101
+      (List._∷_
+      58
+      (List._∷_
+      58
+      (List._∷_
+      70
+      (List._∷_
+      114
+      (List._∷_
+      101
+      (List._∷_
+      101
+      (List._∷_ 68 (List._∷_ 101 (List._∷_ 108 (List._∷_ 116 (List._∷_ 97 List.[]))))))))))))))))))
+      (Syntax.tcons Syntax.tyBool (Syntax.tcons (Syntax.tyInt Syntax.w8) Syntax.tnil))),
+) (List._∷_ (
+  18,
+  Rows'.any-gone
+      (Syntax.tyStruct
+      (List._∷_
+      114
+      (List._∷_
+      101
+      (List._∷_
+      113
+      (List._∷_
+      117
+      (List._∷_
+      101
+      (List._∷_
+      115
+      (List._∷_
+      116
+      (List._∷_
+      58
+      (List._∷_
+      58
+      (List._∷_
+      82
+      (List._∷_
+      101
+      (List._∷_
+      113
+      (List._∷_
+      117
+      (List._∷_
+      101
+      (List._∷_
+      115
+      (List._∷_
+      116
+      (List._∷_
+      70
+      (List._∷_ 97 (List._∷_ 99 (List._∷_ 116 (List._∷_ 115 List.[])))))))))))))))))))))
+      (Syntax.tcons
+      (Syntax.tyStruct
+      (List._∷_
+      109
+      (List._∷_
+      101
+      (List._∷_
+      115
+      (List._∷_
+      115
+      (List._∷_
+      97
+      (List._∷_
+      103
+      (List._∷_
+      101
+      (List._∷_
+      58
+      (List._∷_
+      58
+      (List._∷_ 70 (List._∷_ 111 (List._∷_ 117 (List._∷_ 110 (List._∷_ 100 List.[]))))))))))))))
+      (Syntax.tcons
+      Syntax.tyBool
+      (Syntax.tcons
+      (Syntax.tyInt Syntax.w64)
+      (Syntax.tcons (KInstanceRow.spelled) Syntax.tnil))))
+      (Syntax.tcons
+      (Syntax.tyStruct
+      (List._∷_
+      109
+      (List._∷_
+      101
+      (List._∷_
+      115
+      (List._∷_
+      115
+      (List._∷_
+      97
+      (List._∷_
+      103
+      (List._∷_
+      101
+      (List._∷_
+      58
+      (List._∷_
+      58
+      (List._∷_
+      70
+      (List._∷_
+      111
+      (List._∷_
+      117
+      (List._∷_
+      110
+      (List._∷_
+      100
+      (List._∷_
+      82
+      (List._∷_ 111 (List._∷_ 117 (List._∷_ 116 (List._∷_ 101 List.[])))))))))))))))))))
+      (Syntax.tcons
+      Syntax.tyBool
+      (Syntax.tcons
+      (Syntax.tyInt Syntax.w64)
+      (Syntax.tcons (KRouteRow.spelled) Syntax.tnil))))
+      (Syntax.tcons
+      (Syntax.tyInt Syntax.w32)
+      (Syntax.tcons
+      (Syntax.tyEnum
+      (List._∷_
+      112
+      (List._∷_
+      108
+      (List._∷_
+      97
+      (List._∷_
+      105
+      (List._∷_
+      110
+      (List._∷_
+      58
+      (List._∷_
+      58
+      (List._∷_
+      83
+      (List._∷_
+      116
+      (List._∷_
+      97
+      (List._∷_ 110 (List._∷_ 100 (List._∷_ 105 (List._∷_ 110 (List._∷_ 103 List.[])))))))))))))))
+      (Syntax.ttcons
+      Syntax.tnil
+      (Syntax.ttcons
+      Syntax.tnil
+      (Syntax.ttcons
+      Syntax.tnil
+      (Syntax.ttcons Syntax.tnil (Syntax.ttcons Syntax.tnil Syntax.ttnil))))))
+      (Syntax.tcons
+      Syntax.tyBool
+      (Syntax.tcons
+      (Syntax.tyStruct
+      (List._∷_
+      97
+      (List._∷_
+      114
+      (List._∷_
+      116
+      (List._∷_
+      58
+      (List._∷_
+      58
+      (List._∷_
+      84
+      (List._∷_
+      97
+      (List._∷_ 114 (List._∷_ 103 (List._∷_ 101 (List._∷_ 116 (List._∷_ 115 List.[]))))))))))))
+      (Syntax.tcons
+      Syntax.tyBool
+      (Syntax.tcons
+      (Syntax.tyInt Syntax.w64)
+      (Syntax.tcons
+      (Syntax.tyArray
+      (Syntax.tyStruct
+      (List._∷_
+      112
+      (List._∷_
+      108
+      (List._∷_
+      97
+      (List._∷_
+      105
+      (List._∷_
+      110
+      (List._∷_
+      58
+      (List._∷_
+      58
+      (List._∷_
+      84
+      (List._∷_ 97 (List._∷_ 114 (List._∷_ 103 (List._∷_ 101 (List._∷_ 116 List.[])))))))))))))
+      (Syntax.tcons
+      (Syntax.tyInt Syntax.w8)
+      (Syntax.tcons
+      (Syntax.tyInt Syntax.w8)
+      (Syntax.tcons (Syntax.tyArray (Syntax.tyInt Syntax.w8) 16) Syntax.tnil))))
+      8)
+      Syntax.tnil))))
+      (Syntax.tcons
+      (Syntax.tyStruct
+      (List._∷_
+      109
+      (List._∷_
+      101
+      (List._∷_
+      115
+      (List._∷_
+      115
+      (List._∷_
+      97
+      (List._∷_
+      103
+      (List._∷_
+      101
+      (List._∷_
+      58
+      (List._∷_
+      58
+      (List._∷_
+      70
+      (List._∷_
+      114
+      (List._∷_
+      101
+      (List._∷_
+      101
+      (List._∷_ 68 (List._∷_ 101 (List._∷_ 108 (List._∷_ 116 (List._∷_ 97 List.[]))))))))))))))))))
+      (Syntax.tcons Syntax.tyBool (Syntax.tcons (Syntax.tyInt Syntax.w8) Syntax.tnil)))
+      Syntax.tnil)))))))),
+) (List._∷_ (
+  19,
+  Rows'.any-gone
+      (Syntax.tyEnum
+      (List._∷_
+      97
+      (List._∷_
+      110
+      (List._∷_
+      115
+      (List._∷_
+      119
+      (List._∷_
+      101
+      (List._∷_
+      114
+      (List._∷_
+      58
+      (List._∷_
+      58
+      (List._∷_
+      65
+      (List._∷_ 110 (List._∷_ 115 (List._∷_ 119 (List._∷_ 101 (List._∷_ 114 List.[]))))))))))))))
+      (Syntax.ttcons
+      Syntax.tnil
+      (Syntax.ttcons
+      Syntax.tnil
+      (Syntax.ttcons
+      Syntax.tnil
+      (Syntax.ttcons
+      Syntax.tnil
+      (Syntax.ttcons
+      Syntax.tnil
+      (Syntax.ttcons
+      Syntax.tnil
+      (Syntax.ttcons
+      Syntax.tnil
+      (Syntax.ttcons
+      Syntax.tnil
+      (Syntax.ttcons
+      Syntax.tnil
+      (Syntax.ttcons
+      Syntax.tnil
+      (Syntax.ttcons
+      Syntax.tnil
+      (Syntax.ttcons
+      Syntax.tnil
+      (Syntax.ttcons
+      Syntax.tnil
+      (Syntax.ttcons
+      Syntax.tnil
+      (Syntax.ttcons
+      Syntax.tnil
+      (Syntax.ttcons
+      Syntax.tnil
+      (Syntax.ttcons Syntax.tnil (Syntax.ttcons Syntax.tnil Syntax.ttnil))))))))))))))))))),
+) (List._∷_ (20, KDecided.row) (List._∷_ (
+  21,
+  KPost.row,
+) (List._∷_ (22, Rows'.any-gone (KPost.spelled)) (List._∷_ (
+  23,
+  Rows'.any-gone
+      (Syntax.tyStruct
+      (List._∷_
+      102
+      (List._∷_
+      105
+      (List._∷_
+      110
+      (List._∷_
+      105
+      (List._∷_
+      115
+      (List._∷_
+      104
+      (List._∷_
+      58
+      (List._∷_ 58 (List._∷_ 76 (List._∷_ 105 (List._∷_ 118 (List._∷_ 101 List.[]))))))))))))
+      (Syntax.tcons
+      Syntax.tyBool
+      (Syntax.tcons
+      (Syntax.tyInt Syntax.w64)
+      (Syntax.tcons Syntax.tyBool (Syntax.tcons (Syntax.tyInt Syntax.w64) Syntax.tnil))))),
+) (List._∷_ (24, Rows'.any-gone Syntax.tyUnit) (List._∷_ (
+  25,
+  KParsed.row,
+) (List._∷_ (
+  26,
+  Rows'.any-gone
+      (Syntax.tyRef Syntax.erased Syntax.imm (KInstanceRow.named)),
+) (List._∷_ (
+  27,
+  Rows'.any-gone
+      (Syntax.tyStruct
+      (List._∷_ 38 (List._∷_ 91 (List._∷_ 93 List.[])))
+      (Syntax.tcons
+      (Syntax.tyRef Syntax.erased Syntax.imm (KInstanceRow.named))
+      (Syntax.tcons (Syntax.tyInt Syntax.w64) Syntax.tnil))),
+) (List._∷_ (
+  28,
+  Rows'.any-gone
+      (Syntax.tyRef Syntax.erased Syntax.imm (KRouteRow.named)),
+) (List._∷_ (
+  29,
+  Rows'.any-gone
+      (Syntax.tyStruct
+      (List._∷_ 38 (List._∷_ 91 (List._∷_ 93 List.[])))
+      (Syntax.tcons
+      (Syntax.tyRef Syntax.erased Syntax.imm (KRouteRow.named))
+      (Syntax.tcons (Syntax.tyInt Syntax.w64) Syntax.tnil))),
+) (List._∷_ (
+  30,
+  Rows'.any-gone
+      (Syntax.tyRef Syntax.erased Syntax.imm (KInstanceRow.named)),
+) (List._∷_ (
+  31,
+  Rows'.any-gone
+      (Syntax.tyStruct
+      (List._∷_ 38 (List._∷_ 91 (List._∷_ 93 List.[])))
+      (Syntax.tcons
+      (Syntax.tyRef Syntax.erased Syntax.imm (KInstanceRow.named))
+      (Syntax.tcons (Syntax.tyInt Syntax.w64) Syntax.tnil))),
+) List.[])))))))))))))))
+
+abbrev pub t54 : List.List Row.Entry
+t54 = List._∷_ (16, Rows'.whole (Declared'.row FoundRoute.the-type)) (List._∷_ (
+  17,
+  Rows'.any-gone
+      (Syntax.tyStruct
+      (List._∷_
+      109
+      (List._∷_
+      101
+      (List._∷_
+      115
+      (List._∷_
+      115
+      (List._∷_
+      97
+      (List._∷_
+      103
+      (List._∷_
+      101
+      (List._∷_
+      58
+      (List._∷_
+      58
+      (List._∷_
+      70
+      (List._∷_
+      114
+      (List._∷_
+      101
+      (List._∷_
+      101
+      (List._∷_ 68 (List._∷_ 101 (List._∷_ 108 (List._∷_ 116 (List._∷_ 97 List.[]))))))))))))))))))
+      (Syntax.tcons Syntax.tyBool (Syntax.tcons (Syntax.tyInt Syntax.w8) Syntax.tnil))),
+) (List._∷_ (
+  18,
+  Rows'.any-gone
+      (Syntax.tyStruct
+      (List._∷_
+      114
+      (List._∷_
+      101
+      (List._∷_
+      113
+      (List._∷_
+      117
+      (List._∷_
+      101
+      (List._∷_
+      115
+      (List._∷_
+      116
+      (List._∷_
+      58
+      (List._∷_
+      58
+      (List._∷_
+      82
+      (List._∷_
+      101
+      (List._∷_
+      113
+      (List._∷_
+      117
+      (List._∷_
+      101
+      (List._∷_
+      115
+      (List._∷_
+      116
+      (List._∷_
+      70
+      (List._∷_ 97 (List._∷_ 99 (List._∷_ 116 (List._∷_ 115 List.[])))))))))))))))))))))
+      (Syntax.tcons
+      (Syntax.tyStruct
+      (List._∷_
+      109
+      (List._∷_
+      101
+      (List._∷_
+      115
+      (List._∷_
+      115
+      (List._∷_
+      97
+      (List._∷_
+      103
+      (List._∷_
+      101
+      (List._∷_
+      58
+      (List._∷_
+      58
+      (List._∷_ 70 (List._∷_ 111 (List._∷_ 117 (List._∷_ 110 (List._∷_ 100 List.[]))))))))))))))
+      (Syntax.tcons
+      Syntax.tyBool
+      (Syntax.tcons
+      (Syntax.tyInt Syntax.w64)
+      (Syntax.tcons (KInstanceRow.spelled) Syntax.tnil))))
+      (Syntax.tcons
+      (Syntax.tyStruct
+      (List._∷_
+      109
+      (List._∷_
+      101
+      (List._∷_
+      115
+      (List._∷_
+      115
+      (List._∷_
+      97
+      (List._∷_
+      103
+      (List._∷_
+      101
+      (List._∷_
+      58
+      (List._∷_
+      58
+      (List._∷_
+      70
+      (List._∷_
+      111
+      (List._∷_
+      117
+      (List._∷_
+      110
+      (List._∷_
+      100
+      (List._∷_
+      82
+      (List._∷_ 111 (List._∷_ 117 (List._∷_ 116 (List._∷_ 101 List.[])))))))))))))))))))
+      (Syntax.tcons
+      Syntax.tyBool
+      (Syntax.tcons
+      (Syntax.tyInt Syntax.w64)
+      (Syntax.tcons (KRouteRow.spelled) Syntax.tnil))))
+      (Syntax.tcons
+      (Syntax.tyInt Syntax.w32)
+      (Syntax.tcons
+      (Syntax.tyEnum
+      (List._∷_
+      112
+      (List._∷_
+      108
+      (List._∷_
+      97
+      (List._∷_
+      105
+      (List._∷_
+      110
+      (List._∷_
+      58
+      (List._∷_
+      58
+      (List._∷_
+      83
+      (List._∷_
+      116
+      (List._∷_
+      97
+      (List._∷_ 110 (List._∷_ 100 (List._∷_ 105 (List._∷_ 110 (List._∷_ 103 List.[])))))))))))))))
+      (Syntax.ttcons
+      Syntax.tnil
+      (Syntax.ttcons
+      Syntax.tnil
+      (Syntax.ttcons
+      Syntax.tnil
+      (Syntax.ttcons Syntax.tnil (Syntax.ttcons Syntax.tnil Syntax.ttnil))))))
+      (Syntax.tcons
+      Syntax.tyBool
+      (Syntax.tcons
+      (Syntax.tyStruct
+      (List._∷_
+      97
+      (List._∷_
+      114
+      (List._∷_
+      116
+      (List._∷_
+      58
+      (List._∷_
+      58
+      (List._∷_
+      84
+      (List._∷_
+      97
+      (List._∷_ 114 (List._∷_ 103 (List._∷_ 101 (List._∷_ 116 (List._∷_ 115 List.[]))))))))))))
+      (Syntax.tcons
+      Syntax.tyBool
+      (Syntax.tcons
+      (Syntax.tyInt Syntax.w64)
+      (Syntax.tcons
+      (Syntax.tyArray
+      (Syntax.tyStruct
+      (List._∷_
+      112
+      (List._∷_
+      108
+      (List._∷_
+      97
+      (List._∷_
+      105
+      (List._∷_
+      110
+      (List._∷_
+      58
+      (List._∷_
+      58
+      (List._∷_
+      84
+      (List._∷_ 97 (List._∷_ 114 (List._∷_ 103 (List._∷_ 101 (List._∷_ 116 List.[])))))))))))))
+      (Syntax.tcons
+      (Syntax.tyInt Syntax.w8)
+      (Syntax.tcons
+      (Syntax.tyInt Syntax.w8)
+      (Syntax.tcons (Syntax.tyArray (Syntax.tyInt Syntax.w8) 16) Syntax.tnil))))
+      8)
+      Syntax.tnil))))
+      (Syntax.tcons
+      (Syntax.tyStruct
+      (List._∷_
+      109
+      (List._∷_
+      101
+      (List._∷_
+      115
+      (List._∷_
+      115
+      (List._∷_
+      97
+      (List._∷_
+      103
+      (List._∷_
+      101
+      (List._∷_
+      58
+      (List._∷_
+      58
+      (List._∷_
+      70
+      (List._∷_
+      114
+      (List._∷_
+      101
+      (List._∷_
+      101
+      (List._∷_ 68 (List._∷_ 101 (List._∷_ 108 (List._∷_ 116 (List._∷_ 97 List.[]))))))))))))))))))
+      (Syntax.tcons Syntax.tyBool (Syntax.tcons (Syntax.tyInt Syntax.w8) Syntax.tnil)))
+      Syntax.tnil)))))))),
+) (List._∷_ (
+  19,
+  Rows'.any-gone
+      (Syntax.tyEnum
+      (List._∷_
+      97
+      (List._∷_
+      110
+      (List._∷_
+      115
+      (List._∷_
+      119
+      (List._∷_
+      101
+      (List._∷_
+      114
+      (List._∷_
+      58
+      (List._∷_
+      58
+      (List._∷_
+      65
+      (List._∷_ 110 (List._∷_ 115 (List._∷_ 119 (List._∷_ 101 (List._∷_ 114 List.[]))))))))))))))
+      (Syntax.ttcons
+      Syntax.tnil
+      (Syntax.ttcons
+      Syntax.tnil
+      (Syntax.ttcons
+      Syntax.tnil
+      (Syntax.ttcons
+      Syntax.tnil
+      (Syntax.ttcons
+      Syntax.tnil
+      (Syntax.ttcons
+      Syntax.tnil
+      (Syntax.ttcons
+      Syntax.tnil
+      (Syntax.ttcons
+      Syntax.tnil
+      (Syntax.ttcons
+      Syntax.tnil
+      (Syntax.ttcons
+      Syntax.tnil
+      (Syntax.ttcons
+      Syntax.tnil
+      (Syntax.ttcons
+      Syntax.tnil
+      (Syntax.ttcons
+      Syntax.tnil
+      (Syntax.ttcons
+      Syntax.tnil
+      (Syntax.ttcons
+      Syntax.tnil
+      (Syntax.ttcons
+      Syntax.tnil
+      (Syntax.ttcons Syntax.tnil (Syntax.ttcons Syntax.tnil Syntax.ttnil))))))))))))))))))),
+) (List._∷_ (20, KDecided.row) (List._∷_ (
+  21,
+  KPost.row,
+) (List._∷_ (22, Rows'.any-gone (KPost.spelled)) (List._∷_ (
+  23,
+  Rows'.any-gone
+      (Syntax.tyStruct
+      (List._∷_
+      102
+      (List._∷_
+      105
+      (List._∷_
+      110
+      (List._∷_
+      105
+      (List._∷_
+      115
+      (List._∷_
+      104
+      (List._∷_
+      58
+      (List._∷_ 58 (List._∷_ 76 (List._∷_ 105 (List._∷_ 118 (List._∷_ 101 List.[]))))))))))))
+      (Syntax.tcons
+      Syntax.tyBool
+      (Syntax.tcons
+      (Syntax.tyInt Syntax.w64)
+      (Syntax.tcons Syntax.tyBool (Syntax.tcons (Syntax.tyInt Syntax.w64) Syntax.tnil))))),
+) (List._∷_ (24, Rows'.any-gone Syntax.tyUnit) (List._∷_ (
+  25,
+  Rows'.any-gone (KParsed.spelled),
+) (List._∷_ (
+  26,
+  Rows'.any-gone
+      (Syntax.tyRef Syntax.erased Syntax.imm (KInstanceRow.named)),
+) (List._∷_ (
+  27,
+  Rows'.any-gone
+      (Syntax.tyStruct
+      (List._∷_ 38 (List._∷_ 91 (List._∷_ 93 List.[])))
+      (Syntax.tcons
+      (Syntax.tyRef Syntax.erased Syntax.imm (KInstanceRow.named))
+      (Syntax.tcons (Syntax.tyInt Syntax.w64) Syntax.tnil))),
+) (List._∷_ (
+  28,
+  Rows'.any-gone
+      (Syntax.tyRef Syntax.erased Syntax.imm (KRouteRow.named)),
+) (List._∷_ (
+  29,
+  Rows'.any-gone
+      (Syntax.tyStruct
+      (List._∷_ 38 (List._∷_ 91 (List._∷_ 93 List.[])))
+      (Syntax.tcons
+      (Syntax.tyRef Syntax.erased Syntax.imm (KRouteRow.named))
+      (Syntax.tcons (Syntax.tyInt Syntax.w64) Syntax.tnil))),
+) (List._∷_ (
+  30,
+  Rows'.any-gone
+      (Syntax.tyRef Syntax.erased Syntax.imm (KInstanceRow.named)),
+) (List._∷_ (
+  31,
+  Rows'.any-gone
+      (Syntax.tyStruct
+      (List._∷_ 38 (List._∷_ 91 (List._∷_ 93 List.[])))
+      (Syntax.tcons
+      (Syntax.tyRef Syntax.erased Syntax.imm (KInstanceRow.named))
+      (Syntax.tcons (Syntax.tyInt Syntax.w64) Syntax.tnil))),
+) List.[])))))))))))))))
+
+abbrev pub t55 : List.List Row.Entry
+t55 = List._∷_ (16, Rows'.whole (Declared'.row FoundRoute.the-type)) (List._∷_ (
+  17,
+  Rows'.any-gone
+      (Syntax.tyStruct
+      (List._∷_
+      109
+      (List._∷_
+      101
+      (List._∷_
+      115
+      (List._∷_
+      115
+      (List._∷_
+      97
+      (List._∷_
+      103
+      (List._∷_
+      101
+      (List._∷_
+      58
+      (List._∷_
+      58
+      (List._∷_
+      70
+      (List._∷_
+      114
+      (List._∷_
+      101
+      (List._∷_
+      101
+      (List._∷_ 68 (List._∷_ 101 (List._∷_ 108 (List._∷_ 116 (List._∷_ 97 List.[]))))))))))))))))))
+      (Syntax.tcons Syntax.tyBool (Syntax.tcons (Syntax.tyInt Syntax.w8) Syntax.tnil))),
+) (List._∷_ (
+  18,
+  Rows'.any-gone
+      (Syntax.tyStruct
+      (List._∷_
+      114
+      (List._∷_
+      101
+      (List._∷_
+      113
+      (List._∷_
+      117
+      (List._∷_
+      101
+      (List._∷_
+      115
+      (List._∷_
+      116
+      (List._∷_
+      58
+      (List._∷_
+      58
+      (List._∷_
+      82
+      (List._∷_
+      101
+      (List._∷_
+      113
+      (List._∷_
+      117
+      (List._∷_
+      101
+      (List._∷_
+      115
+      (List._∷_
+      116
+      (List._∷_
+      70
+      (List._∷_ 97 (List._∷_ 99 (List._∷_ 116 (List._∷_ 115 List.[])))))))))))))))))))))
+      (Syntax.tcons
+      (Syntax.tyStruct
+      (List._∷_
+      109
+      (List._∷_
+      101
+      (List._∷_
+      115
+      (List._∷_
+      115
+      (List._∷_
+      97
+      (List._∷_
+      103
+      (List._∷_
+      101
+      (List._∷_
+      58
+      (List._∷_
+      58
+      (List._∷_ 70 (List._∷_ 111 (List._∷_ 117 (List._∷_ 110 (List._∷_ 100 List.[]))))))))))))))
+      (Syntax.tcons
+      Syntax.tyBool
+      (Syntax.tcons
+      (Syntax.tyInt Syntax.w64)
+      (Syntax.tcons (KInstanceRow.spelled) Syntax.tnil))))
+      (Syntax.tcons
+      (Syntax.tyStruct
+      (List._∷_
+      109
+      (List._∷_
+      101
+      (List._∷_
+      115
+      (List._∷_
+      115
+      (List._∷_
+      97
+      (List._∷_
+      103
+      (List._∷_
+      101
+      (List._∷_
+      58
+      (List._∷_
+      58
+      (List._∷_
+      70
+      (List._∷_
+      111
+      (List._∷_
+      117
+      (List._∷_
+      110
+      (List._∷_
+      100
+      (List._∷_
+      82
+      (List._∷_ 111 (List._∷_ 117 (List._∷_ 116 (List._∷_ 101 List.[])))))))))))))))))))
+      (Syntax.tcons
+      Syntax.tyBool
+      (Syntax.tcons
+      (Syntax.tyInt Syntax.w64)
+      (Syntax.tcons (KRouteRow.spelled) Syntax.tnil))))
+      (Syntax.tcons
+      (Syntax.tyInt Syntax.w32)
+      (Syntax.tcons
+      (Syntax.tyEnum
+      (List._∷_
+      112
+      (List._∷_
+      108
+      (List._∷_
+      97
+      (List._∷_
+      105
+      (List._∷_
+      110
+      (List._∷_
+      58
+      (List._∷_
+      58
+      (List._∷_
+      83
+      (List._∷_
+      116
+      (List._∷_
+      97
+      (List._∷_ 110 (List._∷_ 100 (List._∷_ 105 (List._∷_ 110 (List._∷_ 103 List.[])))))))))))))))
+      (Syntax.ttcons
+      Syntax.tnil
+      (Syntax.ttcons
+      Syntax.tnil
+      (Syntax.ttcons
+      Syntax.tnil
+      (Syntax.ttcons Syntax.tnil (Syntax.ttcons Syntax.tnil Syntax.ttnil))))))
+      (Syntax.tcons
+      Syntax.tyBool
+      (Syntax.tcons
+      (Syntax.tyStruct
+      (List._∷_
+      97
+      (List._∷_
+      114
+      (List._∷_
+      116
+      (List._∷_
+      58
+      (List._∷_
+      58
+      (List._∷_
+      84
+      (List._∷_
+      97
+      (List._∷_ 114 (List._∷_ 103 (List._∷_ 101 (List._∷_ 116 (List._∷_ 115 List.[]))))))))))))
+      (Syntax.tcons
+      Syntax.tyBool
+      (Syntax.tcons
+      (Syntax.tyInt Syntax.w64)
+      (Syntax.tcons
+      (Syntax.tyArray
+      (Syntax.tyStruct
+      (List._∷_
+      112
+      (List._∷_
+      108
+      (List._∷_
+      97
+      (List._∷_
+      105
+      (List._∷_
+      110
+      (List._∷_
+      58
+      (List._∷_
+      58
+      (List._∷_
+      84
+      (List._∷_ 97 (List._∷_ 114 (List._∷_ 103 (List._∷_ 101 (List._∷_ 116 List.[])))))))))))))
+      (Syntax.tcons
+      (Syntax.tyInt Syntax.w8)
+      (Syntax.tcons
+      (Syntax.tyInt Syntax.w8)
+      (Syntax.tcons (Syntax.tyArray (Syntax.tyInt Syntax.w8) 16) Syntax.tnil))))
+      8)
+      Syntax.tnil))))
+      (Syntax.tcons
+      (Syntax.tyStruct
+      (List._∷_
+      109
+      (List._∷_
+      101
+      (List._∷_
+      115
+      (List._∷_
+      115
+      (List._∷_
+      97
+      (List._∷_
+      103
+      (List._∷_
+      101
+      (List._∷_
+      58
+      (List._∷_
+      58
+      (List._∷_
+      70
+      (List._∷_
+      114
+      (List._∷_
+      101
+      (List._∷_
+      101
+      (List._∷_ 68 (List._∷_ 101 (List._∷_ 108 (List._∷_ 116 (List._∷_ 97 List.[]))))))))))))))))))
+      (Syntax.tcons Syntax.tyBool (Syntax.tcons (Syntax.tyInt Syntax.w8) Syntax.tnil)))
+      Syntax.tnil)))))))),
+) (List._∷_ (
+  19,
+  Rows'.any-gone
+      (Syntax.tyEnum
+      (List._∷_
+      97
+      (List._∷_
+      110
+      (List._∷_
+      115
+      (List._∷_
+      119
+      (List._∷_
+      101
+      (List._∷_
+      114
+      (List._∷_
+      58
+      (List._∷_
+      58
+      (List._∷_
+      65
+      (List._∷_ 110 (List._∷_ 115 (List._∷_ 119 (List._∷_ 101 (List._∷_ 114 List.[]))))))))))))))
+      (Syntax.ttcons
+      Syntax.tnil
+      (Syntax.ttcons
+      Syntax.tnil
+      (Syntax.ttcons
+      Syntax.tnil
+      (Syntax.ttcons
+      Syntax.tnil
+      (Syntax.ttcons
+      Syntax.tnil
+      (Syntax.ttcons
+      Syntax.tnil
+      (Syntax.ttcons
+      Syntax.tnil
+      (Syntax.ttcons
+      Syntax.tnil
+      (Syntax.ttcons
+      Syntax.tnil
+      (Syntax.ttcons
+      Syntax.tnil
+      (Syntax.ttcons
+      Syntax.tnil
+      (Syntax.ttcons
+      Syntax.tnil
+      (Syntax.ttcons
+      Syntax.tnil
+      (Syntax.ttcons
+      Syntax.tnil
+      (Syntax.ttcons
+      Syntax.tnil
+      (Syntax.ttcons
+      Syntax.tnil
+      (Syntax.ttcons Syntax.tnil (Syntax.ttcons Syntax.tnil Syntax.ttnil))))))))))))))))))),
+) (List._∷_ (20, KDecided.row) (List._∷_ (
+  21,
+  KPost.row,
+) (List._∷_ (22, KPost.row) (List._∷_ (
+  23,
+  Rows'.any-gone
+      (Syntax.tyStruct
+      (List._∷_
+      102
+      (List._∷_
+      105
+      (List._∷_
+      110
+      (List._∷_
+      105
+      (List._∷_
+      115
+      (List._∷_
+      104
+      (List._∷_
+      58
+      (List._∷_ 58 (List._∷_ 76 (List._∷_ 105 (List._∷_ 118 (List._∷_ 101 List.[]))))))))))))
+      (Syntax.tcons
+      Syntax.tyBool
+      (Syntax.tcons
+      (Syntax.tyInt Syntax.w64)
+      (Syntax.tcons Syntax.tyBool (Syntax.tcons (Syntax.tyInt Syntax.w64) Syntax.tnil))))),
+) (List._∷_ (24, Rows'.any-gone Syntax.tyUnit) (List._∷_ (
+  25,
+  Rows'.any-gone (KParsed.spelled),
+) (List._∷_ (
+  26,
+  Rows'.any-gone
+      (Syntax.tyRef Syntax.erased Syntax.imm (KInstanceRow.named)),
+) (List._∷_ (
+  27,
+  Rows'.any-gone
+      (Syntax.tyStruct
+      (List._∷_ 38 (List._∷_ 91 (List._∷_ 93 List.[])))
+      (Syntax.tcons
+      (Syntax.tyRef Syntax.erased Syntax.imm (KInstanceRow.named))
+      (Syntax.tcons (Syntax.tyInt Syntax.w64) Syntax.tnil))),
+) (List._∷_ (
+  28,
+  Rows'.any-gone
+      (Syntax.tyRef Syntax.erased Syntax.imm (KRouteRow.named)),
+) (List._∷_ (
+  29,
+  Rows'.any-gone
+      (Syntax.tyStruct
+      (List._∷_ 38 (List._∷_ 91 (List._∷_ 93 List.[])))
+      (Syntax.tcons
+      (Syntax.tyRef Syntax.erased Syntax.imm (KRouteRow.named))
+      (Syntax.tcons (Syntax.tyInt Syntax.w64) Syntax.tnil))),
+) (List._∷_ (
+  30,
+  Rows'.any-gone
+      (Syntax.tyRef Syntax.erased Syntax.imm (KInstanceRow.named)),
+) (List._∷_ (
+  31,
+  Rows'.any-gone
+      (Syntax.tyStruct
+      (List._∷_ 38 (List._∷_ 91 (List._∷_ 93 List.[])))
+      (Syntax.tcons
+      (Syntax.tyRef Syntax.erased Syntax.imm (KInstanceRow.named))
+      (Syntax.tcons (Syntax.tyInt Syntax.w64) Syntax.tnil))),
+) List.[])))))))))))))))
+
 abbrev pub t56 : List.List Row.Entry
 t56 = List._∷_ (16, Rows'.whole (Declared'.row FoundRoute.the-type)) (List._∷_ (
   17,
-  Rows'.sc-here Row.sBool,
-) (List._∷_ (
-  18,
   Rows'.any-gone
       (Syntax.tyStruct
       (List._∷_
@@ -16129,7 +16416,7 @@ t56 = List._∷_ (16, Rows'.whole (Declared'.row FoundRoute.the-type)) (List._�
       (List._∷_ 68 (List._∷_ 101 (List._∷_ 108 (List._∷_ 116 (List._∷_ 97 List.[]))))))))))))))))))
       (Syntax.tcons Syntax.tyBool (Syntax.tcons (Syntax.tyInt Syntax.w8) Syntax.tnil))),
 ) (List._∷_ (
-  19,
+  18,
   Rows'.any-gone
       (Syntax.tyStruct
       (List._∷_
@@ -16345,7 +16632,7 @@ t56 = List._∷_ (16, Rows'.whole (Declared'.row FoundRoute.the-type)) (List._�
       (Syntax.tcons Syntax.tyBool (Syntax.tcons (Syntax.tyInt Syntax.w8) Syntax.tnil)))
       Syntax.tnil)))))))),
 ) (List._∷_ (
-  20,
+  19,
   Rows'.any-gone
       (Syntax.tyEnum
       (List._∷_
@@ -16400,42 +16687,21 @@ t56 = List._∷_ (16, Rows'.whole (Declared'.row FoundRoute.the-type)) (List._�
       (Syntax.ttcons
       Syntax.tnil
       (Syntax.ttcons Syntax.tnil (Syntax.ttcons Syntax.tnil Syntax.ttnil))))))))))))))))))),
-) (List._∷_ (21, KDecided.row) (List._∷_ (
-  22,
+) (List._∷_ (20, KDecided.row) (List._∷_ (
+  21,
   KPost.row,
-) (List._∷_ (23, Rows'.any-gone (KPost.spelled)) (List._∷_ (
-  24,
-  Rows'.any-gone
-      (Syntax.tyStruct
-      (List._∷_
-      102
-      (List._∷_
-      105
-      (List._∷_
-      110
-      (List._∷_
-      105
-      (List._∷_
-      115
-      (List._∷_
-      104
-      (List._∷_
-      58
-      (List._∷_ 58 (List._∷_ 76 (List._∷_ 105 (List._∷_ 118 (List._∷_ 101 List.[]))))))))))))
-      (Syntax.tcons
-      Syntax.tyBool
-      (Syntax.tcons
-      (Syntax.tyInt Syntax.w64)
-      (Syntax.tcons Syntax.tyBool (Syntax.tcons (Syntax.tyInt Syntax.w64) Syntax.tnil))))),
-) (List._∷_ (25, Rows'.any-gone Syntax.tyUnit) (List._∷_ (
-  26,
-  KParsed.row,
+) (List._∷_ (22, KPost.row) (List._∷_ (
+  23,
+  Rows'.whole (Declared'.row Live.the-type),
+) (List._∷_ (24, Rows'.any-gone Syntax.tyUnit) (List._∷_ (
+  25,
+  Rows'.any-gone (KParsed.spelled),
 ) (List._∷_ (
-  27,
+  26,
   Rows'.any-gone
       (Syntax.tyRef Syntax.erased Syntax.imm (KInstanceRow.named)),
 ) (List._∷_ (
-  28,
+  27,
   Rows'.any-gone
       (Syntax.tyStruct
       (List._∷_ 38 (List._∷_ 91 (List._∷_ 93 List.[])))
@@ -16443,11 +16709,11 @@ t56 = List._∷_ (16, Rows'.whole (Declared'.row FoundRoute.the-type)) (List._�
       (Syntax.tyRef Syntax.erased Syntax.imm (KInstanceRow.named))
       (Syntax.tcons (Syntax.tyInt Syntax.w64) Syntax.tnil))),
 ) (List._∷_ (
-  29,
+  28,
   Rows'.any-gone
       (Syntax.tyRef Syntax.erased Syntax.imm (KRouteRow.named)),
 ) (List._∷_ (
-  30,
+  29,
   Rows'.any-gone
       (Syntax.tyStruct
       (List._∷_ 38 (List._∷_ 91 (List._∷_ 93 List.[])))
@@ -16455,1096 +16721,21 @@ t56 = List._∷_ (16, Rows'.whole (Declared'.row FoundRoute.the-type)) (List._�
       (Syntax.tyRef Syntax.erased Syntax.imm (KRouteRow.named))
       (Syntax.tcons (Syntax.tyInt Syntax.w64) Syntax.tnil))),
 ) (List._∷_ (
-  31,
+  30,
   Rows'.any-gone
       (Syntax.tyRef Syntax.erased Syntax.imm (KInstanceRow.named)),
+) (List._∷_ (
+  31,
+  Rows'.any-gone
+      (Syntax.tyStruct
+      (List._∷_ 38 (List._∷_ 91 (List._∷_ 93 List.[])))
+      (Syntax.tcons
+      (Syntax.tyRef Syntax.erased Syntax.imm (KInstanceRow.named))
+      (Syntax.tcons (Syntax.tyInt Syntax.w64) Syntax.tnil))),
 ) List.[])))))))))))))))
 
 abbrev pub t57 : List.List Row.Entry
-t57 = List._∷_ (16, Rows'.whole (Declared'.row FoundRoute.the-type)) (List._∷_ (
-  17,
-  Rows'.sc-here Row.sBool,
-) (List._∷_ (
-  18,
-  Rows'.any-gone
-      (Syntax.tyStruct
-      (List._∷_
-      109
-      (List._∷_
-      101
-      (List._∷_
-      115
-      (List._∷_
-      115
-      (List._∷_
-      97
-      (List._∷_
-      103
-      (List._∷_
-      101
-      (List._∷_
-      58
-      (List._∷_
-      58
-      (List._∷_
-      70
-      (List._∷_
-      114
-      (List._∷_
-      101
-      (List._∷_
-      101
-      (List._∷_ 68 (List._∷_ 101 (List._∷_ 108 (List._∷_ 116 (List._∷_ 97 List.[]))))))))))))))))))
-      (Syntax.tcons Syntax.tyBool (Syntax.tcons (Syntax.tyInt Syntax.w8) Syntax.tnil))),
-) (List._∷_ (
-  19,
-  Rows'.any-gone
-      (Syntax.tyStruct
-      (List._∷_
-      114
-      (List._∷_
-      101
-      (List._∷_
-      113
-      (List._∷_
-      117
-      (List._∷_
-      101
-      (List._∷_
-      115
-      (List._∷_
-      116
-      (List._∷_
-      58
-      (List._∷_
-      58
-      (List._∷_
-      82
-      (List._∷_
-      101
-      (List._∷_
-      113
-      (List._∷_
-      117
-      (List._∷_
-      101
-      (List._∷_
-      115
-      (List._∷_
-      116
-      (List._∷_
-      70
-      (List._∷_ 97 (List._∷_ 99 (List._∷_ 116 (List._∷_ 115 List.[])))))))))))))))))))))
-      (Syntax.tcons
-      (Syntax.tyStruct
-      (List._∷_
-      109
-      (List._∷_
-      101
-      (List._∷_
-      115
-      (List._∷_
-      115
-      (List._∷_
-      97
-      (List._∷_
-      103
-      (List._∷_
-      101
-      (List._∷_
-      58
-      (List._∷_
-      58
-      (List._∷_ 70 (List._∷_ 111 (List._∷_ 117 (List._∷_ 110 (List._∷_ 100 List.[]))))))))))))))
-      (Syntax.tcons
-      Syntax.tyBool
-      (Syntax.tcons
-      (Syntax.tyInt Syntax.w64)
-      (Syntax.tcons (KInstanceRow.spelled) Syntax.tnil))))
-      (Syntax.tcons
-      (Syntax.tyStruct
-      (List._∷_
-      109
-      (List._∷_
-      101
-      (List._∷_
-      115
-      (List._∷_
-      115
-      (List._∷_
-      97
-      (List._∷_
-      103
-      (List._∷_
-      101
-      (List._∷_
-      58
-      (List._∷_
-      58
-      (List._∷_
-      70
-      (List._∷_
-      111
-      (List._∷_
-      117
-      (List._∷_
-      110
-      (List._∷_
-      100
-      (List._∷_
-      82
-      (List._∷_ 111 (List._∷_ 117 (List._∷_ 116 (List._∷_ 101 List.[])))))))))))))))))))
-      (Syntax.tcons
-      Syntax.tyBool
-      (Syntax.tcons
-      (Syntax.tyInt Syntax.w64)
-      (Syntax.tcons (KRouteRow.spelled) Syntax.tnil))))
-      (Syntax.tcons
-      (Syntax.tyInt Syntax.w32)
-      (Syntax.tcons
-      (Syntax.tyEnum
-      (List._∷_
-      112
-      (List._∷_
-      108
-      (List._∷_
-      97
-      (List._∷_
-      105
-      (List._∷_
-      110
-      (List._∷_
-      58
-      (List._∷_
-      58
-      (List._∷_
-      83
-      (List._∷_
-      116
-      (List._∷_
-      97
-      (List._∷_ 110 (List._∷_ 100 (List._∷_ 105 (List._∷_ 110 (List._∷_ 103 List.[])))))))))))))))
-      (Syntax.ttcons
-      Syntax.tnil
-      (Syntax.ttcons
-      Syntax.tnil
-      (Syntax.ttcons
-      Syntax.tnil
-      (Syntax.ttcons Syntax.tnil (Syntax.ttcons Syntax.tnil Syntax.ttnil))))))
-      (Syntax.tcons
-      Syntax.tyBool
-      (Syntax.tcons
-      (Syntax.tyStruct
-      (List._∷_
-      97
-      (List._∷_
-      114
-      (List._∷_
-      116
-      (List._∷_
-      58
-      (List._∷_
-      58
-      (List._∷_
-      84
-      (List._∷_
-      97
-      (List._∷_ 114 (List._∷_ 103 (List._∷_ 101 (List._∷_ 116 (List._∷_ 115 List.[]))))))))))))
-      (Syntax.tcons
-      Syntax.tyBool
-      (Syntax.tcons
-      (Syntax.tyInt Syntax.w64)
-      (Syntax.tcons
-      (Syntax.tyArray
-      (Syntax.tyStruct
-      (List._∷_
-      112
-      (List._∷_
-      108
-      (List._∷_
-      97
-      (List._∷_
-      105
-      (List._∷_
-      110
-      (List._∷_
-      58
-      (List._∷_
-      58
-      (List._∷_
-      84
-      (List._∷_ 97 (List._∷_ 114 (List._∷_ 103 (List._∷_ 101 (List._∷_ 116 List.[])))))))))))))
-      (Syntax.tcons
-      (Syntax.tyInt Syntax.w8)
-      (Syntax.tcons
-      (Syntax.tyInt Syntax.w8)
-      (Syntax.tcons (Syntax.tyArray (Syntax.tyInt Syntax.w8) 16) Syntax.tnil))))
-      8)
-      Syntax.tnil))))
-      (Syntax.tcons
-      (Syntax.tyStruct
-      (List._∷_
-      109
-      (List._∷_
-      101
-      (List._∷_
-      115
-      (List._∷_
-      115
-      (List._∷_
-      97
-      (List._∷_
-      103
-      (List._∷_
-      101
-      (List._∷_
-      58
-      (List._∷_
-      58
-      (List._∷_
-      70
-      (List._∷_
-      114
-      (List._∷_
-      101
-      (List._∷_
-      101
-      (List._∷_ 68 (List._∷_ 101 (List._∷_ 108 (List._∷_ 116 (List._∷_ 97 List.[]))))))))))))))))))
-      (Syntax.tcons Syntax.tyBool (Syntax.tcons (Syntax.tyInt Syntax.w8) Syntax.tnil)))
-      Syntax.tnil)))))))),
-) (List._∷_ (
-  20,
-  Rows'.any-gone
-      (Syntax.tyEnum
-      (List._∷_
-      97
-      (List._∷_
-      110
-      (List._∷_
-      115
-      (List._∷_
-      119
-      (List._∷_
-      101
-      (List._∷_
-      114
-      (List._∷_
-      58
-      (List._∷_
-      58
-      (List._∷_
-      65
-      (List._∷_ 110 (List._∷_ 115 (List._∷_ 119 (List._∷_ 101 (List._∷_ 114 List.[]))))))))))))))
-      (Syntax.ttcons
-      Syntax.tnil
-      (Syntax.ttcons
-      Syntax.tnil
-      (Syntax.ttcons
-      Syntax.tnil
-      (Syntax.ttcons
-      Syntax.tnil
-      (Syntax.ttcons
-      Syntax.tnil
-      (Syntax.ttcons
-      Syntax.tnil
-      (Syntax.ttcons
-      Syntax.tnil
-      (Syntax.ttcons
-      Syntax.tnil
-      (Syntax.ttcons
-      Syntax.tnil
-      (Syntax.ttcons
-      Syntax.tnil
-      (Syntax.ttcons
-      Syntax.tnil
-      (Syntax.ttcons
-      Syntax.tnil
-      (Syntax.ttcons
-      Syntax.tnil
-      (Syntax.ttcons
-      Syntax.tnil
-      (Syntax.ttcons
-      Syntax.tnil
-      (Syntax.ttcons
-      Syntax.tnil
-      (Syntax.ttcons Syntax.tnil (Syntax.ttcons Syntax.tnil Syntax.ttnil))))))))))))))))))),
-) (List._∷_ (21, KDecided.row) (List._∷_ (
-  22,
-  KPost.row,
-) (List._∷_ (23, Rows'.any-gone (KPost.spelled)) (List._∷_ (
-  24,
-  Rows'.any-gone
-      (Syntax.tyStruct
-      (List._∷_
-      102
-      (List._∷_
-      105
-      (List._∷_
-      110
-      (List._∷_
-      105
-      (List._∷_
-      115
-      (List._∷_
-      104
-      (List._∷_
-      58
-      (List._∷_ 58 (List._∷_ 76 (List._∷_ 105 (List._∷_ 118 (List._∷_ 101 List.[]))))))))))))
-      (Syntax.tcons
-      Syntax.tyBool
-      (Syntax.tcons
-      (Syntax.tyInt Syntax.w64)
-      (Syntax.tcons Syntax.tyBool (Syntax.tcons (Syntax.tyInt Syntax.w64) Syntax.tnil))))),
-) (List._∷_ (25, Rows'.any-gone Syntax.tyUnit) (List._∷_ (
-  26,
-  Rows'.any-gone (KParsed.spelled),
-) (List._∷_ (
-  27,
-  Rows'.any-gone
-      (Syntax.tyRef Syntax.erased Syntax.imm (KInstanceRow.named)),
-) (List._∷_ (
-  28,
-  Rows'.any-gone
-      (Syntax.tyStruct
-      (List._∷_ 38 (List._∷_ 91 (List._∷_ 93 List.[])))
-      (Syntax.tcons
-      (Syntax.tyRef Syntax.erased Syntax.imm (KInstanceRow.named))
-      (Syntax.tcons (Syntax.tyInt Syntax.w64) Syntax.tnil))),
-) (List._∷_ (
-  29,
-  Rows'.any-gone
-      (Syntax.tyRef Syntax.erased Syntax.imm (KRouteRow.named)),
-) (List._∷_ (
-  30,
-  Rows'.any-gone
-      (Syntax.tyStruct
-      (List._∷_ 38 (List._∷_ 91 (List._∷_ 93 List.[])))
-      (Syntax.tcons
-      (Syntax.tyRef Syntax.erased Syntax.imm (KRouteRow.named))
-      (Syntax.tcons (Syntax.tyInt Syntax.w64) Syntax.tnil))),
-) (List._∷_ (
-  31,
-  Rows'.any-gone
-      (Syntax.tyRef Syntax.erased Syntax.imm (KInstanceRow.named)),
-) List.[])))))))))))))))
-
-abbrev pub t58 : List.List Row.Entry
-t58 = List._∷_ (16, Rows'.whole (Declared'.row FoundRoute.the-type)) (List._∷_ (
-  17,
-  Rows'.sc-here Row.sBool,
-) (List._∷_ (
-  18,
-  Rows'.any-gone
-      (Syntax.tyStruct
-      (List._∷_
-      109
-      (List._∷_
-      101
-      (List._∷_
-      115
-      (List._∷_
-      115
-      (List._∷_
-      97
-      (List._∷_
-      103
-      (List._∷_
-      101
-      (List._∷_
-      58
-      (List._∷_
-      58
-      (List._∷_
-      70
-      (List._∷_
-      114
-      (List._∷_
-      101
-      (List._∷_
-      101
-      (List._∷_ 68 (List._∷_ 101 (List._∷_ 108 (List._∷_ 116 (List._∷_ 97 List.[]))))))))))))))))))
-      (Syntax.tcons Syntax.tyBool (Syntax.tcons (Syntax.tyInt Syntax.w8) Syntax.tnil))),
-) (List._∷_ (
-  19,
-  Rows'.any-gone
-      (Syntax.tyStruct
-      (List._∷_
-      114
-      (List._∷_
-      101
-      (List._∷_
-      113
-      (List._∷_
-      117
-      (List._∷_
-      101
-      (List._∷_
-      115
-      (List._∷_
-      116
-      (List._∷_
-      58
-      (List._∷_
-      58
-      (List._∷_
-      82
-      (List._∷_
-      101
-      (List._∷_
-      113
-      (List._∷_
-      117
-      (List._∷_
-      101
-      (List._∷_
-      115
-      (List._∷_
-      116
-      (List._∷_
-      70
-      (List._∷_ 97 (List._∷_ 99 (List._∷_ 116 (List._∷_ 115 List.[])))))))))))))))))))))
-      (Syntax.tcons
-      (Syntax.tyStruct
-      (List._∷_
-      109
-      (List._∷_
-      101
-      (List._∷_
-      115
-      (List._∷_
-      115
-      (List._∷_
-      97
-      (List._∷_
-      103
-      (List._∷_
-      101
-      (List._∷_
-      58
-      (List._∷_
-      58
-      (List._∷_ 70 (List._∷_ 111 (List._∷_ 117 (List._∷_ 110 (List._∷_ 100 List.[]))))))))))))))
-      (Syntax.tcons
-      Syntax.tyBool
-      (Syntax.tcons
-      (Syntax.tyInt Syntax.w64)
-      (Syntax.tcons (KInstanceRow.spelled) Syntax.tnil))))
-      (Syntax.tcons
-      (Syntax.tyStruct
-      (List._∷_
-      109
-      (List._∷_
-      101
-      (List._∷_
-      115
-      (List._∷_
-      115
-      (List._∷_
-      97
-      (List._∷_
-      103
-      (List._∷_
-      101
-      (List._∷_
-      58
-      (List._∷_
-      58
-      (List._∷_
-      70
-      (List._∷_
-      111
-      (List._∷_
-      117
-      (List._∷_
-      110
-      (List._∷_
-      100
-      (List._∷_
-      82
-      (List._∷_ 111 (List._∷_ 117 (List._∷_ 116 (List._∷_ 101 List.[])))))))))))))))))))
-      (Syntax.tcons
-      Syntax.tyBool
-      (Syntax.tcons
-      (Syntax.tyInt Syntax.w64)
-      (Syntax.tcons (KRouteRow.spelled) Syntax.tnil))))
-      (Syntax.tcons
-      (Syntax.tyInt Syntax.w32)
-      (Syntax.tcons
-      (Syntax.tyEnum
-      (List._∷_
-      112
-      (List._∷_
-      108
-      (List._∷_
-      97
-      (List._∷_
-      105
-      (List._∷_
-      110
-      (List._∷_
-      58
-      (List._∷_
-      58
-      (List._∷_
-      83
-      (List._∷_
-      116
-      (List._∷_
-      97
-      (List._∷_ 110 (List._∷_ 100 (List._∷_ 105 (List._∷_ 110 (List._∷_ 103 List.[])))))))))))))))
-      (Syntax.ttcons
-      Syntax.tnil
-      (Syntax.ttcons
-      Syntax.tnil
-      (Syntax.ttcons
-      Syntax.tnil
-      (Syntax.ttcons Syntax.tnil (Syntax.ttcons Syntax.tnil Syntax.ttnil))))))
-      (Syntax.tcons
-      Syntax.tyBool
-      (Syntax.tcons
-      (Syntax.tyStruct
-      (List._∷_
-      97
-      (List._∷_
-      114
-      (List._∷_
-      116
-      (List._∷_
-      58
-      (List._∷_
-      58
-      (List._∷_
-      84
-      (List._∷_
-      97
-      (List._∷_ 114 (List._∷_ 103 (List._∷_ 101 (List._∷_ 116 (List._∷_ 115 List.[]))))))))))))
-      (Syntax.tcons
-      Syntax.tyBool
-      (Syntax.tcons
-      (Syntax.tyInt Syntax.w64)
-      (Syntax.tcons
-      (Syntax.tyArray
-      (Syntax.tyStruct
-      (List._∷_
-      112
-      (List._∷_
-      108
-      (List._∷_
-      97
-      (List._∷_
-      105
-      (List._∷_
-      110
-      (List._∷_
-      58
-      (List._∷_
-      58
-      (List._∷_
-      84
-      (List._∷_ 97 (List._∷_ 114 (List._∷_ 103 (List._∷_ 101 (List._∷_ 116 List.[])))))))))))))
-      (Syntax.tcons
-      (Syntax.tyInt Syntax.w8)
-      (Syntax.tcons
-      (Syntax.tyInt Syntax.w8)
-      (Syntax.tcons (Syntax.tyArray (Syntax.tyInt Syntax.w8) 16) Syntax.tnil))))
-      8)
-      Syntax.tnil))))
-      (Syntax.tcons
-      (Syntax.tyStruct
-      (List._∷_
-      109
-      (List._∷_
-      101
-      (List._∷_
-      115
-      (List._∷_
-      115
-      (List._∷_
-      97
-      (List._∷_
-      103
-      (List._∷_
-      101
-      (List._∷_
-      58
-      (List._∷_
-      58
-      (List._∷_
-      70
-      (List._∷_
-      114
-      (List._∷_
-      101
-      (List._∷_
-      101
-      (List._∷_ 68 (List._∷_ 101 (List._∷_ 108 (List._∷_ 116 (List._∷_ 97 List.[]))))))))))))))))))
-      (Syntax.tcons Syntax.tyBool (Syntax.tcons (Syntax.tyInt Syntax.w8) Syntax.tnil)))
-      Syntax.tnil)))))))),
-) (List._∷_ (
-  20,
-  Rows'.any-gone
-      (Syntax.tyEnum
-      (List._∷_
-      97
-      (List._∷_
-      110
-      (List._∷_
-      115
-      (List._∷_
-      119
-      (List._∷_
-      101
-      (List._∷_
-      114
-      (List._∷_
-      58
-      (List._∷_
-      58
-      (List._∷_
-      65
-      (List._∷_ 110 (List._∷_ 115 (List._∷_ 119 (List._∷_ 101 (List._∷_ 114 List.[]))))))))))))))
-      (Syntax.ttcons
-      Syntax.tnil
-      (Syntax.ttcons
-      Syntax.tnil
-      (Syntax.ttcons
-      Syntax.tnil
-      (Syntax.ttcons
-      Syntax.tnil
-      (Syntax.ttcons
-      Syntax.tnil
-      (Syntax.ttcons
-      Syntax.tnil
-      (Syntax.ttcons
-      Syntax.tnil
-      (Syntax.ttcons
-      Syntax.tnil
-      (Syntax.ttcons
-      Syntax.tnil
-      (Syntax.ttcons
-      Syntax.tnil
-      (Syntax.ttcons
-      Syntax.tnil
-      (Syntax.ttcons
-      Syntax.tnil
-      (Syntax.ttcons
-      Syntax.tnil
-      (Syntax.ttcons
-      Syntax.tnil
-      (Syntax.ttcons
-      Syntax.tnil
-      (Syntax.ttcons
-      Syntax.tnil
-      (Syntax.ttcons Syntax.tnil (Syntax.ttcons Syntax.tnil Syntax.ttnil))))))))))))))))))),
-) (List._∷_ (21, KDecided.row) (List._∷_ (
-  22,
-  KPost.row,
-) (List._∷_ (23, KPost.row) (List._∷_ (
-  24,
-  Rows'.any-gone
-      (Syntax.tyStruct
-      (List._∷_
-      102
-      (List._∷_
-      105
-      (List._∷_
-      110
-      (List._∷_
-      105
-      (List._∷_
-      115
-      (List._∷_
-      104
-      (List._∷_
-      58
-      (List._∷_ 58 (List._∷_ 76 (List._∷_ 105 (List._∷_ 118 (List._∷_ 101 List.[]))))))))))))
-      (Syntax.tcons
-      Syntax.tyBool
-      (Syntax.tcons
-      (Syntax.tyInt Syntax.w64)
-      (Syntax.tcons Syntax.tyBool (Syntax.tcons (Syntax.tyInt Syntax.w64) Syntax.tnil))))),
-) (List._∷_ (25, Rows'.any-gone Syntax.tyUnit) (List._∷_ (
-  26,
-  Rows'.any-gone (KParsed.spelled),
-) (List._∷_ (
-  27,
-  Rows'.any-gone
-      (Syntax.tyRef Syntax.erased Syntax.imm (KInstanceRow.named)),
-) (List._∷_ (
-  28,
-  Rows'.any-gone
-      (Syntax.tyStruct
-      (List._∷_ 38 (List._∷_ 91 (List._∷_ 93 List.[])))
-      (Syntax.tcons
-      (Syntax.tyRef Syntax.erased Syntax.imm (KInstanceRow.named))
-      (Syntax.tcons (Syntax.tyInt Syntax.w64) Syntax.tnil))),
-) (List._∷_ (
-  29,
-  Rows'.any-gone
-      (Syntax.tyRef Syntax.erased Syntax.imm (KRouteRow.named)),
-) (List._∷_ (
-  30,
-  Rows'.any-gone
-      (Syntax.tyStruct
-      (List._∷_ 38 (List._∷_ 91 (List._∷_ 93 List.[])))
-      (Syntax.tcons
-      (Syntax.tyRef Syntax.erased Syntax.imm (KRouteRow.named))
-      (Syntax.tcons (Syntax.tyInt Syntax.w64) Syntax.tnil))),
-) (List._∷_ (
-  31,
-  Rows'.any-gone
-      (Syntax.tyRef Syntax.erased Syntax.imm (KInstanceRow.named)),
-) List.[])))))))))))))))
-
-abbrev pub t59 : List.List Row.Entry
-t59 = List._∷_ (16, Rows'.whole (Declared'.row FoundRoute.the-type)) (List._∷_ (
-  17,
-  Rows'.sc-here Row.sBool,
-) (List._∷_ (
-  18,
-  Rows'.any-gone
-      (Syntax.tyStruct
-      (List._∷_
-      109
-      (List._∷_
-      101
-      (List._∷_
-      115
-      (List._∷_
-      115
-      (List._∷_
-      97
-      (List._∷_
-      103
-      (List._∷_
-      101
-      (List._∷_
-      58
-      (List._∷_
-      58
-      (List._∷_
-      70
-      (List._∷_
-      114
-      (List._∷_
-      101
-      (List._∷_
-      101
-      (List._∷_ 68 (List._∷_ 101 (List._∷_ 108 (List._∷_ 116 (List._∷_ 97 List.[]))))))))))))))))))
-      (Syntax.tcons Syntax.tyBool (Syntax.tcons (Syntax.tyInt Syntax.w8) Syntax.tnil))),
-) (List._∷_ (
-  19,
-  Rows'.any-gone
-      (Syntax.tyStruct
-      (List._∷_
-      114
-      (List._∷_
-      101
-      (List._∷_
-      113
-      (List._∷_
-      117
-      (List._∷_
-      101
-      (List._∷_
-      115
-      (List._∷_
-      116
-      (List._∷_
-      58
-      (List._∷_
-      58
-      (List._∷_
-      82
-      (List._∷_
-      101
-      (List._∷_
-      113
-      (List._∷_
-      117
-      (List._∷_
-      101
-      (List._∷_
-      115
-      (List._∷_
-      116
-      (List._∷_
-      70
-      (List._∷_ 97 (List._∷_ 99 (List._∷_ 116 (List._∷_ 115 List.[])))))))))))))))))))))
-      (Syntax.tcons
-      (Syntax.tyStruct
-      (List._∷_
-      109
-      (List._∷_
-      101
-      (List._∷_
-      115
-      (List._∷_
-      115
-      (List._∷_
-      97
-      (List._∷_
-      103
-      (List._∷_
-      101
-      (List._∷_
-      58
-      (List._∷_
-      58
-      (List._∷_ 70 (List._∷_ 111 (List._∷_ 117 (List._∷_ 110 (List._∷_ 100 List.[]))))))))))))))
-      (Syntax.tcons
-      Syntax.tyBool
-      (Syntax.tcons
-      (Syntax.tyInt Syntax.w64)
-      (Syntax.tcons (KInstanceRow.spelled) Syntax.tnil))))
-      (Syntax.tcons
-      (Syntax.tyStruct
-      (List._∷_
-      109
-      (List._∷_
-      101
-      (List._∷_
-      115
-      (List._∷_
-      115
-      (List._∷_
-      97
-      (List._∷_
-      103
-      (List._∷_
-      101
-      (List._∷_
-      58
-      (List._∷_
-      58
-      (List._∷_
-      70
-      (List._∷_
-      111
-      (List._∷_
-      117
-      (List._∷_
-      110
-      (List._∷_
-      100
-      (List._∷_
-      82
-      (List._∷_ 111 (List._∷_ 117 (List._∷_ 116 (List._∷_ 101 List.[])))))))))))))))))))
-      (Syntax.tcons
-      Syntax.tyBool
-      (Syntax.tcons
-      (Syntax.tyInt Syntax.w64)
-      (Syntax.tcons (KRouteRow.spelled) Syntax.tnil))))
-      (Syntax.tcons
-      (Syntax.tyInt Syntax.w32)
-      (Syntax.tcons
-      (Syntax.tyEnum
-      (List._∷_
-      112
-      (List._∷_
-      108
-      (List._∷_
-      97
-      (List._∷_
-      105
-      (List._∷_
-      110
-      (List._∷_
-      58
-      (List._∷_
-      58
-      (List._∷_
-      83
-      (List._∷_
-      116
-      (List._∷_
-      97
-      (List._∷_ 110 (List._∷_ 100 (List._∷_ 105 (List._∷_ 110 (List._∷_ 103 List.[])))))))))))))))
-      (Syntax.ttcons
-      Syntax.tnil
-      (Syntax.ttcons
-      Syntax.tnil
-      (Syntax.ttcons
-      Syntax.tnil
-      (Syntax.ttcons Syntax.tnil (Syntax.ttcons Syntax.tnil Syntax.ttnil))))))
-      (Syntax.tcons
-      Syntax.tyBool
-      (Syntax.tcons
-      (Syntax.tyStruct
-      (List._∷_
-      97
-      (List._∷_
-      114
-      (List._∷_
-      116
-      (List._∷_
-      58
-      (List._∷_
-      58
-      (List._∷_
-      84
-      (List._∷_
-      97
-      (List._∷_ 114 (List._∷_ 103 (List._∷_ 101 (List._∷_ 116 (List._∷_ 115 List.[]))))))))))))
-      (Syntax.tcons
-      Syntax.tyBool
-      (Syntax.tcons
-      (Syntax.tyInt Syntax.w64)
-      (Syntax.tcons
-      (Syntax.tyArray
-      (Syntax.tyStruct
-      (List._∷_
-      112
-      (List._∷_
-      108
-      (List._∷_
-      97
-      (List._∷_
-      105
-      (List._∷_
-      110
-      (List._∷_
-      58
-      (List._∷_
-      58
-      (List._∷_
-      84
-      (List._∷_ 97 (List._∷_ 114 (List._∷_ 103 (List._∷_ 101 (List._∷_ 116 List.[])))))))))))))
-      (Syntax.tcons
-      (Syntax.tyInt Syntax.w8)
-      (Syntax.tcons
-      (Syntax.tyInt Syntax.w8)
-      (Syntax.tcons (Syntax.tyArray (Syntax.tyInt Syntax.w8) 16) Syntax.tnil))))
-      8)
-      Syntax.tnil))))
-      (Syntax.tcons
-      (Syntax.tyStruct
-      (List._∷_
-      109
-      (List._∷_
-      101
-      (List._∷_
-      115
-      (List._∷_
-      115
-      (List._∷_
-      97
-      (List._∷_
-      103
-      (List._∷_
-      101
-      (List._∷_
-      58
-      (List._∷_
-      58
-      (List._∷_
-      70
-      (List._∷_
-      114
-      (List._∷_
-      101
-      (List._∷_
-      101
-      (List._∷_ 68 (List._∷_ 101 (List._∷_ 108 (List._∷_ 116 (List._∷_ 97 List.[]))))))))))))))))))
-      (Syntax.tcons Syntax.tyBool (Syntax.tcons (Syntax.tyInt Syntax.w8) Syntax.tnil)))
-      Syntax.tnil)))))))),
-) (List._∷_ (
-  20,
-  Rows'.any-gone
-      (Syntax.tyEnum
-      (List._∷_
-      97
-      (List._∷_
-      110
-      (List._∷_
-      115
-      (List._∷_
-      119
-      (List._∷_
-      101
-      (List._∷_
-      114
-      (List._∷_
-      58
-      (List._∷_
-      58
-      (List._∷_
-      65
-      (List._∷_ 110 (List._∷_ 115 (List._∷_ 119 (List._∷_ 101 (List._∷_ 114 List.[]))))))))))))))
-      (Syntax.ttcons
-      Syntax.tnil
-      (Syntax.ttcons
-      Syntax.tnil
-      (Syntax.ttcons
-      Syntax.tnil
-      (Syntax.ttcons
-      Syntax.tnil
-      (Syntax.ttcons
-      Syntax.tnil
-      (Syntax.ttcons
-      Syntax.tnil
-      (Syntax.ttcons
-      Syntax.tnil
-      (Syntax.ttcons
-      Syntax.tnil
-      (Syntax.ttcons
-      Syntax.tnil
-      (Syntax.ttcons
-      Syntax.tnil
-      (Syntax.ttcons
-      Syntax.tnil
-      (Syntax.ttcons
-      Syntax.tnil
-      (Syntax.ttcons
-      Syntax.tnil
-      (Syntax.ttcons
-      Syntax.tnil
-      (Syntax.ttcons
-      Syntax.tnil
-      (Syntax.ttcons
-      Syntax.tnil
-      (Syntax.ttcons Syntax.tnil (Syntax.ttcons Syntax.tnil Syntax.ttnil))))))))))))))))))),
-) (List._∷_ (21, KDecided.row) (List._∷_ (
-  22,
-  KPost.row,
-) (List._∷_ (23, KPost.row) (List._∷_ (
-  24,
-  Rows'.whole (Declared'.row Live.the-type),
-) (List._∷_ (25, Rows'.any-gone Syntax.tyUnit) (List._∷_ (
-  26,
-  Rows'.any-gone (KParsed.spelled),
-) (List._∷_ (
-  27,
-  Rows'.any-gone
-      (Syntax.tyRef Syntax.erased Syntax.imm (KInstanceRow.named)),
-) (List._∷_ (
-  28,
-  Rows'.any-gone
-      (Syntax.tyStruct
-      (List._∷_ 38 (List._∷_ 91 (List._∷_ 93 List.[])))
-      (Syntax.tcons
-      (Syntax.tyRef Syntax.erased Syntax.imm (KInstanceRow.named))
-      (Syntax.tcons (Syntax.tyInt Syntax.w64) Syntax.tnil))),
-) (List._∷_ (
-  29,
-  Rows'.any-gone
-      (Syntax.tyRef Syntax.erased Syntax.imm (KRouteRow.named)),
-) (List._∷_ (
-  30,
-  Rows'.any-gone
-      (Syntax.tyStruct
-      (List._∷_ 38 (List._∷_ 91 (List._∷_ 93 List.[])))
-      (Syntax.tcons
-      (Syntax.tyRef Syntax.erased Syntax.imm (KRouteRow.named))
-      (Syntax.tcons (Syntax.tyInt Syntax.w64) Syntax.tnil))),
-) (List._∷_ (
-  31,
-  Rows'.any-gone
-      (Syntax.tyRef Syntax.erased Syntax.imm (KInstanceRow.named)),
-) List.[])))))))))))))))
-
-abbrev pub t60 : List.List Row.Entry
-t60 = List._∷_ (
+t57 = List._∷_ (
   0,
   Rows'.any-gone
       (Syntax.tyStruct
@@ -17880,8 +17071,8 @@ t60 = List._∷_ (
       (Syntax.tcons (KInstanceRow.spelled) Syntax.tnil)))),
 ) List.[])))))))))))))))
 
-abbrev pub t61 : List.List Row.Entry
-t61 = List._∷_ (
+abbrev pub t58 : List.List Row.Entry
+t58 = List._∷_ (
   16,
   Rows'.any-gone
       (Syntax.tyStruct
@@ -17921,8 +17112,8 @@ t61 = List._∷_ (
       (Syntax.tcons
       (Syntax.tyInt Syntax.w64)
       (Syntax.tcons (KRouteRow.spelled) Syntax.tnil)))),
-) (List._∷_ (17, Rows'.sc-here Row.sBool) (List._∷_ (
-  18,
+) (List._∷_ (
+  17,
   Rows'.any-gone
       (Syntax.tyStruct
       (List._∷_
@@ -17954,7 +17145,7 @@ t61 = List._∷_ (
       (List._∷_ 68 (List._∷_ 101 (List._∷_ 108 (List._∷_ 116 (List._∷_ 97 List.[]))))))))))))))))))
       (Syntax.tcons Syntax.tyBool (Syntax.tcons (Syntax.tyInt Syntax.w8) Syntax.tnil))),
 ) (List._∷_ (
-  19,
+  18,
   Rows'.any-gone
       (Syntax.tyStruct
       (List._∷_
@@ -18170,7 +17361,7 @@ t61 = List._∷_ (
       (Syntax.tcons Syntax.tyBool (Syntax.tcons (Syntax.tyInt Syntax.w8) Syntax.tnil)))
       Syntax.tnil)))))))),
 ) (List._∷_ (
-  20,
+  19,
   Rows'.any-gone
       (Syntax.tyEnum
       (List._∷_
@@ -18225,21 +17416,21 @@ t61 = List._∷_ (
       (Syntax.ttcons
       Syntax.tnil
       (Syntax.ttcons Syntax.tnil (Syntax.ttcons Syntax.tnil Syntax.ttnil))))))))))))))))))),
-) (List._∷_ (21, KDecided.row) (List._∷_ (
-  22,
+) (List._∷_ (20, KDecided.row) (List._∷_ (
+  21,
   KPost.row,
-) (List._∷_ (23, KPost.row) (List._∷_ (
-  24,
+) (List._∷_ (22, KPost.row) (List._∷_ (
+  23,
   Rows'.whole (Declared'.row Live.the-type),
-) (List._∷_ (25, Rows'.any-gone Syntax.tyUnit) (List._∷_ (
-  26,
+) (List._∷_ (24, Rows'.any-gone Syntax.tyUnit) (List._∷_ (
+  25,
   Rows'.any-gone (KParsed.spelled),
 ) (List._∷_ (
-  27,
+  26,
   Rows'.any-gone
       (Syntax.tyRef Syntax.erased Syntax.imm (KInstanceRow.named)),
 ) (List._∷_ (
-  28,
+  27,
   Rows'.any-gone
       (Syntax.tyStruct
       (List._∷_ 38 (List._∷_ 91 (List._∷_ 93 List.[])))
@@ -18247,11 +17438,11 @@ t61 = List._∷_ (
       (Syntax.tyRef Syntax.erased Syntax.imm (KInstanceRow.named))
       (Syntax.tcons (Syntax.tyInt Syntax.w64) Syntax.tnil))),
 ) (List._∷_ (
-  29,
+  28,
   Rows'.any-gone
       (Syntax.tyRef Syntax.erased Syntax.imm (KRouteRow.named)),
 ) (List._∷_ (
-  30,
+  29,
   Rows'.any-gone
       (Syntax.tyStruct
       (List._∷_ 38 (List._∷_ 91 (List._∷_ 93 List.[])))
@@ -18259,13 +17450,21 @@ t61 = List._∷_ (
       (Syntax.tyRef Syntax.erased Syntax.imm (KRouteRow.named))
       (Syntax.tcons (Syntax.tyInt Syntax.w64) Syntax.tnil))),
 ) (List._∷_ (
-  31,
+  30,
   Rows'.any-gone
       (Syntax.tyRef Syntax.erased Syntax.imm (KInstanceRow.named)),
+) (List._∷_ (
+  31,
+  Rows'.any-gone
+      (Syntax.tyStruct
+      (List._∷_ 38 (List._∷_ 91 (List._∷_ 93 List.[])))
+      (Syntax.tcons
+      (Syntax.tyRef Syntax.erased Syntax.imm (KInstanceRow.named))
+      (Syntax.tcons (Syntax.tyInt Syntax.w64) Syntax.tnil))),
 ) List.[])))))))))))))))
 
-abbrev pub t62 : List.List Row.Entry
-t62 = List._∷_ (
+abbrev pub t59 : List.List Row.Entry
+t59 = List._∷_ (
   0,
   Rows'.any-gone
       (Syntax.tyStruct
@@ -18603,29 +17802,21 @@ t62 = List._∷_ (
       (Syntax.tcons (KInstanceRow.spelled) Syntax.tnil)))),
 ) List.[])))))))))))))))
 
-abbrev pub t63 : List.List Row.Entry
-t63 = List._∷_ (
-  32,
-  Rows'.any-gone
-      (Syntax.tyStruct
-      (List._∷_ 38 (List._∷_ 91 (List._∷_ 93 List.[])))
-      (Syntax.tcons
-      (Syntax.tyRef Syntax.erased Syntax.imm (KInstanceRow.named))
-      (Syntax.tcons (Syntax.tyInt Syntax.w64) Syntax.tnil))),
-) (List._∷_ (33, Rows'.any-gone (Syntax.tyInt Syntax.w8)) (List._∷_ (
-  34,
+abbrev pub t60 : List.List Row.Entry
+t60 = List._∷_ (32, Rows'.any-gone (Syntax.tyInt Syntax.w8)) (List._∷_ (
+  33,
   Rows'.any-gone Syntax.tyBool,
-) (List._∷_ (35, Rows'.any-gone (KDecided.spelled)) (List._∷_ (
-  36,
+) (List._∷_ (34, Rows'.any-gone (KDecided.spelled)) (List._∷_ (
+  35,
   Rows'.any-gone (KPost.spelled),
 ) (List._∷_ (
-  37,
+  36,
   Relend.msptr
       (KInstanceRow.R)
       (Syntax.tyRef Syntax.erased Syntax.mut (KInstanceRow.named))
       9,
 ) (List._∷_ (
-  38,
+  37,
   Rows'.any-gone
       (Syntax.tyStruct
       (List._∷_ 38 (List._∷_ 91 (List._∷_ 93 List.[])))
@@ -18633,11 +17824,11 @@ t63 = List._∷_ (
       (Syntax.tyRef Syntax.erased Syntax.mut (KInstanceRow.named))
       (Syntax.tcons (Syntax.tyInt Syntax.w64) Syntax.tnil))),
 ) (List._∷_ (
-  39,
+  38,
   Rows'.any-gone
       (Syntax.tyRef Syntax.erased Syntax.mut (KRouteRow.named)),
 ) (List._∷_ (
-  40,
+  39,
   Rows'.any-gone
       (Syntax.tyStruct
       (List._∷_ 38 (List._∷_ 91 (List._∷_ 93 List.[])))
@@ -18646,10 +17837,10 @@ t63 = List._∷_ (
       (Syntax.tcons (Syntax.tyInt Syntax.w64) Syntax.tnil))),
 )
     (List._∷_ (
-      41,
+      40,
       Rows'.any-gone (Syntax.tyRef Syntax.erased Syntax.mut (Syntax.tyInt Syntax.w8)),
     ) (List._∷_ (
-      42,
+      41,
       Rows'.any-gone
           (Syntax.tyStruct
           (List._∷_ 38 (List._∷_ 91 (List._∷_ 93 List.[])))
@@ -18657,61 +17848,53 @@ t63 = List._∷_ (
           (Syntax.tyRef Syntax.erased Syntax.mut (Syntax.tyInt Syntax.w8))
           (Syntax.tcons (Syntax.tyInt Syntax.w64) Syntax.tnil))),
     ) (List._∷_ (
-      43,
+      42,
       Rows'.any-gone (Syntax.tyRef Syntax.erased Syntax.mut (Syntax.tyInt Syntax.w8)),
+    ) (List._∷_ (
+      43,
+      Rows'.any-gone
+          (Syntax.tyStruct
+          (List._∷_ 38 (List._∷_ 91 (List._∷_ 93 List.[])))
+          (Syntax.tcons
+          (Syntax.tyRef Syntax.erased Syntax.mut (Syntax.tyInt Syntax.w8))
+          (Syntax.tcons (Syntax.tyInt Syntax.w64) Syntax.tnil))),
     ) (List._∷_ (
       44,
       Rows'.any-gone
-          (Syntax.tyStruct
-          (List._∷_ 38 (List._∷_ 91 (List._∷_ 93 List.[])))
-          (Syntax.tcons
-          (Syntax.tyRef Syntax.erased Syntax.mut (Syntax.tyInt Syntax.w8))
-          (Syntax.tcons (Syntax.tyInt Syntax.w64) Syntax.tnil))),
+          (Syntax.tyRef Syntax.erased Syntax.imm (KDecided.named)),
     ) (List._∷_ (
       45,
       Rows'.any-gone
-          (Syntax.tyRef Syntax.erased Syntax.imm (KDecided.named)),
+          (Syntax.tyRef Syntax.erased Syntax.imm (KPost.named)),
     ) (List._∷_ (
       46,
       Rows'.any-gone
           (Syntax.tyRef Syntax.erased Syntax.imm (KPost.named)),
-    ) (List._∷_ (
-      47,
-      Rows'.any-gone
-          (Syntax.tyRef Syntax.erased Syntax.imm (KPost.named)),
-    ) List.[])))))))))))))))
+    ) List.[]))))))))))))))
 
-abbrev pub t64 : List.List Row.Entry
-t64 = List._∷_ (
-  32,
-  Rows'.any-gone
-      (Syntax.tyStruct
-      (List._∷_ 38 (List._∷_ 91 (List._∷_ 93 List.[])))
-      (Syntax.tcons
-      (Syntax.tyRef Syntax.erased Syntax.imm (KInstanceRow.named))
-      (Syntax.tcons (Syntax.tyInt Syntax.w64) Syntax.tnil))),
-) (List._∷_ (33, Rows'.any-gone (Syntax.tyInt Syntax.w8)) (List._∷_ (
-  34,
+abbrev pub t61 : List.List Row.Entry
+t61 = List._∷_ (32, Rows'.any-gone (Syntax.tyInt Syntax.w8)) (List._∷_ (
+  33,
   Rows'.any-gone Syntax.tyBool,
-) (List._∷_ (35, Rows'.any-gone (KDecided.spelled)) (List._∷_ (
-  36,
+) (List._∷_ (34, Rows'.any-gone (KDecided.spelled)) (List._∷_ (
+  35,
   Rows'.any-gone (KPost.spelled),
 ) (List._∷_ (
-  37,
+  36,
   Rows'.any-gone
       (Syntax.tyRef Syntax.erased Syntax.mut (KInstanceRow.named)),
 ) (List._∷_ (
-  38,
+  37,
   Mut.mslice
       (KInstanceRow.R)
       (Syntax.tyRef Syntax.erased Syntax.mut (KInstanceRow.named))
       9,
 ) (List._∷_ (
-  39,
+  38,
   Rows'.any-gone
       (Syntax.tyRef Syntax.erased Syntax.mut (KRouteRow.named)),
 ) (List._∷_ (
-  40,
+  39,
   Rows'.any-gone
       (Syntax.tyStruct
       (List._∷_ 38 (List._∷_ 91 (List._∷_ 93 List.[])))
@@ -18720,10 +17903,10 @@ t64 = List._∷_ (
       (Syntax.tcons (Syntax.tyInt Syntax.w64) Syntax.tnil))),
 )
     (List._∷_ (
-      41,
+      40,
       Rows'.any-gone (Syntax.tyRef Syntax.erased Syntax.mut (Syntax.tyInt Syntax.w8)),
     ) (List._∷_ (
-      42,
+      41,
       Rows'.any-gone
           (Syntax.tyStruct
           (List._∷_ 38 (List._∷_ 91 (List._∷_ 93 List.[])))
@@ -18731,32 +17914,32 @@ t64 = List._∷_ (
           (Syntax.tyRef Syntax.erased Syntax.mut (Syntax.tyInt Syntax.w8))
           (Syntax.tcons (Syntax.tyInt Syntax.w64) Syntax.tnil))),
     ) (List._∷_ (
-      43,
+      42,
       Rows'.any-gone (Syntax.tyRef Syntax.erased Syntax.mut (Syntax.tyInt Syntax.w8)),
+    ) (List._∷_ (
+      43,
+      Rows'.any-gone
+          (Syntax.tyStruct
+          (List._∷_ 38 (List._∷_ 91 (List._∷_ 93 List.[])))
+          (Syntax.tcons
+          (Syntax.tyRef Syntax.erased Syntax.mut (Syntax.tyInt Syntax.w8))
+          (Syntax.tcons (Syntax.tyInt Syntax.w64) Syntax.tnil))),
     ) (List._∷_ (
       44,
       Rows'.any-gone
-          (Syntax.tyStruct
-          (List._∷_ 38 (List._∷_ 91 (List._∷_ 93 List.[])))
-          (Syntax.tcons
-          (Syntax.tyRef Syntax.erased Syntax.mut (Syntax.tyInt Syntax.w8))
-          (Syntax.tcons (Syntax.tyInt Syntax.w64) Syntax.tnil))),
+          (Syntax.tyRef Syntax.erased Syntax.imm (KDecided.named)),
     ) (List._∷_ (
       45,
       Rows'.any-gone
-          (Syntax.tyRef Syntax.erased Syntax.imm (KDecided.named)),
+          (Syntax.tyRef Syntax.erased Syntax.imm (KPost.named)),
     ) (List._∷_ (
       46,
       Rows'.any-gone
           (Syntax.tyRef Syntax.erased Syntax.imm (KPost.named)),
-    ) (List._∷_ (
-      47,
-      Rows'.any-gone
-          (Syntax.tyRef Syntax.erased Syntax.imm (KPost.named)),
-    ) List.[])))))))))))))))
+    ) List.[]))))))))))))))
 
-abbrev pub t65 : List.List Row.Entry
-t65 = List._∷_ (
+abbrev pub t62 : List.List Row.Entry
+t62 = List._∷_ (
   0,
   Rows'.any-gone
       (Syntax.tyStruct
@@ -19096,39 +18279,31 @@ t65 = List._∷_ (
       (Syntax.tcons (KInstanceRow.spelled) Syntax.tnil)))),
 ) List.[])))))))))))))))
 
-abbrev pub t66 : List.List Row.Entry
-t66 = List._∷_ (
-  32,
-  Rows'.any-gone
-      (Syntax.tyStruct
-      (List._∷_ 38 (List._∷_ 91 (List._∷_ 93 List.[])))
-      (Syntax.tcons
-      (Syntax.tyRef Syntax.erased Syntax.imm (KInstanceRow.named))
-      (Syntax.tcons (Syntax.tyInt Syntax.w64) Syntax.tnil))),
-) (List._∷_ (33, Rows'.any-gone (Syntax.tyInt Syntax.w8)) (List._∷_ (
-  34,
+abbrev pub t63 : List.List Row.Entry
+t63 = List._∷_ (32, Rows'.any-gone (Syntax.tyInt Syntax.w8)) (List._∷_ (
+  33,
   Rows'.any-gone Syntax.tyBool,
-) (List._∷_ (35, Rows'.any-gone (KDecided.spelled)) (List._∷_ (
-  36,
+) (List._∷_ (34, Rows'.any-gone (KDecided.spelled)) (List._∷_ (
+  35,
   Rows'.any-gone (KPost.spelled),
 ) (List._∷_ (
-  37,
+  36,
   Rows'.any-gone
       (Syntax.tyRef Syntax.erased Syntax.mut (KInstanceRow.named)),
 ) (List._∷_ (
-  38,
+  37,
   Mut.mslice
       (KInstanceRow.R)
       (Syntax.tyRef Syntax.erased Syntax.mut (KInstanceRow.named))
       9,
 ) (List._∷_ (
-  39,
+  38,
   Relend.msptr
       (KRouteRow.R)
       (Syntax.tyRef Syntax.erased Syntax.mut (KRouteRow.named))
       10,
 ) (List._∷_ (
-  40,
+  39,
   Rows'.any-gone
       (Syntax.tyStruct
       (List._∷_ 38 (List._∷_ 91 (List._∷_ 93 List.[])))
@@ -19137,10 +18312,10 @@ t66 = List._∷_ (
       (Syntax.tcons (Syntax.tyInt Syntax.w64) Syntax.tnil))),
 )
     (List._∷_ (
-      41,
+      40,
       Rows'.any-gone (Syntax.tyRef Syntax.erased Syntax.mut (Syntax.tyInt Syntax.w8)),
     ) (List._∷_ (
-      42,
+      41,
       Rows'.any-gone
           (Syntax.tyStruct
           (List._∷_ 38 (List._∷_ 91 (List._∷_ 93 List.[])))
@@ -19148,71 +18323,63 @@ t66 = List._∷_ (
           (Syntax.tyRef Syntax.erased Syntax.mut (Syntax.tyInt Syntax.w8))
           (Syntax.tcons (Syntax.tyInt Syntax.w64) Syntax.tnil))),
     ) (List._∷_ (
-      43,
+      42,
       Rows'.any-gone (Syntax.tyRef Syntax.erased Syntax.mut (Syntax.tyInt Syntax.w8)),
+    ) (List._∷_ (
+      43,
+      Rows'.any-gone
+          (Syntax.tyStruct
+          (List._∷_ 38 (List._∷_ 91 (List._∷_ 93 List.[])))
+          (Syntax.tcons
+          (Syntax.tyRef Syntax.erased Syntax.mut (Syntax.tyInt Syntax.w8))
+          (Syntax.tcons (Syntax.tyInt Syntax.w64) Syntax.tnil))),
     ) (List._∷_ (
       44,
       Rows'.any-gone
-          (Syntax.tyStruct
-          (List._∷_ 38 (List._∷_ 91 (List._∷_ 93 List.[])))
-          (Syntax.tcons
-          (Syntax.tyRef Syntax.erased Syntax.mut (Syntax.tyInt Syntax.w8))
-          (Syntax.tcons (Syntax.tyInt Syntax.w64) Syntax.tnil))),
+          (Syntax.tyRef Syntax.erased Syntax.imm (KDecided.named)),
     ) (List._∷_ (
       45,
       Rows'.any-gone
-          (Syntax.tyRef Syntax.erased Syntax.imm (KDecided.named)),
+          (Syntax.tyRef Syntax.erased Syntax.imm (KPost.named)),
     ) (List._∷_ (
       46,
       Rows'.any-gone
           (Syntax.tyRef Syntax.erased Syntax.imm (KPost.named)),
-    ) (List._∷_ (
-      47,
-      Rows'.any-gone
-          (Syntax.tyRef Syntax.erased Syntax.imm (KPost.named)),
-    ) List.[])))))))))))))))
+    ) List.[]))))))))))))))
 
-abbrev pub t67 : List.List Row.Entry
-t67 = List._∷_ (
-  32,
-  Rows'.any-gone
-      (Syntax.tyStruct
-      (List._∷_ 38 (List._∷_ 91 (List._∷_ 93 List.[])))
-      (Syntax.tcons
-      (Syntax.tyRef Syntax.erased Syntax.imm (KInstanceRow.named))
-      (Syntax.tcons (Syntax.tyInt Syntax.w64) Syntax.tnil))),
-) (List._∷_ (33, Rows'.any-gone (Syntax.tyInt Syntax.w8)) (List._∷_ (
-  34,
+abbrev pub t64 : List.List Row.Entry
+t64 = List._∷_ (32, Rows'.any-gone (Syntax.tyInt Syntax.w8)) (List._∷_ (
+  33,
   Rows'.any-gone Syntax.tyBool,
-) (List._∷_ (35, Rows'.any-gone (KDecided.spelled)) (List._∷_ (
-  36,
+) (List._∷_ (34, Rows'.any-gone (KDecided.spelled)) (List._∷_ (
+  35,
   Rows'.any-gone (KPost.spelled),
 ) (List._∷_ (
-  37,
+  36,
   Rows'.any-gone
       (Syntax.tyRef Syntax.erased Syntax.mut (KInstanceRow.named)),
 ) (List._∷_ (
-  38,
+  37,
   Mut.mslice
       (KInstanceRow.R)
       (Syntax.tyRef Syntax.erased Syntax.mut (KInstanceRow.named))
       9,
 ) (List._∷_ (
-  39,
+  38,
   Rows'.any-gone
       (Syntax.tyRef Syntax.erased Syntax.mut (KRouteRow.named)),
 ) (List._∷_ (
-  40,
+  39,
   Mut.mslice
       (KRouteRow.R)
       (Syntax.tyRef Syntax.erased Syntax.mut (KRouteRow.named))
       10,
 )
     (List._∷_ (
-      41,
+      40,
       Rows'.any-gone (Syntax.tyRef Syntax.erased Syntax.mut (Syntax.tyInt Syntax.w8)),
     ) (List._∷_ (
-      42,
+      41,
       Rows'.any-gone
           (Syntax.tyStruct
           (List._∷_ 38 (List._∷_ 91 (List._∷_ 93 List.[])))
@@ -19220,29 +18387,501 @@ t67 = List._∷_ (
           (Syntax.tyRef Syntax.erased Syntax.mut (Syntax.tyInt Syntax.w8))
           (Syntax.tcons (Syntax.tyInt Syntax.w64) Syntax.tnil))),
     ) (List._∷_ (
-      43,
+      42,
       Rows'.any-gone (Syntax.tyRef Syntax.erased Syntax.mut (Syntax.tyInt Syntax.w8)),
+    ) (List._∷_ (
+      43,
+      Rows'.any-gone
+          (Syntax.tyStruct
+          (List._∷_ 38 (List._∷_ 91 (List._∷_ 93 List.[])))
+          (Syntax.tcons
+          (Syntax.tyRef Syntax.erased Syntax.mut (Syntax.tyInt Syntax.w8))
+          (Syntax.tcons (Syntax.tyInt Syntax.w64) Syntax.tnil))),
     ) (List._∷_ (
       44,
       Rows'.any-gone
-          (Syntax.tyStruct
-          (List._∷_ 38 (List._∷_ 91 (List._∷_ 93 List.[])))
-          (Syntax.tcons
-          (Syntax.tyRef Syntax.erased Syntax.mut (Syntax.tyInt Syntax.w8))
-          (Syntax.tcons (Syntax.tyInt Syntax.w64) Syntax.tnil))),
+          (Syntax.tyRef Syntax.erased Syntax.imm (KDecided.named)),
     ) (List._∷_ (
       45,
       Rows'.any-gone
-          (Syntax.tyRef Syntax.erased Syntax.imm (KDecided.named)),
+          (Syntax.tyRef Syntax.erased Syntax.imm (KPost.named)),
     ) (List._∷_ (
       46,
       Rows'.any-gone
           (Syntax.tyRef Syntax.erased Syntax.imm (KPost.named)),
+    ) List.[]))))))))))))))
+
+abbrev pub t65 : List.List Row.Entry
+t65 = List._∷_ (
+  0,
+  Rows'.any-gone
+      (Syntax.tyStruct
+      (List._∷_
+      102
+      (List._∷_
+      105
+      (List._∷_
+      110
+      (List._∷_
+      105
+      (List._∷_
+      115
+      (List._∷_
+      104
+      (List._∷_
+      58
+      (List._∷_
+      58
+      (List._∷_
+      79
+      (List._∷_
+      117
+      (List._∷_ 116 (List._∷_ 99 (List._∷_ 111 (List._∷_ 109 (List._∷_ 101 List.[])))))))))))))))
+      (Syntax.tcons
+      (Syntax.tyStruct
+      (List._∷_
+      102
+      (List._∷_
+      105
+      (List._∷_
+      110
+      (List._∷_
+      105
+      (List._∷_
+      115
+      (List._∷_
+      104
+      (List._∷_
+      58
+      (List._∷_ 58 (List._∷_ 83 (List._∷_ 101 (List._∷_ 110 (List._∷_ 116 List.[]))))))))))))
+      (Syntax.tcons
+      (Syntax.tyStruct
+      (List._∷_
+      97
+      (List._∷_
+      110
+      (List._∷_
+      115
+      (List._∷_
+      119
+      (List._∷_
+      101
+      (List._∷_
+      114
+      (List._∷_
+      58
+      (List._∷_
+      58
+      (List._∷_
+      68
+      (List._∷_
+      101
+      (List._∷_
+      115
+      (List._∷_
+      116
+      (List._∷_
+      105
+      (List._∷_
+      110
+      (List._∷_
+      97
+      (List._∷_ 116 (List._∷_ 105 (List._∷_ 111 (List._∷_ 110 List.[])))))))))))))))))))
+      (Syntax.tcons
+      (Syntax.tyArray (Syntax.tyInt Syntax.w8) 16)
+      (Syntax.tcons
+      (Syntax.tyEnum
+      (List._∷_
+      97
+      (List._∷_
+      110
+      (List._∷_
+      115
+      (List._∷_
+      119
+      (List._∷_
+      101
+      (List._∷_
+      114
+      (List._∷_ 58 (List._∷_ 58 (List._∷_ 87 (List._∷_ 97 (List._∷_ 121 List.[])))))))))))
+      (Syntax.ttcons
+      Syntax.tnil
+      (Syntax.ttcons
+      Syntax.tnil
+      (Syntax.ttcons Syntax.tnil (Syntax.ttcons Syntax.tnil Syntax.ttnil)))))
+      Syntax.tnil)))
+      (Syntax.tcons (Syntax.tyInt Syntax.w64) Syntax.tnil)))
+      (Syntax.tcons
+      (Syntax.tyInt Syntax.w64)
+      (Syntax.tcons
+      (Syntax.tyStruct
+      (List._∷_
+      102
+      (List._∷_
+      105
+      (List._∷_
+      110
+      (List._∷_
+      105
+      (List._∷_
+      115
+      (List._∷_
+      104
+      (List._∷_
+      58
+      (List._∷_ 58 (List._∷_ 83 (List._∷_ 101 (List._∷_ 110 (List._∷_ 116 List.[]))))))))))))
+      (Syntax.tcons
+      (Syntax.tyStruct
+      (List._∷_
+      97
+      (List._∷_
+      110
+      (List._∷_
+      115
+      (List._∷_
+      119
+      (List._∷_
+      101
+      (List._∷_
+      114
+      (List._∷_
+      58
+      (List._∷_
+      58
+      (List._∷_
+      68
+      (List._∷_
+      101
+      (List._∷_
+      115
+      (List._∷_
+      116
+      (List._∷_
+      105
+      (List._∷_
+      110
+      (List._∷_
+      97
+      (List._∷_ 116 (List._∷_ 105 (List._∷_ 111 (List._∷_ 110 List.[])))))))))))))))))))
+      (Syntax.tcons
+      (Syntax.tyArray (Syntax.tyInt Syntax.w8) 16)
+      (Syntax.tcons
+      (Syntax.tyEnum
+      (List._∷_
+      97
+      (List._∷_
+      110
+      (List._∷_
+      115
+      (List._∷_
+      119
+      (List._∷_
+      101
+      (List._∷_
+      114
+      (List._∷_ 58 (List._∷_ 58 (List._∷_ 87 (List._∷_ 97 (List._∷_ 121 List.[])))))))))))
+      (Syntax.ttcons
+      Syntax.tnil
+      (Syntax.ttcons
+      Syntax.tnil
+      (Syntax.ttcons Syntax.tnil (Syntax.ttcons Syntax.tnil Syntax.ttnil)))))
+      Syntax.tnil)))
+      (Syntax.tcons (Syntax.tyInt Syntax.w64) Syntax.tnil)))
+      (Syntax.tcons
+      (Syntax.tyEnum
+      (List._∷_
+      97
+      (List._∷_
+      110
+      (List._∷_
+      115
+      (List._∷_
+      119
+      (List._∷_
+      101
+      (List._∷_
+      114
+      (List._∷_
+      58
+      (List._∷_
+      58
+      (List._∷_
+      65
+      (List._∷_ 110 (List._∷_ 115 (List._∷_ 119 (List._∷_ 101 (List._∷_ 114 List.[]))))))))))))))
+      (Syntax.ttcons
+      Syntax.tnil
+      (Syntax.ttcons
+      Syntax.tnil
+      (Syntax.ttcons
+      Syntax.tnil
+      (Syntax.ttcons
+      Syntax.tnil
+      (Syntax.ttcons
+      Syntax.tnil
+      (Syntax.ttcons
+      Syntax.tnil
+      (Syntax.ttcons
+      Syntax.tnil
+      (Syntax.ttcons
+      Syntax.tnil
+      (Syntax.ttcons
+      Syntax.tnil
+      (Syntax.ttcons
+      Syntax.tnil
+      (Syntax.ttcons
+      Syntax.tnil
+      (Syntax.ttcons
+      Syntax.tnil
+      (Syntax.ttcons
+      Syntax.tnil
+      (Syntax.ttcons
+      Syntax.tnil
+      (Syntax.ttcons
+      Syntax.tnil
+      (Syntax.ttcons
+      Syntax.tnil
+      (Syntax.ttcons Syntax.tnil (Syntax.ttcons Syntax.tnil Syntax.ttnil)))))))))))))))))))
+      (Syntax.tcons (Syntax.tyInt Syntax.w8) Syntax.tnil)))))),
+) (List._∷_ (
+  1,
+  Relend.mslice-owed
+      (KInstanceRow.R)
+      (Syntax.tyRef (Syntax.named 0) Syntax.mut (KInstanceRow.named))
+      0
+      9
+      Row.off,
+) (List._∷_ (
+  2,
+  Relend.mslice-owed
+      (KRouteRow.R)
+      (Syntax.tyRef (Syntax.named 1) Syntax.mut (KRouteRow.named))
+      1
+      10
+      Row.off,
+) (List._∷_ (
+  3,
+  Relend.mslice-owed
+      (Referent.rtF (Referent.fInt Syntax.w8))
+      (Syntax.tyRef (Syntax.named 2) Syntax.mut (Syntax.tyInt Syntax.w8))
+      2
+      11
+      Row.off,
+) (List._∷_ (
+  4,
+  Mut.mslice
+      (Referent.rtF (Referent.fInt Syntax.w8))
+      (Syntax.tyRef (Syntax.named 3) Syntax.mut (Syntax.tyInt Syntax.w8))
+      3,
+) (List._∷_ (5, Rows'.whole (Declared'.row Own.the-type)) (List._∷_ (
+  6,
+  Rows'.sc-here (Row.sInt Syntax.w64),
+) (List._∷_ (7, Rows'.sc-here (Row.sInt Syntax.w8)) (List._∷_ (
+  8,
+  Rows'.sc-here (Row.sInt Syntax.w64),
+) (List._∷_ (
+  9,
+  Rows'.any-gone
+      (Syntax.tyStruct
+      (List._∷_
+      109
+      (List._∷_
+      101
+      (List._∷_
+      115
+      (List._∷_
+      115
+      (List._∷_
+      97
+      (List._∷_
+      103
+      (List._∷_
+      101
+      (List._∷_
+      58
+      (List._∷_ 58 (List._∷_ 76 (List._∷_ 105 (List._∷_ 110 (List._∷_ 107 List.[])))))))))))))
+      (Syntax.tcons
+      (Syntax.tyArray (Syntax.tyInt Syntax.w8) 16)
+      (Syntax.tcons
+      Syntax.tyBool
+      (Syntax.tcons
+      Syntax.tyBool
+      (Syntax.tcons (Syntax.tyInt Syntax.w16) (Syntax.tcons Syntax.tyBool Syntax.tnil)))))),
+) (List._∷_ (
+  10,
+  Rows'.sref
+      (KParsed.R)
+      (Syntax.tyRef (Syntax.named 4) Syntax.imm (KParsed.named))
+      4,
+) (List._∷_ (
+  11,
+  Rows'.sref
+      (Array'.Array (Array'.Array (Referent.rtF (Referent.fInt Syntax.w8)) 16) 16)
+      (Syntax.tyRef
+      (Syntax.named 5)
+      Syntax.imm
+      (Syntax.tyArray (Syntax.tyArray (Syntax.tyInt Syntax.w8) 16) 16))
+      5,
+) (List._∷_ (12, Rows'.sc-here (Row.sInt Syntax.w8)) (List._∷_ (
+  13,
+  Rows'.any-gone (Syntax.tyArray (Syntax.tyInt Syntax.w8) 16),
+) (List._∷_ (14, Rows'.any-gone (Syntax.tyArray (Syntax.tyInt Syntax.w8) 16)) (List._∷_ (
+  15,
+  Rows'.any-gone
+      (Syntax.tyStruct
+      (List._∷_
+      109
+      (List._∷_
+      101
+      (List._∷_
+      115
+      (List._∷_
+      115
+      (List._∷_
+      97
+      (List._∷_
+      103
+      (List._∷_
+      101
+      (List._∷_
+      58
+      (List._∷_
+      58
+      (List._∷_ 70 (List._∷_ 111 (List._∷_ 117 (List._∷_ 110 (List._∷_ 100 List.[]))))))))))))))
+      (Syntax.tcons
+      Syntax.tyBool
+      (Syntax.tcons
+      (Syntax.tyInt Syntax.w64)
+      (Syntax.tcons (KInstanceRow.spelled) Syntax.tnil)))),
+) List.[])))))))))))))))
+
+abbrev pub t66 : List.List Row.Entry
+t66 = List._∷_ (32, Rows'.any-gone (Syntax.tyInt Syntax.w8)) (List._∷_ (
+  33,
+  Rows'.any-gone Syntax.tyBool,
+) (List._∷_ (34, Rows'.any-gone (KDecided.spelled)) (List._∷_ (
+  35,
+  Rows'.any-gone (KPost.spelled),
+) (List._∷_ (
+  36,
+  Rows'.any-gone
+      (Syntax.tyRef Syntax.erased Syntax.mut (KInstanceRow.named)),
+) (List._∷_ (
+  37,
+  Mut.mslice
+      (KInstanceRow.R)
+      (Syntax.tyRef Syntax.erased Syntax.mut (KInstanceRow.named))
+      9,
+) (List._∷_ (
+  38,
+  Rows'.any-gone
+      (Syntax.tyRef Syntax.erased Syntax.mut (KRouteRow.named)),
+) (List._∷_ (
+  39,
+  Mut.mslice
+      (KRouteRow.R)
+      (Syntax.tyRef Syntax.erased Syntax.mut (KRouteRow.named))
+      10,
+) (List._∷_ (
+  40,
+  Relend.msptr
+      (Referent.rtF (Referent.fInt Syntax.w8))
+      (Syntax.tyRef Syntax.erased Syntax.mut (Syntax.tyInt Syntax.w8))
+      11,
+) (List._∷_ (
+  41,
+  Rows'.any-gone
+      (Syntax.tyStruct
+      (List._∷_ 38 (List._∷_ 91 (List._∷_ 93 List.[])))
+      (Syntax.tcons
+      (Syntax.tyRef Syntax.erased Syntax.mut (Syntax.tyInt Syntax.w8))
+      (Syntax.tcons (Syntax.tyInt Syntax.w64) Syntax.tnil))),
+)
+    (List._∷_ (
+      42,
+      Rows'.any-gone (Syntax.tyRef Syntax.erased Syntax.mut (Syntax.tyInt Syntax.w8)),
     ) (List._∷_ (
-      47,
+      43,
+      Rows'.any-gone
+          (Syntax.tyStruct
+          (List._∷_ 38 (List._∷_ 91 (List._∷_ 93 List.[])))
+          (Syntax.tcons
+          (Syntax.tyRef Syntax.erased Syntax.mut (Syntax.tyInt Syntax.w8))
+          (Syntax.tcons (Syntax.tyInt Syntax.w64) Syntax.tnil))),
+    ) (List._∷_ (
+      44,
+      Rows'.any-gone
+          (Syntax.tyRef Syntax.erased Syntax.imm (KDecided.named)),
+    ) (List._∷_ (
+      45,
       Rows'.any-gone
           (Syntax.tyRef Syntax.erased Syntax.imm (KPost.named)),
-    ) List.[])))))))))))))))
+    ) (List._∷_ (
+      46,
+      Rows'.any-gone
+          (Syntax.tyRef Syntax.erased Syntax.imm (KPost.named)),
+    ) List.[]))))))))))))))
+
+abbrev pub t67 : List.List Row.Entry
+t67 = List._∷_ (32, Rows'.any-gone (Syntax.tyInt Syntax.w8)) (List._∷_ (
+  33,
+  Rows'.any-gone Syntax.tyBool,
+) (List._∷_ (34, Rows'.any-gone (KDecided.spelled)) (List._∷_ (
+  35,
+  Rows'.any-gone (KPost.spelled),
+) (List._∷_ (
+  36,
+  Rows'.any-gone
+      (Syntax.tyRef Syntax.erased Syntax.mut (KInstanceRow.named)),
+) (List._∷_ (
+  37,
+  Mut.mslice
+      (KInstanceRow.R)
+      (Syntax.tyRef Syntax.erased Syntax.mut (KInstanceRow.named))
+      9,
+) (List._∷_ (
+  38,
+  Rows'.any-gone
+      (Syntax.tyRef Syntax.erased Syntax.mut (KRouteRow.named)),
+) (List._∷_ (
+  39,
+  Mut.mslice
+      (KRouteRow.R)
+      (Syntax.tyRef Syntax.erased Syntax.mut (KRouteRow.named))
+      10,
+)
+    (List._∷_ (
+      40,
+      Rows'.any-gone (Syntax.tyRef Syntax.erased Syntax.mut (Syntax.tyInt Syntax.w8)),
+    ) (List._∷_ (
+      41,
+      Mut.mslice
+          (Referent.rtF (Referent.fInt Syntax.w8))
+          (Syntax.tyRef Syntax.erased Syntax.mut (Syntax.tyInt Syntax.w8))
+          11,
+    ) (List._∷_ (
+      42,
+      Rows'.any-gone (Syntax.tyRef Syntax.erased Syntax.mut (Syntax.tyInt Syntax.w8)),
+    ) (List._∷_ (
+      43,
+      Rows'.any-gone
+          (Syntax.tyStruct
+          (List._∷_ 38 (List._∷_ 91 (List._∷_ 93 List.[])))
+          (Syntax.tcons
+          (Syntax.tyRef Syntax.erased Syntax.mut (Syntax.tyInt Syntax.w8))
+          (Syntax.tcons (Syntax.tyInt Syntax.w64) Syntax.tnil))),
+    ) (List._∷_ (
+      44,
+      Rows'.any-gone
+          (Syntax.tyRef Syntax.erased Syntax.imm (KDecided.named)),
+    ) (List._∷_ (
+      45,
+      Rows'.any-gone
+          (Syntax.tyRef Syntax.erased Syntax.imm (KPost.named)),
+    ) (List._∷_ (
+      46,
+      Rows'.any-gone
+          (Syntax.tyRef Syntax.erased Syntax.imm (KPost.named)),
+    ) List.[]))))))))))))))
 
 abbrev pub t68 : List.List Row.Entry
 t68 = List._∷_ (
@@ -19501,10 +19140,12 @@ t68 = List._∷_ (
       Row.off,
 ) (List._∷_ (
   4,
-  Mut.mslice
+  Relend.mslice-owed
       (Referent.rtF (Referent.fInt Syntax.w8))
       (Syntax.tyRef (Syntax.named 3) Syntax.mut (Syntax.tyInt Syntax.w8))
-      3,
+      3
+      12
+      Row.off,
 ) (List._∷_ (5, Rows'.whole (Declared'.row Own.the-type)) (List._∷_ (
   6,
   Rows'.sc-here (Row.sInt Syntax.w64),
@@ -19588,548 +19229,50 @@ t68 = List._∷_ (
 ) List.[])))))))))))))))
 
 abbrev pub t69 : List.List Row.Entry
-t69 = List._∷_ (
-  32,
-  Rows'.any-gone
-      (Syntax.tyStruct
-      (List._∷_ 38 (List._∷_ 91 (List._∷_ 93 List.[])))
-      (Syntax.tcons
-      (Syntax.tyRef Syntax.erased Syntax.imm (KInstanceRow.named))
-      (Syntax.tcons (Syntax.tyInt Syntax.w64) Syntax.tnil))),
-) (List._∷_ (33, Rows'.any-gone (Syntax.tyInt Syntax.w8)) (List._∷_ (
-  34,
+t69 = List._∷_ (32, Rows'.any-gone (Syntax.tyInt Syntax.w8)) (List._∷_ (
+  33,
   Rows'.any-gone Syntax.tyBool,
-) (List._∷_ (35, Rows'.any-gone (KDecided.spelled)) (List._∷_ (
-  36,
+) (List._∷_ (34, Rows'.any-gone (KDecided.spelled)) (List._∷_ (
+  35,
   Rows'.any-gone (KPost.spelled),
 ) (List._∷_ (
-  37,
+  36,
   Rows'.any-gone
       (Syntax.tyRef Syntax.erased Syntax.mut (KInstanceRow.named)),
 ) (List._∷_ (
-  38,
+  37,
   Mut.mslice
       (KInstanceRow.R)
       (Syntax.tyRef Syntax.erased Syntax.mut (KInstanceRow.named))
       9,
 ) (List._∷_ (
-  39,
+  38,
   Rows'.any-gone
       (Syntax.tyRef Syntax.erased Syntax.mut (KRouteRow.named)),
 ) (List._∷_ (
-  40,
+  39,
   Mut.mslice
       (KRouteRow.R)
       (Syntax.tyRef Syntax.erased Syntax.mut (KRouteRow.named))
       10,
-) (List._∷_ (
-  41,
-  Relend.msptr
-      (Referent.rtF (Referent.fInt Syntax.w8))
-      (Syntax.tyRef Syntax.erased Syntax.mut (Syntax.tyInt Syntax.w8))
-      11,
-) (List._∷_ (
-  42,
-  Rows'.any-gone
-      (Syntax.tyStruct
-      (List._∷_ 38 (List._∷_ 91 (List._∷_ 93 List.[])))
-      (Syntax.tcons
-      (Syntax.tyRef Syntax.erased Syntax.mut (Syntax.tyInt Syntax.w8))
-      (Syntax.tcons (Syntax.tyInt Syntax.w64) Syntax.tnil))),
 )
     (List._∷_ (
-      43,
+      40,
       Rows'.any-gone (Syntax.tyRef Syntax.erased Syntax.mut (Syntax.tyInt Syntax.w8)),
     ) (List._∷_ (
-      44,
-      Rows'.any-gone
-          (Syntax.tyStruct
-          (List._∷_ 38 (List._∷_ 91 (List._∷_ 93 List.[])))
-          (Syntax.tcons
-          (Syntax.tyRef Syntax.erased Syntax.mut (Syntax.tyInt Syntax.w8))
-          (Syntax.tcons (Syntax.tyInt Syntax.w64) Syntax.tnil))),
-    ) (List._∷_ (
-      45,
-      Rows'.any-gone
-          (Syntax.tyRef Syntax.erased Syntax.imm (KDecided.named)),
-    ) (List._∷_ (
-      46,
-      Rows'.any-gone
-          (Syntax.tyRef Syntax.erased Syntax.imm (KPost.named)),
-    ) (List._∷_ (
-      47,
-      Rows'.any-gone
-          (Syntax.tyRef Syntax.erased Syntax.imm (KPost.named)),
-    ) List.[])))))))))))))))
-
-abbrev pub t70 : List.List Row.Entry
-t70 = List._∷_ (
-  32,
-  Rows'.any-gone
-      (Syntax.tyStruct
-      (List._∷_ 38 (List._∷_ 91 (List._∷_ 93 List.[])))
-      (Syntax.tcons
-      (Syntax.tyRef Syntax.erased Syntax.imm (KInstanceRow.named))
-      (Syntax.tcons (Syntax.tyInt Syntax.w64) Syntax.tnil))),
-) (List._∷_ (33, Rows'.any-gone (Syntax.tyInt Syntax.w8)) (List._∷_ (
-  34,
-  Rows'.any-gone Syntax.tyBool,
-) (List._∷_ (35, Rows'.any-gone (KDecided.spelled)) (List._∷_ (
-  36,
-  Rows'.any-gone (KPost.spelled),
-) (List._∷_ (
-  37,
-  Rows'.any-gone
-      (Syntax.tyRef Syntax.erased Syntax.mut (KInstanceRow.named)),
-) (List._∷_ (
-  38,
-  Mut.mslice
-      (KInstanceRow.R)
-      (Syntax.tyRef Syntax.erased Syntax.mut (KInstanceRow.named))
-      9,
-) (List._∷_ (
-  39,
-  Rows'.any-gone
-      (Syntax.tyRef Syntax.erased Syntax.mut (KRouteRow.named)),
-) (List._∷_ (
-  40,
-  Mut.mslice
-      (KRouteRow.R)
-      (Syntax.tyRef Syntax.erased Syntax.mut (KRouteRow.named))
-      10,
-)
-    (List._∷_ (
       41,
-      Rows'.any-gone (Syntax.tyRef Syntax.erased Syntax.mut (Syntax.tyInt Syntax.w8)),
-    ) (List._∷_ (
-      42,
       Mut.mslice
           (Referent.rtF (Referent.fInt Syntax.w8))
           (Syntax.tyRef Syntax.erased Syntax.mut (Syntax.tyInt Syntax.w8))
           11,
     ) (List._∷_ (
-      43,
-      Rows'.any-gone (Syntax.tyRef Syntax.erased Syntax.mut (Syntax.tyInt Syntax.w8)),
-    ) (List._∷_ (
-      44,
-      Rows'.any-gone
-          (Syntax.tyStruct
-          (List._∷_ 38 (List._∷_ 91 (List._∷_ 93 List.[])))
-          (Syntax.tcons
-          (Syntax.tyRef Syntax.erased Syntax.mut (Syntax.tyInt Syntax.w8))
-          (Syntax.tcons (Syntax.tyInt Syntax.w64) Syntax.tnil))),
-    ) (List._∷_ (
-      45,
-      Rows'.any-gone
-          (Syntax.tyRef Syntax.erased Syntax.imm (KDecided.named)),
-    ) (List._∷_ (
-      46,
-      Rows'.any-gone
-          (Syntax.tyRef Syntax.erased Syntax.imm (KPost.named)),
-    ) (List._∷_ (
-      47,
-      Rows'.any-gone
-          (Syntax.tyRef Syntax.erased Syntax.imm (KPost.named)),
-    ) List.[])))))))))))))))
-
-abbrev pub t71 : List.List Row.Entry
-t71 = List._∷_ (
-  0,
-  Rows'.any-gone
-      (Syntax.tyStruct
-      (List._∷_
-      102
-      (List._∷_
-      105
-      (List._∷_
-      110
-      (List._∷_
-      105
-      (List._∷_
-      115
-      (List._∷_
-      104
-      (List._∷_
-      58
-      (List._∷_
-      58
-      (List._∷_
-      79
-      (List._∷_
-      117
-      (List._∷_ 116 (List._∷_ 99 (List._∷_ 111 (List._∷_ 109 (List._∷_ 101 List.[])))))))))))))))
-      (Syntax.tcons
-      (Syntax.tyStruct
-      (List._∷_
-      102
-      (List._∷_
-      105
-      (List._∷_
-      110
-      (List._∷_
-      105
-      (List._∷_
-      115
-      (List._∷_
-      104
-      (List._∷_
-      58
-      (List._∷_ 58 (List._∷_ 83 (List._∷_ 101 (List._∷_ 110 (List._∷_ 116 List.[]))))))))))))
-      (Syntax.tcons
-      (Syntax.tyStruct
-      (List._∷_
-      97
-      (List._∷_
-      110
-      (List._∷_
-      115
-      (List._∷_
-      119
-      (List._∷_
-      101
-      (List._∷_
-      114
-      (List._∷_
-      58
-      (List._∷_
-      58
-      (List._∷_
-      68
-      (List._∷_
-      101
-      (List._∷_
-      115
-      (List._∷_
-      116
-      (List._∷_
-      105
-      (List._∷_
-      110
-      (List._∷_
-      97
-      (List._∷_ 116 (List._∷_ 105 (List._∷_ 111 (List._∷_ 110 List.[])))))))))))))))))))
-      (Syntax.tcons
-      (Syntax.tyArray (Syntax.tyInt Syntax.w8) 16)
-      (Syntax.tcons
-      (Syntax.tyEnum
-      (List._∷_
-      97
-      (List._∷_
-      110
-      (List._∷_
-      115
-      (List._∷_
-      119
-      (List._∷_
-      101
-      (List._∷_
-      114
-      (List._∷_ 58 (List._∷_ 58 (List._∷_ 87 (List._∷_ 97 (List._∷_ 121 List.[])))))))))))
-      (Syntax.ttcons
-      Syntax.tnil
-      (Syntax.ttcons
-      Syntax.tnil
-      (Syntax.ttcons Syntax.tnil (Syntax.ttcons Syntax.tnil Syntax.ttnil)))))
-      Syntax.tnil)))
-      (Syntax.tcons (Syntax.tyInt Syntax.w64) Syntax.tnil)))
-      (Syntax.tcons
-      (Syntax.tyInt Syntax.w64)
-      (Syntax.tcons
-      (Syntax.tyStruct
-      (List._∷_
-      102
-      (List._∷_
-      105
-      (List._∷_
-      110
-      (List._∷_
-      105
-      (List._∷_
-      115
-      (List._∷_
-      104
-      (List._∷_
-      58
-      (List._∷_ 58 (List._∷_ 83 (List._∷_ 101 (List._∷_ 110 (List._∷_ 116 List.[]))))))))))))
-      (Syntax.tcons
-      (Syntax.tyStruct
-      (List._∷_
-      97
-      (List._∷_
-      110
-      (List._∷_
-      115
-      (List._∷_
-      119
-      (List._∷_
-      101
-      (List._∷_
-      114
-      (List._∷_
-      58
-      (List._∷_
-      58
-      (List._∷_
-      68
-      (List._∷_
-      101
-      (List._∷_
-      115
-      (List._∷_
-      116
-      (List._∷_
-      105
-      (List._∷_
-      110
-      (List._∷_
-      97
-      (List._∷_ 116 (List._∷_ 105 (List._∷_ 111 (List._∷_ 110 List.[])))))))))))))))))))
-      (Syntax.tcons
-      (Syntax.tyArray (Syntax.tyInt Syntax.w8) 16)
-      (Syntax.tcons
-      (Syntax.tyEnum
-      (List._∷_
-      97
-      (List._∷_
-      110
-      (List._∷_
-      115
-      (List._∷_
-      119
-      (List._∷_
-      101
-      (List._∷_
-      114
-      (List._∷_ 58 (List._∷_ 58 (List._∷_ 87 (List._∷_ 97 (List._∷_ 121 List.[])))))))))))
-      (Syntax.ttcons
-      Syntax.tnil
-      (Syntax.ttcons
-      Syntax.tnil
-      (Syntax.ttcons Syntax.tnil (Syntax.ttcons Syntax.tnil Syntax.ttnil)))))
-      Syntax.tnil)))
-      (Syntax.tcons (Syntax.tyInt Syntax.w64) Syntax.tnil)))
-      (Syntax.tcons
-      (Syntax.tyEnum
-      (List._∷_
-      97
-      (List._∷_
-      110
-      (List._∷_
-      115
-      (List._∷_
-      119
-      (List._∷_
-      101
-      (List._∷_
-      114
-      (List._∷_
-      58
-      (List._∷_
-      58
-      (List._∷_
-      65
-      (List._∷_ 110 (List._∷_ 115 (List._∷_ 119 (List._∷_ 101 (List._∷_ 114 List.[]))))))))))))))
-      (Syntax.ttcons
-      Syntax.tnil
-      (Syntax.ttcons
-      Syntax.tnil
-      (Syntax.ttcons
-      Syntax.tnil
-      (Syntax.ttcons
-      Syntax.tnil
-      (Syntax.ttcons
-      Syntax.tnil
-      (Syntax.ttcons
-      Syntax.tnil
-      (Syntax.ttcons
-      Syntax.tnil
-      (Syntax.ttcons
-      Syntax.tnil
-      (Syntax.ttcons
-      Syntax.tnil
-      (Syntax.ttcons
-      Syntax.tnil
-      (Syntax.ttcons
-      Syntax.tnil
-      (Syntax.ttcons
-      Syntax.tnil
-      (Syntax.ttcons
-      Syntax.tnil
-      (Syntax.ttcons
-      Syntax.tnil
-      (Syntax.ttcons
-      Syntax.tnil
-      (Syntax.ttcons
-      Syntax.tnil
-      (Syntax.ttcons Syntax.tnil (Syntax.ttcons Syntax.tnil Syntax.ttnil)))))))))))))))))))
-      (Syntax.tcons (Syntax.tyInt Syntax.w8) Syntax.tnil)))))),
-) (List._∷_ (
-  1,
-  Relend.mslice-owed
-      (KInstanceRow.R)
-      (Syntax.tyRef (Syntax.named 0) Syntax.mut (KInstanceRow.named))
-      0
-      9
-      Row.off,
-) (List._∷_ (
-  2,
-  Relend.mslice-owed
-      (KRouteRow.R)
-      (Syntax.tyRef (Syntax.named 1) Syntax.mut (KRouteRow.named))
-      1
-      10
-      Row.off,
-) (List._∷_ (
-  3,
-  Relend.mslice-owed
-      (Referent.rtF (Referent.fInt Syntax.w8))
-      (Syntax.tyRef (Syntax.named 2) Syntax.mut (Syntax.tyInt Syntax.w8))
-      2
-      11
-      Row.off,
-) (List._∷_ (
-  4,
-  Relend.mslice-owed
-      (Referent.rtF (Referent.fInt Syntax.w8))
-      (Syntax.tyRef (Syntax.named 3) Syntax.mut (Syntax.tyInt Syntax.w8))
-      3
-      12
-      Row.off,
-) (List._∷_ (5, Rows'.whole (Declared'.row Own.the-type)) (List._∷_ (
-  6,
-  Rows'.sc-here (Row.sInt Syntax.w64),
-) (List._∷_ (7, Rows'.sc-here (Row.sInt Syntax.w8)) (List._∷_ (
-  8,
-  Rows'.sc-here (Row.sInt Syntax.w64),
-) (List._∷_ (
-  9,
-  Rows'.any-gone
-      (Syntax.tyStruct
-      (List._∷_
-      109
-      (List._∷_
-      101
-      (List._∷_
-      115
-      (List._∷_
-      115
-      (List._∷_
-      97
-      (List._∷_
-      103
-      (List._∷_
-      101
-      (List._∷_
-      58
-      (List._∷_ 58 (List._∷_ 76 (List._∷_ 105 (List._∷_ 110 (List._∷_ 107 List.[])))))))))))))
-      (Syntax.tcons
-      (Syntax.tyArray (Syntax.tyInt Syntax.w8) 16)
-      (Syntax.tcons
-      Syntax.tyBool
-      (Syntax.tcons
-      Syntax.tyBool
-      (Syntax.tcons (Syntax.tyInt Syntax.w16) (Syntax.tcons Syntax.tyBool Syntax.tnil)))))),
-) (List._∷_ (
-  10,
-  Rows'.sref
-      (KParsed.R)
-      (Syntax.tyRef (Syntax.named 4) Syntax.imm (KParsed.named))
-      4,
-) (List._∷_ (
-  11,
-  Rows'.sref
-      (Array'.Array (Array'.Array (Referent.rtF (Referent.fInt Syntax.w8)) 16) 16)
-      (Syntax.tyRef
-      (Syntax.named 5)
-      Syntax.imm
-      (Syntax.tyArray (Syntax.tyArray (Syntax.tyInt Syntax.w8) 16) 16))
-      5,
-) (List._∷_ (12, Rows'.sc-here (Row.sInt Syntax.w8)) (List._∷_ (
-  13,
-  Rows'.any-gone (Syntax.tyArray (Syntax.tyInt Syntax.w8) 16),
-) (List._∷_ (14, Rows'.any-gone (Syntax.tyArray (Syntax.tyInt Syntax.w8) 16)) (List._∷_ (
-  15,
-  Rows'.any-gone
-      (Syntax.tyStruct
-      (List._∷_
-      109
-      (List._∷_
-      101
-      (List._∷_
-      115
-      (List._∷_
-      115
-      (List._∷_
-      97
-      (List._∷_
-      103
-      (List._∷_
-      101
-      (List._∷_
-      58
-      (List._∷_
-      58
-      (List._∷_ 70 (List._∷_ 111 (List._∷_ 117 (List._∷_ 110 (List._∷_ 100 List.[]))))))))))))))
-      (Syntax.tcons
-      Syntax.tyBool
-      (Syntax.tcons
-      (Syntax.tyInt Syntax.w64)
-      (Syntax.tcons (KInstanceRow.spelled) Syntax.tnil)))),
-) List.[])))))))))))))))
-
-abbrev pub t72 : List.List Row.Entry
-t72 = List._∷_ (
-  32,
-  Rows'.any-gone
-      (Syntax.tyStruct
-      (List._∷_ 38 (List._∷_ 91 (List._∷_ 93 List.[])))
-      (Syntax.tcons
-      (Syntax.tyRef Syntax.erased Syntax.imm (KInstanceRow.named))
-      (Syntax.tcons (Syntax.tyInt Syntax.w64) Syntax.tnil))),
-) (List._∷_ (33, Rows'.any-gone (Syntax.tyInt Syntax.w8)) (List._∷_ (
-  34,
-  Rows'.any-gone Syntax.tyBool,
-) (List._∷_ (35, Rows'.any-gone (KDecided.spelled)) (List._∷_ (
-  36,
-  Rows'.any-gone (KPost.spelled),
-) (List._∷_ (
-  37,
-  Rows'.any-gone
-      (Syntax.tyRef Syntax.erased Syntax.mut (KInstanceRow.named)),
-) (List._∷_ (
-  38,
-  Mut.mslice
-      (KInstanceRow.R)
-      (Syntax.tyRef Syntax.erased Syntax.mut (KInstanceRow.named))
-      9,
-) (List._∷_ (
-  39,
-  Rows'.any-gone
-      (Syntax.tyRef Syntax.erased Syntax.mut (KRouteRow.named)),
-) (List._∷_ (
-  40,
-  Mut.mslice
-      (KRouteRow.R)
-      (Syntax.tyRef Syntax.erased Syntax.mut (KRouteRow.named))
-      10,
-)
-    (List._∷_ (
-      41,
-      Rows'.any-gone (Syntax.tyRef Syntax.erased Syntax.mut (Syntax.tyInt Syntax.w8)),
-    ) (List._∷_ (
       42,
-      Mut.mslice
-          (Referent.rtF (Referent.fInt Syntax.w8))
-          (Syntax.tyRef Syntax.erased Syntax.mut (Syntax.tyInt Syntax.w8))
-          11,
-    ) (List._∷_ (
-      43,
       Relend.msptr
           (Referent.rtF (Referent.fInt Syntax.w8))
           (Syntax.tyRef Syntax.erased Syntax.mut (Syntax.tyInt Syntax.w8))
           12,
     ) (List._∷_ (
-      44,
+      43,
       Rows'.any-gone
           (Syntax.tyStruct
           (List._∷_ 38 (List._∷_ 91 (List._∷_ 93 List.[])))
@@ -20137,89 +19280,81 @@ t72 = List._∷_ (
           (Syntax.tyRef Syntax.erased Syntax.mut (Syntax.tyInt Syntax.w8))
           (Syntax.tcons (Syntax.tyInt Syntax.w64) Syntax.tnil))),
     ) (List._∷_ (
-      45,
+      44,
       Rows'.any-gone
           (Syntax.tyRef Syntax.erased Syntax.imm (KDecided.named)),
+    ) (List._∷_ (
+      45,
+      Rows'.any-gone
+          (Syntax.tyRef Syntax.erased Syntax.imm (KPost.named)),
     ) (List._∷_ (
       46,
       Rows'.any-gone
           (Syntax.tyRef Syntax.erased Syntax.imm (KPost.named)),
-    ) (List._∷_ (
-      47,
-      Rows'.any-gone
-          (Syntax.tyRef Syntax.erased Syntax.imm (KPost.named)),
-    ) List.[])))))))))))))))
+    ) List.[]))))))))))))))
 
-abbrev pub t73 : List.List Row.Entry
-t73 = List._∷_ (
-  32,
-  Rows'.any-gone
-      (Syntax.tyStruct
-      (List._∷_ 38 (List._∷_ 91 (List._∷_ 93 List.[])))
-      (Syntax.tcons
-      (Syntax.tyRef Syntax.erased Syntax.imm (KInstanceRow.named))
-      (Syntax.tcons (Syntax.tyInt Syntax.w64) Syntax.tnil))),
-) (List._∷_ (33, Rows'.any-gone (Syntax.tyInt Syntax.w8)) (List._∷_ (
-  34,
+abbrev pub t70 : List.List Row.Entry
+t70 = List._∷_ (32, Rows'.any-gone (Syntax.tyInt Syntax.w8)) (List._∷_ (
+  33,
   Rows'.any-gone Syntax.tyBool,
-) (List._∷_ (35, Rows'.any-gone (KDecided.spelled)) (List._∷_ (
-  36,
+) (List._∷_ (34, Rows'.any-gone (KDecided.spelled)) (List._∷_ (
+  35,
   Rows'.any-gone (KPost.spelled),
 ) (List._∷_ (
-  37,
+  36,
   Rows'.any-gone
       (Syntax.tyRef Syntax.erased Syntax.mut (KInstanceRow.named)),
 ) (List._∷_ (
-  38,
+  37,
   Mut.mslice
       (KInstanceRow.R)
       (Syntax.tyRef Syntax.erased Syntax.mut (KInstanceRow.named))
       9,
 ) (List._∷_ (
-  39,
+  38,
   Rows'.any-gone
       (Syntax.tyRef Syntax.erased Syntax.mut (KRouteRow.named)),
 ) (List._∷_ (
-  40,
+  39,
   Mut.mslice
       (KRouteRow.R)
       (Syntax.tyRef Syntax.erased Syntax.mut (KRouteRow.named))
       10,
 )
     (List._∷_ (
-      41,
+      40,
       Rows'.any-gone (Syntax.tyRef Syntax.erased Syntax.mut (Syntax.tyInt Syntax.w8)),
     ) (List._∷_ (
-      42,
+      41,
       Mut.mslice
           (Referent.rtF (Referent.fInt Syntax.w8))
           (Syntax.tyRef Syntax.erased Syntax.mut (Syntax.tyInt Syntax.w8))
           11,
     ) (List._∷_ (
-      43,
+      42,
       Rows'.any-gone (Syntax.tyRef Syntax.erased Syntax.mut (Syntax.tyInt Syntax.w8)),
     ) (List._∷_ (
-      44,
+      43,
       Mut.mslice
           (Referent.rtF (Referent.fInt Syntax.w8))
           (Syntax.tyRef Syntax.erased Syntax.mut (Syntax.tyInt Syntax.w8))
           12,
     ) (List._∷_ (
-      45,
+      44,
       Rows'.any-gone
           (Syntax.tyRef Syntax.erased Syntax.imm (KDecided.named)),
+    ) (List._∷_ (
+      45,
+      Rows'.any-gone
+          (Syntax.tyRef Syntax.erased Syntax.imm (KPost.named)),
     ) (List._∷_ (
       46,
       Rows'.any-gone
           (Syntax.tyRef Syntax.erased Syntax.imm (KPost.named)),
-    ) (List._∷_ (
-      47,
-      Rows'.any-gone
-          (Syntax.tyRef Syntax.erased Syntax.imm (KPost.named)),
-    ) List.[])))))))))))))))
+    ) List.[]))))))))))))))
 
-abbrev pub t74 : List.List Row.Entry
-t74 = List._∷_ (
+abbrev pub t71 : List.List Row.Entry
+t71 = List._∷_ (
   16,
   Rows'.any-gone
       (Syntax.tyStruct
@@ -20259,8 +19394,8 @@ t74 = List._∷_ (
       (Syntax.tcons
       (Syntax.tyInt Syntax.w64)
       (Syntax.tcons (KRouteRow.spelled) Syntax.tnil)))),
-) (List._∷_ (17, Rows'.sc-here Row.sBool) (List._∷_ (
-  18,
+) (List._∷_ (
+  17,
   Rows'.any-gone
       (Syntax.tyStruct
       (List._∷_
@@ -20292,7 +19427,7 @@ t74 = List._∷_ (
       (List._∷_ 68 (List._∷_ 101 (List._∷_ 108 (List._∷_ 116 (List._∷_ 97 List.[]))))))))))))))))))
       (Syntax.tcons Syntax.tyBool (Syntax.tcons (Syntax.tyInt Syntax.w8) Syntax.tnil))),
 ) (List._∷_ (
-  19,
+  18,
   Rows'.any-gone
       (Syntax.tyStruct
       (List._∷_
@@ -20508,7 +19643,7 @@ t74 = List._∷_ (
       (Syntax.tcons Syntax.tyBool (Syntax.tcons (Syntax.tyInt Syntax.w8) Syntax.tnil)))
       Syntax.tnil)))))))),
 ) (List._∷_ (
-  20,
+  19,
   Rows'.any-gone
       (Syntax.tyEnum
       (List._∷_
@@ -20564,24 +19699,24 @@ t74 = List._∷_ (
       Syntax.tnil
       (Syntax.ttcons Syntax.tnil (Syntax.ttcons Syntax.tnil Syntax.ttnil))))))))))))))))))),
 ) (List._∷_ (
-  21,
+  20,
   Rows'.sc-shr
       (KDecided.row)
       (KDecided.R)
       (λ x. x)
       13,
-) (List._∷_ (22, KPost.row) (List._∷_ (
-  23,
+) (List._∷_ (21, KPost.row) (List._∷_ (
+  22,
   KPost.row,
-) (List._∷_ (24, Rows'.whole (Declared'.row Live.the-type)) (List._∷_ (
-  25,
+) (List._∷_ (23, Rows'.whole (Declared'.row Live.the-type)) (List._∷_ (
+  24,
   Rows'.any-gone Syntax.tyUnit,
-) (List._∷_ (26, Rows'.any-gone (KParsed.spelled)) (List._∷_ (
-  27,
+) (List._∷_ (25, Rows'.any-gone (KParsed.spelled)) (List._∷_ (
+  26,
   Rows'.any-gone
       (Syntax.tyRef Syntax.erased Syntax.imm (KInstanceRow.named)),
 ) (List._∷_ (
-  28,
+  27,
   Rows'.any-gone
       (Syntax.tyStruct
       (List._∷_ 38 (List._∷_ 91 (List._∷_ 93 List.[])))
@@ -20589,11 +19724,11 @@ t74 = List._∷_ (
       (Syntax.tyRef Syntax.erased Syntax.imm (KInstanceRow.named))
       (Syntax.tcons (Syntax.tyInt Syntax.w64) Syntax.tnil))),
 ) (List._∷_ (
-  29,
+  28,
   Rows'.any-gone
       (Syntax.tyRef Syntax.erased Syntax.imm (KRouteRow.named)),
 ) (List._∷_ (
-  30,
+  29,
   Rows'.any-gone
       (Syntax.tyStruct
       (List._∷_ 38 (List._∷_ 91 (List._∷_ 93 List.[])))
@@ -20601,83 +19736,83 @@ t74 = List._∷_ (
       (Syntax.tyRef Syntax.erased Syntax.imm (KRouteRow.named))
       (Syntax.tcons (Syntax.tyInt Syntax.w64) Syntax.tnil))),
 ) (List._∷_ (
-  31,
+  30,
   Rows'.any-gone
       (Syntax.tyRef Syntax.erased Syntax.imm (KInstanceRow.named)),
-) List.[])))))))))))))))
-
-abbrev pub t75 : List.List Row.Entry
-t75 = List._∷_ (
-  32,
+) (List._∷_ (
+  31,
   Rows'.any-gone
       (Syntax.tyStruct
       (List._∷_ 38 (List._∷_ 91 (List._∷_ 93 List.[])))
       (Syntax.tcons
       (Syntax.tyRef Syntax.erased Syntax.imm (KInstanceRow.named))
       (Syntax.tcons (Syntax.tyInt Syntax.w64) Syntax.tnil))),
-) (List._∷_ (33, Rows'.any-gone (Syntax.tyInt Syntax.w8)) (List._∷_ (
-  34,
+) List.[])))))))))))))))
+
+abbrev pub t72 : List.List Row.Entry
+t72 = List._∷_ (32, Rows'.any-gone (Syntax.tyInt Syntax.w8)) (List._∷_ (
+  33,
   Rows'.any-gone Syntax.tyBool,
-) (List._∷_ (35, Rows'.any-gone (KDecided.spelled)) (List._∷_ (
-  36,
+) (List._∷_ (34, Rows'.any-gone (KDecided.spelled)) (List._∷_ (
+  35,
   Rows'.any-gone (KPost.spelled),
 ) (List._∷_ (
-  37,
+  36,
   Rows'.any-gone
       (Syntax.tyRef Syntax.erased Syntax.mut (KInstanceRow.named)),
 ) (List._∷_ (
-  38,
+  37,
   Mut.mslice
       (KInstanceRow.R)
       (Syntax.tyRef Syntax.erased Syntax.mut (KInstanceRow.named))
       9,
 ) (List._∷_ (
-  39,
+  38,
   Rows'.any-gone
       (Syntax.tyRef Syntax.erased Syntax.mut (KRouteRow.named)),
 ) (List._∷_ (
-  40,
+  39,
   Mut.mslice
       (KRouteRow.R)
       (Syntax.tyRef Syntax.erased Syntax.mut (KRouteRow.named))
       10,
 )
     (List._∷_ (
-      41,
+      40,
       Rows'.any-gone (Syntax.tyRef Syntax.erased Syntax.mut (Syntax.tyInt Syntax.w8)),
     ) (List._∷_ (
-      42,
+      41,
       Mut.mslice
           (Referent.rtF (Referent.fInt Syntax.w8))
           (Syntax.tyRef Syntax.erased Syntax.mut (Syntax.tyInt Syntax.w8))
           11,
     ) (List._∷_ (
-      43,
+      42,
       Rows'.any-gone (Syntax.tyRef Syntax.erased Syntax.mut (Syntax.tyInt Syntax.w8)),
     ) (List._∷_ (
-      44,
+      43,
       Mut.mslice
           (Referent.rtF (Referent.fInt Syntax.w8))
           (Syntax.tyRef Syntax.erased Syntax.mut (Syntax.tyInt Syntax.w8))
           12,
     ) (List._∷_ (
-      45,
+      44,
       Rows'.sref
           (KDecided.R)
           (Syntax.tyRef Syntax.erased Syntax.imm (KDecided.named))
           13,
     ) (List._∷_ (
-      46,
+      45,
       Rows'.any-gone
           (Syntax.tyRef Syntax.erased Syntax.imm (KPost.named)),
     ) (List._∷_ (
-      47,
+      46,
       Rows'.any-gone
           (Syntax.tyRef Syntax.erased Syntax.imm (KPost.named)),
-    ) List.[])))))))))))))))
+    ) List.[]))))))))))))))
 
-abbrev pub t76 : List.List Row.Entry
-t76 = List._∷_ (
+abbrev pub t73 : List.List Row.Entry
+t73 = List._∷_ (
   16,
   Rows'.any-gone
       (Syntax.tyStruct
@@ -20717,8 +19852,8 @@ t76 = List._∷_ (
       (Syntax.tcons
       (Syntax.tyInt Syntax.w64)
       (Syntax.tcons (KRouteRow.spelled) Syntax.tnil)))),
-) (List._∷_ (17, Rows'.sc-here Row.sBool) (List._∷_ (
-  18,
+) (List._∷_ (
+  17,
   Rows'.any-gone
       (Syntax.tyStruct
       (List._∷_
@@ -20750,7 +19885,7 @@ t76 = List._∷_ (
       (List._∷_ 68 (List._∷_ 101 (List._∷_ 108 (List._∷_ 116 (List._∷_ 97 List.[]))))))))))))))))))
       (Syntax.tcons Syntax.tyBool (Syntax.tcons (Syntax.tyInt Syntax.w8) Syntax.tnil))),
 ) (List._∷_ (
-  19,
+  18,
   Rows'.any-gone
       (Syntax.tyStruct
       (List._∷_
@@ -20966,7 +20101,7 @@ t76 = List._∷_ (
       (Syntax.tcons Syntax.tyBool (Syntax.tcons (Syntax.tyInt Syntax.w8) Syntax.tnil)))
       Syntax.tnil)))))))),
 ) (List._∷_ (
-  20,
+  19,
   Rows'.any-gone
       (Syntax.tyEnum
       (List._∷_
@@ -21022,31 +20157,31 @@ t76 = List._∷_ (
       Syntax.tnil
       (Syntax.ttcons Syntax.tnil (Syntax.ttcons Syntax.tnil Syntax.ttnil))))))))))))))))))),
 ) (List._∷_ (
-  21,
+  20,
   Rows'.sc-shr
       (KDecided.row)
       (KDecided.R)
       (λ x. x)
       13,
 ) (List._∷_ (
-  22,
+  21,
   Rows'.sc-shr
       (KPost.row)
       (KPost.R)
       (λ x. x)
       14,
-) (List._∷_ (23, KPost.row) (List._∷_ (
-  24,
+) (List._∷_ (22, KPost.row) (List._∷_ (
+  23,
   Rows'.whole (Declared'.row Live.the-type),
-) (List._∷_ (25, Rows'.any-gone Syntax.tyUnit) (List._∷_ (
-  26,
+) (List._∷_ (24, Rows'.any-gone Syntax.tyUnit) (List._∷_ (
+  25,
   Rows'.any-gone (KParsed.spelled),
 ) (List._∷_ (
-  27,
+  26,
   Rows'.any-gone
       (Syntax.tyRef Syntax.erased Syntax.imm (KInstanceRow.named)),
 ) (List._∷_ (
-  28,
+  27,
   Rows'.any-gone
       (Syntax.tyStruct
       (List._∷_ 38 (List._∷_ 91 (List._∷_ 93 List.[])))
@@ -21054,11 +20189,11 @@ t76 = List._∷_ (
       (Syntax.tyRef Syntax.erased Syntax.imm (KInstanceRow.named))
       (Syntax.tcons (Syntax.tyInt Syntax.w64) Syntax.tnil))),
 ) (List._∷_ (
-  29,
+  28,
   Rows'.any-gone
       (Syntax.tyRef Syntax.erased Syntax.imm (KRouteRow.named)),
 ) (List._∷_ (
-  30,
+  29,
   Rows'.any-gone
       (Syntax.tyStruct
       (List._∷_ 38 (List._∷_ 91 (List._∷_ 93 List.[])))
@@ -21066,85 +20201,85 @@ t76 = List._∷_ (
       (Syntax.tyRef Syntax.erased Syntax.imm (KRouteRow.named))
       (Syntax.tcons (Syntax.tyInt Syntax.w64) Syntax.tnil))),
 ) (List._∷_ (
-  31,
+  30,
   Rows'.any-gone
       (Syntax.tyRef Syntax.erased Syntax.imm (KInstanceRow.named)),
-) List.[])))))))))))))))
-
-abbrev pub t77 : List.List Row.Entry
-t77 = List._∷_ (
-  32,
+) (List._∷_ (
+  31,
   Rows'.any-gone
       (Syntax.tyStruct
       (List._∷_ 38 (List._∷_ 91 (List._∷_ 93 List.[])))
       (Syntax.tcons
       (Syntax.tyRef Syntax.erased Syntax.imm (KInstanceRow.named))
       (Syntax.tcons (Syntax.tyInt Syntax.w64) Syntax.tnil))),
-) (List._∷_ (33, Rows'.any-gone (Syntax.tyInt Syntax.w8)) (List._∷_ (
-  34,
+) List.[])))))))))))))))
+
+abbrev pub t74 : List.List Row.Entry
+t74 = List._∷_ (32, Rows'.any-gone (Syntax.tyInt Syntax.w8)) (List._∷_ (
+  33,
   Rows'.any-gone Syntax.tyBool,
-) (List._∷_ (35, Rows'.any-gone (KDecided.spelled)) (List._∷_ (
-  36,
+) (List._∷_ (34, Rows'.any-gone (KDecided.spelled)) (List._∷_ (
+  35,
   Rows'.any-gone (KPost.spelled),
 ) (List._∷_ (
-  37,
+  36,
   Rows'.any-gone
       (Syntax.tyRef Syntax.erased Syntax.mut (KInstanceRow.named)),
 ) (List._∷_ (
-  38,
+  37,
   Mut.mslice
       (KInstanceRow.R)
       (Syntax.tyRef Syntax.erased Syntax.mut (KInstanceRow.named))
       9,
 ) (List._∷_ (
-  39,
+  38,
   Rows'.any-gone
       (Syntax.tyRef Syntax.erased Syntax.mut (KRouteRow.named)),
 ) (List._∷_ (
-  40,
+  39,
   Mut.mslice
       (KRouteRow.R)
       (Syntax.tyRef Syntax.erased Syntax.mut (KRouteRow.named))
       10,
 )
     (List._∷_ (
-      41,
+      40,
       Rows'.any-gone (Syntax.tyRef Syntax.erased Syntax.mut (Syntax.tyInt Syntax.w8)),
     ) (List._∷_ (
-      42,
+      41,
       Mut.mslice
           (Referent.rtF (Referent.fInt Syntax.w8))
           (Syntax.tyRef Syntax.erased Syntax.mut (Syntax.tyInt Syntax.w8))
           11,
     ) (List._∷_ (
-      43,
+      42,
       Rows'.any-gone (Syntax.tyRef Syntax.erased Syntax.mut (Syntax.tyInt Syntax.w8)),
     ) (List._∷_ (
-      44,
+      43,
       Mut.mslice
           (Referent.rtF (Referent.fInt Syntax.w8))
           (Syntax.tyRef Syntax.erased Syntax.mut (Syntax.tyInt Syntax.w8))
           12,
     ) (List._∷_ (
-      45,
+      44,
       Rows'.sref
           (KDecided.R)
           (Syntax.tyRef Syntax.erased Syntax.imm (KDecided.named))
           13,
     ) (List._∷_ (
-      46,
+      45,
       Rows'.sref
           (KPost.R)
           (Syntax.tyRef Syntax.erased Syntax.imm (KPost.named))
           14,
     ) (List._∷_ (
-      47,
+      46,
       Rows'.any-gone
           (Syntax.tyRef Syntax.erased Syntax.imm (KPost.named)),
-    ) List.[])))))))))))))))
+    ) List.[]))))))))))))))
 
-abbrev pub t78 : List.List Row.Entry
-t78 = List._∷_ (
+abbrev pub t75 : List.List Row.Entry
+t75 = List._∷_ (
   16,
   Rows'.any-gone
       (Syntax.tyStruct
@@ -21184,8 +20319,8 @@ t78 = List._∷_ (
       (Syntax.tcons
       (Syntax.tyInt Syntax.w64)
       (Syntax.tcons (KRouteRow.spelled) Syntax.tnil)))),
-) (List._∷_ (17, Rows'.sc-here Row.sBool) (List._∷_ (
-  18,
+) (List._∷_ (
+  17,
   Rows'.any-gone
       (Syntax.tyStruct
       (List._∷_
@@ -21217,7 +20352,7 @@ t78 = List._∷_ (
       (List._∷_ 68 (List._∷_ 101 (List._∷_ 108 (List._∷_ 116 (List._∷_ 97 List.[]))))))))))))))))))
       (Syntax.tcons Syntax.tyBool (Syntax.tcons (Syntax.tyInt Syntax.w8) Syntax.tnil))),
 ) (List._∷_ (
-  19,
+  18,
   Rows'.any-gone
       (Syntax.tyStruct
       (List._∷_
@@ -21433,7 +20568,7 @@ t78 = List._∷_ (
       (Syntax.tcons Syntax.tyBool (Syntax.tcons (Syntax.tyInt Syntax.w8) Syntax.tnil)))
       Syntax.tnil)))))))),
 ) (List._∷_ (
-  20,
+  19,
   Rows'.any-gone
       (Syntax.tyEnum
       (List._∷_
@@ -21489,35 +20624,35 @@ t78 = List._∷_ (
       Syntax.tnil
       (Syntax.ttcons Syntax.tnil (Syntax.ttcons Syntax.tnil Syntax.ttnil))))))))))))))))))),
 ) (List._∷_ (
-  21,
+  20,
   Rows'.sc-shr
       (KDecided.row)
       (KDecided.R)
       (λ x. x)
       13,
 ) (List._∷_ (
-  22,
+  21,
   Rows'.sc-shr
       (KPost.row)
       (KPost.R)
       (λ x. x)
       14,
 ) (List._∷_ (
-  23,
+  22,
   Rows'.sc-shr
       (KPost.row)
       (KPost.R)
       (λ x. x)
       15,
-) (List._∷_ (24, Rows'.whole (Declared'.row Live.the-type)) (List._∷_ (
-  25,
+) (List._∷_ (23, Rows'.whole (Declared'.row Live.the-type)) (List._∷_ (
+  24,
   Rows'.any-gone Syntax.tyUnit,
-) (List._∷_ (26, Rows'.any-gone (KParsed.spelled)) (List._∷_ (
-  27,
+) (List._∷_ (25, Rows'.any-gone (KParsed.spelled)) (List._∷_ (
+  26,
   Rows'.any-gone
       (Syntax.tyRef Syntax.erased Syntax.imm (KInstanceRow.named)),
 ) (List._∷_ (
-  28,
+  27,
   Rows'.any-gone
       (Syntax.tyStruct
       (List._∷_ 38 (List._∷_ 91 (List._∷_ 93 List.[])))
@@ -21525,11 +20660,11 @@ t78 = List._∷_ (
       (Syntax.tyRef Syntax.erased Syntax.imm (KInstanceRow.named))
       (Syntax.tcons (Syntax.tyInt Syntax.w64) Syntax.tnil))),
 ) (List._∷_ (
-  29,
+  28,
   Rows'.any-gone
       (Syntax.tyRef Syntax.erased Syntax.imm (KRouteRow.named)),
 ) (List._∷_ (
-  30,
+  29,
   Rows'.any-gone
       (Syntax.tyStruct
       (List._∷_ 38 (List._∷_ 91 (List._∷_ 93 List.[])))
@@ -21537,87 +20672,87 @@ t78 = List._∷_ (
       (Syntax.tyRef Syntax.erased Syntax.imm (KRouteRow.named))
       (Syntax.tcons (Syntax.tyInt Syntax.w64) Syntax.tnil))),
 ) (List._∷_ (
-  31,
+  30,
   Rows'.any-gone
       (Syntax.tyRef Syntax.erased Syntax.imm (KInstanceRow.named)),
-) List.[])))))))))))))))
-
-abbrev pub t79 : List.List Row.Entry
-t79 = List._∷_ (
-  32,
+) (List._∷_ (
+  31,
   Rows'.any-gone
       (Syntax.tyStruct
       (List._∷_ 38 (List._∷_ 91 (List._∷_ 93 List.[])))
       (Syntax.tcons
       (Syntax.tyRef Syntax.erased Syntax.imm (KInstanceRow.named))
       (Syntax.tcons (Syntax.tyInt Syntax.w64) Syntax.tnil))),
-) (List._∷_ (33, Rows'.any-gone (Syntax.tyInt Syntax.w8)) (List._∷_ (
-  34,
+) List.[])))))))))))))))
+
+abbrev pub t76 : List.List Row.Entry
+t76 = List._∷_ (32, Rows'.any-gone (Syntax.tyInt Syntax.w8)) (List._∷_ (
+  33,
   Rows'.any-gone Syntax.tyBool,
-) (List._∷_ (35, Rows'.any-gone (KDecided.spelled)) (List._∷_ (
-  36,
+) (List._∷_ (34, Rows'.any-gone (KDecided.spelled)) (List._∷_ (
+  35,
   Rows'.any-gone (KPost.spelled),
 ) (List._∷_ (
-  37,
+  36,
   Rows'.any-gone
       (Syntax.tyRef Syntax.erased Syntax.mut (KInstanceRow.named)),
 ) (List._∷_ (
-  38,
+  37,
   Mut.mslice
       (KInstanceRow.R)
       (Syntax.tyRef Syntax.erased Syntax.mut (KInstanceRow.named))
       9,
 ) (List._∷_ (
-  39,
+  38,
   Rows'.any-gone
       (Syntax.tyRef Syntax.erased Syntax.mut (KRouteRow.named)),
 ) (List._∷_ (
-  40,
+  39,
   Mut.mslice
       (KRouteRow.R)
       (Syntax.tyRef Syntax.erased Syntax.mut (KRouteRow.named))
       10,
 )
     (List._∷_ (
-      41,
+      40,
       Rows'.any-gone (Syntax.tyRef Syntax.erased Syntax.mut (Syntax.tyInt Syntax.w8)),
     ) (List._∷_ (
-      42,
+      41,
       Mut.mslice
           (Referent.rtF (Referent.fInt Syntax.w8))
           (Syntax.tyRef Syntax.erased Syntax.mut (Syntax.tyInt Syntax.w8))
           11,
     ) (List._∷_ (
-      43,
+      42,
       Rows'.any-gone (Syntax.tyRef Syntax.erased Syntax.mut (Syntax.tyInt Syntax.w8)),
     ) (List._∷_ (
-      44,
+      43,
       Mut.mslice
           (Referent.rtF (Referent.fInt Syntax.w8))
           (Syntax.tyRef Syntax.erased Syntax.mut (Syntax.tyInt Syntax.w8))
           12,
     ) (List._∷_ (
-      45,
+      44,
       Rows'.sref
           (KDecided.R)
           (Syntax.tyRef Syntax.erased Syntax.imm (KDecided.named))
           13,
     ) (List._∷_ (
-      46,
+      45,
       Rows'.sref
           (KPost.R)
           (Syntax.tyRef Syntax.erased Syntax.imm (KPost.named))
           14,
     ) (List._∷_ (
-      47,
+      46,
       Rows'.sref
           (KPost.R)
           (Syntax.tyRef Syntax.erased Syntax.imm (KPost.named))
           15,
-    ) List.[])))))))))))))))
+    ) List.[]))))))))))))))
 
-abbrev pub t80 : List.List Row.Entry
-t80 = List._∷_ (0, Rows'.whole (Declared'.row Outcome.the-type)) (List._∷_ (
+abbrev pub t77 : List.List Row.Entry
+t77 = List._∷_ (0, Rows'.whole (Declared'.row Outcome.the-type)) (List._∷_ (
   1,
   Relend.mslice-owed
       (KInstanceRow.R)
@@ -21731,276 +20866,244 @@ t80 = List._∷_ (0, Rows'.whole (Declared'.row Outcome.the-type)) (List._∷_ (
       (Syntax.tcons (KInstanceRow.spelled) Syntax.tnil)))),
 ) List.[])))))))))))))))
 
-abbrev pub t81 : List.List Row.Entry
-t81 = List._∷_ (
-  32,
-  Rows'.any-gone
-      (Syntax.tyStruct
-      (List._∷_ 38 (List._∷_ 91 (List._∷_ 93 List.[])))
-      (Syntax.tcons
-      (Syntax.tyRef Syntax.erased Syntax.imm (KInstanceRow.named))
-      (Syntax.tcons (Syntax.tyInt Syntax.w64) Syntax.tnil))),
-) (List._∷_ (33, Rows'.any-gone (Syntax.tyInt Syntax.w8)) (List._∷_ (
-  34,
+abbrev pub t78 : List.List Row.Entry
+t78 = List._∷_ (32, Rows'.any-gone (Syntax.tyInt Syntax.w8)) (List._∷_ (
+  33,
   Rows'.any-gone Syntax.tyBool,
-) (List._∷_ (35, Rows'.any-gone (KDecided.spelled)) (List._∷_ (
-  36,
+) (List._∷_ (34, Rows'.any-gone (KDecided.spelled)) (List._∷_ (
+  35,
   Rows'.any-gone (KPost.spelled),
 ) (List._∷_ (
-  37,
+  36,
   Rows'.any-gone
       (Syntax.tyRef Syntax.erased Syntax.mut (KInstanceRow.named)),
 ) (List._∷_ (
-  38,
+  37,
   Mut.msleft
       (KInstanceRow.R)
       (Syntax.tyRef Syntax.erased Syntax.mut (KInstanceRow.named)),
 ) (List._∷_ (
-  39,
+  38,
   Rows'.any-gone
       (Syntax.tyRef Syntax.erased Syntax.mut (KRouteRow.named)),
 ) (List._∷_ (
-  40,
+  39,
   Mut.msleft
       (KRouteRow.R)
       (Syntax.tyRef Syntax.erased Syntax.mut (KRouteRow.named)),
 )
     (List._∷_ (
-      41,
+      40,
       Rows'.any-gone (Syntax.tyRef Syntax.erased Syntax.mut (Syntax.tyInt Syntax.w8)),
+    ) (List._∷_ (
+      41,
+      Mut.msleft
+          (Referent.rtF (Referent.fInt Syntax.w8))
+          (Syntax.tyRef Syntax.erased Syntax.mut (Syntax.tyInt Syntax.w8)),
     ) (List._∷_ (
       42,
-      Mut.msleft
-          (Referent.rtF (Referent.fInt Syntax.w8))
-          (Syntax.tyRef Syntax.erased Syntax.mut (Syntax.tyInt Syntax.w8)),
-    ) (List._∷_ (
-      43,
       Rows'.any-gone (Syntax.tyRef Syntax.erased Syntax.mut (Syntax.tyInt Syntax.w8)),
     ) (List._∷_ (
-      44,
+      43,
       Mut.msleft
           (Referent.rtF (Referent.fInt Syntax.w8))
           (Syntax.tyRef Syntax.erased Syntax.mut (Syntax.tyInt Syntax.w8)),
     ) (List._∷_ (
-      45,
+      44,
       Rows'.sref
           (KDecided.R)
           (Syntax.tyRef Syntax.erased Syntax.imm (KDecided.named))
           13,
     ) (List._∷_ (
-      46,
+      45,
       Rows'.sref
           (KPost.R)
           (Syntax.tyRef Syntax.erased Syntax.imm (KPost.named))
           14,
     ) (List._∷_ (
-      47,
+      46,
       Rows'.sref
           (KPost.R)
           (Syntax.tyRef Syntax.erased Syntax.imm (KPost.named))
           15,
-    ) List.[])))))))))))))))
+    ) List.[]))))))))))))))
+
+abbrev pub t79 : List.List Row.Entry
+t79 = List._∷_ (32, Rows'.any-gone (Syntax.tyInt Syntax.w8)) (List._∷_ (
+  33,
+  Rows'.any-gone Syntax.tyBool,
+) (List._∷_ (34, Rows'.any-gone (KDecided.spelled)) (List._∷_ (
+  35,
+  Rows'.any-gone (KPost.spelled),
+) (List._∷_ (
+  36,
+  Rows'.any-gone
+      (Syntax.tyRef Syntax.erased Syntax.mut (KInstanceRow.named)),
+) (List._∷_ (
+  37,
+  Mut.msleft
+      (KInstanceRow.R)
+      (Syntax.tyRef Syntax.erased Syntax.mut (KInstanceRow.named)),
+) (List._∷_ (
+  38,
+  Rows'.any-gone
+      (Syntax.tyRef Syntax.erased Syntax.mut (KRouteRow.named)),
+) (List._∷_ (
+  39,
+  Mut.msleft
+      (KRouteRow.R)
+      (Syntax.tyRef Syntax.erased Syntax.mut (KRouteRow.named)),
+)
+    (List._∷_ (
+      40,
+      Rows'.any-gone (Syntax.tyRef Syntax.erased Syntax.mut (Syntax.tyInt Syntax.w8)),
+    ) (List._∷_ (
+      41,
+      Mut.msleft
+          (Referent.rtF (Referent.fInt Syntax.w8))
+          (Syntax.tyRef Syntax.erased Syntax.mut (Syntax.tyInt Syntax.w8)),
+    ) (List._∷_ (
+      42,
+      Rows'.any-gone (Syntax.tyRef Syntax.erased Syntax.mut (Syntax.tyInt Syntax.w8)),
+    ) (List._∷_ (
+      43,
+      Mut.msleft
+          (Referent.rtF (Referent.fInt Syntax.w8))
+          (Syntax.tyRef Syntax.erased Syntax.mut (Syntax.tyInt Syntax.w8)),
+    ) (List._∷_ (
+      44,
+      Rows'.any-gone
+          (Syntax.tyRef Syntax.erased Syntax.imm (KDecided.named)),
+    ) (List._∷_ (
+      45,
+      Rows'.sref
+          (KPost.R)
+          (Syntax.tyRef Syntax.erased Syntax.imm (KPost.named))
+          14,
+    ) (List._∷_ (
+      46,
+      Rows'.sref
+          (KPost.R)
+          (Syntax.tyRef Syntax.erased Syntax.imm (KPost.named))
+          15,
+    ) List.[]))))))))))))))
+
+abbrev pub t80 : List.List Row.Entry
+t80 = List._∷_ (32, Rows'.any-gone (Syntax.tyInt Syntax.w8)) (List._∷_ (
+  33,
+  Rows'.any-gone Syntax.tyBool,
+) (List._∷_ (34, Rows'.any-gone (KDecided.spelled)) (List._∷_ (
+  35,
+  Rows'.any-gone (KPost.spelled),
+) (List._∷_ (
+  36,
+  Rows'.any-gone
+      (Syntax.tyRef Syntax.erased Syntax.mut (KInstanceRow.named)),
+) (List._∷_ (
+  37,
+  Mut.msleft
+      (KInstanceRow.R)
+      (Syntax.tyRef Syntax.erased Syntax.mut (KInstanceRow.named)),
+) (List._∷_ (
+  38,
+  Rows'.any-gone
+      (Syntax.tyRef Syntax.erased Syntax.mut (KRouteRow.named)),
+) (List._∷_ (
+  39,
+  Mut.msleft
+      (KRouteRow.R)
+      (Syntax.tyRef Syntax.erased Syntax.mut (KRouteRow.named)),
+)
+    (List._∷_ (
+      40,
+      Rows'.any-gone (Syntax.tyRef Syntax.erased Syntax.mut (Syntax.tyInt Syntax.w8)),
+    ) (List._∷_ (
+      41,
+      Mut.msleft
+          (Referent.rtF (Referent.fInt Syntax.w8))
+          (Syntax.tyRef Syntax.erased Syntax.mut (Syntax.tyInt Syntax.w8)),
+    ) (List._∷_ (
+      42,
+      Rows'.any-gone (Syntax.tyRef Syntax.erased Syntax.mut (Syntax.tyInt Syntax.w8)),
+    ) (List._∷_ (
+      43,
+      Mut.msleft
+          (Referent.rtF (Referent.fInt Syntax.w8))
+          (Syntax.tyRef Syntax.erased Syntax.mut (Syntax.tyInt Syntax.w8)),
+    ) (List._∷_ (
+      44,
+      Rows'.any-gone
+          (Syntax.tyRef Syntax.erased Syntax.imm (KDecided.named)),
+    ) (List._∷_ (
+      45,
+      Rows'.any-gone
+          (Syntax.tyRef Syntax.erased Syntax.imm (KPost.named)),
+    ) (List._∷_ (
+      46,
+      Rows'.sref
+          (KPost.R)
+          (Syntax.tyRef Syntax.erased Syntax.imm (KPost.named))
+          15,
+    ) List.[]))))))))))))))
+
+abbrev pub t81 : List.List Row.Entry
+t81 = List._∷_ (32, Rows'.any-gone (Syntax.tyInt Syntax.w8)) (List._∷_ (
+  33,
+  Rows'.any-gone Syntax.tyBool,
+) (List._∷_ (34, Rows'.any-gone (KDecided.spelled)) (List._∷_ (
+  35,
+  Rows'.any-gone (KPost.spelled),
+) (List._∷_ (
+  36,
+  Rows'.any-gone
+      (Syntax.tyRef Syntax.erased Syntax.mut (KInstanceRow.named)),
+) (List._∷_ (
+  37,
+  Mut.msleft
+      (KInstanceRow.R)
+      (Syntax.tyRef Syntax.erased Syntax.mut (KInstanceRow.named)),
+) (List._∷_ (
+  38,
+  Rows'.any-gone
+      (Syntax.tyRef Syntax.erased Syntax.mut (KRouteRow.named)),
+) (List._∷_ (
+  39,
+  Mut.msleft
+      (KRouteRow.R)
+      (Syntax.tyRef Syntax.erased Syntax.mut (KRouteRow.named)),
+)
+    (List._∷_ (
+      40,
+      Rows'.any-gone (Syntax.tyRef Syntax.erased Syntax.mut (Syntax.tyInt Syntax.w8)),
+    ) (List._∷_ (
+      41,
+      Mut.msleft
+          (Referent.rtF (Referent.fInt Syntax.w8))
+          (Syntax.tyRef Syntax.erased Syntax.mut (Syntax.tyInt Syntax.w8)),
+    ) (List._∷_ (
+      42,
+      Rows'.any-gone (Syntax.tyRef Syntax.erased Syntax.mut (Syntax.tyInt Syntax.w8)),
+    ) (List._∷_ (
+      43,
+      Mut.msleft
+          (Referent.rtF (Referent.fInt Syntax.w8))
+          (Syntax.tyRef Syntax.erased Syntax.mut (Syntax.tyInt Syntax.w8)),
+    ) (List._∷_ (
+      44,
+      Rows'.any-gone
+          (Syntax.tyRef Syntax.erased Syntax.imm (KDecided.named)),
+    ) (List._∷_ (
+      45,
+      Rows'.any-gone
+          (Syntax.tyRef Syntax.erased Syntax.imm (KPost.named)),
+    ) (List._∷_ (
+      46,
+      Rows'.any-gone
+          (Syntax.tyRef Syntax.erased Syntax.imm (KPost.named)),
+    ) List.[]))))))))))))))
 
 abbrev pub t82 : List.List Row.Entry
-t82 = List._∷_ (
-  32,
-  Rows'.any-gone
-      (Syntax.tyStruct
-      (List._∷_ 38 (List._∷_ 91 (List._∷_ 93 List.[])))
-      (Syntax.tcons
-      (Syntax.tyRef Syntax.erased Syntax.imm (KInstanceRow.named))
-      (Syntax.tcons (Syntax.tyInt Syntax.w64) Syntax.tnil))),
-) (List._∷_ (33, Rows'.any-gone (Syntax.tyInt Syntax.w8)) (List._∷_ (
-  34,
-  Rows'.any-gone Syntax.tyBool,
-) (List._∷_ (35, Rows'.any-gone (KDecided.spelled)) (List._∷_ (
-  36,
-  Rows'.any-gone (KPost.spelled),
-) (List._∷_ (
-  37,
-  Rows'.any-gone
-      (Syntax.tyRef Syntax.erased Syntax.mut (KInstanceRow.named)),
-) (List._∷_ (
-  38,
-  Mut.msleft
-      (KInstanceRow.R)
-      (Syntax.tyRef Syntax.erased Syntax.mut (KInstanceRow.named)),
-) (List._∷_ (
-  39,
-  Rows'.any-gone
-      (Syntax.tyRef Syntax.erased Syntax.mut (KRouteRow.named)),
-) (List._∷_ (
-  40,
-  Mut.msleft
-      (KRouteRow.R)
-      (Syntax.tyRef Syntax.erased Syntax.mut (KRouteRow.named)),
-)
-    (List._∷_ (
-      41,
-      Rows'.any-gone (Syntax.tyRef Syntax.erased Syntax.mut (Syntax.tyInt Syntax.w8)),
-    ) (List._∷_ (
-      42,
-      Mut.msleft
-          (Referent.rtF (Referent.fInt Syntax.w8))
-          (Syntax.tyRef Syntax.erased Syntax.mut (Syntax.tyInt Syntax.w8)),
-    ) (List._∷_ (
-      43,
-      Rows'.any-gone (Syntax.tyRef Syntax.erased Syntax.mut (Syntax.tyInt Syntax.w8)),
-    ) (List._∷_ (
-      44,
-      Mut.msleft
-          (Referent.rtF (Referent.fInt Syntax.w8))
-          (Syntax.tyRef Syntax.erased Syntax.mut (Syntax.tyInt Syntax.w8)),
-    ) (List._∷_ (
-      45,
-      Rows'.any-gone
-          (Syntax.tyRef Syntax.erased Syntax.imm (KDecided.named)),
-    ) (List._∷_ (
-      46,
-      Rows'.sref
-          (KPost.R)
-          (Syntax.tyRef Syntax.erased Syntax.imm (KPost.named))
-          14,
-    ) (List._∷_ (
-      47,
-      Rows'.sref
-          (KPost.R)
-          (Syntax.tyRef Syntax.erased Syntax.imm (KPost.named))
-          15,
-    ) List.[])))))))))))))))
-
-abbrev pub t83 : List.List Row.Entry
-t83 = List._∷_ (
-  32,
-  Rows'.any-gone
-      (Syntax.tyStruct
-      (List._∷_ 38 (List._∷_ 91 (List._∷_ 93 List.[])))
-      (Syntax.tcons
-      (Syntax.tyRef Syntax.erased Syntax.imm (KInstanceRow.named))
-      (Syntax.tcons (Syntax.tyInt Syntax.w64) Syntax.tnil))),
-) (List._∷_ (33, Rows'.any-gone (Syntax.tyInt Syntax.w8)) (List._∷_ (
-  34,
-  Rows'.any-gone Syntax.tyBool,
-) (List._∷_ (35, Rows'.any-gone (KDecided.spelled)) (List._∷_ (
-  36,
-  Rows'.any-gone (KPost.spelled),
-) (List._∷_ (
-  37,
-  Rows'.any-gone
-      (Syntax.tyRef Syntax.erased Syntax.mut (KInstanceRow.named)),
-) (List._∷_ (
-  38,
-  Mut.msleft
-      (KInstanceRow.R)
-      (Syntax.tyRef Syntax.erased Syntax.mut (KInstanceRow.named)),
-) (List._∷_ (
-  39,
-  Rows'.any-gone
-      (Syntax.tyRef Syntax.erased Syntax.mut (KRouteRow.named)),
-) (List._∷_ (
-  40,
-  Mut.msleft
-      (KRouteRow.R)
-      (Syntax.tyRef Syntax.erased Syntax.mut (KRouteRow.named)),
-)
-    (List._∷_ (
-      41,
-      Rows'.any-gone (Syntax.tyRef Syntax.erased Syntax.mut (Syntax.tyInt Syntax.w8)),
-    ) (List._∷_ (
-      42,
-      Mut.msleft
-          (Referent.rtF (Referent.fInt Syntax.w8))
-          (Syntax.tyRef Syntax.erased Syntax.mut (Syntax.tyInt Syntax.w8)),
-    ) (List._∷_ (
-      43,
-      Rows'.any-gone (Syntax.tyRef Syntax.erased Syntax.mut (Syntax.tyInt Syntax.w8)),
-    ) (List._∷_ (
-      44,
-      Mut.msleft
-          (Referent.rtF (Referent.fInt Syntax.w8))
-          (Syntax.tyRef Syntax.erased Syntax.mut (Syntax.tyInt Syntax.w8)),
-    ) (List._∷_ (
-      45,
-      Rows'.any-gone
-          (Syntax.tyRef Syntax.erased Syntax.imm (KDecided.named)),
-    ) (List._∷_ (
-      46,
-      Rows'.any-gone
-          (Syntax.tyRef Syntax.erased Syntax.imm (KPost.named)),
-    ) (List._∷_ (
-      47,
-      Rows'.sref
-          (KPost.R)
-          (Syntax.tyRef Syntax.erased Syntax.imm (KPost.named))
-          15,
-    ) List.[])))))))))))))))
-
-abbrev pub t84 : List.List Row.Entry
-t84 = List._∷_ (
-  32,
-  Rows'.any-gone
-      (Syntax.tyStruct
-      (List._∷_ 38 (List._∷_ 91 (List._∷_ 93 List.[])))
-      (Syntax.tcons
-      (Syntax.tyRef Syntax.erased Syntax.imm (KInstanceRow.named))
-      (Syntax.tcons (Syntax.tyInt Syntax.w64) Syntax.tnil))),
-) (List._∷_ (33, Rows'.any-gone (Syntax.tyInt Syntax.w8)) (List._∷_ (
-  34,
-  Rows'.any-gone Syntax.tyBool,
-) (List._∷_ (35, Rows'.any-gone (KDecided.spelled)) (List._∷_ (
-  36,
-  Rows'.any-gone (KPost.spelled),
-) (List._∷_ (
-  37,
-  Rows'.any-gone
-      (Syntax.tyRef Syntax.erased Syntax.mut (KInstanceRow.named)),
-) (List._∷_ (
-  38,
-  Mut.msleft
-      (KInstanceRow.R)
-      (Syntax.tyRef Syntax.erased Syntax.mut (KInstanceRow.named)),
-) (List._∷_ (
-  39,
-  Rows'.any-gone
-      (Syntax.tyRef Syntax.erased Syntax.mut (KRouteRow.named)),
-) (List._∷_ (
-  40,
-  Mut.msleft
-      (KRouteRow.R)
-      (Syntax.tyRef Syntax.erased Syntax.mut (KRouteRow.named)),
-)
-    (List._∷_ (
-      41,
-      Rows'.any-gone (Syntax.tyRef Syntax.erased Syntax.mut (Syntax.tyInt Syntax.w8)),
-    ) (List._∷_ (
-      42,
-      Mut.msleft
-          (Referent.rtF (Referent.fInt Syntax.w8))
-          (Syntax.tyRef Syntax.erased Syntax.mut (Syntax.tyInt Syntax.w8)),
-    ) (List._∷_ (
-      43,
-      Rows'.any-gone (Syntax.tyRef Syntax.erased Syntax.mut (Syntax.tyInt Syntax.w8)),
-    ) (List._∷_ (
-      44,
-      Mut.msleft
-          (Referent.rtF (Referent.fInt Syntax.w8))
-          (Syntax.tyRef Syntax.erased Syntax.mut (Syntax.tyInt Syntax.w8)),
-    ) (List._∷_ (
-      45,
-      Rows'.any-gone
-          (Syntax.tyRef Syntax.erased Syntax.imm (KDecided.named)),
-    ) (List._∷_ (
-      46,
-      Rows'.any-gone
-          (Syntax.tyRef Syntax.erased Syntax.imm (KPost.named)),
-    ) (List._∷_ (
-      47,
-      Rows'.any-gone
-          (Syntax.tyRef Syntax.erased Syntax.imm (KPost.named)),
-    ) List.[])))))))))))))))
-
-abbrev pub t85 : List.List Row.Entry
-t85 = List._∷_ (0, Rows'.whole (Declared'.row Outcome.the-type)) (List._∷_ (
+t82 = List._∷_ (0, Rows'.whole (Declared'.row Outcome.the-type)) (List._∷_ (
   1,
   Relend.mslice-owed
       (KInstanceRow.R)
@@ -22125,8 +21228,8 @@ t85 = List._∷_ (0, Rows'.whole (Declared'.row Outcome.the-type)) (List._∷_ (
       (Syntax.tcons (KInstanceRow.spelled) Syntax.tnil)))),
 ) List.[])))))))))))))))
 
-abbrev pub t86 : List.List Row.Entry
-t86 = List._∷_ (0, Rows'.whole (Declared'.row Outcome.the-type)) (List._∷_ (
+abbrev pub t83 : List.List Row.Entry
+t83 = List._∷_ (0, Rows'.whole (Declared'.row Outcome.the-type)) (List._∷_ (
   1,
   Relend.mslice-owed
       (KInstanceRow.R)
@@ -22251,8 +21354,8 @@ t86 = List._∷_ (0, Rows'.whole (Declared'.row Outcome.the-type)) (List._∷_ (
       (Syntax.tcons (KInstanceRow.spelled) Syntax.tnil)))),
 ) List.[])))))))))))))))
 
-abbrev pub t87 : List.List Row.Entry
-t87 = List._∷_ (
+abbrev pub t84 : List.List Row.Entry
+t84 = List._∷_ (
   16,
   Rows'.any-gone
       (Syntax.tyStruct
@@ -22292,8 +21395,8 @@ t87 = List._∷_ (
       (Syntax.tcons
       (Syntax.tyInt Syntax.w64)
       (Syntax.tcons (KRouteRow.spelled) Syntax.tnil)))),
-) (List._∷_ (17, Rows'.any-gone Syntax.tyBool) (List._∷_ (
-  18,
+) (List._∷_ (
+  17,
   Rows'.any-gone
       (Syntax.tyStruct
       (List._∷_
@@ -22325,7 +21428,7 @@ t87 = List._∷_ (
       (List._∷_ 68 (List._∷_ 101 (List._∷_ 108 (List._∷_ 116 (List._∷_ 97 List.[]))))))))))))))))))
       (Syntax.tcons Syntax.tyBool (Syntax.tcons (Syntax.tyInt Syntax.w8) Syntax.tnil))),
 ) (List._∷_ (
-  19,
+  18,
   Rows'.any-gone
       (Syntax.tyStruct
       (List._∷_
@@ -22541,407 +21644,8 @@ t87 = List._∷_ (
       (Syntax.tcons Syntax.tyBool (Syntax.tcons (Syntax.tyInt Syntax.w8) Syntax.tnil)))
       Syntax.tnil)))))))),
 ) (List._∷_ (
-  20,
-  Rows'.any-gone
-      (Syntax.tyEnum
-      (List._∷_
-      97
-      (List._∷_
-      110
-      (List._∷_
-      115
-      (List._∷_
-      119
-      (List._∷_
-      101
-      (List._∷_
-      114
-      (List._∷_
-      58
-      (List._∷_
-      58
-      (List._∷_
-      65
-      (List._∷_ 110 (List._∷_ 115 (List._∷_ 119 (List._∷_ 101 (List._∷_ 114 List.[]))))))))))))))
-      (Syntax.ttcons
-      Syntax.tnil
-      (Syntax.ttcons
-      Syntax.tnil
-      (Syntax.ttcons
-      Syntax.tnil
-      (Syntax.ttcons
-      Syntax.tnil
-      (Syntax.ttcons
-      Syntax.tnil
-      (Syntax.ttcons
-      Syntax.tnil
-      (Syntax.ttcons
-      Syntax.tnil
-      (Syntax.ttcons
-      Syntax.tnil
-      (Syntax.ttcons
-      Syntax.tnil
-      (Syntax.ttcons
-      Syntax.tnil
-      (Syntax.ttcons
-      Syntax.tnil
-      (Syntax.ttcons
-      Syntax.tnil
-      (Syntax.ttcons
-      Syntax.tnil
-      (Syntax.ttcons
-      Syntax.tnil
-      (Syntax.ttcons
-      Syntax.tnil
-      (Syntax.ttcons
-      Syntax.tnil
-      (Syntax.ttcons Syntax.tnil (Syntax.ttcons Syntax.tnil Syntax.ttnil))))))))))))))))))),
-) (List._∷_ (
-  21,
-  Rows'.sc-shr
-      (KDecided.row)
-      (KDecided.R)
-      (λ x. x)
-      13,
-) (List._∷_ (
-  22,
-  Rows'.sc-shr
-      (KPost.row)
-      (KPost.R)
-      (λ x. x)
-      14,
-) (List._∷_ (
-  23,
-  Rows'.sc-shr
-      (KPost.row)
-      (KPost.R)
-      (λ x. x)
-      15,
-) (List._∷_ (24, Rows'.whole (Declared'.row Live.the-type)) (List._∷_ (
-  25,
-  Rows'.any-gone Syntax.tyUnit,
-) (List._∷_ (26, Rows'.any-gone (KParsed.spelled)) (List._∷_ (
-  27,
-  Rows'.any-gone
-      (Syntax.tyRef Syntax.erased Syntax.imm (KInstanceRow.named)),
-) (List._∷_ (
-  28,
-  Rows'.any-gone
-      (Syntax.tyStruct
-      (List._∷_ 38 (List._∷_ 91 (List._∷_ 93 List.[])))
-      (Syntax.tcons
-      (Syntax.tyRef Syntax.erased Syntax.imm (KInstanceRow.named))
-      (Syntax.tcons (Syntax.tyInt Syntax.w64) Syntax.tnil))),
-) (List._∷_ (
-  29,
-  Rows'.any-gone
-      (Syntax.tyRef Syntax.erased Syntax.imm (KRouteRow.named)),
-) (List._∷_ (
-  30,
-  Rows'.any-gone
-      (Syntax.tyStruct
-      (List._∷_ 38 (List._∷_ 91 (List._∷_ 93 List.[])))
-      (Syntax.tcons
-      (Syntax.tyRef Syntax.erased Syntax.imm (KRouteRow.named))
-      (Syntax.tcons (Syntax.tyInt Syntax.w64) Syntax.tnil))),
-) (List._∷_ (
-  31,
-  Rows'.any-gone
-      (Syntax.tyRef Syntax.erased Syntax.imm (KInstanceRow.named)),
-) List.[])))))))))))))))
-
-abbrev pub t88 : List.List Row.Entry
-t88 = List._∷_ (
-  16,
-  Rows'.any-gone
-      (Syntax.tyStruct
-      (List._∷_
-      109
-      (List._∷_
-      101
-      (List._∷_
-      115
-      (List._∷_
-      115
-      (List._∷_
-      97
-      (List._∷_
-      103
-      (List._∷_
-      101
-      (List._∷_
-      58
-      (List._∷_
-      58
-      (List._∷_
-      70
-      (List._∷_
-      111
-      (List._∷_
-      117
-      (List._∷_
-      110
-      (List._∷_
-      100
-      (List._∷_
-      82
-      (List._∷_ 111 (List._∷_ 117 (List._∷_ 116 (List._∷_ 101 List.[])))))))))))))))))))
-      (Syntax.tcons
-      Syntax.tyBool
-      (Syntax.tcons
-      (Syntax.tyInt Syntax.w64)
-      (Syntax.tcons (KRouteRow.spelled) Syntax.tnil)))),
-) (List._∷_ (17, Rows'.any-gone Syntax.tyBool) (List._∷_ (
-  18,
-  Rows'.any-gone
-      (Syntax.tyStruct
-      (List._∷_
-      109
-      (List._∷_
-      101
-      (List._∷_
-      115
-      (List._∷_
-      115
-      (List._∷_
-      97
-      (List._∷_
-      103
-      (List._∷_
-      101
-      (List._∷_
-      58
-      (List._∷_
-      58
-      (List._∷_
-      70
-      (List._∷_
-      114
-      (List._∷_
-      101
-      (List._∷_
-      101
-      (List._∷_ 68 (List._∷_ 101 (List._∷_ 108 (List._∷_ 116 (List._∷_ 97 List.[]))))))))))))))))))
-      (Syntax.tcons Syntax.tyBool (Syntax.tcons (Syntax.tyInt Syntax.w8) Syntax.tnil))),
-) (List._∷_ (
   19,
   Rows'.any-gone
-      (Syntax.tyStruct
-      (List._∷_
-      114
-      (List._∷_
-      101
-      (List._∷_
-      113
-      (List._∷_
-      117
-      (List._∷_
-      101
-      (List._∷_
-      115
-      (List._∷_
-      116
-      (List._∷_
-      58
-      (List._∷_
-      58
-      (List._∷_
-      82
-      (List._∷_
-      101
-      (List._∷_
-      113
-      (List._∷_
-      117
-      (List._∷_
-      101
-      (List._∷_
-      115
-      (List._∷_
-      116
-      (List._∷_
-      70
-      (List._∷_ 97 (List._∷_ 99 (List._∷_ 116 (List._∷_ 115 List.[])))))))))))))))))))))
-      (Syntax.tcons
-      (Syntax.tyStruct
-      (List._∷_
-      109
-      (List._∷_
-      101
-      (List._∷_
-      115
-      (List._∷_
-      115
-      (List._∷_
-      97
-      (List._∷_
-      103
-      (List._∷_
-      101
-      (List._∷_
-      58
-      (List._∷_
-      58
-      (List._∷_ 70 (List._∷_ 111 (List._∷_ 117 (List._∷_ 110 (List._∷_ 100 List.[]))))))))))))))
-      (Syntax.tcons
-      Syntax.tyBool
-      (Syntax.tcons
-      (Syntax.tyInt Syntax.w64)
-      (Syntax.tcons (KInstanceRow.spelled) Syntax.tnil))))
-      (Syntax.tcons
-      (Syntax.tyStruct
-      (List._∷_
-      109
-      (List._∷_
-      101
-      (List._∷_
-      115
-      (List._∷_
-      115
-      (List._∷_
-      97
-      (List._∷_
-      103
-      (List._∷_
-      101
-      (List._∷_
-      58
-      (List._∷_
-      58
-      (List._∷_
-      70
-      (List._∷_
-      111
-      (List._∷_
-      117
-      (List._∷_
-      110
-      (List._∷_
-      100
-      (List._∷_
-      82
-      (List._∷_ 111 (List._∷_ 117 (List._∷_ 116 (List._∷_ 101 List.[])))))))))))))))))))
-      (Syntax.tcons
-      Syntax.tyBool
-      (Syntax.tcons
-      (Syntax.tyInt Syntax.w64)
-      (Syntax.tcons (KRouteRow.spelled) Syntax.tnil))))
-      (Syntax.tcons
-      (Syntax.tyInt Syntax.w32)
-      (Syntax.tcons
-      (Syntax.tyEnum
-      (List._∷_
-      112
-      (List._∷_
-      108
-      (List._∷_
-      97
-      (List._∷_
-      105
-      (List._∷_
-      110
-      (List._∷_
-      58
-      (List._∷_
-      58
-      (List._∷_
-      83
-      (List._∷_
-      116
-      (List._∷_
-      97
-      (List._∷_ 110 (List._∷_ 100 (List._∷_ 105 (List._∷_ 110 (List._∷_ 103 List.[])))))))))))))))
-      (Syntax.ttcons
-      Syntax.tnil
-      (Syntax.ttcons
-      Syntax.tnil
-      (Syntax.ttcons
-      Syntax.tnil
-      (Syntax.ttcons Syntax.tnil (Syntax.ttcons Syntax.tnil Syntax.ttnil))))))
-      (Syntax.tcons
-      Syntax.tyBool
-      (Syntax.tcons
-      (Syntax.tyStruct
-      (List._∷_
-      97
-      (List._∷_
-      114
-      (List._∷_
-      116
-      (List._∷_
-      58
-      (List._∷_
-      58
-      (List._∷_
-      84
-      (List._∷_
-      97
-      (List._∷_ 114 (List._∷_ 103 (List._∷_ 101 (List._∷_ 116 (List._∷_ 115 List.[]))))))))))))
-      (Syntax.tcons
-      Syntax.tyBool
-      (Syntax.tcons
-      (Syntax.tyInt Syntax.w64)
-      (Syntax.tcons
-      (Syntax.tyArray
-      (Syntax.tyStruct
-      (List._∷_
-      112
-      (List._∷_
-      108
-      (List._∷_
-      97
-      (List._∷_
-      105
-      (List._∷_
-      110
-      (List._∷_
-      58
-      (List._∷_
-      58
-      (List._∷_
-      84
-      (List._∷_ 97 (List._∷_ 114 (List._∷_ 103 (List._∷_ 101 (List._∷_ 116 List.[])))))))))))))
-      (Syntax.tcons
-      (Syntax.tyInt Syntax.w8)
-      (Syntax.tcons
-      (Syntax.tyInt Syntax.w8)
-      (Syntax.tcons (Syntax.tyArray (Syntax.tyInt Syntax.w8) 16) Syntax.tnil))))
-      8)
-      Syntax.tnil))))
-      (Syntax.tcons
-      (Syntax.tyStruct
-      (List._∷_
-      109
-      (List._∷_
-      101
-      (List._∷_
-      115
-      (List._∷_
-      115
-      (List._∷_
-      97
-      (List._∷_
-      103
-      (List._∷_
-      101
-      (List._∷_
-      58
-      (List._∷_
-      58
-      (List._∷_
-      70
-      (List._∷_
-      114
-      (List._∷_
-      101
-      (List._∷_
-      101
-      (List._∷_ 68 (List._∷_ 101 (List._∷_ 108 (List._∷_ 116 (List._∷_ 97 List.[]))))))))))))))))))
-      (Syntax.tcons Syntax.tyBool (Syntax.tcons (Syntax.tyInt Syntax.w8) Syntax.tnil)))
-      Syntax.tnil)))))))),
-) (List._∷_ (
-  20,
-  Rows'.any-gone
       (Syntax.tyEnum
       (List._∷_
       97
@@ -22996,28 +21700,28 @@ t88 = List._∷_ (
       Syntax.tnil
       (Syntax.ttcons Syntax.tnil (Syntax.ttcons Syntax.tnil Syntax.ttnil))))))))))))))))))),
 ) (List._∷_ (
-  21,
+  20,
   Rows'.sc-shr
       (KDecided.row)
       (KDecided.R)
       (λ x. x)
       13,
 ) (List._∷_ (
-  22,
+  21,
   Rows'.sc-shr
       (KPost.row)
       (KPost.R)
       (λ x. x)
       14,
 ) (List._∷_ (
-  23,
+  22,
   Rows'.sc-shr
       (KPost.row)
       (KPost.R)
       (λ x. x)
       15,
 ) (List._∷_ (
-  24,
+  23,
   Rows'.any-gone
       (Syntax.tyStruct
       (List._∷_
@@ -23040,15 +21744,15 @@ t88 = List._∷_ (
       (Syntax.tcons
       (Syntax.tyInt Syntax.w64)
       (Syntax.tcons Syntax.tyBool (Syntax.tcons (Syntax.tyInt Syntax.w64) Syntax.tnil))))),
-) (List._∷_ (25, Rows'.any-gone Syntax.tyUnit) (List._∷_ (
-  26,
+) (List._∷_ (24, Rows'.any-gone Syntax.tyUnit) (List._∷_ (
+  25,
   Rows'.any-gone (KParsed.spelled),
 ) (List._∷_ (
-  27,
+  26,
   Rows'.any-gone
       (Syntax.tyRef Syntax.erased Syntax.imm (KInstanceRow.named)),
 ) (List._∷_ (
-  28,
+  27,
   Rows'.any-gone
       (Syntax.tyStruct
       (List._∷_ 38 (List._∷_ 91 (List._∷_ 93 List.[])))
@@ -23056,11 +21760,11 @@ t88 = List._∷_ (
       (Syntax.tyRef Syntax.erased Syntax.imm (KInstanceRow.named))
       (Syntax.tcons (Syntax.tyInt Syntax.w64) Syntax.tnil))),
 ) (List._∷_ (
-  29,
+  28,
   Rows'.any-gone
       (Syntax.tyRef Syntax.erased Syntax.imm (KRouteRow.named)),
 ) (List._∷_ (
-  30,
+  29,
   Rows'.any-gone
       (Syntax.tyStruct
       (List._∷_ 38 (List._∷_ 91 (List._∷_ 93 List.[])))
@@ -23068,13 +21772,21 @@ t88 = List._∷_ (
       (Syntax.tyRef Syntax.erased Syntax.imm (KRouteRow.named))
       (Syntax.tcons (Syntax.tyInt Syntax.w64) Syntax.tnil))),
 ) (List._∷_ (
-  31,
+  30,
   Rows'.any-gone
       (Syntax.tyRef Syntax.erased Syntax.imm (KInstanceRow.named)),
+) (List._∷_ (
+  31,
+  Rows'.any-gone
+      (Syntax.tyStruct
+      (List._∷_ 38 (List._∷_ 91 (List._∷_ 93 List.[])))
+      (Syntax.tcons
+      (Syntax.tyRef Syntax.erased Syntax.imm (KInstanceRow.named))
+      (Syntax.tcons (Syntax.tyInt Syntax.w64) Syntax.tnil))),
 ) List.[])))))))))))))))
 
-abbrev pub t89 : List.List Row.Entry
-t89 = List._∷_ (0, Rows'.whole (Declared'.row Outcome.the-type)) (List._∷_ (
+abbrev pub t85 : List.List Row.Entry
+t85 = List._∷_ (0, Rows'.whole (Declared'.row Outcome.the-type)) (List._∷_ (
   1,
   Mut.mslice
       (KInstanceRow.R)
@@ -23096,6 +21808,369 @@ t89 = List._∷_ (0, Rows'.whole (Declared'.row Outcome.the-type)) (List._∷_ (
       2
       11
       Row.off,
+) (List._∷_ (
+  4,
+  Relend.mslice-owed
+      (Referent.rtF (Referent.fInt Syntax.w8))
+      (Syntax.tyRef (Syntax.named 3) Syntax.mut (Syntax.tyInt Syntax.w8))
+      3
+      12
+      Row.off,
+) (List._∷_ (
+  5,
+  Rows'.any-gone
+      (Syntax.tyStruct
+      (List._∷_
+      111
+      (List._∷_
+      119
+      (List._∷_
+      110
+      (List._∷_ 58 (List._∷_ 58 (List._∷_ 79 (List._∷_ 119 (List._∷_ 110 List.[]))))))))
+      (Syntax.tcons
+      (Syntax.tyArray (Syntax.tyInt Syntax.w8) 16)
+      (Syntax.tcons (Syntax.tyArray (Syntax.tyInt Syntax.w8) 16) Syntax.tnil))),
+) (List._∷_ (6, Rows'.sc-here (Row.sInt Syntax.w64)) (List._∷_ (
+  7,
+  Rows'.sc-here (Row.sInt Syntax.w8),
+) (List._∷_ (8, Rows'.sc-here (Row.sInt Syntax.w64)) (List._∷_ (
+  9,
+  Rows'.any-gone
+      (Syntax.tyStruct
+      (List._∷_
+      109
+      (List._∷_
+      101
+      (List._∷_
+      115
+      (List._∷_
+      115
+      (List._∷_
+      97
+      (List._∷_
+      103
+      (List._∷_
+      101
+      (List._∷_
+      58
+      (List._∷_ 58 (List._∷_ 76 (List._∷_ 105 (List._∷_ 110 (List._∷_ 107 List.[])))))))))))))
+      (Syntax.tcons
+      (Syntax.tyArray (Syntax.tyInt Syntax.w8) 16)
+      (Syntax.tcons
+      Syntax.tyBool
+      (Syntax.tcons
+      Syntax.tyBool
+      (Syntax.tcons (Syntax.tyInt Syntax.w16) (Syntax.tcons Syntax.tyBool Syntax.tnil)))))),
+) (List._∷_ (
+  10,
+  Rows'.sref
+      (KParsed.R)
+      (Syntax.tyRef (Syntax.named 4) Syntax.imm (KParsed.named))
+      4,
+) (List._∷_ (
+  11,
+  Rows'.sref
+      (Array'.Array (Array'.Array (Referent.rtF (Referent.fInt Syntax.w8)) 16) 16)
+      (Syntax.tyRef
+      (Syntax.named 5)
+      Syntax.imm
+      (Syntax.tyArray (Syntax.tyArray (Syntax.tyInt Syntax.w8) 16) 16))
+      5,
+) (List._∷_ (12, Rows'.any-gone (Syntax.tyInt Syntax.w8)) (List._∷_ (
+  13,
+  Rows'.any-gone (Syntax.tyArray (Syntax.tyInt Syntax.w8) 16),
+) (List._∷_ (14, Rows'.any-gone (Syntax.tyArray (Syntax.tyInt Syntax.w8) 16)) (List._∷_ (
+  15,
+  Rows'.any-gone
+      (Syntax.tyStruct
+      (List._∷_
+      109
+      (List._∷_
+      101
+      (List._∷_
+      115
+      (List._∷_
+      115
+      (List._∷_
+      97
+      (List._∷_
+      103
+      (List._∷_
+      101
+      (List._∷_
+      58
+      (List._∷_
+      58
+      (List._∷_ 70 (List._∷_ 111 (List._∷_ 117 (List._∷_ 110 (List._∷_ 100 List.[]))))))))))))))
+      (Syntax.tcons
+      Syntax.tyBool
+      (Syntax.tcons
+      (Syntax.tyInt Syntax.w64)
+      (Syntax.tcons (KInstanceRow.spelled) Syntax.tnil)))),
+) List.[])))))))))))))))
+
+abbrev pub t86 : List.List Row.Entry
+t86 = List._∷_ (32, Rows'.any-gone (Syntax.tyInt Syntax.w8)) (List._∷_ (
+  33,
+  Rows'.any-gone Syntax.tyBool,
+) (List._∷_ (34, Rows'.any-gone (KDecided.spelled)) (List._∷_ (
+  35,
+  Rows'.any-gone (KPost.spelled),
+) (List._∷_ (
+  36,
+  Rows'.any-gone
+      (Syntax.tyRef Syntax.erased Syntax.mut (KInstanceRow.named)),
+) (List._∷_ (
+  37,
+  Rows'.any-gone
+      (Syntax.tyStruct
+      (List._∷_ 38 (List._∷_ 91 (List._∷_ 93 List.[])))
+      (Syntax.tcons
+      (Syntax.tyRef Syntax.erased Syntax.mut (KInstanceRow.named))
+      (Syntax.tcons (Syntax.tyInt Syntax.w64) Syntax.tnil))),
+) (List._∷_ (
+  38,
+  Rows'.any-gone
+      (Syntax.tyRef Syntax.erased Syntax.mut (KRouteRow.named)),
+) (List._∷_ (
+  39,
+  Mut.msleft
+      (KRouteRow.R)
+      (Syntax.tyRef Syntax.erased Syntax.mut (KRouteRow.named)),
+)
+    (List._∷_ (
+      40,
+      Rows'.any-gone (Syntax.tyRef Syntax.erased Syntax.mut (Syntax.tyInt Syntax.w8)),
+    ) (List._∷_ (
+      41,
+      Mut.msleft
+          (Referent.rtF (Referent.fInt Syntax.w8))
+          (Syntax.tyRef Syntax.erased Syntax.mut (Syntax.tyInt Syntax.w8)),
+    ) (List._∷_ (
+      42,
+      Rows'.any-gone (Syntax.tyRef Syntax.erased Syntax.mut (Syntax.tyInt Syntax.w8)),
+    ) (List._∷_ (
+      43,
+      Mut.msleft
+          (Referent.rtF (Referent.fInt Syntax.w8))
+          (Syntax.tyRef Syntax.erased Syntax.mut (Syntax.tyInt Syntax.w8)),
+    ) (List._∷_ (
+      44,
+      Rows'.any-gone
+          (Syntax.tyRef Syntax.erased Syntax.imm (KDecided.named)),
+    ) (List._∷_ (
+      45,
+      Rows'.any-gone
+          (Syntax.tyRef Syntax.erased Syntax.imm (KPost.named)),
+    ) (List._∷_ (
+      46,
+      Rows'.any-gone
+          (Syntax.tyRef Syntax.erased Syntax.imm (KPost.named)),
+    ) List.[]))))))))))))))
+
+abbrev pub t87 : List.List Row.Entry
+t87 = List._∷_ (0, Rows'.whole (Declared'.row Outcome.the-type)) (List._∷_ (
+  1,
+  Mut.mslice
+      (KInstanceRow.R)
+      (Syntax.tyRef (Syntax.named 0) Syntax.mut (KInstanceRow.named))
+      0,
+) (List._∷_ (
+  2,
+  Mut.mslice
+      (KRouteRow.R)
+      (Syntax.tyRef (Syntax.named 1) Syntax.mut (KRouteRow.named))
+      1,
+) (List._∷_ (
+  3,
+  Relend.mslice-owed
+      (Referent.rtF (Referent.fInt Syntax.w8))
+      (Syntax.tyRef (Syntax.named 2) Syntax.mut (Syntax.tyInt Syntax.w8))
+      2
+      11
+      Row.off,
+) (List._∷_ (
+  4,
+  Relend.mslice-owed
+      (Referent.rtF (Referent.fInt Syntax.w8))
+      (Syntax.tyRef (Syntax.named 3) Syntax.mut (Syntax.tyInt Syntax.w8))
+      3
+      12
+      Row.off,
+) (List._∷_ (
+  5,
+  Rows'.any-gone
+      (Syntax.tyStruct
+      (List._∷_
+      111
+      (List._∷_
+      119
+      (List._∷_
+      110
+      (List._∷_ 58 (List._∷_ 58 (List._∷_ 79 (List._∷_ 119 (List._∷_ 110 List.[]))))))))
+      (Syntax.tcons
+      (Syntax.tyArray (Syntax.tyInt Syntax.w8) 16)
+      (Syntax.tcons (Syntax.tyArray (Syntax.tyInt Syntax.w8) 16) Syntax.tnil))),
+) (List._∷_ (6, Rows'.sc-here (Row.sInt Syntax.w64)) (List._∷_ (
+  7,
+  Rows'.sc-here (Row.sInt Syntax.w8),
+) (List._∷_ (8, Rows'.sc-here (Row.sInt Syntax.w64)) (List._∷_ (
+  9,
+  Rows'.any-gone
+      (Syntax.tyStruct
+      (List._∷_
+      109
+      (List._∷_
+      101
+      (List._∷_
+      115
+      (List._∷_
+      115
+      (List._∷_
+      97
+      (List._∷_
+      103
+      (List._∷_
+      101
+      (List._∷_
+      58
+      (List._∷_ 58 (List._∷_ 76 (List._∷_ 105 (List._∷_ 110 (List._∷_ 107 List.[])))))))))))))
+      (Syntax.tcons
+      (Syntax.tyArray (Syntax.tyInt Syntax.w8) 16)
+      (Syntax.tcons
+      Syntax.tyBool
+      (Syntax.tcons
+      Syntax.tyBool
+      (Syntax.tcons (Syntax.tyInt Syntax.w16) (Syntax.tcons Syntax.tyBool Syntax.tnil)))))),
+) (List._∷_ (
+  10,
+  Rows'.sref
+      (KParsed.R)
+      (Syntax.tyRef (Syntax.named 4) Syntax.imm (KParsed.named))
+      4,
+) (List._∷_ (
+  11,
+  Rows'.sref
+      (Array'.Array (Array'.Array (Referent.rtF (Referent.fInt Syntax.w8)) 16) 16)
+      (Syntax.tyRef
+      (Syntax.named 5)
+      Syntax.imm
+      (Syntax.tyArray (Syntax.tyArray (Syntax.tyInt Syntax.w8) 16) 16))
+      5,
+) (List._∷_ (12, Rows'.any-gone (Syntax.tyInt Syntax.w8)) (List._∷_ (
+  13,
+  Rows'.any-gone (Syntax.tyArray (Syntax.tyInt Syntax.w8) 16),
+) (List._∷_ (14, Rows'.any-gone (Syntax.tyArray (Syntax.tyInt Syntax.w8) 16)) (List._∷_ (
+  15,
+  Rows'.any-gone
+      (Syntax.tyStruct
+      (List._∷_
+      109
+      (List._∷_
+      101
+      (List._∷_
+      115
+      (List._∷_
+      115
+      (List._∷_
+      97
+      (List._∷_
+      103
+      (List._∷_
+      101
+      (List._∷_
+      58
+      (List._∷_
+      58
+      (List._∷_ 70 (List._∷_ 111 (List._∷_ 117 (List._∷_ 110 (List._∷_ 100 List.[]))))))))))))))
+      (Syntax.tcons
+      Syntax.tyBool
+      (Syntax.tcons
+      (Syntax.tyInt Syntax.w64)
+      (Syntax.tcons (KInstanceRow.spelled) Syntax.tnil)))),
+) List.[])))))))))))))))
+
+abbrev pub t88 : List.List Row.Entry
+t88 = List._∷_ (32, Rows'.any-gone (Syntax.tyInt Syntax.w8)) (List._∷_ (
+  33,
+  Rows'.any-gone Syntax.tyBool,
+) (List._∷_ (34, Rows'.any-gone (KDecided.spelled)) (List._∷_ (
+  35,
+  Rows'.any-gone (KPost.spelled),
+) (List._∷_ (
+  36,
+  Rows'.any-gone
+      (Syntax.tyRef Syntax.erased Syntax.mut (KInstanceRow.named)),
+) (List._∷_ (
+  37,
+  Rows'.any-gone
+      (Syntax.tyStruct
+      (List._∷_ 38 (List._∷_ 91 (List._∷_ 93 List.[])))
+      (Syntax.tcons
+      (Syntax.tyRef Syntax.erased Syntax.mut (KInstanceRow.named))
+      (Syntax.tcons (Syntax.tyInt Syntax.w64) Syntax.tnil))),
+) (List._∷_ (
+  38,
+  Rows'.any-gone
+      (Syntax.tyRef Syntax.erased Syntax.mut (KRouteRow.named)),
+) (List._∷_ (
+  39,
+  Rows'.any-gone
+      (Syntax.tyStruct
+      (List._∷_ 38 (List._∷_ 91 (List._∷_ 93 List.[])))
+      (Syntax.tcons
+      (Syntax.tyRef Syntax.erased Syntax.mut (KRouteRow.named))
+      (Syntax.tcons (Syntax.tyInt Syntax.w64) Syntax.tnil))),
+)
+    (List._∷_ (
+      40,
+      Rows'.any-gone (Syntax.tyRef Syntax.erased Syntax.mut (Syntax.tyInt Syntax.w8)),
+    ) (List._∷_ (
+      41,
+      Mut.msleft
+          (Referent.rtF (Referent.fInt Syntax.w8))
+          (Syntax.tyRef Syntax.erased Syntax.mut (Syntax.tyInt Syntax.w8)),
+    ) (List._∷_ (
+      42,
+      Rows'.any-gone (Syntax.tyRef Syntax.erased Syntax.mut (Syntax.tyInt Syntax.w8)),
+    ) (List._∷_ (
+      43,
+      Mut.msleft
+          (Referent.rtF (Referent.fInt Syntax.w8))
+          (Syntax.tyRef Syntax.erased Syntax.mut (Syntax.tyInt Syntax.w8)),
+    ) (List._∷_ (
+      44,
+      Rows'.any-gone
+          (Syntax.tyRef Syntax.erased Syntax.imm (KDecided.named)),
+    ) (List._∷_ (
+      45,
+      Rows'.any-gone
+          (Syntax.tyRef Syntax.erased Syntax.imm (KPost.named)),
+    ) (List._∷_ (
+      46,
+      Rows'.any-gone
+          (Syntax.tyRef Syntax.erased Syntax.imm (KPost.named)),
+    ) List.[]))))))))))))))
+
+abbrev pub t89 : List.List Row.Entry
+t89 = List._∷_ (0, Rows'.whole (Declared'.row Outcome.the-type)) (List._∷_ (
+  1,
+  Mut.mslice
+      (KInstanceRow.R)
+      (Syntax.tyRef (Syntax.named 0) Syntax.mut (KInstanceRow.named))
+      0,
+) (List._∷_ (
+  2,
+  Mut.mslice
+      (KRouteRow.R)
+      (Syntax.tyRef (Syntax.named 1) Syntax.mut (KRouteRow.named))
+      1,
+) (List._∷_ (
+  3,
+  Mut.mslice
+      (Referent.rtF (Referent.fInt Syntax.w8))
+      (Syntax.tyRef (Syntax.named 2) Syntax.mut (Syntax.tyInt Syntax.w8))
+      2,
 ) (List._∷_ (
   4,
   Relend.mslice-owed
@@ -23198,26 +22273,18 @@ t89 = List._∷_ (0, Rows'.whole (Declared'.row Outcome.the-type)) (List._∷_ (
 ) List.[])))))))))))))))
 
 abbrev pub t90 : List.List Row.Entry
-t90 = List._∷_ (
-  32,
-  Rows'.any-gone
-      (Syntax.tyStruct
-      (List._∷_ 38 (List._∷_ 91 (List._∷_ 93 List.[])))
-      (Syntax.tcons
-      (Syntax.tyRef Syntax.erased Syntax.imm (KInstanceRow.named))
-      (Syntax.tcons (Syntax.tyInt Syntax.w64) Syntax.tnil))),
-) (List._∷_ (33, Rows'.any-gone (Syntax.tyInt Syntax.w8)) (List._∷_ (
-  34,
+t90 = List._∷_ (32, Rows'.any-gone (Syntax.tyInt Syntax.w8)) (List._∷_ (
+  33,
   Rows'.any-gone Syntax.tyBool,
-) (List._∷_ (35, Rows'.any-gone (KDecided.spelled)) (List._∷_ (
-  36,
+) (List._∷_ (34, Rows'.any-gone (KDecided.spelled)) (List._∷_ (
+  35,
   Rows'.any-gone (KPost.spelled),
 ) (List._∷_ (
-  37,
+  36,
   Rows'.any-gone
       (Syntax.tyRef Syntax.erased Syntax.mut (KInstanceRow.named)),
 ) (List._∷_ (
-  38,
+  37,
   Rows'.any-gone
       (Syntax.tyStruct
       (List._∷_ 38 (List._∷_ 91 (List._∷_ 93 List.[])))
@@ -23225,200 +22292,11 @@ t90 = List._∷_ (
       (Syntax.tyRef Syntax.erased Syntax.mut (KInstanceRow.named))
       (Syntax.tcons (Syntax.tyInt Syntax.w64) Syntax.tnil))),
 ) (List._∷_ (
-  39,
-  Rows'.any-gone
-      (Syntax.tyRef Syntax.erased Syntax.mut (KRouteRow.named)),
-) (List._∷_ (
-  40,
-  Mut.msleft
-      (KRouteRow.R)
-      (Syntax.tyRef Syntax.erased Syntax.mut (KRouteRow.named)),
-)
-    (List._∷_ (
-      41,
-      Rows'.any-gone (Syntax.tyRef Syntax.erased Syntax.mut (Syntax.tyInt Syntax.w8)),
-    ) (List._∷_ (
-      42,
-      Mut.msleft
-          (Referent.rtF (Referent.fInt Syntax.w8))
-          (Syntax.tyRef Syntax.erased Syntax.mut (Syntax.tyInt Syntax.w8)),
-    ) (List._∷_ (
-      43,
-      Rows'.any-gone (Syntax.tyRef Syntax.erased Syntax.mut (Syntax.tyInt Syntax.w8)),
-    ) (List._∷_ (
-      44,
-      Mut.msleft
-          (Referent.rtF (Referent.fInt Syntax.w8))
-          (Syntax.tyRef Syntax.erased Syntax.mut (Syntax.tyInt Syntax.w8)),
-    ) (List._∷_ (
-      45,
-      Rows'.any-gone
-          (Syntax.tyRef Syntax.erased Syntax.imm (KDecided.named)),
-    ) (List._∷_ (
-      46,
-      Rows'.any-gone
-          (Syntax.tyRef Syntax.erased Syntax.imm (KPost.named)),
-    ) (List._∷_ (
-      47,
-      Rows'.any-gone
-          (Syntax.tyRef Syntax.erased Syntax.imm (KPost.named)),
-    ) List.[])))))))))))))))
-
-abbrev pub t91 : List.List Row.Entry
-t91 = List._∷_ (0, Rows'.whole (Declared'.row Outcome.the-type)) (List._∷_ (
-  1,
-  Mut.mslice
-      (KInstanceRow.R)
-      (Syntax.tyRef (Syntax.named 0) Syntax.mut (KInstanceRow.named))
-      0,
-) (List._∷_ (
-  2,
-  Mut.mslice
-      (KRouteRow.R)
-      (Syntax.tyRef (Syntax.named 1) Syntax.mut (KRouteRow.named))
-      1,
-) (List._∷_ (
-  3,
-  Relend.mslice-owed
-      (Referent.rtF (Referent.fInt Syntax.w8))
-      (Syntax.tyRef (Syntax.named 2) Syntax.mut (Syntax.tyInt Syntax.w8))
-      2
-      11
-      Row.off,
-) (List._∷_ (
-  4,
-  Relend.mslice-owed
-      (Referent.rtF (Referent.fInt Syntax.w8))
-      (Syntax.tyRef (Syntax.named 3) Syntax.mut (Syntax.tyInt Syntax.w8))
-      3
-      12
-      Row.off,
-) (List._∷_ (
-  5,
-  Rows'.any-gone
-      (Syntax.tyStruct
-      (List._∷_
-      111
-      (List._∷_
-      119
-      (List._∷_
-      110
-      (List._∷_ 58 (List._∷_ 58 (List._∷_ 79 (List._∷_ 119 (List._∷_ 110 List.[]))))))))
-      (Syntax.tcons
-      (Syntax.tyArray (Syntax.tyInt Syntax.w8) 16)
-      (Syntax.tcons (Syntax.tyArray (Syntax.tyInt Syntax.w8) 16) Syntax.tnil))),
-) (List._∷_ (6, Rows'.sc-here (Row.sInt Syntax.w64)) (List._∷_ (
-  7,
-  Rows'.sc-here (Row.sInt Syntax.w8),
-) (List._∷_ (8, Rows'.sc-here (Row.sInt Syntax.w64)) (List._∷_ (
-  9,
-  Rows'.any-gone
-      (Syntax.tyStruct
-      (List._∷_
-      109
-      (List._∷_
-      101
-      (List._∷_
-      115
-      (List._∷_
-      115
-      (List._∷_
-      97
-      (List._∷_
-      103
-      (List._∷_
-      101
-      (List._∷_
-      58
-      (List._∷_ 58 (List._∷_ 76 (List._∷_ 105 (List._∷_ 110 (List._∷_ 107 List.[])))))))))))))
-      (Syntax.tcons
-      (Syntax.tyArray (Syntax.tyInt Syntax.w8) 16)
-      (Syntax.tcons
-      Syntax.tyBool
-      (Syntax.tcons
-      Syntax.tyBool
-      (Syntax.tcons (Syntax.tyInt Syntax.w16) (Syntax.tcons Syntax.tyBool Syntax.tnil)))))),
-) (List._∷_ (
-  10,
-  Rows'.sref
-      (KParsed.R)
-      (Syntax.tyRef (Syntax.named 4) Syntax.imm (KParsed.named))
-      4,
-) (List._∷_ (
-  11,
-  Rows'.sref
-      (Array'.Array (Array'.Array (Referent.rtF (Referent.fInt Syntax.w8)) 16) 16)
-      (Syntax.tyRef
-      (Syntax.named 5)
-      Syntax.imm
-      (Syntax.tyArray (Syntax.tyArray (Syntax.tyInt Syntax.w8) 16) 16))
-      5,
-) (List._∷_ (12, Rows'.any-gone (Syntax.tyInt Syntax.w8)) (List._∷_ (
-  13,
-  Rows'.any-gone (Syntax.tyArray (Syntax.tyInt Syntax.w8) 16),
-) (List._∷_ (14, Rows'.any-gone (Syntax.tyArray (Syntax.tyInt Syntax.w8) 16)) (List._∷_ (
-  15,
-  Rows'.any-gone
-      (Syntax.tyStruct
-      (List._∷_
-      109
-      (List._∷_
-      101
-      (List._∷_
-      115
-      (List._∷_
-      115
-      (List._∷_
-      97
-      (List._∷_
-      103
-      (List._∷_
-      101
-      (List._∷_
-      58
-      (List._∷_
-      58
-      (List._∷_ 70 (List._∷_ 111 (List._∷_ 117 (List._∷_ 110 (List._∷_ 100 List.[]))))))))))))))
-      (Syntax.tcons
-      Syntax.tyBool
-      (Syntax.tcons
-      (Syntax.tyInt Syntax.w64)
-      (Syntax.tcons (KInstanceRow.spelled) Syntax.tnil)))),
-) List.[])))))))))))))))
-
-abbrev pub t92 : List.List Row.Entry
-t92 = List._∷_ (
-  32,
-  Rows'.any-gone
-      (Syntax.tyStruct
-      (List._∷_ 38 (List._∷_ 91 (List._∷_ 93 List.[])))
-      (Syntax.tcons
-      (Syntax.tyRef Syntax.erased Syntax.imm (KInstanceRow.named))
-      (Syntax.tcons (Syntax.tyInt Syntax.w64) Syntax.tnil))),
-) (List._∷_ (33, Rows'.any-gone (Syntax.tyInt Syntax.w8)) (List._∷_ (
-  34,
-  Rows'.any-gone Syntax.tyBool,
-) (List._∷_ (35, Rows'.any-gone (KDecided.spelled)) (List._∷_ (
-  36,
-  Rows'.any-gone (KPost.spelled),
-) (List._∷_ (
-  37,
-  Rows'.any-gone
-      (Syntax.tyRef Syntax.erased Syntax.mut (KInstanceRow.named)),
-) (List._∷_ (
   38,
   Rows'.any-gone
-      (Syntax.tyStruct
-      (List._∷_ 38 (List._∷_ 91 (List._∷_ 93 List.[])))
-      (Syntax.tcons
-      (Syntax.tyRef Syntax.erased Syntax.mut (KInstanceRow.named))
-      (Syntax.tcons (Syntax.tyInt Syntax.w64) Syntax.tnil))),
-) (List._∷_ (
-  39,
-  Rows'.any-gone
       (Syntax.tyRef Syntax.erased Syntax.mut (KRouteRow.named)),
 ) (List._∷_ (
-  40,
+  39,
   Rows'.any-gone
       (Syntax.tyStruct
       (List._∷_ 38 (List._∷_ 91 (List._∷_ 93 List.[])))
@@ -23427,200 +22305,10 @@ t92 = List._∷_ (
       (Syntax.tcons (Syntax.tyInt Syntax.w64) Syntax.tnil))),
 )
     (List._∷_ (
+      40,
+      Rows'.any-gone (Syntax.tyRef Syntax.erased Syntax.mut (Syntax.tyInt Syntax.w8)),
+    ) (List._∷_ (
       41,
-      Rows'.any-gone (Syntax.tyRef Syntax.erased Syntax.mut (Syntax.tyInt Syntax.w8)),
-    ) (List._∷_ (
-      42,
-      Mut.msleft
-          (Referent.rtF (Referent.fInt Syntax.w8))
-          (Syntax.tyRef Syntax.erased Syntax.mut (Syntax.tyInt Syntax.w8)),
-    ) (List._∷_ (
-      43,
-      Rows'.any-gone (Syntax.tyRef Syntax.erased Syntax.mut (Syntax.tyInt Syntax.w8)),
-    ) (List._∷_ (
-      44,
-      Mut.msleft
-          (Referent.rtF (Referent.fInt Syntax.w8))
-          (Syntax.tyRef Syntax.erased Syntax.mut (Syntax.tyInt Syntax.w8)),
-    ) (List._∷_ (
-      45,
-      Rows'.any-gone
-          (Syntax.tyRef Syntax.erased Syntax.imm (KDecided.named)),
-    ) (List._∷_ (
-      46,
-      Rows'.any-gone
-          (Syntax.tyRef Syntax.erased Syntax.imm (KPost.named)),
-    ) (List._∷_ (
-      47,
-      Rows'.any-gone
-          (Syntax.tyRef Syntax.erased Syntax.imm (KPost.named)),
-    ) List.[])))))))))))))))
-
-abbrev pub t93 : List.List Row.Entry
-t93 = List._∷_ (0, Rows'.whole (Declared'.row Outcome.the-type)) (List._∷_ (
-  1,
-  Mut.mslice
-      (KInstanceRow.R)
-      (Syntax.tyRef (Syntax.named 0) Syntax.mut (KInstanceRow.named))
-      0,
-) (List._∷_ (
-  2,
-  Mut.mslice
-      (KRouteRow.R)
-      (Syntax.tyRef (Syntax.named 1) Syntax.mut (KRouteRow.named))
-      1,
-) (List._∷_ (
-  3,
-  Mut.mslice
-      (Referent.rtF (Referent.fInt Syntax.w8))
-      (Syntax.tyRef (Syntax.named 2) Syntax.mut (Syntax.tyInt Syntax.w8))
-      2,
-) (List._∷_ (
-  4,
-  Relend.mslice-owed
-      (Referent.rtF (Referent.fInt Syntax.w8))
-      (Syntax.tyRef (Syntax.named 3) Syntax.mut (Syntax.tyInt Syntax.w8))
-      3
-      12
-      Row.off,
-) (List._∷_ (
-  5,
-  Rows'.any-gone
-      (Syntax.tyStruct
-      (List._∷_
-      111
-      (List._∷_
-      119
-      (List._∷_
-      110
-      (List._∷_ 58 (List._∷_ 58 (List._∷_ 79 (List._∷_ 119 (List._∷_ 110 List.[]))))))))
-      (Syntax.tcons
-      (Syntax.tyArray (Syntax.tyInt Syntax.w8) 16)
-      (Syntax.tcons (Syntax.tyArray (Syntax.tyInt Syntax.w8) 16) Syntax.tnil))),
-) (List._∷_ (6, Rows'.sc-here (Row.sInt Syntax.w64)) (List._∷_ (
-  7,
-  Rows'.sc-here (Row.sInt Syntax.w8),
-) (List._∷_ (8, Rows'.sc-here (Row.sInt Syntax.w64)) (List._∷_ (
-  9,
-  Rows'.any-gone
-      (Syntax.tyStruct
-      (List._∷_
-      109
-      (List._∷_
-      101
-      (List._∷_
-      115
-      (List._∷_
-      115
-      (List._∷_
-      97
-      (List._∷_
-      103
-      (List._∷_
-      101
-      (List._∷_
-      58
-      (List._∷_ 58 (List._∷_ 76 (List._∷_ 105 (List._∷_ 110 (List._∷_ 107 List.[])))))))))))))
-      (Syntax.tcons
-      (Syntax.tyArray (Syntax.tyInt Syntax.w8) 16)
-      (Syntax.tcons
-      Syntax.tyBool
-      (Syntax.tcons
-      Syntax.tyBool
-      (Syntax.tcons (Syntax.tyInt Syntax.w16) (Syntax.tcons Syntax.tyBool Syntax.tnil)))))),
-) (List._∷_ (
-  10,
-  Rows'.sref
-      (KParsed.R)
-      (Syntax.tyRef (Syntax.named 4) Syntax.imm (KParsed.named))
-      4,
-) (List._∷_ (
-  11,
-  Rows'.sref
-      (Array'.Array (Array'.Array (Referent.rtF (Referent.fInt Syntax.w8)) 16) 16)
-      (Syntax.tyRef
-      (Syntax.named 5)
-      Syntax.imm
-      (Syntax.tyArray (Syntax.tyArray (Syntax.tyInt Syntax.w8) 16) 16))
-      5,
-) (List._∷_ (12, Rows'.any-gone (Syntax.tyInt Syntax.w8)) (List._∷_ (
-  13,
-  Rows'.any-gone (Syntax.tyArray (Syntax.tyInt Syntax.w8) 16),
-) (List._∷_ (14, Rows'.any-gone (Syntax.tyArray (Syntax.tyInt Syntax.w8) 16)) (List._∷_ (
-  15,
-  Rows'.any-gone
-      (Syntax.tyStruct
-      (List._∷_
-      109
-      (List._∷_
-      101
-      (List._∷_
-      115
-      (List._∷_
-      115
-      (List._∷_
-      97
-      (List._∷_
-      103
-      (List._∷_
-      101
-      (List._∷_
-      58
-      (List._∷_
-      58
-      (List._∷_ 70 (List._∷_ 111 (List._∷_ 117 (List._∷_ 110 (List._∷_ 100 List.[]))))))))))))))
-      (Syntax.tcons
-      Syntax.tyBool
-      (Syntax.tcons
-      (Syntax.tyInt Syntax.w64)
-      (Syntax.tcons (KInstanceRow.spelled) Syntax.tnil)))),
-) List.[])))))))))))))))
-
-abbrev pub t94 : List.List Row.Entry
-t94 = List._∷_ (
-  32,
-  Rows'.any-gone
-      (Syntax.tyStruct
-      (List._∷_ 38 (List._∷_ 91 (List._∷_ 93 List.[])))
-      (Syntax.tcons
-      (Syntax.tyRef Syntax.erased Syntax.imm (KInstanceRow.named))
-      (Syntax.tcons (Syntax.tyInt Syntax.w64) Syntax.tnil))),
-) (List._∷_ (33, Rows'.any-gone (Syntax.tyInt Syntax.w8)) (List._∷_ (
-  34,
-  Rows'.any-gone Syntax.tyBool,
-) (List._∷_ (35, Rows'.any-gone (KDecided.spelled)) (List._∷_ (
-  36,
-  Rows'.any-gone (KPost.spelled),
-) (List._∷_ (
-  37,
-  Rows'.any-gone
-      (Syntax.tyRef Syntax.erased Syntax.mut (KInstanceRow.named)),
-) (List._∷_ (
-  38,
-  Rows'.any-gone
-      (Syntax.tyStruct
-      (List._∷_ 38 (List._∷_ 91 (List._∷_ 93 List.[])))
-      (Syntax.tcons
-      (Syntax.tyRef Syntax.erased Syntax.mut (KInstanceRow.named))
-      (Syntax.tcons (Syntax.tyInt Syntax.w64) Syntax.tnil))),
-) (List._∷_ (
-  39,
-  Rows'.any-gone
-      (Syntax.tyRef Syntax.erased Syntax.mut (KRouteRow.named)),
-) (List._∷_ (
-  40,
-  Rows'.any-gone
-      (Syntax.tyStruct
-      (List._∷_ 38 (List._∷_ 91 (List._∷_ 93 List.[])))
-      (Syntax.tcons
-      (Syntax.tyRef Syntax.erased Syntax.mut (KRouteRow.named))
-      (Syntax.tcons (Syntax.tyInt Syntax.w64) Syntax.tnil))),
-)
-    (List._∷_ (
-      41,
-      Rows'.any-gone (Syntax.tyRef Syntax.erased Syntax.mut (Syntax.tyInt Syntax.w8)),
-    ) (List._∷_ (
-      42,
       Rows'.any-gone
           (Syntax.tyStruct
           (List._∷_ 38 (List._∷_ 91 (List._∷_ 93 List.[])))
@@ -23628,29 +22316,29 @@ t94 = List._∷_ (
           (Syntax.tyRef Syntax.erased Syntax.mut (Syntax.tyInt Syntax.w8))
           (Syntax.tcons (Syntax.tyInt Syntax.w64) Syntax.tnil))),
     ) (List._∷_ (
-      43,
+      42,
       Rows'.any-gone (Syntax.tyRef Syntax.erased Syntax.mut (Syntax.tyInt Syntax.w8)),
     ) (List._∷_ (
-      44,
+      43,
       Mut.msleft
           (Referent.rtF (Referent.fInt Syntax.w8))
           (Syntax.tyRef Syntax.erased Syntax.mut (Syntax.tyInt Syntax.w8)),
     ) (List._∷_ (
-      45,
+      44,
       Rows'.any-gone
           (Syntax.tyRef Syntax.erased Syntax.imm (KDecided.named)),
+    ) (List._∷_ (
+      45,
+      Rows'.any-gone
+          (Syntax.tyRef Syntax.erased Syntax.imm (KPost.named)),
     ) (List._∷_ (
       46,
       Rows'.any-gone
           (Syntax.tyRef Syntax.erased Syntax.imm (KPost.named)),
-    ) (List._∷_ (
-      47,
-      Rows'.any-gone
-          (Syntax.tyRef Syntax.erased Syntax.imm (KPost.named)),
-    ) List.[])))))))))))))))
+    ) List.[]))))))))))))))
 
-abbrev pub t95 : List.List Row.Entry
-t95 = List._∷_ (0, Rows'.whole (Declared'.row Outcome.the-type)) (List._∷_ (
+abbrev pub t91 : List.List Row.Entry
+t91 = List._∷_ (0, Rows'.whole (Declared'.row Outcome.the-type)) (List._∷_ (
   1,
   Mut.mslice
       (KInstanceRow.R)
@@ -23767,6 +22455,1694 @@ t95 = List._∷_ (0, Rows'.whole (Declared'.row Outcome.the-type)) (List._∷_ (
       (Syntax.tcons (KInstanceRow.spelled) Syntax.tnil)))),
 ) List.[])))))))))))))))
 
+abbrev pub t92 : List.List Row.Entry
+t92 = List._∷_ (
+  16,
+  Rows'.any-gone
+      (Syntax.tyStruct
+      (List._∷_
+      109
+      (List._∷_
+      101
+      (List._∷_
+      115
+      (List._∷_
+      115
+      (List._∷_
+      97
+      (List._∷_
+      103
+      (List._∷_
+      101
+      (List._∷_
+      58
+      (List._∷_
+      58
+      (List._∷_
+      70
+      (List._∷_
+      111
+      (List._∷_
+      117
+      (List._∷_
+      110
+      (List._∷_
+      100
+      (List._∷_
+      82
+      (List._∷_ 111 (List._∷_ 117 (List._∷_ 116 (List._∷_ 101 List.[])))))))))))))))))))
+      (Syntax.tcons
+      Syntax.tyBool
+      (Syntax.tcons
+      (Syntax.tyInt Syntax.w64)
+      (Syntax.tcons (KRouteRow.spelled) Syntax.tnil)))),
+) (List._∷_ (
+  17,
+  Rows'.any-gone
+      (Syntax.tyStruct
+      (List._∷_
+      109
+      (List._∷_
+      101
+      (List._∷_
+      115
+      (List._∷_
+      115
+      (List._∷_
+      97
+      (List._∷_
+      103
+      (List._∷_
+      101
+      (List._∷_
+      58
+      (List._∷_
+      58
+      (List._∷_
+      70
+      (List._∷_
+      114
+      (List._∷_
+      101
+      (List._∷_
+      101
+      (List._∷_ 68 (List._∷_ 101 (List._∷_ 108 (List._∷_ 116 (List._∷_ 97 List.[]))))))))))))))))))
+      (Syntax.tcons Syntax.tyBool (Syntax.tcons (Syntax.tyInt Syntax.w8) Syntax.tnil))),
+) (List._∷_ (
+  18,
+  Rows'.any-gone
+      (Syntax.tyStruct
+      (List._∷_
+      114
+      (List._∷_
+      101
+      (List._∷_
+      113
+      (List._∷_
+      117
+      (List._∷_
+      101
+      (List._∷_
+      115
+      (List._∷_
+      116
+      (List._∷_
+      58
+      (List._∷_
+      58
+      (List._∷_
+      82
+      (List._∷_
+      101
+      (List._∷_
+      113
+      (List._∷_
+      117
+      (List._∷_
+      101
+      (List._∷_
+      115
+      (List._∷_
+      116
+      (List._∷_
+      70
+      (List._∷_ 97 (List._∷_ 99 (List._∷_ 116 (List._∷_ 115 List.[])))))))))))))))))))))
+      (Syntax.tcons
+      (Syntax.tyStruct
+      (List._∷_
+      109
+      (List._∷_
+      101
+      (List._∷_
+      115
+      (List._∷_
+      115
+      (List._∷_
+      97
+      (List._∷_
+      103
+      (List._∷_
+      101
+      (List._∷_
+      58
+      (List._∷_
+      58
+      (List._∷_ 70 (List._∷_ 111 (List._∷_ 117 (List._∷_ 110 (List._∷_ 100 List.[]))))))))))))))
+      (Syntax.tcons
+      Syntax.tyBool
+      (Syntax.tcons
+      (Syntax.tyInt Syntax.w64)
+      (Syntax.tcons (KInstanceRow.spelled) Syntax.tnil))))
+      (Syntax.tcons
+      (Syntax.tyStruct
+      (List._∷_
+      109
+      (List._∷_
+      101
+      (List._∷_
+      115
+      (List._∷_
+      115
+      (List._∷_
+      97
+      (List._∷_
+      103
+      (List._∷_
+      101
+      (List._∷_
+      58
+      (List._∷_
+      58
+      (List._∷_
+      70
+      (List._∷_
+      111
+      (List._∷_
+      117
+      (List._∷_
+      110
+      (List._∷_
+      100
+      (List._∷_
+      82
+      (List._∷_ 111 (List._∷_ 117 (List._∷_ 116 (List._∷_ 101 List.[])))))))))))))))))))
+      (Syntax.tcons
+      Syntax.tyBool
+      (Syntax.tcons
+      (Syntax.tyInt Syntax.w64)
+      (Syntax.tcons (KRouteRow.spelled) Syntax.tnil))))
+      (Syntax.tcons
+      (Syntax.tyInt Syntax.w32)
+      (Syntax.tcons
+      (Syntax.tyEnum
+      (List._∷_
+      112
+      (List._∷_
+      108
+      (List._∷_
+      97
+      (List._∷_
+      105
+      (List._∷_
+      110
+      (List._∷_
+      58
+      (List._∷_
+      58
+      (List._∷_
+      83
+      (List._∷_
+      116
+      (List._∷_
+      97
+      (List._∷_ 110 (List._∷_ 100 (List._∷_ 105 (List._∷_ 110 (List._∷_ 103 List.[])))))))))))))))
+      (Syntax.ttcons
+      Syntax.tnil
+      (Syntax.ttcons
+      Syntax.tnil
+      (Syntax.ttcons
+      Syntax.tnil
+      (Syntax.ttcons Syntax.tnil (Syntax.ttcons Syntax.tnil Syntax.ttnil))))))
+      (Syntax.tcons
+      Syntax.tyBool
+      (Syntax.tcons
+      (Syntax.tyStruct
+      (List._∷_
+      97
+      (List._∷_
+      114
+      (List._∷_
+      116
+      (List._∷_
+      58
+      (List._∷_
+      58
+      (List._∷_
+      84
+      (List._∷_
+      97
+      (List._∷_ 114 (List._∷_ 103 (List._∷_ 101 (List._∷_ 116 (List._∷_ 115 List.[]))))))))))))
+      (Syntax.tcons
+      Syntax.tyBool
+      (Syntax.tcons
+      (Syntax.tyInt Syntax.w64)
+      (Syntax.tcons
+      (Syntax.tyArray
+      (Syntax.tyStruct
+      (List._∷_
+      112
+      (List._∷_
+      108
+      (List._∷_
+      97
+      (List._∷_
+      105
+      (List._∷_
+      110
+      (List._∷_
+      58
+      (List._∷_
+      58
+      (List._∷_
+      84
+      (List._∷_ 97 (List._∷_ 114 (List._∷_ 103 (List._∷_ 101 (List._∷_ 116 List.[])))))))))))))
+      (Syntax.tcons
+      (Syntax.tyInt Syntax.w8)
+      (Syntax.tcons
+      (Syntax.tyInt Syntax.w8)
+      (Syntax.tcons (Syntax.tyArray (Syntax.tyInt Syntax.w8) 16) Syntax.tnil))))
+      8)
+      Syntax.tnil))))
+      (Syntax.tcons
+      (Syntax.tyStruct
+      (List._∷_
+      109
+      (List._∷_
+      101
+      (List._∷_
+      115
+      (List._∷_
+      115
+      (List._∷_
+      97
+      (List._∷_
+      103
+      (List._∷_
+      101
+      (List._∷_
+      58
+      (List._∷_
+      58
+      (List._∷_
+      70
+      (List._∷_
+      114
+      (List._∷_
+      101
+      (List._∷_
+      101
+      (List._∷_ 68 (List._∷_ 101 (List._∷_ 108 (List._∷_ 116 (List._∷_ 97 List.[]))))))))))))))))))
+      (Syntax.tcons Syntax.tyBool (Syntax.tcons (Syntax.tyInt Syntax.w8) Syntax.tnil)))
+      Syntax.tnil)))))))),
+) (List._∷_ (
+  19,
+  Rows'.any-gone
+      (Syntax.tyEnum
+      (List._∷_
+      97
+      (List._∷_
+      110
+      (List._∷_
+      115
+      (List._∷_
+      119
+      (List._∷_
+      101
+      (List._∷_
+      114
+      (List._∷_
+      58
+      (List._∷_
+      58
+      (List._∷_
+      65
+      (List._∷_ 110 (List._∷_ 115 (List._∷_ 119 (List._∷_ 101 (List._∷_ 114 List.[]))))))))))))))
+      (Syntax.ttcons
+      Syntax.tnil
+      (Syntax.ttcons
+      Syntax.tnil
+      (Syntax.ttcons
+      Syntax.tnil
+      (Syntax.ttcons
+      Syntax.tnil
+      (Syntax.ttcons
+      Syntax.tnil
+      (Syntax.ttcons
+      Syntax.tnil
+      (Syntax.ttcons
+      Syntax.tnil
+      (Syntax.ttcons
+      Syntax.tnil
+      (Syntax.ttcons
+      Syntax.tnil
+      (Syntax.ttcons
+      Syntax.tnil
+      (Syntax.ttcons
+      Syntax.tnil
+      (Syntax.ttcons
+      Syntax.tnil
+      (Syntax.ttcons
+      Syntax.tnil
+      (Syntax.ttcons
+      Syntax.tnil
+      (Syntax.ttcons
+      Syntax.tnil
+      (Syntax.ttcons
+      Syntax.tnil
+      (Syntax.ttcons Syntax.tnil (Syntax.ttcons Syntax.tnil Syntax.ttnil))))))))))))))))))),
+) (List._∷_ (20, KDecided.row) (List._∷_ (
+  21,
+  Rows'.sc-shr
+      (KPost.row)
+      (KPost.R)
+      (λ x. x)
+      14,
+) (List._∷_ (
+  22,
+  Rows'.sc-shr
+      (KPost.row)
+      (KPost.R)
+      (λ x. x)
+      15,
+) (List._∷_ (
+  23,
+  Rows'.any-gone
+      (Syntax.tyStruct
+      (List._∷_
+      102
+      (List._∷_
+      105
+      (List._∷_
+      110
+      (List._∷_
+      105
+      (List._∷_
+      115
+      (List._∷_
+      104
+      (List._∷_
+      58
+      (List._∷_ 58 (List._∷_ 76 (List._∷_ 105 (List._∷_ 118 (List._∷_ 101 List.[]))))))))))))
+      (Syntax.tcons
+      Syntax.tyBool
+      (Syntax.tcons
+      (Syntax.tyInt Syntax.w64)
+      (Syntax.tcons Syntax.tyBool (Syntax.tcons (Syntax.tyInt Syntax.w64) Syntax.tnil))))),
+) (List._∷_ (24, Rows'.any-gone Syntax.tyUnit) (List._∷_ (
+  25,
+  Rows'.any-gone (KParsed.spelled),
+) (List._∷_ (
+  26,
+  Rows'.any-gone
+      (Syntax.tyRef Syntax.erased Syntax.imm (KInstanceRow.named)),
+) (List._∷_ (
+  27,
+  Rows'.any-gone
+      (Syntax.tyStruct
+      (List._∷_ 38 (List._∷_ 91 (List._∷_ 93 List.[])))
+      (Syntax.tcons
+      (Syntax.tyRef Syntax.erased Syntax.imm (KInstanceRow.named))
+      (Syntax.tcons (Syntax.tyInt Syntax.w64) Syntax.tnil))),
+) (List._∷_ (
+  28,
+  Rows'.any-gone
+      (Syntax.tyRef Syntax.erased Syntax.imm (KRouteRow.named)),
+) (List._∷_ (
+  29,
+  Rows'.any-gone
+      (Syntax.tyStruct
+      (List._∷_ 38 (List._∷_ 91 (List._∷_ 93 List.[])))
+      (Syntax.tcons
+      (Syntax.tyRef Syntax.erased Syntax.imm (KRouteRow.named))
+      (Syntax.tcons (Syntax.tyInt Syntax.w64) Syntax.tnil))),
+) (List._∷_ (
+  30,
+  Rows'.any-gone
+      (Syntax.tyRef Syntax.erased Syntax.imm (KInstanceRow.named)),
+) (List._∷_ (
+  31,
+  Rows'.any-gone
+      (Syntax.tyStruct
+      (List._∷_ 38 (List._∷_ 91 (List._∷_ 93 List.[])))
+      (Syntax.tcons
+      (Syntax.tyRef Syntax.erased Syntax.imm (KInstanceRow.named))
+      (Syntax.tcons (Syntax.tyInt Syntax.w64) Syntax.tnil))),
+) List.[])))))))))))))))
+
+abbrev pub t93 : List.List Row.Entry
+t93 = List._∷_ (
+  16,
+  Rows'.any-gone
+      (Syntax.tyStruct
+      (List._∷_
+      109
+      (List._∷_
+      101
+      (List._∷_
+      115
+      (List._∷_
+      115
+      (List._∷_
+      97
+      (List._∷_
+      103
+      (List._∷_
+      101
+      (List._∷_
+      58
+      (List._∷_
+      58
+      (List._∷_
+      70
+      (List._∷_
+      111
+      (List._∷_
+      117
+      (List._∷_
+      110
+      (List._∷_
+      100
+      (List._∷_
+      82
+      (List._∷_ 111 (List._∷_ 117 (List._∷_ 116 (List._∷_ 101 List.[])))))))))))))))))))
+      (Syntax.tcons
+      Syntax.tyBool
+      (Syntax.tcons
+      (Syntax.tyInt Syntax.w64)
+      (Syntax.tcons (KRouteRow.spelled) Syntax.tnil)))),
+) (List._∷_ (
+  17,
+  Rows'.any-gone
+      (Syntax.tyStruct
+      (List._∷_
+      109
+      (List._∷_
+      101
+      (List._∷_
+      115
+      (List._∷_
+      115
+      (List._∷_
+      97
+      (List._∷_
+      103
+      (List._∷_
+      101
+      (List._∷_
+      58
+      (List._∷_
+      58
+      (List._∷_
+      70
+      (List._∷_
+      114
+      (List._∷_
+      101
+      (List._∷_
+      101
+      (List._∷_ 68 (List._∷_ 101 (List._∷_ 108 (List._∷_ 116 (List._∷_ 97 List.[]))))))))))))))))))
+      (Syntax.tcons Syntax.tyBool (Syntax.tcons (Syntax.tyInt Syntax.w8) Syntax.tnil))),
+) (List._∷_ (
+  18,
+  Rows'.any-gone
+      (Syntax.tyStruct
+      (List._∷_
+      114
+      (List._∷_
+      101
+      (List._∷_
+      113
+      (List._∷_
+      117
+      (List._∷_
+      101
+      (List._∷_
+      115
+      (List._∷_
+      116
+      (List._∷_
+      58
+      (List._∷_
+      58
+      (List._∷_
+      82
+      (List._∷_
+      101
+      (List._∷_
+      113
+      (List._∷_
+      117
+      (List._∷_
+      101
+      (List._∷_
+      115
+      (List._∷_
+      116
+      (List._∷_
+      70
+      (List._∷_ 97 (List._∷_ 99 (List._∷_ 116 (List._∷_ 115 List.[])))))))))))))))))))))
+      (Syntax.tcons
+      (Syntax.tyStruct
+      (List._∷_
+      109
+      (List._∷_
+      101
+      (List._∷_
+      115
+      (List._∷_
+      115
+      (List._∷_
+      97
+      (List._∷_
+      103
+      (List._∷_
+      101
+      (List._∷_
+      58
+      (List._∷_
+      58
+      (List._∷_ 70 (List._∷_ 111 (List._∷_ 117 (List._∷_ 110 (List._∷_ 100 List.[]))))))))))))))
+      (Syntax.tcons
+      Syntax.tyBool
+      (Syntax.tcons
+      (Syntax.tyInt Syntax.w64)
+      (Syntax.tcons (KInstanceRow.spelled) Syntax.tnil))))
+      (Syntax.tcons
+      (Syntax.tyStruct
+      (List._∷_
+      109
+      (List._∷_
+      101
+      (List._∷_
+      115
+      (List._∷_
+      115
+      (List._∷_
+      97
+      (List._∷_
+      103
+      (List._∷_
+      101
+      (List._∷_
+      58
+      (List._∷_
+      58
+      (List._∷_
+      70
+      (List._∷_
+      111
+      (List._∷_
+      117
+      (List._∷_
+      110
+      (List._∷_
+      100
+      (List._∷_
+      82
+      (List._∷_ 111 (List._∷_ 117 (List._∷_ 116 (List._∷_ 101 List.[])))))))))))))))))))
+      (Syntax.tcons
+      Syntax.tyBool
+      (Syntax.tcons
+      (Syntax.tyInt Syntax.w64)
+      (Syntax.tcons (KRouteRow.spelled) Syntax.tnil))))
+      (Syntax.tcons
+      (Syntax.tyInt Syntax.w32)
+      (Syntax.tcons
+      (Syntax.tyEnum
+      (List._∷_
+      112
+      (List._∷_
+      108
+      (List._∷_
+      97
+      (List._∷_
+      105
+      (List._∷_
+      110
+      (List._∷_
+      58
+      (List._∷_
+      58
+      (List._∷_
+      83
+      (List._∷_
+      116
+      (List._∷_
+      97
+      (List._∷_ 110 (List._∷_ 100 (List._∷_ 105 (List._∷_ 110 (List._∷_ 103 List.[])))))))))))))))
+      (Syntax.ttcons
+      Syntax.tnil
+      (Syntax.ttcons
+      Syntax.tnil
+      (Syntax.ttcons
+      Syntax.tnil
+      (Syntax.ttcons Syntax.tnil (Syntax.ttcons Syntax.tnil Syntax.ttnil))))))
+      (Syntax.tcons
+      Syntax.tyBool
+      (Syntax.tcons
+      (Syntax.tyStruct
+      (List._∷_
+      97
+      (List._∷_
+      114
+      (List._∷_
+      116
+      (List._∷_
+      58
+      (List._∷_
+      58
+      (List._∷_
+      84
+      (List._∷_
+      97
+      (List._∷_ 114 (List._∷_ 103 (List._∷_ 101 (List._∷_ 116 (List._∷_ 115 List.[]))))))))))))
+      (Syntax.tcons
+      Syntax.tyBool
+      (Syntax.tcons
+      (Syntax.tyInt Syntax.w64)
+      (Syntax.tcons
+      (Syntax.tyArray
+      (Syntax.tyStruct
+      (List._∷_
+      112
+      (List._∷_
+      108
+      (List._∷_
+      97
+      (List._∷_
+      105
+      (List._∷_
+      110
+      (List._∷_
+      58
+      (List._∷_
+      58
+      (List._∷_
+      84
+      (List._∷_ 97 (List._∷_ 114 (List._∷_ 103 (List._∷_ 101 (List._∷_ 116 List.[])))))))))))))
+      (Syntax.tcons
+      (Syntax.tyInt Syntax.w8)
+      (Syntax.tcons
+      (Syntax.tyInt Syntax.w8)
+      (Syntax.tcons (Syntax.tyArray (Syntax.tyInt Syntax.w8) 16) Syntax.tnil))))
+      8)
+      Syntax.tnil))))
+      (Syntax.tcons
+      (Syntax.tyStruct
+      (List._∷_
+      109
+      (List._∷_
+      101
+      (List._∷_
+      115
+      (List._∷_
+      115
+      (List._∷_
+      97
+      (List._∷_
+      103
+      (List._∷_
+      101
+      (List._∷_
+      58
+      (List._∷_
+      58
+      (List._∷_
+      70
+      (List._∷_
+      114
+      (List._∷_
+      101
+      (List._∷_
+      101
+      (List._∷_ 68 (List._∷_ 101 (List._∷_ 108 (List._∷_ 116 (List._∷_ 97 List.[]))))))))))))))))))
+      (Syntax.tcons Syntax.tyBool (Syntax.tcons (Syntax.tyInt Syntax.w8) Syntax.tnil)))
+      Syntax.tnil)))))))),
+) (List._∷_ (
+  19,
+  Rows'.any-gone
+      (Syntax.tyEnum
+      (List._∷_
+      97
+      (List._∷_
+      110
+      (List._∷_
+      115
+      (List._∷_
+      119
+      (List._∷_
+      101
+      (List._∷_
+      114
+      (List._∷_
+      58
+      (List._∷_
+      58
+      (List._∷_
+      65
+      (List._∷_ 110 (List._∷_ 115 (List._∷_ 119 (List._∷_ 101 (List._∷_ 114 List.[]))))))))))))))
+      (Syntax.ttcons
+      Syntax.tnil
+      (Syntax.ttcons
+      Syntax.tnil
+      (Syntax.ttcons
+      Syntax.tnil
+      (Syntax.ttcons
+      Syntax.tnil
+      (Syntax.ttcons
+      Syntax.tnil
+      (Syntax.ttcons
+      Syntax.tnil
+      (Syntax.ttcons
+      Syntax.tnil
+      (Syntax.ttcons
+      Syntax.tnil
+      (Syntax.ttcons
+      Syntax.tnil
+      (Syntax.ttcons
+      Syntax.tnil
+      (Syntax.ttcons
+      Syntax.tnil
+      (Syntax.ttcons
+      Syntax.tnil
+      (Syntax.ttcons
+      Syntax.tnil
+      (Syntax.ttcons
+      Syntax.tnil
+      (Syntax.ttcons
+      Syntax.tnil
+      (Syntax.ttcons
+      Syntax.tnil
+      (Syntax.ttcons Syntax.tnil (Syntax.ttcons Syntax.tnil Syntax.ttnil))))))))))))))))))),
+) (List._∷_ (20, Rows'.any-gone (KDecided.spelled)) (List._∷_ (
+  21,
+  Rows'.sc-shr
+      (KPost.row)
+      (KPost.R)
+      (λ x. x)
+      14,
+) (List._∷_ (
+  22,
+  Rows'.sc-shr
+      (KPost.row)
+      (KPost.R)
+      (λ x. x)
+      15,
+) (List._∷_ (
+  23,
+  Rows'.any-gone
+      (Syntax.tyStruct
+      (List._∷_
+      102
+      (List._∷_
+      105
+      (List._∷_
+      110
+      (List._∷_
+      105
+      (List._∷_
+      115
+      (List._∷_
+      104
+      (List._∷_
+      58
+      (List._∷_ 58 (List._∷_ 76 (List._∷_ 105 (List._∷_ 118 (List._∷_ 101 List.[]))))))))))))
+      (Syntax.tcons
+      Syntax.tyBool
+      (Syntax.tcons
+      (Syntax.tyInt Syntax.w64)
+      (Syntax.tcons Syntax.tyBool (Syntax.tcons (Syntax.tyInt Syntax.w64) Syntax.tnil))))),
+) (List._∷_ (24, Rows'.any-gone Syntax.tyUnit) (List._∷_ (
+  25,
+  Rows'.any-gone (KParsed.spelled),
+) (List._∷_ (
+  26,
+  Rows'.any-gone
+      (Syntax.tyRef Syntax.erased Syntax.imm (KInstanceRow.named)),
+) (List._∷_ (
+  27,
+  Rows'.any-gone
+      (Syntax.tyStruct
+      (List._∷_ 38 (List._∷_ 91 (List._∷_ 93 List.[])))
+      (Syntax.tcons
+      (Syntax.tyRef Syntax.erased Syntax.imm (KInstanceRow.named))
+      (Syntax.tcons (Syntax.tyInt Syntax.w64) Syntax.tnil))),
+) (List._∷_ (
+  28,
+  Rows'.any-gone
+      (Syntax.tyRef Syntax.erased Syntax.imm (KRouteRow.named)),
+) (List._∷_ (
+  29,
+  Rows'.any-gone
+      (Syntax.tyStruct
+      (List._∷_ 38 (List._∷_ 91 (List._∷_ 93 List.[])))
+      (Syntax.tcons
+      (Syntax.tyRef Syntax.erased Syntax.imm (KRouteRow.named))
+      (Syntax.tcons (Syntax.tyInt Syntax.w64) Syntax.tnil))),
+) (List._∷_ (
+  30,
+  Rows'.any-gone
+      (Syntax.tyRef Syntax.erased Syntax.imm (KInstanceRow.named)),
+) (List._∷_ (
+  31,
+  Rows'.any-gone
+      (Syntax.tyStruct
+      (List._∷_ 38 (List._∷_ 91 (List._∷_ 93 List.[])))
+      (Syntax.tcons
+      (Syntax.tyRef Syntax.erased Syntax.imm (KInstanceRow.named))
+      (Syntax.tcons (Syntax.tyInt Syntax.w64) Syntax.tnil))),
+) List.[])))))))))))))))
+
+abbrev pub t94 : List.List Row.Entry
+t94 = List._∷_ (
+  16,
+  Rows'.any-gone
+      (Syntax.tyStruct
+      (List._∷_
+      109
+      (List._∷_
+      101
+      (List._∷_
+      115
+      (List._∷_
+      115
+      (List._∷_
+      97
+      (List._∷_
+      103
+      (List._∷_
+      101
+      (List._∷_
+      58
+      (List._∷_
+      58
+      (List._∷_
+      70
+      (List._∷_
+      111
+      (List._∷_
+      117
+      (List._∷_
+      110
+      (List._∷_
+      100
+      (List._∷_
+      82
+      (List._∷_ 111 (List._∷_ 117 (List._∷_ 116 (List._∷_ 101 List.[])))))))))))))))))))
+      (Syntax.tcons
+      Syntax.tyBool
+      (Syntax.tcons
+      (Syntax.tyInt Syntax.w64)
+      (Syntax.tcons (KRouteRow.spelled) Syntax.tnil)))),
+) (List._∷_ (
+  17,
+  Rows'.any-gone
+      (Syntax.tyStruct
+      (List._∷_
+      109
+      (List._∷_
+      101
+      (List._∷_
+      115
+      (List._∷_
+      115
+      (List._∷_
+      97
+      (List._∷_
+      103
+      (List._∷_
+      101
+      (List._∷_
+      58
+      (List._∷_
+      58
+      (List._∷_
+      70
+      (List._∷_
+      114
+      (List._∷_
+      101
+      (List._∷_
+      101
+      (List._∷_ 68 (List._∷_ 101 (List._∷_ 108 (List._∷_ 116 (List._∷_ 97 List.[]))))))))))))))))))
+      (Syntax.tcons Syntax.tyBool (Syntax.tcons (Syntax.tyInt Syntax.w8) Syntax.tnil))),
+) (List._∷_ (
+  18,
+  Rows'.any-gone
+      (Syntax.tyStruct
+      (List._∷_
+      114
+      (List._∷_
+      101
+      (List._∷_
+      113
+      (List._∷_
+      117
+      (List._∷_
+      101
+      (List._∷_
+      115
+      (List._∷_
+      116
+      (List._∷_
+      58
+      (List._∷_
+      58
+      (List._∷_
+      82
+      (List._∷_
+      101
+      (List._∷_
+      113
+      (List._∷_
+      117
+      (List._∷_
+      101
+      (List._∷_
+      115
+      (List._∷_
+      116
+      (List._∷_
+      70
+      (List._∷_ 97 (List._∷_ 99 (List._∷_ 116 (List._∷_ 115 List.[])))))))))))))))))))))
+      (Syntax.tcons
+      (Syntax.tyStruct
+      (List._∷_
+      109
+      (List._∷_
+      101
+      (List._∷_
+      115
+      (List._∷_
+      115
+      (List._∷_
+      97
+      (List._∷_
+      103
+      (List._∷_
+      101
+      (List._∷_
+      58
+      (List._∷_
+      58
+      (List._∷_ 70 (List._∷_ 111 (List._∷_ 117 (List._∷_ 110 (List._∷_ 100 List.[]))))))))))))))
+      (Syntax.tcons
+      Syntax.tyBool
+      (Syntax.tcons
+      (Syntax.tyInt Syntax.w64)
+      (Syntax.tcons (KInstanceRow.spelled) Syntax.tnil))))
+      (Syntax.tcons
+      (Syntax.tyStruct
+      (List._∷_
+      109
+      (List._∷_
+      101
+      (List._∷_
+      115
+      (List._∷_
+      115
+      (List._∷_
+      97
+      (List._∷_
+      103
+      (List._∷_
+      101
+      (List._∷_
+      58
+      (List._∷_
+      58
+      (List._∷_
+      70
+      (List._∷_
+      111
+      (List._∷_
+      117
+      (List._∷_
+      110
+      (List._∷_
+      100
+      (List._∷_
+      82
+      (List._∷_ 111 (List._∷_ 117 (List._∷_ 116 (List._∷_ 101 List.[])))))))))))))))))))
+      (Syntax.tcons
+      Syntax.tyBool
+      (Syntax.tcons
+      (Syntax.tyInt Syntax.w64)
+      (Syntax.tcons (KRouteRow.spelled) Syntax.tnil))))
+      (Syntax.tcons
+      (Syntax.tyInt Syntax.w32)
+      (Syntax.tcons
+      (Syntax.tyEnum
+      (List._∷_
+      112
+      (List._∷_
+      108
+      (List._∷_
+      97
+      (List._∷_
+      105
+      (List._∷_
+      110
+      (List._∷_
+      58
+      (List._∷_
+      58
+      (List._∷_
+      83
+      (List._∷_
+      116
+      (List._∷_
+      97
+      (List._∷_ 110 (List._∷_ 100 (List._∷_ 105 (List._∷_ 110 (List._∷_ 103 List.[])))))))))))))))
+      (Syntax.ttcons
+      Syntax.tnil
+      (Syntax.ttcons
+      Syntax.tnil
+      (Syntax.ttcons
+      Syntax.tnil
+      (Syntax.ttcons Syntax.tnil (Syntax.ttcons Syntax.tnil Syntax.ttnil))))))
+      (Syntax.tcons
+      Syntax.tyBool
+      (Syntax.tcons
+      (Syntax.tyStruct
+      (List._∷_
+      97
+      (List._∷_
+      114
+      (List._∷_
+      116
+      (List._∷_
+      58
+      (List._∷_
+      58
+      (List._∷_
+      84
+      (List._∷_
+      97
+      (List._∷_ 114 (List._∷_ 103 (List._∷_ 101 (List._∷_ 116 (List._∷_ 115 List.[]))))))))))))
+      (Syntax.tcons
+      Syntax.tyBool
+      (Syntax.tcons
+      (Syntax.tyInt Syntax.w64)
+      (Syntax.tcons
+      (Syntax.tyArray
+      (Syntax.tyStruct
+      (List._∷_
+      112
+      (List._∷_
+      108
+      (List._∷_
+      97
+      (List._∷_
+      105
+      (List._∷_
+      110
+      (List._∷_
+      58
+      (List._∷_
+      58
+      (List._∷_
+      84
+      (List._∷_ 97 (List._∷_ 114 (List._∷_ 103 (List._∷_ 101 (List._∷_ 116 List.[])))))))))))))
+      (Syntax.tcons
+      (Syntax.tyInt Syntax.w8)
+      (Syntax.tcons
+      (Syntax.tyInt Syntax.w8)
+      (Syntax.tcons (Syntax.tyArray (Syntax.tyInt Syntax.w8) 16) Syntax.tnil))))
+      8)
+      Syntax.tnil))))
+      (Syntax.tcons
+      (Syntax.tyStruct
+      (List._∷_
+      109
+      (List._∷_
+      101
+      (List._∷_
+      115
+      (List._∷_
+      115
+      (List._∷_
+      97
+      (List._∷_
+      103
+      (List._∷_
+      101
+      (List._∷_
+      58
+      (List._∷_
+      58
+      (List._∷_
+      70
+      (List._∷_
+      114
+      (List._∷_
+      101
+      (List._∷_
+      101
+      (List._∷_ 68 (List._∷_ 101 (List._∷_ 108 (List._∷_ 116 (List._∷_ 97 List.[]))))))))))))))))))
+      (Syntax.tcons Syntax.tyBool (Syntax.tcons (Syntax.tyInt Syntax.w8) Syntax.tnil)))
+      Syntax.tnil)))))))),
+) (List._∷_ (
+  19,
+  Rows'.any-gone
+      (Syntax.tyEnum
+      (List._∷_
+      97
+      (List._∷_
+      110
+      (List._∷_
+      115
+      (List._∷_
+      119
+      (List._∷_
+      101
+      (List._∷_
+      114
+      (List._∷_
+      58
+      (List._∷_
+      58
+      (List._∷_
+      65
+      (List._∷_ 110 (List._∷_ 115 (List._∷_ 119 (List._∷_ 101 (List._∷_ 114 List.[]))))))))))))))
+      (Syntax.ttcons
+      Syntax.tnil
+      (Syntax.ttcons
+      Syntax.tnil
+      (Syntax.ttcons
+      Syntax.tnil
+      (Syntax.ttcons
+      Syntax.tnil
+      (Syntax.ttcons
+      Syntax.tnil
+      (Syntax.ttcons
+      Syntax.tnil
+      (Syntax.ttcons
+      Syntax.tnil
+      (Syntax.ttcons
+      Syntax.tnil
+      (Syntax.ttcons
+      Syntax.tnil
+      (Syntax.ttcons
+      Syntax.tnil
+      (Syntax.ttcons
+      Syntax.tnil
+      (Syntax.ttcons
+      Syntax.tnil
+      (Syntax.ttcons
+      Syntax.tnil
+      (Syntax.ttcons
+      Syntax.tnil
+      (Syntax.ttcons
+      Syntax.tnil
+      (Syntax.ttcons
+      Syntax.tnil
+      (Syntax.ttcons Syntax.tnil (Syntax.ttcons Syntax.tnil Syntax.ttnil))))))))))))))))))),
+) (List._∷_ (20, Rows'.any-gone (KDecided.spelled)) (List._∷_ (
+  21,
+  KPost.row,
+) (List._∷_ (
+  22,
+  Rows'.sc-shr
+      (KPost.row)
+      (KPost.R)
+      (λ x. x)
+      15,
+) (List._∷_ (
+  23,
+  Rows'.any-gone
+      (Syntax.tyStruct
+      (List._∷_
+      102
+      (List._∷_
+      105
+      (List._∷_
+      110
+      (List._∷_
+      105
+      (List._∷_
+      115
+      (List._∷_
+      104
+      (List._∷_
+      58
+      (List._∷_ 58 (List._∷_ 76 (List._∷_ 105 (List._∷_ 118 (List._∷_ 101 List.[]))))))))))))
+      (Syntax.tcons
+      Syntax.tyBool
+      (Syntax.tcons
+      (Syntax.tyInt Syntax.w64)
+      (Syntax.tcons Syntax.tyBool (Syntax.tcons (Syntax.tyInt Syntax.w64) Syntax.tnil))))),
+) (List._∷_ (24, Rows'.any-gone Syntax.tyUnit) (List._∷_ (
+  25,
+  Rows'.any-gone (KParsed.spelled),
+) (List._∷_ (
+  26,
+  Rows'.any-gone
+      (Syntax.tyRef Syntax.erased Syntax.imm (KInstanceRow.named)),
+) (List._∷_ (
+  27,
+  Rows'.any-gone
+      (Syntax.tyStruct
+      (List._∷_ 38 (List._∷_ 91 (List._∷_ 93 List.[])))
+      (Syntax.tcons
+      (Syntax.tyRef Syntax.erased Syntax.imm (KInstanceRow.named))
+      (Syntax.tcons (Syntax.tyInt Syntax.w64) Syntax.tnil))),
+) (List._∷_ (
+  28,
+  Rows'.any-gone
+      (Syntax.tyRef Syntax.erased Syntax.imm (KRouteRow.named)),
+) (List._∷_ (
+  29,
+  Rows'.any-gone
+      (Syntax.tyStruct
+      (List._∷_ 38 (List._∷_ 91 (List._∷_ 93 List.[])))
+      (Syntax.tcons
+      (Syntax.tyRef Syntax.erased Syntax.imm (KRouteRow.named))
+      (Syntax.tcons (Syntax.tyInt Syntax.w64) Syntax.tnil))),
+) (List._∷_ (
+  30,
+  Rows'.any-gone
+      (Syntax.tyRef Syntax.erased Syntax.imm (KInstanceRow.named)),
+) (List._∷_ (
+  31,
+  Rows'.any-gone
+      (Syntax.tyStruct
+      (List._∷_ 38 (List._∷_ 91 (List._∷_ 93 List.[])))
+      (Syntax.tcons
+      (Syntax.tyRef Syntax.erased Syntax.imm (KInstanceRow.named))
+      (Syntax.tcons (Syntax.tyInt Syntax.w64) Syntax.tnil))),
+) List.[])))))))))))))))
+
+abbrev pub t95 : List.List Row.Entry
+t95 = List._∷_ (
+  16,
+  Rows'.any-gone
+      (Syntax.tyStruct
+      (List._∷_
+      109
+      (List._∷_
+      101
+      (List._∷_
+      115
+      (List._∷_
+      115
+      (List._∷_
+      97
+      (List._∷_
+      103
+      (List._∷_
+      101
+      (List._∷_
+      58
+      (List._∷_
+      58
+      (List._∷_
+      70
+      (List._∷_
+      111
+      (List._∷_
+      117
+      (List._∷_
+      110
+      (List._∷_
+      100
+      (List._∷_
+      82
+      (List._∷_ 111 (List._∷_ 117 (List._∷_ 116 (List._∷_ 101 List.[])))))))))))))))))))
+      (Syntax.tcons
+      Syntax.tyBool
+      (Syntax.tcons
+      (Syntax.tyInt Syntax.w64)
+      (Syntax.tcons (KRouteRow.spelled) Syntax.tnil)))),
+) (List._∷_ (
+  17,
+  Rows'.any-gone
+      (Syntax.tyStruct
+      (List._∷_
+      109
+      (List._∷_
+      101
+      (List._∷_
+      115
+      (List._∷_
+      115
+      (List._∷_
+      97
+      (List._∷_
+      103
+      (List._∷_
+      101
+      (List._∷_
+      58
+      (List._∷_
+      58
+      (List._∷_
+      70
+      (List._∷_
+      114
+      (List._∷_
+      101
+      (List._∷_
+      101
+      (List._∷_ 68 (List._∷_ 101 (List._∷_ 108 (List._∷_ 116 (List._∷_ 97 List.[]))))))))))))))))))
+      (Syntax.tcons Syntax.tyBool (Syntax.tcons (Syntax.tyInt Syntax.w8) Syntax.tnil))),
+) (List._∷_ (
+  18,
+  Rows'.any-gone
+      (Syntax.tyStruct
+      (List._∷_
+      114
+      (List._∷_
+      101
+      (List._∷_
+      113
+      (List._∷_
+      117
+      (List._∷_
+      101
+      (List._∷_
+      115
+      (List._∷_
+      116
+      (List._∷_
+      58
+      (List._∷_
+      58
+      (List._∷_
+      82
+      (List._∷_
+      101
+      (List._∷_
+      113
+      (List._∷_
+      117
+      (List._∷_
+      101
+      (List._∷_
+      115
+      (List._∷_
+      116
+      (List._∷_
+      70
+      (List._∷_ 97 (List._∷_ 99 (List._∷_ 116 (List._∷_ 115 List.[])))))))))))))))))))))
+      (Syntax.tcons
+      (Syntax.tyStruct
+      (List._∷_
+      109
+      (List._∷_
+      101
+      (List._∷_
+      115
+      (List._∷_
+      115
+      (List._∷_
+      97
+      (List._∷_
+      103
+      (List._∷_
+      101
+      (List._∷_
+      58
+      (List._∷_
+      58
+      (List._∷_ 70 (List._∷_ 111 (List._∷_ 117 (List._∷_ 110 (List._∷_ 100 List.[]))))))))))))))
+      (Syntax.tcons
+      Syntax.tyBool
+      (Syntax.tcons
+      (Syntax.tyInt Syntax.w64)
+      (Syntax.tcons (KInstanceRow.spelled) Syntax.tnil))))
+      (Syntax.tcons
+      (Syntax.tyStruct
+      (List._∷_
+      109
+      (List._∷_
+      101
+      (List._∷_
+      115
+      (List._∷_
+      115
+      (List._∷_
+      97
+      (List._∷_
+      103
+      (List._∷_
+      101
+      (List._∷_
+      58
+      (List._∷_
+      58
+      (List._∷_
+      70
+      (List._∷_
+      111
+      (List._∷_
+      117
+      (List._∷_
+      110
+      (List._∷_
+      100
+      (List._∷_
+      82
+      (List._∷_ 111 (List._∷_ 117 (List._∷_ 116 (List._∷_ 101 List.[])))))))))))))))))))
+      (Syntax.tcons
+      Syntax.tyBool
+      (Syntax.tcons
+      (Syntax.tyInt Syntax.w64)
+      (Syntax.tcons (KRouteRow.spelled) Syntax.tnil))))
+      (Syntax.tcons
+      (Syntax.tyInt Syntax.w32)
+      (Syntax.tcons
+      (Syntax.tyEnum
+      (List._∷_
+      112
+      (List._∷_
+      108
+      (List._∷_
+      97
+      (List._∷_
+      105
+      (List._∷_
+      110
+      (List._∷_
+      58
+      (List._∷_
+      58
+      (List._∷_
+      83
+      (List._∷_
+      116
+      (List._∷_
+      97
+      (List._∷_ 110 (List._∷_ 100 (List._∷_ 105 (List._∷_ 110 (List._∷_ 103 List.[])))))))))))))))
+      (Syntax.ttcons
+      Syntax.tnil
+      (Syntax.ttcons
+      Syntax.tnil
+      (Syntax.ttcons
+      Syntax.tnil
+      (Syntax.ttcons Syntax.tnil (Syntax.ttcons Syntax.tnil Syntax.ttnil))))))
+      (Syntax.tcons
+      Syntax.tyBool
+      (Syntax.tcons
+      (Syntax.tyStruct
+      (List._∷_
+      97
+      (List._∷_
+      114
+      (List._∷_
+      116
+      (List._∷_
+      58
+      (List._∷_
+      58
+      (List._∷_
+      84
+      (List._∷_
+      97
+      (List._∷_ 114 (List._∷_ 103 (List._∷_ 101 (List._∷_ 116 (List._∷_ 115 List.[]))))))))))))
+      (Syntax.tcons
+      Syntax.tyBool
+      (Syntax.tcons
+      (Syntax.tyInt Syntax.w64)
+      (Syntax.tcons
+      (Syntax.tyArray
+      (Syntax.tyStruct
+      (List._∷_
+      112
+      (List._∷_
+      108
+      (List._∷_
+      97
+      (List._∷_
+      105
+      (List._∷_
+      110
+      (List._∷_
+      58
+      (List._∷_
+      58
+      (List._∷_
+      84
+      (List._∷_ 97 (List._∷_ 114 (List._∷_ 103 (List._∷_ 101 (List._∷_ 116 List.[])))))))))))))
+      (Syntax.tcons
+      (Syntax.tyInt Syntax.w8)
+      (Syntax.tcons
+      (Syntax.tyInt Syntax.w8)
+      (Syntax.tcons (Syntax.tyArray (Syntax.tyInt Syntax.w8) 16) Syntax.tnil))))
+      8)
+      Syntax.tnil))))
+      (Syntax.tcons
+      (Syntax.tyStruct
+      (List._∷_
+      109
+      (List._∷_
+      101
+      (List._∷_
+      115
+      (List._∷_
+      115
+      (List._∷_
+      97
+      (List._∷_
+      103
+      (List._∷_
+      101
+      (List._∷_
+      58
+      (List._∷_
+      58
+      (List._∷_
+      70
+      (List._∷_
+      114
+      (List._∷_
+      101
+      (List._∷_
+      101
+      (List._∷_ 68 (List._∷_ 101 (List._∷_ 108 (List._∷_ 116 (List._∷_ 97 List.[]))))))))))))))))))
+      (Syntax.tcons Syntax.tyBool (Syntax.tcons (Syntax.tyInt Syntax.w8) Syntax.tnil)))
+      Syntax.tnil)))))))),
+) (List._∷_ (
+  19,
+  Rows'.any-gone
+      (Syntax.tyEnum
+      (List._∷_
+      97
+      (List._∷_
+      110
+      (List._∷_
+      115
+      (List._∷_
+      119
+      (List._∷_
+      101
+      (List._∷_
+      114
+      (List._∷_
+      58
+      (List._∷_
+      58
+      (List._∷_
+      65
+      (List._∷_ 110 (List._∷_ 115 (List._∷_ 119 (List._∷_ 101 (List._∷_ 114 List.[]))))))))))))))
+      (Syntax.ttcons
+      Syntax.tnil
+      (Syntax.ttcons
+      Syntax.tnil
+      (Syntax.ttcons
+      Syntax.tnil
+      (Syntax.ttcons
+      Syntax.tnil
+      (Syntax.ttcons
+      Syntax.tnil
+      (Syntax.ttcons
+      Syntax.tnil
+      (Syntax.ttcons
+      Syntax.tnil
+      (Syntax.ttcons
+      Syntax.tnil
+      (Syntax.ttcons
+      Syntax.tnil
+      (Syntax.ttcons
+      Syntax.tnil
+      (Syntax.ttcons
+      Syntax.tnil
+      (Syntax.ttcons
+      Syntax.tnil
+      (Syntax.ttcons
+      Syntax.tnil
+      (Syntax.ttcons
+      Syntax.tnil
+      (Syntax.ttcons
+      Syntax.tnil
+      (Syntax.ttcons
+      Syntax.tnil
+      (Syntax.ttcons Syntax.tnil (Syntax.ttcons Syntax.tnil Syntax.ttnil))))))))))))))))))),
+) (List._∷_ (20, Rows'.any-gone (KDecided.spelled)) (List._∷_ (
+  21,
+  Rows'.any-gone (KPost.spelled),
+) (List._∷_ (
+  22,
+  Rows'.sc-shr
+      (KPost.row)
+      (KPost.R)
+      (λ x. x)
+      15,
+) (List._∷_ (
+  23,
+  Rows'.any-gone
+      (Syntax.tyStruct
+      (List._∷_
+      102
+      (List._∷_
+      105
+      (List._∷_
+      110
+      (List._∷_
+      105
+      (List._∷_
+      115
+      (List._∷_
+      104
+      (List._∷_
+      58
+      (List._∷_ 58 (List._∷_ 76 (List._∷_ 105 (List._∷_ 118 (List._∷_ 101 List.[]))))))))))))
+      (Syntax.tcons
+      Syntax.tyBool
+      (Syntax.tcons
+      (Syntax.tyInt Syntax.w64)
+      (Syntax.tcons Syntax.tyBool (Syntax.tcons (Syntax.tyInt Syntax.w64) Syntax.tnil))))),
+) (List._∷_ (24, Rows'.any-gone Syntax.tyUnit) (List._∷_ (
+  25,
+  Rows'.any-gone (KParsed.spelled),
+) (List._∷_ (
+  26,
+  Rows'.any-gone
+      (Syntax.tyRef Syntax.erased Syntax.imm (KInstanceRow.named)),
+) (List._∷_ (
+  27,
+  Rows'.any-gone
+      (Syntax.tyStruct
+      (List._∷_ 38 (List._∷_ 91 (List._∷_ 93 List.[])))
+      (Syntax.tcons
+      (Syntax.tyRef Syntax.erased Syntax.imm (KInstanceRow.named))
+      (Syntax.tcons (Syntax.tyInt Syntax.w64) Syntax.tnil))),
+) (List._∷_ (
+  28,
+  Rows'.any-gone
+      (Syntax.tyRef Syntax.erased Syntax.imm (KRouteRow.named)),
+) (List._∷_ (
+  29,
+  Rows'.any-gone
+      (Syntax.tyStruct
+      (List._∷_ 38 (List._∷_ 91 (List._∷_ 93 List.[])))
+      (Syntax.tcons
+      (Syntax.tyRef Syntax.erased Syntax.imm (KRouteRow.named))
+      (Syntax.tcons (Syntax.tyInt Syntax.w64) Syntax.tnil))),
+) (List._∷_ (
+  30,
+  Rows'.any-gone
+      (Syntax.tyRef Syntax.erased Syntax.imm (KInstanceRow.named)),
+) (List._∷_ (
+  31,
+  Rows'.any-gone
+      (Syntax.tyStruct
+      (List._∷_ 38 (List._∷_ 91 (List._∷_ 93 List.[])))
+      (Syntax.tcons
+      (Syntax.tyRef Syntax.erased Syntax.imm (KInstanceRow.named))
+      (Syntax.tcons (Syntax.tyInt Syntax.w64) Syntax.tnil))),
+) List.[])))))))))))))))
+
 abbrev pub t96 : List.List Row.Entry
 t96 = List._∷_ (
   16,
@@ -23808,8 +24184,8 @@ t96 = List._∷_ (
       (Syntax.tcons
       (Syntax.tyInt Syntax.w64)
       (Syntax.tcons (KRouteRow.spelled) Syntax.tnil)))),
-) (List._∷_ (17, Rows'.any-gone Syntax.tyBool) (List._∷_ (
-  18,
+) (List._∷_ (
+  17,
   Rows'.any-gone
       (Syntax.tyStruct
       (List._∷_
@@ -23841,7 +24217,7 @@ t96 = List._∷_ (
       (List._∷_ 68 (List._∷_ 101 (List._∷_ 108 (List._∷_ 116 (List._∷_ 97 List.[]))))))))))))))))))
       (Syntax.tcons Syntax.tyBool (Syntax.tcons (Syntax.tyInt Syntax.w8) Syntax.tnil))),
 ) (List._∷_ (
-  19,
+  18,
   Rows'.any-gone
       (Syntax.tyStruct
       (List._∷_
@@ -24057,7 +24433,7 @@ t96 = List._∷_ (
       (Syntax.tcons Syntax.tyBool (Syntax.tcons (Syntax.tyInt Syntax.w8) Syntax.tnil)))
       Syntax.tnil)))))))),
 ) (List._∷_ (
-  20,
+  19,
   Rows'.any-gone
       (Syntax.tyEnum
       (List._∷_
@@ -24112,22 +24488,11 @@ t96 = List._∷_ (
       (Syntax.ttcons
       Syntax.tnil
       (Syntax.ttcons Syntax.tnil (Syntax.ttcons Syntax.tnil Syntax.ttnil))))))))))))))))))),
-) (List._∷_ (21, KDecided.row) (List._∷_ (
-  22,
-  Rows'.sc-shr
-      (KPost.row)
-      (KPost.R)
-      (λ x. x)
-      14,
-) (List._∷_ (
+) (List._∷_ (20, Rows'.any-gone (KDecided.spelled)) (List._∷_ (
+  21,
+  Rows'.any-gone (KPost.spelled),
+) (List._∷_ (22, KPost.row) (List._∷_ (
   23,
-  Rows'.sc-shr
-      (KPost.row)
-      (KPost.R)
-      (λ x. x)
-      15,
-) (List._∷_ (
-  24,
   Rows'.any-gone
       (Syntax.tyStruct
       (List._∷_
@@ -24150,15 +24515,15 @@ t96 = List._∷_ (
       (Syntax.tcons
       (Syntax.tyInt Syntax.w64)
       (Syntax.tcons Syntax.tyBool (Syntax.tcons (Syntax.tyInt Syntax.w64) Syntax.tnil))))),
-) (List._∷_ (25, Rows'.any-gone Syntax.tyUnit) (List._∷_ (
-  26,
+) (List._∷_ (24, Rows'.any-gone Syntax.tyUnit) (List._∷_ (
+  25,
   Rows'.any-gone (KParsed.spelled),
 ) (List._∷_ (
-  27,
+  26,
   Rows'.any-gone
       (Syntax.tyRef Syntax.erased Syntax.imm (KInstanceRow.named)),
 ) (List._∷_ (
-  28,
+  27,
   Rows'.any-gone
       (Syntax.tyStruct
       (List._∷_ 38 (List._∷_ 91 (List._∷_ 93 List.[])))
@@ -24166,11 +24531,11 @@ t96 = List._∷_ (
       (Syntax.tyRef Syntax.erased Syntax.imm (KInstanceRow.named))
       (Syntax.tcons (Syntax.tyInt Syntax.w64) Syntax.tnil))),
 ) (List._∷_ (
-  29,
+  28,
   Rows'.any-gone
       (Syntax.tyRef Syntax.erased Syntax.imm (KRouteRow.named)),
 ) (List._∷_ (
-  30,
+  29,
   Rows'.any-gone
       (Syntax.tyStruct
       (List._∷_ 38 (List._∷_ 91 (List._∷_ 93 List.[])))
@@ -24178,1658 +24543,21 @@ t96 = List._∷_ (
       (Syntax.tyRef Syntax.erased Syntax.imm (KRouteRow.named))
       (Syntax.tcons (Syntax.tyInt Syntax.w64) Syntax.tnil))),
 ) (List._∷_ (
-  31,
+  30,
   Rows'.any-gone
       (Syntax.tyRef Syntax.erased Syntax.imm (KInstanceRow.named)),
+) (List._∷_ (
+  31,
+  Rows'.any-gone
+      (Syntax.tyStruct
+      (List._∷_ 38 (List._∷_ 91 (List._∷_ 93 List.[])))
+      (Syntax.tcons
+      (Syntax.tyRef Syntax.erased Syntax.imm (KInstanceRow.named))
+      (Syntax.tcons (Syntax.tyInt Syntax.w64) Syntax.tnil))),
 ) List.[])))))))))))))))
 
 abbrev pub t97 : List.List Row.Entry
-t97 = List._∷_ (
-  16,
-  Rows'.any-gone
-      (Syntax.tyStruct
-      (List._∷_
-      109
-      (List._∷_
-      101
-      (List._∷_
-      115
-      (List._∷_
-      115
-      (List._∷_
-      97
-      (List._∷_
-      103
-      (List._∷_
-      101
-      (List._∷_
-      58
-      (List._∷_
-      58
-      (List._∷_
-      70
-      (List._∷_
-      111
-      (List._∷_
-      117
-      (List._∷_
-      110
-      (List._∷_
-      100
-      (List._∷_
-      82
-      (List._∷_ 111 (List._∷_ 117 (List._∷_ 116 (List._∷_ 101 List.[])))))))))))))))))))
-      (Syntax.tcons
-      Syntax.tyBool
-      (Syntax.tcons
-      (Syntax.tyInt Syntax.w64)
-      (Syntax.tcons (KRouteRow.spelled) Syntax.tnil)))),
-) (List._∷_ (17, Rows'.any-gone Syntax.tyBool) (List._∷_ (
-  18,
-  Rows'.any-gone
-      (Syntax.tyStruct
-      (List._∷_
-      109
-      (List._∷_
-      101
-      (List._∷_
-      115
-      (List._∷_
-      115
-      (List._∷_
-      97
-      (List._∷_
-      103
-      (List._∷_
-      101
-      (List._∷_
-      58
-      (List._∷_
-      58
-      (List._∷_
-      70
-      (List._∷_
-      114
-      (List._∷_
-      101
-      (List._∷_
-      101
-      (List._∷_ 68 (List._∷_ 101 (List._∷_ 108 (List._∷_ 116 (List._∷_ 97 List.[]))))))))))))))))))
-      (Syntax.tcons Syntax.tyBool (Syntax.tcons (Syntax.tyInt Syntax.w8) Syntax.tnil))),
-) (List._∷_ (
-  19,
-  Rows'.any-gone
-      (Syntax.tyStruct
-      (List._∷_
-      114
-      (List._∷_
-      101
-      (List._∷_
-      113
-      (List._∷_
-      117
-      (List._∷_
-      101
-      (List._∷_
-      115
-      (List._∷_
-      116
-      (List._∷_
-      58
-      (List._∷_
-      58
-      (List._∷_
-      82
-      (List._∷_
-      101
-      (List._∷_
-      113
-      (List._∷_
-      117
-      (List._∷_
-      101
-      (List._∷_
-      115
-      (List._∷_
-      116
-      (List._∷_
-      70
-      (List._∷_ 97 (List._∷_ 99 (List._∷_ 116 (List._∷_ 115 List.[])))))))))))))))))))))
-      (Syntax.tcons
-      (Syntax.tyStruct
-      (List._∷_
-      109
-      (List._∷_
-      101
-      (List._∷_
-      115
-      (List._∷_
-      115
-      (List._∷_
-      97
-      (List._∷_
-      103
-      (List._∷_
-      101
-      (List._∷_
-      58
-      (List._∷_
-      58
-      (List._∷_ 70 (List._∷_ 111 (List._∷_ 117 (List._∷_ 110 (List._∷_ 100 List.[]))))))))))))))
-      (Syntax.tcons
-      Syntax.tyBool
-      (Syntax.tcons
-      (Syntax.tyInt Syntax.w64)
-      (Syntax.tcons (KInstanceRow.spelled) Syntax.tnil))))
-      (Syntax.tcons
-      (Syntax.tyStruct
-      (List._∷_
-      109
-      (List._∷_
-      101
-      (List._∷_
-      115
-      (List._∷_
-      115
-      (List._∷_
-      97
-      (List._∷_
-      103
-      (List._∷_
-      101
-      (List._∷_
-      58
-      (List._∷_
-      58
-      (List._∷_
-      70
-      (List._∷_
-      111
-      (List._∷_
-      117
-      (List._∷_
-      110
-      (List._∷_
-      100
-      (List._∷_
-      82
-      (List._∷_ 111 (List._∷_ 117 (List._∷_ 116 (List._∷_ 101 List.[])))))))))))))))))))
-      (Syntax.tcons
-      Syntax.tyBool
-      (Syntax.tcons
-      (Syntax.tyInt Syntax.w64)
-      (Syntax.tcons (KRouteRow.spelled) Syntax.tnil))))
-      (Syntax.tcons
-      (Syntax.tyInt Syntax.w32)
-      (Syntax.tcons
-      (Syntax.tyEnum
-      (List._∷_
-      112
-      (List._∷_
-      108
-      (List._∷_
-      97
-      (List._∷_
-      105
-      (List._∷_
-      110
-      (List._∷_
-      58
-      (List._∷_
-      58
-      (List._∷_
-      83
-      (List._∷_
-      116
-      (List._∷_
-      97
-      (List._∷_ 110 (List._∷_ 100 (List._∷_ 105 (List._∷_ 110 (List._∷_ 103 List.[])))))))))))))))
-      (Syntax.ttcons
-      Syntax.tnil
-      (Syntax.ttcons
-      Syntax.tnil
-      (Syntax.ttcons
-      Syntax.tnil
-      (Syntax.ttcons Syntax.tnil (Syntax.ttcons Syntax.tnil Syntax.ttnil))))))
-      (Syntax.tcons
-      Syntax.tyBool
-      (Syntax.tcons
-      (Syntax.tyStruct
-      (List._∷_
-      97
-      (List._∷_
-      114
-      (List._∷_
-      116
-      (List._∷_
-      58
-      (List._∷_
-      58
-      (List._∷_
-      84
-      (List._∷_
-      97
-      (List._∷_ 114 (List._∷_ 103 (List._∷_ 101 (List._∷_ 116 (List._∷_ 115 List.[]))))))))))))
-      (Syntax.tcons
-      Syntax.tyBool
-      (Syntax.tcons
-      (Syntax.tyInt Syntax.w64)
-      (Syntax.tcons
-      (Syntax.tyArray
-      (Syntax.tyStruct
-      (List._∷_
-      112
-      (List._∷_
-      108
-      (List._∷_
-      97
-      (List._∷_
-      105
-      (List._∷_
-      110
-      (List._∷_
-      58
-      (List._∷_
-      58
-      (List._∷_
-      84
-      (List._∷_ 97 (List._∷_ 114 (List._∷_ 103 (List._∷_ 101 (List._∷_ 116 List.[])))))))))))))
-      (Syntax.tcons
-      (Syntax.tyInt Syntax.w8)
-      (Syntax.tcons
-      (Syntax.tyInt Syntax.w8)
-      (Syntax.tcons (Syntax.tyArray (Syntax.tyInt Syntax.w8) 16) Syntax.tnil))))
-      8)
-      Syntax.tnil))))
-      (Syntax.tcons
-      (Syntax.tyStruct
-      (List._∷_
-      109
-      (List._∷_
-      101
-      (List._∷_
-      115
-      (List._∷_
-      115
-      (List._∷_
-      97
-      (List._∷_
-      103
-      (List._∷_
-      101
-      (List._∷_
-      58
-      (List._∷_
-      58
-      (List._∷_
-      70
-      (List._∷_
-      114
-      (List._∷_
-      101
-      (List._∷_
-      101
-      (List._∷_ 68 (List._∷_ 101 (List._∷_ 108 (List._∷_ 116 (List._∷_ 97 List.[]))))))))))))))))))
-      (Syntax.tcons Syntax.tyBool (Syntax.tcons (Syntax.tyInt Syntax.w8) Syntax.tnil)))
-      Syntax.tnil)))))))),
-) (List._∷_ (
-  20,
-  Rows'.any-gone
-      (Syntax.tyEnum
-      (List._∷_
-      97
-      (List._∷_
-      110
-      (List._∷_
-      115
-      (List._∷_
-      119
-      (List._∷_
-      101
-      (List._∷_
-      114
-      (List._∷_
-      58
-      (List._∷_
-      58
-      (List._∷_
-      65
-      (List._∷_ 110 (List._∷_ 115 (List._∷_ 119 (List._∷_ 101 (List._∷_ 114 List.[]))))))))))))))
-      (Syntax.ttcons
-      Syntax.tnil
-      (Syntax.ttcons
-      Syntax.tnil
-      (Syntax.ttcons
-      Syntax.tnil
-      (Syntax.ttcons
-      Syntax.tnil
-      (Syntax.ttcons
-      Syntax.tnil
-      (Syntax.ttcons
-      Syntax.tnil
-      (Syntax.ttcons
-      Syntax.tnil
-      (Syntax.ttcons
-      Syntax.tnil
-      (Syntax.ttcons
-      Syntax.tnil
-      (Syntax.ttcons
-      Syntax.tnil
-      (Syntax.ttcons
-      Syntax.tnil
-      (Syntax.ttcons
-      Syntax.tnil
-      (Syntax.ttcons
-      Syntax.tnil
-      (Syntax.ttcons
-      Syntax.tnil
-      (Syntax.ttcons
-      Syntax.tnil
-      (Syntax.ttcons
-      Syntax.tnil
-      (Syntax.ttcons Syntax.tnil (Syntax.ttcons Syntax.tnil Syntax.ttnil))))))))))))))))))),
-) (List._∷_ (21, Rows'.any-gone (KDecided.spelled)) (List._∷_ (
-  22,
-  Rows'.sc-shr
-      (KPost.row)
-      (KPost.R)
-      (λ x. x)
-      14,
-) (List._∷_ (
-  23,
-  Rows'.sc-shr
-      (KPost.row)
-      (KPost.R)
-      (λ x. x)
-      15,
-) (List._∷_ (
-  24,
-  Rows'.any-gone
-      (Syntax.tyStruct
-      (List._∷_
-      102
-      (List._∷_
-      105
-      (List._∷_
-      110
-      (List._∷_
-      105
-      (List._∷_
-      115
-      (List._∷_
-      104
-      (List._∷_
-      58
-      (List._∷_ 58 (List._∷_ 76 (List._∷_ 105 (List._∷_ 118 (List._∷_ 101 List.[]))))))))))))
-      (Syntax.tcons
-      Syntax.tyBool
-      (Syntax.tcons
-      (Syntax.tyInt Syntax.w64)
-      (Syntax.tcons Syntax.tyBool (Syntax.tcons (Syntax.tyInt Syntax.w64) Syntax.tnil))))),
-) (List._∷_ (25, Rows'.any-gone Syntax.tyUnit) (List._∷_ (
-  26,
-  Rows'.any-gone (KParsed.spelled),
-) (List._∷_ (
-  27,
-  Rows'.any-gone
-      (Syntax.tyRef Syntax.erased Syntax.imm (KInstanceRow.named)),
-) (List._∷_ (
-  28,
-  Rows'.any-gone
-      (Syntax.tyStruct
-      (List._∷_ 38 (List._∷_ 91 (List._∷_ 93 List.[])))
-      (Syntax.tcons
-      (Syntax.tyRef Syntax.erased Syntax.imm (KInstanceRow.named))
-      (Syntax.tcons (Syntax.tyInt Syntax.w64) Syntax.tnil))),
-) (List._∷_ (
-  29,
-  Rows'.any-gone
-      (Syntax.tyRef Syntax.erased Syntax.imm (KRouteRow.named)),
-) (List._∷_ (
-  30,
-  Rows'.any-gone
-      (Syntax.tyStruct
-      (List._∷_ 38 (List._∷_ 91 (List._∷_ 93 List.[])))
-      (Syntax.tcons
-      (Syntax.tyRef Syntax.erased Syntax.imm (KRouteRow.named))
-      (Syntax.tcons (Syntax.tyInt Syntax.w64) Syntax.tnil))),
-) (List._∷_ (
-  31,
-  Rows'.any-gone
-      (Syntax.tyRef Syntax.erased Syntax.imm (KInstanceRow.named)),
-) List.[])))))))))))))))
-
-abbrev pub t98 : List.List Row.Entry
-t98 = List._∷_ (
-  16,
-  Rows'.any-gone
-      (Syntax.tyStruct
-      (List._∷_
-      109
-      (List._∷_
-      101
-      (List._∷_
-      115
-      (List._∷_
-      115
-      (List._∷_
-      97
-      (List._∷_
-      103
-      (List._∷_
-      101
-      (List._∷_
-      58
-      (List._∷_
-      58
-      (List._∷_
-      70
-      (List._∷_
-      111
-      (List._∷_
-      117
-      (List._∷_
-      110
-      (List._∷_
-      100
-      (List._∷_
-      82
-      (List._∷_ 111 (List._∷_ 117 (List._∷_ 116 (List._∷_ 101 List.[])))))))))))))))))))
-      (Syntax.tcons
-      Syntax.tyBool
-      (Syntax.tcons
-      (Syntax.tyInt Syntax.w64)
-      (Syntax.tcons (KRouteRow.spelled) Syntax.tnil)))),
-) (List._∷_ (17, Rows'.any-gone Syntax.tyBool) (List._∷_ (
-  18,
-  Rows'.any-gone
-      (Syntax.tyStruct
-      (List._∷_
-      109
-      (List._∷_
-      101
-      (List._∷_
-      115
-      (List._∷_
-      115
-      (List._∷_
-      97
-      (List._∷_
-      103
-      (List._∷_
-      101
-      (List._∷_
-      58
-      (List._∷_
-      58
-      (List._∷_
-      70
-      (List._∷_
-      114
-      (List._∷_
-      101
-      (List._∷_
-      101
-      (List._∷_ 68 (List._∷_ 101 (List._∷_ 108 (List._∷_ 116 (List._∷_ 97 List.[]))))))))))))))))))
-      (Syntax.tcons Syntax.tyBool (Syntax.tcons (Syntax.tyInt Syntax.w8) Syntax.tnil))),
-) (List._∷_ (
-  19,
-  Rows'.any-gone
-      (Syntax.tyStruct
-      (List._∷_
-      114
-      (List._∷_
-      101
-      (List._∷_
-      113
-      (List._∷_
-      117
-      (List._∷_
-      101
-      (List._∷_
-      115
-      (List._∷_
-      116
-      (List._∷_
-      58
-      (List._∷_
-      58
-      (List._∷_
-      82
-      (List._∷_
-      101
-      (List._∷_
-      113
-      (List._∷_
-      117
-      (List._∷_
-      101
-      (List._∷_
-      115
-      (List._∷_
-      116
-      (List._∷_
-      70
-      (List._∷_ 97 (List._∷_ 99 (List._∷_ 116 (List._∷_ 115 List.[])))))))))))))))))))))
-      (Syntax.tcons
-      (Syntax.tyStruct
-      (List._∷_
-      109
-      (List._∷_
-      101
-      (List._∷_
-      115
-      (List._∷_
-      115
-      (List._∷_
-      97
-      (List._∷_
-      103
-      (List._∷_
-      101
-      (List._∷_
-      58
-      (List._∷_
-      58
-      (List._∷_ 70 (List._∷_ 111 (List._∷_ 117 (List._∷_ 110 (List._∷_ 100 List.[]))))))))))))))
-      (Syntax.tcons
-      Syntax.tyBool
-      (Syntax.tcons
-      (Syntax.tyInt Syntax.w64)
-      (Syntax.tcons (KInstanceRow.spelled) Syntax.tnil))))
-      (Syntax.tcons
-      (Syntax.tyStruct
-      (List._∷_
-      109
-      (List._∷_
-      101
-      (List._∷_
-      115
-      (List._∷_
-      115
-      (List._∷_
-      97
-      (List._∷_
-      103
-      (List._∷_
-      101
-      (List._∷_
-      58
-      (List._∷_
-      58
-      (List._∷_
-      70
-      (List._∷_
-      111
-      (List._∷_
-      117
-      (List._∷_
-      110
-      (List._∷_
-      100
-      (List._∷_
-      82
-      (List._∷_ 111 (List._∷_ 117 (List._∷_ 116 (List._∷_ 101 List.[])))))))))))))))))))
-      (Syntax.tcons
-      Syntax.tyBool
-      (Syntax.tcons
-      (Syntax.tyInt Syntax.w64)
-      (Syntax.tcons (KRouteRow.spelled) Syntax.tnil))))
-      (Syntax.tcons
-      (Syntax.tyInt Syntax.w32)
-      (Syntax.tcons
-      (Syntax.tyEnum
-      (List._∷_
-      112
-      (List._∷_
-      108
-      (List._∷_
-      97
-      (List._∷_
-      105
-      (List._∷_
-      110
-      (List._∷_
-      58
-      (List._∷_
-      58
-      (List._∷_
-      83
-      (List._∷_
-      116
-      (List._∷_
-      97
-      (List._∷_ 110 (List._∷_ 100 (List._∷_ 105 (List._∷_ 110 (List._∷_ 103 List.[])))))))))))))))
-      (Syntax.ttcons
-      Syntax.tnil
-      (Syntax.ttcons
-      Syntax.tnil
-      (Syntax.ttcons
-      Syntax.tnil
-      (Syntax.ttcons Syntax.tnil (Syntax.ttcons Syntax.tnil Syntax.ttnil))))))
-      (Syntax.tcons
-      Syntax.tyBool
-      (Syntax.tcons
-      (Syntax.tyStruct
-      (List._∷_
-      97
-      (List._∷_
-      114
-      (List._∷_
-      116
-      (List._∷_
-      58
-      (List._∷_
-      58
-      (List._∷_
-      84
-      (List._∷_
-      97
-      (List._∷_ 114 (List._∷_ 103 (List._∷_ 101 (List._∷_ 116 (List._∷_ 115 List.[]))))))))))))
-      (Syntax.tcons
-      Syntax.tyBool
-      (Syntax.tcons
-      (Syntax.tyInt Syntax.w64)
-      (Syntax.tcons
-      (Syntax.tyArray
-      (Syntax.tyStruct
-      (List._∷_
-      112
-      (List._∷_
-      108
-      (List._∷_
-      97
-      (List._∷_
-      105
-      (List._∷_
-      110
-      (List._∷_
-      58
-      (List._∷_
-      58
-      (List._∷_
-      84
-      (List._∷_ 97 (List._∷_ 114 (List._∷_ 103 (List._∷_ 101 (List._∷_ 116 List.[])))))))))))))
-      (Syntax.tcons
-      (Syntax.tyInt Syntax.w8)
-      (Syntax.tcons
-      (Syntax.tyInt Syntax.w8)
-      (Syntax.tcons (Syntax.tyArray (Syntax.tyInt Syntax.w8) 16) Syntax.tnil))))
-      8)
-      Syntax.tnil))))
-      (Syntax.tcons
-      (Syntax.tyStruct
-      (List._∷_
-      109
-      (List._∷_
-      101
-      (List._∷_
-      115
-      (List._∷_
-      115
-      (List._∷_
-      97
-      (List._∷_
-      103
-      (List._∷_
-      101
-      (List._∷_
-      58
-      (List._∷_
-      58
-      (List._∷_
-      70
-      (List._∷_
-      114
-      (List._∷_
-      101
-      (List._∷_
-      101
-      (List._∷_ 68 (List._∷_ 101 (List._∷_ 108 (List._∷_ 116 (List._∷_ 97 List.[]))))))))))))))))))
-      (Syntax.tcons Syntax.tyBool (Syntax.tcons (Syntax.tyInt Syntax.w8) Syntax.tnil)))
-      Syntax.tnil)))))))),
-) (List._∷_ (
-  20,
-  Rows'.any-gone
-      (Syntax.tyEnum
-      (List._∷_
-      97
-      (List._∷_
-      110
-      (List._∷_
-      115
-      (List._∷_
-      119
-      (List._∷_
-      101
-      (List._∷_
-      114
-      (List._∷_
-      58
-      (List._∷_
-      58
-      (List._∷_
-      65
-      (List._∷_ 110 (List._∷_ 115 (List._∷_ 119 (List._∷_ 101 (List._∷_ 114 List.[]))))))))))))))
-      (Syntax.ttcons
-      Syntax.tnil
-      (Syntax.ttcons
-      Syntax.tnil
-      (Syntax.ttcons
-      Syntax.tnil
-      (Syntax.ttcons
-      Syntax.tnil
-      (Syntax.ttcons
-      Syntax.tnil
-      (Syntax.ttcons
-      Syntax.tnil
-      (Syntax.ttcons
-      Syntax.tnil
-      (Syntax.ttcons
-      Syntax.tnil
-      (Syntax.ttcons
-      Syntax.tnil
-      (Syntax.ttcons
-      Syntax.tnil
-      (Syntax.ttcons
-      Syntax.tnil
-      (Syntax.ttcons
-      Syntax.tnil
-      (Syntax.ttcons
-      Syntax.tnil
-      (Syntax.ttcons
-      Syntax.tnil
-      (Syntax.ttcons
-      Syntax.tnil
-      (Syntax.ttcons
-      Syntax.tnil
-      (Syntax.ttcons Syntax.tnil (Syntax.ttcons Syntax.tnil Syntax.ttnil))))))))))))))))))),
-) (List._∷_ (21, Rows'.any-gone (KDecided.spelled)) (List._∷_ (
-  22,
-  KPost.row,
-) (List._∷_ (
-  23,
-  Rows'.sc-shr
-      (KPost.row)
-      (KPost.R)
-      (λ x. x)
-      15,
-) (List._∷_ (
-  24,
-  Rows'.any-gone
-      (Syntax.tyStruct
-      (List._∷_
-      102
-      (List._∷_
-      105
-      (List._∷_
-      110
-      (List._∷_
-      105
-      (List._∷_
-      115
-      (List._∷_
-      104
-      (List._∷_
-      58
-      (List._∷_ 58 (List._∷_ 76 (List._∷_ 105 (List._∷_ 118 (List._∷_ 101 List.[]))))))))))))
-      (Syntax.tcons
-      Syntax.tyBool
-      (Syntax.tcons
-      (Syntax.tyInt Syntax.w64)
-      (Syntax.tcons Syntax.tyBool (Syntax.tcons (Syntax.tyInt Syntax.w64) Syntax.tnil))))),
-) (List._∷_ (25, Rows'.any-gone Syntax.tyUnit) (List._∷_ (
-  26,
-  Rows'.any-gone (KParsed.spelled),
-) (List._∷_ (
-  27,
-  Rows'.any-gone
-      (Syntax.tyRef Syntax.erased Syntax.imm (KInstanceRow.named)),
-) (List._∷_ (
-  28,
-  Rows'.any-gone
-      (Syntax.tyStruct
-      (List._∷_ 38 (List._∷_ 91 (List._∷_ 93 List.[])))
-      (Syntax.tcons
-      (Syntax.tyRef Syntax.erased Syntax.imm (KInstanceRow.named))
-      (Syntax.tcons (Syntax.tyInt Syntax.w64) Syntax.tnil))),
-) (List._∷_ (
-  29,
-  Rows'.any-gone
-      (Syntax.tyRef Syntax.erased Syntax.imm (KRouteRow.named)),
-) (List._∷_ (
-  30,
-  Rows'.any-gone
-      (Syntax.tyStruct
-      (List._∷_ 38 (List._∷_ 91 (List._∷_ 93 List.[])))
-      (Syntax.tcons
-      (Syntax.tyRef Syntax.erased Syntax.imm (KRouteRow.named))
-      (Syntax.tcons (Syntax.tyInt Syntax.w64) Syntax.tnil))),
-) (List._∷_ (
-  31,
-  Rows'.any-gone
-      (Syntax.tyRef Syntax.erased Syntax.imm (KInstanceRow.named)),
-) List.[])))))))))))))))
-
-abbrev pub t99 : List.List Row.Entry
-t99 = List._∷_ (
-  16,
-  Rows'.any-gone
-      (Syntax.tyStruct
-      (List._∷_
-      109
-      (List._∷_
-      101
-      (List._∷_
-      115
-      (List._∷_
-      115
-      (List._∷_
-      97
-      (List._∷_
-      103
-      (List._∷_
-      101
-      (List._∷_
-      58
-      (List._∷_
-      58
-      (List._∷_
-      70
-      (List._∷_
-      111
-      (List._∷_
-      117
-      (List._∷_
-      110
-      (List._∷_
-      100
-      (List._∷_
-      82
-      (List._∷_ 111 (List._∷_ 117 (List._∷_ 116 (List._∷_ 101 List.[])))))))))))))))))))
-      (Syntax.tcons
-      Syntax.tyBool
-      (Syntax.tcons
-      (Syntax.tyInt Syntax.w64)
-      (Syntax.tcons (KRouteRow.spelled) Syntax.tnil)))),
-) (List._∷_ (17, Rows'.any-gone Syntax.tyBool) (List._∷_ (
-  18,
-  Rows'.any-gone
-      (Syntax.tyStruct
-      (List._∷_
-      109
-      (List._∷_
-      101
-      (List._∷_
-      115
-      (List._∷_
-      115
-      (List._∷_
-      97
-      (List._∷_
-      103
-      (List._∷_
-      101
-      (List._∷_
-      58
-      (List._∷_
-      58
-      (List._∷_
-      70
-      (List._∷_
-      114
-      (List._∷_
-      101
-      (List._∷_
-      101
-      (List._∷_ 68 (List._∷_ 101 (List._∷_ 108 (List._∷_ 116 (List._∷_ 97 List.[]))))))))))))))))))
-      (Syntax.tcons Syntax.tyBool (Syntax.tcons (Syntax.tyInt Syntax.w8) Syntax.tnil))),
-) (List._∷_ (
-  19,
-  Rows'.any-gone
-      (Syntax.tyStruct
-      (List._∷_
-      114
-      (List._∷_
-      101
-      (List._∷_
-      113
-      (List._∷_
-      117
-      (List._∷_
-      101
-      (List._∷_
-      115
-      (List._∷_
-      116
-      (List._∷_
-      58
-      (List._∷_
-      58
-      (List._∷_
-      82
-      (List._∷_
-      101
-      (List._∷_
-      113
-      (List._∷_
-      117
-      (List._∷_
-      101
-      (List._∷_
-      115
-      (List._∷_
-      116
-      (List._∷_
-      70
-      (List._∷_ 97 (List._∷_ 99 (List._∷_ 116 (List._∷_ 115 List.[])))))))))))))))))))))
-      (Syntax.tcons
-      (Syntax.tyStruct
-      (List._∷_
-      109
-      (List._∷_
-      101
-      (List._∷_
-      115
-      (List._∷_
-      115
-      (List._∷_
-      97
-      (List._∷_
-      103
-      (List._∷_
-      101
-      (List._∷_
-      58
-      (List._∷_
-      58
-      (List._∷_ 70 (List._∷_ 111 (List._∷_ 117 (List._∷_ 110 (List._∷_ 100 List.[]))))))))))))))
-      (Syntax.tcons
-      Syntax.tyBool
-      (Syntax.tcons
-      (Syntax.tyInt Syntax.w64)
-      (Syntax.tcons (KInstanceRow.spelled) Syntax.tnil))))
-      (Syntax.tcons
-      (Syntax.tyStruct
-      (List._∷_
-      109
-      (List._∷_
-      101
-      (List._∷_
-      115
-      (List._∷_
-      115
-      (List._∷_
-      97
-      (List._∷_
-      103
-      (List._∷_
-      101
-      (List._∷_
-      58
-      (List._∷_
-      58
-      (List._∷_
-      70
-      (List._∷_
-      111
-      (List._∷_
-      117
-      (List._∷_
-      110
-      (List._∷_
-      100
-      (List._∷_
-      82
-      (List._∷_ 111 (List._∷_ 117 (List._∷_ 116 (List._∷_ 101 List.[])))))))))))))))))))
-      (Syntax.tcons
-      Syntax.tyBool
-      (Syntax.tcons
-      (Syntax.tyInt Syntax.w64)
-      (Syntax.tcons (KRouteRow.spelled) Syntax.tnil))))
-      (Syntax.tcons
-      (Syntax.tyInt Syntax.w32)
-      (Syntax.tcons
-      (Syntax.tyEnum
-      (List._∷_
-      112
-      (List._∷_
-      108
-      (List._∷_
-      97
-      (List._∷_
-      105
-      (List._∷_
-      110
-      (List._∷_
-      58
-      (List._∷_
-      58
-      (List._∷_
-      83
-      (List._∷_
-      116
-      (List._∷_
-      97
-      (List._∷_ 110 (List._∷_ 100 (List._∷_ 105 (List._∷_ 110 (List._∷_ 103 List.[])))))))))))))))
-      (Syntax.ttcons
-      Syntax.tnil
-      (Syntax.ttcons
-      Syntax.tnil
-      (Syntax.ttcons
-      Syntax.tnil
-      (Syntax.ttcons Syntax.tnil (Syntax.ttcons Syntax.tnil Syntax.ttnil))))))
-      (Syntax.tcons
-      Syntax.tyBool
-      (Syntax.tcons
-      (Syntax.tyStruct
-      (List._∷_
-      97
-      (List._∷_
-      114
-      (List._∷_
-      116
-      (List._∷_
-      58
-      (List._∷_
-      58
-      (List._∷_
-      84
-      (List._∷_
-      97
-      (List._∷_ 114 (List._∷_ 103 (List._∷_ 101 (List._∷_ 116 (List._∷_ 115 List.[]))))))))))))
-      (Syntax.tcons
-      Syntax.tyBool
-      (Syntax.tcons
-      (Syntax.tyInt Syntax.w64)
-      (Syntax.tcons
-      (Syntax.tyArray
-      (Syntax.tyStruct
-      (List._∷_
-      112
-      (List._∷_
-      108
-      (List._∷_
-      97
-      (List._∷_
-      105
-      (List._∷_
-      110
-      (List._∷_
-      58
-      (List._∷_
-      58
-      (List._∷_
-      84
-      (List._∷_ 97 (List._∷_ 114 (List._∷_ 103 (List._∷_ 101 (List._∷_ 116 List.[])))))))))))))
-      (Syntax.tcons
-      (Syntax.tyInt Syntax.w8)
-      (Syntax.tcons
-      (Syntax.tyInt Syntax.w8)
-      (Syntax.tcons (Syntax.tyArray (Syntax.tyInt Syntax.w8) 16) Syntax.tnil))))
-      8)
-      Syntax.tnil))))
-      (Syntax.tcons
-      (Syntax.tyStruct
-      (List._∷_
-      109
-      (List._∷_
-      101
-      (List._∷_
-      115
-      (List._∷_
-      115
-      (List._∷_
-      97
-      (List._∷_
-      103
-      (List._∷_
-      101
-      (List._∷_
-      58
-      (List._∷_
-      58
-      (List._∷_
-      70
-      (List._∷_
-      114
-      (List._∷_
-      101
-      (List._∷_
-      101
-      (List._∷_ 68 (List._∷_ 101 (List._∷_ 108 (List._∷_ 116 (List._∷_ 97 List.[]))))))))))))))))))
-      (Syntax.tcons Syntax.tyBool (Syntax.tcons (Syntax.tyInt Syntax.w8) Syntax.tnil)))
-      Syntax.tnil)))))))),
-) (List._∷_ (
-  20,
-  Rows'.any-gone
-      (Syntax.tyEnum
-      (List._∷_
-      97
-      (List._∷_
-      110
-      (List._∷_
-      115
-      (List._∷_
-      119
-      (List._∷_
-      101
-      (List._∷_
-      114
-      (List._∷_
-      58
-      (List._∷_
-      58
-      (List._∷_
-      65
-      (List._∷_ 110 (List._∷_ 115 (List._∷_ 119 (List._∷_ 101 (List._∷_ 114 List.[]))))))))))))))
-      (Syntax.ttcons
-      Syntax.tnil
-      (Syntax.ttcons
-      Syntax.tnil
-      (Syntax.ttcons
-      Syntax.tnil
-      (Syntax.ttcons
-      Syntax.tnil
-      (Syntax.ttcons
-      Syntax.tnil
-      (Syntax.ttcons
-      Syntax.tnil
-      (Syntax.ttcons
-      Syntax.tnil
-      (Syntax.ttcons
-      Syntax.tnil
-      (Syntax.ttcons
-      Syntax.tnil
-      (Syntax.ttcons
-      Syntax.tnil
-      (Syntax.ttcons
-      Syntax.tnil
-      (Syntax.ttcons
-      Syntax.tnil
-      (Syntax.ttcons
-      Syntax.tnil
-      (Syntax.ttcons
-      Syntax.tnil
-      (Syntax.ttcons
-      Syntax.tnil
-      (Syntax.ttcons
-      Syntax.tnil
-      (Syntax.ttcons Syntax.tnil (Syntax.ttcons Syntax.tnil Syntax.ttnil))))))))))))))))))),
-) (List._∷_ (21, Rows'.any-gone (KDecided.spelled)) (List._∷_ (
-  22,
-  Rows'.any-gone (KPost.spelled),
-) (List._∷_ (
-  23,
-  Rows'.sc-shr
-      (KPost.row)
-      (KPost.R)
-      (λ x. x)
-      15,
-) (List._∷_ (
-  24,
-  Rows'.any-gone
-      (Syntax.tyStruct
-      (List._∷_
-      102
-      (List._∷_
-      105
-      (List._∷_
-      110
-      (List._∷_
-      105
-      (List._∷_
-      115
-      (List._∷_
-      104
-      (List._∷_
-      58
-      (List._∷_ 58 (List._∷_ 76 (List._∷_ 105 (List._∷_ 118 (List._∷_ 101 List.[]))))))))))))
-      (Syntax.tcons
-      Syntax.tyBool
-      (Syntax.tcons
-      (Syntax.tyInt Syntax.w64)
-      (Syntax.tcons Syntax.tyBool (Syntax.tcons (Syntax.tyInt Syntax.w64) Syntax.tnil))))),
-) (List._∷_ (25, Rows'.any-gone Syntax.tyUnit) (List._∷_ (
-  26,
-  Rows'.any-gone (KParsed.spelled),
-) (List._∷_ (
-  27,
-  Rows'.any-gone
-      (Syntax.tyRef Syntax.erased Syntax.imm (KInstanceRow.named)),
-) (List._∷_ (
-  28,
-  Rows'.any-gone
-      (Syntax.tyStruct
-      (List._∷_ 38 (List._∷_ 91 (List._∷_ 93 List.[])))
-      (Syntax.tcons
-      (Syntax.tyRef Syntax.erased Syntax.imm (KInstanceRow.named))
-      (Syntax.tcons (Syntax.tyInt Syntax.w64) Syntax.tnil))),
-) (List._∷_ (
-  29,
-  Rows'.any-gone
-      (Syntax.tyRef Syntax.erased Syntax.imm (KRouteRow.named)),
-) (List._∷_ (
-  30,
-  Rows'.any-gone
-      (Syntax.tyStruct
-      (List._∷_ 38 (List._∷_ 91 (List._∷_ 93 List.[])))
-      (Syntax.tcons
-      (Syntax.tyRef Syntax.erased Syntax.imm (KRouteRow.named))
-      (Syntax.tcons (Syntax.tyInt Syntax.w64) Syntax.tnil))),
-) (List._∷_ (
-  31,
-  Rows'.any-gone
-      (Syntax.tyRef Syntax.erased Syntax.imm (KInstanceRow.named)),
-) List.[])))))))))))))))
-
-abbrev pub t100 : List.List Row.Entry
-t100 = List._∷_ (
-  16,
-  Rows'.any-gone
-      (Syntax.tyStruct
-      (List._∷_
-      109
-      (List._∷_
-      101
-      (List._∷_
-      115
-      (List._∷_
-      115
-      (List._∷_
-      97
-      (List._∷_
-      103
-      (List._∷_
-      101
-      (List._∷_
-      58
-      (List._∷_
-      58
-      (List._∷_
-      70
-      (List._∷_
-      111
-      (List._∷_
-      117
-      (List._∷_
-      110
-      (List._∷_
-      100
-      (List._∷_
-      82
-      (List._∷_ 111 (List._∷_ 117 (List._∷_ 116 (List._∷_ 101 List.[])))))))))))))))))))
-      (Syntax.tcons
-      Syntax.tyBool
-      (Syntax.tcons
-      (Syntax.tyInt Syntax.w64)
-      (Syntax.tcons (KRouteRow.spelled) Syntax.tnil)))),
-) (List._∷_ (17, Rows'.any-gone Syntax.tyBool) (List._∷_ (
-  18,
-  Rows'.any-gone
-      (Syntax.tyStruct
-      (List._∷_
-      109
-      (List._∷_
-      101
-      (List._∷_
-      115
-      (List._∷_
-      115
-      (List._∷_
-      97
-      (List._∷_
-      103
-      (List._∷_
-      101
-      (List._∷_
-      58
-      (List._∷_
-      58
-      (List._∷_
-      70
-      (List._∷_
-      114
-      (List._∷_
-      101
-      (List._∷_
-      101
-      (List._∷_ 68 (List._∷_ 101 (List._∷_ 108 (List._∷_ 116 (List._∷_ 97 List.[]))))))))))))))))))
-      (Syntax.tcons Syntax.tyBool (Syntax.tcons (Syntax.tyInt Syntax.w8) Syntax.tnil))),
-) (List._∷_ (
-  19,
-  Rows'.any-gone
-      (Syntax.tyStruct
-      (List._∷_
-      114
-      (List._∷_
-      101
-      (List._∷_
-      113
-      (List._∷_
-      117
-      (List._∷_
-      101
-      (List._∷_
-      115
-      (List._∷_
-      116
-      (List._∷_
-      58
-      (List._∷_
-      58
-      (List._∷_
-      82
-      (List._∷_
-      101
-      (List._∷_
-      113
-      (List._∷_
-      117
-      (List._∷_
-      101
-      (List._∷_
-      115
-      (List._∷_
-      116
-      (List._∷_
-      70
-      (List._∷_ 97 (List._∷_ 99 (List._∷_ 116 (List._∷_ 115 List.[])))))))))))))))))))))
-      (Syntax.tcons
-      (Syntax.tyStruct
-      (List._∷_
-      109
-      (List._∷_
-      101
-      (List._∷_
-      115
-      (List._∷_
-      115
-      (List._∷_
-      97
-      (List._∷_
-      103
-      (List._∷_
-      101
-      (List._∷_
-      58
-      (List._∷_
-      58
-      (List._∷_ 70 (List._∷_ 111 (List._∷_ 117 (List._∷_ 110 (List._∷_ 100 List.[]))))))))))))))
-      (Syntax.tcons
-      Syntax.tyBool
-      (Syntax.tcons
-      (Syntax.tyInt Syntax.w64)
-      (Syntax.tcons (KInstanceRow.spelled) Syntax.tnil))))
-      (Syntax.tcons
-      (Syntax.tyStruct
-      (List._∷_
-      109
-      (List._∷_
-      101
-      (List._∷_
-      115
-      (List._∷_
-      115
-      (List._∷_
-      97
-      (List._∷_
-      103
-      (List._∷_
-      101
-      (List._∷_
-      58
-      (List._∷_
-      58
-      (List._∷_
-      70
-      (List._∷_
-      111
-      (List._∷_
-      117
-      (List._∷_
-      110
-      (List._∷_
-      100
-      (List._∷_
-      82
-      (List._∷_ 111 (List._∷_ 117 (List._∷_ 116 (List._∷_ 101 List.[])))))))))))))))))))
-      (Syntax.tcons
-      Syntax.tyBool
-      (Syntax.tcons
-      (Syntax.tyInt Syntax.w64)
-      (Syntax.tcons (KRouteRow.spelled) Syntax.tnil))))
-      (Syntax.tcons
-      (Syntax.tyInt Syntax.w32)
-      (Syntax.tcons
-      (Syntax.tyEnum
-      (List._∷_
-      112
-      (List._∷_
-      108
-      (List._∷_
-      97
-      (List._∷_
-      105
-      (List._∷_
-      110
-      (List._∷_
-      58
-      (List._∷_
-      58
-      (List._∷_
-      83
-      (List._∷_
-      116
-      (List._∷_
-      97
-      (List._∷_ 110 (List._∷_ 100 (List._∷_ 105 (List._∷_ 110 (List._∷_ 103 List.[])))))))))))))))
-      (Syntax.ttcons
-      Syntax.tnil
-      (Syntax.ttcons
-      Syntax.tnil
-      (Syntax.ttcons
-      Syntax.tnil
-      (Syntax.ttcons Syntax.tnil (Syntax.ttcons Syntax.tnil Syntax.ttnil))))))
-      (Syntax.tcons
-      Syntax.tyBool
-      (Syntax.tcons
-      (Syntax.tyStruct
-      (List._∷_
-      97
-      (List._∷_
-      114
-      (List._∷_
-      116
-      (List._∷_
-      58
-      (List._∷_
-      58
-      (List._∷_
-      84
-      (List._∷_
-      97
-      (List._∷_ 114 (List._∷_ 103 (List._∷_ 101 (List._∷_ 116 (List._∷_ 115 List.[]))))))))))))
-      (Syntax.tcons
-      Syntax.tyBool
-      (Syntax.tcons
-      (Syntax.tyInt Syntax.w64)
-      (Syntax.tcons
-      (Syntax.tyArray
-      (Syntax.tyStruct
-      (List._∷_
-      112
-      (List._∷_
-      108
-      (List._∷_
-      97
-      (List._∷_
-      105
-      (List._∷_
-      110
-      (List._∷_
-      58
-      (List._∷_
-      58
-      (List._∷_
-      84
-      (List._∷_ 97 (List._∷_ 114 (List._∷_ 103 (List._∷_ 101 (List._∷_ 116 List.[])))))))))))))
-      (Syntax.tcons
-      (Syntax.tyInt Syntax.w8)
-      (Syntax.tcons
-      (Syntax.tyInt Syntax.w8)
-      (Syntax.tcons (Syntax.tyArray (Syntax.tyInt Syntax.w8) 16) Syntax.tnil))))
-      8)
-      Syntax.tnil))))
-      (Syntax.tcons
-      (Syntax.tyStruct
-      (List._∷_
-      109
-      (List._∷_
-      101
-      (List._∷_
-      115
-      (List._∷_
-      115
-      (List._∷_
-      97
-      (List._∷_
-      103
-      (List._∷_
-      101
-      (List._∷_
-      58
-      (List._∷_
-      58
-      (List._∷_
-      70
-      (List._∷_
-      114
-      (List._∷_
-      101
-      (List._∷_
-      101
-      (List._∷_ 68 (List._∷_ 101 (List._∷_ 108 (List._∷_ 116 (List._∷_ 97 List.[]))))))))))))))))))
-      (Syntax.tcons Syntax.tyBool (Syntax.tcons (Syntax.tyInt Syntax.w8) Syntax.tnil)))
-      Syntax.tnil)))))))),
-) (List._∷_ (
-  20,
-  Rows'.any-gone
-      (Syntax.tyEnum
-      (List._∷_
-      97
-      (List._∷_
-      110
-      (List._∷_
-      115
-      (List._∷_
-      119
-      (List._∷_
-      101
-      (List._∷_
-      114
-      (List._∷_
-      58
-      (List._∷_
-      58
-      (List._∷_
-      65
-      (List._∷_ 110 (List._∷_ 115 (List._∷_ 119 (List._∷_ 101 (List._∷_ 114 List.[]))))))))))))))
-      (Syntax.ttcons
-      Syntax.tnil
-      (Syntax.ttcons
-      Syntax.tnil
-      (Syntax.ttcons
-      Syntax.tnil
-      (Syntax.ttcons
-      Syntax.tnil
-      (Syntax.ttcons
-      Syntax.tnil
-      (Syntax.ttcons
-      Syntax.tnil
-      (Syntax.ttcons
-      Syntax.tnil
-      (Syntax.ttcons
-      Syntax.tnil
-      (Syntax.ttcons
-      Syntax.tnil
-      (Syntax.ttcons
-      Syntax.tnil
-      (Syntax.ttcons
-      Syntax.tnil
-      (Syntax.ttcons
-      Syntax.tnil
-      (Syntax.ttcons
-      Syntax.tnil
-      (Syntax.ttcons
-      Syntax.tnil
-      (Syntax.ttcons
-      Syntax.tnil
-      (Syntax.ttcons
-      Syntax.tnil
-      (Syntax.ttcons Syntax.tnil (Syntax.ttcons Syntax.tnil Syntax.ttnil))))))))))))))))))),
-) (List._∷_ (21, Rows'.any-gone (KDecided.spelled)) (List._∷_ (
-  22,
-  Rows'.any-gone (KPost.spelled),
-) (List._∷_ (23, KPost.row) (List._∷_ (
-  24,
-  Rows'.any-gone
-      (Syntax.tyStruct
-      (List._∷_
-      102
-      (List._∷_
-      105
-      (List._∷_
-      110
-      (List._∷_
-      105
-      (List._∷_
-      115
-      (List._∷_
-      104
-      (List._∷_
-      58
-      (List._∷_ 58 (List._∷_ 76 (List._∷_ 105 (List._∷_ 118 (List._∷_ 101 List.[]))))))))))))
-      (Syntax.tcons
-      Syntax.tyBool
-      (Syntax.tcons
-      (Syntax.tyInt Syntax.w64)
-      (Syntax.tcons Syntax.tyBool (Syntax.tcons (Syntax.tyInt Syntax.w64) Syntax.tnil))))),
-) (List._∷_ (25, Rows'.any-gone Syntax.tyUnit) (List._∷_ (
-  26,
-  Rows'.any-gone (KParsed.spelled),
-) (List._∷_ (
-  27,
-  Rows'.any-gone
-      (Syntax.tyRef Syntax.erased Syntax.imm (KInstanceRow.named)),
-) (List._∷_ (
-  28,
-  Rows'.any-gone
-      (Syntax.tyStruct
-      (List._∷_ 38 (List._∷_ 91 (List._∷_ 93 List.[])))
-      (Syntax.tcons
-      (Syntax.tyRef Syntax.erased Syntax.imm (KInstanceRow.named))
-      (Syntax.tcons (Syntax.tyInt Syntax.w64) Syntax.tnil))),
-) (List._∷_ (
-  29,
-  Rows'.any-gone
-      (Syntax.tyRef Syntax.erased Syntax.imm (KRouteRow.named)),
-) (List._∷_ (
-  30,
-  Rows'.any-gone
-      (Syntax.tyStruct
-      (List._∷_ 38 (List._∷_ 91 (List._∷_ 93 List.[])))
-      (Syntax.tcons
-      (Syntax.tyRef Syntax.erased Syntax.imm (KRouteRow.named))
-      (Syntax.tcons (Syntax.tyInt Syntax.w64) Syntax.tnil))),
-) (List._∷_ (
-  31,
-  Rows'.any-gone
-      (Syntax.tyRef Syntax.erased Syntax.imm (KInstanceRow.named)),
-) List.[])))))))))))))))
-
-abbrev pub t101 : List.List Row.Entry
-t101 = List._∷_ (0, Rows'.whole (Declared'.row Outcome.the-type)) (List._∷_ (
+t97 = List._∷_ (0, Rows'.whole (Declared'.row Outcome.the-type)) (List._∷_ (
   1,
   Mut.mslice
       (KInstanceRow.R)
@@ -25946,8 +24674,8 @@ t101 = List._∷_ (0, Rows'.whole (Declared'.row Outcome.the-type)) (List._∷_ 
       (Syntax.tcons (KInstanceRow.spelled) Syntax.tnil)))),
 ) List.[])))))))))))))))
 
-abbrev pub t102 : List.List Row.Entry
-t102 = List._∷_ (0, Rows'.whole (Declared'.row Outcome.the-type)) (List._∷_ (
+abbrev pub t98 : List.List Row.Entry
+t98 = List._∷_ (0, Rows'.whole (Declared'.row Outcome.the-type)) (List._∷_ (
   1,
   Mut.mslice
       (KInstanceRow.R)
@@ -26136,278 +24864,263 @@ T26 = record { locals = List._++_ t19 (List._++_ t18 t2); slots = List.[] }
 abbrev pub T28 : Row.Cx
 T28 = record { locals = List._++_ t20 (List._++_ t18 t2); slots = List.[] }
 
-abbrev pub T30 : Row.Cx
-T30 = record { locals = List._++_ t20 (List._++_ t21 t2); slots = List.[] }
-
 abbrev pub T31 : Row.Cx
-T31 = record { locals = List._++_ t20 (List._++_ t22 t2); slots = List.[] }
+T31 = record { locals = List._++_ t21 (List._++_ t22 t2); slots = List.[] }
 
 abbrev pub T32 : Row.Cx
-T32 = record { locals = List._++_ t20 (List._++_ t23 t2); slots = List.[] }
+T32 = record { locals = List._++_ t21 (List._++_ t23 t2); slots = List.[] }
+
+abbrev pub T33 : Row.Cx
+T33 = record { locals = List._++_ t21 (List._++_ t24 t2); slots = List.[] }
 
 abbrev pub T34 : Row.Cx
-T34 = record { locals = List._++_ t24 (List._++_ t25 t2); slots = List.[] }
+T34 = record { locals = List._++_ t21 (List._++_ t25 t2); slots = List.[] }
 
 abbrev pub T35 : Row.Cx
-T35 = record { locals = List._++_ t24 (List._++_ t23 t26); slots = List.[] }
-
-abbrev pub T36 : Row.Cx
-T36 = record { locals = List._++_ t24 (List._++_ t27 t26); slots = List.[] }
+T35 = record { locals = List._++_ t26 (List._++_ t25 t2); slots = List.[] }
 
 abbrev pub T37 : Row.Cx
-T37 = record { locals = List._++_ t24 (List._++_ t27 t2); slots = List.[] }
+T37 = record { locals = List._++_ t27 (List._++_ t25 t2); slots = List.[] }
 
-abbrev pub T38 : Row.Cx
-T38 = record { locals = List._++_ t28 (List._++_ t27 t2); slots = List.[] }
+abbrev pub T39 : Row.Cx
+T39 = record { locals = List._++_ t27 (List._++_ t28 t2); slots = List.[] }
 
 abbrev pub T40 : Row.Cx
-T40 = record { locals = List._++_ t29 (List._++_ t27 t2); slots = List.[] }
+T40 = record { locals = List._++_ t27 (List._++_ t29 t2); slots = List.[] }
+
+abbrev pub T41 : Row.Cx
+T41 = record { locals = List._++_ t27 (List._++_ t30 t2); slots = List.[] }
 
 abbrev pub T42 : Row.Cx
-T42 = record { locals = List._++_ t29 (List._++_ t30 t2); slots = List.[] }
+T42 = record { locals = List._++_ t27 (List._++_ t31 t2); slots = List.[] }
 
 abbrev pub T43 : Row.Cx
-T43 = record { locals = List._++_ t29 (List._++_ t31 t2); slots = List.[] }
+T43 = record { locals = List._++_ t27 (List._++_ t30 t2); slots = List.[] }
 
 abbrev pub T44 : Row.Cx
-T44 = record { locals = List._++_ t29 (List._++_ t32 t2); slots = List.[] }
+T44 = record { locals = List._++_ t27 (List._++_ t32 t2); slots = List.[] }
 
 abbrev pub T45 : Row.Cx
-T45 = record { locals = List._++_ t29 (List._++_ t33 t2); slots = List.[] }
+T45 = record { locals = List._++_ t27 (List._++_ t33 t2); slots = List.[] }
 
 abbrev pub T46 : Row.Cx
-T46 = record { locals = List._++_ t29 (List._++_ t32 t2); slots = List.[] }
+T46 = record { locals = List._++_ t27 (List._++_ t33 t34); slots = List.[] }
 
 abbrev pub T47 : Row.Cx
-T47 = record { locals = List._++_ t29 (List._++_ t34 t2); slots = List.[] }
+T47 = record { locals = List._++_ t27 (List._++_ t33 t35); slots = List.[] }
 
 abbrev pub T48 : Row.Cx
-T48 = record { locals = List._++_ t29 (List._++_ t35 t2); slots = List.[] }
+T48 = record { locals = List._++_ t27 (List._++_ t31 t2); slots = List.[] }
 
 abbrev pub T49 : Row.Cx
-T49 = record { locals = List._++_ t29 (List._++_ t35 t36); slots = List.[] }
+T49 = record { locals = List._++_ t27 (List._++_ t33 t36); slots = List.[] }
 
 abbrev pub T50 : Row.Cx
-T50 = record { locals = List._++_ t29 (List._++_ t35 t37); slots = List.[] }
+T50 = record { locals = List._++_ t37 (List._++_ t33 t36); slots = List.[] }
 
 abbrev pub T51 : Row.Cx
-T51 = record { locals = List._++_ t29 (List._++_ t33 t2); slots = List.[] }
+T51 = record { locals = List._++_ t38 (List._++_ t33 t36); slots = List.[] }
 
 abbrev pub T52 : Row.Cx
-T52 = record { locals = List._++_ t29 (List._++_ t35 t38); slots = List.[] }
+T52 = record { locals = List._++_ t39 (List._++_ t33 t36); slots = List.[] }
 
 abbrev pub T53 : Row.Cx
-T53 = record { locals = List._++_ t39 (List._++_ t35 t38); slots = List.[] }
+T53 = record { locals = List._++_ t39 (List._++_ t40 t36); slots = List.[] }
 
 abbrev pub T54 : Row.Cx
-T54 = record { locals = List._++_ t40 (List._++_ t35 t38); slots = List.[] }
+T54 = record { locals = List._++_ t39 (List._++_ t41 t36); slots = List.[] }
 
 abbrev pub T55 : Row.Cx
-T55 = record { locals = List._++_ t41 (List._++_ t35 t38); slots = List.[] }
+T55 = record { locals = List._++_ t39 (List._++_ t41 t2); slots = List.[] }
 
 abbrev pub T56 : Row.Cx
-T56 = record { locals = List._++_ t41 (List._++_ t42 t38); slots = List.[] }
+T56 = record { locals = List._++_ t42 (List._++_ t41 t2); slots = List.[] }
 
 abbrev pub T57 : Row.Cx
-T57 = record { locals = List._++_ t41 (List._++_ t43 t38); slots = List.[] }
+T57 = record { locals = List._++_ t42 (List._++_ t1 t2); slots = List.[] }
 
 abbrev pub T58 : Row.Cx
-T58 = record { locals = List._++_ t41 (List._++_ t43 t2); slots = List.[] }
+T58 = record { locals = List._++_ t43 (List._++_ t1 t2); slots = List.[] }
 
 abbrev pub T59 : Row.Cx
-T59 = record { locals = List._++_ t44 (List._++_ t43 t2); slots = List.[] }
+T59 = record { locals = List._++_ t44 (List._++_ t1 t2); slots = List.[] }
 
 abbrev pub T60 : Row.Cx
-T60 = record { locals = List._++_ t44 (List._++_ t45 t2); slots = List.[] }
+T60 = record { locals = List._++_ t45 (List._++_ t1 t2); slots = List.[] }
 
 abbrev pub T61 : Row.Cx
-T61 = record { locals = List._++_ t46 (List._++_ t45 t2); slots = List.[] }
+T61 = record { locals = List._++_ t3 (List._++_ t1 t2); slots = List.[] }
 
 abbrev pub T62 : Row.Cx
-T62 = record { locals = List._++_ t47 (List._++_ t45 t2); slots = List.[] }
+T62 = record { locals = List._++_ t27 (List._++_ t31 t36); slots = List.[] }
 
 abbrev pub T63 : Row.Cx
-T63 = record { locals = List._++_ t48 (List._++_ t45 t2); slots = List.[] }
+T63 = record { locals = List._++_ t27 (List._++_ t31 t2); slots = List.[] }
 
 abbrev pub T64 : Row.Cx
-T64 = record { locals = List._++_ t3 (List._++_ t45 t2); slots = List.[] }
+T64 = record { locals = List._++_ t27 (List._++_ t30 t2); slots = List.[] }
 
 abbrev pub T65 : Row.Cx
-T65 = record { locals = List._++_ t3 (List._++_ t1 t2); slots = List.[] }
+T65 = record { locals = List._++_ t27 (List._++_ t30 t46); slots = List.[] }
 
 abbrev pub T66 : Row.Cx
-T66 = record { locals = List._++_ t29 (List._++_ t33 t38); slots = List.[] }
+T66 = record { locals = List._++_ t27 (List._++_ t31 t46); slots = List.[] }
 
 abbrev pub T67 : Row.Cx
-T67 = record { locals = List._++_ t29 (List._++_ t33 t2); slots = List.[] }
+T67 = record { locals = List._++_ t27 (List._++_ t47 t46); slots = List.[] }
 
 abbrev pub T68 : Row.Cx
-T68 = record { locals = List._++_ t29 (List._++_ t32 t2); slots = List.[] }
+T68 = record { locals = List._++_ t27 (List._++_ t47 t2); slots = List.[] }
 
 abbrev pub T69 : Row.Cx
-T69 = record { locals = List._++_ t29 (List._++_ t32 t49); slots = List.[] }
+T69 = record { locals = List._++_ t27 (List._++_ t48 t2); slots = List.[] }
 
 abbrev pub T70 : Row.Cx
-T70 = record { locals = List._++_ t29 (List._++_ t33 t49); slots = List.[] }
+T70 = record { locals = List._++_ t27 (List._++_ t48 t49); slots = List.[] }
 
 abbrev pub T71 : Row.Cx
-T71 = record { locals = List._++_ t29 (List._++_ t50 t49); slots = List.[] }
+T71 = record { locals = List._++_ t27 (List._++_ t47 t49); slots = List.[] }
 
 abbrev pub T72 : Row.Cx
-T72 = record { locals = List._++_ t29 (List._++_ t50 t2); slots = List.[] }
+T72 = record { locals = List._++_ t27 (List._++_ t50 t49); slots = List.[] }
 
 abbrev pub T73 : Row.Cx
-T73 = record { locals = List._++_ t29 (List._++_ t51 t2); slots = List.[] }
+T73 = record { locals = List._++_ t27 (List._++_ t50 t2); slots = List.[] }
 
 abbrev pub T74 : Row.Cx
-T74 = record { locals = List._++_ t29 (List._++_ t51 t52); slots = List.[] }
+T74 = record { locals = List._++_ t27 (List._++_ t51 t2); slots = List.[] }
 
 abbrev pub T75 : Row.Cx
-T75 = record { locals = List._++_ t29 (List._++_ t50 t52); slots = List.[] }
+T75 = record { locals = List._++_ t27 (List._++_ t51 t49); slots = List.[] }
 
 abbrev pub T76 : Row.Cx
-T76 = record { locals = List._++_ t29 (List._++_ t53 t52); slots = List.[] }
+T76 = record { locals = List._++_ t52 (List._++_ t51 t49); slots = List.[] }
 
 abbrev pub T77 : Row.Cx
-T77 = record { locals = List._++_ t29 (List._++_ t53 t2); slots = List.[] }
+T77 = record { locals = List._++_ t52 (List._++_ t53 t49); slots = List.[] }
 
 abbrev pub T78 : Row.Cx
-T78 = record { locals = List._++_ t29 (List._++_ t54 t2); slots = List.[] }
+T78 = record { locals = List._++_ t52 (List._++_ t54 t49); slots = List.[] }
 
 abbrev pub T79 : Row.Cx
-T79 = record { locals = List._++_ t29 (List._++_ t54 t52); slots = List.[] }
+T79 = record { locals = List._++_ t52 (List._++_ t55 t49); slots = List.[] }
 
 abbrev pub T80 : Row.Cx
-T80 = record { locals = List._++_ t55 (List._++_ t54 t52); slots = List.[] }
+T80 = record { locals = List._++_ t52 (List._++_ t55 t2); slots = List.[] }
 
 abbrev pub T81 : Row.Cx
-T81 = record { locals = List._++_ t55 (List._++_ t56 t52); slots = List.[] }
+T81 = record { locals = List._++_ t52 (List._++_ t56 t2); slots = List.[] }
 
 abbrev pub T82 : Row.Cx
-T82 = record { locals = List._++_ t55 (List._++_ t57 t52); slots = List.[] }
+T82 = record { locals = List._++_ t57 (List._++_ t56 t2); slots = List.[] }
 
 abbrev pub T83 : Row.Cx
-T83 = record { locals = List._++_ t55 (List._++_ t58 t52); slots = List.[] }
-
-abbrev pub T84 : Row.Cx
-T84 = record { locals = List._++_ t55 (List._++_ t58 t2); slots = List.[] }
+T83 = record { locals = List._++_ t57 (List._++_ t58 t2); slots = List.[] }
 
 abbrev pub T85 : Row.Cx
-T85 = record { locals = List._++_ t55 (List._++_ t59 t2); slots = List.[] }
+T85 = record { locals = List._++_ t59 (List._++_ t58 t60); slots = List.[] }
 
 abbrev pub T86 : Row.Cx
-T86 = record { locals = List._++_ t60 (List._++_ t59 t2); slots = List.[] }
+T86 = record { locals = List._++_ t59 (List._++_ t58 t61); slots = List.[] }
 
-abbrev pub T87 : Row.Cx
-T87 = record { locals = List._++_ t60 (List._++_ t61 t2); slots = List.[] }
+abbrev pub T88 : Row.Cx
+T88 = record { locals = List._++_ t62 (List._++_ t58 t63); slots = List.[] }
 
 abbrev pub T89 : Row.Cx
-T89 = record { locals = List._++_ t62 (List._++_ t61 t63); slots = List.[] }
+T89 = record { locals = List._++_ t62 (List._++_ t58 t64); slots = List.[] }
 
-abbrev pub T90 : Row.Cx
-T90 = record { locals = List._++_ t62 (List._++_ t61 t64); slots = List.[] }
+abbrev pub T91 : Row.Cx
+T91 = record { locals = List._++_ t65 (List._++_ t58 t66); slots = List.[] }
 
 abbrev pub T92 : Row.Cx
-T92 = record { locals = List._++_ t65 (List._++_ t61 t66); slots = List.[] }
+T92 = record { locals = List._++_ t65 (List._++_ t58 t67); slots = List.[] }
 
-abbrev pub T93 : Row.Cx
-T93 = record { locals = List._++_ t65 (List._++_ t61 t67); slots = List.[] }
+abbrev pub T94 : Row.Cx
+T94 = record { locals = List._++_ t68 (List._++_ t58 t69); slots = List.[] }
 
 abbrev pub T95 : Row.Cx
-T95 = record { locals = List._++_ t68 (List._++_ t61 t69); slots = List.[] }
+T95 = record { locals = List._++_ t68 (List._++_ t58 t70); slots = List.[] }
 
-abbrev pub T96 : Row.Cx
-T96 = record { locals = List._++_ t68 (List._++_ t61 t70); slots = List.[] }
-
-abbrev pub T98 : Row.Cx
-T98 = record { locals = List._++_ t71 (List._++_ t61 t72); slots = List.[] }
+abbrev pub T97 : Row.Cx
+T97 = record { locals = List._++_ t68 (List._++_ t71 t72); slots = List.[] }
 
 abbrev pub T99 : Row.Cx
-T99 = record { locals = List._++_ t71 (List._++_ t61 t73); slots = List.[] }
+T99 = record { locals = List._++_ t68 (List._++_ t73 t74); slots = List.[] }
 
 abbrev pub T101 : Row.Cx
-T101 = record { locals = List._++_ t71 (List._++_ t74 t75); slots = List.[] }
+T101 = record { locals = List._++_ t68 (List._++_ t75 t76); slots = List.[] }
+
+abbrev pub T102 : Row.Cx
+T102 = record { locals = List._++_ t77 (List._++_ t75 t78); slots = List.[] }
 
 abbrev pub T103 : Row.Cx
-T103 = record { locals = List._++_ t71 (List._++_ t76 t77); slots = List.[] }
+T103 = record { locals = List._++_ t77 (List._++_ t75 t79); slots = List.[] }
+
+abbrev pub T104 : Row.Cx
+T104 = record { locals = List._++_ t77 (List._++_ t75 t80); slots = List.[] }
 
 abbrev pub T105 : Row.Cx
-T105 = record { locals = List._++_ t71 (List._++_ t78 t79); slots = List.[] }
+T105 = record { locals = List._++_ t77 (List._++_ t75 t81); slots = List.[] }
 
 abbrev pub T106 : Row.Cx
-T106 = record { locals = List._++_ t80 (List._++_ t78 t81); slots = List.[] }
+T106 = record { locals = List._++_ t82 (List._++_ t75 t81); slots = List.[] }
 
 abbrev pub T107 : Row.Cx
-T107 = record { locals = List._++_ t80 (List._++_ t78 t82); slots = List.[] }
+T107 = record { locals = List._++_ t83 (List._++_ t75 t81); slots = List.[] }
 
 abbrev pub T108 : Row.Cx
-T108 = record { locals = List._++_ t80 (List._++_ t78 t83); slots = List.[] }
-
-abbrev pub T109 : Row.Cx
-T109 = record { locals = List._++_ t80 (List._++_ t78 t84); slots = List.[] }
+T108 = record { locals = List._++_ t83 (List._++_ t84 t81); slots = List.[] }
 
 abbrev pub T110 : Row.Cx
-T110 = record { locals = List._++_ t85 (List._++_ t78 t84); slots = List.[] }
-
-abbrev pub T111 : Row.Cx
-T111 = record { locals = List._++_ t86 (List._++_ t78 t84); slots = List.[] }
-
-abbrev pub T112 : Row.Cx
-T112 = record { locals = List._++_ t86 (List._++_ t87 t84); slots = List.[] }
+T110 = record { locals = List._++_ t85 (List._++_ t84 t86); slots = List.[] }
 
 abbrev pub T113 : Row.Cx
-T113 = record { locals = List._++_ t86 (List._++_ t88 t84); slots = List.[] }
+T113 = record { locals = List._++_ t87 (List._++_ t84 t88); slots = List.[] }
 
-abbrev pub T115 : Row.Cx
-T115 = record { locals = List._++_ t89 (List._++_ t88 t90); slots = List.[] }
+abbrev pub T116 : Row.Cx
+T116 = record { locals = List._++_ t89 (List._++_ t84 t90); slots = List.[] }
 
-abbrev pub T118 : Row.Cx
-T118 = record { locals = List._++_ t91 (List._++_ t88 t92); slots = List.[] }
+abbrev pub T117 : Row.Cx
+T117 = record { locals = List._++_ t89 (List._++_ t84 t90); slots = List.[] }
+
+abbrev pub T120 : Row.Cx
+T120 = record { locals = List._++_ t91 (List._++_ t84 t2); slots = List.[] }
 
 abbrev pub T121 : Row.Cx
-T121 = record { locals = List._++_ t93 (List._++_ t88 t94); slots = List.[] }
+T121 = record { locals = List._++_ t91 (List._++_ t84 t2); slots = List.[] }
 
-abbrev pub T122 : Row.Cx
-T122 = record { locals = List._++_ t93 (List._++_ t88 t94); slots = List.[] }
-
-abbrev pub T125 : Row.Cx
-T125 = record { locals = List._++_ t95 (List._++_ t88 t2); slots = List.[] }
+abbrev pub T124 : Row.Cx
+T124 = record { locals = List._++_ t91 (List._++_ t92 t2); slots = List.[] }
 
 abbrev pub T126 : Row.Cx
-T126 = record { locals = List._++_ t95 (List._++_ t88 t2); slots = List.[] }
+T126 = record { locals = List._++_ t91 (List._++_ t93 t2); slots = List.[] }
 
-abbrev pub T129 : Row.Cx
-T129 = record { locals = List._++_ t95 (List._++_ t96 t2); slots = List.[] }
+abbrev pub T128 : Row.Cx
+T128 = record { locals = List._++_ t91 (List._++_ t94 t2); slots = List.[] }
 
-abbrev pub T131 : Row.Cx
-T131 = record { locals = List._++_ t95 (List._++_ t97 t2); slots = List.[] }
+abbrev pub T130 : Row.Cx
+T130 = record { locals = List._++_ t91 (List._++_ t95 t2); slots = List.[] }
 
-abbrev pub T133 : Row.Cx
-T133 = record { locals = List._++_ t95 (List._++_ t98 t2); slots = List.[] }
+abbrev pub T132 : Row.Cx
+T132 = record { locals = List._++_ t91 (List._++_ t96 t2); slots = List.[] }
+
+abbrev pub T134 : Row.Cx
+T134 = record { locals = List._++_ t91 (List._++_ t1 t2); slots = List.[] }
 
 abbrev pub T135 : Row.Cx
-T135 = record { locals = List._++_ t95 (List._++_ t99 t2); slots = List.[] }
+T135 = record { locals = List._++_ t97 (List._++_ t1 t2); slots = List.[] }
+
+abbrev pub T136 : Row.Cx
+T136 = record { locals = List._++_ t98 (List._++_ t1 t2); slots = List.[] }
 
 abbrev pub T137 : Row.Cx
-T137 = record { locals = List._++_ t95 (List._++_ t100 t2); slots = List.[] }
-
-abbrev pub T139 : Row.Cx
-T139 = record { locals = List._++_ t95 (List._++_ t1 t2); slots = List.[] }
-
-abbrev pub T140 : Row.Cx
-T140 = record { locals = List._++_ t101 (List._++_ t1 t2); slots = List.[] }
-
-abbrev pub T141 : Row.Cx
-T141 = record { locals = List._++_ t102 (List._++_ t1 t2); slots = List.[] }
-
-abbrev pub T142 : Row.Cx
-T142 = record { locals = List._++_ t3 (List._++_ t1 t2); slots = List.[] }
+T137 = record { locals = List._++_ t3 (List._++_ t1 t2); slots = List.[] }
 
 abbrev pub O0 : Typed.Outs
 O0 = record { next = Option.none; exits = List.[]; returns = Option.some T1 }
 
 abbrev pub O1 : Typed.Outs
-O1 = Typed.withNext (Option.some T51) O0
+O1 = Typed.withNext (Option.some T48) O0
 
 module _ (claims· : Claims) where
   abbrev s0 : Typed.Gives T0 T2
@@ -26445,17 +25158,17 @@ module _ (claims· : Claims) where
       ref = λ x. x;
     },
     tt,
-  ) 25 (List._∷_ 5 List.[]) Syntax.tyUnit
+  ) 24 (List._∷_ 5 List.[]) Syntax.tyUnit
 
   abbrev s3 : Typed.Mo T4 → Typed.Mo T5
-  s3 = Scalar.n-room T4 25 Syntax.tyUnit
+  s3 = Scalar.n-room T4 24 Syntax.tyUnit
 
   abbrev s4 : Typed.Gives T5 T6
   s4 =
       DerefMove.k-ref-read-copy
       T5
       10
-      26
+      25
       4
       (KParsed.R)
       (Rows'.sref
@@ -26471,19 +25184,19 @@ module _ (claims· : Claims) where
 
   abbrev s5 : Typed.Both T6 T7
   s5 = Call.callB ps·1 r·1 (claims· .2) (claims· .3) T6 (
-    record { pos = 26; st = List.[]; d = 0; at = λ x. x },
+    record { pos = 25; st = List.[]; d = 0; at = λ x. x },
     tt,
   ) 12 List.[] (Syntax.tyInt Syntax.w8)
 
   abbrev s6 : Typed.Mo T7 → Typed.Mo T8
-  s6 = Scalar.n-room T7 26 (KParsed.spelled)
+  s6 = Scalar.n-room T7 25 (KParsed.spelled)
 
   abbrev s7 : Typed.Gives T8 T9
   s7 =
       DerefMove.k-ref-read-copy
       T8
       10
-      26
+      25
       4
       (KParsed.R)
       (Rows'.sref
@@ -26499,12 +25212,12 @@ module _ (claims· : Claims) where
 
   abbrev s8 : Typed.Both T9 T10
   s8 = Call.callB ps·2 r·2 (claims· .4) (claims· .5) T9 (
-    record { pos = 26; st = List.[]; d = 0; at = λ x. x },
+    record { pos = 25; st = List.[]; d = 0; at = λ x. x },
     tt,
   ) 13 List.[] (Syntax.tyArray (Syntax.tyInt Syntax.w8) 16)
 
   abbrev s9 : Typed.Mo T10 → Typed.Mo T11
-  s9 = Scalar.n-room T10 26 (KParsed.spelled)
+  s9 = Scalar.n-room T10 25 (KParsed.spelled)
 
   abbrev s10 : Typed.Both T11 T12
   s10 = Call.callB ps·3 r·3 (claims· .6) (claims· .7) T11 (
@@ -26518,7 +25231,7 @@ module _ (claims· : Claims) where
       (KInstanceRow.R)
       T12
       1
-      27
+      26
       0
       6
       (Syntax.tyRef (Syntax.named 0) Syntax.mut (KInstanceRow.named))
@@ -26532,8 +25245,8 @@ module _ (claims· : Claims) where
       (KInstanceRow.R)
       (Relend.asShr (KInstanceRow.R))
       T14
+      26
       27
-      28
       6
       (Syntax.tyRef Syntax.erased Syntax.imm (KInstanceRow.named))
       (Syntax.tyRef Syntax.erased Syntax.imm (KInstanceRow.named))
@@ -26549,7 +25262,7 @@ module _ (claims· : Claims) where
   abbrev s14 : Typed.Both T15 T16
   s14 = Call.callB ps·4 r·4 (claims· .8) (claims· .9) T15 (
     record {
-      pos = 28;
+      pos = 27;
       ty = Syntax.tyRef Syntax.erased Syntax.imm (KInstanceRow.named);
       ref = λ x. x;
     },
@@ -26590,7 +25303,7 @@ module _ (claims· : Claims) where
   s15 =
       Scalar.n-room
       T16
-      28
+      27
       (Syntax.tyStruct
       (List._∷_ 38 (List._∷_ 91 (List._∷_ 93 List.[])))
       (Syntax.tcons
@@ -26615,7 +25328,7 @@ module _ (claims· : Claims) where
       (KRouteRow.R)
       T19
       2
-      29
+      28
       1
       7
       (Syntax.tyRef (Syntax.named 1) Syntax.mut (KRouteRow.named))
@@ -26629,8 +25342,8 @@ module _ (claims· : Claims) where
       (KRouteRow.R)
       (Relend.asShr (KRouteRow.R))
       T22
+      28
       29
-      30
       7
       (Syntax.tyRef Syntax.erased Syntax.imm (KRouteRow.named))
       (Syntax.tyRef Syntax.erased Syntax.imm (KRouteRow.named))
@@ -26646,7 +25359,7 @@ module _ (claims· : Claims) where
   abbrev s22 : Typed.Both T23 T24
   s22 = Call.callB ps·5 r·5 (claims· .10) (claims· .11) T23 (
     record {
-      pos = 30;
+      pos = 29;
       ty = Syntax.tyRef Syntax.erased Syntax.imm (KRouteRow.named);
       ref = λ x. x;
     },
@@ -26702,7 +25415,7 @@ module _ (claims· : Claims) where
   s23 =
       Scalar.n-room
       T24
-      30
+      29
       (Syntax.tyStruct
       (List._∷_ 38 (List._∷_ 91 (List._∷_ 93 List.[])))
       (Syntax.tcons
@@ -26724,41 +25437,13 @@ module _ (claims· : Claims) where
       Row.off
       λ x. x
 
-  abbrev s28 : Typed.Gives T28 T30
-  s28 =
-      DerefMove.k-ref-read-copy
-      T28
-      10
-      26
-      4
-      (KParsed.R)
-      (Rows'.sref
-      (KParsed.R)
-      (Syntax.tyRef (Syntax.named 4) Syntax.imm (KParsed.named))
-      4)
-      Row.off
-      (KParsed.row)
-      (λ x. x)
-      (λ x. x)
-      (λ x. x)
-      λ x. Unit
-
-  abbrev s29 : Typed.Both T30 T31
-  s29 = Call.callB ps·6 r·6 (claims· .12) (claims· .13) T30 (
-    record { pos = 5; st = List.[]; d = 0; at = λ x. x },
-    (record { pos = 26; st = List.[]; d = 0; at = λ x. x }, tt),
-  ) 17 List.[] Syntax.tyBool
-
-  abbrev s30 : Typed.Mo T31 → Typed.Mo T32
-  s30 = Scalar.n-room T31 26 (KParsed.spelled)
-
-  abbrev s32 : Typed.Gives T32 T34
-  s32 =
+  abbrev s29 : Typed.Gives T28 T31
+  s29 =
       Reshare.k-sl-reshare
       (KInstanceRow.R)
-      T32
+      T28
       1
-      31
+      30
       0
       8
       (Syntax.tyRef (Syntax.named 0) Syntax.mut (KInstanceRow.named))
@@ -26766,14 +25451,14 @@ module _ (claims· : Claims) where
       Row.off
       λ x. x
 
-  abbrev s33 : Typed.Asks T34 T35
-  s33 =
+  abbrev s30 : Typed.Asks T31 T32
+  s30 =
       Relend.k-sl-aggregate
       (KInstanceRow.R)
       (Relend.asShr (KInstanceRow.R))
-      T34
+      T31
+      30
       31
-      32
       8
       (Syntax.tyRef Syntax.erased Syntax.imm (KInstanceRow.named))
       (Syntax.tyRef Syntax.erased Syntax.imm (KInstanceRow.named))
@@ -26786,22 +25471,19 @@ module _ (claims· : Claims) where
       λ v. Shared.lenV
       (v .0))
 
-  abbrev s34 : Typed.Both T35 T36
-  s34 = Call.callB ps·7 r·7 (claims· .14) (claims· .15) T35 (
-    Bool.bAt 17 λ x. x,
+  abbrev s31 : Typed.Both T32 T33
+  s31 = Call.callB ps·6 r·6 (claims· .12) (claims· .13) T32 (
+    record {
+      pos = 31;
+      ty = Syntax.tyRef Syntax.erased Syntax.imm (KInstanceRow.named);
+      ref = λ x. x;
+    },
     (
-      record {
-        pos = 32;
-        ty = Syntax.tyRef Syntax.erased Syntax.imm (KInstanceRow.named);
-        ref = λ x. x;
-      },
-      (
-        Num.vAt 8 λ x. x,
-        (Num.vAt 12 λ x. x, (record { pos = 14; st = List.[]; d = 0; at = λ x. x }, tt)),
-      ),
+      Num.vAt 8 λ x. x,
+      (Num.vAt 12 λ x. x, (record { pos = 14; st = List.[]; d = 0; at = λ x. x }, tt)),
     ),
   )
-      18
+      17
       (List._∷_ 8 List.[])
       (Syntax.tyStruct
       (List._∷_
@@ -26833,25 +25515,25 @@ module _ (claims· : Claims) where
       (List._∷_ 68 (List._∷_ 101 (List._∷_ 108 (List._∷_ 116 (List._∷_ 97 List.[]))))))))))))))))))
       (Syntax.tcons Syntax.tyBool (Syntax.tcons (Syntax.tyInt Syntax.w8) Syntax.tnil)))
 
-  abbrev s35 : Typed.Mo T36 → Typed.Mo T37
-  s35 =
+  abbrev s32 : Typed.Mo T33 → Typed.Mo T34
+  s32 =
       Scalar.n-room
-      T36
-      32
+      T33
+      31
       (Syntax.tyStruct
       (List._∷_ 38 (List._∷_ 91 (List._∷_ 93 List.[])))
       (Syntax.tcons
       (Syntax.tyRef Syntax.erased Syntax.imm (KInstanceRow.named))
       (Syntax.tcons (Syntax.tyInt Syntax.w64) Syntax.tnil)))
 
-  abbrev s36 : Typed.Mo T37 → Typed.Mo T38
-  s36 = Scalar.n-room T37 14 (Syntax.tyArray (Syntax.tyInt Syntax.w8) 16)
+  abbrev s33 : Typed.Mo T34 → Typed.Mo T35
+  s33 = Scalar.n-room T34 14 (Syntax.tyArray (Syntax.tyInt Syntax.w8) 16)
 
-  abbrev s38 : Typed.Mo T38 → Typed.Mo T40
-  s38 =
+  abbrev s35 : Typed.Mo T35 → Typed.Mo T37
+  s35 =
       Reshare.n-back-sl-shr
       (KInstanceRow.R)
-      T38
+      T35
       1
       0
       8
@@ -26859,12 +25541,12 @@ module _ (claims· : Claims) where
       Row.off
       λ x. x
 
-  abbrev s40 : Typed.Gives T40 T42
-  s40 =
+  abbrev s37 : Typed.Gives T37 T39
+  s37 =
       DerefMove.k-ref-read-copy
-      T40
+      T37
       10
-      26
+      25
       4
       (KParsed.R)
       (Rows'.sref
@@ -26878,27 +25560,24 @@ module _ (claims· : Claims) where
       (λ x. x)
       λ x. Unit
 
-  abbrev s41 : Typed.Both T42 T43
-  s41 = Call.callB ps·8 r·8 (claims· .16) (claims· .17) T42 (
+  abbrev s38 : Typed.Both T39 T40
+  s38 = Call.callB ps·7 r·7 (claims· .14) (claims· .15) T39 (
     record { pos = 5; st = List.[]; d = 0; at = λ x. x },
     (
       record { pos = 9; st = List.[]; d = 0; at = λ x. x },
       (
-        record { pos = 26; st = List.[]; d = 0; at = λ x. x },
+        record { pos = 25; st = List.[]; d = 0; at = λ x. x },
         (
-          Bool.bAt 17 λ x. x,
+          record { pos = 15; st = List.[]; d = 0; at = λ x. x },
           (
-            record { pos = 15; st = List.[]; d = 0; at = λ x. x },
-            (
-              record { pos = 16; st = List.[]; d = 0; at = λ x. x },
-              (record { pos = 18; st = List.[]; d = 0; at = λ x. x }, tt),
-            ),
+            record { pos = 16; st = List.[]; d = 0; at = λ x. x },
+            (record { pos = 17; st = List.[]; d = 0; at = λ x. x }, tt),
           ),
         ),
       ),
     ),
   )
-      19
+      18
       List.[]
       (Syntax.tyStruct
       (List._∷_
@@ -27114,11 +25793,11 @@ module _ (claims· : Claims) where
       (Syntax.tcons Syntax.tyBool (Syntax.tcons (Syntax.tyInt Syntax.w8) Syntax.tnil)))
       Syntax.tnil))))))))
 
-  abbrev s42 : Typed.Mo T43 → Typed.Mo T44
-  s42 =
+  abbrev s39 : Typed.Mo T40 → Typed.Mo T41
+  s39 =
       Scalar.n-room
-      T43
-      18
+      T40
+      17
       (Syntax.tyStruct
       (List._∷_
       109
@@ -27149,15 +25828,15 @@ module _ (claims· : Claims) where
       (List._∷_ 68 (List._∷_ 101 (List._∷_ 108 (List._∷_ 116 (List._∷_ 97 List.[]))))))))))))))))))
       (Syntax.tcons Syntax.tyBool (Syntax.tcons (Syntax.tyInt Syntax.w8) Syntax.tnil)))
 
-  abbrev s43 : Typed.Mo T44 → Typed.Mo T45
-  s43 = Scalar.n-room T44 26 (KParsed.spelled)
+  abbrev s40 : Typed.Mo T41 → Typed.Mo T42
+  s40 = Scalar.n-room T41 25 (KParsed.spelled)
 
-  abbrev s44 : Typed.Gives T45 T46
-  s44 =
+  abbrev s41 : Typed.Gives T42 T43
+  s41 =
       DerefMove.k-ref-read-copy
-      T45
+      T42
       10
-      26
+      25
       4
       (KParsed.R)
       (Rows'.sref
@@ -27171,13 +25850,13 @@ module _ (claims· : Claims) where
       (λ x. x)
       λ x. Unit
 
-  abbrev s45 : Typed.Both T46 T47
-  s45 = Call.callB ps·9 r·9 (claims· .18) (claims· .19) T46 (
+  abbrev s42 : Typed.Both T43 T44
+  s42 = Call.callB ps·8 r·8 (claims· .16) (claims· .17) T43 (
     record { pos = 5; st = List.[]; d = 0; at = λ x. x },
     (
       record { pos = 9; st = List.[]; d = 0; at = λ x. x },
       (
-        record { pos = 26; st = List.[]; d = 0; at = λ x. x },
+        record { pos = 25; st = List.[]; d = 0; at = λ x. x },
         (
           record {
             pos = 11;
@@ -27187,12 +25866,12 @@ module _ (claims· : Claims) where
                 (Syntax.tyArray (Syntax.tyArray (Syntax.tyInt Syntax.w8) 16) 16);
             ref = λ x. x;
           },
-          (record { pos = 19; st = List.[]; d = 0; at = λ x. x }, tt),
+          (record { pos = 18; st = List.[]; d = 0; at = λ x. x }, tt),
         ),
       ),
     ),
   )
-      20
+      19
       (List._∷_ 5 List.[])
       (Syntax.tyEnum
       (List._∷_
@@ -27248,33 +25927,33 @@ module _ (claims· : Claims) where
       Syntax.tnil
       (Syntax.ttcons Syntax.tnil (Syntax.ttcons Syntax.tnil Syntax.ttnil)))))))))))))))))))
 
-  abbrev s46 : Typed.Mo T47 → Typed.Mo T48
-  s46 = Scalar.n-room T47 26 (KParsed.spelled)
+  abbrev s43 : Typed.Mo T44 → Typed.Mo T45
+  s43 = Scalar.n-room T44 25 (KParsed.spelled)
 
-  abbrev s47 : Typed.Both T48 T49
-  s47 = Call.callB ps·10 r·10 (claims· .20) (claims· .21) T48 (
-    record { pos = 20; st = List.[]; d = 0; at = λ x. x },
+  abbrev s44 : Typed.Both T45 T46
+  s44 = Call.callB ps·9 r·9 (claims· .18) (claims· .19) T45 (
+    record { pos = 19; st = List.[]; d = 0; at = λ x. x },
     tt,
-  ) 33 List.[] (Syntax.tyInt Syntax.w8)
+  ) 32 List.[] (Syntax.tyInt Syntax.w8)
 
-  abbrev s48 : Typed.Asks T49 T50
-  s48 =
+  abbrev s45 : Typed.Asks T46 T47
+  s45 =
       Scalar.k-op2
-      T49
+      T46
       Syntax.ne
-      (Scalar.oAt 33 (Syntax.tyInt Syntax.w8) (Row.valS (Row.sInt Syntax.w8)))
+      (Scalar.oAt 32 (Syntax.tyInt Syntax.w8) (Row.valS (Row.sInt Syntax.w8)))
       (Scalar.oInt Syntax.w8 0)
-      34
+      33
       (Rows'.sc-here Row.sBool)
       (Row.sBool .of)
 
-  abbrev s49 : Typed.Mo T50 → Typed.Mo T52
-  s49 = Scalar.n-room T50 33 (Syntax.tyInt Syntax.w8)
+  abbrev s46 : Typed.Mo T47 → Typed.Mo T49
+  s46 = Scalar.n-room T47 32 (Syntax.tyInt Syntax.w8)
 
-  abbrev s50 : Typed.Mo T52 → Typed.Mo T53
-  s50 =
+  abbrev s47 : Typed.Mo T49 → Typed.Mo T50
+  s47 =
       Scalar.n-room
-      T52
+      T49
       5
       (Syntax.tyStruct
       (List._∷_
@@ -27288,10 +25967,10 @@ module _ (claims· : Claims) where
       (Syntax.tyArray (Syntax.tyInt Syntax.w8) 16)
       (Syntax.tcons (Syntax.tyArray (Syntax.tyInt Syntax.w8) 16) Syntax.tnil)))
 
-  abbrev s51 : Typed.Mo T53 → Typed.Mo T54
-  s51 =
+  abbrev s48 : Typed.Mo T50 → Typed.Mo T51
+  s48 =
       Scalar.n-room
-      T53
+      T50
       9
       (Syntax.tyStruct
       (List._∷_
@@ -27319,10 +25998,10 @@ module _ (claims· : Claims) where
       Syntax.tyBool
       (Syntax.tcons (Syntax.tyInt Syntax.w16) (Syntax.tcons Syntax.tyBool Syntax.tnil))))))
 
-  abbrev s52 : Typed.Mo T54 → Typed.Mo T55
-  s52 =
+  abbrev s49 : Typed.Mo T51 → Typed.Mo T52
+  s49 =
       Scalar.n-room
-      T54
+      T51
       15
       (Syntax.tyStruct
       (List._∷_
@@ -27350,10 +26029,10 @@ module _ (claims· : Claims) where
       (Syntax.tyInt Syntax.w64)
       (Syntax.tcons (KInstanceRow.spelled) Syntax.tnil))))
 
-  abbrev s53 : Typed.Mo T55 → Typed.Mo T56
-  s53 =
+  abbrev s50 : Typed.Mo T52 → Typed.Mo T53
+  s50 =
       Scalar.n-room
-      T55
+      T52
       16
       (Syntax.tyStruct
       (List._∷_
@@ -27393,11 +26072,11 @@ module _ (claims· : Claims) where
       (Syntax.tyInt Syntax.w64)
       (Syntax.tcons (KRouteRow.spelled) Syntax.tnil))))
 
-  abbrev s54 : Typed.Mo T56 → Typed.Mo T57
-  s54 =
+  abbrev s51 : Typed.Mo T53 → Typed.Mo T54
+  s51 =
       Scalar.n-room
-      T56
-      19
+      T53
+      18
       (Syntax.tyStruct
       (List._∷_
       114
@@ -27612,12 +26291,12 @@ module _ (claims· : Claims) where
       (Syntax.tcons Syntax.tyBool (Syntax.tcons (Syntax.tyInt Syntax.w8) Syntax.tnil)))
       Syntax.tnil))))))))
 
-  abbrev s55 : Typed.Mo T57 → Typed.Mo T58
-  s55 = Scalar.n-room T57 34 Syntax.tyBool
+  abbrev s52 : Typed.Mo T54 → Typed.Mo T55
+  s52 = Scalar.n-room T54 33 Syntax.tyBool
 
-  abbrev s56 : Typed.Both T58 T59
-  s56 = Call.callB ps·11 r·11 (claims· .22) (claims· .23) T58 (
-    record { pos = 20; st = List.[]; d = 0; at = λ x. x },
+  abbrev s53 : Typed.Both T55 T56
+  s53 = Call.callB ps·10 r·10 (claims· .20) (claims· .21) T55 (
+    record { pos = 19; st = List.[]; d = 0; at = λ x. x },
     (Num.vAt 6 λ x. x, (Num.vAt 7 λ x. x, tt)),
   )
       0
@@ -27850,11 +26529,11 @@ module _ (claims· : Claims) where
       (Syntax.ttcons Syntax.tnil (Syntax.ttcons Syntax.tnil Syntax.ttnil)))))))))))))))))))
       (Syntax.tcons (Syntax.tyInt Syntax.w8) Syntax.tnil))))))
 
-  abbrev s57 : Typed.Mo T59 → Typed.Mo T60
-  s57 =
+  abbrev s54 : Typed.Mo T56 → Typed.Mo T57
+  s54 =
       Scalar.n-room
-      T59
-      20
+      T56
+      19
       (Syntax.tyEnum
       (List._∷_
       97
@@ -27908,27 +26587,24 @@ module _ (claims· : Claims) where
       (Syntax.ttcons
       Syntax.tnil
       (Syntax.ttcons Syntax.tnil (Syntax.ttcons Syntax.tnil Syntax.ttnil)))))))))))))))))))
+
+  abbrev s55 : Typed.Mo T57 → Typed.Mo T58
+  s55 = Scalar.n-room T57 6 (Syntax.tyInt Syntax.w64)
+
+  abbrev s56 : Typed.Mo T58 → Typed.Mo T59
+  s56 = Scalar.n-room T58 7 (Syntax.tyInt Syntax.w8)
+
+  abbrev s57 : Typed.Mo T59 → Typed.Mo T60
+  s57 = Scalar.n-room T59 8 (Syntax.tyInt Syntax.w64)
 
   abbrev s58 : Typed.Mo T60 → Typed.Mo T61
-  s58 = Scalar.n-room T60 6 (Syntax.tyInt Syntax.w64)
+  s58 = Scalar.n-room T60 12 (Syntax.tyInt Syntax.w8)
 
-  abbrev s59 : Typed.Mo T61 → Typed.Mo T62
-  s59 = Scalar.n-room T61 7 (Syntax.tyInt Syntax.w8)
-
-  abbrev s60 : Typed.Mo T62 → Typed.Mo T63
-  s60 = Scalar.n-room T62 8 (Syntax.tyInt Syntax.w64)
-
-  abbrev s61 : Typed.Mo T63 → Typed.Mo T64
-  s61 = Scalar.n-room T63 12 (Syntax.tyInt Syntax.w8)
-
-  abbrev s62 : Typed.Mo T64 → Typed.Mo T65
-  s62 = Scalar.n-room T64 17 Syntax.tyBool
-
-  abbrev s63 : Typed.Mo T52 → Typed.Mo T66
-  s63 =
+  abbrev s59 : Typed.Mo T49 → Typed.Mo T62
+  s59 =
       Scalar.n-room
-      T52
-      20
+      T49
+      19
       (Syntax.tyEnum
       (List._∷_
       97
@@ -27983,15 +26659,15 @@ module _ (claims· : Claims) where
       Syntax.tnil
       (Syntax.ttcons Syntax.tnil (Syntax.ttcons Syntax.tnil Syntax.ttnil)))))))))))))))))))
 
-  abbrev s64 : Typed.Mo T66 → Typed.Mo T67
-  s64 = Scalar.n-room T66 34 Syntax.tyBool
+  abbrev s60 : Typed.Mo T62 → Typed.Mo T63
+  s60 = Scalar.n-room T62 33 Syntax.tyBool
 
-  abbrev s65 : Typed.Gives T51 T68
-  s65 =
+  abbrev s61 : Typed.Gives T48 T64
+  s61 =
       DerefMove.k-ref-read-copy
-      T51
+      T48
       10
-      26
+      25
       4
       (KParsed.R)
       (Rows'.sref
@@ -28005,8 +26681,8 @@ module _ (claims· : Claims) where
       (λ x. x)
       λ x. Unit
 
-  abbrev s66 : Typed.Both T68 T69
-  s66 = Call.callB ps·12 r·12 (claims· .24) (claims· .25) T68 (
+  abbrev s62 : Typed.Both T64 T65
+  s62 = Call.callB ps·11 r·11 (claims· .22) (claims· .23) T64 (
     record { pos = 5; st = List.[]; d = 0; at = λ x. x },
     (
       Num.vAt 7 λ x. x,
@@ -28015,23 +26691,23 @@ module _ (claims· : Claims) where
         (
           record { pos = 9; st = List.[]; d = 0; at = λ x. x },
           (
-            record { pos = 26; st = List.[]; d = 0; at = λ x. x },
-            (record { pos = 19; st = List.[]; d = 0; at = λ x. x }, tt),
+            record { pos = 25; st = List.[]; d = 0; at = λ x. x },
+            (record { pos = 18; st = List.[]; d = 0; at = λ x. x }, tt),
           ),
         ),
       ),
     ),
-  ) 35 List.[] (KDecided.spelled)
+  ) 34 List.[] (KDecided.spelled)
 
-  abbrev s67 : Typed.Mo T69 → Typed.Mo T70
-  s67 = Scalar.n-room T69 26 (KParsed.spelled)
+  abbrev s63 : Typed.Mo T65 → Typed.Mo T66
+  s63 = Scalar.n-room T65 25 (KParsed.spelled)
 
-  abbrev s68 : Typed.Mo T70 → Typed.Mo T71
-  s68 =
+  abbrev s64 : Typed.Mo T66 → Typed.Mo T67
+  s64 =
       LocalCopy.n-val-copy
-      T70
-      35
-      21
+      T66
+      34
+      20
       (KDecided.R)
       (KDecided.row)
       (KDecided.row)
@@ -28039,15 +26715,15 @@ module _ (claims· : Claims) where
       (λ x. x)
       λ x. x
 
-  abbrev s69 : Typed.Mo T71 → Typed.Mo T72
-  s69 = Scalar.n-room T71 35 (KDecided.spelled)
+  abbrev s65 : Typed.Mo T67 → Typed.Mo T68
+  s65 = Scalar.n-room T67 34 (KDecided.spelled)
 
-  abbrev s70 : Typed.Gives T72 T73
-  s70 =
+  abbrev s66 : Typed.Gives T68 T69
+  s66 =
       DerefMove.k-ref-read-copy
-      T72
+      T68
       10
-      26
+      25
       4
       (KParsed.R)
       (Rows'.sref
@@ -28061,24 +26737,24 @@ module _ (claims· : Claims) where
       (λ x. x)
       λ x. Unit
 
-  abbrev s71 : Typed.Both T73 T74
-  s71 = Call.callB ps·13 r·13 (claims· .26) (claims· .27) T73 (
+  abbrev s67 : Typed.Both T69 T70
+  s67 = Call.callB ps·12 r·12 (claims· .24) (claims· .25) T69 (
     record { pos = 9; st = List.[]; d = 0; at = λ x. x },
     (
-      record { pos = 26; st = List.[]; d = 0; at = λ x. x },
-      (record { pos = 19; st = List.[]; d = 0; at = λ x. x }, tt),
+      record { pos = 25; st = List.[]; d = 0; at = λ x. x },
+      (record { pos = 18; st = List.[]; d = 0; at = λ x. x }, tt),
     ),
-  ) 36 List.[] (KPost.spelled)
+  ) 35 List.[] (KPost.spelled)
 
-  abbrev s72 : Typed.Mo T74 → Typed.Mo T75
-  s72 = Scalar.n-room T74 26 (KParsed.spelled)
+  abbrev s68 : Typed.Mo T70 → Typed.Mo T71
+  s68 = Scalar.n-room T70 25 (KParsed.spelled)
 
-  abbrev s73 : Typed.Mo T75 → Typed.Mo T76
-  s73 =
+  abbrev s69 : Typed.Mo T71 → Typed.Mo T72
+  s69 =
       LocalCopy.n-val-copy
-      T75
-      36
-      22
+      T71
+      35
+      21
       (KPost.R)
       (KPost.row)
       (KPost.row)
@@ -28086,15 +26762,15 @@ module _ (claims· : Claims) where
       (λ x. x)
       λ x. x
 
-  abbrev s74 : Typed.Mo T76 → Typed.Mo T77
-  s74 = Scalar.n-room T76 36 (KPost.spelled)
+  abbrev s70 : Typed.Mo T72 → Typed.Mo T73
+  s70 = Scalar.n-room T72 35 (KPost.spelled)
 
-  abbrev s75 : Typed.Gives T77 T78
-  s75 =
+  abbrev s71 : Typed.Gives T73 T74
+  s71 =
       DerefMove.k-ref-read-copy
-      T77
+      T73
       10
-      26
+      25
       4
       (KParsed.R)
       (Rows'.sref
@@ -28108,22 +26784,22 @@ module _ (claims· : Claims) where
       (λ x. x)
       λ x. Unit
 
-  abbrev s76 : Typed.Both T78 T79
-  s76 = Call.callB ps·14 r·14 (claims· .28) (claims· .29) T78 (
+  abbrev s72 : Typed.Both T74 T75
+  s72 = Call.callB ps·13 r·13 (claims· .26) (claims· .27) T74 (
     record { pos = 5; st = List.[]; d = 0; at = λ x. x },
     (
       record { pos = 9; st = List.[]; d = 0; at = λ x. x },
       (
-        record { pos = 26; st = List.[]; d = 0; at = λ x. x },
-        (record { pos = 19; st = List.[]; d = 0; at = λ x. x }, (Num.vAt 7 λ x. x, tt)),
+        record { pos = 25; st = List.[]; d = 0; at = λ x. x },
+        (record { pos = 18; st = List.[]; d = 0; at = λ x. x }, (Num.vAt 7 λ x. x, tt)),
       ),
     ),
-  ) 36 List.[] (KPost.spelled)
+  ) 35 List.[] (KPost.spelled)
 
-  abbrev s77 : Typed.Mo T79 → Typed.Mo T80
-  s77 =
+  abbrev s73 : Typed.Mo T75 → Typed.Mo T76
+  s73 =
       Scalar.n-room
-      T79
+      T75
       9
       (Syntax.tyStruct
       (List._∷_
@@ -28151,11 +26827,11 @@ module _ (claims· : Claims) where
       Syntax.tyBool
       (Syntax.tcons (Syntax.tyInt Syntax.w16) (Syntax.tcons Syntax.tyBool Syntax.tnil))))))
 
-  abbrev s78 : Typed.Mo T80 → Typed.Mo T81
-  s78 =
+  abbrev s74 : Typed.Mo T76 → Typed.Mo T77
+  s74 =
       Scalar.n-room
-      T80
-      19
+      T76
+      18
       (Syntax.tyStruct
       (List._∷_
       114
@@ -28370,15 +27046,15 @@ module _ (claims· : Claims) where
       (Syntax.tcons Syntax.tyBool (Syntax.tcons (Syntax.tyInt Syntax.w8) Syntax.tnil)))
       Syntax.tnil))))))))
 
-  abbrev s79 : Typed.Mo T81 → Typed.Mo T82
-  s79 = Scalar.n-room T81 26 (KParsed.spelled)
+  abbrev s75 : Typed.Mo T77 → Typed.Mo T78
+  s75 = Scalar.n-room T77 25 (KParsed.spelled)
 
-  abbrev s80 : Typed.Mo T82 → Typed.Mo T83
-  s80 =
+  abbrev s76 : Typed.Mo T78 → Typed.Mo T79
+  s76 =
       LocalCopy.n-val-copy
-      T82
-      36
-      23
+      T78
+      35
+      22
       (KPost.R)
       (KPost.row)
       (KPost.row)
@@ -28386,15 +27062,15 @@ module _ (claims· : Claims) where
       (λ x. x)
       λ x. x
 
-  abbrev s81 : Typed.Mo T83 → Typed.Mo T84
-  s81 = Scalar.n-room T83 36 (KPost.spelled)
+  abbrev s77 : Typed.Mo T79 → Typed.Mo T80
+  s77 = Scalar.n-room T79 35 (KPost.spelled)
 
-  abbrev s82 : Typed.Both T84 T85
-  s82 = Call.callB ps·15 r·15 (claims· .30) (claims· .31) T84 (
+  abbrev s78 : Typed.Both T80 T81
+  s78 = Call.callB ps·14 r·14 (claims· .28) (claims· .29) T80 (
     record { pos = 15; st = List.[]; d = 0; at = λ x. x },
     (record { pos = 16; st = List.[]; d = 0; at = λ x. x }, tt),
   )
-      24
+      23
       List.[]
       (Syntax.tyStruct
       (List._∷_
@@ -28418,10 +27094,10 @@ module _ (claims· : Claims) where
       (Syntax.tyInt Syntax.w64)
       (Syntax.tcons Syntax.tyBool (Syntax.tcons (Syntax.tyInt Syntax.w64) Syntax.tnil)))))
 
-  abbrev s83 : Typed.Mo T85 → Typed.Mo T86
-  s83 =
+  abbrev s79 : Typed.Mo T81 → Typed.Mo T82
+  s79 =
       Scalar.n-room
-      T85
+      T81
       15
       (Syntax.tyStruct
       (List._∷_
@@ -28449,10 +27125,10 @@ module _ (claims· : Claims) where
       (Syntax.tyInt Syntax.w64)
       (Syntax.tcons (KInstanceRow.spelled) Syntax.tnil))))
 
-  abbrev s84 : Typed.Mo T86 → Typed.Mo T87
-  s84 =
+  abbrev s80 : Typed.Mo T82 → Typed.Mo T83
+  s80 =
       Scalar.n-room
-      T86
+      T82
       16
       (Syntax.tyStruct
       (List._∷_
@@ -28492,13 +27168,13 @@ module _ (claims· : Claims) where
       (Syntax.tyInt Syntax.w64)
       (Syntax.tcons (KRouteRow.spelled) Syntax.tnil))))
 
-  abbrev s86 : Typed.Gives T87 T89
-  s86 =
+  abbrev s82 : Typed.Gives T83 T85
+  s82 =
       Relend.k-sl-relend
       (KInstanceRow.R)
-      T87
+      T83
       1
-      37
+      36
       0
       9
       (Syntax.tyRef (Syntax.named 0) Syntax.mut (KInstanceRow.named))
@@ -28506,14 +27182,14 @@ module _ (claims· : Claims) where
       Row.off
       λ x. x
 
-  abbrev s87 : Typed.Asks T89 T90
-  s87 =
+  abbrev s83 : Typed.Asks T85 T86
+  s83 =
       Relend.k-sl-aggregate
       (KInstanceRow.R)
       (Relend.asMut (KInstanceRow.R))
-      T89
+      T85
+      36
       37
-      38
       9
       (Syntax.tyRef Syntax.erased Syntax.mut (KInstanceRow.named))
       (Syntax.tyRef Syntax.erased Syntax.mut (KInstanceRow.named))
@@ -28526,13 +27202,13 @@ module _ (claims· : Claims) where
       λ v. Shared.lenV
       (v .0))
 
-  abbrev s89 : Typed.Gives T90 T92
-  s89 =
+  abbrev s85 : Typed.Gives T86 T88
+  s85 =
       Relend.k-sl-relend
       (KRouteRow.R)
-      T90
+      T86
       2
-      39
+      38
       1
       10
       (Syntax.tyRef (Syntax.named 1) Syntax.mut (KRouteRow.named))
@@ -28540,14 +27216,14 @@ module _ (claims· : Claims) where
       Row.off
       λ x. x
 
-  abbrev s90 : Typed.Asks T92 T93
-  s90 =
+  abbrev s86 : Typed.Asks T88 T89
+  s86 =
       Relend.k-sl-aggregate
       (KRouteRow.R)
       (Relend.asMut (KRouteRow.R))
-      T92
+      T88
+      38
       39
-      40
       10
       (Syntax.tyRef Syntax.erased Syntax.mut (KRouteRow.named))
       (Syntax.tyRef Syntax.erased Syntax.mut (KRouteRow.named))
@@ -28560,13 +27236,13 @@ module _ (claims· : Claims) where
       λ v. Shared.lenV
       (v .0))
 
-  abbrev s92 : Typed.Gives T93 T95
-  s92 =
+  abbrev s88 : Typed.Gives T89 T91
+  s88 =
       Relend.k-sl-relend
       (Referent.rtF (Referent.fInt Syntax.w8))
-      T93
+      T89
       3
-      41
+      40
       2
       11
       (Syntax.tyRef (Syntax.named 2) Syntax.mut (Syntax.tyInt Syntax.w8))
@@ -28574,14 +27250,14 @@ module _ (claims· : Claims) where
       Row.off
       λ x. x
 
-  abbrev s93 : Typed.Asks T95 T96
-  s93 =
+  abbrev s89 : Typed.Asks T91 T92
+  s89 =
       Relend.k-sl-aggregate
       (Referent.rtF (Referent.fInt Syntax.w8))
       (Relend.asMut (Referent.rtF (Referent.fInt Syntax.w8)))
-      T95
+      T91
+      40
       41
-      42
       11
       (Syntax.tyRef Syntax.erased Syntax.mut (Syntax.tyInt Syntax.w8))
       (Syntax.tyRef Syntax.erased Syntax.mut (Syntax.tyInt Syntax.w8))
@@ -28594,13 +27270,13 @@ module _ (claims· : Claims) where
       λ v. Shared.lenV
       (v .0))
 
-  abbrev s95 : Typed.Gives T96 T98
-  s95 =
+  abbrev s91 : Typed.Gives T92 T94
+  s91 =
       Relend.k-sl-relend
       (Referent.rtF (Referent.fInt Syntax.w8))
-      T96
+      T92
       4
-      43
+      42
       3
       12
       (Syntax.tyRef (Syntax.named 3) Syntax.mut (Syntax.tyInt Syntax.w8))
@@ -28608,14 +27284,14 @@ module _ (claims· : Claims) where
       Row.off
       λ x. x
 
-  abbrev s96 : Typed.Asks T98 T99
-  s96 =
+  abbrev s92 : Typed.Asks T94 T95
+  s92 =
       Relend.k-sl-aggregate
       (Referent.rtF (Referent.fInt Syntax.w8))
       (Relend.asMut (Referent.rtF (Referent.fInt Syntax.w8)))
-      T98
+      T94
+      42
       43
-      44
       12
       (Syntax.tyRef Syntax.erased Syntax.mut (Syntax.tyInt Syntax.w8))
       (Syntax.tyRef Syntax.erased Syntax.mut (Syntax.tyInt Syntax.w8))
@@ -28628,61 +27304,61 @@ module _ (claims· : Claims) where
       λ v. Shared.lenV
       (v .0))
 
-  abbrev s98 : Typed.Gives T99 T101
-  s98 =
+  abbrev s94 : Typed.Gives T95 T97
+  s94 =
       Local.k-sc-share
-      T99
-      21
-      45
+      T95
+      20
+      44
       13
       (KDecided.R)
       (Syntax.tyRef Syntax.erased Syntax.imm (KDecided.named))
       λ x. x
 
-  abbrev s100 : Typed.Gives T101 T103
-  s100 =
+  abbrev s96 : Typed.Gives T97 T99
+  s96 =
       Local.k-sc-share
-      T101
-      22
-      46
+      T97
+      21
+      45
       14
       (KPost.R)
       (Syntax.tyRef Syntax.erased Syntax.imm (KPost.named))
       λ x. x
 
-  abbrev s102 : Typed.Gives T103 T105
-  s102 =
+  abbrev s98 : Typed.Gives T99 T101
+  s98 =
       Local.k-sc-share
-      T103
-      23
-      47
+      T99
+      22
+      46
       15
       (KPost.R)
       (Syntax.tyRef Syntax.erased Syntax.imm (KPost.named))
       λ x. x
 
-  abbrev s103 : Typed.Both T105 T106
-  s103 = Call.callB ps·16 r·16 (claims· .32) (claims· .33) T105 (
+  abbrev s99 : Typed.Both T101 T102
+  s99 = Call.callB ps·15 r·15 (claims· .30) (claims· .31) T101 (
     record {
-      pos = 38;
+      pos = 37;
       ty = Syntax.tyRef Syntax.erased Syntax.mut (KInstanceRow.named);
       ref = λ x. x;
     },
     (
       record {
-        pos = 40;
+        pos = 39;
         ty = Syntax.tyRef Syntax.erased Syntax.mut (KRouteRow.named);
         ref = λ x. x;
       },
       (
         record {
-          pos = 42;
+          pos = 41;
           ty = Syntax.tyRef Syntax.erased Syntax.mut (Syntax.tyInt Syntax.w8);
           ref = λ x. x;
         },
         (
           record {
-            pos = 44;
+            pos = 43;
             ty = Syntax.tyRef Syntax.erased Syntax.mut (Syntax.tyInt Syntax.w8);
             ref = λ x. x;
           },
@@ -28705,7 +27381,7 @@ module _ (claims· : Claims) where
                     },
                     (
                       record {
-                        pos = 45;
+                        pos = 44;
                         ty = Syntax.tyRef
                             Syntax.erased
                             Syntax.imm
@@ -28714,7 +27390,7 @@ module _ (claims· : Claims) where
                       },
                       (
                         record {
-                          pos = 46;
+                          pos = 45;
                           ty = Syntax.tyRef
                               Syntax.erased
                               Syntax.imm
@@ -28723,14 +27399,14 @@ module _ (claims· : Claims) where
                         },
                         (
                           record {
-                            pos = 47;
+                            pos = 46;
                             ty = Syntax.tyRef
                                 Syntax.erased
                                 Syntax.imm
                                 (KPost.named);
                             ref = λ x. x;
                           },
-                          (record { pos = 24; st = List.[]; d = 0; at = λ x. x }, tt),
+                          (record { pos = 23; st = List.[]; d = 0; at = λ x. x }, tt),
                         ),
                       ),
                     ),
@@ -28977,31 +27653,31 @@ module _ (claims· : Claims) where
       (Syntax.ttcons Syntax.tnil (Syntax.ttcons Syntax.tnil Syntax.ttnil)))))))))))))))))))
       (Syntax.tcons (Syntax.tyInt Syntax.w8) Syntax.tnil))))))
 
-  abbrev s104 : Typed.Mo T106 → Typed.Mo T107
-  s104 =
+  abbrev s100 : Typed.Mo T102 → Typed.Mo T103
+  s100 =
       Scalar.n-room
-      T106
-      45
+      T102
+      44
       (Syntax.tyRef Syntax.erased Syntax.imm (KDecided.named))
 
-  abbrev s105 : Typed.Mo T107 → Typed.Mo T108
-  s105 =
+  abbrev s101 : Typed.Mo T103 → Typed.Mo T104
+  s101 =
       Scalar.n-room
-      T107
+      T103
+      45
+      (Syntax.tyRef Syntax.erased Syntax.imm (KPost.named))
+
+  abbrev s102 : Typed.Mo T104 → Typed.Mo T105
+  s102 =
+      Scalar.n-room
+      T104
       46
       (Syntax.tyRef Syntax.erased Syntax.imm (KPost.named))
 
-  abbrev s106 : Typed.Mo T108 → Typed.Mo T109
-  s106 =
+  abbrev s103 : Typed.Mo T105 → Typed.Mo T106
+  s103 =
       Scalar.n-room
-      T108
-      47
-      (Syntax.tyRef Syntax.erased Syntax.imm (KPost.named))
-
-  abbrev s107 : Typed.Mo T109 → Typed.Mo T110
-  s107 =
-      Scalar.n-room
-      T109
+      T105
       5
       (Syntax.tyStruct
       (List._∷_
@@ -29015,17 +27691,14 @@ module _ (claims· : Claims) where
       (Syntax.tyArray (Syntax.tyInt Syntax.w8) 16)
       (Syntax.tcons (Syntax.tyArray (Syntax.tyInt Syntax.w8) 16) Syntax.tnil)))
 
-  abbrev s108 : Typed.Mo T110 → Typed.Mo T111
-  s108 = Scalar.n-room T110 12 (Syntax.tyInt Syntax.w8)
+  abbrev s104 : Typed.Mo T106 → Typed.Mo T107
+  s104 = Scalar.n-room T106 12 (Syntax.tyInt Syntax.w8)
 
-  abbrev s109 : Typed.Mo T111 → Typed.Mo T112
-  s109 = Scalar.n-room T111 17 Syntax.tyBool
-
-  abbrev s110 : Typed.Mo T112 → Typed.Mo T113
-  s110 =
+  abbrev s105 : Typed.Mo T107 → Typed.Mo T108
+  s105 =
       Scalar.n-room
-      T112
-      24
+      T107
+      23
       (Syntax.tyStruct
       (List._∷_
       102
@@ -29048,12 +27721,12 @@ module _ (claims· : Claims) where
       (Syntax.tyInt Syntax.w64)
       (Syntax.tcons Syntax.tyBool (Syntax.tcons (Syntax.tyInt Syntax.w64) Syntax.tnil)))))
 
-  abbrev s112 : Typed.Both T113 T115
-  s112 =
+  abbrev s107 : Typed.Both T108 T110
+  s107 =
       Relend.k-back-sl
       (KInstanceRow.R)
-      T113
-      38
+      T108
+      37
       1
       0
       9
@@ -29063,12 +27736,12 @@ module _ (claims· : Claims) where
       (λ x. x)
       λ x. x
 
-  abbrev s115 : Typed.Both T115 T118
-  s115 =
+  abbrev s110 : Typed.Both T110 T113
+  s110 =
       Relend.k-back-sl
       (KRouteRow.R)
-      T115
-      40
+      T110
+      39
       2
       1
       10
@@ -29078,12 +27751,12 @@ module _ (claims· : Claims) where
       (λ x. x)
       λ x. x
 
-  abbrev s118 : Typed.Both T118 T121
-  s118 =
+  abbrev s113 : Typed.Both T113 T116
+  s113 =
       Relend.k-back-sl
       (Referent.rtF (Referent.fInt Syntax.w8))
-      T118
-      42
+      T113
+      41
       3
       2
       11
@@ -29093,11 +27766,11 @@ module _ (claims· : Claims) where
       (λ x. x)
       λ x. x
 
-  abbrev s119 : Typed.Gives T121 T122
-  s119 =
+  abbrev s114 : Typed.Gives T116 T117
+  s114 =
       Know.k-sl-known
       (Referent.fInt Syntax.w8)
-      T121
+      T116
       3
       2
       (Syntax.tyRef (Syntax.named 2) Syntax.mut (Syntax.tyInt Syntax.w8))
@@ -29105,12 +27778,12 @@ module _ (claims· : Claims) where
       0
       λ x. x
 
-  abbrev s122 : Typed.Both T122 T125
-  s122 =
+  abbrev s117 : Typed.Both T117 T120
+  s117 =
       Relend.k-back-sl
       (Referent.rtF (Referent.fInt Syntax.w8))
-      T122
-      44
+      T117
+      43
       4
       3
       12
@@ -29120,11 +27793,11 @@ module _ (claims· : Claims) where
       (λ x. x)
       λ x. x
 
-  abbrev s123 : Typed.Gives T125 T126
-  s123 =
+  abbrev s118 : Typed.Gives T120 T121
+  s118 =
       Know.k-sl-known
       (Referent.fInt Syntax.w8)
-      T125
+      T120
       4
       3
       (Syntax.tyRef (Syntax.named 3) Syntax.mut (Syntax.tyInt Syntax.w8))
@@ -29132,35 +27805,35 @@ module _ (claims· : Claims) where
       0
       λ x. x
 
-  abbrev s126 : Typed.Mo T126 → Typed.Mo T129
-  s126 =
-      Local.n-back-shr T126 21 13 (KDecided.row) λ x. x
+  abbrev s121 : Typed.Mo T121 → Typed.Mo T124
+  s121 =
+      Local.n-back-shr T121 20 13 (KDecided.row) λ x. x
 
-  abbrev s128 : Typed.Mo T129 → Typed.Mo T131
-  s128 = Scalar.n-room T129 21 (KDecided.spelled)
+  abbrev s123 : Typed.Mo T124 → Typed.Mo T126
+  s123 = Scalar.n-room T124 20 (KDecided.spelled)
 
-  abbrev s130 : Typed.Mo T131 → Typed.Mo T133
-  s130 =
-      Local.n-back-shr T131 22 14 (KPost.row) λ x. x
+  abbrev s125 : Typed.Mo T126 → Typed.Mo T128
+  s125 =
+      Local.n-back-shr T126 21 14 (KPost.row) λ x. x
 
-  abbrev s132 : Typed.Mo T133 → Typed.Mo T135
-  s132 = Scalar.n-room T133 22 (KPost.spelled)
+  abbrev s127 : Typed.Mo T128 → Typed.Mo T130
+  s127 = Scalar.n-room T128 21 (KPost.spelled)
 
-  abbrev s134 : Typed.Mo T135 → Typed.Mo T137
-  s134 =
-      Local.n-back-shr T135 23 15 (KPost.row) λ x. x
+  abbrev s129 : Typed.Mo T130 → Typed.Mo T132
+  s129 =
+      Local.n-back-shr T130 22 15 (KPost.row) λ x. x
 
-  abbrev s136 : Typed.Mo T137 → Typed.Mo T139
-  s136 = Scalar.n-room T137 23 (KPost.spelled)
+  abbrev s131 : Typed.Mo T132 → Typed.Mo T134
+  s131 = Scalar.n-room T132 22 (KPost.spelled)
 
-  abbrev s137 : Typed.Mo T139 → Typed.Mo T140
-  s137 = Scalar.n-room T139 6 (Syntax.tyInt Syntax.w64)
+  abbrev s132 : Typed.Mo T134 → Typed.Mo T135
+  s132 = Scalar.n-room T134 6 (Syntax.tyInt Syntax.w64)
 
-  abbrev s138 : Typed.Mo T140 → Typed.Mo T141
-  s138 = Scalar.n-room T140 7 (Syntax.tyInt Syntax.w8)
+  abbrev s133 : Typed.Mo T135 → Typed.Mo T136
+  s133 = Scalar.n-room T135 7 (Syntax.tyInt Syntax.w8)
 
-  abbrev s139 : Typed.Mo T141 → Typed.Mo T142
-  s139 = Scalar.n-room T141 8 (Syntax.tyInt Syntax.w64)
+  abbrev s134 : Typed.Mo T136 → Typed.Mo T137
+  s134 = Scalar.n-room T136 8 (Syntax.tyInt Syntax.w64)
 
   module _ (Pre· : (κs : Lifetimes.Lfts 6) → Kinds.Dens κs ps → Type 0)
       (Post· : (κs : Lifetimes.Lfts 6) → (a : Kinds.Dens κs ps) → Kinds.Plain 6 ps r κs) where
@@ -29174,461 +27847,444 @@ module _ (claims· : Claims) where
           "node::dodagid_of") (known3 : Plain.Known 𝓤 H A W 𝓣 0 ps·3 r·3 (claims· .6) (claims· .7)
           "node::receiving_of") (known4 : Plain.Known 𝓤 H A W 𝓣 1 ps·4 r·4 (claims· .8)
           (claims· .9) "search::search_request") (known5 : Plain.Known 𝓤 H A W 𝓣 1 ps·5 r·5
-          (claims· .10) (claims· .11) "search::search_route") (known6 : Plain.Known 𝓤 H A W 𝓣 0
-          ps·6 r·6 (claims· .12) (claims· .13) "request::is_targ_node") (known7 : Plain.Known 𝓤 H A
-          W 𝓣 1 ps·7 r·7 (claims· .14) (claims· .15) "search::free_delta_if") (known8 : Plain.Known
-          𝓤 H A W 𝓣 0 ps·8 r·8 (claims· .16) (claims· .17) "request::gather") (known9 : Plain.Known
-          𝓤 H A W 𝓣 1 ps·9 r·9 (claims· .18) (claims· .19) "request::judge") (known10 : Plain.Known
-          𝓤 H A W 𝓣 0 ps·10 r·10 (claims· .20) (claims· .21)
-          "answer::number") (known11 : Plain.Known 𝓤 H A W 𝓣 0 ps·11 r·11 (claims· .22)
-          (claims· .23) "finish::refused") (known12 : Plain.Known 𝓤 H A W 𝓣 0 ps·12 r·12
-          (claims· .24) (claims· .25) "request_accepted::accepted") (known13 : Plain.Known 𝓤 H A W
-          𝓣 0 ps·13 r·13 (claims· .26) (claims· .27)
-          "request_accepted::forward_post") (known14 : Plain.Known 𝓤 H A W 𝓣 0 ps·14 r·14
-          (claims· .28) (claims· .29) "request_accepted::reply_post") (known15 : Plain.Known 𝓤 H A
-          W 𝓣 0 ps·15 r·15 (claims· .30) (claims· .31) "node::live_of") (known16 : Plain.Known 𝓤 H
-          A W 𝓣 8 ps·16 r·16 (claims· .32) (claims· .33) "finish::finish") → Statement.Triple 𝓤
+          (claims· .10) (claims· .11) "search::search_route") (known6 : Plain.Known 𝓤 H A W 𝓣 1
+          ps·6 r·6 (claims· .12) (claims· .13) "search::free_delta") (known7 : Plain.Known 𝓤 H A W
+          𝓣 0 ps·7 r·7 (claims· .14) (claims· .15) "request::gather") (known8 : Plain.Known 𝓤 H A W
+          𝓣 1 ps·8 r·8 (claims· .16) (claims· .17) "request::judge") (known9 : Plain.Known 𝓤 H A W
+          𝓣 0 ps·9 r·9 (claims· .18) (claims· .19) "answer::number") (known10 : Plain.Known 𝓤 H A W
+          𝓣 0 ps·10 r·10 (claims· .20) (claims· .21) "finish::refused") (known11 : Plain.Known 𝓤 H
+          A W 𝓣 0 ps·11 r·11 (claims· .22) (claims· .23)
+          "request_stored::accepted") (known12 : Plain.Known 𝓤 H A W 𝓣 0 ps·12 r·12 (claims· .24)
+          (claims· .25) "request_sent::forward_post") (known13 : Plain.Known 𝓤 H A W 𝓣 0 ps·13 r·13
+          (claims· .26) (claims· .27) "request_sent::reply_post") (known14 : Plain.Known 𝓤 H A W 𝓣
+          0 ps·14 r·14 (claims· .28) (claims· .29) "node::live_of") (known15 : Plain.Known 𝓤 H A W
+          𝓣 8 ps·15 r·15 (claims· .30) (claims· .31) "finish::finish") → Statement.Triple 𝓤
           (Wp.WpFn 𝓤 H (𝓣 .C) (𝓣 .Λ) (Function.fnOf 6 ps r xs m hs body)) (Function.plainOf 𝓤 H A 6
           ps r Pre· Post·)
 
     module _ where
-      abbrev at0 : Typed.TF T65 O1
+      abbrev at0 : Typed.TF T61 O1
       at0 = Typed.atRet O1
 
-      abbrev at1 : Typed.TF T64 O1
-      at1 = λ Ψ. Typed.pass T64 T65 s62 (at0 Ψ)
+      abbrev at1 : Typed.TF T60 O1
+      at1 = λ Ψ. Typed.pass T60 T61 s58 (at0 Ψ)
 
-      abbrev at2 : Typed.TF T63 O1
-      at2 = λ Ψ. Typed.pass T63 T64 s61 (at1 Ψ)
+      abbrev at2 : Typed.TF T59 O1
+      at2 = λ Ψ. Typed.pass T59 T60 s57 (at1 Ψ)
 
-      abbrev at3 : Typed.TF T62 O1
-      at3 = λ Ψ. Typed.pass T62 T63 s60 (at2 Ψ)
+      abbrev at3 : Typed.TF T58 O1
+      at3 = λ Ψ. Typed.pass T58 T59 s56 (at2 Ψ)
 
-      abbrev at4 : Typed.TF T61 O1
-      at4 = λ Ψ. Typed.pass T61 T62 s59 (at3 Ψ)
+      abbrev at4 : Typed.TF T57 O1
+      at4 = λ Ψ. Typed.pass T57 T58 s55 (at3 Ψ)
 
-      abbrev at5 : Typed.TF T60 O1
-      at5 = λ Ψ. Typed.pass T60 T61 s58 (at4 Ψ)
+      abbrev at5 : Typed.TF T56 O1
+      at5 = λ Ψ. Typed.pass T56 T57 s54 (at4 Ψ)
 
-      abbrev at6 : Typed.TF T59 O1
-      at6 = λ Ψ. Typed.pass T59 T60 s57 (at5 Ψ)
+      abbrev at6 : Typed.TF T55 O1
+      at6 = λ Ψ. Typed.both s53 (at5 Ψ)
 
-      abbrev at7 : Typed.TF T58 O1
-      at7 = λ Ψ. Typed.both s56 (at6 Ψ)
+      abbrev at7 : Typed.TF T54 O1
+      at7 = λ Ψ. Typed.pass T54 T55 s52 (at6 Ψ)
 
-      abbrev at8 : Typed.TF T57 O1
-      at8 = λ Ψ. Typed.pass T57 T58 s55 (at7 Ψ)
+      abbrev at8 : Typed.TF T53 O1
+      at8 = λ Ψ. Typed.pass T53 T54 s51 (at7 Ψ)
 
-      abbrev at9 : Typed.TF T56 O1
-      at9 = λ Ψ. Typed.pass T56 T57 s54 (at8 Ψ)
+      abbrev at9 : Typed.TF T52 O1
+      at9 = λ Ψ. Typed.pass T52 T53 s50 (at8 Ψ)
 
-      abbrev at10 : Typed.TF T55 O1
-      at10 = λ Ψ. Typed.pass T55 T56 s53 (at9 Ψ)
+      abbrev at10 : Typed.TF T51 O1
+      at10 = λ Ψ. Typed.pass T51 T52 s49 (at9 Ψ)
 
-      abbrev at11 : Typed.TF T54 O1
-      at11 = λ Ψ. Typed.pass T54 T55 s52 (at10 Ψ)
+      abbrev at11 : Typed.TF T50 O1
+      at11 = λ Ψ. Typed.pass T50 T51 s48 (at10 Ψ)
 
-      abbrev at12 : Typed.TF T53 O1
-      at12 = λ Ψ. Typed.pass T53 T54 s51 (at11 Ψ)
+      abbrev at12 : Typed.TF T49 O1
+      at12 = λ Ψ. Typed.pass T49 T50 s47 (at11 Ψ)
 
-      abbrev at13 : Typed.TF T52 O1
-      at13 = λ Ψ. Typed.pass T52 T53 s50 (at12 Ψ)
+      abbrev at13 : Typed.TF T63 O1
+      at13 = Typed.atNext O1
 
-      abbrev at14 : Typed.TF T67 O1
-      at14 = Typed.atNext O1
+      abbrev at14 : Typed.TF T62 O1
+      at14 = λ Ψ. Typed.pass T62 T63 s60 (at13 Ψ)
 
-      abbrev at15 : Typed.TF T66 O1
-      at15 = λ Ψ. Typed.pass T66 T67 s64 (at14 Ψ)
+      abbrev at15 : Typed.TF T49 O1
+      at15 = λ Ψ. Typed.pass T49 T62 s59 (at14 Ψ)
 
-      abbrev at16 : Typed.TF T52 O1
-      at16 = λ Ψ. Typed.pass T52 T66 s63 (at15 Ψ)
+      abbrev at16 : Typed.TF T49 O1
+      at16 = Scalar.Φcond T49 O1 33 (λ x. x) at12 at15
 
-      abbrev at17 : Typed.TF T52 O1
-      at17 = Scalar.Φcond T52 O1 34 (λ x. x) at13 at16
+      abbrev at17 : Typed.TF T47 O1
+      at17 = λ Ψ. Typed.pass T47 T49 s46 (at16 Ψ)
 
-      abbrev at18 : Typed.TF T50 O1
-      at18 = λ Ψ. Typed.pass T50 T52 s49 (at17 Ψ)
+      abbrev at18 : Typed.TF T137 O0
+      at18 = Typed.atRet O0
 
-      abbrev at19 : Typed.TF T142 O0
-      at19 = Typed.atRet O0
+      abbrev at19 : Typed.TF T136 O0
+      at19 = λ Ψ. Typed.pass T136 T137 s134 (at18 Ψ)
 
-      abbrev at20 : Typed.TF T141 O0
-      at20 = λ Ψ. Typed.pass T141 T142 s139 (at19 Ψ)
+      abbrev at20 : Typed.TF T135 O0
+      at20 = λ Ψ. Typed.pass T135 T136 s133 (at19 Ψ)
 
-      abbrev at21 : Typed.TF T140 O0
-      at21 = λ Ψ. Typed.pass T140 T141 s138 (at20 Ψ)
+      abbrev at21 : Typed.TF T134 O0
+      at21 = λ Ψ. Typed.pass T134 T135 s132 (at20 Ψ)
 
-      abbrev at22 : Typed.TF T139 O0
-      at22 = λ Ψ. Typed.pass T139 T140 s137 (at21 Ψ)
+      abbrev at22 : Typed.TF T132 O0
+      at22 = λ Ψ. Typed.pass T132 T134 s131 (at21 Ψ)
 
-      abbrev at23 : Typed.TF T137 O0
-      at23 = λ Ψ. Typed.pass T137 T139 s136 (at22 Ψ)
+      abbrev at23 : Typed.TF T132 O0
+      at23 = λ Ψ. at22 Ψ
 
-      abbrev at24 : Typed.TF T137 O0
-      at24 = λ Ψ. at23 Ψ
+      abbrev at24 : Typed.TF T130 O0
+      at24 = λ Ψ. Typed.pass T130 T132 s129 (at23 Ψ)
 
-      abbrev at25 : Typed.TF T135 O0
-      at25 = λ Ψ. Typed.pass T135 T137 s134 (at24 Ψ)
+      abbrev at25 : Typed.TF T130 O0
+      at25 = λ Ψ. at24 Ψ
 
-      abbrev at26 : Typed.TF T135 O0
-      at26 = λ Ψ. at25 Ψ
+      abbrev at26 : Typed.TF T128 O0
+      at26 = λ Ψ. Typed.pass T128 T130 s127 (at25 Ψ)
 
-      abbrev at27 : Typed.TF T133 O0
-      at27 = λ Ψ. Typed.pass T133 T135 s132 (at26 Ψ)
+      abbrev at27 : Typed.TF T128 O0
+      at27 = λ Ψ. at26 Ψ
 
-      abbrev at28 : Typed.TF T133 O0
-      at28 = λ Ψ. at27 Ψ
+      abbrev at28 : Typed.TF T126 O0
+      at28 = λ Ψ. Typed.pass T126 T128 s125 (at27 Ψ)
 
-      abbrev at29 : Typed.TF T131 O0
-      at29 = λ Ψ. Typed.pass T131 T133 s130 (at28 Ψ)
+      abbrev at29 : Typed.TF T126 O0
+      at29 = λ Ψ. at28 Ψ
 
-      abbrev at30 : Typed.TF T131 O0
-      at30 = λ Ψ. at29 Ψ
+      abbrev at30 : Typed.TF T124 O0
+      at30 = λ Ψ. Typed.pass T124 T126 s123 (at29 Ψ)
 
-      abbrev at31 : Typed.TF T129 O0
-      at31 = λ Ψ. Typed.pass T129 T131 s128 (at30 Ψ)
+      abbrev at31 : Typed.TF T124 O0
+      at31 = λ Ψ. at30 Ψ
 
-      abbrev at32 : Typed.TF T129 O0
-      at32 = λ Ψ. at31 Ψ
+      abbrev at32 : Typed.TF T121 O0
+      at32 = λ Ψ. Typed.pass T121 T124 s121 (at31 Ψ)
 
-      abbrev at33 : Typed.TF T126 O0
-      at33 = λ Ψ. Typed.pass T126 T129 s126 (at32 Ψ)
+      abbrev at33 : Typed.TF T121 O0
+      at33 = λ Ψ. at32 Ψ
 
-      abbrev at34 : Typed.TF T126 O0
+      abbrev at34 : Typed.TF T121 O0
       at34 = λ Ψ. at33 Ψ
 
-      abbrev at35 : Typed.TF T126 O0
-      at35 = λ Ψ. at34 Ψ
+      abbrev at35 : Typed.TF T120 O0
+      at35 = λ Ψ. Typed.give s118 (at34 Ψ)
 
-      abbrev at36 : Typed.TF T125 O0
-      at36 = λ Ψ. Typed.give s123 (at35 Ψ)
+      abbrev at36 : Typed.TF T117 O0
+      at36 = λ Ψ. Typed.both s117 (at35 Ψ)
 
-      abbrev at37 : Typed.TF T122 O0
-      at37 = λ Ψ. Typed.both s122 (at36 Ψ)
+      abbrev at37 : Typed.TF T117 O0
+      at37 = λ Ψ. at36 Ψ
 
-      abbrev at38 : Typed.TF T122 O0
+      abbrev at38 : Typed.TF T117 O0
       at38 = λ Ψ. at37 Ψ
 
-      abbrev at39 : Typed.TF T122 O0
-      at39 = λ Ψ. at38 Ψ
+      abbrev at39 : Typed.TF T116 O0
+      at39 = λ Ψ. Typed.give s114 (at38 Ψ)
 
-      abbrev at40 : Typed.TF T121 O0
-      at40 = λ Ψ. Typed.give s119 (at39 Ψ)
+      abbrev at40 : Typed.TF T113 O0
+      at40 = λ Ψ. Typed.both s113 (at39 Ψ)
 
-      abbrev at41 : Typed.TF T118 O0
-      at41 = λ Ψ. Typed.both s118 (at40 Ψ)
+      abbrev at41 : Typed.TF T113 O0
+      at41 = λ Ψ. at40 Ψ
 
-      abbrev at42 : Typed.TF T118 O0
+      abbrev at42 : Typed.TF T113 O0
       at42 = λ Ψ. at41 Ψ
 
-      abbrev at43 : Typed.TF T118 O0
-      at43 = λ Ψ. at42 Ψ
+      abbrev at43 : Typed.TF T110 O0
+      at43 = λ Ψ. Typed.both s110 (at42 Ψ)
 
-      abbrev at44 : Typed.TF T115 O0
-      at44 = λ Ψ. Typed.both s115 (at43 Ψ)
+      abbrev at44 : Typed.TF T110 O0
+      at44 = λ Ψ. at43 Ψ
 
-      abbrev at45 : Typed.TF T115 O0
+      abbrev at45 : Typed.TF T110 O0
       at45 = λ Ψ. at44 Ψ
 
-      abbrev at46 : Typed.TF T115 O0
-      at46 = λ Ψ. at45 Ψ
+      abbrev at46 : Typed.TF T108 O0
+      at46 = λ Ψ. Typed.both s107 (at45 Ψ)
 
-      abbrev at47 : Typed.TF T113 O0
-      at47 = λ Ψ. Typed.both s112 (at46 Ψ)
+      abbrev at47 : Typed.TF T108 O0
+      at47 = λ Ψ. at46 Ψ
 
-      abbrev at48 : Typed.TF T113 O0
-      at48 = λ Ψ. at47 Ψ
+      abbrev at48 : Typed.TF T107 O0
+      at48 = λ Ψ. Typed.pass T107 T108 s105 (at47 Ψ)
 
-      abbrev at49 : Typed.TF T112 O0
-      at49 = λ Ψ. Typed.pass T112 T113 s110 (at48 Ψ)
+      abbrev at49 : Typed.TF T106 O0
+      at49 = λ Ψ. Typed.pass T106 T107 s104 (at48 Ψ)
 
-      abbrev at50 : Typed.TF T111 O0
-      at50 = λ Ψ. Typed.pass T111 T112 s109 (at49 Ψ)
+      abbrev at50 : Typed.TF T105 O0
+      at50 = λ Ψ. Typed.pass T105 T106 s103 (at49 Ψ)
 
-      abbrev at51 : Typed.TF T110 O0
-      at51 = λ Ψ. Typed.pass T110 T111 s108 (at50 Ψ)
+      abbrev at51 : Typed.TF T104 O0
+      at51 = λ Ψ. Typed.pass T104 T105 s102 (at50 Ψ)
 
-      abbrev at52 : Typed.TF T109 O0
-      at52 = λ Ψ. Typed.pass T109 T110 s107 (at51 Ψ)
+      abbrev at52 : Typed.TF T103 O0
+      at52 = λ Ψ. Typed.pass T103 T104 s101 (at51 Ψ)
 
-      abbrev at53 : Typed.TF T108 O0
-      at53 = λ Ψ. Typed.pass T108 T109 s106 (at52 Ψ)
+      abbrev at53 : Typed.TF T102 O0
+      at53 = λ Ψ. Typed.pass T102 T103 s100 (at52 Ψ)
 
-      abbrev at54 : Typed.TF T107 O0
-      at54 = λ Ψ. Typed.pass T107 T108 s105 (at53 Ψ)
+      abbrev at54 : Typed.TF T101 O0
+      at54 = λ Ψ. Typed.both s99 (at53 Ψ)
 
-      abbrev at55 : Typed.TF T106 O0
-      at55 = λ Ψ. Typed.pass T106 T107 s104 (at54 Ψ)
+      abbrev at55 : Typed.TF T99 O0
+      at55 = λ Ψ. Typed.give s98 (at54 Ψ)
 
-      abbrev at56 : Typed.TF T105 O0
-      at56 = λ Ψ. Typed.both s103 (at55 Ψ)
+      abbrev at56 : Typed.TF T99 O0
+      at56 = λ Ψ. at55 Ψ
 
-      abbrev at57 : Typed.TF T103 O0
-      at57 = λ Ψ. Typed.give s102 (at56 Ψ)
+      abbrev at57 : Typed.TF T97 O0
+      at57 = λ Ψ. Typed.give s96 (at56 Ψ)
 
-      abbrev at58 : Typed.TF T103 O0
+      abbrev at58 : Typed.TF T97 O0
       at58 = λ Ψ. at57 Ψ
 
-      abbrev at59 : Typed.TF T101 O0
-      at59 = λ Ψ. Typed.give s100 (at58 Ψ)
+      abbrev at59 : Typed.TF T95 O0
+      at59 = λ Ψ. Typed.give s94 (at58 Ψ)
 
-      abbrev at60 : Typed.TF T101 O0
+      abbrev at60 : Typed.TF T95 O0
       at60 = λ Ψ. at59 Ψ
 
-      abbrev at61 : Typed.TF T99 O0
-      at61 = λ Ψ. Typed.give s98 (at60 Ψ)
+      abbrev at61 : Typed.TF T94 O0
+      at61 = λ Ψ. Typed.ask s92 (at60 Ψ)
 
-      abbrev at62 : Typed.TF T99 O0
-      at62 = λ Ψ. at61 Ψ
+      abbrev at62 : Typed.TF T92 O0
+      at62 = λ Ψ. Typed.give s91 (at61 Ψ)
 
-      abbrev at63 : Typed.TF T98 O0
-      at63 = λ Ψ. Typed.ask s96 (at62 Ψ)
+      abbrev at63 : Typed.TF T92 O0
+      at63 = λ Ψ. at62 Ψ
 
-      abbrev at64 : Typed.TF T96 O0
-      at64 = λ Ψ. Typed.give s95 (at63 Ψ)
+      abbrev at64 : Typed.TF T91 O0
+      at64 = λ Ψ. Typed.ask s89 (at63 Ψ)
 
-      abbrev at65 : Typed.TF T96 O0
-      at65 = λ Ψ. at64 Ψ
+      abbrev at65 : Typed.TF T89 O0
+      at65 = λ Ψ. Typed.give s88 (at64 Ψ)
 
-      abbrev at66 : Typed.TF T95 O0
-      at66 = λ Ψ. Typed.ask s93 (at65 Ψ)
+      abbrev at66 : Typed.TF T89 O0
+      at66 = λ Ψ. at65 Ψ
 
-      abbrev at67 : Typed.TF T93 O0
-      at67 = λ Ψ. Typed.give s92 (at66 Ψ)
+      abbrev at67 : Typed.TF T88 O0
+      at67 = λ Ψ. Typed.ask s86 (at66 Ψ)
 
-      abbrev at68 : Typed.TF T93 O0
-      at68 = λ Ψ. at67 Ψ
+      abbrev at68 : Typed.TF T86 O0
+      at68 = λ Ψ. Typed.give s85 (at67 Ψ)
 
-      abbrev at69 : Typed.TF T92 O0
-      at69 = λ Ψ. Typed.ask s90 (at68 Ψ)
+      abbrev at69 : Typed.TF T86 O0
+      at69 = λ Ψ. at68 Ψ
 
-      abbrev at70 : Typed.TF T90 O0
-      at70 = λ Ψ. Typed.give s89 (at69 Ψ)
+      abbrev at70 : Typed.TF T85 O0
+      at70 = λ Ψ. Typed.ask s83 (at69 Ψ)
 
-      abbrev at71 : Typed.TF T90 O0
-      at71 = λ Ψ. at70 Ψ
+      abbrev at71 : Typed.TF T83 O0
+      at71 = λ Ψ. Typed.give s82 (at70 Ψ)
 
-      abbrev at72 : Typed.TF T89 O0
-      at72 = λ Ψ. Typed.ask s87 (at71 Ψ)
+      abbrev at72 : Typed.TF T83 O0
+      at72 = λ Ψ. at71 Ψ
 
-      abbrev at73 : Typed.TF T87 O0
-      at73 = λ Ψ. Typed.give s86 (at72 Ψ)
+      abbrev at73 : Typed.TF T82 O0
+      at73 = λ Ψ. Typed.pass T82 T83 s80 (at72 Ψ)
 
-      abbrev at74 : Typed.TF T87 O0
-      at74 = λ Ψ. at73 Ψ
+      abbrev at74 : Typed.TF T81 O0
+      at74 = λ Ψ. Typed.pass T81 T82 s79 (at73 Ψ)
 
-      abbrev at75 : Typed.TF T86 O0
-      at75 = λ Ψ. Typed.pass T86 T87 s84 (at74 Ψ)
+      abbrev at75 : Typed.TF T80 O0
+      at75 = λ Ψ. Typed.both s78 (at74 Ψ)
 
-      abbrev at76 : Typed.TF T85 O0
-      at76 = λ Ψ. Typed.pass T85 T86 s83 (at75 Ψ)
+      abbrev at76 : Typed.TF T79 O0
+      at76 = λ Ψ. Typed.pass T79 T80 s77 (at75 Ψ)
 
-      abbrev at77 : Typed.TF T84 O0
-      at77 = λ Ψ. Typed.both s82 (at76 Ψ)
+      abbrev at77 : Typed.TF T78 O0
+      at77 = λ Ψ. Typed.pass T78 T79 s76 (at76 Ψ)
 
-      abbrev at78 : Typed.TF T83 O0
-      at78 = λ Ψ. Typed.pass T83 T84 s81 (at77 Ψ)
+      abbrev at78 : Typed.TF T77 O0
+      at78 = λ Ψ. Typed.pass T77 T78 s75 (at77 Ψ)
 
-      abbrev at79 : Typed.TF T82 O0
-      at79 = λ Ψ. Typed.pass T82 T83 s80 (at78 Ψ)
+      abbrev at79 : Typed.TF T76 O0
+      at79 = λ Ψ. Typed.pass T76 T77 s74 (at78 Ψ)
 
-      abbrev at80 : Typed.TF T81 O0
-      at80 = λ Ψ. Typed.pass T81 T82 s79 (at79 Ψ)
+      abbrev at80 : Typed.TF T75 O0
+      at80 = λ Ψ. Typed.pass T75 T76 s73 (at79 Ψ)
 
-      abbrev at81 : Typed.TF T80 O0
-      at81 = λ Ψ. Typed.pass T80 T81 s78 (at80 Ψ)
+      abbrev at81 : Typed.TF T74 O0
+      at81 = λ Ψ. Typed.both s72 (at80 Ψ)
 
-      abbrev at82 : Typed.TF T79 O0
-      at82 = λ Ψ. Typed.pass T79 T80 s77 (at81 Ψ)
+      abbrev at82 : Typed.TF T73 O0
+      at82 = λ Ψ. Typed.give s71 (at81 Ψ)
 
-      abbrev at83 : Typed.TF T78 O0
-      at83 = λ Ψ. Typed.both s76 (at82 Ψ)
+      abbrev at83 : Typed.TF T72 O0
+      at83 = λ Ψ. Typed.pass T72 T73 s70 (at82 Ψ)
 
-      abbrev at84 : Typed.TF T77 O0
-      at84 = λ Ψ. Typed.give s75 (at83 Ψ)
+      abbrev at84 : Typed.TF T71 O0
+      at84 = λ Ψ. Typed.pass T71 T72 s69 (at83 Ψ)
 
-      abbrev at85 : Typed.TF T76 O0
-      at85 = λ Ψ. Typed.pass T76 T77 s74 (at84 Ψ)
+      abbrev at85 : Typed.TF T70 O0
+      at85 = λ Ψ. Typed.pass T70 T71 s68 (at84 Ψ)
 
-      abbrev at86 : Typed.TF T75 O0
-      at86 = λ Ψ. Typed.pass T75 T76 s73 (at85 Ψ)
+      abbrev at86 : Typed.TF T69 O0
+      at86 = λ Ψ. Typed.both s67 (at85 Ψ)
 
-      abbrev at87 : Typed.TF T74 O0
-      at87 = λ Ψ. Typed.pass T74 T75 s72 (at86 Ψ)
+      abbrev at87 : Typed.TF T68 O0
+      at87 = λ Ψ. Typed.give s66 (at86 Ψ)
 
-      abbrev at88 : Typed.TF T73 O0
-      at88 = λ Ψ. Typed.both s71 (at87 Ψ)
+      abbrev at88 : Typed.TF T67 O0
+      at88 = λ Ψ. Typed.pass T67 T68 s65 (at87 Ψ)
 
-      abbrev at89 : Typed.TF T72 O0
-      at89 = λ Ψ. Typed.give s70 (at88 Ψ)
+      abbrev at89 : Typed.TF T66 O0
+      at89 = λ Ψ. Typed.pass T66 T67 s64 (at88 Ψ)
 
-      abbrev at90 : Typed.TF T71 O0
-      at90 = λ Ψ. Typed.pass T71 T72 s69 (at89 Ψ)
+      abbrev at90 : Typed.TF T65 O0
+      at90 = λ Ψ. Typed.pass T65 T66 s63 (at89 Ψ)
 
-      abbrev at91 : Typed.TF T70 O0
-      at91 = λ Ψ. Typed.pass T70 T71 s68 (at90 Ψ)
+      abbrev at91 : Typed.TF T64 O0
+      at91 = λ Ψ. Typed.both s62 (at90 Ψ)
 
-      abbrev at92 : Typed.TF T69 O0
-      at92 = λ Ψ. Typed.pass T69 T70 s67 (at91 Ψ)
+      abbrev at92 : Typed.TF T48 O0
+      at92 = λ Ψ. Typed.give s61 (at91 Ψ)
 
-      abbrev at93 : Typed.TF T68 O0
-      at93 = λ Ψ. Typed.both s66 (at92 Ψ)
+      abbrev at93 : Typed.TF T47 O0
+      at93 = λ Ψ. at17 (Typed.wantNext T48 O0 (at92 Ψ) Ψ)
 
-      abbrev at94 : Typed.TF T51 O0
-      at94 = λ Ψ. Typed.give s65 (at93 Ψ)
+      abbrev at94 : Typed.TF T46 O0
+      at94 = λ Ψ. Typed.ask s45 (at93 Ψ)
 
-      abbrev at95 : Typed.TF T50 O0
-      at95 = λ Ψ. at18 (Typed.wantNext T51 O0 (at94 Ψ) Ψ)
+      abbrev at95 : Typed.TF T45 O0
+      at95 = λ Ψ. Typed.both s44 (at94 Ψ)
 
-      abbrev at96 : Typed.TF T49 O0
-      at96 = λ Ψ. Typed.ask s48 (at95 Ψ)
+      abbrev at96 : Typed.TF T44 O0
+      at96 = λ Ψ. Typed.pass T44 T45 s43 (at95 Ψ)
 
-      abbrev at97 : Typed.TF T48 O0
-      at97 = λ Ψ. Typed.both s47 (at96 Ψ)
+      abbrev at97 : Typed.TF T43 O0
+      at97 = λ Ψ. Typed.both s42 (at96 Ψ)
 
-      abbrev at98 : Typed.TF T47 O0
-      at98 = λ Ψ. Typed.pass T47 T48 s46 (at97 Ψ)
+      abbrev at98 : Typed.TF T42 O0
+      at98 = λ Ψ. Typed.give s41 (at97 Ψ)
 
-      abbrev at99 : Typed.TF T46 O0
-      at99 = λ Ψ. Typed.both s45 (at98 Ψ)
+      abbrev at99 : Typed.TF T41 O0
+      at99 = λ Ψ. Typed.pass T41 T42 s40 (at98 Ψ)
 
-      abbrev at100 : Typed.TF T45 O0
-      at100 = λ Ψ. Typed.give s44 (at99 Ψ)
+      abbrev at100 : Typed.TF T40 O0
+      at100 = λ Ψ. Typed.pass T40 T41 s39 (at99 Ψ)
 
-      abbrev at101 : Typed.TF T44 O0
-      at101 = λ Ψ. Typed.pass T44 T45 s43 (at100 Ψ)
+      abbrev at101 : Typed.TF T39 O0
+      at101 = λ Ψ. Typed.both s38 (at100 Ψ)
 
-      abbrev at102 : Typed.TF T43 O0
-      at102 = λ Ψ. Typed.pass T43 T44 s42 (at101 Ψ)
+      abbrev at102 : Typed.TF T37 O0
+      at102 = λ Ψ. Typed.give s37 (at101 Ψ)
 
-      abbrev at103 : Typed.TF T42 O0
-      at103 = λ Ψ. Typed.both s41 (at102 Ψ)
+      abbrev at103 : Typed.TF T37 O0
+      at103 = λ Ψ. at102 Ψ
 
-      abbrev at104 : Typed.TF T40 O0
-      at104 = λ Ψ. Typed.give s40 (at103 Ψ)
+      abbrev at104 : Typed.TF T35 O0
+      at104 = λ Ψ. Typed.pass T35 T37 s35 (at103 Ψ)
 
-      abbrev at105 : Typed.TF T40 O0
+      abbrev at105 : Typed.TF T35 O0
       at105 = λ Ψ. at104 Ψ
 
-      abbrev at106 : Typed.TF T38 O0
-      at106 = λ Ψ. Typed.pass T38 T40 s38 (at105 Ψ)
+      abbrev at106 : Typed.TF T34 O0
+      at106 = λ Ψ. Typed.pass T34 T35 s33 (at105 Ψ)
 
-      abbrev at107 : Typed.TF T38 O0
-      at107 = λ Ψ. at106 Ψ
+      abbrev at107 : Typed.TF T33 O0
+      at107 = λ Ψ. Typed.pass T33 T34 s32 (at106 Ψ)
 
-      abbrev at108 : Typed.TF T37 O0
-      at108 = λ Ψ. Typed.pass T37 T38 s36 (at107 Ψ)
+      abbrev at108 : Typed.TF T32 O0
+      at108 = λ Ψ. Typed.both s31 (at107 Ψ)
 
-      abbrev at109 : Typed.TF T36 O0
-      at109 = λ Ψ. Typed.pass T36 T37 s35 (at108 Ψ)
+      abbrev at109 : Typed.TF T31 O0
+      at109 = λ Ψ. Typed.ask s30 (at108 Ψ)
 
-      abbrev at110 : Typed.TF T35 O0
-      at110 = λ Ψ. Typed.both s34 (at109 Ψ)
+      abbrev at110 : Typed.TF T28 O0
+      at110 = λ Ψ. Typed.give s29 (at109 Ψ)
 
-      abbrev at111 : Typed.TF T34 O0
-      at111 = λ Ψ. Typed.ask s33 (at110 Ψ)
+      abbrev at111 : Typed.TF T28 O0
+      at111 = λ Ψ. at110 Ψ
 
-      abbrev at112 : Typed.TF T32 O0
-      at112 = λ Ψ. Typed.give s32 (at111 Ψ)
+      abbrev at112 : Typed.TF T28 O0
+      at112 = λ Ψ. at111 Ψ
 
-      abbrev at113 : Typed.TF T32 O0
-      at113 = λ Ψ. at112 Ψ
+      abbrev at113 : Typed.TF T26 O0
+      at113 = λ Ψ. Typed.pass T26 T28 s26 (at112 Ψ)
 
-      abbrev at114 : Typed.TF T31 O0
-      at114 = λ Ψ. Typed.pass T31 T32 s30 (at113 Ψ)
+      abbrev at114 : Typed.TF T26 O0
+      at114 = λ Ψ. at113 Ψ
 
-      abbrev at115 : Typed.TF T30 O0
-      at115 = λ Ψ. Typed.both s29 (at114 Ψ)
+      abbrev at115 : Typed.TF T25 O0
+      at115 = λ Ψ. Typed.pass T25 T26 s24 (at114 Ψ)
 
-      abbrev at116 : Typed.TF T28 O0
-      at116 = λ Ψ. Typed.give s28 (at115 Ψ)
+      abbrev at116 : Typed.TF T24 O0
+      at116 = λ Ψ. Typed.pass T24 T25 s23 (at115 Ψ)
 
-      abbrev at117 : Typed.TF T28 O0
-      at117 = λ Ψ. at116 Ψ
+      abbrev at117 : Typed.TF T23 O0
+      at117 = λ Ψ. Typed.both s22 (at116 Ψ)
 
-      abbrev at118 : Typed.TF T26 O0
-      at118 = λ Ψ. Typed.pass T26 T28 s26 (at117 Ψ)
+      abbrev at118 : Typed.TF T22 O0
+      at118 = λ Ψ. Typed.ask s21 (at117 Ψ)
 
-      abbrev at119 : Typed.TF T26 O0
-      at119 = λ Ψ. at118 Ψ
+      abbrev at119 : Typed.TF T19 O0
+      at119 = λ Ψ. Typed.give s20 (at118 Ψ)
 
-      abbrev at120 : Typed.TF T25 O0
-      at120 = λ Ψ. Typed.pass T25 T26 s24 (at119 Ψ)
+      abbrev at120 : Typed.TF T19 O0
+      at120 = λ Ψ. at119 Ψ
 
-      abbrev at121 : Typed.TF T24 O0
-      at121 = λ Ψ. Typed.pass T24 T25 s23 (at120 Ψ)
+      abbrev at121 : Typed.TF T19 O0
+      at121 = λ Ψ. at120 Ψ
 
-      abbrev at122 : Typed.TF T23 O0
-      at122 = λ Ψ. Typed.both s22 (at121 Ψ)
+      abbrev at122 : Typed.TF T17 O0
+      at122 = λ Ψ. Typed.pass T17 T19 s17 (at121 Ψ)
 
-      abbrev at123 : Typed.TF T22 O0
-      at123 = λ Ψ. Typed.ask s21 (at122 Ψ)
+      abbrev at123 : Typed.TF T17 O0
+      at123 = λ Ψ. at122 Ψ
 
-      abbrev at124 : Typed.TF T19 O0
-      at124 = λ Ψ. Typed.give s20 (at123 Ψ)
+      abbrev at124 : Typed.TF T16 O0
+      at124 = λ Ψ. Typed.pass T16 T17 s15 (at123 Ψ)
 
-      abbrev at125 : Typed.TF T19 O0
-      at125 = λ Ψ. at124 Ψ
+      abbrev at125 : Typed.TF T15 O0
+      at125 = λ Ψ. Typed.both s14 (at124 Ψ)
 
-      abbrev at126 : Typed.TF T19 O0
-      at126 = λ Ψ. at125 Ψ
+      abbrev at126 : Typed.TF T14 O0
+      at126 = λ Ψ. Typed.ask s13 (at125 Ψ)
 
-      abbrev at127 : Typed.TF T17 O0
-      at127 = λ Ψ. Typed.pass T17 T19 s17 (at126 Ψ)
+      abbrev at127 : Typed.TF T12 O0
+      at127 = λ Ψ. Typed.give s12 (at126 Ψ)
 
-      abbrev at128 : Typed.TF T17 O0
+      abbrev at128 : Typed.TF T12 O0
       at128 = λ Ψ. at127 Ψ
 
-      abbrev at129 : Typed.TF T16 O0
-      at129 = λ Ψ. Typed.pass T16 T17 s15 (at128 Ψ)
+      abbrev at129 : Typed.TF T11 O0
+      at129 = λ Ψ. Typed.both s10 (at128 Ψ)
 
-      abbrev at130 : Typed.TF T15 O0
-      at130 = λ Ψ. Typed.both s14 (at129 Ψ)
+      abbrev at130 : Typed.TF T10 O0
+      at130 = λ Ψ. Typed.pass T10 T11 s9 (at129 Ψ)
 
-      abbrev at131 : Typed.TF T14 O0
-      at131 = λ Ψ. Typed.ask s13 (at130 Ψ)
+      abbrev at131 : Typed.TF T9 O0
+      at131 = λ Ψ. Typed.both s8 (at130 Ψ)
 
-      abbrev at132 : Typed.TF T12 O0
-      at132 = λ Ψ. Typed.give s12 (at131 Ψ)
+      abbrev at132 : Typed.TF T8 O0
+      at132 = λ Ψ. Typed.give s7 (at131 Ψ)
 
-      abbrev at133 : Typed.TF T12 O0
-      at133 = λ Ψ. at132 Ψ
+      abbrev at133 : Typed.TF T7 O0
+      at133 = λ Ψ. Typed.pass T7 T8 s6 (at132 Ψ)
 
-      abbrev at134 : Typed.TF T11 O0
-      at134 = λ Ψ. Typed.both s10 (at133 Ψ)
+      abbrev at134 : Typed.TF T6 O0
+      at134 = λ Ψ. Typed.both s5 (at133 Ψ)
 
-      abbrev at135 : Typed.TF T10 O0
-      at135 = λ Ψ. Typed.pass T10 T11 s9 (at134 Ψ)
+      abbrev at135 : Typed.TF T5 O0
+      at135 = λ Ψ. Typed.give s4 (at134 Ψ)
 
-      abbrev at136 : Typed.TF T9 O0
-      at136 = λ Ψ. Typed.both s8 (at135 Ψ)
+      abbrev at136 : Typed.TF T4 O0
+      at136 = λ Ψ. Typed.pass T4 T5 s3 (at135 Ψ)
 
-      abbrev at137 : Typed.TF T8 O0
-      at137 = λ Ψ. Typed.give s7 (at136 Ψ)
+      abbrev at137 : Typed.TF T3 O0
+      at137 = λ Ψ. Typed.both s2 (at136 Ψ)
 
-      abbrev at138 : Typed.TF T7 O0
-      at138 = λ Ψ. Typed.pass T7 T8 s6 (at137 Ψ)
+      abbrev at138 : Typed.TF T2 O0
+      at138 = λ Ψ. Typed.give s1 (at137 Ψ)
 
-      abbrev at139 : Typed.TF T6 O0
-      at139 = λ Ψ. Typed.both s5 (at138 Ψ)
-
-      abbrev at140 : Typed.TF T5 O0
-      at140 = λ Ψ. Typed.give s4 (at139 Ψ)
-
-      abbrev at141 : Typed.TF T4 O0
-      at141 = λ Ψ. Typed.pass T4 T5 s3 (at140 Ψ)
-
-      abbrev at142 : Typed.TF T3 O0
-      at142 = λ Ψ. Typed.both s2 (at141 Ψ)
-
-      abbrev at143 : Typed.TF T2 O0
-      at143 = λ Ψ. Typed.give s1 (at142 Ψ)
-
-      abbrev at144 : Typed.TF T0 O0
-      at144 = λ Ψ. Typed.give s0 (at143 Ψ)
+      abbrev at139 : Typed.TF T0 O0
+      at139 = λ Ψ. Typed.give s0 (at138 Ψ)
 
       abbrev pub Φ : Typed.TF T0 O0
-      Φ = at144
+      Φ = at139
 
       module _ {M : Type 1} (𝓤 : URA.URA M) (H : Wp.Heap 𝓤) (A : Atoms.Atoms 𝓤)
           (W : Kit.Given 𝓤 H A) (𝓣 : Wp.Tables 𝓤 H) where
@@ -29640,12 +28296,23 @@ module _ (claims· : Claims) where
             Plain.Known 𝓤 H A W 𝓣 0 ps·3 r·3 (claims· .6) (claims· .7) "node::receiving_of" ×
             Plain.Known 𝓤 H A W 𝓣 1 ps·4 r·4 (claims· .8) (claims· .9) "search::search_request" ×
             Plain.Known 𝓤 H A W 𝓣 1 ps·5 r·5 (claims· .10) (claims· .11) "search::search_route" ×
-            Plain.Known 𝓤 H A W 𝓣 0 ps·6 r·6 (claims· .12) (claims· .13) "request::is_targ_node" ×
-            Plain.Known 𝓤 H A W 𝓣 1 ps·7 r·7 (claims· .14) (claims· .15) "search::free_delta_if" ×
-            Plain.Known 𝓤 H A W 𝓣 0 ps·8 r·8 (claims· .16) (claims· .17) "request::gather" ×
-            Plain.Known 𝓤 H A W 𝓣 1 ps·9 r·9 (claims· .18) (claims· .19) "request::judge" ×
-            Plain.Known 𝓤 H A W 𝓣 0 ps·10 r·10 (claims· .20) (claims· .21) "answer::number" ×
-            Plain.Known 𝓤 H A W 𝓣 0 ps·11 r·11 (claims· .22) (claims· .23) "finish::refused" ×
+            Plain.Known 𝓤 H A W 𝓣 1 ps·6 r·6 (claims· .12) (claims· .13) "search::free_delta" ×
+            Plain.Known 𝓤 H A W 𝓣 0 ps·7 r·7 (claims· .14) (claims· .15) "request::gather" ×
+            Plain.Known 𝓤 H A W 𝓣 1 ps·8 r·8 (claims· .16) (claims· .17) "request::judge" ×
+            Plain.Known 𝓤 H A W 𝓣 0 ps·9 r·9 (claims· .18) (claims· .19) "answer::number" ×
+            Plain.Known 𝓤 H A W 𝓣 0 ps·10 r·10 (claims· .20) (claims· .21) "finish::refused" ×
+            Plain.Known
+            𝓤
+            H
+            A
+            W
+            𝓣
+            0
+            ps·11
+            r·11
+            (claims· .22)
+            (claims· .23)
+            "request_stored::accepted" ×
             Plain.Known
             𝓤
             H
@@ -29657,7 +28324,7 @@ module _ (claims· : Claims) where
             r·12
             (claims· .24)
             (claims· .25)
-            "request_accepted::accepted" ×
+            "request_sent::forward_post" ×
             Plain.Known
             𝓤
             H
@@ -29669,21 +28336,9 @@ module _ (claims· : Claims) where
             r·13
             (claims· .26)
             (claims· .27)
-            "request_accepted::forward_post" ×
-            Plain.Known
-            𝓤
-            H
-            A
-            W
-            𝓣
-            0
-            ps·14
-            r·14
-            (claims· .28)
-            (claims· .29)
-            "request_accepted::reply_post" ×
-            Plain.Known 𝓤 H A W 𝓣 0 ps·15 r·15 (claims· .30) (claims· .31) "node::live_of" ×
-            Plain.Known 𝓤 H A W 𝓣 8 ps·16 r·16 (claims· .32) (claims· .33) "finish::finish"
+            "request_sent::reply_post" ×
+            Plain.Known 𝓤 H A W 𝓣 0 ps·14 r·14 (claims· .28) (claims· .29) "node::live_of" ×
+            Plain.Known 𝓤 H A W 𝓣 8 ps·15 r·15 (claims· .30) (claims· .31) "finish::finish"
 
       module _ (κs : Lifetimes.Lfts 6) (qs : Lifetimes.Shares 6) where
         abbrev g9 : List.List Row.Entry
@@ -30925,8 +29580,8 @@ module _ (claims· : Claims) where
           Rows'.whole (Declared'.row Found.the-type),
         ) List.[])))))))))))))))
 
-        abbrev g24 : List.List Row.Entry
-        g24 = List._∷_ (
+        abbrev g21 : List.List Row.Entry
+        g21 = List._∷_ (
           0,
           Rows'.any-gone
               (Syntax.tyStruct
@@ -31228,8 +29883,8 @@ module _ (claims· : Claims) where
           Rows'.whole (Declared'.row Found.the-type),
         ) List.[])))))))))))))))
 
-        abbrev g28 : List.List Row.Entry
-        g28 = List._∷_ (
+        abbrev g26 : List.List Row.Entry
+        g26 = List._∷_ (
           0,
           Rows'.any-gone
               (Syntax.tyStruct
@@ -31531,8 +30186,8 @@ module _ (claims· : Claims) where
           Rows'.whole (Declared'.row Found.the-type),
         ) List.[])))))))))))))))
 
-        abbrev g62 : List.List Row.Entry
-        g62 = List._∷_ (
+        abbrev g59 : List.List Row.Entry
+        g59 = List._∷_ (
           0,
           Rows'.any-gone
               (Syntax.tyStruct
@@ -31790,6 +30445,368 @@ module _ (claims· : Claims) where
               Syntax.mut
               (KRouteRow.named))
               1,
+        ) (List._∷_ (
+          3,
+          Mut.mslice
+              (Referent.rtF (Referent.fInt Syntax.w8))
+              (Syntax.tyRef (Syntax.named 2) Syntax.mut (Syntax.tyInt Syntax.w8))
+              2,
+        ) (List._∷_ (
+          4,
+          Mut.mslice
+              (Referent.rtF (Referent.fInt Syntax.w8))
+              (Syntax.tyRef (Syntax.named 3) Syntax.mut (Syntax.tyInt Syntax.w8))
+              3,
+        ) (List._∷_ (5, Rows'.whole (Declared'.row Own.the-type)) (List._∷_ (
+          6,
+          Rows'.sc-here (Row.sInt Syntax.w64),
+        ) (List._∷_ (7, Rows'.sc-here (Row.sInt Syntax.w8)) (List._∷_ (
+          8,
+          Rows'.sc-here (Row.sInt Syntax.w64),
+        ) (List._∷_ (
+          9,
+          Rows'.any-gone
+              (Syntax.tyStruct
+              (List._∷_
+              109
+              (List._∷_
+              101
+              (List._∷_
+              115
+              (List._∷_
+              115
+              (List._∷_
+              97
+              (List._∷_
+              103
+              (List._∷_
+              101
+              (List._∷_
+              58
+              (List._∷_
+              58
+              (List._∷_ 76 (List._∷_ 105 (List._∷_ 110 (List._∷_ 107 List.[])))))))))))))
+              (Syntax.tcons
+              (Syntax.tyArray (Syntax.tyInt Syntax.w8) 16)
+              (Syntax.tcons
+              Syntax.tyBool
+              (Syntax.tcons
+              Syntax.tyBool
+              (Syntax.tcons (Syntax.tyInt Syntax.w16) (Syntax.tcons Syntax.tyBool Syntax.tnil)))))),
+        ) (List._∷_ (
+          10,
+          Rows'.sref
+              (KParsed.R)
+              (Syntax.tyRef
+              (Syntax.named 4)
+              Syntax.imm
+              (KParsed.named))
+              4,
+        ) (List._∷_ (
+          11,
+          Rows'.sref
+              (Array'.Array (Array'.Array (Referent.rtF (Referent.fInt Syntax.w8)) 16) 16)
+              (Syntax.tyRef
+              (Syntax.named 5)
+              Syntax.imm
+              (Syntax.tyArray (Syntax.tyArray (Syntax.tyInt Syntax.w8) 16) 16))
+              5,
+        ) (List._∷_ (12, Rows'.sc-here (Row.sInt Syntax.w8)) (List._∷_ (
+          13,
+          Rows'.any-gone (Syntax.tyArray (Syntax.tyInt Syntax.w8) 16),
+        ) (List._∷_ (14, Rows'.any-gone (Syntax.tyArray (Syntax.tyInt Syntax.w8) 16)) (List._∷_ (
+          15,
+          Rows'.any-gone
+              (Syntax.tyStruct
+              (List._∷_
+              109
+              (List._∷_
+              101
+              (List._∷_
+              115
+              (List._∷_
+              115
+              (List._∷_
+              97
+              (List._∷_
+              103
+              (List._∷_
+              101
+              (List._∷_
+              58
+              (List._∷_
+              58
+              (List._∷_
+              70
+              (List._∷_ 111 (List._∷_ 117 (List._∷_ 110 (List._∷_ 100 List.[]))))))))))))))
+              (Syntax.tcons
+              Syntax.tyBool
+              (Syntax.tcons
+              (Syntax.tyInt Syntax.w64)
+              (Syntax.tcons (KInstanceRow.spelled) Syntax.tnil)))),
+        ) List.[])))))))))))))))
+
+        abbrev g62 : List.List Row.Entry
+        g62 = List._∷_ (
+          0,
+          Rows'.any-gone
+              (Syntax.tyStruct
+              (List._∷_
+              102
+              (List._∷_
+              105
+              (List._∷_
+              110
+              (List._∷_
+              105
+              (List._∷_
+              115
+              (List._∷_
+              104
+              (List._∷_
+              58
+              (List._∷_
+              58
+              (List._∷_
+              79
+              (List._∷_
+              117
+              (List._∷_
+              116
+              (List._∷_ 99 (List._∷_ 111 (List._∷_ 109 (List._∷_ 101 List.[])))))))))))))))
+              (Syntax.tcons
+              (Syntax.tyStruct
+              (List._∷_
+              102
+              (List._∷_
+              105
+              (List._∷_
+              110
+              (List._∷_
+              105
+              (List._∷_
+              115
+              (List._∷_
+              104
+              (List._∷_
+              58
+              (List._∷_
+              58
+              (List._∷_ 83 (List._∷_ 101 (List._∷_ 110 (List._∷_ 116 List.[]))))))))))))
+              (Syntax.tcons
+              (Syntax.tyStruct
+              (List._∷_
+              97
+              (List._∷_
+              110
+              (List._∷_
+              115
+              (List._∷_
+              119
+              (List._∷_
+              101
+              (List._∷_
+              114
+              (List._∷_
+              58
+              (List._∷_
+              58
+              (List._∷_
+              68
+              (List._∷_
+              101
+              (List._∷_
+              115
+              (List._∷_
+              116
+              (List._∷_
+              105
+              (List._∷_
+              110
+              (List._∷_
+              97
+              (List._∷_ 116 (List._∷_ 105 (List._∷_ 111 (List._∷_ 110 List.[])))))))))))))))))))
+              (Syntax.tcons
+              (Syntax.tyArray (Syntax.tyInt Syntax.w8) 16)
+              (Syntax.tcons
+              (Syntax.tyEnum
+              (List._∷_
+              97
+              (List._∷_
+              110
+              (List._∷_
+              115
+              (List._∷_
+              119
+              (List._∷_
+              101
+              (List._∷_
+              114
+              (List._∷_ 58 (List._∷_ 58 (List._∷_ 87 (List._∷_ 97 (List._∷_ 121 List.[])))))))))))
+              (Syntax.ttcons
+              Syntax.tnil
+              (Syntax.ttcons
+              Syntax.tnil
+              (Syntax.ttcons Syntax.tnil (Syntax.ttcons Syntax.tnil Syntax.ttnil)))))
+              Syntax.tnil)))
+              (Syntax.tcons (Syntax.tyInt Syntax.w64) Syntax.tnil)))
+              (Syntax.tcons
+              (Syntax.tyInt Syntax.w64)
+              (Syntax.tcons
+              (Syntax.tyStruct
+              (List._∷_
+              102
+              (List._∷_
+              105
+              (List._∷_
+              110
+              (List._∷_
+              105
+              (List._∷_
+              115
+              (List._∷_
+              104
+              (List._∷_
+              58
+              (List._∷_
+              58
+              (List._∷_ 83 (List._∷_ 101 (List._∷_ 110 (List._∷_ 116 List.[]))))))))))))
+              (Syntax.tcons
+              (Syntax.tyStruct
+              (List._∷_
+              97
+              (List._∷_
+              110
+              (List._∷_
+              115
+              (List._∷_
+              119
+              (List._∷_
+              101
+              (List._∷_
+              114
+              (List._∷_
+              58
+              (List._∷_
+              58
+              (List._∷_
+              68
+              (List._∷_
+              101
+              (List._∷_
+              115
+              (List._∷_
+              116
+              (List._∷_
+              105
+              (List._∷_
+              110
+              (List._∷_
+              97
+              (List._∷_ 116 (List._∷_ 105 (List._∷_ 111 (List._∷_ 110 List.[])))))))))))))))))))
+              (Syntax.tcons
+              (Syntax.tyArray (Syntax.tyInt Syntax.w8) 16)
+              (Syntax.tcons
+              (Syntax.tyEnum
+              (List._∷_
+              97
+              (List._∷_
+              110
+              (List._∷_
+              115
+              (List._∷_
+              119
+              (List._∷_
+              101
+              (List._∷_
+              114
+              (List._∷_ 58 (List._∷_ 58 (List._∷_ 87 (List._∷_ 97 (List._∷_ 121 List.[])))))))))))
+              (Syntax.ttcons
+              Syntax.tnil
+              (Syntax.ttcons
+              Syntax.tnil
+              (Syntax.ttcons Syntax.tnil (Syntax.ttcons Syntax.tnil Syntax.ttnil)))))
+              Syntax.tnil)))
+              (Syntax.tcons (Syntax.tyInt Syntax.w64) Syntax.tnil)))
+              (Syntax.tcons
+              (Syntax.tyEnum
+              (List._∷_
+              97
+              (List._∷_
+              110
+              (List._∷_
+              115
+              (List._∷_
+              119
+              (List._∷_
+              101
+              (List._∷_
+              114
+              (List._∷_
+              58
+              (List._∷_
+              58
+              (List._∷_
+              65
+              (List._∷_
+              110
+              (List._∷_ 115 (List._∷_ 119 (List._∷_ 101 (List._∷_ 114 List.[]))))))))))))))
+              (Syntax.ttcons
+              Syntax.tnil
+              (Syntax.ttcons
+              Syntax.tnil
+              (Syntax.ttcons
+              Syntax.tnil
+              (Syntax.ttcons
+              Syntax.tnil
+              (Syntax.ttcons
+              Syntax.tnil
+              (Syntax.ttcons
+              Syntax.tnil
+              (Syntax.ttcons
+              Syntax.tnil
+              (Syntax.ttcons
+              Syntax.tnil
+              (Syntax.ttcons
+              Syntax.tnil
+              (Syntax.ttcons
+              Syntax.tnil
+              (Syntax.ttcons
+              Syntax.tnil
+              (Syntax.ttcons
+              Syntax.tnil
+              (Syntax.ttcons
+              Syntax.tnil
+              (Syntax.ttcons
+              Syntax.tnil
+              (Syntax.ttcons
+              Syntax.tnil
+              (Syntax.ttcons
+              Syntax.tnil
+              (Syntax.ttcons Syntax.tnil (Syntax.ttcons Syntax.tnil Syntax.ttnil)))))))))))))))))))
+              (Syntax.tcons (Syntax.tyInt Syntax.w8) Syntax.tnil)))))),
+        ) (List._∷_ (
+          1,
+          Relend.mslice-owed
+              (KInstanceRow.R)
+              (Syntax.tyRef
+              (Syntax.named 0)
+              Syntax.mut
+              (KInstanceRow.named))
+              0
+              9
+              (Row.lease (κs .0) (qs .0)),
+        ) (List._∷_ (
+          2,
+          Relend.mslice-owed
+              (KRouteRow.R)
+              (Syntax.tyRef
+              (Syntax.named 1)
+              Syntax.mut
+              (KRouteRow.named))
+              1
+              10
+              (Row.lease (κs .1 .0) (qs .1 .0)),
         ) (List._∷_ (
           3,
           Mut.mslice
@@ -32154,10 +31171,12 @@ module _ (claims· : Claims) where
               (Row.lease (κs .1 .0) (qs .1 .0)),
         ) (List._∷_ (
           3,
-          Mut.mslice
+          Relend.mslice-owed
               (Referent.rtF (Referent.fInt Syntax.w8))
               (Syntax.tyRef (Syntax.named 2) Syntax.mut (Syntax.tyInt Syntax.w8))
-              2,
+              2
+              11
+              (Row.lease (κs .1 .1 .0) (qs .1 .1 .0)),
         ) (List._∷_ (
           4,
           Mut.mslice
@@ -32524,10 +31543,12 @@ module _ (claims· : Claims) where
               (Row.lease (κs .1 .1 .0) (qs .1 .1 .0)),
         ) (List._∷_ (
           4,
-          Mut.mslice
+          Relend.mslice-owed
               (Referent.rtF (Referent.fInt Syntax.w8))
               (Syntax.tyRef (Syntax.named 3) Syntax.mut (Syntax.tyInt Syntax.w8))
-              3,
+              3
+              12
+              (Row.lease (κs .1 .1 .1 .0) (qs .1 .1 .1 .0)),
         ) (List._∷_ (5, Rows'.whole (Declared'.row Own.the-type)) (List._∷_ (
           6,
           Rows'.sc-here (Row.sInt Syntax.w64),
@@ -32617,246 +31638,8 @@ module _ (claims· : Claims) where
               (Syntax.tcons (KInstanceRow.spelled) Syntax.tnil)))),
         ) List.[])))))))))))))))
 
-        abbrev g71 : List.List Row.Entry
-        g71 = List._∷_ (
-          0,
-          Rows'.any-gone
-              (Syntax.tyStruct
-              (List._∷_
-              102
-              (List._∷_
-              105
-              (List._∷_
-              110
-              (List._∷_
-              105
-              (List._∷_
-              115
-              (List._∷_
-              104
-              (List._∷_
-              58
-              (List._∷_
-              58
-              (List._∷_
-              79
-              (List._∷_
-              117
-              (List._∷_
-              116
-              (List._∷_ 99 (List._∷_ 111 (List._∷_ 109 (List._∷_ 101 List.[])))))))))))))))
-              (Syntax.tcons
-              (Syntax.tyStruct
-              (List._∷_
-              102
-              (List._∷_
-              105
-              (List._∷_
-              110
-              (List._∷_
-              105
-              (List._∷_
-              115
-              (List._∷_
-              104
-              (List._∷_
-              58
-              (List._∷_
-              58
-              (List._∷_ 83 (List._∷_ 101 (List._∷_ 110 (List._∷_ 116 List.[]))))))))))))
-              (Syntax.tcons
-              (Syntax.tyStruct
-              (List._∷_
-              97
-              (List._∷_
-              110
-              (List._∷_
-              115
-              (List._∷_
-              119
-              (List._∷_
-              101
-              (List._∷_
-              114
-              (List._∷_
-              58
-              (List._∷_
-              58
-              (List._∷_
-              68
-              (List._∷_
-              101
-              (List._∷_
-              115
-              (List._∷_
-              116
-              (List._∷_
-              105
-              (List._∷_
-              110
-              (List._∷_
-              97
-              (List._∷_ 116 (List._∷_ 105 (List._∷_ 111 (List._∷_ 110 List.[])))))))))))))))))))
-              (Syntax.tcons
-              (Syntax.tyArray (Syntax.tyInt Syntax.w8) 16)
-              (Syntax.tcons
-              (Syntax.tyEnum
-              (List._∷_
-              97
-              (List._∷_
-              110
-              (List._∷_
-              115
-              (List._∷_
-              119
-              (List._∷_
-              101
-              (List._∷_
-              114
-              (List._∷_ 58 (List._∷_ 58 (List._∷_ 87 (List._∷_ 97 (List._∷_ 121 List.[])))))))))))
-              (Syntax.ttcons
-              Syntax.tnil
-              (Syntax.ttcons
-              Syntax.tnil
-              (Syntax.ttcons Syntax.tnil (Syntax.ttcons Syntax.tnil Syntax.ttnil)))))
-              Syntax.tnil)))
-              (Syntax.tcons (Syntax.tyInt Syntax.w64) Syntax.tnil)))
-              (Syntax.tcons
-              (Syntax.tyInt Syntax.w64)
-              (Syntax.tcons
-              (Syntax.tyStruct
-              (List._∷_
-              102
-              (List._∷_
-              105
-              (List._∷_
-              110
-              (List._∷_
-              105
-              (List._∷_
-              115
-              (List._∷_
-              104
-              (List._∷_
-              58
-              (List._∷_
-              58
-              (List._∷_ 83 (List._∷_ 101 (List._∷_ 110 (List._∷_ 116 List.[]))))))))))))
-              (Syntax.tcons
-              (Syntax.tyStruct
-              (List._∷_
-              97
-              (List._∷_
-              110
-              (List._∷_
-              115
-              (List._∷_
-              119
-              (List._∷_
-              101
-              (List._∷_
-              114
-              (List._∷_
-              58
-              (List._∷_
-              58
-              (List._∷_
-              68
-              (List._∷_
-              101
-              (List._∷_
-              115
-              (List._∷_
-              116
-              (List._∷_
-              105
-              (List._∷_
-              110
-              (List._∷_
-              97
-              (List._∷_ 116 (List._∷_ 105 (List._∷_ 111 (List._∷_ 110 List.[])))))))))))))))))))
-              (Syntax.tcons
-              (Syntax.tyArray (Syntax.tyInt Syntax.w8) 16)
-              (Syntax.tcons
-              (Syntax.tyEnum
-              (List._∷_
-              97
-              (List._∷_
-              110
-              (List._∷_
-              115
-              (List._∷_
-              119
-              (List._∷_
-              101
-              (List._∷_
-              114
-              (List._∷_ 58 (List._∷_ 58 (List._∷_ 87 (List._∷_ 97 (List._∷_ 121 List.[])))))))))))
-              (Syntax.ttcons
-              Syntax.tnil
-              (Syntax.ttcons
-              Syntax.tnil
-              (Syntax.ttcons Syntax.tnil (Syntax.ttcons Syntax.tnil Syntax.ttnil)))))
-              Syntax.tnil)))
-              (Syntax.tcons (Syntax.tyInt Syntax.w64) Syntax.tnil)))
-              (Syntax.tcons
-              (Syntax.tyEnum
-              (List._∷_
-              97
-              (List._∷_
-              110
-              (List._∷_
-              115
-              (List._∷_
-              119
-              (List._∷_
-              101
-              (List._∷_
-              114
-              (List._∷_
-              58
-              (List._∷_
-              58
-              (List._∷_
-              65
-              (List._∷_
-              110
-              (List._∷_ 115 (List._∷_ 119 (List._∷_ 101 (List._∷_ 114 List.[]))))))))))))))
-              (Syntax.ttcons
-              Syntax.tnil
-              (Syntax.ttcons
-              Syntax.tnil
-              (Syntax.ttcons
-              Syntax.tnil
-              (Syntax.ttcons
-              Syntax.tnil
-              (Syntax.ttcons
-              Syntax.tnil
-              (Syntax.ttcons
-              Syntax.tnil
-              (Syntax.ttcons
-              Syntax.tnil
-              (Syntax.ttcons
-              Syntax.tnil
-              (Syntax.ttcons
-              Syntax.tnil
-              (Syntax.ttcons
-              Syntax.tnil
-              (Syntax.ttcons
-              Syntax.tnil
-              (Syntax.ttcons
-              Syntax.tnil
-              (Syntax.ttcons
-              Syntax.tnil
-              (Syntax.ttcons
-              Syntax.tnil
-              (Syntax.ttcons
-              Syntax.tnil
-              (Syntax.ttcons
-              Syntax.tnil
-              (Syntax.ttcons Syntax.tnil (Syntax.ttcons Syntax.tnil Syntax.ttnil)))))))))))))))))))
-              (Syntax.tcons (Syntax.tyInt Syntax.w8) Syntax.tnil)))))),
-        ) (List._∷_ (
+        abbrev g77 : List.List Row.Entry
+        g77 = List._∷_ (0, Rows'.whole (Declared'.row Outcome.the-type)) (List._∷_ (
           1,
           Relend.mslice-owed
               (KInstanceRow.R)
@@ -32983,136 +31766,8 @@ module _ (claims· : Claims) where
               (Syntax.tcons (KInstanceRow.spelled) Syntax.tnil)))),
         ) List.[])))))))))))))))
 
-        abbrev g80 : List.List Row.Entry
-        g80 = List._∷_ (0, Rows'.whole (Declared'.row Outcome.the-type)) (List._∷_ (
-          1,
-          Relend.mslice-owed
-              (KInstanceRow.R)
-              (Syntax.tyRef
-              (Syntax.named 0)
-              Syntax.mut
-              (KInstanceRow.named))
-              0
-              9
-              (Row.lease (κs .0) (qs .0)),
-        ) (List._∷_ (
-          2,
-          Relend.mslice-owed
-              (KRouteRow.R)
-              (Syntax.tyRef
-              (Syntax.named 1)
-              Syntax.mut
-              (KRouteRow.named))
-              1
-              10
-              (Row.lease (κs .1 .0) (qs .1 .0)),
-        ) (List._∷_ (
-          3,
-          Relend.mslice-owed
-              (Referent.rtF (Referent.fInt Syntax.w8))
-              (Syntax.tyRef (Syntax.named 2) Syntax.mut (Syntax.tyInt Syntax.w8))
-              2
-              11
-              (Row.lease (κs .1 .1 .0) (qs .1 .1 .0)),
-        ) (List._∷_ (
-          4,
-          Relend.mslice-owed
-              (Referent.rtF (Referent.fInt Syntax.w8))
-              (Syntax.tyRef (Syntax.named 3) Syntax.mut (Syntax.tyInt Syntax.w8))
-              3
-              12
-              (Row.lease (κs .1 .1 .1 .0) (qs .1 .1 .1 .0)),
-        ) (List._∷_ (5, Rows'.whole (Declared'.row Own.the-type)) (List._∷_ (
-          6,
-          Rows'.sc-here (Row.sInt Syntax.w64),
-        ) (List._∷_ (7, Rows'.sc-here (Row.sInt Syntax.w8)) (List._∷_ (
-          8,
-          Rows'.sc-here (Row.sInt Syntax.w64),
-        ) (List._∷_ (
-          9,
-          Rows'.any-gone
-              (Syntax.tyStruct
-              (List._∷_
-              109
-              (List._∷_
-              101
-              (List._∷_
-              115
-              (List._∷_
-              115
-              (List._∷_
-              97
-              (List._∷_
-              103
-              (List._∷_
-              101
-              (List._∷_
-              58
-              (List._∷_
-              58
-              (List._∷_ 76 (List._∷_ 105 (List._∷_ 110 (List._∷_ 107 List.[])))))))))))))
-              (Syntax.tcons
-              (Syntax.tyArray (Syntax.tyInt Syntax.w8) 16)
-              (Syntax.tcons
-              Syntax.tyBool
-              (Syntax.tcons
-              Syntax.tyBool
-              (Syntax.tcons (Syntax.tyInt Syntax.w16) (Syntax.tcons Syntax.tyBool Syntax.tnil)))))),
-        ) (List._∷_ (
-          10,
-          Rows'.sref
-              (KParsed.R)
-              (Syntax.tyRef
-              (Syntax.named 4)
-              Syntax.imm
-              (KParsed.named))
-              4,
-        ) (List._∷_ (
-          11,
-          Rows'.sref
-              (Array'.Array (Array'.Array (Referent.rtF (Referent.fInt Syntax.w8)) 16) 16)
-              (Syntax.tyRef
-              (Syntax.named 5)
-              Syntax.imm
-              (Syntax.tyArray (Syntax.tyArray (Syntax.tyInt Syntax.w8) 16) 16))
-              5,
-        ) (List._∷_ (12, Rows'.sc-here (Row.sInt Syntax.w8)) (List._∷_ (
-          13,
-          Rows'.any-gone (Syntax.tyArray (Syntax.tyInt Syntax.w8) 16),
-        ) (List._∷_ (14, Rows'.any-gone (Syntax.tyArray (Syntax.tyInt Syntax.w8) 16)) (List._∷_ (
-          15,
-          Rows'.any-gone
-              (Syntax.tyStruct
-              (List._∷_
-              109
-              (List._∷_
-              101
-              (List._∷_
-              115
-              (List._∷_
-              115
-              (List._∷_
-              97
-              (List._∷_
-              103
-              (List._∷_
-              101
-              (List._∷_
-              58
-              (List._∷_
-              58
-              (List._∷_
-              70
-              (List._∷_ 111 (List._∷_ 117 (List._∷_ 110 (List._∷_ 100 List.[]))))))))))))))
-              (Syntax.tcons
-              Syntax.tyBool
-              (Syntax.tcons
-              (Syntax.tyInt Syntax.w64)
-              (Syntax.tcons (KInstanceRow.spelled) Syntax.tnil)))),
-        ) List.[])))))))))))))))
-
-        abbrev g85 : List.List Row.Entry
-        g85 = List._∷_ (0, Rows'.whole (Declared'.row Outcome.the-type)) (List._∷_ (
+        abbrev g82 : List.List Row.Entry
+        g82 = List._∷_ (0, Rows'.whole (Declared'.row Outcome.the-type)) (List._∷_ (
           1,
           Relend.mslice-owed
               (KInstanceRow.R)
@@ -33250,8 +31905,8 @@ module _ (claims· : Claims) where
               (Syntax.tcons (KInstanceRow.spelled) Syntax.tnil)))),
         ) List.[])))))))))))))))
 
-        abbrev g86 : List.List Row.Entry
-        g86 = List._∷_ (0, Rows'.whole (Declared'.row Outcome.the-type)) (List._∷_ (
+        abbrev g83 : List.List Row.Entry
+        g83 = List._∷_ (0, Rows'.whole (Declared'.row Outcome.the-type)) (List._∷_ (
           1,
           Relend.mslice-owed
               (KInstanceRow.R)
@@ -33389,8 +32044,8 @@ module _ (claims· : Claims) where
               (Syntax.tcons (KInstanceRow.spelled) Syntax.tnil)))),
         ) List.[])))))))))))))))
 
-        abbrev g89 : List.List Row.Entry
-        g89 = List._∷_ (0, Rows'.whole (Declared'.row Outcome.the-type)) (List._∷_ (
+        abbrev g85 : List.List Row.Entry
+        g85 = List._∷_ (0, Rows'.whole (Declared'.row Outcome.the-type)) (List._∷_ (
           1,
           Mut.mslice
               (KInstanceRow.R)
@@ -33526,8 +32181,8 @@ module _ (claims· : Claims) where
               (Syntax.tcons (KInstanceRow.spelled) Syntax.tnil)))),
         ) List.[])))))))))))))))
 
-        abbrev g91 : List.List Row.Entry
-        g91 = List._∷_ (0, Rows'.whole (Declared'.row Outcome.the-type)) (List._∷_ (
+        abbrev g87 : List.List Row.Entry
+        g87 = List._∷_ (0, Rows'.whole (Declared'.row Outcome.the-type)) (List._∷_ (
           1,
           Mut.mslice
               (KInstanceRow.R)
@@ -33661,8 +32316,8 @@ module _ (claims· : Claims) where
               (Syntax.tcons (KInstanceRow.spelled) Syntax.tnil)))),
         ) List.[])))))))))))))))
 
-        abbrev g93 : List.List Row.Entry
-        g93 = List._∷_ (0, Rows'.whole (Declared'.row Outcome.the-type)) (List._∷_ (
+        abbrev g89 : List.List Row.Entry
+        g89 = List._∷_ (0, Rows'.whole (Declared'.row Outcome.the-type)) (List._∷_ (
           1,
           Mut.mslice
               (KInstanceRow.R)
@@ -34756,103 +33411,7 @@ module _ (claims· : Claims) where
 
         abbrev G30 : Row.Cx
         G30 = record {
-          locals = List._++_ t20 (List._++_ t21 t2);
-          slots = List._∷_
-              (Row.lease (κs .0) (qs .0))
-              (List._∷_
-              (Row.lease (κs .1 .0) (qs .1 .0))
-              (List._∷_
-              (Row.lease (κs .1 .1 .0) (qs .1 .1 .0))
-              (List._∷_
-              (Row.lease (κs .1 .1 .1 .0) (qs .1 .1 .1 .0))
-              (List._∷_
-              (Row.lease (κs .1 .1 .1 .1 .0) (qs .1 .1 .1 .1 .0))
-              (List._∷_
-              (Row.lease (κs .1 .1 .1 .1 .1 .0) (qs .1 .1 .1 .1 .1 .0))
-              (List._∷_
-              Row.off
-              (List._∷_
-              Row.off
-              (List._∷_
-              Row.off
-              (List._∷_
-              Row.off
-              (List._∷_
-              Row.off
-              (List._∷_
-              Row.off
-              (List._∷_
-              Row.off
-              (List._∷_ Row.off (List._∷_ Row.off (List._∷_ Row.off List.[])))))))))))))));
-        }
-
-        abbrev G31 : Row.Cx
-        G31 = record {
-          locals = List._++_ t20 (List._++_ t22 t2);
-          slots = List._∷_
-              (Row.lease (κs .0) (qs .0))
-              (List._∷_
-              (Row.lease (κs .1 .0) (qs .1 .0))
-              (List._∷_
-              (Row.lease (κs .1 .1 .0) (qs .1 .1 .0))
-              (List._∷_
-              (Row.lease (κs .1 .1 .1 .0) (qs .1 .1 .1 .0))
-              (List._∷_
-              (Row.lease (κs .1 .1 .1 .1 .0) (qs .1 .1 .1 .1 .0))
-              (List._∷_
-              (Row.lease (κs .1 .1 .1 .1 .1 .0) (qs .1 .1 .1 .1 .1 .0))
-              (List._∷_
-              Row.off
-              (List._∷_
-              Row.off
-              (List._∷_
-              Row.off
-              (List._∷_
-              Row.off
-              (List._∷_
-              Row.off
-              (List._∷_
-              Row.off
-              (List._∷_
-              Row.off
-              (List._∷_ Row.off (List._∷_ Row.off (List._∷_ Row.off List.[])))))))))))))));
-        }
-
-        abbrev G32 : Row.Cx
-        G32 = record {
-          locals = List._++_ t20 (List._++_ t23 t2);
-          slots = List._∷_
-              (Row.lease (κs .0) (qs .0))
-              (List._∷_
-              (Row.lease (κs .1 .0) (qs .1 .0))
-              (List._∷_
-              (Row.lease (κs .1 .1 .0) (qs .1 .1 .0))
-              (List._∷_
-              (Row.lease (κs .1 .1 .1 .0) (qs .1 .1 .1 .0))
-              (List._∷_
-              (Row.lease (κs .1 .1 .1 .1 .0) (qs .1 .1 .1 .1 .0))
-              (List._∷_
-              (Row.lease (κs .1 .1 .1 .1 .1 .0) (qs .1 .1 .1 .1 .1 .0))
-              (List._∷_
-              Row.off
-              (List._∷_
-              Row.off
-              (List._∷_
-              Row.off
-              (List._∷_
-              Row.off
-              (List._∷_
-              Row.off
-              (List._∷_
-              Row.off
-              (List._∷_
-              Row.off
-              (List._∷_ Row.off (List._∷_ Row.off (List._∷_ Row.off List.[])))))))))))))));
-        }
-
-        abbrev G33 : Row.Cx
-        G33 = record {
-          locals = List._++_ t20 (List._++_ t23 t2);
+          locals = List._++_ t20 (List._++_ t18 t2);
           slots = List._∷_
               (Row.lease (κs .0) (qs .0))
               (List._∷_
@@ -34882,9 +33441,105 @@ module _ (claims· : Claims) where
               (List._∷_ Row.off (List._∷_ Row.off (List._∷_ Row.off List.[])))))))))))))));
         }
 
+        abbrev G31 : Row.Cx
+        G31 = record {
+          locals = List._++_ g21 (List._++_ t22 t2);
+          slots = List._∷_
+              Row.off
+              (List._∷_
+              (Row.lease (κs .1 .0) (qs .1 .0))
+              (List._∷_
+              (Row.lease (κs .1 .1 .0) (qs .1 .1 .0))
+              (List._∷_
+              (Row.lease (κs .1 .1 .1 .0) (qs .1 .1 .1 .0))
+              (List._∷_
+              (Row.lease (κs .1 .1 .1 .1 .0) (qs .1 .1 .1 .1 .0))
+              (List._∷_
+              (Row.lease (κs .1 .1 .1 .1 .1 .0) (qs .1 .1 .1 .1 .1 .0))
+              (List._∷_
+              Row.off
+              (List._∷_
+              Row.off
+              (List._∷_
+              Row.alive
+              (List._∷_
+              Row.off
+              (List._∷_
+              Row.off
+              (List._∷_
+              Row.off
+              (List._∷_
+              Row.off
+              (List._∷_ Row.off (List._∷_ Row.off (List._∷_ Row.off List.[])))))))))))))));
+        }
+
+        abbrev G32 : Row.Cx
+        G32 = record {
+          locals = List._++_ g21 (List._++_ t23 t2);
+          slots = List._∷_
+              Row.off
+              (List._∷_
+              (Row.lease (κs .1 .0) (qs .1 .0))
+              (List._∷_
+              (Row.lease (κs .1 .1 .0) (qs .1 .1 .0))
+              (List._∷_
+              (Row.lease (κs .1 .1 .1 .0) (qs .1 .1 .1 .0))
+              (List._∷_
+              (Row.lease (κs .1 .1 .1 .1 .0) (qs .1 .1 .1 .1 .0))
+              (List._∷_
+              (Row.lease (κs .1 .1 .1 .1 .1 .0) (qs .1 .1 .1 .1 .1 .0))
+              (List._∷_
+              Row.off
+              (List._∷_
+              Row.off
+              (List._∷_
+              Row.alive
+              (List._∷_
+              Row.off
+              (List._∷_
+              Row.off
+              (List._∷_
+              Row.off
+              (List._∷_
+              Row.off
+              (List._∷_ Row.off (List._∷_ Row.off (List._∷_ Row.off List.[])))))))))))))));
+        }
+
+        abbrev G33 : Row.Cx
+        G33 = record {
+          locals = List._++_ g21 (List._++_ t24 t2);
+          slots = List._∷_
+              Row.off
+              (List._∷_
+              (Row.lease (κs .1 .0) (qs .1 .0))
+              (List._∷_
+              (Row.lease (κs .1 .1 .0) (qs .1 .1 .0))
+              (List._∷_
+              (Row.lease (κs .1 .1 .1 .0) (qs .1 .1 .1 .0))
+              (List._∷_
+              (Row.lease (κs .1 .1 .1 .1 .0) (qs .1 .1 .1 .1 .0))
+              (List._∷_
+              (Row.lease (κs .1 .1 .1 .1 .1 .0) (qs .1 .1 .1 .1 .1 .0))
+              (List._∷_
+              Row.off
+              (List._∷_
+              Row.off
+              (List._∷_
+              Row.alive
+              (List._∷_
+              Row.off
+              (List._∷_
+              Row.off
+              (List._∷_
+              Row.off
+              (List._∷_
+              Row.off
+              (List._∷_ Row.off (List._∷_ Row.off (List._∷_ Row.off List.[])))))))))))))));
+        }
+
         abbrev G34 : Row.Cx
         G34 = record {
-          locals = List._++_ g24 (List._++_ t25 t2);
+          locals = List._++_ g21 (List._++_ t25 t2);
           slots = List._∷_
               Row.off
               (List._∷_
@@ -34916,7 +33571,7 @@ module _ (claims· : Claims) where
 
         abbrev G35 : Row.Cx
         G35 = record {
-          locals = List._++_ g24 (List._++_ t23 t26);
+          locals = List._++_ g26 (List._++_ t25 t2);
           slots = List._∷_
               Row.off
               (List._∷_
@@ -34948,103 +33603,7 @@ module _ (claims· : Claims) where
 
         abbrev G36 : Row.Cx
         G36 = record {
-          locals = List._++_ g24 (List._++_ t27 t26);
-          slots = List._∷_
-              Row.off
-              (List._∷_
-              (Row.lease (κs .1 .0) (qs .1 .0))
-              (List._∷_
-              (Row.lease (κs .1 .1 .0) (qs .1 .1 .0))
-              (List._∷_
-              (Row.lease (κs .1 .1 .1 .0) (qs .1 .1 .1 .0))
-              (List._∷_
-              (Row.lease (κs .1 .1 .1 .1 .0) (qs .1 .1 .1 .1 .0))
-              (List._∷_
-              (Row.lease (κs .1 .1 .1 .1 .1 .0) (qs .1 .1 .1 .1 .1 .0))
-              (List._∷_
-              Row.off
-              (List._∷_
-              Row.off
-              (List._∷_
-              Row.alive
-              (List._∷_
-              Row.off
-              (List._∷_
-              Row.off
-              (List._∷_
-              Row.off
-              (List._∷_
-              Row.off
-              (List._∷_ Row.off (List._∷_ Row.off (List._∷_ Row.off List.[])))))))))))))));
-        }
-
-        abbrev G37 : Row.Cx
-        G37 = record {
-          locals = List._++_ g24 (List._++_ t27 t2);
-          slots = List._∷_
-              Row.off
-              (List._∷_
-              (Row.lease (κs .1 .0) (qs .1 .0))
-              (List._∷_
-              (Row.lease (κs .1 .1 .0) (qs .1 .1 .0))
-              (List._∷_
-              (Row.lease (κs .1 .1 .1 .0) (qs .1 .1 .1 .0))
-              (List._∷_
-              (Row.lease (κs .1 .1 .1 .1 .0) (qs .1 .1 .1 .1 .0))
-              (List._∷_
-              (Row.lease (κs .1 .1 .1 .1 .1 .0) (qs .1 .1 .1 .1 .1 .0))
-              (List._∷_
-              Row.off
-              (List._∷_
-              Row.off
-              (List._∷_
-              Row.alive
-              (List._∷_
-              Row.off
-              (List._∷_
-              Row.off
-              (List._∷_
-              Row.off
-              (List._∷_
-              Row.off
-              (List._∷_ Row.off (List._∷_ Row.off (List._∷_ Row.off List.[])))))))))))))));
-        }
-
-        abbrev G38 : Row.Cx
-        G38 = record {
-          locals = List._++_ g28 (List._++_ t27 t2);
-          slots = List._∷_
-              Row.off
-              (List._∷_
-              (Row.lease (κs .1 .0) (qs .1 .0))
-              (List._∷_
-              (Row.lease (κs .1 .1 .0) (qs .1 .1 .0))
-              (List._∷_
-              (Row.lease (κs .1 .1 .1 .0) (qs .1 .1 .1 .0))
-              (List._∷_
-              (Row.lease (κs .1 .1 .1 .1 .0) (qs .1 .1 .1 .1 .0))
-              (List._∷_
-              (Row.lease (κs .1 .1 .1 .1 .1 .0) (qs .1 .1 .1 .1 .1 .0))
-              (List._∷_
-              Row.off
-              (List._∷_
-              Row.off
-              (List._∷_
-              Row.alive
-              (List._∷_
-              Row.off
-              (List._∷_
-              Row.off
-              (List._∷_
-              Row.off
-              (List._∷_
-              Row.off
-              (List._∷_ Row.off (List._∷_ Row.off (List._∷_ Row.off List.[])))))))))))))));
-        }
-
-        abbrev G39 : Row.Cx
-        G39 = record {
-          locals = List._++_ g28 (List._++_ t27 t2);
+          locals = List._++_ g26 (List._++_ t25 t2);
           slots = List._∷_
               Row.off
               (List._∷_
@@ -35074,9 +33633,9 @@ module _ (claims· : Claims) where
               (List._∷_ Row.off (List._∷_ Row.off (List._∷_ Row.off List.[])))))))))))))));
         }
 
-        abbrev G40 : Row.Cx
-        G40 = record {
-          locals = List._++_ t29 (List._++_ t27 t2);
+        abbrev G37 : Row.Cx
+        G37 = record {
+          locals = List._++_ t27 (List._++_ t25 t2);
           slots = List._∷_
               (Row.lease (κs .0) (qs .0))
               (List._∷_
@@ -35106,9 +33665,105 @@ module _ (claims· : Claims) where
               (List._∷_ Row.off (List._∷_ Row.off (List._∷_ Row.off List.[])))))))))))))));
         }
 
+        abbrev G38 : Row.Cx
+        G38 = record {
+          locals = List._++_ t27 (List._++_ t25 t2);
+          slots = List._∷_
+              (Row.lease (κs .0) (qs .0))
+              (List._∷_
+              (Row.lease (κs .1 .0) (qs .1 .0))
+              (List._∷_
+              (Row.lease (κs .1 .1 .0) (qs .1 .1 .0))
+              (List._∷_
+              (Row.lease (κs .1 .1 .1 .0) (qs .1 .1 .1 .0))
+              (List._∷_
+              (Row.lease (κs .1 .1 .1 .1 .0) (qs .1 .1 .1 .1 .0))
+              (List._∷_
+              (Row.lease (κs .1 .1 .1 .1 .1 .0) (qs .1 .1 .1 .1 .1 .0))
+              (List._∷_
+              Row.off
+              (List._∷_
+              Row.off
+              (List._∷_
+              Row.off
+              (List._∷_
+              Row.off
+              (List._∷_
+              Row.off
+              (List._∷_
+              Row.off
+              (List._∷_
+              Row.off
+              (List._∷_ Row.off (List._∷_ Row.off (List._∷_ Row.off List.[])))))))))))))));
+        }
+
+        abbrev G39 : Row.Cx
+        G39 = record {
+          locals = List._++_ t27 (List._++_ t28 t2);
+          slots = List._∷_
+              (Row.lease (κs .0) (qs .0))
+              (List._∷_
+              (Row.lease (κs .1 .0) (qs .1 .0))
+              (List._∷_
+              (Row.lease (κs .1 .1 .0) (qs .1 .1 .0))
+              (List._∷_
+              (Row.lease (κs .1 .1 .1 .0) (qs .1 .1 .1 .0))
+              (List._∷_
+              (Row.lease (κs .1 .1 .1 .1 .0) (qs .1 .1 .1 .1 .0))
+              (List._∷_
+              (Row.lease (κs .1 .1 .1 .1 .1 .0) (qs .1 .1 .1 .1 .1 .0))
+              (List._∷_
+              Row.off
+              (List._∷_
+              Row.off
+              (List._∷_
+              Row.off
+              (List._∷_
+              Row.off
+              (List._∷_
+              Row.off
+              (List._∷_
+              Row.off
+              (List._∷_
+              Row.off
+              (List._∷_ Row.off (List._∷_ Row.off (List._∷_ Row.off List.[])))))))))))))));
+        }
+
+        abbrev G40 : Row.Cx
+        G40 = record {
+          locals = List._++_ t27 (List._++_ t29 t2);
+          slots = List._∷_
+              (Row.lease (κs .0) (qs .0))
+              (List._∷_
+              (Row.lease (κs .1 .0) (qs .1 .0))
+              (List._∷_
+              (Row.lease (κs .1 .1 .0) (qs .1 .1 .0))
+              (List._∷_
+              (Row.lease (κs .1 .1 .1 .0) (qs .1 .1 .1 .0))
+              (List._∷_
+              (Row.lease (κs .1 .1 .1 .1 .0) (qs .1 .1 .1 .1 .0))
+              (List._∷_
+              (Row.lease (κs .1 .1 .1 .1 .1 .0) (qs .1 .1 .1 .1 .1 .0))
+              (List._∷_
+              Row.off
+              (List._∷_
+              Row.off
+              (List._∷_
+              Row.off
+              (List._∷_
+              Row.off
+              (List._∷_
+              Row.off
+              (List._∷_
+              Row.off
+              (List._∷_
+              Row.off
+              (List._∷_ Row.off (List._∷_ Row.off (List._∷_ Row.off List.[])))))))))))))));
+        }
+
         abbrev G41 : Row.Cx
         G41 = record {
-          locals = List._++_ t29 (List._++_ t27 t2);
+          locals = List._++_ t27 (List._++_ t30 t2);
           slots = List._∷_
               (Row.lease (κs .0) (qs .0))
               (List._∷_
@@ -35140,7 +33795,7 @@ module _ (claims· : Claims) where
 
         abbrev G42 : Row.Cx
         G42 = record {
-          locals = List._++_ t29 (List._++_ t30 t2);
+          locals = List._++_ t27 (List._++_ t31 t2);
           slots = List._∷_
               (Row.lease (κs .0) (qs .0))
               (List._∷_
@@ -35172,7 +33827,7 @@ module _ (claims· : Claims) where
 
         abbrev G43 : Row.Cx
         G43 = record {
-          locals = List._++_ t29 (List._++_ t31 t2);
+          locals = List._++_ t27 (List._++_ t30 t2);
           slots = List._∷_
               (Row.lease (κs .0) (qs .0))
               (List._∷_
@@ -35204,7 +33859,7 @@ module _ (claims· : Claims) where
 
         abbrev G44 : Row.Cx
         G44 = record {
-          locals = List._++_ t29 (List._++_ t32 t2);
+          locals = List._++_ t27 (List._++_ t32 t2);
           slots = List._∷_
               (Row.lease (κs .0) (qs .0))
               (List._∷_
@@ -35236,7 +33891,7 @@ module _ (claims· : Claims) where
 
         abbrev G45 : Row.Cx
         G45 = record {
-          locals = List._++_ t29 (List._++_ t33 t2);
+          locals = List._++_ t27 (List._++_ t33 t2);
           slots = List._∷_
               (Row.lease (κs .0) (qs .0))
               (List._∷_
@@ -35268,7 +33923,7 @@ module _ (claims· : Claims) where
 
         abbrev G46 : Row.Cx
         G46 = record {
-          locals = List._++_ t29 (List._++_ t32 t2);
+          locals = List._++_ t27 (List._++_ t33 t34);
           slots = List._∷_
               (Row.lease (κs .0) (qs .0))
               (List._∷_
@@ -35300,7 +33955,7 @@ module _ (claims· : Claims) where
 
         abbrev G47 : Row.Cx
         G47 = record {
-          locals = List._++_ t29 (List._++_ t34 t2);
+          locals = List._++_ t27 (List._++_ t33 t35);
           slots = List._∷_
               (Row.lease (κs .0) (qs .0))
               (List._∷_
@@ -35332,7 +33987,7 @@ module _ (claims· : Claims) where
 
         abbrev G48 : Row.Cx
         G48 = record {
-          locals = List._++_ t29 (List._++_ t35 t2);
+          locals = List._++_ t27 (List._++_ t31 t2);
           slots = List._∷_
               (Row.lease (κs .0) (qs .0))
               (List._∷_
@@ -35364,7 +34019,7 @@ module _ (claims· : Claims) where
 
         abbrev G49 : Row.Cx
         G49 = record {
-          locals = List._++_ t29 (List._++_ t35 t36);
+          locals = List._++_ t27 (List._++_ t33 t36);
           slots = List._∷_
               (Row.lease (κs .0) (qs .0))
               (List._∷_
@@ -35396,7 +34051,7 @@ module _ (claims· : Claims) where
 
         abbrev G50 : Row.Cx
         G50 = record {
-          locals = List._++_ t29 (List._++_ t35 t37);
+          locals = List._++_ t37 (List._++_ t33 t36);
           slots = List._∷_
               (Row.lease (κs .0) (qs .0))
               (List._∷_
@@ -35428,7 +34083,7 @@ module _ (claims· : Claims) where
 
         abbrev G51 : Row.Cx
         G51 = record {
-          locals = List._++_ t29 (List._++_ t33 t2);
+          locals = List._++_ t38 (List._++_ t33 t36);
           slots = List._∷_
               (Row.lease (κs .0) (qs .0))
               (List._∷_
@@ -35460,7 +34115,7 @@ module _ (claims· : Claims) where
 
         abbrev G52 : Row.Cx
         G52 = record {
-          locals = List._++_ t29 (List._++_ t35 t38);
+          locals = List._++_ t39 (List._++_ t33 t36);
           slots = List._∷_
               (Row.lease (κs .0) (qs .0))
               (List._∷_
@@ -35492,7 +34147,7 @@ module _ (claims· : Claims) where
 
         abbrev G53 : Row.Cx
         G53 = record {
-          locals = List._++_ t39 (List._++_ t35 t38);
+          locals = List._++_ t39 (List._++_ t40 t36);
           slots = List._∷_
               (Row.lease (κs .0) (qs .0))
               (List._∷_
@@ -35524,7 +34179,7 @@ module _ (claims· : Claims) where
 
         abbrev G54 : Row.Cx
         G54 = record {
-          locals = List._++_ t40 (List._++_ t35 t38);
+          locals = List._++_ t39 (List._++_ t41 t36);
           slots = List._∷_
               (Row.lease (κs .0) (qs .0))
               (List._∷_
@@ -35556,7 +34211,7 @@ module _ (claims· : Claims) where
 
         abbrev G55 : Row.Cx
         G55 = record {
-          locals = List._++_ t41 (List._++_ t35 t38);
+          locals = List._++_ t39 (List._++_ t41 t2);
           slots = List._∷_
               (Row.lease (κs .0) (qs .0))
               (List._∷_
@@ -35588,7 +34243,7 @@ module _ (claims· : Claims) where
 
         abbrev G56 : Row.Cx
         G56 = record {
-          locals = List._++_ t41 (List._++_ t42 t38);
+          locals = List._++_ t42 (List._++_ t41 t2);
           slots = List._∷_
               (Row.lease (κs .0) (qs .0))
               (List._∷_
@@ -35620,7 +34275,7 @@ module _ (claims· : Claims) where
 
         abbrev G57 : Row.Cx
         G57 = record {
-          locals = List._++_ t41 (List._++_ t43 t38);
+          locals = List._++_ t42 (List._++_ t1 t2);
           slots = List._∷_
               (Row.lease (κs .0) (qs .0))
               (List._∷_
@@ -35652,7 +34307,7 @@ module _ (claims· : Claims) where
 
         abbrev G58 : Row.Cx
         G58 = record {
-          locals = List._++_ t41 (List._++_ t43 t2);
+          locals = List._++_ t43 (List._++_ t1 t2);
           slots = List._∷_
               (Row.lease (κs .0) (qs .0))
               (List._∷_
@@ -35684,7 +34339,7 @@ module _ (claims· : Claims) where
 
         abbrev G59 : Row.Cx
         G59 = record {
-          locals = List._++_ t44 (List._++_ t43 t2);
+          locals = List._++_ t44 (List._++_ t1 t2);
           slots = List._∷_
               (Row.lease (κs .0) (qs .0))
               (List._∷_
@@ -35716,7 +34371,7 @@ module _ (claims· : Claims) where
 
         abbrev G60 : Row.Cx
         G60 = record {
-          locals = List._++_ t44 (List._++_ t45 t2);
+          locals = List._++_ t45 (List._++_ t1 t2);
           slots = List._∷_
               (Row.lease (κs .0) (qs .0))
               (List._∷_
@@ -35748,7 +34403,7 @@ module _ (claims· : Claims) where
 
         abbrev G61 : Row.Cx
         G61 = record {
-          locals = List._++_ t46 (List._++_ t45 t2);
+          locals = List._++_ t3 (List._++_ t1 t2);
           slots = List._∷_
               (Row.lease (κs .0) (qs .0))
               (List._∷_
@@ -35780,7 +34435,7 @@ module _ (claims· : Claims) where
 
         abbrev G62 : Row.Cx
         G62 = record {
-          locals = List._++_ t47 (List._++_ t45 t2);
+          locals = List._++_ t27 (List._++_ t31 t36);
           slots = List._∷_
               (Row.lease (κs .0) (qs .0))
               (List._∷_
@@ -35812,7 +34467,7 @@ module _ (claims· : Claims) where
 
         abbrev G63 : Row.Cx
         G63 = record {
-          locals = List._++_ t48 (List._++_ t45 t2);
+          locals = List._++_ t27 (List._++_ t31 t2);
           slots = List._∷_
               (Row.lease (κs .0) (qs .0))
               (List._∷_
@@ -35844,7 +34499,7 @@ module _ (claims· : Claims) where
 
         abbrev G64 : Row.Cx
         G64 = record {
-          locals = List._++_ t3 (List._++_ t45 t2);
+          locals = List._++_ t27 (List._++_ t30 t2);
           slots = List._∷_
               (Row.lease (κs .0) (qs .0))
               (List._∷_
@@ -35876,7 +34531,7 @@ module _ (claims· : Claims) where
 
         abbrev G65 : Row.Cx
         G65 = record {
-          locals = List._++_ t3 (List._++_ t1 t2);
+          locals = List._++_ t27 (List._++_ t30 t46);
           slots = List._∷_
               (Row.lease (κs .0) (qs .0))
               (List._∷_
@@ -35908,7 +34563,7 @@ module _ (claims· : Claims) where
 
         abbrev G66 : Row.Cx
         G66 = record {
-          locals = List._++_ t29 (List._++_ t33 t38);
+          locals = List._++_ t27 (List._++_ t31 t46);
           slots = List._∷_
               (Row.lease (κs .0) (qs .0))
               (List._∷_
@@ -35940,7 +34595,7 @@ module _ (claims· : Claims) where
 
         abbrev G67 : Row.Cx
         G67 = record {
-          locals = List._++_ t29 (List._++_ t33 t2);
+          locals = List._++_ t27 (List._++_ t47 t46);
           slots = List._∷_
               (Row.lease (κs .0) (qs .0))
               (List._∷_
@@ -35972,7 +34627,7 @@ module _ (claims· : Claims) where
 
         abbrev G68 : Row.Cx
         G68 = record {
-          locals = List._++_ t29 (List._++_ t32 t2);
+          locals = List._++_ t27 (List._++_ t47 t2);
           slots = List._∷_
               (Row.lease (κs .0) (qs .0))
               (List._∷_
@@ -36004,7 +34659,7 @@ module _ (claims· : Claims) where
 
         abbrev G69 : Row.Cx
         G69 = record {
-          locals = List._++_ t29 (List._++_ t32 t49);
+          locals = List._++_ t27 (List._++_ t48 t2);
           slots = List._∷_
               (Row.lease (κs .0) (qs .0))
               (List._∷_
@@ -36036,7 +34691,7 @@ module _ (claims· : Claims) where
 
         abbrev G70 : Row.Cx
         G70 = record {
-          locals = List._++_ t29 (List._++_ t33 t49);
+          locals = List._++_ t27 (List._++_ t48 t49);
           slots = List._∷_
               (Row.lease (κs .0) (qs .0))
               (List._∷_
@@ -36068,7 +34723,7 @@ module _ (claims· : Claims) where
 
         abbrev G71 : Row.Cx
         G71 = record {
-          locals = List._++_ t29 (List._++_ t50 t49);
+          locals = List._++_ t27 (List._++_ t47 t49);
           slots = List._∷_
               (Row.lease (κs .0) (qs .0))
               (List._∷_
@@ -36100,7 +34755,7 @@ module _ (claims· : Claims) where
 
         abbrev G72 : Row.Cx
         G72 = record {
-          locals = List._++_ t29 (List._++_ t50 t2);
+          locals = List._++_ t27 (List._++_ t50 t49);
           slots = List._∷_
               (Row.lease (κs .0) (qs .0))
               (List._∷_
@@ -36132,7 +34787,7 @@ module _ (claims· : Claims) where
 
         abbrev G73 : Row.Cx
         G73 = record {
-          locals = List._++_ t29 (List._++_ t51 t2);
+          locals = List._++_ t27 (List._++_ t50 t2);
           slots = List._∷_
               (Row.lease (κs .0) (qs .0))
               (List._∷_
@@ -36164,7 +34819,7 @@ module _ (claims· : Claims) where
 
         abbrev G74 : Row.Cx
         G74 = record {
-          locals = List._++_ t29 (List._++_ t51 t52);
+          locals = List._++_ t27 (List._++_ t51 t2);
           slots = List._∷_
               (Row.lease (κs .0) (qs .0))
               (List._∷_
@@ -36196,7 +34851,7 @@ module _ (claims· : Claims) where
 
         abbrev G75 : Row.Cx
         G75 = record {
-          locals = List._++_ t29 (List._++_ t50 t52);
+          locals = List._++_ t27 (List._++_ t51 t49);
           slots = List._∷_
               (Row.lease (κs .0) (qs .0))
               (List._∷_
@@ -36228,7 +34883,7 @@ module _ (claims· : Claims) where
 
         abbrev G76 : Row.Cx
         G76 = record {
-          locals = List._++_ t29 (List._++_ t53 t52);
+          locals = List._++_ t52 (List._++_ t51 t49);
           slots = List._∷_
               (Row.lease (κs .0) (qs .0))
               (List._∷_
@@ -36260,7 +34915,7 @@ module _ (claims· : Claims) where
 
         abbrev G77 : Row.Cx
         G77 = record {
-          locals = List._++_ t29 (List._++_ t53 t2);
+          locals = List._++_ t52 (List._++_ t53 t49);
           slots = List._∷_
               (Row.lease (κs .0) (qs .0))
               (List._∷_
@@ -36292,7 +34947,7 @@ module _ (claims· : Claims) where
 
         abbrev G78 : Row.Cx
         G78 = record {
-          locals = List._++_ t29 (List._++_ t54 t2);
+          locals = List._++_ t52 (List._++_ t54 t49);
           slots = List._∷_
               (Row.lease (κs .0) (qs .0))
               (List._∷_
@@ -36324,7 +34979,7 @@ module _ (claims· : Claims) where
 
         abbrev G79 : Row.Cx
         G79 = record {
-          locals = List._++_ t29 (List._++_ t54 t52);
+          locals = List._++_ t52 (List._++_ t55 t49);
           slots = List._∷_
               (Row.lease (κs .0) (qs .0))
               (List._∷_
@@ -36356,7 +35011,7 @@ module _ (claims· : Claims) where
 
         abbrev G80 : Row.Cx
         G80 = record {
-          locals = List._++_ t55 (List._++_ t54 t52);
+          locals = List._++_ t52 (List._++_ t55 t2);
           slots = List._∷_
               (Row.lease (κs .0) (qs .0))
               (List._∷_
@@ -36388,7 +35043,7 @@ module _ (claims· : Claims) where
 
         abbrev G81 : Row.Cx
         G81 = record {
-          locals = List._++_ t55 (List._++_ t56 t52);
+          locals = List._++_ t52 (List._++_ t56 t2);
           slots = List._∷_
               (Row.lease (κs .0) (qs .0))
               (List._∷_
@@ -36420,7 +35075,7 @@ module _ (claims· : Claims) where
 
         abbrev G82 : Row.Cx
         G82 = record {
-          locals = List._++_ t55 (List._++_ t57 t52);
+          locals = List._++_ t57 (List._++_ t56 t2);
           slots = List._∷_
               (Row.lease (κs .0) (qs .0))
               (List._∷_
@@ -36452,7 +35107,7 @@ module _ (claims· : Claims) where
 
         abbrev G83 : Row.Cx
         G83 = record {
-          locals = List._++_ t55 (List._++_ t58 t52);
+          locals = List._++_ t57 (List._++_ t58 t2);
           slots = List._∷_
               (Row.lease (κs .0) (qs .0))
               (List._∷_
@@ -36484,7 +35139,7 @@ module _ (claims· : Claims) where
 
         abbrev G84 : Row.Cx
         G84 = record {
-          locals = List._++_ t55 (List._++_ t58 t2);
+          locals = List._++_ t57 (List._++_ t58 t2);
           slots = List._∷_
               (Row.lease (κs .0) (qs .0))
               (List._∷_
@@ -36504,7 +35159,7 @@ module _ (claims· : Claims) where
               (List._∷_
               Row.off
               (List._∷_
-              Row.off
+              Row.alive
               (List._∷_
               Row.off
               (List._∷_
@@ -36516,9 +35171,9 @@ module _ (claims· : Claims) where
 
         abbrev G85 : Row.Cx
         G85 = record {
-          locals = List._++_ t55 (List._++_ t59 t2);
+          locals = List._++_ g59 (List._++_ t58 t60);
           slots = List._∷_
-              (Row.lease (κs .0) (qs .0))
+              Row.off
               (List._∷_
               (Row.lease (κs .1 .0) (qs .1 .0))
               (List._∷_
@@ -36536,7 +35191,7 @@ module _ (claims· : Claims) where
               (List._∷_
               Row.off
               (List._∷_
-              Row.off
+              Row.alive
               (List._∷_
               Row.off
               (List._∷_
@@ -36548,9 +35203,9 @@ module _ (claims· : Claims) where
 
         abbrev G86 : Row.Cx
         G86 = record {
-          locals = List._++_ t60 (List._++_ t59 t2);
+          locals = List._++_ g59 (List._++_ t58 t61);
           slots = List._∷_
-              (Row.lease (κs .0) (qs .0))
+              Row.off
               (List._∷_
               (Row.lease (κs .1 .0) (qs .1 .0))
               (List._∷_
@@ -36568,7 +35223,7 @@ module _ (claims· : Claims) where
               (List._∷_
               Row.off
               (List._∷_
-              Row.off
+              Row.alive
               (List._∷_
               Row.off
               (List._∷_
@@ -36580,9 +35235,9 @@ module _ (claims· : Claims) where
 
         abbrev G87 : Row.Cx
         G87 = record {
-          locals = List._++_ t60 (List._++_ t61 t2);
+          locals = List._++_ g59 (List._++_ t58 t61);
           slots = List._∷_
-              (Row.lease (κs .0) (qs .0))
+              Row.off
               (List._∷_
               (Row.lease (κs .1 .0) (qs .1 .0))
               (List._∷_
@@ -36600,9 +35255,9 @@ module _ (claims· : Claims) where
               (List._∷_
               Row.off
               (List._∷_
-              Row.off
+              Row.alive
               (List._∷_
-              Row.off
+              Row.alive
               (List._∷_
               Row.off
               (List._∷_
@@ -36612,11 +35267,11 @@ module _ (claims· : Claims) where
 
         abbrev G88 : Row.Cx
         G88 = record {
-          locals = List._++_ t60 (List._++_ t61 t2);
+          locals = List._++_ g62 (List._++_ t58 t63);
           slots = List._∷_
-              (Row.lease (κs .0) (qs .0))
+              Row.off
               (List._∷_
-              (Row.lease (κs .1 .0) (qs .1 .0))
+              Row.off
               (List._∷_
               (Row.lease (κs .1 .1 .0) (qs .1 .1 .0))
               (List._∷_
@@ -36634,7 +35289,7 @@ module _ (claims· : Claims) where
               (List._∷_
               Row.alive
               (List._∷_
-              Row.off
+              Row.alive
               (List._∷_
               Row.off
               (List._∷_
@@ -36644,11 +35299,11 @@ module _ (claims· : Claims) where
 
         abbrev G89 : Row.Cx
         G89 = record {
-          locals = List._++_ g62 (List._++_ t61 t63);
+          locals = List._++_ g62 (List._++_ t58 t64);
           slots = List._∷_
               Row.off
               (List._∷_
-              (Row.lease (κs .1 .0) (qs .1 .0))
+              Row.off
               (List._∷_
               (Row.lease (κs .1 .1 .0) (qs .1 .1 .0))
               (List._∷_
@@ -36666,7 +35321,7 @@ module _ (claims· : Claims) where
               (List._∷_
               Row.alive
               (List._∷_
-              Row.off
+              Row.alive
               (List._∷_
               Row.off
               (List._∷_
@@ -36676,11 +35331,11 @@ module _ (claims· : Claims) where
 
         abbrev G90 : Row.Cx
         G90 = record {
-          locals = List._++_ g62 (List._++_ t61 t64);
+          locals = List._++_ g62 (List._++_ t58 t64);
           slots = List._∷_
               Row.off
               (List._∷_
-              (Row.lease (κs .1 .0) (qs .1 .0))
+              Row.off
               (List._∷_
               (Row.lease (κs .1 .1 .0) (qs .1 .1 .0))
               (List._∷_
@@ -36698,9 +35353,9 @@ module _ (claims· : Claims) where
               (List._∷_
               Row.alive
               (List._∷_
-              Row.off
+              Row.alive
               (List._∷_
-              Row.off
+              Row.alive
               (List._∷_
               Row.off
               (List._∷_ Row.off (List._∷_ Row.off (List._∷_ Row.off List.[])))))))))))))));
@@ -36708,13 +35363,13 @@ module _ (claims· : Claims) where
 
         abbrev G91 : Row.Cx
         G91 = record {
-          locals = List._++_ g62 (List._++_ t61 t64);
+          locals = List._++_ g65 (List._++_ t58 t66);
           slots = List._∷_
               Row.off
               (List._∷_
-              (Row.lease (κs .1 .0) (qs .1 .0))
+              Row.off
               (List._∷_
-              (Row.lease (κs .1 .1 .0) (qs .1 .1 .0))
+              Row.off
               (List._∷_
               (Row.lease (κs .1 .1 .1 .0) (qs .1 .1 .1 .0))
               (List._∷_
@@ -36732,7 +35387,7 @@ module _ (claims· : Claims) where
               (List._∷_
               Row.alive
               (List._∷_
-              Row.off
+              Row.alive
               (List._∷_
               Row.off
               (List._∷_ Row.off (List._∷_ Row.off (List._∷_ Row.off List.[])))))))))))))));
@@ -36740,13 +35395,13 @@ module _ (claims· : Claims) where
 
         abbrev G92 : Row.Cx
         G92 = record {
-          locals = List._++_ g65 (List._++_ t61 t66);
+          locals = List._++_ g65 (List._++_ t58 t67);
           slots = List._∷_
               Row.off
               (List._∷_
               Row.off
               (List._∷_
-              (Row.lease (κs .1 .1 .0) (qs .1 .1 .0))
+              Row.off
               (List._∷_
               (Row.lease (κs .1 .1 .1 .0) (qs .1 .1 .1 .0))
               (List._∷_
@@ -36764,7 +35419,7 @@ module _ (claims· : Claims) where
               (List._∷_
               Row.alive
               (List._∷_
-              Row.off
+              Row.alive
               (List._∷_
               Row.off
               (List._∷_ Row.off (List._∷_ Row.off (List._∷_ Row.off List.[])))))))))))))));
@@ -36772,13 +35427,13 @@ module _ (claims· : Claims) where
 
         abbrev G93 : Row.Cx
         G93 = record {
-          locals = List._++_ g65 (List._++_ t61 t67);
+          locals = List._++_ g65 (List._++_ t58 t67);
           slots = List._∷_
               Row.off
               (List._∷_
               Row.off
               (List._∷_
-              (Row.lease (κs .1 .1 .0) (qs .1 .1 .0))
+              Row.off
               (List._∷_
               (Row.lease (κs .1 .1 .1 .0) (qs .1 .1 .1 .0))
               (List._∷_
@@ -36796,23 +35451,23 @@ module _ (claims· : Claims) where
               (List._∷_
               Row.alive
               (List._∷_
-              Row.off
+              Row.alive
               (List._∷_
-              Row.off
+              Row.alive
               (List._∷_ Row.off (List._∷_ Row.off (List._∷_ Row.off List.[])))))))))))))));
         }
 
         abbrev G94 : Row.Cx
         G94 = record {
-          locals = List._++_ g65 (List._++_ t61 t67);
+          locals = List._++_ g68 (List._++_ t58 t69);
           slots = List._∷_
               Row.off
               (List._∷_
               Row.off
               (List._∷_
-              (Row.lease (κs .1 .1 .0) (qs .1 .1 .0))
+              Row.off
               (List._∷_
-              (Row.lease (κs .1 .1 .1 .0) (qs .1 .1 .1 .0))
+              Row.off
               (List._∷_
               (Row.lease (κs .1 .1 .1 .1 .0) (qs .1 .1 .1 .1 .0))
               (List._∷_
@@ -36830,13 +35485,13 @@ module _ (claims· : Claims) where
               (List._∷_
               Row.alive
               (List._∷_
-              Row.off
+              Row.alive
               (List._∷_ Row.off (List._∷_ Row.off (List._∷_ Row.off List.[])))))))))))))));
         }
 
         abbrev G95 : Row.Cx
         G95 = record {
-          locals = List._++_ g68 (List._++_ t61 t69);
+          locals = List._++_ g68 (List._++_ t58 t70);
           slots = List._∷_
               Row.off
               (List._∷_
@@ -36844,7 +35499,7 @@ module _ (claims· : Claims) where
               (List._∷_
               Row.off
               (List._∷_
-              (Row.lease (κs .1 .1 .1 .0) (qs .1 .1 .1 .0))
+              Row.off
               (List._∷_
               (Row.lease (κs .1 .1 .1 .1 .0) (qs .1 .1 .1 .1 .0))
               (List._∷_
@@ -36862,13 +35517,13 @@ module _ (claims· : Claims) where
               (List._∷_
               Row.alive
               (List._∷_
-              Row.off
+              Row.alive
               (List._∷_ Row.off (List._∷_ Row.off (List._∷_ Row.off List.[])))))))))))))));
         }
 
         abbrev G96 : Row.Cx
         G96 = record {
-          locals = List._++_ g68 (List._++_ t61 t70);
+          locals = List._++_ g68 (List._++_ t58 t70);
           slots = List._∷_
               Row.off
               (List._∷_
@@ -36876,7 +35531,7 @@ module _ (claims· : Claims) where
               (List._∷_
               Row.off
               (List._∷_
-              (Row.lease (κs .1 .1 .1 .0) (qs .1 .1 .1 .0))
+              Row.off
               (List._∷_
               (Row.lease (κs .1 .1 .1 .1 .0) (qs .1 .1 .1 .1 .0))
               (List._∷_
@@ -36894,13 +35549,13 @@ module _ (claims· : Claims) where
               (List._∷_
               Row.alive
               (List._∷_
-              Row.off
-              (List._∷_ Row.off (List._∷_ Row.off (List._∷_ Row.off List.[])))))))))))))));
+              Row.alive
+              (List._∷_ Row.alive (List._∷_ Row.off (List._∷_ Row.off List.[])))))))))))))));
         }
 
         abbrev G97 : Row.Cx
         G97 = record {
-          locals = List._++_ g68 (List._++_ t61 t70);
+          locals = List._++_ g68 (List._++_ t71 t72);
           slots = List._∷_
               Row.off
               (List._∷_
@@ -36908,7 +35563,7 @@ module _ (claims· : Claims) where
               (List._∷_
               Row.off
               (List._∷_
-              (Row.lease (κs .1 .1 .1 .0) (qs .1 .1 .1 .0))
+              Row.off
               (List._∷_
               (Row.lease (κs .1 .1 .1 .1 .0) (qs .1 .1 .1 .1 .0))
               (List._∷_
@@ -36927,12 +35582,12 @@ module _ (claims· : Claims) where
               Row.alive
               (List._∷_
               Row.alive
-              (List._∷_ Row.off (List._∷_ Row.off (List._∷_ Row.off List.[])))))))))))))));
+              (List._∷_ Row.alive (List._∷_ Row.off (List._∷_ Row.off List.[])))))))))))))));
         }
 
         abbrev G98 : Row.Cx
         G98 = record {
-          locals = List._++_ g71 (List._++_ t61 t72);
+          locals = List._++_ g68 (List._++_ t71 t72);
           slots = List._∷_
               Row.off
               (List._∷_
@@ -36959,12 +35614,12 @@ module _ (claims· : Claims) where
               Row.alive
               (List._∷_
               Row.alive
-              (List._∷_ Row.off (List._∷_ Row.off (List._∷_ Row.off List.[])))))))))))))));
+              (List._∷_ Row.alive (List._∷_ Row.alive (List._∷_ Row.off List.[])))))))))))))));
         }
 
         abbrev G99 : Row.Cx
         G99 = record {
-          locals = List._++_ g71 (List._++_ t61 t73);
+          locals = List._++_ g68 (List._++_ t73 t74);
           slots = List._∷_
               Row.off
               (List._∷_
@@ -36991,12 +35646,12 @@ module _ (claims· : Claims) where
               Row.alive
               (List._∷_
               Row.alive
-              (List._∷_ Row.off (List._∷_ Row.off (List._∷_ Row.off List.[])))))))))))))));
+              (List._∷_ Row.alive (List._∷_ Row.alive (List._∷_ Row.off List.[])))))))))))))));
         }
 
         abbrev G100 : Row.Cx
         G100 = record {
-          locals = List._++_ g71 (List._++_ t61 t73);
+          locals = List._++_ g68 (List._++_ t73 t74);
           slots = List._∷_
               Row.off
               (List._∷_
@@ -37023,12 +35678,12 @@ module _ (claims· : Claims) where
               Row.alive
               (List._∷_
               Row.alive
-              (List._∷_ Row.alive (List._∷_ Row.off (List._∷_ Row.off List.[])))))))))))))));
+              (List._∷_ Row.alive (List._∷_ Row.alive (List._∷_ Row.alive List.[])))))))))))))));
         }
 
         abbrev G101 : Row.Cx
         G101 = record {
-          locals = List._++_ g71 (List._++_ t74 t75);
+          locals = List._++_ g68 (List._++_ t75 t76);
           slots = List._∷_
               Row.off
               (List._∷_
@@ -37055,12 +35710,12 @@ module _ (claims· : Claims) where
               Row.alive
               (List._∷_
               Row.alive
-              (List._∷_ Row.alive (List._∷_ Row.off (List._∷_ Row.off List.[])))))))))))))));
+              (List._∷_ Row.alive (List._∷_ Row.alive (List._∷_ Row.alive List.[])))))))))))))));
         }
 
         abbrev G102 : Row.Cx
         G102 = record {
-          locals = List._++_ g71 (List._++_ t74 t75);
+          locals = List._++_ g77 (List._++_ t75 t78);
           slots = List._∷_
               Row.off
               (List._∷_
@@ -37087,12 +35742,12 @@ module _ (claims· : Claims) where
               Row.alive
               (List._∷_
               Row.alive
-              (List._∷_ Row.alive (List._∷_ Row.alive (List._∷_ Row.off List.[])))))))))))))));
+              (List._∷_ Row.alive (List._∷_ Row.alive (List._∷_ Row.alive List.[])))))))))))))));
         }
 
         abbrev G103 : Row.Cx
         G103 = record {
-          locals = List._++_ g71 (List._++_ t76 t77);
+          locals = List._++_ g77 (List._++_ t75 t79);
           slots = List._∷_
               Row.off
               (List._∷_
@@ -37119,12 +35774,12 @@ module _ (claims· : Claims) where
               Row.alive
               (List._∷_
               Row.alive
-              (List._∷_ Row.alive (List._∷_ Row.alive (List._∷_ Row.off List.[])))))))))))))));
+              (List._∷_ Row.alive (List._∷_ Row.alive (List._∷_ Row.alive List.[])))))))))))))));
         }
 
         abbrev G104 : Row.Cx
         G104 = record {
-          locals = List._++_ g71 (List._++_ t76 t77);
+          locals = List._++_ g77 (List._++_ t75 t80);
           slots = List._∷_
               Row.off
               (List._∷_
@@ -37156,7 +35811,7 @@ module _ (claims· : Claims) where
 
         abbrev G105 : Row.Cx
         G105 = record {
-          locals = List._++_ g71 (List._++_ t78 t79);
+          locals = List._++_ g77 (List._++_ t75 t81);
           slots = List._∷_
               Row.off
               (List._∷_
@@ -37188,7 +35843,7 @@ module _ (claims· : Claims) where
 
         abbrev G106 : Row.Cx
         G106 = record {
-          locals = List._++_ g80 (List._++_ t78 t81);
+          locals = List._++_ g82 (List._++_ t75 t81);
           slots = List._∷_
               Row.off
               (List._∷_
@@ -37220,7 +35875,7 @@ module _ (claims· : Claims) where
 
         abbrev G107 : Row.Cx
         G107 = record {
-          locals = List._++_ g80 (List._++_ t78 t82);
+          locals = List._++_ g83 (List._++_ t75 t81);
           slots = List._∷_
               Row.off
               (List._∷_
@@ -37252,7 +35907,7 @@ module _ (claims· : Claims) where
 
         abbrev G108 : Row.Cx
         G108 = record {
-          locals = List._++_ g80 (List._++_ t78 t83);
+          locals = List._++_ g83 (List._++_ t84 t81);
           slots = List._∷_
               Row.off
               (List._∷_
@@ -37284,7 +35939,7 @@ module _ (claims· : Claims) where
 
         abbrev G109 : Row.Cx
         G109 = record {
-          locals = List._++_ g80 (List._++_ t78 t84);
+          locals = List._++_ g83 (List._++_ t84 t81);
           slots = List._∷_
               Row.off
               (List._∷_
@@ -37304,7 +35959,7 @@ module _ (claims· : Claims) where
               (List._∷_
               Row.off
               (List._∷_
-              Row.alive
+              Row.dead
               (List._∷_
               Row.alive
               (List._∷_
@@ -37316,9 +35971,9 @@ module _ (claims· : Claims) where
 
         abbrev G110 : Row.Cx
         G110 = record {
-          locals = List._++_ g85 (List._++_ t78 t84);
+          locals = List._++_ g85 (List._++_ t84 t86);
           slots = List._∷_
-              Row.off
+              (Row.lease (κs .0) (qs .0))
               (List._∷_
               Row.off
               (List._∷_
@@ -37336,7 +35991,7 @@ module _ (claims· : Claims) where
               (List._∷_
               Row.off
               (List._∷_
-              Row.alive
+              Row.dead
               (List._∷_
               Row.alive
               (List._∷_
@@ -37348,9 +36003,9 @@ module _ (claims· : Claims) where
 
         abbrev G111 : Row.Cx
         G111 = record {
-          locals = List._++_ g86 (List._++_ t78 t84);
+          locals = List._++_ g85 (List._++_ t84 t86);
           slots = List._∷_
-              Row.off
+              (Row.lease (κs .0) (qs .0))
               (List._∷_
               Row.off
               (List._∷_
@@ -37368,7 +36023,7 @@ module _ (claims· : Claims) where
               (List._∷_
               Row.off
               (List._∷_
-              Row.alive
+              Row.off
               (List._∷_
               Row.alive
               (List._∷_
@@ -37380,9 +36035,9 @@ module _ (claims· : Claims) where
 
         abbrev G112 : Row.Cx
         G112 = record {
-          locals = List._++_ g86 (List._++_ t87 t84);
+          locals = List._++_ g85 (List._++_ t84 t86);
           slots = List._∷_
-              Row.off
+              (Row.lease (κs .0) (qs .0))
               (List._∷_
               Row.off
               (List._∷_
@@ -37400,9 +36055,9 @@ module _ (claims· : Claims) where
               (List._∷_
               Row.off
               (List._∷_
-              Row.alive
+              Row.off
               (List._∷_
-              Row.alive
+              Row.dead
               (List._∷_
               Row.alive
               (List._∷_
@@ -37412,11 +36067,11 @@ module _ (claims· : Claims) where
 
         abbrev G113 : Row.Cx
         G113 = record {
-          locals = List._++_ g86 (List._++_ t88 t84);
+          locals = List._++_ g87 (List._++_ t84 t88);
           slots = List._∷_
-              Row.off
+              (Row.lease (κs .0) (qs .0))
               (List._∷_
-              Row.off
+              (Row.lease (κs .1 .0) (qs .1 .0))
               (List._∷_
               Row.off
               (List._∷_
@@ -37432,9 +36087,9 @@ module _ (claims· : Claims) where
               (List._∷_
               Row.off
               (List._∷_
-              Row.alive
+              Row.off
               (List._∷_
-              Row.alive
+              Row.dead
               (List._∷_
               Row.alive
               (List._∷_
@@ -37444,11 +36099,11 @@ module _ (claims· : Claims) where
 
         abbrev G114 : Row.Cx
         G114 = record {
-          locals = List._++_ g86 (List._++_ t88 t84);
+          locals = List._++_ g87 (List._++_ t84 t88);
           slots = List._∷_
-              Row.off
+              (Row.lease (κs .0) (qs .0))
               (List._∷_
-              Row.off
+              (Row.lease (κs .1 .0) (qs .1 .0))
               (List._∷_
               Row.off
               (List._∷_
@@ -37464,9 +36119,9 @@ module _ (claims· : Claims) where
               (List._∷_
               Row.off
               (List._∷_
-              Row.dead
+              Row.off
               (List._∷_
-              Row.alive
+              Row.off
               (List._∷_
               Row.alive
               (List._∷_
@@ -37476,11 +36131,11 @@ module _ (claims· : Claims) where
 
         abbrev G115 : Row.Cx
         G115 = record {
-          locals = List._++_ g89 (List._++_ t88 t90);
+          locals = List._++_ g87 (List._++_ t84 t88);
           slots = List._∷_
               (Row.lease (κs .0) (qs .0))
               (List._∷_
-              Row.off
+              (Row.lease (κs .1 .0) (qs .1 .0))
               (List._∷_
               Row.off
               (List._∷_
@@ -37496,11 +36151,11 @@ module _ (claims· : Claims) where
               (List._∷_
               Row.off
               (List._∷_
+              Row.off
+              (List._∷_
+              Row.off
+              (List._∷_
               Row.dead
-              (List._∷_
-              Row.alive
-              (List._∷_
-              Row.alive
               (List._∷_
               Row.alive
               (List._∷_ Row.alive (List._∷_ Row.alive (List._∷_ Row.alive List.[])))))))))))))));
@@ -37508,13 +36163,13 @@ module _ (claims· : Claims) where
 
         abbrev G116 : Row.Cx
         G116 = record {
-          locals = List._++_ g89 (List._++_ t88 t90);
+          locals = List._++_ g89 (List._++_ t84 t90);
           slots = List._∷_
               (Row.lease (κs .0) (qs .0))
               (List._∷_
-              Row.off
+              (Row.lease (κs .1 .0) (qs .1 .0))
               (List._∷_
-              Row.off
+              (Row.lease (κs .1 .1 .0) (qs .1 .1 .0))
               (List._∷_
               Row.off
               (List._∷_
@@ -37530,9 +36185,9 @@ module _ (claims· : Claims) where
               (List._∷_
               Row.off
               (List._∷_
-              Row.alive
+              Row.off
               (List._∷_
-              Row.alive
+              Row.dead
               (List._∷_
               Row.alive
               (List._∷_ Row.alive (List._∷_ Row.alive (List._∷_ Row.alive List.[])))))))))))))));
@@ -37540,13 +36195,13 @@ module _ (claims· : Claims) where
 
         abbrev G117 : Row.Cx
         G117 = record {
-          locals = List._++_ g89 (List._++_ t88 t90);
+          locals = List._++_ g89 (List._++_ t84 t90);
           slots = List._∷_
               (Row.lease (κs .0) (qs .0))
               (List._∷_
-              Row.off
+              (Row.lease (κs .1 .0) (qs .1 .0))
               (List._∷_
-              Row.off
+              (Row.lease (κs .1 .1 .0) (qs .1 .1 .0))
               (List._∷_
               Row.off
               (List._∷_
@@ -37562,9 +36217,9 @@ module _ (claims· : Claims) where
               (List._∷_
               Row.off
               (List._∷_
-              Row.dead
+              Row.off
               (List._∷_
-              Row.alive
+              Row.dead
               (List._∷_
               Row.alive
               (List._∷_ Row.alive (List._∷_ Row.alive (List._∷_ Row.alive List.[])))))))))))))));
@@ -37572,13 +36227,13 @@ module _ (claims· : Claims) where
 
         abbrev G118 : Row.Cx
         G118 = record {
-          locals = List._++_ g91 (List._++_ t88 t92);
+          locals = List._++_ g89 (List._++_ t84 t90);
           slots = List._∷_
               (Row.lease (κs .0) (qs .0))
               (List._∷_
               (Row.lease (κs .1 .0) (qs .1 .0))
               (List._∷_
-              Row.off
+              (Row.lease (κs .1 .1 .0) (qs .1 .1 .0))
               (List._∷_
               Row.off
               (List._∷_
@@ -37594,9 +36249,9 @@ module _ (claims· : Claims) where
               (List._∷_
               Row.off
               (List._∷_
-              Row.dead
+              Row.off
               (List._∷_
-              Row.alive
+              Row.off
               (List._∷_
               Row.alive
               (List._∷_ Row.alive (List._∷_ Row.alive (List._∷_ Row.alive List.[])))))))))))))));
@@ -37604,13 +36259,13 @@ module _ (claims· : Claims) where
 
         abbrev G119 : Row.Cx
         G119 = record {
-          locals = List._++_ g91 (List._++_ t88 t92);
+          locals = List._++_ g89 (List._++_ t84 t90);
           slots = List._∷_
               (Row.lease (κs .0) (qs .0))
               (List._∷_
               (Row.lease (κs .1 .0) (qs .1 .0))
               (List._∷_
-              Row.off
+              (Row.lease (κs .1 .1 .0) (qs .1 .1 .0))
               (List._∷_
               Row.off
               (List._∷_
@@ -37628,23 +36283,23 @@ module _ (claims· : Claims) where
               (List._∷_
               Row.off
               (List._∷_
-              Row.alive
+              Row.off
               (List._∷_
-              Row.alive
+              Row.dead
               (List._∷_ Row.alive (List._∷_ Row.alive (List._∷_ Row.alive List.[])))))))))))))));
         }
 
         abbrev G120 : Row.Cx
         G120 = record {
-          locals = List._++_ g91 (List._++_ t88 t92);
+          locals = List._++_ t91 (List._++_ t84 t2);
           slots = List._∷_
               (Row.lease (κs .0) (qs .0))
               (List._∷_
               (Row.lease (κs .1 .0) (qs .1 .0))
               (List._∷_
-              Row.off
+              (Row.lease (κs .1 .1 .0) (qs .1 .1 .0))
               (List._∷_
-              Row.off
+              (Row.lease (κs .1 .1 .1 .0) (qs .1 .1 .1 .0))
               (List._∷_
               (Row.lease (κs .1 .1 .1 .1 .0) (qs .1 .1 .1 .1 .0))
               (List._∷_
@@ -37660,15 +36315,15 @@ module _ (claims· : Claims) where
               (List._∷_
               Row.off
               (List._∷_
-              Row.dead
+              Row.off
               (List._∷_
-              Row.alive
+              Row.dead
               (List._∷_ Row.alive (List._∷_ Row.alive (List._∷_ Row.alive List.[])))))))))))))));
         }
 
         abbrev G121 : Row.Cx
         G121 = record {
-          locals = List._++_ g93 (List._++_ t88 t94);
+          locals = List._++_ t91 (List._++_ t84 t2);
           slots = List._∷_
               (Row.lease (κs .0) (qs .0))
               (List._∷_
@@ -37676,7 +36331,7 @@ module _ (claims· : Claims) where
               (List._∷_
               (Row.lease (κs .1 .1 .0) (qs .1 .1 .0))
               (List._∷_
-              Row.off
+              (Row.lease (κs .1 .1 .1 .0) (qs .1 .1 .1 .0))
               (List._∷_
               (Row.lease (κs .1 .1 .1 .1 .0) (qs .1 .1 .1 .1 .0))
               (List._∷_
@@ -37692,15 +36347,15 @@ module _ (claims· : Claims) where
               (List._∷_
               Row.off
               (List._∷_
-              Row.dead
+              Row.off
               (List._∷_
-              Row.alive
+              Row.dead
               (List._∷_ Row.alive (List._∷_ Row.alive (List._∷_ Row.alive List.[])))))))))))))));
         }
 
         abbrev G122 : Row.Cx
         G122 = record {
-          locals = List._++_ g93 (List._++_ t88 t94);
+          locals = List._++_ t91 (List._++_ t84 t2);
           slots = List._∷_
               (Row.lease (κs .0) (qs .0))
               (List._∷_
@@ -37708,7 +36363,7 @@ module _ (claims· : Claims) where
               (List._∷_
               (Row.lease (κs .1 .1 .0) (qs .1 .1 .0))
               (List._∷_
-              Row.off
+              (Row.lease (κs .1 .1 .1 .0) (qs .1 .1 .1 .0))
               (List._∷_
               (Row.lease (κs .1 .1 .1 .1 .0) (qs .1 .1 .1 .1 .0))
               (List._∷_
@@ -37724,15 +36379,15 @@ module _ (claims· : Claims) where
               (List._∷_
               Row.off
               (List._∷_
-              Row.dead
+              Row.off
               (List._∷_
-              Row.alive
+              Row.off
               (List._∷_ Row.alive (List._∷_ Row.alive (List._∷_ Row.alive List.[])))))))))))))));
         }
 
         abbrev G123 : Row.Cx
         G123 = record {
-          locals = List._++_ g93 (List._++_ t88 t94);
+          locals = List._++_ t91 (List._++_ t84 t2);
           slots = List._∷_
               (Row.lease (κs .0) (qs .0))
               (List._∷_
@@ -37740,7 +36395,7 @@ module _ (claims· : Claims) where
               (List._∷_
               (Row.lease (κs .1 .1 .0) (qs .1 .1 .0))
               (List._∷_
-              Row.off
+              (Row.lease (κs .1 .1 .1 .0) (qs .1 .1 .1 .0))
               (List._∷_
               (Row.lease (κs .1 .1 .1 .1 .0) (qs .1 .1 .1 .1 .0))
               (List._∷_
@@ -37758,13 +36413,13 @@ module _ (claims· : Claims) where
               (List._∷_
               Row.off
               (List._∷_
-              Row.alive
-              (List._∷_ Row.alive (List._∷_ Row.alive (List._∷_ Row.alive List.[])))))))))))))));
+              Row.off
+              (List._∷_ Row.dead (List._∷_ Row.alive (List._∷_ Row.alive List.[])))))))))))))));
         }
 
         abbrev G124 : Row.Cx
         G124 = record {
-          locals = List._++_ g93 (List._++_ t88 t94);
+          locals = List._++_ t91 (List._++_ t92 t2);
           slots = List._∷_
               (Row.lease (κs .0) (qs .0))
               (List._∷_
@@ -37772,7 +36427,7 @@ module _ (claims· : Claims) where
               (List._∷_
               (Row.lease (κs .1 .1 .0) (qs .1 .1 .0))
               (List._∷_
-              Row.off
+              (Row.lease (κs .1 .1 .1 .0) (qs .1 .1 .1 .0))
               (List._∷_
               (Row.lease (κs .1 .1 .1 .1 .0) (qs .1 .1 .1 .1 .0))
               (List._∷_
@@ -37790,13 +36445,13 @@ module _ (claims· : Claims) where
               (List._∷_
               Row.off
               (List._∷_
-              Row.dead
-              (List._∷_ Row.alive (List._∷_ Row.alive (List._∷_ Row.alive List.[])))))))))))))));
+              Row.off
+              (List._∷_ Row.dead (List._∷_ Row.alive (List._∷_ Row.alive List.[])))))))))))))));
         }
 
         abbrev G125 : Row.Cx
         G125 = record {
-          locals = List._++_ t95 (List._++_ t88 t2);
+          locals = List._++_ t91 (List._++_ t92 t2);
           slots = List._∷_
               (Row.lease (κs .0) (qs .0))
               (List._∷_
@@ -37822,13 +36477,13 @@ module _ (claims· : Claims) where
               (List._∷_
               Row.off
               (List._∷_
-              Row.dead
-              (List._∷_ Row.alive (List._∷_ Row.alive (List._∷_ Row.alive List.[])))))))))))))));
+              Row.off
+              (List._∷_ Row.off (List._∷_ Row.alive (List._∷_ Row.alive List.[])))))))))))))));
         }
 
         abbrev G126 : Row.Cx
         G126 = record {
-          locals = List._++_ t95 (List._++_ t88 t2);
+          locals = List._++_ t91 (List._++_ t93 t2);
           slots = List._∷_
               (Row.lease (κs .0) (qs .0))
               (List._∷_
@@ -37854,13 +36509,13 @@ module _ (claims· : Claims) where
               (List._∷_
               Row.off
               (List._∷_
-              Row.dead
-              (List._∷_ Row.alive (List._∷_ Row.alive (List._∷_ Row.alive List.[])))))))))))))));
+              Row.off
+              (List._∷_ Row.off (List._∷_ Row.alive (List._∷_ Row.alive List.[])))))))))))))));
         }
 
         abbrev G127 : Row.Cx
         G127 = record {
-          locals = List._++_ t95 (List._++_ t88 t2);
+          locals = List._++_ t91 (List._++_ t93 t2);
           slots = List._∷_
               (Row.lease (κs .0) (qs .0))
               (List._∷_
@@ -37887,12 +36542,12 @@ module _ (claims· : Claims) where
               Row.off
               (List._∷_
               Row.off
-              (List._∷_ Row.alive (List._∷_ Row.alive (List._∷_ Row.alive List.[])))))))))))))));
+              (List._∷_ Row.off (List._∷_ Row.dead (List._∷_ Row.alive List.[])))))))))))))));
         }
 
         abbrev G128 : Row.Cx
         G128 = record {
-          locals = List._++_ t95 (List._++_ t88 t2);
+          locals = List._++_ t91 (List._++_ t94 t2);
           slots = List._∷_
               (Row.lease (κs .0) (qs .0))
               (List._∷_
@@ -37919,12 +36574,12 @@ module _ (claims· : Claims) where
               Row.off
               (List._∷_
               Row.off
-              (List._∷_ Row.dead (List._∷_ Row.alive (List._∷_ Row.alive List.[])))))))))))))));
+              (List._∷_ Row.off (List._∷_ Row.dead (List._∷_ Row.alive List.[])))))))))))))));
         }
 
         abbrev G129 : Row.Cx
         G129 = record {
-          locals = List._++_ t95 (List._++_ t96 t2);
+          locals = List._++_ t91 (List._++_ t94 t2);
           slots = List._∷_
               (Row.lease (κs .0) (qs .0))
               (List._∷_
@@ -37951,12 +36606,12 @@ module _ (claims· : Claims) where
               Row.off
               (List._∷_
               Row.off
-              (List._∷_ Row.dead (List._∷_ Row.alive (List._∷_ Row.alive List.[])))))))))))))));
+              (List._∷_ Row.off (List._∷_ Row.off (List._∷_ Row.alive List.[])))))))))))))));
         }
 
         abbrev G130 : Row.Cx
         G130 = record {
-          locals = List._++_ t95 (List._++_ t96 t2);
+          locals = List._++_ t91 (List._++_ t95 t2);
           slots = List._∷_
               (Row.lease (κs .0) (qs .0))
               (List._∷_
@@ -37983,12 +36638,12 @@ module _ (claims· : Claims) where
               Row.off
               (List._∷_
               Row.off
-              (List._∷_ Row.off (List._∷_ Row.alive (List._∷_ Row.alive List.[])))))))))))))));
+              (List._∷_ Row.off (List._∷_ Row.off (List._∷_ Row.alive List.[])))))))))))))));
         }
 
         abbrev G131 : Row.Cx
         G131 = record {
-          locals = List._++_ t95 (List._++_ t97 t2);
+          locals = List._++_ t91 (List._++_ t95 t2);
           slots = List._∷_
               (Row.lease (κs .0) (qs .0))
               (List._∷_
@@ -38015,12 +36670,12 @@ module _ (claims· : Claims) where
               Row.off
               (List._∷_
               Row.off
-              (List._∷_ Row.off (List._∷_ Row.alive (List._∷_ Row.alive List.[])))))))))))))));
+              (List._∷_ Row.off (List._∷_ Row.off (List._∷_ Row.dead List.[])))))))))))))));
         }
 
         abbrev G132 : Row.Cx
         G132 = record {
-          locals = List._++_ t95 (List._++_ t97 t2);
+          locals = List._++_ t91 (List._++_ t96 t2);
           slots = List._∷_
               (Row.lease (κs .0) (qs .0))
               (List._∷_
@@ -38047,12 +36702,12 @@ module _ (claims· : Claims) where
               Row.off
               (List._∷_
               Row.off
-              (List._∷_ Row.off (List._∷_ Row.dead (List._∷_ Row.alive List.[])))))))))))))));
+              (List._∷_ Row.off (List._∷_ Row.off (List._∷_ Row.dead List.[])))))))))))))));
         }
 
         abbrev G133 : Row.Cx
         G133 = record {
-          locals = List._++_ t95 (List._++_ t98 t2);
+          locals = List._++_ t91 (List._++_ t96 t2);
           slots = List._∷_
               (Row.lease (κs .0) (qs .0))
               (List._∷_
@@ -38079,12 +36734,12 @@ module _ (claims· : Claims) where
               Row.off
               (List._∷_
               Row.off
-              (List._∷_ Row.off (List._∷_ Row.dead (List._∷_ Row.alive List.[])))))))))))))));
+              (List._∷_ Row.off (List._∷_ Row.off (List._∷_ Row.off List.[])))))))))))))));
         }
 
         abbrev G134 : Row.Cx
         G134 = record {
-          locals = List._++_ t95 (List._++_ t98 t2);
+          locals = List._++_ t91 (List._++_ t1 t2);
           slots = List._∷_
               (Row.lease (κs .0) (qs .0))
               (List._∷_
@@ -38111,12 +36766,12 @@ module _ (claims· : Claims) where
               Row.off
               (List._∷_
               Row.off
-              (List._∷_ Row.off (List._∷_ Row.off (List._∷_ Row.alive List.[])))))))))))))));
+              (List._∷_ Row.off (List._∷_ Row.off (List._∷_ Row.off List.[])))))))))))))));
         }
 
         abbrev G135 : Row.Cx
         G135 = record {
-          locals = List._++_ t95 (List._++_ t99 t2);
+          locals = List._++_ t97 (List._++_ t1 t2);
           slots = List._∷_
               (Row.lease (κs .0) (qs .0))
               (List._∷_
@@ -38143,12 +36798,12 @@ module _ (claims· : Claims) where
               Row.off
               (List._∷_
               Row.off
-              (List._∷_ Row.off (List._∷_ Row.off (List._∷_ Row.alive List.[])))))))))))))));
+              (List._∷_ Row.off (List._∷_ Row.off (List._∷_ Row.off List.[])))))))))))))));
         }
 
         abbrev G136 : Row.Cx
         G136 = record {
-          locals = List._++_ t95 (List._++_ t99 t2);
+          locals = List._++_ t98 (List._++_ t1 t2);
           slots = List._∷_
               (Row.lease (κs .0) (qs .0))
               (List._∷_
@@ -38175,171 +36830,11 @@ module _ (claims· : Claims) where
               Row.off
               (List._∷_
               Row.off
-              (List._∷_ Row.off (List._∷_ Row.off (List._∷_ Row.dead List.[])))))))))))))));
+              (List._∷_ Row.off (List._∷_ Row.off (List._∷_ Row.off List.[])))))))))))))));
         }
 
         abbrev G137 : Row.Cx
         G137 = record {
-          locals = List._++_ t95 (List._++_ t100 t2);
-          slots = List._∷_
-              (Row.lease (κs .0) (qs .0))
-              (List._∷_
-              (Row.lease (κs .1 .0) (qs .1 .0))
-              (List._∷_
-              (Row.lease (κs .1 .1 .0) (qs .1 .1 .0))
-              (List._∷_
-              (Row.lease (κs .1 .1 .1 .0) (qs .1 .1 .1 .0))
-              (List._∷_
-              (Row.lease (κs .1 .1 .1 .1 .0) (qs .1 .1 .1 .1 .0))
-              (List._∷_
-              (Row.lease (κs .1 .1 .1 .1 .1 .0) (qs .1 .1 .1 .1 .1 .0))
-              (List._∷_
-              Row.off
-              (List._∷_
-              Row.off
-              (List._∷_
-              Row.off
-              (List._∷_
-              Row.off
-              (List._∷_
-              Row.off
-              (List._∷_
-              Row.off
-              (List._∷_
-              Row.off
-              (List._∷_ Row.off (List._∷_ Row.off (List._∷_ Row.dead List.[])))))))))))))));
-        }
-
-        abbrev G138 : Row.Cx
-        G138 = record {
-          locals = List._++_ t95 (List._++_ t100 t2);
-          slots = List._∷_
-              (Row.lease (κs .0) (qs .0))
-              (List._∷_
-              (Row.lease (κs .1 .0) (qs .1 .0))
-              (List._∷_
-              (Row.lease (κs .1 .1 .0) (qs .1 .1 .0))
-              (List._∷_
-              (Row.lease (κs .1 .1 .1 .0) (qs .1 .1 .1 .0))
-              (List._∷_
-              (Row.lease (κs .1 .1 .1 .1 .0) (qs .1 .1 .1 .1 .0))
-              (List._∷_
-              (Row.lease (κs .1 .1 .1 .1 .1 .0) (qs .1 .1 .1 .1 .1 .0))
-              (List._∷_
-              Row.off
-              (List._∷_
-              Row.off
-              (List._∷_
-              Row.off
-              (List._∷_
-              Row.off
-              (List._∷_
-              Row.off
-              (List._∷_
-              Row.off
-              (List._∷_
-              Row.off
-              (List._∷_ Row.off (List._∷_ Row.off (List._∷_ Row.off List.[])))))))))))))));
-        }
-
-        abbrev G139 : Row.Cx
-        G139 = record {
-          locals = List._++_ t95 (List._++_ t1 t2);
-          slots = List._∷_
-              (Row.lease (κs .0) (qs .0))
-              (List._∷_
-              (Row.lease (κs .1 .0) (qs .1 .0))
-              (List._∷_
-              (Row.lease (κs .1 .1 .0) (qs .1 .1 .0))
-              (List._∷_
-              (Row.lease (κs .1 .1 .1 .0) (qs .1 .1 .1 .0))
-              (List._∷_
-              (Row.lease (κs .1 .1 .1 .1 .0) (qs .1 .1 .1 .1 .0))
-              (List._∷_
-              (Row.lease (κs .1 .1 .1 .1 .1 .0) (qs .1 .1 .1 .1 .1 .0))
-              (List._∷_
-              Row.off
-              (List._∷_
-              Row.off
-              (List._∷_
-              Row.off
-              (List._∷_
-              Row.off
-              (List._∷_
-              Row.off
-              (List._∷_
-              Row.off
-              (List._∷_
-              Row.off
-              (List._∷_ Row.off (List._∷_ Row.off (List._∷_ Row.off List.[])))))))))))))));
-        }
-
-        abbrev G140 : Row.Cx
-        G140 = record {
-          locals = List._++_ t101 (List._++_ t1 t2);
-          slots = List._∷_
-              (Row.lease (κs .0) (qs .0))
-              (List._∷_
-              (Row.lease (κs .1 .0) (qs .1 .0))
-              (List._∷_
-              (Row.lease (κs .1 .1 .0) (qs .1 .1 .0))
-              (List._∷_
-              (Row.lease (κs .1 .1 .1 .0) (qs .1 .1 .1 .0))
-              (List._∷_
-              (Row.lease (κs .1 .1 .1 .1 .0) (qs .1 .1 .1 .1 .0))
-              (List._∷_
-              (Row.lease (κs .1 .1 .1 .1 .1 .0) (qs .1 .1 .1 .1 .1 .0))
-              (List._∷_
-              Row.off
-              (List._∷_
-              Row.off
-              (List._∷_
-              Row.off
-              (List._∷_
-              Row.off
-              (List._∷_
-              Row.off
-              (List._∷_
-              Row.off
-              (List._∷_
-              Row.off
-              (List._∷_ Row.off (List._∷_ Row.off (List._∷_ Row.off List.[])))))))))))))));
-        }
-
-        abbrev G141 : Row.Cx
-        G141 = record {
-          locals = List._++_ t102 (List._++_ t1 t2);
-          slots = List._∷_
-              (Row.lease (κs .0) (qs .0))
-              (List._∷_
-              (Row.lease (κs .1 .0) (qs .1 .0))
-              (List._∷_
-              (Row.lease (κs .1 .1 .0) (qs .1 .1 .0))
-              (List._∷_
-              (Row.lease (κs .1 .1 .1 .0) (qs .1 .1 .1 .0))
-              (List._∷_
-              (Row.lease (κs .1 .1 .1 .1 .0) (qs .1 .1 .1 .1 .0))
-              (List._∷_
-              (Row.lease (κs .1 .1 .1 .1 .1 .0) (qs .1 .1 .1 .1 .1 .0))
-              (List._∷_
-              Row.off
-              (List._∷_
-              Row.off
-              (List._∷_
-              Row.off
-              (List._∷_
-              Row.off
-              (List._∷_
-              Row.off
-              (List._∷_
-              Row.off
-              (List._∷_
-              Row.off
-              (List._∷_ Row.off (List._∷_ Row.off (List._∷_ Row.off List.[])))))))))))))));
-        }
-
-        abbrev G142 : Row.Cx
-        G142 = record {
           locals = List._++_ t3 (List._++_ t1 t2);
           slots = List._∷_
               (Row.lease (κs .0) (qs .0))
@@ -38374,7 +36869,7 @@ module _ (claims· : Claims) where
         Δ0 = record { next = Option.none; exits = List.[]; returns = Option.some G1 }
 
         abbrev Δ1 : Typed.Outs
-        Δ1 = Typed.withNext (Option.some G51) Δ0
+        Δ1 = Typed.withNext (Option.some G48) Δ0
 
         module _ {M : Type 1} (𝓤 : URA.URA M) (H : Wp.Heap 𝓤) (A : Atoms.Atoms 𝓤)
             (W : Kit.Given 𝓤 H A) (𝓣 : Wp.Tables 𝓤 H) (known : Knowns 𝓤 H A W 𝓣)
@@ -38382,10 +36877,10 @@ module _ (claims· : Claims) where
           abbrev E : Wp.Env 𝓤 H
           E = Frame.EnvOf 𝓤 H (List._∷_ (Kinds.tyR r) (Enter.tysP ps xs)) bs
 
-          d0 : Typed.Typed 𝓤 H A 𝓣 E G65 b24 Δ1 at0
+          d0 : Typed.Typed 𝓤 H A 𝓣 E G61 b22 Δ1 at0
           d0 = Typed.t-return 𝓤 H A W 𝓣 E Δ1 tt
 
-          d1 : Typed.Typed 𝓤 H A 𝓣 E G64 b24 Δ1 at1
+          d1 : Typed.Typed 𝓤 H A 𝓣 E G60 b22 Δ1 at1
           d1 =
               Typed.g-pre
               𝓤
@@ -38394,16 +36889,25 @@ module _ (claims· : Claims) where
               W
               𝓣
               E
-              G64
-              G65
-              b24
+              G60
+              G61
+              b22
               Δ1
-              (Typed.pass T64 T65 s62)
+              (Typed.pass T60 T61 s58)
               at0
-              (Scalar.g-room 𝓤 H A W E G64 17 Syntax.tyBool (Scalar.room-sc 𝓤 H A W Row.sBool))
+              (Scalar.g-room
+              𝓤
+              H
+              A
+              W
+              E
+              G60
+              12
+              (Syntax.tyInt Syntax.w8)
+              (Scalar.room-sc 𝓤 H A W (Row.sInt Syntax.w8)))
               d0
 
-          d2 : Typed.Typed 𝓤 H A 𝓣 E G63 b24 Δ1 at2
+          d2 : Typed.Typed 𝓤 H A 𝓣 E G59 b22 Δ1 at2
           d2 =
               Typed.g-pre
               𝓤
@@ -38412,11 +36916,11 @@ module _ (claims· : Claims) where
               W
               𝓣
               E
-              G63
-              G64
-              b24
+              G59
+              G60
+              b22
               Δ1
-              (Typed.pass T63 T64 s61)
+              (Typed.pass T59 T60 s57)
               at1
               (Scalar.g-room
               𝓤
@@ -38424,13 +36928,13 @@ module _ (claims· : Claims) where
               A
               W
               E
-              G63
-              12
-              (Syntax.tyInt Syntax.w8)
-              (Scalar.room-sc 𝓤 H A W (Row.sInt Syntax.w8)))
+              G59
+              8
+              (Syntax.tyInt Syntax.w64)
+              (Scalar.room-sc 𝓤 H A W (Row.sInt Syntax.w64)))
               d1
 
-          d3 : Typed.Typed 𝓤 H A 𝓣 E G62 b24 Δ1 at3
+          d3 : Typed.Typed 𝓤 H A 𝓣 E G58 b22 Δ1 at3
           d3 =
               Typed.g-pre
               𝓤
@@ -38439,11 +36943,11 @@ module _ (claims· : Claims) where
               W
               𝓣
               E
-              G62
-              G63
-              b24
+              G58
+              G59
+              b22
               Δ1
-              (Typed.pass T62 T63 s60)
+              (Typed.pass T58 T59 s56)
               at2
               (Scalar.g-room
               𝓤
@@ -38451,13 +36955,13 @@ module _ (claims· : Claims) where
               A
               W
               E
-              G62
-              8
-              (Syntax.tyInt Syntax.w64)
-              (Scalar.room-sc 𝓤 H A W (Row.sInt Syntax.w64)))
+              G58
+              7
+              (Syntax.tyInt Syntax.w8)
+              (Scalar.room-sc 𝓤 H A W (Row.sInt Syntax.w8)))
               d2
 
-          d4 : Typed.Typed 𝓤 H A 𝓣 E G61 b24 Δ1 at4
+          d4 : Typed.Typed 𝓤 H A 𝓣 E G57 b22 Δ1 at4
           d4 =
               Typed.g-pre
               𝓤
@@ -38466,11 +36970,11 @@ module _ (claims· : Claims) where
               W
               𝓣
               E
-              G61
-              G62
-              b24
+              G57
+              G58
+              b22
               Δ1
-              (Typed.pass T61 T62 s59)
+              (Typed.pass T57 T58 s55)
               at3
               (Scalar.g-room
               𝓤
@@ -38478,13 +36982,13 @@ module _ (claims· : Claims) where
               A
               W
               E
-              G61
-              7
-              (Syntax.tyInt Syntax.w8)
-              (Scalar.room-sc 𝓤 H A W (Row.sInt Syntax.w8)))
+              G57
+              6
+              (Syntax.tyInt Syntax.w64)
+              (Scalar.room-sc 𝓤 H A W (Row.sInt Syntax.w64)))
               d3
 
-          d5 : Typed.Typed 𝓤 H A 𝓣 E G60 b24 Δ1 at5
+          d5 : Typed.Typed 𝓤 H A 𝓣 E G56 b22 Δ1 at5
           d5 =
               Typed.g-pre
               𝓤
@@ -38493,11 +36997,11 @@ module _ (claims· : Claims) where
               W
               𝓣
               E
-              G60
-              G61
-              b24
+              G56
+              G57
+              b22
               Δ1
-              (Typed.pass T60 T61 s58)
+              (Typed.pass T56 T57 s54)
               at4
               (Scalar.g-room
               𝓤
@@ -38505,35 +37009,8 @@ module _ (claims· : Claims) where
               A
               W
               E
-              G60
-              6
-              (Syntax.tyInt Syntax.w64)
-              (Scalar.room-sc 𝓤 H A W (Row.sInt Syntax.w64)))
-              d4
-
-          d6 : Typed.Typed 𝓤 H A 𝓣 E G59 b24 Δ1 at6
-          d6 =
-              Typed.g-pre
-              𝓤
-              H
-              A
-              W
-              𝓣
-              E
-              G59
-              G60
-              b24
-              Δ1
-              (Typed.pass T59 T60 s57)
-              at5
-              (Scalar.g-room
-              𝓤
-              H
-              A
-              W
-              E
-              G59
-              20
+              G56
+              19
               (Syntax.tyEnum
               (List._∷_
               97
@@ -38651,10 +37128,10 @@ module _ (claims· : Claims) where
               Syntax.tnil
               (Syntax.ttcons Syntax.tnil (Syntax.ttcons Syntax.tnil Syntax.ttnil)))))))))))))))))))
               Path'.refl))
-              d5
+              d4
 
-          d7 : Typed.Typed 𝓤 H A 𝓣 E G58 b25 Δ1 at7
-          d7 =
+          d6 : Typed.Typed 𝓤 H A 𝓣 E G55 b23 Δ1 at6
+          d6 =
               Typed.s-seq
               𝓤
               H
@@ -38662,13 +37139,13 @@ module _ (claims· : Claims) where
               W
               𝓣
               E
-              G58
-              G59
-              b23
-              b24
+              G55
+              G56
+              b21
+              b22
               Δ1
-              (Typed.both s56)
-              at6
+              (Typed.both s53)
+              at5
               (Plain.t-call-plain
               𝓤
               H
@@ -38676,21 +37153,21 @@ module _ (claims· : Claims) where
               W
               𝓣
               0
-              ps·11
-              r·11
-              (claims· .22)
-              (claims· .23)
+              ps·10
+              r·10
+              (claims· .20)
+              (claims· .21)
               "finish::refused"
-              (known .11)
+              (known .10)
               E
               (λ pos β. β)
-              G58 (
-                record { pos = 20; st = List.[]; d = 0; at = λ x. x },
+              G55 (
+                record { pos = 19; st = List.[]; d = 0; at = λ x. x },
                 (Num.vAt 6 λ x. x, (Num.vAt 7 λ x. x, tt)),
               )
               0
               List.[]
-              (Call.sub-id 𝓤 H A W (G58 .slots)) (
+              (Call.sub-id 𝓤 H A W (G55 .slots)) (
                 (
                   Yields.yields-copy
                       𝓤
@@ -38960,9 +37437,27 @@ module _ (claims· : Claims) where
               (Syntax.tcons (Syntax.tyInt Syntax.w8) Syntax.tnil)))))))
               tt
               Path'.refl)
+              d5
+
+          d7 : Typed.Typed 𝓤 H A 𝓣 E G54 b23 Δ1 at7
+          d7 =
+              Typed.g-pre
+              𝓤
+              H
+              A
+              W
+              𝓣
+              E
+              G54
+              G55
+              b23
+              Δ1
+              (Typed.pass T54 T55 s52)
+              at6
+              (Scalar.g-room 𝓤 H A W E G54 33 Syntax.tyBool (Scalar.room-sc 𝓤 H A W Row.sBool))
               d6
 
-          d8 : Typed.Typed 𝓤 H A 𝓣 E G57 b25 Δ1 at8
+          d8 : Typed.Typed 𝓤 H A 𝓣 E G53 b23 Δ1 at8
           d8 =
               Typed.g-pre
               𝓤
@@ -38971,38 +37466,20 @@ module _ (claims· : Claims) where
               W
               𝓣
               E
-              G57
-              G58
-              b25
+              G53
+              G54
+              b23
               Δ1
-              (Typed.pass T57 T58 s55)
+              (Typed.pass T53 T54 s51)
               at7
-              (Scalar.g-room 𝓤 H A W E G57 34 Syntax.tyBool (Scalar.room-sc 𝓤 H A W Row.sBool))
-              d7
-
-          d9 : Typed.Typed 𝓤 H A 𝓣 E G56 b25 Δ1 at9
-          d9 =
-              Typed.g-pre
-              𝓤
-              H
-              A
-              W
-              𝓣
-              E
-              G56
-              G57
-              b25
-              Δ1
-              (Typed.pass T56 T57 s54)
-              at8
               (Scalar.g-room
               𝓤
               H
               A
               W
               E
-              G56
-              19
+              G53
+              18
               (Syntax.tyStruct
               (List._∷_
               114
@@ -39456,10 +37933,10 @@ module _ (claims· : Claims) where
               (Syntax.tcons Syntax.tyBool (Syntax.tcons (Syntax.tyInt Syntax.w8) Syntax.tnil)))
               Syntax.tnil))))))))
               Path'.refl))
-              d8
+              d7
 
-          d10 : Typed.Typed 𝓤 H A 𝓣 E G55 b25 Δ1 at10
-          d10 =
+          d9 : Typed.Typed 𝓤 H A 𝓣 E G52 b23 Δ1 at9
+          d9 =
               Typed.g-pre
               𝓤
               H
@@ -39467,19 +37944,19 @@ module _ (claims· : Claims) where
               W
               𝓣
               E
-              G55
-              G56
-              b25
+              G52
+              G53
+              b23
               Δ1
-              (Typed.pass T55 T56 s53)
-              at9
+              (Typed.pass T52 T53 s50)
+              at8
               (Scalar.g-room
               𝓤
               H
               A
               W
               E
-              G55
+              G52
               16
               (Syntax.tyStruct
               (List._∷_
@@ -39562,10 +38039,10 @@ module _ (claims· : Claims) where
               (Syntax.tyInt Syntax.w64)
               (Syntax.tcons (KRouteRow.spelled) Syntax.tnil))))
               Path'.refl))
-              d9
+              d8
 
-          d11 : Typed.Typed 𝓤 H A 𝓣 E G54 b25 Δ1 at11
-          d11 =
+          d10 : Typed.Typed 𝓤 H A 𝓣 E G51 b23 Δ1 at10
+          d10 =
               Typed.g-pre
               𝓤
               H
@@ -39573,19 +38050,19 @@ module _ (claims· : Claims) where
               W
               𝓣
               E
-              G54
-              G55
-              b25
+              G51
+              G52
+              b23
               Δ1
-              (Typed.pass T54 T55 s52)
-              at10
+              (Typed.pass T51 T52 s49)
+              at9
               (Scalar.g-room
               𝓤
               H
               A
               W
               E
-              G54
+              G51
               15
               (Syntax.tyStruct
               (List._∷_
@@ -39648,10 +38125,10 @@ module _ (claims· : Claims) where
               (Syntax.tyInt Syntax.w64)
               (Syntax.tcons (KInstanceRow.spelled) Syntax.tnil))))
               Path'.refl))
-              d10
+              d9
 
-          d12 : Typed.Typed 𝓤 H A 𝓣 E G53 b25 Δ1 at12
-          d12 =
+          d11 : Typed.Typed 𝓤 H A 𝓣 E G50 b23 Δ1 at11
+          d11 =
               Typed.g-pre
               𝓤
               H
@@ -39659,19 +38136,19 @@ module _ (claims· : Claims) where
               W
               𝓣
               E
-              G53
-              G54
-              b25
+              G50
+              G51
+              b23
               Δ1
-              (Typed.pass T53 T54 s51)
-              at11
+              (Typed.pass T50 T51 s48)
+              at10
               (Scalar.g-room
               𝓤
               H
               A
               W
               E
-              G53
+              G50
               9
               (Syntax.tyStruct
               (List._∷_
@@ -39734,10 +38211,10 @@ module _ (claims· : Claims) where
               Syntax.tyBool
               (Syntax.tcons (Syntax.tyInt Syntax.w16) (Syntax.tcons Syntax.tyBool Syntax.tnil))))))
               Path'.refl))
-              d11
+              d10
 
-          d13 : Typed.Typed 𝓤 H A 𝓣 E G52 b25 Δ1 at13
-          d13 =
+          d12 : Typed.Typed 𝓤 H A 𝓣 E G49 b23 Δ1 at12
+          d12 =
               Typed.g-pre
               𝓤
               H
@@ -39745,19 +38222,19 @@ module _ (claims· : Claims) where
               W
               𝓣
               E
-              G52
-              G53
-              b25
+              G49
+              G50
+              b23
               Δ1
-              (Typed.pass T52 T53 s50)
-              at12
+              (Typed.pass T49 T50 s47)
+              at11
               (Scalar.g-room
               𝓤
               H
               A
               W
               E
-              G52
+              G49
               5
               (Syntax.tyStruct
               (List._∷_
@@ -39788,12 +38265,30 @@ module _ (claims· : Claims) where
               (Syntax.tyArray (Syntax.tyInt Syntax.w8) 16)
               (Syntax.tcons (Syntax.tyArray (Syntax.tyInt Syntax.w8) 16) Syntax.tnil)))
               Path'.refl))
-              d12
+              d11
 
-          d14 : Typed.Typed 𝓤 H A 𝓣 E G67 b26 Δ1 at14
-          d14 = Typed.t-skip 𝓤 H A W 𝓣 E Δ1 tt
+          d13 : Typed.Typed 𝓤 H A 𝓣 E G63 b24 Δ1 at13
+          d13 = Typed.t-skip 𝓤 H A W 𝓣 E Δ1 tt
 
-          d15 : Typed.Typed 𝓤 H A 𝓣 E G66 b26 Δ1 at15
+          d14 : Typed.Typed 𝓤 H A 𝓣 E G62 b24 Δ1 at14
+          d14 =
+              Typed.g-pre
+              𝓤
+              H
+              A
+              W
+              𝓣
+              E
+              G62
+              G63
+              b24
+              Δ1
+              (Typed.pass T62 T63 s60)
+              at13
+              (Scalar.g-room 𝓤 H A W E G62 33 Syntax.tyBool (Scalar.room-sc 𝓤 H A W Row.sBool))
+              d13
+
+          d15 : Typed.Typed 𝓤 H A 𝓣 E G49 b24 Δ1 at15
           d15 =
               Typed.g-pre
               𝓤
@@ -39802,38 +38297,20 @@ module _ (claims· : Claims) where
               W
               𝓣
               E
-              G66
-              G67
-              b26
+              G49
+              G62
+              b24
               Δ1
-              (Typed.pass T66 T67 s64)
+              (Typed.pass T49 T62 s59)
               at14
-              (Scalar.g-room 𝓤 H A W E G66 34 Syntax.tyBool (Scalar.room-sc 𝓤 H A W Row.sBool))
-              d14
-
-          d16 : Typed.Typed 𝓤 H A 𝓣 E G52 b26 Δ1 at16
-          d16 =
-              Typed.g-pre
-              𝓤
-              H
-              A
-              W
-              𝓣
-              E
-              G52
-              G66
-              b26
-              Δ1
-              (Typed.pass T52 T66 s63)
-              at15
               (Scalar.g-room
               𝓤
               H
               A
               W
               E
-              G52
-              20
+              G49
+              19
               (Syntax.tyEnum
               (List._∷_
               97
@@ -39951,10 +38428,10 @@ module _ (claims· : Claims) where
               Syntax.tnil
               (Syntax.ttcons Syntax.tnil (Syntax.ttcons Syntax.tnil Syntax.ttnil)))))))))))))))))))
               Path'.refl))
-              d15
+              d14
 
-          d17 : Typed.Typed 𝓤 H A 𝓣 E G52 b27 Δ1 at17
-          d17 =
+          d16 : Typed.Typed 𝓤 H A 𝓣 E G49 b25 Δ1 at16
+          d16 =
               Scalar.t-cond
               𝓤
               H
@@ -39962,21 +38439,21 @@ module _ (claims· : Claims) where
               W
               E
               𝓣
-              G52
-              34
+              G49
+              33
               (λ x. x)
-              b25
-              b26
+              b23
+              b24
               Δ1
-              at13
-              at16
+              at12
+              at15
               (Scalar.reads-sc 𝓤 H A W Row.sBool)
               Path'.refl
-              d13
-              d16
+              d12
+              d15
 
-          d18 : Typed.Typed 𝓤 H A 𝓣 E G50 b27 Δ1 at18
-          d18 =
+          d17 : Typed.Typed 𝓤 H A 𝓣 E G47 b25 Δ1 at17
+          d17 =
               Typed.g-pre
               𝓤
               H
@@ -39984,28 +38461,55 @@ module _ (claims· : Claims) where
               W
               𝓣
               E
-              G50
-              G52
-              b27
+              G47
+              G49
+              b25
               Δ1
-              (Typed.pass T50 T52 s49)
-              at17
+              (Typed.pass T47 T49 s46)
+              at16
               (Scalar.g-room
               𝓤
               H
               A
               W
               E
-              G50
-              33
+              G47
+              32
               (Syntax.tyInt Syntax.w8)
               (Scalar.room-sc 𝓤 H A W (Row.sInt Syntax.w8)))
-              d17
+              d16
 
-          d19 : Typed.Typed 𝓤 H A 𝓣 E G142 b50 Δ0 at19
-          d19 = Typed.t-return 𝓤 H A W 𝓣 E Δ0 tt
+          d18 : Typed.Typed 𝓤 H A 𝓣 E G137 b48 Δ0 at18
+          d18 = Typed.t-return 𝓤 H A W 𝓣 E Δ0 tt
 
-          d20 : Typed.Typed 𝓤 H A 𝓣 E G141 b50 Δ0 at20
+          d19 : Typed.Typed 𝓤 H A 𝓣 E G136 b48 Δ0 at19
+          d19 =
+              Typed.g-pre
+              𝓤
+              H
+              A
+              W
+              𝓣
+              E
+              G136
+              G137
+              b48
+              Δ0
+              (Typed.pass T136 T137 s134)
+              at18
+              (Scalar.g-room
+              𝓤
+              H
+              A
+              W
+              E
+              G136
+              8
+              (Syntax.tyInt Syntax.w64)
+              (Scalar.room-sc 𝓤 H A W (Row.sInt Syntax.w64)))
+              d18
+
+          d20 : Typed.Typed 𝓤 H A 𝓣 E G135 b48 Δ0 at20
           d20 =
               Typed.g-pre
               𝓤
@@ -40014,11 +38518,11 @@ module _ (claims· : Claims) where
               W
               𝓣
               E
-              G141
-              G142
-              b50
+              G135
+              G136
+              b48
               Δ0
-              (Typed.pass T141 T142 s139)
+              (Typed.pass T135 T136 s133)
               at19
               (Scalar.g-room
               𝓤
@@ -40026,13 +38530,13 @@ module _ (claims· : Claims) where
               A
               W
               E
-              G141
-              8
-              (Syntax.tyInt Syntax.w64)
-              (Scalar.room-sc 𝓤 H A W (Row.sInt Syntax.w64)))
+              G135
+              7
+              (Syntax.tyInt Syntax.w8)
+              (Scalar.room-sc 𝓤 H A W (Row.sInt Syntax.w8)))
               d19
 
-          d21 : Typed.Typed 𝓤 H A 𝓣 E G140 b50 Δ0 at21
+          d21 : Typed.Typed 𝓤 H A 𝓣 E G134 b48 Δ0 at21
           d21 =
               Typed.g-pre
               𝓤
@@ -40041,11 +38545,11 @@ module _ (claims· : Claims) where
               W
               𝓣
               E
-              G140
-              G141
-              b50
+              G134
+              G135
+              b48
               Δ0
-              (Typed.pass T140 T141 s138)
+              (Typed.pass T134 T135 s132)
               at20
               (Scalar.g-room
               𝓤
@@ -40053,13 +38557,13 @@ module _ (claims· : Claims) where
               A
               W
               E
-              G140
-              7
-              (Syntax.tyInt Syntax.w8)
-              (Scalar.room-sc 𝓤 H A W (Row.sInt Syntax.w8)))
+              G134
+              6
+              (Syntax.tyInt Syntax.w64)
+              (Scalar.room-sc 𝓤 H A W (Row.sInt Syntax.w64)))
               d20
 
-          d22 : Typed.Typed 𝓤 H A 𝓣 E G139 b50 Δ0 at22
+          d22 : Typed.Typed 𝓤 H A 𝓣 E G133 b48 Δ0 at22
           d22 =
               Typed.g-pre
               𝓤
@@ -40068,11 +38572,11 @@ module _ (claims· : Claims) where
               W
               𝓣
               E
-              G139
-              G140
-              b50
+              G133
+              G134
+              b48
               Δ0
-              (Typed.pass T139 T140 s137)
+              (Typed.pass T132 T134 s131)
               at21
               (Scalar.g-room
               𝓤
@@ -40080,13 +38584,13 @@ module _ (claims· : Claims) where
               A
               W
               E
-              G139
-              6
-              (Syntax.tyInt Syntax.w64)
-              (Scalar.room-sc 𝓤 H A W (Row.sInt Syntax.w64)))
+              G133
+              22
+              (KPost.spelled)
+              (KPost.room 𝓤 H A W))
               d21
 
-          d23 : Typed.Typed 𝓤 H A 𝓣 E G138 b50 Δ0 at23
+          d23 : Typed.Typed 𝓤 H A 𝓣 E G132 b48 Δ0 at23
           d23 =
               Typed.g-pre
               𝓤
@@ -40095,25 +38599,16 @@ module _ (claims· : Claims) where
               W
               𝓣
               E
-              G138
-              G139
-              b50
+              G132
+              G133
+              b48
               Δ0
-              (Typed.pass T137 T139 s136)
+              (λ Ψ. Ψ)
               at22
-              (Scalar.g-room
-              𝓤
-              H
-              A
-              W
-              E
-              G138
-              23
-              (KPost.spelled)
-              (KPost.room 𝓤 H A W))
+              (Lifetime.g-forget 𝓤 H A W E G132 15 Row.dead Path'.refl)
               d22
 
-          d24 : Typed.Typed 𝓤 H A 𝓣 E G137 b50 Δ0 at24
+          d24 : Typed.Typed 𝓤 H A 𝓣 E G131 b48 Δ0 at24
           d24 =
               Typed.g-pre
               𝓤
@@ -40122,38 +38617,20 @@ module _ (claims· : Claims) where
               W
               𝓣
               E
-              G137
-              G138
-              b50
+              G131
+              G132
+              b48
               Δ0
-              (λ Ψ. Ψ)
+              (Typed.pass T130 T132 s129)
               at23
-              (Lifetime.g-forget 𝓤 H A W E G137 15 Row.dead Path'.refl)
-              d23
-
-          d25 : Typed.Typed 𝓤 H A 𝓣 E G136 b50 Δ0 at25
-          d25 =
-              Typed.g-pre
-              𝓤
-              H
-              A
-              W
-              𝓣
-              E
-              G136
-              G137
-              b50
-              Δ0
-              (Typed.pass T135 T137 s134)
-              at24
               (Local.g-back-shr
               𝓤
               H
               A
               W
               E
-              G136
-              23
+              G131
+              22
               15
               (KPost.row)
               (KPost.R)
@@ -40179,9 +38656,27 @@ module _ (claims· : Claims) where
               (KPost.of-mem 𝓤 H A W)
               λ x k. Path'.refl)
               Path'.refl)
+              d23
+
+          d25 : Typed.Typed 𝓤 H A 𝓣 E G130 b48 Δ0 at25
+          d25 =
+              Typed.g-pre
+              𝓤
+              H
+              A
+              W
+              𝓣
+              E
+              G130
+              G131
+              b48
+              Δ0
+              (λ Ψ. Ψ)
+              at24
+              (Lifetime.g-end 𝓤 H A W E G130 15 Path'.refl)
               d24
 
-          d26 : Typed.Typed 𝓤 H A 𝓣 E G135 b50 Δ0 at26
+          d26 : Typed.Typed 𝓤 H A 𝓣 E G129 b48 Δ0 at26
           d26 =
               Typed.g-pre
               𝓤
@@ -40190,16 +38685,25 @@ module _ (claims· : Claims) where
               W
               𝓣
               E
-              G135
-              G136
-              b50
+              G129
+              G130
+              b48
               Δ0
-              (λ Ψ. Ψ)
+              (Typed.pass T128 T130 s127)
               at25
-              (Lifetime.g-end 𝓤 H A W E G135 15 Path'.refl)
+              (Scalar.g-room
+              𝓤
+              H
+              A
+              W
+              E
+              G129
+              21
+              (KPost.spelled)
+              (KPost.room 𝓤 H A W))
               d25
 
-          d27 : Typed.Typed 𝓤 H A 𝓣 E G134 b50 Δ0 at27
+          d27 : Typed.Typed 𝓤 H A 𝓣 E G128 b48 Δ0 at27
           d27 =
               Typed.g-pre
               𝓤
@@ -40208,25 +38712,16 @@ module _ (claims· : Claims) where
               W
               𝓣
               E
-              G134
-              G135
-              b50
+              G128
+              G129
+              b48
               Δ0
-              (Typed.pass T133 T135 s132)
+              (λ Ψ. Ψ)
               at26
-              (Scalar.g-room
-              𝓤
-              H
-              A
-              W
-              E
-              G134
-              22
-              (KPost.spelled)
-              (KPost.room 𝓤 H A W))
+              (Lifetime.g-forget 𝓤 H A W E G128 14 Row.dead Path'.refl)
               d26
 
-          d28 : Typed.Typed 𝓤 H A 𝓣 E G133 b50 Δ0 at28
+          d28 : Typed.Typed 𝓤 H A 𝓣 E G127 b48 Δ0 at28
           d28 =
               Typed.g-pre
               𝓤
@@ -40235,38 +38730,20 @@ module _ (claims· : Claims) where
               W
               𝓣
               E
-              G133
-              G134
-              b50
+              G127
+              G128
+              b48
               Δ0
-              (λ Ψ. Ψ)
+              (Typed.pass T126 T128 s125)
               at27
-              (Lifetime.g-forget 𝓤 H A W E G133 14 Row.dead Path'.refl)
-              d27
-
-          d29 : Typed.Typed 𝓤 H A 𝓣 E G132 b50 Δ0 at29
-          d29 =
-              Typed.g-pre
-              𝓤
-              H
-              A
-              W
-              𝓣
-              E
-              G132
-              G133
-              b50
-              Δ0
-              (Typed.pass T131 T133 s130)
-              at28
               (Local.g-back-shr
               𝓤
               H
               A
               W
               E
-              G132
-              22
+              G127
+              21
               14
               (KPost.row)
               (KPost.R)
@@ -40292,9 +38769,27 @@ module _ (claims· : Claims) where
               (KPost.of-mem 𝓤 H A W)
               λ x k. Path'.refl)
               Path'.refl)
+              d27
+
+          d29 : Typed.Typed 𝓤 H A 𝓣 E G126 b48 Δ0 at29
+          d29 =
+              Typed.g-pre
+              𝓤
+              H
+              A
+              W
+              𝓣
+              E
+              G126
+              G127
+              b48
+              Δ0
+              (λ Ψ. Ψ)
+              at28
+              (Lifetime.g-end 𝓤 H A W E G126 14 Path'.refl)
               d28
 
-          d30 : Typed.Typed 𝓤 H A 𝓣 E G131 b50 Δ0 at30
+          d30 : Typed.Typed 𝓤 H A 𝓣 E G125 b48 Δ0 at30
           d30 =
               Typed.g-pre
               𝓤
@@ -40303,16 +38798,25 @@ module _ (claims· : Claims) where
               W
               𝓣
               E
-              G131
-              G132
-              b50
+              G125
+              G126
+              b48
               Δ0
-              (λ Ψ. Ψ)
+              (Typed.pass T124 T126 s123)
               at29
-              (Lifetime.g-end 𝓤 H A W E G131 14 Path'.refl)
+              (Scalar.g-room
+              𝓤
+              H
+              A
+              W
+              E
+              G125
+              20
+              (KDecided.spelled)
+              (KDecided.room 𝓤 H A W))
               d29
 
-          d31 : Typed.Typed 𝓤 H A 𝓣 E G130 b50 Δ0 at31
+          d31 : Typed.Typed 𝓤 H A 𝓣 E G124 b48 Δ0 at31
           d31 =
               Typed.g-pre
               𝓤
@@ -40321,25 +38825,16 @@ module _ (claims· : Claims) where
               W
               𝓣
               E
-              G130
-              G131
-              b50
+              G124
+              G125
+              b48
               Δ0
-              (Typed.pass T129 T131 s128)
+              (λ Ψ. Ψ)
               at30
-              (Scalar.g-room
-              𝓤
-              H
-              A
-              W
-              E
-              G130
-              21
-              (KDecided.spelled)
-              (KDecided.room 𝓤 H A W))
+              (Lifetime.g-forget 𝓤 H A W E G124 13 Row.dead Path'.refl)
               d30
 
-          d32 : Typed.Typed 𝓤 H A 𝓣 E G129 b50 Δ0 at32
+          d32 : Typed.Typed 𝓤 H A 𝓣 E G123 b48 Δ0 at32
           d32 =
               Typed.g-pre
               𝓤
@@ -40348,38 +38843,20 @@ module _ (claims· : Claims) where
               W
               𝓣
               E
-              G129
-              G130
-              b50
+              G123
+              G124
+              b48
               Δ0
-              (λ Ψ. Ψ)
+              (Typed.pass T121 T124 s121)
               at31
-              (Lifetime.g-forget 𝓤 H A W E G129 13 Row.dead Path'.refl)
-              d31
-
-          d33 : Typed.Typed 𝓤 H A 𝓣 E G128 b50 Δ0 at33
-          d33 =
-              Typed.g-pre
-              𝓤
-              H
-              A
-              W
-              𝓣
-              E
-              G128
-              G129
-              b50
-              Δ0
-              (Typed.pass T126 T129 s126)
-              at32
               (Local.g-back-shr
               𝓤
               H
               A
               W
               E
-              G128
-              21
+              G123
+              20
               13
               (KDecided.row)
               (KDecided.R)
@@ -40405,9 +38882,27 @@ module _ (claims· : Claims) where
               (KDecided.of-mem 𝓤 H A W)
               λ x k. Path'.refl)
               Path'.refl)
+              d31
+
+          d33 : Typed.Typed 𝓤 H A 𝓣 E G122 b48 Δ0 at33
+          d33 =
+              Typed.g-pre
+              𝓤
+              H
+              A
+              W
+              𝓣
+              E
+              G122
+              G123
+              b48
+              Δ0
+              (λ Ψ. Ψ)
+              at32
+              (Lifetime.g-end 𝓤 H A W E G122 13 Path'.refl)
               d32
 
-          d34 : Typed.Typed 𝓤 H A 𝓣 E G127 b50 Δ0 at34
+          d34 : Typed.Typed 𝓤 H A 𝓣 E G121 b48 Δ0 at34
           d34 =
               Typed.g-pre
               𝓤
@@ -40416,16 +38911,16 @@ module _ (claims· : Claims) where
               W
               𝓣
               E
-              G127
-              G128
-              b50
+              G121
+              G122
+              b48
               Δ0
               (λ Ψ. Ψ)
               at33
-              (Lifetime.g-end 𝓤 H A W E G127 13 Path'.refl)
+              (Lifetime.g-forget 𝓤 H A W E G121 12 Row.dead Path'.refl)
               d33
 
-          d35 : Typed.Typed 𝓤 H A 𝓣 E G126 b50 Δ0 at35
+          d35 : Typed.Typed 𝓤 H A 𝓣 E G120 b48 Δ0 at35
           d35 =
               Typed.g-pre
               𝓤
@@ -40434,30 +38929,12 @@ module _ (claims· : Claims) where
               W
               𝓣
               E
-              G126
-              G127
-              b50
+              G120
+              G121
+              b48
               Δ0
-              (λ Ψ. Ψ)
+              (Typed.give s118)
               at34
-              (Lifetime.g-forget 𝓤 H A W E G126 12 Row.dead Path'.refl)
-              d34
-
-          d36 : Typed.Typed 𝓤 H A 𝓣 E G125 b50 Δ0 at36
-          d36 =
-              Typed.g-pre
-              𝓤
-              H
-              A
-              W
-              𝓣
-              E
-              G125
-              G126
-              b50
-              Δ0
-              (Typed.give s123)
-              at35
               (Know.g-sl-known
               𝓤
               H
@@ -40465,7 +38942,7 @@ module _ (claims· : Claims) where
               W
               (Referent.fInt Syntax.w8)
               E
-              G125
+              G120
               4
               3
               (Syntax.tyRef (Syntax.named 3) Syntax.mut (Syntax.tyInt Syntax.w8))
@@ -40483,10 +38960,10 @@ module _ (claims· : Claims) where
               3))
               Path'.refl
               tt)
-              d35
+              d34
 
-          d37 : Typed.Typed 𝓤 H A 𝓣 E G124 b50 Δ0 at37
-          d37 =
+          d36 : Typed.Typed 𝓤 H A 𝓣 E G119 b48 Δ0 at36
+          d36 =
               Typed.g-pre
               𝓤
               H
@@ -40494,12 +38971,12 @@ module _ (claims· : Claims) where
               W
               𝓣
               E
-              G124
-              G125
-              b50
+              G119
+              G120
+              b48
               Δ0
-              (Typed.both s122)
-              at36
+              (Typed.both s117)
+              at35
               (Relend.g-back-sl
               𝓤
               H
@@ -40507,8 +38984,8 @@ module _ (claims· : Claims) where
               W
               E
               (Referent.rtF (Referent.fInt Syntax.w8))
-              G124
-              44
+              G119
+              43
               4
               3
               12
@@ -40536,9 +39013,27 @@ module _ (claims· : Claims) where
               (Row.lease (κs .1 .1 .1 .0) (qs .1 .1 .1 .0))))
               Path'.refl
               Path'.refl)
+              d35
+
+          d37 : Typed.Typed 𝓤 H A 𝓣 E G118 b48 Δ0 at37
+          d37 =
+              Typed.g-pre
+              𝓤
+              H
+              A
+              W
+              𝓣
+              E
+              G118
+              G119
+              b48
+              Δ0
+              (λ Ψ. Ψ)
+              at36
+              (Lifetime.g-end 𝓤 H A W E G118 12 Path'.refl)
               d36
 
-          d38 : Typed.Typed 𝓤 H A 𝓣 E G123 b50 Δ0 at38
+          d38 : Typed.Typed 𝓤 H A 𝓣 E G117 b48 Δ0 at38
           d38 =
               Typed.g-pre
               𝓤
@@ -40547,16 +39042,16 @@ module _ (claims· : Claims) where
               W
               𝓣
               E
-              G123
-              G124
-              b50
+              G117
+              G118
+              b48
               Δ0
               (λ Ψ. Ψ)
               at37
-              (Lifetime.g-end 𝓤 H A W E G123 12 Path'.refl)
+              (Lifetime.g-forget 𝓤 H A W E G117 11 Row.dead Path'.refl)
               d37
 
-          d39 : Typed.Typed 𝓤 H A 𝓣 E G122 b50 Δ0 at39
+          d39 : Typed.Typed 𝓤 H A 𝓣 E G116 b48 Δ0 at39
           d39 =
               Typed.g-pre
               𝓤
@@ -40565,30 +39060,12 @@ module _ (claims· : Claims) where
               W
               𝓣
               E
-              G122
-              G123
-              b50
+              G116
+              G117
+              b48
               Δ0
-              (λ Ψ. Ψ)
+              (Typed.give s114)
               at38
-              (Lifetime.g-forget 𝓤 H A W E G122 11 Row.dead Path'.refl)
-              d38
-
-          d40 : Typed.Typed 𝓤 H A 𝓣 E G121 b50 Δ0 at40
-          d40 =
-              Typed.g-pre
-              𝓤
-              H
-              A
-              W
-              𝓣
-              E
-              G121
-              G122
-              b50
-              Δ0
-              (Typed.give s119)
-              at39
               (Know.g-sl-known
               𝓤
               H
@@ -40596,7 +39073,7 @@ module _ (claims· : Claims) where
               W
               (Referent.fInt Syntax.w8)
               E
-              G121
+              G116
               3
               2
               (Syntax.tyRef (Syntax.named 2) Syntax.mut (Syntax.tyInt Syntax.w8))
@@ -40614,10 +39091,10 @@ module _ (claims· : Claims) where
               2))
               Path'.refl
               tt)
-              d39
+              d38
 
-          d41 : Typed.Typed 𝓤 H A 𝓣 E G120 b50 Δ0 at41
-          d41 =
+          d40 : Typed.Typed 𝓤 H A 𝓣 E G115 b48 Δ0 at40
+          d40 =
               Typed.g-pre
               𝓤
               H
@@ -40625,12 +39102,12 @@ module _ (claims· : Claims) where
               W
               𝓣
               E
-              G120
-              G121
-              b50
+              G115
+              G116
+              b48
               Δ0
-              (Typed.both s118)
-              at40
+              (Typed.both s113)
+              at39
               (Relend.g-back-sl
               𝓤
               H
@@ -40638,8 +39115,8 @@ module _ (claims· : Claims) where
               W
               E
               (Referent.rtF (Referent.fInt Syntax.w8))
-              G120
-              42
+              G115
+              41
               3
               2
               11
@@ -40667,9 +39144,27 @@ module _ (claims· : Claims) where
               (Row.lease (κs .1 .1 .0) (qs .1 .1 .0))))
               Path'.refl
               Path'.refl)
+              d39
+
+          d41 : Typed.Typed 𝓤 H A 𝓣 E G114 b48 Δ0 at41
+          d41 =
+              Typed.g-pre
+              𝓤
+              H
+              A
+              W
+              𝓣
+              E
+              G114
+              G115
+              b48
+              Δ0
+              (λ Ψ. Ψ)
+              at40
+              (Lifetime.g-end 𝓤 H A W E G114 11 Path'.refl)
               d40
 
-          d42 : Typed.Typed 𝓤 H A 𝓣 E G119 b50 Δ0 at42
+          d42 : Typed.Typed 𝓤 H A 𝓣 E G113 b48 Δ0 at42
           d42 =
               Typed.g-pre
               𝓤
@@ -40678,16 +39173,16 @@ module _ (claims· : Claims) where
               W
               𝓣
               E
-              G119
-              G120
-              b50
+              G113
+              G114
+              b48
               Δ0
               (λ Ψ. Ψ)
               at41
-              (Lifetime.g-end 𝓤 H A W E G119 11 Path'.refl)
+              (Lifetime.g-forget 𝓤 H A W E G113 10 Row.dead Path'.refl)
               d41
 
-          d43 : Typed.Typed 𝓤 H A 𝓣 E G118 b50 Δ0 at43
+          d43 : Typed.Typed 𝓤 H A 𝓣 E G112 b48 Δ0 at43
           d43 =
               Typed.g-pre
               𝓤
@@ -40696,30 +39191,12 @@ module _ (claims· : Claims) where
               W
               𝓣
               E
-              G118
-              G119
-              b50
+              G112
+              G113
+              b48
               Δ0
-              (λ Ψ. Ψ)
+              (Typed.both s110)
               at42
-              (Lifetime.g-forget 𝓤 H A W E G118 10 Row.dead Path'.refl)
-              d42
-
-          d44 : Typed.Typed 𝓤 H A 𝓣 E G117 b50 Δ0 at44
-          d44 =
-              Typed.g-pre
-              𝓤
-              H
-              A
-              W
-              𝓣
-              E
-              G117
-              G118
-              b50
-              Δ0
-              (Typed.both s115)
-              at43
               (Relend.g-back-sl
               𝓤
               H
@@ -40727,8 +39204,8 @@ module _ (claims· : Claims) where
               W
               E
               (KRouteRow.R)
-              G117
-              40
+              G112
+              39
               2
               1
               10
@@ -40765,9 +39242,27 @@ module _ (claims· : Claims) where
               (Row.lease (κs .1 .0) (qs .1 .0))))
               Path'.refl
               Path'.refl)
+              d42
+
+          d44 : Typed.Typed 𝓤 H A 𝓣 E G111 b48 Δ0 at44
+          d44 =
+              Typed.g-pre
+              𝓤
+              H
+              A
+              W
+              𝓣
+              E
+              G111
+              G112
+              b48
+              Δ0
+              (λ Ψ. Ψ)
+              at43
+              (Lifetime.g-end 𝓤 H A W E G111 10 Path'.refl)
               d43
 
-          d45 : Typed.Typed 𝓤 H A 𝓣 E G116 b50 Δ0 at45
+          d45 : Typed.Typed 𝓤 H A 𝓣 E G110 b48 Δ0 at45
           d45 =
               Typed.g-pre
               𝓤
@@ -40776,16 +39271,16 @@ module _ (claims· : Claims) where
               W
               𝓣
               E
-              G116
-              G117
-              b50
+              G110
+              G111
+              b48
               Δ0
               (λ Ψ. Ψ)
               at44
-              (Lifetime.g-end 𝓤 H A W E G116 10 Path'.refl)
+              (Lifetime.g-forget 𝓤 H A W E G110 9 Row.dead Path'.refl)
               d44
 
-          d46 : Typed.Typed 𝓤 H A 𝓣 E G115 b50 Δ0 at46
+          d46 : Typed.Typed 𝓤 H A 𝓣 E G109 b48 Δ0 at46
           d46 =
               Typed.g-pre
               𝓤
@@ -40794,30 +39289,12 @@ module _ (claims· : Claims) where
               W
               𝓣
               E
-              G115
-              G116
-              b50
+              G109
+              G110
+              b48
               Δ0
-              (λ Ψ. Ψ)
+              (Typed.both s107)
               at45
-              (Lifetime.g-forget 𝓤 H A W E G115 9 Row.dead Path'.refl)
-              d45
-
-          d47 : Typed.Typed 𝓤 H A 𝓣 E G114 b50 Δ0 at47
-          d47 =
-              Typed.g-pre
-              𝓤
-              H
-              A
-              W
-              𝓣
-              E
-              G114
-              G115
-              b50
-              Δ0
-              (Typed.both s112)
-              at46
               (Relend.g-back-sl
               𝓤
               H
@@ -40825,8 +39302,8 @@ module _ (claims· : Claims) where
               W
               E
               (KInstanceRow.R)
-              G114
-              38
+              G109
+              37
               1
               0
               9
@@ -40863,9 +39340,27 @@ module _ (claims· : Claims) where
               (Row.lease (κs .0) (qs .0))))
               Path'.refl
               Path'.refl)
+              d45
+
+          d47 : Typed.Typed 𝓤 H A 𝓣 E G108 b48 Δ0 at47
+          d47 =
+              Typed.g-pre
+              𝓤
+              H
+              A
+              W
+              𝓣
+              E
+              G108
+              G109
+              b48
+              Δ0
+              (λ Ψ. Ψ)
+              at46
+              (Lifetime.g-end 𝓤 H A W E G108 9 Path'.refl)
               d46
 
-          d48 : Typed.Typed 𝓤 H A 𝓣 E G113 b50 Δ0 at48
+          d48 : Typed.Typed 𝓤 H A 𝓣 E G107 b48 Δ0 at48
           d48 =
               Typed.g-pre
               𝓤
@@ -40874,38 +39369,20 @@ module _ (claims· : Claims) where
               W
               𝓣
               E
-              G113
-              G114
-              b50
+              G107
+              G108
+              b48
               Δ0
-              (λ Ψ. Ψ)
+              (Typed.pass T107 T108 s105)
               at47
-              (Lifetime.g-end 𝓤 H A W E G113 9 Path'.refl)
-              d47
-
-          d49 : Typed.Typed 𝓤 H A 𝓣 E G112 b50 Δ0 at49
-          d49 =
-              Typed.g-pre
-              𝓤
-              H
-              A
-              W
-              𝓣
-              E
-              G112
-              G113
-              b50
-              Δ0
-              (Typed.pass T112 T113 s110)
-              at48
               (Scalar.g-room
               𝓤
               H
               A
               W
               E
-              G112
-              24
+              G107
+              23
               (Syntax.tyStruct
               (List._∷_
               102
@@ -40959,9 +39436,36 @@ module _ (claims· : Claims) where
               (Syntax.tyInt Syntax.w64)
               (Syntax.tcons Syntax.tyBool (Syntax.tcons (Syntax.tyInt Syntax.w64) Syntax.tnil)))))
               Path'.refl))
+              d47
+
+          d49 : Typed.Typed 𝓤 H A 𝓣 E G106 b48 Δ0 at49
+          d49 =
+              Typed.g-pre
+              𝓤
+              H
+              A
+              W
+              𝓣
+              E
+              G106
+              G107
+              b48
+              Δ0
+              (Typed.pass T106 T107 s104)
+              at48
+              (Scalar.g-room
+              𝓤
+              H
+              A
+              W
+              E
+              G106
+              12
+              (Syntax.tyInt Syntax.w8)
+              (Scalar.room-sc 𝓤 H A W (Row.sInt Syntax.w8)))
               d48
 
-          d50 : Typed.Typed 𝓤 H A 𝓣 E G111 b50 Δ0 at50
+          d50 : Typed.Typed 𝓤 H A 𝓣 E G105 b48 Δ0 at50
           d50 =
               Typed.g-pre
               𝓤
@@ -40970,64 +39474,19 @@ module _ (claims· : Claims) where
               W
               𝓣
               E
-              G111
-              G112
-              b50
+              G105
+              G106
+              b48
               Δ0
-              (Typed.pass T111 T112 s109)
+              (Typed.pass T105 T106 s103)
               at49
-              (Scalar.g-room 𝓤 H A W E G111 17 Syntax.tyBool (Scalar.room-sc 𝓤 H A W Row.sBool))
-              d49
-
-          d51 : Typed.Typed 𝓤 H A 𝓣 E G110 b50 Δ0 at51
-          d51 =
-              Typed.g-pre
-              𝓤
-              H
-              A
-              W
-              𝓣
-              E
-              G110
-              G111
-              b50
-              Δ0
-              (Typed.pass T110 T111 s108)
-              at50
               (Scalar.g-room
               𝓤
               H
               A
               W
               E
-              G110
-              12
-              (Syntax.tyInt Syntax.w8)
-              (Scalar.room-sc 𝓤 H A W (Row.sInt Syntax.w8)))
-              d50
-
-          d52 : Typed.Typed 𝓤 H A 𝓣 E G109 b50 Δ0 at52
-          d52 =
-              Typed.g-pre
-              𝓤
-              H
-              A
-              W
-              𝓣
-              E
-              G109
-              G110
-              b50
-              Δ0
-              (Typed.pass T109 T110 s107)
-              at51
-              (Scalar.g-room
-              𝓤
-              H
-              A
-              W
-              E
-              G109
+              G105
               5
               (Syntax.tyStruct
               (List._∷_
@@ -41058,10 +39517,10 @@ module _ (claims· : Claims) where
               (Syntax.tyArray (Syntax.tyInt Syntax.w8) 16)
               (Syntax.tcons (Syntax.tyArray (Syntax.tyInt Syntax.w8) 16) Syntax.tnil)))
               Path'.refl))
-              d51
+              d49
 
-          d53 : Typed.Typed 𝓤 H A 𝓣 E G108 b50 Δ0 at53
-          d53 =
+          d51 : Typed.Typed 𝓤 H A 𝓣 E G104 b48 Δ0 at51
+          d51 =
               Typed.g-pre
               𝓤
               H
@@ -41069,20 +39528,20 @@ module _ (claims· : Claims) where
               W
               𝓣
               E
-              G108
-              G109
-              b50
+              G104
+              G105
+              b48
               Δ0
-              (Typed.pass T108 T109 s106)
-              at52
+              (Typed.pass T104 T105 s102)
+              at50
               (Local.g-drop-sref
               𝓤
               H
               A
               W
               E
-              G108
-              47
+              G104
+              46
               15
               (KPost.R)
               (Syntax.tyRef Syntax.erased Syntax.imm (KPost.named))
@@ -41095,10 +39554,10 @@ module _ (claims· : Claims) where
               (KPost.R)
               (Syntax.tyRef Syntax.erased Syntax.imm (KPost.named))
               15)))
-              d52
+              d50
 
-          d54 : Typed.Typed 𝓤 H A 𝓣 E G107 b50 Δ0 at54
-          d54 =
+          d52 : Typed.Typed 𝓤 H A 𝓣 E G103 b48 Δ0 at52
+          d52 =
               Typed.g-pre
               𝓤
               H
@@ -41106,20 +39565,20 @@ module _ (claims· : Claims) where
               W
               𝓣
               E
-              G107
-              G108
-              b50
+              G103
+              G104
+              b48
               Δ0
-              (Typed.pass T107 T108 s105)
-              at53
+              (Typed.pass T103 T104 s101)
+              at51
               (Local.g-drop-sref
               𝓤
               H
               A
               W
               E
-              G107
-              46
+              G103
+              45
               14
               (KPost.R)
               (Syntax.tyRef Syntax.erased Syntax.imm (KPost.named))
@@ -41132,10 +39591,10 @@ module _ (claims· : Claims) where
               (KPost.R)
               (Syntax.tyRef Syntax.erased Syntax.imm (KPost.named))
               14)))
-              d53
+              d51
 
-          d55 : Typed.Typed 𝓤 H A 𝓣 E G106 b50 Δ0 at55
-          d55 =
+          d53 : Typed.Typed 𝓤 H A 𝓣 E G102 b48 Δ0 at53
+          d53 =
               Typed.g-pre
               𝓤
               H
@@ -41143,20 +39602,20 @@ module _ (claims· : Claims) where
               W
               𝓣
               E
-              G106
-              G107
-              b50
+              G102
+              G103
+              b48
               Δ0
-              (Typed.pass T106 T107 s104)
-              at54
+              (Typed.pass T102 T103 s100)
+              at52
               (Local.g-drop-sref
               𝓤
               H
               A
               W
               E
-              G106
-              45
+              G102
+              44
               13
               (KDecided.R)
               (Syntax.tyRef Syntax.erased Syntax.imm (KDecided.named))
@@ -41169,10 +39628,10 @@ module _ (claims· : Claims) where
               (KDecided.R)
               (Syntax.tyRef Syntax.erased Syntax.imm (KDecided.named))
               13)))
-              d54
+              d52
 
-          d56 : Typed.Typed 𝓤 H A 𝓣 E G105 b51 Δ0 at56
-          d56 =
+          d54 : Typed.Typed 𝓤 H A 𝓣 E G101 b49 Δ0 at54
+          d54 =
               Typed.s-seq
               𝓤
               H
@@ -41180,13 +39639,13 @@ module _ (claims· : Claims) where
               W
               𝓣
               E
-              G105
-              G106
-              b49
-              b50
+              G101
+              G102
+              b47
+              b48
               Δ0
-              (Typed.both s103)
-              at55
+              (Typed.both s99)
+              at53
               (Plain.t-call-plain
               𝓤
               H
@@ -41194,17 +39653,17 @@ module _ (claims· : Claims) where
               W
               𝓣
               8
-              ps·16
-              r·16
-              (claims· .32)
-              (claims· .33)
+              ps·15
+              r·15
+              (claims· .30)
+              (claims· .31)
               "finish::finish"
-              (known .16)
+              (known .15)
               E
               (λ pos β. β)
-              G105 (
+              G101 (
                 record {
-                  pos = 38;
+                  pos = 37;
                   ty = Syntax.tyRef
                       Syntax.erased
                       Syntax.mut
@@ -41213,7 +39672,7 @@ module _ (claims· : Claims) where
                 },
                 (
                   record {
-                    pos = 40;
+                    pos = 39;
                     ty = Syntax.tyRef
                         Syntax.erased
                         Syntax.mut
@@ -41222,13 +39681,13 @@ module _ (claims· : Claims) where
                   },
                   (
                     record {
-                      pos = 42;
+                      pos = 41;
                       ty = Syntax.tyRef Syntax.erased Syntax.mut (Syntax.tyInt Syntax.w8);
                       ref = λ x. x;
                     },
                     (
                       record {
-                        pos = 44;
+                        pos = 43;
                         ty = Syntax.tyRef Syntax.erased Syntax.mut (Syntax.tyInt Syntax.w8);
                         ref = λ x. x;
                       },
@@ -41253,7 +39712,7 @@ module _ (claims· : Claims) where
                                 },
                                 (
                                   record {
-                                    pos = 45;
+                                    pos = 44;
                                     ty = Syntax.tyRef
                                         Syntax.erased
                                         Syntax.imm
@@ -41262,7 +39721,7 @@ module _ (claims· : Claims) where
                                   },
                                   (
                                     record {
-                                      pos = 46;
+                                      pos = 45;
                                       ty = Syntax.tyRef
                                           Syntax.erased
                                           Syntax.imm
@@ -41271,14 +39730,14 @@ module _ (claims· : Claims) where
                                     },
                                     (
                                       record {
-                                        pos = 47;
+                                        pos = 46;
                                         ty = Syntax.tyRef
                                             Syntax.erased
                                             Syntax.imm
                                             (KPost.named);
                                         ref = λ x. x;
                                       },
-                                      (record { pos = 24; st = List.[]; d = 0; at = λ x. x }, tt),
+                                      (record { pos = 23; st = List.[]; d = 0; at = λ x. x }, tt),
                                     ),
                                   ),
                                 ),
@@ -41299,7 +39758,7 @@ module _ (claims· : Claims) where
               (List._∷_
               11
               (List._∷_ 12 (List._∷_ 5 (List._∷_ 13 (List._∷_ 14 (List._∷_ 15 List.[]))))))))
-              (Call.sub-id 𝓤 H A W (G105 .slots)) (
+              (Call.sub-id 𝓤 H A W (G101 .slots)) (
                 Reads.as-is
                     𝓤
                     H
@@ -41816,10 +40275,10 @@ module _ (claims· : Claims) where
               (Syntax.tcons (Syntax.tyInt Syntax.w8) Syntax.tnil)))))))
               (tt, (tt, (tt, (tt, (tt, (tt, (tt, (tt, tt))))))))
               Path'.refl)
-              d55
+              d53
 
-          d57 : Typed.Typed 𝓤 H A 𝓣 E G104 b52 Δ0 at57
-          d57 =
+          d55 : Typed.Typed 𝓤 H A 𝓣 E G100 b50 Δ0 at55
+          d55 =
               Typed.s-seq
               𝓤
               H
@@ -41827,13 +40286,13 @@ module _ (claims· : Claims) where
               W
               𝓣
               E
-              G104
-              G105
-              b48
-              b51
+              G100
+              G101
+              b46
+              b49
               Δ0
-              (Typed.give s102)
-              at56
+              (Typed.give s98)
+              at54
               (Local.t-sc-share
               𝓤
               H
@@ -41841,9 +40300,9 @@ module _ (claims· : Claims) where
               W
               E
               𝓣
-              G104
-              23
-              47
+              G100
+              22
+              46
               15
               (KPost.R)
               (Syntax.tyRef Syntax.erased Syntax.imm (KPost.named))
@@ -41859,10 +40318,10 @@ module _ (claims· : Claims) where
               (KPost.named)))
               Path'.refl
               λ b o. tt)
-              d56
+              d54
 
-          d58 : Typed.Typed 𝓤 H A 𝓣 E G103 b52 Δ0 at58
-          d58 =
+          d56 : Typed.Typed 𝓤 H A 𝓣 E G99 b50 Δ0 at56
+          d56 =
               Typed.g-pre
               𝓤
               H
@@ -41870,13 +40329,13 @@ module _ (claims· : Claims) where
               W
               𝓣
               E
-              G103
-              G104
-              b52
+              G99
+              G100
+              b50
               Δ0
               (λ Ψ. Ψ)
-              at57
-              (Lifetime.g-begin 𝓤 H A W E G103 15 (
+              at55
+              (Lifetime.g-begin 𝓤 H A W E G99 15 (
                 tt,
                 (
                   (tt, tt),
@@ -41970,10 +40429,209 @@ module _ (claims· : Claims) where
                                                                                                           tt,
                                                                                                           (
                                                                                                             tt,
-                                                                                                            (
-                                                                                                              tt,
-                                                                                                              tt,
-                                                                                                            ),
+                                                                                                            tt,
+                                                                                                          ),
+                                                                                                        ),
+                                                                                                      ),
+                                                                                                    ),
+                                                                                                  ),
+                                                                                                ),
+                                                                                              ),
+                                                                                            ),
+                                                                                          ),
+                                                                                        ),
+                                                                                      ),
+                                                                                    ),
+                                                                                  ),
+                                                                                ),
+                                                                              ),
+                                                                            ),
+                                                                          ),
+                                                                        ),
+                                                                      ),
+                                                                    ),
+                                                                  ),
+                                                                ),
+                                                              ),
+                                                            ),
+                                                          ),
+                                                        ),
+                                                      ),
+                                                    ),
+                                                  ),
+                                                ),
+                                              ),
+                                            ),
+                                          ),
+                                        ),
+                                      ),
+                                    ),
+                                  ),
+                                ),
+                              ),
+                            ),
+                          ),
+                        ),
+                      ),
+                    ),
+                  ),
+                ),
+              ))
+              d55
+
+          d57 : Typed.Typed 𝓤 H A 𝓣 E G98 b51 Δ0 at57
+          d57 =
+              Typed.s-seq
+              𝓤
+              H
+              A
+              W
+              𝓣
+              E
+              G98
+              G99
+              b45
+              b50
+              Δ0
+              (Typed.give s96)
+              at56
+              (Local.t-sc-share
+              𝓤
+              H
+              A
+              W
+              E
+              𝓣
+              G98
+              21
+              45
+              14
+              (KPost.R)
+              (Syntax.tyRef Syntax.erased Syntax.imm (KPost.named))
+              (λ x. x)
+              (KPost.in-mem 𝓤 H A W)
+              (Reads.room-gone
+              𝓤
+              H
+              A
+              (Syntax.tyRef
+              Syntax.erased
+              Syntax.imm
+              (KPost.named)))
+              Path'.refl
+              λ b o. tt)
+              d56
+
+          d58 : Typed.Typed 𝓤 H A 𝓣 E G97 b51 Δ0 at58
+          d58 =
+              Typed.g-pre
+              𝓤
+              H
+              A
+              W
+              𝓣
+              E
+              G97
+              G98
+              b51
+              Δ0
+              (λ Ψ. Ψ)
+              at57
+              (Lifetime.g-begin 𝓤 H A W E G97 14 (
+                tt,
+                (
+                  (tt, tt),
+                  (
+                    (tt, tt),
+                    (
+                      (tt, tt),
+                      (
+                        (tt, tt),
+                        (
+                          tt,
+                          (
+                            tt,
+                            (
+                              tt,
+                              (
+                                tt,
+                                (
+                                  tt,
+                                  (
+                                    tt,
+                                    (
+                                      tt,
+                                      (
+                                        tt,
+                                        (
+                                          tt,
+                                          (
+                                            tt,
+                                            (
+                                              tt,
+                                              (
+                                                tt,
+                                                (
+                                                  tt,
+                                                  (
+                                                    tt,
+                                                    (
+                                                      tt,
+                                                      (
+                                                        tt,
+                                                        (
+                                                          tt,
+                                                          (
+                                                            tt,
+                                                            (
+                                                              tt,
+                                                              (
+                                                                tt,
+                                                                (
+                                                                  tt,
+                                                                  (
+                                                                    tt,
+                                                                    (
+                                                                      tt,
+                                                                      (
+                                                                        tt,
+                                                                        (
+                                                                          tt,
+                                                                          (
+                                                                            tt,
+                                                                            (
+                                                                              tt,
+                                                                              (
+                                                                                tt,
+                                                                                (
+                                                                                  tt,
+                                                                                  (
+                                                                                    tt,
+                                                                                    (
+                                                                                      tt,
+                                                                                      (
+                                                                                        tt,
+                                                                                        (
+                                                                                          tt,
+                                                                                          (
+                                                                                            tt,
+                                                                                            (
+                                                                                              tt,
+                                                                                              (
+                                                                                                tt,
+                                                                                                (
+                                                                                                  tt,
+                                                                                                  (
+                                                                                                    tt,
+                                                                                                    (
+                                                                                                      tt,
+                                                                                                      (
+                                                                                                        tt,
+                                                                                                        (
+                                                                                                          tt,
+                                                                                                          (
+                                                                                                            tt,
+                                                                                                            tt,
                                                                                                           ),
                                                                                                         ),
                                                                                                       ),
@@ -42023,7 +40681,7 @@ module _ (claims· : Claims) where
               ))
               d57
 
-          d59 : Typed.Typed 𝓤 H A 𝓣 E G102 b53 Δ0 at59
+          d59 : Typed.Typed 𝓤 H A 𝓣 E G96 b52 Δ0 at59
           d59 =
               Typed.s-seq
               𝓤
@@ -42032,12 +40690,12 @@ module _ (claims· : Claims) where
               W
               𝓣
               E
-              G102
-              G103
-              b47
-              b52
+              G96
+              G97
+              b44
+              b51
               Δ0
-              (Typed.give s100)
+              (Typed.give s94)
               at58
               (Local.t-sc-share
               𝓤
@@ -42046,14 +40704,14 @@ module _ (claims· : Claims) where
               W
               E
               𝓣
-              G102
-              22
-              46
-              14
-              (KPost.R)
-              (Syntax.tyRef Syntax.erased Syntax.imm (KPost.named))
+              G96
+              20
+              44
+              13
+              (KDecided.R)
+              (Syntax.tyRef Syntax.erased Syntax.imm (KDecided.named))
               (λ x. x)
-              (KPost.in-mem 𝓤 H A W)
+              (KDecided.in-mem 𝓤 H A W)
               (Reads.room-gone
               𝓤
               H
@@ -42061,12 +40719,12 @@ module _ (claims· : Claims) where
               (Syntax.tyRef
               Syntax.erased
               Syntax.imm
-              (KPost.named)))
+              (KDecided.named)))
               Path'.refl
               λ b o. tt)
               d58
 
-          d60 : Typed.Typed 𝓤 H A 𝓣 E G101 b53 Δ0 at60
+          d60 : Typed.Typed 𝓤 H A 𝓣 E G95 b52 Δ0 at60
           d60 =
               Typed.g-pre
               𝓤
@@ -42075,13 +40733,13 @@ module _ (claims· : Claims) where
               W
               𝓣
               E
-              G101
-              G102
-              b53
+              G95
+              G96
+              b52
               Δ0
               (λ Ψ. Ψ)
               at59
-              (Lifetime.g-begin 𝓤 H A W E G101 14 (
+              (Lifetime.g-begin 𝓤 H A W E G95 13 (
                 tt,
                 (
                   (tt, tt),
@@ -42175,10 +40833,7 @@ module _ (claims· : Claims) where
                                                                                                           tt,
                                                                                                           (
                                                                                                             tt,
-                                                                                                            (
-                                                                                                              tt,
-                                                                                                              tt,
-                                                                                                            ),
+                                                                                                            tt,
                                                                                                           ),
                                                                                                         ),
                                                                                                       ),
@@ -42228,7 +40883,7 @@ module _ (claims· : Claims) where
               ))
               d59
 
-          d61 : Typed.Typed 𝓤 H A 𝓣 E G100 b54 Δ0 at61
+          d61 : Typed.Typed 𝓤 H A 𝓣 E G94 b53 Δ0 at61
           d61 =
               Typed.s-seq
               𝓤
@@ -42237,218 +40892,13 @@ module _ (claims· : Claims) where
               W
               𝓣
               E
-              G100
-              G101
-              b46
-              b53
+              G94
+              G95
+              b43
+              b52
               Δ0
-              (Typed.give s98)
+              (Typed.ask s92)
               at60
-              (Local.t-sc-share
-              𝓤
-              H
-              A
-              W
-              E
-              𝓣
-              G100
-              21
-              45
-              13
-              (KDecided.R)
-              (Syntax.tyRef Syntax.erased Syntax.imm (KDecided.named))
-              (λ x. x)
-              (KDecided.in-mem 𝓤 H A W)
-              (Reads.room-gone
-              𝓤
-              H
-              A
-              (Syntax.tyRef
-              Syntax.erased
-              Syntax.imm
-              (KDecided.named)))
-              Path'.refl
-              λ b o. tt)
-              d60
-
-          d62 : Typed.Typed 𝓤 H A 𝓣 E G99 b54 Δ0 at62
-          d62 =
-              Typed.g-pre
-              𝓤
-              H
-              A
-              W
-              𝓣
-              E
-              G99
-              G100
-              b54
-              Δ0
-              (λ Ψ. Ψ)
-              at61
-              (Lifetime.g-begin 𝓤 H A W E G99 13 (
-                tt,
-                (
-                  (tt, tt),
-                  (
-                    (tt, tt),
-                    (
-                      (tt, tt),
-                      (
-                        (tt, tt),
-                        (
-                          tt,
-                          (
-                            tt,
-                            (
-                              tt,
-                              (
-                                tt,
-                                (
-                                  tt,
-                                  (
-                                    tt,
-                                    (
-                                      tt,
-                                      (
-                                        tt,
-                                        (
-                                          tt,
-                                          (
-                                            tt,
-                                            (
-                                              tt,
-                                              (
-                                                tt,
-                                                (
-                                                  tt,
-                                                  (
-                                                    tt,
-                                                    (
-                                                      tt,
-                                                      (
-                                                        tt,
-                                                        (
-                                                          tt,
-                                                          (
-                                                            tt,
-                                                            (
-                                                              tt,
-                                                              (
-                                                                tt,
-                                                                (
-                                                                  tt,
-                                                                  (
-                                                                    tt,
-                                                                    (
-                                                                      tt,
-                                                                      (
-                                                                        tt,
-                                                                        (
-                                                                          tt,
-                                                                          (
-                                                                            tt,
-                                                                            (
-                                                                              tt,
-                                                                              (
-                                                                                tt,
-                                                                                (
-                                                                                  tt,
-                                                                                  (
-                                                                                    tt,
-                                                                                    (
-                                                                                      tt,
-                                                                                      (
-                                                                                        tt,
-                                                                                        (
-                                                                                          tt,
-                                                                                          (
-                                                                                            tt,
-                                                                                            (
-                                                                                              tt,
-                                                                                              (
-                                                                                                tt,
-                                                                                                (
-                                                                                                  tt,
-                                                                                                  (
-                                                                                                    tt,
-                                                                                                    (
-                                                                                                      tt,
-                                                                                                      (
-                                                                                                        tt,
-                                                                                                        (
-                                                                                                          tt,
-                                                                                                          (
-                                                                                                            tt,
-                                                                                                            (
-                                                                                                              tt,
-                                                                                                              tt,
-                                                                                                            ),
-                                                                                                          ),
-                                                                                                        ),
-                                                                                                      ),
-                                                                                                    ),
-                                                                                                  ),
-                                                                                                ),
-                                                                                              ),
-                                                                                            ),
-                                                                                          ),
-                                                                                        ),
-                                                                                      ),
-                                                                                    ),
-                                                                                  ),
-                                                                                ),
-                                                                              ),
-                                                                            ),
-                                                                          ),
-                                                                        ),
-                                                                      ),
-                                                                    ),
-                                                                  ),
-                                                                ),
-                                                              ),
-                                                            ),
-                                                          ),
-                                                        ),
-                                                      ),
-                                                    ),
-                                                  ),
-                                                ),
-                                              ),
-                                            ),
-                                          ),
-                                        ),
-                                      ),
-                                    ),
-                                  ),
-                                ),
-                              ),
-                            ),
-                          ),
-                        ),
-                      ),
-                    ),
-                  ),
-                ),
-              ))
-              d61
-
-          d63 : Typed.Typed 𝓤 H A 𝓣 E G98 b55 Δ0 at63
-          d63 =
-              Typed.s-seq
-              𝓤
-              H
-              A
-              W
-              𝓣
-              E
-              G98
-              G99
-              b45
-              b54
-              Δ0
-              (Typed.ask s96)
-              at62
               (Relend.t-sl-aggregate
               𝓤
               H
@@ -42458,9 +40908,9 @@ module _ (claims· : Claims) where
               (Referent.rtF (Referent.fInt Syntax.w8))
               𝓣
               (Relend.asMut (Referent.rtF (Referent.fInt Syntax.w8)))
-              G98
+              G94
+              42
               43
-              44
               12
               (Syntax.tyRef Syntax.erased Syntax.mut (Syntax.tyInt Syntax.w8))
               (Syntax.tyRef Syntax.erased Syntax.mut (Syntax.tyInt Syntax.w8))
@@ -42506,10 +40956,10 @@ module _ (claims· : Claims) where
               Path'.refl
               Path'.refl
               λ b o k. tt)
-              d62
+              d60
 
-          d64 : Typed.Typed 𝓤 H A 𝓣 E G97 b56 Δ0 at64
-          d64 =
+          d62 : Typed.Typed 𝓤 H A 𝓣 E G93 b54 Δ0 at62
+          d62 =
               Typed.s-seq
               𝓤
               H
@@ -42517,13 +40967,13 @@ module _ (claims· : Claims) where
               W
               𝓣
               E
-              G97
-              G98
-              b44
-              b55
+              G93
+              G94
+              b42
+              b53
               Δ0
-              (Typed.give s95)
-              at63
+              (Typed.give s91)
+              at61
               (Relend.t-sl-relend
               𝓤
               H
@@ -42532,9 +40982,9 @@ module _ (claims· : Claims) where
               E
               (Referent.rtF (Referent.fInt Syntax.w8))
               𝓣
-              G97
+              G93
               4
-              43
+              42
               3
               12
               (Syntax.tyRef (Syntax.named 3) Syntax.mut (Syntax.tyInt Syntax.w8))
@@ -42561,10 +41011,10 @@ module _ (claims· : Claims) where
               Path'.refl
               Path'.refl
               λ b o. tt)
-              d63
+              d61
 
-          d65 : Typed.Typed 𝓤 H A 𝓣 E G96 b56 Δ0 at65
-          d65 =
+          d63 : Typed.Typed 𝓤 H A 𝓣 E G92 b54 Δ0 at63
+          d63 =
               Typed.g-pre
               𝓤
               H
@@ -42572,13 +41022,13 @@ module _ (claims· : Claims) where
               W
               𝓣
               E
-              G96
-              G97
-              b56
+              G92
+              G93
+              b54
               Δ0
               (λ Ψ. Ψ)
-              at64
-              (Lifetime.g-begin 𝓤 H A W E G96 12 (
+              at62
+              (Lifetime.g-begin 𝓤 H A W E G92 12 (
                 tt,
                 (
                   (tt, tt),
@@ -42672,10 +41122,7 @@ module _ (claims· : Claims) where
                                                                                                           tt,
                                                                                                           (
                                                                                                             tt,
-                                                                                                            (
-                                                                                                              tt,
-                                                                                                              tt,
-                                                                                                            ),
+                                                                                                            tt,
                                                                                                           ),
                                                                                                         ),
                                                                                                       ),
@@ -42723,10 +41170,10 @@ module _ (claims· : Claims) where
                   ),
                 ),
               ))
-              d64
+              d62
 
-          d66 : Typed.Typed 𝓤 H A 𝓣 E G95 b57 Δ0 at66
-          d66 =
+          d64 : Typed.Typed 𝓤 H A 𝓣 E G91 b55 Δ0 at64
+          d64 =
               Typed.s-seq
               𝓤
               H
@@ -42734,13 +41181,13 @@ module _ (claims· : Claims) where
               W
               𝓣
               E
-              G95
-              G96
-              b43
-              b56
+              G91
+              G92
+              b41
+              b54
               Δ0
-              (Typed.ask s93)
-              at65
+              (Typed.ask s89)
+              at63
               (Relend.t-sl-aggregate
               𝓤
               H
@@ -42750,9 +41197,9 @@ module _ (claims· : Claims) where
               (Referent.rtF (Referent.fInt Syntax.w8))
               𝓣
               (Relend.asMut (Referent.rtF (Referent.fInt Syntax.w8)))
-              G95
+              G91
+              40
               41
-              42
               11
               (Syntax.tyRef Syntax.erased Syntax.mut (Syntax.tyInt Syntax.w8))
               (Syntax.tyRef Syntax.erased Syntax.mut (Syntax.tyInt Syntax.w8))
@@ -42798,10 +41245,10 @@ module _ (claims· : Claims) where
               Path'.refl
               Path'.refl
               λ b o k. tt)
-              d65
+              d63
 
-          d67 : Typed.Typed 𝓤 H A 𝓣 E G94 b58 Δ0 at67
-          d67 =
+          d65 : Typed.Typed 𝓤 H A 𝓣 E G90 b56 Δ0 at65
+          d65 =
               Typed.s-seq
               𝓤
               H
@@ -42809,13 +41256,13 @@ module _ (claims· : Claims) where
               W
               𝓣
               E
-              G94
-              G95
-              b42
-              b57
+              G90
+              G91
+              b40
+              b55
               Δ0
-              (Typed.give s92)
-              at66
+              (Typed.give s88)
+              at64
               (Relend.t-sl-relend
               𝓤
               H
@@ -42824,9 +41271,9 @@ module _ (claims· : Claims) where
               E
               (Referent.rtF (Referent.fInt Syntax.w8))
               𝓣
-              G94
+              G90
               3
-              41
+              40
               2
               11
               (Syntax.tyRef (Syntax.named 2) Syntax.mut (Syntax.tyInt Syntax.w8))
@@ -42853,10 +41300,10 @@ module _ (claims· : Claims) where
               Path'.refl
               Path'.refl
               λ b o. tt)
-              d66
+              d64
 
-          d68 : Typed.Typed 𝓤 H A 𝓣 E G93 b58 Δ0 at68
-          d68 =
+          d66 : Typed.Typed 𝓤 H A 𝓣 E G89 b56 Δ0 at66
+          d66 =
               Typed.g-pre
               𝓤
               H
@@ -42864,13 +41311,13 @@ module _ (claims· : Claims) where
               W
               𝓣
               E
-              G93
-              G94
-              b58
+              G89
+              G90
+              b56
               Δ0
               (λ Ψ. Ψ)
-              at67
-              (Lifetime.g-begin 𝓤 H A W E G93 11 (
+              at65
+              (Lifetime.g-begin 𝓤 H A W E G89 11 (
                 tt,
                 (
                   (tt, tt),
@@ -42964,10 +41411,7 @@ module _ (claims· : Claims) where
                                                                                                           tt,
                                                                                                           (
                                                                                                             tt,
-                                                                                                            (
-                                                                                                              tt,
-                                                                                                              tt,
-                                                                                                            ),
+                                                                                                            tt,
                                                                                                           ),
                                                                                                         ),
                                                                                                       ),
@@ -43015,10 +41459,10 @@ module _ (claims· : Claims) where
                   ),
                 ),
               ))
-              d67
+              d65
 
-          d69 : Typed.Typed 𝓤 H A 𝓣 E G92 b59 Δ0 at69
-          d69 =
+          d67 : Typed.Typed 𝓤 H A 𝓣 E G88 b57 Δ0 at67
+          d67 =
               Typed.s-seq
               𝓤
               H
@@ -43026,13 +41470,13 @@ module _ (claims· : Claims) where
               W
               𝓣
               E
-              G92
-              G93
-              b41
-              b58
+              G88
+              G89
+              b39
+              b56
               Δ0
-              (Typed.ask s90)
-              at68
+              (Typed.ask s86)
+              at66
               (Relend.t-sl-aggregate
               𝓤
               H
@@ -43042,9 +41486,9 @@ module _ (claims· : Claims) where
               (KRouteRow.R)
               𝓣
               (Relend.asMut (KRouteRow.R))
-              G92
+              G88
+              38
               39
-              40
               10
               (Syntax.tyRef Syntax.erased Syntax.mut (KRouteRow.named))
               (Syntax.tyRef Syntax.erased Syntax.mut (KRouteRow.named))
@@ -43093,10 +41537,10 @@ module _ (claims· : Claims) where
               Path'.refl
               Path'.refl
               λ b o k. tt)
-              d68
+              d66
 
-          d70 : Typed.Typed 𝓤 H A 𝓣 E G91 b60 Δ0 at70
-          d70 =
+          d68 : Typed.Typed 𝓤 H A 𝓣 E G87 b58 Δ0 at68
+          d68 =
               Typed.s-seq
               𝓤
               H
@@ -43104,13 +41548,13 @@ module _ (claims· : Claims) where
               W
               𝓣
               E
-              G91
-              G92
-              b40
-              b59
+              G87
+              G88
+              b38
+              b57
               Δ0
-              (Typed.give s89)
-              at69
+              (Typed.give s85)
+              at67
               (Relend.t-sl-relend
               𝓤
               H
@@ -43119,9 +41563,9 @@ module _ (claims· : Claims) where
               E
               (KRouteRow.R)
               𝓣
-              G91
+              G87
               2
-              39
+              38
               1
               10
               (Syntax.tyRef
@@ -43154,10 +41598,10 @@ module _ (claims· : Claims) where
               Path'.refl
               Path'.refl
               λ b o. tt)
-              d69
+              d67
 
-          d71 : Typed.Typed 𝓤 H A 𝓣 E G90 b60 Δ0 at71
-          d71 =
+          d69 : Typed.Typed 𝓤 H A 𝓣 E G86 b58 Δ0 at69
+          d69 =
               Typed.g-pre
               𝓤
               H
@@ -43165,13 +41609,13 @@ module _ (claims· : Claims) where
               W
               𝓣
               E
-              G90
-              G91
-              b60
+              G86
+              G87
+              b58
               Δ0
               (λ Ψ. Ψ)
-              at70
-              (Lifetime.g-begin 𝓤 H A W E G90 10 (
+              at68
+              (Lifetime.g-begin 𝓤 H A W E G86 10 (
                 tt,
                 (
                   (tt, tt),
@@ -43265,10 +41709,7 @@ module _ (claims· : Claims) where
                                                                                                           tt,
                                                                                                           (
                                                                                                             tt,
-                                                                                                            (
-                                                                                                              tt,
-                                                                                                              tt,
-                                                                                                            ),
+                                                                                                            tt,
                                                                                                           ),
                                                                                                         ),
                                                                                                       ),
@@ -43316,10 +41757,10 @@ module _ (claims· : Claims) where
                   ),
                 ),
               ))
-              d70
+              d68
 
-          d72 : Typed.Typed 𝓤 H A 𝓣 E G89 b61 Δ0 at72
-          d72 =
+          d70 : Typed.Typed 𝓤 H A 𝓣 E G85 b59 Δ0 at70
+          d70 =
               Typed.s-seq
               𝓤
               H
@@ -43327,13 +41768,13 @@ module _ (claims· : Claims) where
               W
               𝓣
               E
-              G89
-              G90
-              b39
-              b60
+              G85
+              G86
+              b37
+              b58
               Δ0
-              (Typed.ask s87)
-              at71
+              (Typed.ask s83)
+              at69
               (Relend.t-sl-aggregate
               𝓤
               H
@@ -43343,9 +41784,9 @@ module _ (claims· : Claims) where
               (KInstanceRow.R)
               𝓣
               (Relend.asMut (KInstanceRow.R))
-              G89
+              G85
+              36
               37
-              38
               9
               (Syntax.tyRef Syntax.erased Syntax.mut (KInstanceRow.named))
               (Syntax.tyRef Syntax.erased Syntax.mut (KInstanceRow.named))
@@ -43394,10 +41835,10 @@ module _ (claims· : Claims) where
               Path'.refl
               Path'.refl
               λ b o k. tt)
-              d71
+              d69
 
-          d73 : Typed.Typed 𝓤 H A 𝓣 E G88 b62 Δ0 at73
-          d73 =
+          d71 : Typed.Typed 𝓤 H A 𝓣 E G84 b60 Δ0 at71
+          d71 =
               Typed.s-seq
               𝓤
               H
@@ -43405,13 +41846,13 @@ module _ (claims· : Claims) where
               W
               𝓣
               E
-              G88
-              G89
-              b38
-              b61
+              G84
+              G85
+              b36
+              b59
               Δ0
-              (Typed.give s86)
-              at72
+              (Typed.give s82)
+              at70
               (Relend.t-sl-relend
               𝓤
               H
@@ -43420,9 +41861,9 @@ module _ (claims· : Claims) where
               E
               (KInstanceRow.R)
               𝓣
-              G88
+              G84
               1
-              37
+              36
               0
               9
               (Syntax.tyRef
@@ -43458,10 +41899,10 @@ module _ (claims· : Claims) where
               Path'.refl
               Path'.refl
               λ b o. tt)
-              d72
+              d70
 
-          d74 : Typed.Typed 𝓤 H A 𝓣 E G87 b62 Δ0 at74
-          d74 =
+          d72 : Typed.Typed 𝓤 H A 𝓣 E G83 b60 Δ0 at72
+          d72 =
               Typed.g-pre
               𝓤
               H
@@ -43469,13 +41910,13 @@ module _ (claims· : Claims) where
               W
               𝓣
               E
-              G87
-              G88
-              b62
+              G83
+              G84
+              b60
               Δ0
               (λ Ψ. Ψ)
-              at73
-              (Lifetime.g-begin 𝓤 H A W E G87 9 (
+              at71
+              (Lifetime.g-begin 𝓤 H A W E G83 9 (
                 tt,
                 (
                   tt,
@@ -43569,10 +42010,7 @@ module _ (claims· : Claims) where
                                                                                                           tt,
                                                                                                           (
                                                                                                             tt,
-                                                                                                            (
-                                                                                                              tt,
-                                                                                                              tt,
-                                                                                                            ),
+                                                                                                            tt,
                                                                                                           ),
                                                                                                         ),
                                                                                                       ),
@@ -43620,10 +42058,10 @@ module _ (claims· : Claims) where
                   ),
                 ),
               ))
-              d73
+              d71
 
-          d75 : Typed.Typed 𝓤 H A 𝓣 E G86 b62 Δ0 at75
-          d75 =
+          d73 : Typed.Typed 𝓤 H A 𝓣 E G82 b60 Δ0 at73
+          d73 =
               Typed.g-pre
               𝓤
               H
@@ -43631,19 +42069,19 @@ module _ (claims· : Claims) where
               W
               𝓣
               E
-              G86
-              G87
-              b62
+              G82
+              G83
+              b60
               Δ0
-              (Typed.pass T86 T87 s84)
-              at74
+              (Typed.pass T82 T83 s80)
+              at72
               (Scalar.g-room
               𝓤
               H
               A
               W
               E
-              G86
+              G82
               16
               (Syntax.tyStruct
               (List._∷_
@@ -43726,10 +42164,10 @@ module _ (claims· : Claims) where
               (Syntax.tyInt Syntax.w64)
               (Syntax.tcons (KRouteRow.spelled) Syntax.tnil))))
               Path'.refl))
-              d74
+              d72
 
-          d76 : Typed.Typed 𝓤 H A 𝓣 E G85 b62 Δ0 at76
-          d76 =
+          d74 : Typed.Typed 𝓤 H A 𝓣 E G81 b60 Δ0 at74
+          d74 =
               Typed.g-pre
               𝓤
               H
@@ -43737,19 +42175,19 @@ module _ (claims· : Claims) where
               W
               𝓣
               E
-              G85
-              G86
-              b62
+              G81
+              G82
+              b60
               Δ0
-              (Typed.pass T85 T86 s83)
-              at75
+              (Typed.pass T81 T82 s79)
+              at73
               (Scalar.g-room
               𝓤
               H
               A
               W
               E
-              G85
+              G81
               15
               (Syntax.tyStruct
               (List._∷_
@@ -43812,10 +42250,10 @@ module _ (claims· : Claims) where
               (Syntax.tyInt Syntax.w64)
               (Syntax.tcons (KInstanceRow.spelled) Syntax.tnil))))
               Path'.refl))
-              d75
+              d73
 
-          d77 : Typed.Typed 𝓤 H A 𝓣 E G84 b63 Δ0 at77
-          d77 =
+          d75 : Typed.Typed 𝓤 H A 𝓣 E G80 b61 Δ0 at75
+          d75 =
               Typed.s-seq
               𝓤
               H
@@ -43823,13 +42261,13 @@ module _ (claims· : Claims) where
               W
               𝓣
               E
-              G84
-              G85
-              b37
-              b62
+              G80
+              G81
+              b35
+              b60
               Δ0
-              (Typed.both s82)
-              at76
+              (Typed.both s78)
+              at74
               (Plain.t-call-plain
               𝓤
               H
@@ -43837,21 +42275,21 @@ module _ (claims· : Claims) where
               W
               𝓣
               0
-              ps·15
-              r·15
-              (claims· .30)
-              (claims· .31)
+              ps·14
+              r·14
+              (claims· .28)
+              (claims· .29)
               "node::live_of"
-              (known .15)
+              (known .14)
               E
               (λ pos β. β)
-              G84 (
+              G80 (
                 record { pos = 15; st = List.[]; d = 0; at = λ x. x },
                 (record { pos = 16; st = List.[]; d = 0; at = λ x. x }, tt),
               )
-              24
+              23
               List.[]
-              (Call.sub-id 𝓤 H A W (G84 .slots)) (
+              (Call.sub-id 𝓤 H A W (G80 .slots)) (
                 (
                   Yields.yields-copy
                       𝓤
@@ -43938,10 +42376,10 @@ module _ (claims· : Claims) where
               (Syntax.tcons Syntax.tyBool (Syntax.tcons (Syntax.tyInt Syntax.w64) Syntax.tnil))))))
               tt
               Path'.refl)
-              d76
+              d74
 
-          d78 : Typed.Typed 𝓤 H A 𝓣 E G83 b63 Δ0 at78
-          d78 =
+          d76 : Typed.Typed 𝓤 H A 𝓣 E G79 b61 Δ0 at76
+          d76 =
               Typed.g-pre
               𝓤
               H
@@ -43949,26 +42387,26 @@ module _ (claims· : Claims) where
               W
               𝓣
               E
-              G83
-              G84
-              b63
+              G79
+              G80
+              b61
               Δ0
-              (Typed.pass T83 T84 s81)
-              at77
+              (Typed.pass T79 T80 s77)
+              at75
               (Scalar.g-room
               𝓤
               H
               A
               W
               E
-              G83
-              36
+              G79
+              35
               (KPost.spelled)
               (KPost.room 𝓤 H A W))
-              d77
+              d75
 
-          d79 : Typed.Typed 𝓤 H A 𝓣 E G82 b64 Δ0 at79
-          d79 =
+          d77 : Typed.Typed 𝓤 H A 𝓣 E G78 b62 Δ0 at77
+          d77 =
               Typed.s-seq
               𝓤
               H
@@ -43976,13 +42414,13 @@ module _ (claims· : Claims) where
               W
               𝓣
               E
-              G82
-              G83
-              b36
-              b63
+              G78
+              G79
+              b34
+              b61
               Δ0
-              (Typed.pass T82 T83 s80)
-              at78
+              (Typed.pass T78 T79 s76)
+              at76
               (LocalCopy.t-val-copy
               𝓤
               H
@@ -43991,9 +42429,9 @@ module _ (claims· : Claims) where
               E
               𝓣
               (λ ρ. Unit)
-              G82
-              36
-              23
+              G78
+              35
+              22
               (KPost.R)
               (KPost.spelled)
               (KPost.spelled)
@@ -44003,7 +42441,7 @@ module _ (claims· : Claims) where
               (λ x. x)
               (λ x. x)
               Path'.refl
-              (Own'.told-none 𝓤 H A (G82 .slots))
+              (Own'.told-none 𝓤 H A (G78 .slots))
               (Yields.yields-copy
               𝓤
               H
@@ -44038,10 +42476,10 @@ module _ (claims· : Claims) where
               ρ)
               Path'.refl
               Path'.refl)
-              d78
+              d76
 
-          d80 : Typed.Typed 𝓤 H A 𝓣 E G81 b64 Δ0 at80
-          d80 =
+          d78 : Typed.Typed 𝓤 H A 𝓣 E G77 b62 Δ0 at78
+          d78 =
               Typed.g-pre
               𝓤
               H
@@ -44049,26 +42487,26 @@ module _ (claims· : Claims) where
               W
               𝓣
               E
-              G81
-              G82
-              b64
+              G77
+              G78
+              b62
               Δ0
-              (Typed.pass T81 T82 s79)
-              at79
+              (Typed.pass T77 T78 s75)
+              at77
               (Scalar.g-room
               𝓤
               H
               A
               W
               E
-              G81
-              26
+              G77
+              25
               (KParsed.spelled)
               (KParsed.room 𝓤 H A W))
-              d79
+              d77
 
-          d81 : Typed.Typed 𝓤 H A 𝓣 E G80 b64 Δ0 at81
-          d81 =
+          d79 : Typed.Typed 𝓤 H A 𝓣 E G76 b62 Δ0 at79
+          d79 =
               Typed.g-pre
               𝓤
               H
@@ -44076,20 +42514,20 @@ module _ (claims· : Claims) where
               W
               𝓣
               E
-              G80
-              G81
-              b64
+              G76
+              G77
+              b62
               Δ0
-              (Typed.pass T80 T81 s78)
-              at80
+              (Typed.pass T76 T77 s74)
+              at78
               (Scalar.g-room
               𝓤
               H
               A
               W
               E
-              G80
-              19
+              G76
+              18
               (Syntax.tyStruct
               (List._∷_
               114
@@ -44543,10 +42981,10 @@ module _ (claims· : Claims) where
               (Syntax.tcons Syntax.tyBool (Syntax.tcons (Syntax.tyInt Syntax.w8) Syntax.tnil)))
               Syntax.tnil))))))))
               Path'.refl))
-              d80
+              d78
 
-          d82 : Typed.Typed 𝓤 H A 𝓣 E G79 b64 Δ0 at82
-          d82 =
+          d80 : Typed.Typed 𝓤 H A 𝓣 E G75 b62 Δ0 at80
+          d80 =
               Typed.g-pre
               𝓤
               H
@@ -44554,19 +42992,19 @@ module _ (claims· : Claims) where
               W
               𝓣
               E
-              G79
-              G80
-              b64
+              G75
+              G76
+              b62
               Δ0
-              (Typed.pass T79 T80 s77)
-              at81
+              (Typed.pass T75 T76 s73)
+              at79
               (Scalar.g-room
               𝓤
               H
               A
               W
               E
-              G79
+              G75
               9
               (Syntax.tyStruct
               (List._∷_
@@ -44629,10 +43067,10 @@ module _ (claims· : Claims) where
               Syntax.tyBool
               (Syntax.tcons (Syntax.tyInt Syntax.w16) (Syntax.tcons Syntax.tyBool Syntax.tnil))))))
               Path'.refl))
-              d81
+              d79
 
-          d83 : Typed.Typed 𝓤 H A 𝓣 E G78 b65 Δ0 at83
-          d83 =
+          d81 : Typed.Typed 𝓤 H A 𝓣 E G74 b63 Δ0 at81
+          d81 =
               Typed.s-seq
               𝓤
               H
@@ -44640,13 +43078,13 @@ module _ (claims· : Claims) where
               W
               𝓣
               E
-              G78
-              G79
-              b35
-              b64
+              G74
+              G75
+              b33
+              b62
               Δ0
-              (Typed.both s76)
-              at82
+              (Typed.both s72)
+              at80
               (Plain.t-call-plain
               𝓤
               H
@@ -44654,30 +43092,30 @@ module _ (claims· : Claims) where
               W
               𝓣
               0
-              ps·14
-              r·14
-              (claims· .28)
-              (claims· .29)
-              "request_accepted::reply_post"
-              (known .14)
+              ps·13
+              r·13
+              (claims· .26)
+              (claims· .27)
+              "request_sent::reply_post"
+              (known .13)
               E
               (λ pos β. β)
-              G78 (
+              G74 (
                 record { pos = 5; st = List.[]; d = 0; at = λ x. x },
                 (
                   record { pos = 9; st = List.[]; d = 0; at = λ x. x },
                   (
-                    record { pos = 26; st = List.[]; d = 0; at = λ x. x },
+                    record { pos = 25; st = List.[]; d = 0; at = λ x. x },
                     (
-                      record { pos = 19; st = List.[]; d = 0; at = λ x. x },
+                      record { pos = 18; st = List.[]; d = 0; at = λ x. x },
                       (Num.vAt 7 λ x. x, tt),
                     ),
                   ),
                 ),
               )
-              36
+              35
               List.[]
-              (Call.sub-id 𝓤 H A W (G78 .slots)) (
+              (Call.sub-id 𝓤 H A W (G74 .slots)) (
                 (
                   Yields.yields-copy
                       𝓤
@@ -44782,10 +43220,10 @@ module _ (claims· : Claims) where
               (Reads.room-gone 𝓤 H A (KPost.spelled))
               tt
               Path'.refl)
-              d82
+              d80
 
-          d84 : Typed.Typed 𝓤 H A 𝓣 E G77 b66 Δ0 at84
-          d84 =
+          d82 : Typed.Typed 𝓤 H A 𝓣 E G73 b64 Δ0 at82
+          d82 =
               Typed.s-seq
               𝓤
               H
@@ -44793,13 +43231,13 @@ module _ (claims· : Claims) where
               W
               𝓣
               E
-              G77
-              G78
-              b34
-              b65
+              G73
+              G74
+              b32
+              b63
               Δ0
-              (Typed.give s75)
-              at83
+              (Typed.give s71)
+              at81
               (DerefMove.t-sref-read-copy
               𝓤
               H
@@ -44808,9 +43246,9 @@ module _ (claims· : Claims) where
               E
               𝓣
               (λ ρ. Unit)
-              G77
+              G73
               10
-              26
+              25
               4
               (KParsed.R)
               (Syntax.tyRef
@@ -44837,7 +43275,7 @@ module _ (claims· : Claims) where
               H
               A
               (KParsed.R))
-              (Own'.told-none 𝓤 H A (G77 .slots))
+              (Own'.told-none 𝓤 H A (G73 .slots))
               (Copies.halves
               𝓤
               H
@@ -44872,10 +43310,10 @@ module _ (claims· : Claims) where
               tt
               Path'.refl
               Path'.refl)
-              d83
+              d81
 
-          d85 : Typed.Typed 𝓤 H A 𝓣 E G76 b66 Δ0 at85
-          d85 =
+          d83 : Typed.Typed 𝓤 H A 𝓣 E G72 b64 Δ0 at83
+          d83 =
               Typed.g-pre
               𝓤
               H
@@ -44883,26 +43321,26 @@ module _ (claims· : Claims) where
               W
               𝓣
               E
-              G76
-              G77
-              b66
+              G72
+              G73
+              b64
               Δ0
-              (Typed.pass T76 T77 s74)
-              at84
+              (Typed.pass T72 T73 s70)
+              at82
               (Scalar.g-room
               𝓤
               H
               A
               W
               E
-              G76
-              36
+              G72
+              35
               (KPost.spelled)
               (KPost.room 𝓤 H A W))
-              d84
+              d82
 
-          d86 : Typed.Typed 𝓤 H A 𝓣 E G75 b67 Δ0 at86
-          d86 =
+          d84 : Typed.Typed 𝓤 H A 𝓣 E G71 b65 Δ0 at84
+          d84 =
               Typed.s-seq
               𝓤
               H
@@ -44910,13 +43348,13 @@ module _ (claims· : Claims) where
               W
               𝓣
               E
-              G75
-              G76
-              b33
-              b66
+              G71
+              G72
+              b31
+              b64
               Δ0
-              (Typed.pass T75 T76 s73)
-              at85
+              (Typed.pass T71 T72 s69)
+              at83
               (LocalCopy.t-val-copy
               𝓤
               H
@@ -44925,9 +43363,9 @@ module _ (claims· : Claims) where
               E
               𝓣
               (λ ρ. Unit)
-              G75
-              36
-              22
+              G71
+              35
+              21
               (KPost.R)
               (KPost.spelled)
               (KPost.spelled)
@@ -44937,7 +43375,7 @@ module _ (claims· : Claims) where
               (λ x. x)
               (λ x. x)
               Path'.refl
-              (Own'.told-none 𝓤 H A (G75 .slots))
+              (Own'.told-none 𝓤 H A (G71 .slots))
               (Yields.yields-copy
               𝓤
               H
@@ -44972,10 +43410,10 @@ module _ (claims· : Claims) where
               ρ)
               Path'.refl
               Path'.refl)
-              d85
+              d83
 
-          d87 : Typed.Typed 𝓤 H A 𝓣 E G74 b67 Δ0 at87
-          d87 =
+          d85 : Typed.Typed 𝓤 H A 𝓣 E G70 b65 Δ0 at85
+          d85 =
               Typed.g-pre
               𝓤
               H
@@ -44983,26 +43421,26 @@ module _ (claims· : Claims) where
               W
               𝓣
               E
-              G74
-              G75
-              b67
+              G70
+              G71
+              b65
               Δ0
-              (Typed.pass T74 T75 s72)
-              at86
+              (Typed.pass T70 T71 s68)
+              at84
               (Scalar.g-room
               𝓤
               H
               A
               W
               E
-              G74
-              26
+              G70
+              25
               (KParsed.spelled)
               (KParsed.room 𝓤 H A W))
-              d86
+              d84
 
-          d88 : Typed.Typed 𝓤 H A 𝓣 E G73 b68 Δ0 at88
-          d88 =
+          d86 : Typed.Typed 𝓤 H A 𝓣 E G69 b66 Δ0 at86
+          d86 =
               Typed.s-seq
               𝓤
               H
@@ -45010,13 +43448,13 @@ module _ (claims· : Claims) where
               W
               𝓣
               E
-              G73
-              G74
-              b32
-              b67
+              G69
+              G70
+              b30
+              b65
               Δ0
-              (Typed.both s71)
-              at87
+              (Typed.both s67)
+              at85
               (Plain.t-call-plain
               𝓤
               H
@@ -45024,24 +43462,24 @@ module _ (claims· : Claims) where
               W
               𝓣
               0
-              ps·13
-              r·13
-              (claims· .26)
-              (claims· .27)
-              "request_accepted::forward_post"
-              (known .13)
+              ps·12
+              r·12
+              (claims· .24)
+              (claims· .25)
+              "request_sent::forward_post"
+              (known .12)
               E
               (λ pos β. β)
-              G73 (
+              G69 (
                 record { pos = 9; st = List.[]; d = 0; at = λ x. x },
                 (
-                  record { pos = 26; st = List.[]; d = 0; at = λ x. x },
-                  (record { pos = 19; st = List.[]; d = 0; at = λ x. x }, tt),
+                  record { pos = 25; st = List.[]; d = 0; at = λ x. x },
+                  (record { pos = 18; st = List.[]; d = 0; at = λ x. x }, tt),
                 ),
               )
-              36
+              35
               List.[]
-              (Call.sub-id 𝓤 H A W (G73 .slots)) (
+              (Call.sub-id 𝓤 H A W (G69 .slots)) (
                 (
                   Yields.yields-copy
                       𝓤
@@ -45114,10 +43552,10 @@ module _ (claims· : Claims) where
               (Reads.room-gone 𝓤 H A (KPost.spelled))
               tt
               Path'.refl)
-              d87
+              d85
 
-          d89 : Typed.Typed 𝓤 H A 𝓣 E G72 b69 Δ0 at89
-          d89 =
+          d87 : Typed.Typed 𝓤 H A 𝓣 E G68 b67 Δ0 at87
+          d87 =
               Typed.s-seq
               𝓤
               H
@@ -45125,13 +43563,13 @@ module _ (claims· : Claims) where
               W
               𝓣
               E
-              G72
-              G73
-              b31
-              b68
+              G68
+              G69
+              b29
+              b66
               Δ0
-              (Typed.give s70)
-              at88
+              (Typed.give s66)
+              at86
               (DerefMove.t-sref-read-copy
               𝓤
               H
@@ -45140,9 +43578,9 @@ module _ (claims· : Claims) where
               E
               𝓣
               (λ ρ. Unit)
-              G72
+              G68
               10
-              26
+              25
               4
               (KParsed.R)
               (Syntax.tyRef
@@ -45169,7 +43607,7 @@ module _ (claims· : Claims) where
               H
               A
               (KParsed.R))
-              (Own'.told-none 𝓤 H A (G72 .slots))
+              (Own'.told-none 𝓤 H A (G68 .slots))
               (Copies.halves
               𝓤
               H
@@ -45204,10 +43642,10 @@ module _ (claims· : Claims) where
               tt
               Path'.refl
               Path'.refl)
-              d88
+              d86
 
-          d90 : Typed.Typed 𝓤 H A 𝓣 E G71 b69 Δ0 at90
-          d90 =
+          d88 : Typed.Typed 𝓤 H A 𝓣 E G67 b67 Δ0 at88
+          d88 =
               Typed.g-pre
               𝓤
               H
@@ -45215,26 +43653,26 @@ module _ (claims· : Claims) where
               W
               𝓣
               E
-              G71
-              G72
-              b69
+              G67
+              G68
+              b67
               Δ0
-              (Typed.pass T71 T72 s69)
-              at89
+              (Typed.pass T67 T68 s65)
+              at87
               (Scalar.g-room
               𝓤
               H
               A
               W
               E
-              G71
-              35
+              G67
+              34
               (KDecided.spelled)
               (KDecided.room 𝓤 H A W))
-              d89
+              d87
 
-          d91 : Typed.Typed 𝓤 H A 𝓣 E G70 b70 Δ0 at91
-          d91 =
+          d89 : Typed.Typed 𝓤 H A 𝓣 E G66 b68 Δ0 at89
+          d89 =
               Typed.s-seq
               𝓤
               H
@@ -45242,13 +43680,13 @@ module _ (claims· : Claims) where
               W
               𝓣
               E
-              G70
-              G71
-              b30
-              b69
+              G66
+              G67
+              b28
+              b67
               Δ0
-              (Typed.pass T70 T71 s68)
-              at90
+              (Typed.pass T66 T67 s64)
+              at88
               (LocalCopy.t-val-copy
               𝓤
               H
@@ -45257,9 +43695,9 @@ module _ (claims· : Claims) where
               E
               𝓣
               (λ ρ. Unit)
-              G70
-              35
-              21
+              G66
+              34
+              20
               (KDecided.R)
               (KDecided.spelled)
               (KDecided.spelled)
@@ -45269,7 +43707,7 @@ module _ (claims· : Claims) where
               (λ x. x)
               (λ x. x)
               Path'.refl
-              (Own'.told-none 𝓤 H A (G70 .slots))
+              (Own'.told-none 𝓤 H A (G66 .slots))
               (Yields.yields-copy
               𝓤
               H
@@ -45304,10 +43742,10 @@ module _ (claims· : Claims) where
               ρ)
               Path'.refl
               Path'.refl)
-              d90
+              d88
 
-          d92 : Typed.Typed 𝓤 H A 𝓣 E G69 b70 Δ0 at92
-          d92 =
+          d90 : Typed.Typed 𝓤 H A 𝓣 E G65 b68 Δ0 at90
+          d90 =
               Typed.g-pre
               𝓤
               H
@@ -45315,26 +43753,26 @@ module _ (claims· : Claims) where
               W
               𝓣
               E
-              G69
-              G70
-              b70
+              G65
+              G66
+              b68
               Δ0
-              (Typed.pass T69 T70 s67)
-              at91
+              (Typed.pass T65 T66 s63)
+              at89
               (Scalar.g-room
               𝓤
               H
               A
               W
               E
-              G69
-              26
+              G65
+              25
               (KParsed.spelled)
               (KParsed.room 𝓤 H A W))
-              d91
+              d89
 
-          d93 : Typed.Typed 𝓤 H A 𝓣 E G68 b71 Δ0 at93
-          d93 =
+          d91 : Typed.Typed 𝓤 H A 𝓣 E G64 b69 Δ0 at91
+          d91 =
               Typed.s-seq
               𝓤
               H
@@ -45342,13 +43780,13 @@ module _ (claims· : Claims) where
               W
               𝓣
               E
-              G68
-              G69
-              b29
-              b70
+              G64
+              G65
+              b27
+              b68
               Δ0
-              (Typed.both s66)
-              at92
+              (Typed.both s62)
+              at90
               (Plain.t-call-plain
               𝓤
               H
@@ -45356,15 +43794,15 @@ module _ (claims· : Claims) where
               W
               𝓣
               0
-              ps·12
-              r·12
-              (claims· .24)
-              (claims· .25)
-              "request_accepted::accepted"
-              (known .12)
+              ps·11
+              r·11
+              (claims· .22)
+              (claims· .23)
+              "request_stored::accepted"
+              (known .11)
               E
               (λ pos β. β)
-              G68 (
+              G64 (
                 record { pos = 5; st = List.[]; d = 0; at = λ x. x },
                 (
                   Num.vAt 7 λ x. x,
@@ -45373,16 +43811,16 @@ module _ (claims· : Claims) where
                     (
                       record { pos = 9; st = List.[]; d = 0; at = λ x. x },
                       (
-                        record { pos = 26; st = List.[]; d = 0; at = λ x. x },
-                        (record { pos = 19; st = List.[]; d = 0; at = λ x. x }, tt),
+                        record { pos = 25; st = List.[]; d = 0; at = λ x. x },
+                        (record { pos = 18; st = List.[]; d = 0; at = λ x. x }, tt),
                       ),
                     ),
                   ),
                 ),
               )
-              35
+              34
               List.[]
-              (Call.sub-id 𝓤 H A W (G68 .slots)) (
+              (Call.sub-id 𝓤 H A W (G64 .slots)) (
                 (
                   Yields.yields-copy
                       𝓤
@@ -45493,10 +43931,10 @@ module _ (claims· : Claims) where
               (Reads.room-gone 𝓤 H A (KDecided.spelled))
               tt
               Path'.refl)
-              d92
+              d90
 
-          d94 : Typed.Typed 𝓤 H A 𝓣 E G51 b72 Δ0 at94
-          d94 =
+          d92 : Typed.Typed 𝓤 H A 𝓣 E G48 b70 Δ0 at92
+          d92 =
               Typed.s-seq
               𝓤
               H
@@ -45504,13 +43942,13 @@ module _ (claims· : Claims) where
               W
               𝓣
               E
-              G51
-              G68
-              b28
-              b71
+              G48
+              G64
+              b26
+              b69
               Δ0
-              (Typed.give s65)
-              at93
+              (Typed.give s61)
+              at91
               (DerefMove.t-sref-read-copy
               𝓤
               H
@@ -45519,9 +43957,9 @@ module _ (claims· : Claims) where
               E
               𝓣
               (λ ρ. Unit)
-              G51
+              G48
               10
-              26
+              25
               4
               (KParsed.R)
               (Syntax.tyRef
@@ -45548,7 +43986,7 @@ module _ (claims· : Claims) where
               H
               A
               (KParsed.R))
-              (Own'.told-none 𝓤 H A (G51 .slots))
+              (Own'.told-none 𝓤 H A (G48 .slots))
               (Copies.halves
               𝓤
               H
@@ -45583,13 +44021,13 @@ module _ (claims· : Claims) where
               tt
               Path'.refl
               Path'.refl)
-              d93
+              d91
 
-          d95 : Typed.Typed 𝓤 H A 𝓣 E G50 b73 Δ0 at95
-          d95 = Typed.t-seq 𝓤 H A W 𝓣 E G50 G51 b27 b72 Δ0 at18 at94 d18 d94
+          d93 : Typed.Typed 𝓤 H A 𝓣 E G47 b71 Δ0 at93
+          d93 = Typed.t-seq 𝓤 H A W 𝓣 E G47 G48 b25 b70 Δ0 at17 at92 d17 d92
 
-          d96 : Typed.Typed 𝓤 H A 𝓣 E G49 b74 Δ0 at96
-          d96 =
+          d94 : Typed.Typed 𝓤 H A 𝓣 E G46 b72 Δ0 at94
+          d94 =
               Typed.s-seq
               𝓤
               H
@@ -45597,13 +44035,13 @@ module _ (claims· : Claims) where
               W
               𝓣
               E
-              G49
-              G50
-              b22
-              b73
+              G46
+              G47
+              b20
+              b71
               Δ0
-              (Typed.ask s48)
-              at95
+              (Typed.ask s45)
+              at93
               (Scalar.t-op2
               𝓤
               H
@@ -45611,11 +44049,11 @@ module _ (claims· : Claims) where
               W
               E
               𝓣
-              G49
+              G46
               Syntax.ne
-              (Scalar.oAt 33 (Syntax.tyInt Syntax.w8) (Row.valS (Row.sInt Syntax.w8)))
+              (Scalar.oAt 32 (Syntax.tyInt Syntax.w8) (Row.valS (Row.sInt Syntax.w8)))
               (Scalar.oInt Syntax.w8 0)
-              34
+              33
               (Rows'.sc-here Row.sBool)
               Syntax.tyBool
               (Row.valS Row.sBool)
@@ -45627,10 +44065,10 @@ module _ (claims· : Claims) where
               Path'.refl
               (λ u. Path'.refl)
               λ u. tt)
-              d95
+              d93
 
-          d97 : Typed.Typed 𝓤 H A 𝓣 E G48 b75 Δ0 at97
-          d97 =
+          d95 : Typed.Typed 𝓤 H A 𝓣 E G45 b73 Δ0 at95
+          d95 =
               Typed.s-seq
               𝓤
               H
@@ -45638,13 +44076,13 @@ module _ (claims· : Claims) where
               W
               𝓣
               E
-              G48
-              G49
-              b21
-              b74
+              G45
+              G46
+              b19
+              b72
               Δ0
-              (Typed.both s47)
-              at96
+              (Typed.both s44)
+              at94
               (Plain.t-call-plain
               𝓤
               H
@@ -45652,19 +44090,19 @@ module _ (claims· : Claims) where
               W
               𝓣
               0
-              ps·10
-              r·10
-              (claims· .20)
-              (claims· .21)
+              ps·9
+              r·9
+              (claims· .18)
+              (claims· .19)
               "answer::number"
-              (known .10)
+              (known .9)
               E
               (λ pos β. β)
-              G48
-              (record { pos = 20; st = List.[]; d = 0; at = λ x. x }, tt)
-              33
+              G45
+              (record { pos = 19; st = List.[]; d = 0; at = λ x. x }, tt)
+              32
               List.[]
-              (Call.sub-id 𝓤 H A W (G48 .slots)) (
+              (Call.sub-id 𝓤 H A W (G45 .slots)) (
                 (
                   Yields.yields-copy
                       𝓤
@@ -45693,10 +44131,10 @@ module _ (claims· : Claims) where
               (Reads.room-gone 𝓤 H A (Syntax.tyInt Syntax.w8))
               tt
               Path'.refl)
-              d96
+              d94
 
-          d98 : Typed.Typed 𝓤 H A 𝓣 E G47 b75 Δ0 at98
-          d98 =
+          d96 : Typed.Typed 𝓤 H A 𝓣 E G44 b73 Δ0 at96
+          d96 =
               Typed.g-pre
               𝓤
               H
@@ -45704,26 +44142,26 @@ module _ (claims· : Claims) where
               W
               𝓣
               E
-              G47
-              G48
-              b75
+              G44
+              G45
+              b73
               Δ0
-              (Typed.pass T47 T48 s46)
-              at97
+              (Typed.pass T44 T45 s43)
+              at95
               (Scalar.g-room
               𝓤
               H
               A
               W
               E
-              G47
-              26
+              G44
+              25
               (KParsed.spelled)
               (KParsed.room 𝓤 H A W))
-              d97
+              d95
 
-          d99 : Typed.Typed 𝓤 H A 𝓣 E G46 b76 Δ0 at99
-          d99 =
+          d97 : Typed.Typed 𝓤 H A 𝓣 E G43 b74 Δ0 at97
+          d97 =
               Typed.s-seq
               𝓤
               H
@@ -45731,13 +44169,13 @@ module _ (claims· : Claims) where
               W
               𝓣
               E
-              G46
-              G47
-              b20
-              b75
+              G43
+              G44
+              b18
+              b73
               Δ0
-              (Typed.both s45)
-              at98
+              (Typed.both s42)
+              at96
               (Plain.t-call-plain
               𝓤
               H
@@ -45745,20 +44183,20 @@ module _ (claims· : Claims) where
               W
               𝓣
               1
-              ps·9
-              r·9
-              (claims· .18)
-              (claims· .19)
+              ps·8
+              r·8
+              (claims· .16)
+              (claims· .17)
               "request::judge"
-              (known .9)
+              (known .8)
               E
               (λ pos β. β)
-              G46 (
+              G43 (
                 record { pos = 5; st = List.[]; d = 0; at = λ x. x },
                 (
                   record { pos = 9; st = List.[]; d = 0; at = λ x. x },
                   (
-                    record { pos = 26; st = List.[]; d = 0; at = λ x. x },
+                    record { pos = 25; st = List.[]; d = 0; at = λ x. x },
                     (
                       record {
                         pos = 11;
@@ -45768,14 +44206,14 @@ module _ (claims· : Claims) where
                             (Syntax.tyArray (Syntax.tyArray (Syntax.tyInt Syntax.w8) 16) 16);
                         ref = λ x. x;
                       },
-                      (record { pos = 19; st = List.[]; d = 0; at = λ x. x }, tt),
+                      (record { pos = 18; st = List.[]; d = 0; at = λ x. x }, tt),
                     ),
                   ),
                 ),
               )
-              20
+              19
               (List._∷_ 5 List.[])
-              (Call.sub-id 𝓤 H A W (G46 .slots)) (
+              (Call.sub-id 𝓤 H A W (G43 .slots)) (
                 (
                   Yields.yields-copy
                       𝓤
@@ -45969,10 +44407,10 @@ module _ (claims· : Claims) where
               (Syntax.ttcons Syntax.tnil Syntax.ttnil))))))))))))))))))))
               (tt, tt)
               Path'.refl)
-              d98
+              d96
 
-          d100 : Typed.Typed 𝓤 H A 𝓣 E G45 b77 Δ0 at100
-          d100 =
+          d98 : Typed.Typed 𝓤 H A 𝓣 E G42 b75 Δ0 at98
+          d98 =
               Typed.s-seq
               𝓤
               H
@@ -45980,13 +44418,13 @@ module _ (claims· : Claims) where
               W
               𝓣
               E
-              G45
-              G46
-              b19
-              b76
+              G42
+              G43
+              b17
+              b74
               Δ0
-              (Typed.give s44)
-              at99
+              (Typed.give s41)
+              at97
               (DerefMove.t-sref-read-copy
               𝓤
               H
@@ -45995,9 +44433,9 @@ module _ (claims· : Claims) where
               E
               𝓣
               (λ ρ. Unit)
-              G45
+              G42
               10
-              26
+              25
               4
               (KParsed.R)
               (Syntax.tyRef
@@ -46024,7 +44462,7 @@ module _ (claims· : Claims) where
               H
               A
               (KParsed.R))
-              (Own'.told-none 𝓤 H A (G45 .slots))
+              (Own'.told-none 𝓤 H A (G42 .slots))
               (Copies.halves
               𝓤
               H
@@ -46059,10 +44497,10 @@ module _ (claims· : Claims) where
               tt
               Path'.refl
               Path'.refl)
-              d99
+              d97
 
-          d101 : Typed.Typed 𝓤 H A 𝓣 E G44 b77 Δ0 at101
-          d101 =
+          d99 : Typed.Typed 𝓤 H A 𝓣 E G41 b75 Δ0 at99
+          d99 =
               Typed.g-pre
               𝓤
               H
@@ -46070,26 +44508,26 @@ module _ (claims· : Claims) where
               W
               𝓣
               E
-              G44
-              G45
-              b77
+              G41
+              G42
+              b75
               Δ0
-              (Typed.pass T44 T45 s43)
-              at100
+              (Typed.pass T41 T42 s40)
+              at98
               (Scalar.g-room
               𝓤
               H
               A
               W
               E
-              G44
-              26
+              G41
+              25
               (KParsed.spelled)
               (KParsed.room 𝓤 H A W))
-              d100
+              d98
 
-          d102 : Typed.Typed 𝓤 H A 𝓣 E G43 b77 Δ0 at102
-          d102 =
+          d100 : Typed.Typed 𝓤 H A 𝓣 E G40 b75 Δ0 at100
+          d100 =
               Typed.g-pre
               𝓤
               H
@@ -46097,20 +44535,20 @@ module _ (claims· : Claims) where
               W
               𝓣
               E
-              G43
-              G44
-              b77
+              G40
+              G41
+              b75
               Δ0
-              (Typed.pass T43 T44 s42)
-              at101
+              (Typed.pass T40 T41 s39)
+              at99
               (Scalar.g-room
               𝓤
               H
               A
               W
               E
-              G43
-              18
+              G40
+              17
               (Syntax.tyStruct
               (List._∷_
               109
@@ -46180,10 +44618,10 @@ module _ (claims· : Claims) where
               (List._∷_ 101 (List._∷_ 108 (List._∷_ 116 (List._∷_ 97 List.[]))))))))))))))))))
               (Syntax.tcons Syntax.tyBool (Syntax.tcons (Syntax.tyInt Syntax.w8) Syntax.tnil)))
               Path'.refl))
-              d101
+              d99
 
-          d103 : Typed.Typed 𝓤 H A 𝓣 E G42 b78 Δ0 at103
-          d103 =
+          d101 : Typed.Typed 𝓤 H A 𝓣 E G39 b76 Δ0 at101
+          d101 =
               Typed.s-seq
               𝓤
               H
@@ -46191,13 +44629,13 @@ module _ (claims· : Claims) where
               W
               𝓣
               E
-              G42
-              G43
-              b18
-              b77
+              G39
+              G40
+              b16
+              b75
               Δ0
-              (Typed.both s41)
-              at102
+              (Typed.both s38)
+              at100
               (Plain.t-call-plain
               𝓤
               H
@@ -46205,36 +44643,33 @@ module _ (claims· : Claims) where
               W
               𝓣
               0
-              ps·8
-              r·8
-              (claims· .16)
-              (claims· .17)
+              ps·7
+              r·7
+              (claims· .14)
+              (claims· .15)
               "request::gather"
-              (known .8)
+              (known .7)
               E
               (λ pos β. β)
-              G42 (
+              G39 (
                 record { pos = 5; st = List.[]; d = 0; at = λ x. x },
                 (
                   record { pos = 9; st = List.[]; d = 0; at = λ x. x },
                   (
-                    record { pos = 26; st = List.[]; d = 0; at = λ x. x },
+                    record { pos = 25; st = List.[]; d = 0; at = λ x. x },
                     (
-                      Bool.bAt 17 λ x. x,
+                      record { pos = 15; st = List.[]; d = 0; at = λ x. x },
                       (
-                        record { pos = 15; st = List.[]; d = 0; at = λ x. x },
-                        (
-                          record { pos = 16; st = List.[]; d = 0; at = λ x. x },
-                          (record { pos = 18; st = List.[]; d = 0; at = λ x. x }, tt),
-                        ),
+                        record { pos = 16; st = List.[]; d = 0; at = λ x. x },
+                        (record { pos = 17; st = List.[]; d = 0; at = λ x. x }, tt),
                       ),
                     ),
                   ),
                 ),
               )
-              19
+              18
               List.[]
-              (Call.sub-id 𝓤 H A W (G42 .slots)) (
+              (Call.sub-id 𝓤 H A W (G39 .slots)) (
                 (
                   Yields.yields-copy
                       𝓤
@@ -46295,7 +44730,36 @@ module _ (claims· : Claims) where
                       Path'.refl,
                     ),
                     (
-                      (Scalar.reads-sc 𝓤 H A W Row.sBool, Path'.refl),
+                      (
+                        Yields.yields-copy
+                            𝓤
+                            H
+                            A
+                            W
+                            (λ ρ. Unit)
+                            (Declared'.row Found.the-type)
+                            Path'.refl
+                            (Copies.cStruct
+                            Found.the-type
+                            Laws'3.the-laws
+                            Laws'3.the-copy .copy
+                            𝓤
+                            H
+                            A
+                            W)
+                            (Rows'.whole (Declared'.row Found.the-type))
+                            (λ x. x)
+                            (λ x. x)
+                            (λ ρ told. Local.mem-whole 𝓤 H A W (Declared'.row Found.the-type) ρ)
+                            λ ρ told. Local.whole-mem
+                            𝓤
+                            H
+                            A
+                            W
+                            (Declared'.row Found.the-type)
+                            ρ,
+                        Path'.refl,
+                      ),
                       (
                         (
                           Yields.yields-copy
@@ -46304,26 +44768,32 @@ module _ (claims· : Claims) where
                               A
                               W
                               (λ ρ. Unit)
-                              (Declared'.row Found.the-type)
+                              (Declared'.row FoundRoute.the-type)
                               Path'.refl
                               (Copies.cStruct
-                              Found.the-type
-                              Laws'3.the-laws
-                              Laws'3.the-copy .copy
+                              FoundRoute.the-type
+                              Laws'4.the-laws
+                              Laws'4.the-copy .copy
                               𝓤
                               H
                               A
                               W)
-                              (Rows'.whole (Declared'.row Found.the-type))
+                              (Rows'.whole (Declared'.row FoundRoute.the-type))
                               (λ x. x)
                               (λ x. x)
-                              (λ ρ told. Local.mem-whole 𝓤 H A W (Declared'.row Found.the-type) ρ)
+                              (λ ρ told. Local.mem-whole
+                              𝓤
+                              H
+                              A
+                              W
+                              (Declared'.row FoundRoute.the-type)
+                              ρ)
                               λ ρ told. Local.whole-mem
                               𝓤
                               H
                               A
                               W
-                              (Declared'.row Found.the-type)
+                              (Declared'.row FoundRoute.the-type)
                               ρ,
                           Path'.refl,
                         ),
@@ -46335,17 +44805,17 @@ module _ (claims· : Claims) where
                                 A
                                 W
                                 (λ ρ. Unit)
-                                (Declared'.row FoundRoute.the-type)
+                                (Declared'.row FreeDelta.the-type)
                                 Path'.refl
                                 (Copies.cStruct
-                                FoundRoute.the-type
-                                Laws'4.the-laws
-                                Laws'4.the-copy .copy
+                                FreeDelta.the-type
+                                Laws'5.the-laws
+                                Laws'5.the-copy .copy
                                 𝓤
                                 H
                                 A
                                 W)
-                                (Rows'.whole (Declared'.row FoundRoute.the-type))
+                                (Rows'.whole (Declared'.row FreeDelta.the-type))
                                 (λ x. x)
                                 (λ x. x)
                                 (λ ρ told. Local.mem-whole
@@ -46353,56 +44823,18 @@ module _ (claims· : Claims) where
                                 H
                                 A
                                 W
-                                (Declared'.row FoundRoute.the-type)
+                                (Declared'.row FreeDelta.the-type)
                                 ρ)
                                 λ ρ told. Local.whole-mem
                                 𝓤
                                 H
                                 A
                                 W
-                                (Declared'.row FoundRoute.the-type)
+                                (Declared'.row FreeDelta.the-type)
                                 ρ,
                             Path'.refl,
                           ),
-                          (
-                            (
-                              Yields.yields-copy
-                                  𝓤
-                                  H
-                                  A
-                                  W
-                                  (λ ρ. Unit)
-                                  (Declared'.row FreeDelta.the-type)
-                                  Path'.refl
-                                  (Copies.cStruct
-                                  FreeDelta.the-type
-                                  Laws'5.the-laws
-                                  Laws'5.the-copy .copy
-                                  𝓤
-                                  H
-                                  A
-                                  W)
-                                  (Rows'.whole (Declared'.row FreeDelta.the-type))
-                                  (λ x. x)
-                                  (λ x. x)
-                                  (λ ρ told. Local.mem-whole
-                                  𝓤
-                                  H
-                                  A
-                                  W
-                                  (Declared'.row FreeDelta.the-type)
-                                  ρ)
-                                  λ ρ told. Local.whole-mem
-                                  𝓤
-                                  H
-                                  A
-                                  W
-                                  (Declared'.row FreeDelta.the-type)
-                                  ρ,
-                              Path'.refl,
-                            ),
-                            tt,
-                          ),
+                          tt,
                         ),
                       ),
                     ),
@@ -46638,10 +45070,10 @@ module _ (claims· : Claims) where
               Syntax.tnil)))))))))
               tt
               Path'.refl)
-              d102
+              d100
 
-          d104 : Typed.Typed 𝓤 H A 𝓣 E G41 b79 Δ0 at104
-          d104 =
+          d102 : Typed.Typed 𝓤 H A 𝓣 E G38 b77 Δ0 at102
+          d102 =
               Typed.s-seq
               𝓤
               H
@@ -46649,13 +45081,13 @@ module _ (claims· : Claims) where
               W
               𝓣
               E
-              G41
-              G42
-              b17
-              b78
+              G38
+              G39
+              b15
+              b76
               Δ0
-              (Typed.give s40)
-              at103
+              (Typed.give s37)
+              at101
               (DerefMove.t-sref-read-copy
               𝓤
               H
@@ -46664,9 +45096,9 @@ module _ (claims· : Claims) where
               E
               𝓣
               (λ ρ. Unit)
-              G41
+              G38
               10
-              26
+              25
               4
               (KParsed.R)
               (Syntax.tyRef
@@ -46693,7 +45125,7 @@ module _ (claims· : Claims) where
               H
               A
               (KParsed.R))
-              (Own'.told-none 𝓤 H A (G41 .slots))
+              (Own'.told-none 𝓤 H A (G38 .slots))
               (Copies.halves
               𝓤
               H
@@ -46728,10 +45160,10 @@ module _ (claims· : Claims) where
               tt
               Path'.refl
               Path'.refl)
-              d103
+              d101
 
-          d105 : Typed.Typed 𝓤 H A 𝓣 E G40 b79 Δ0 at105
-          d105 =
+          d103 : Typed.Typed 𝓤 H A 𝓣 E G37 b77 Δ0 at103
+          d103 =
               Typed.g-pre
               𝓤
               H
@@ -46739,17 +45171,17 @@ module _ (claims· : Claims) where
               W
               𝓣
               E
-              G40
-              G41
-              b79
+              G37
+              G38
+              b77
               Δ0
               (λ Ψ. Ψ)
-              at104
-              (Lifetime.g-forget 𝓤 H A W E G40 8 Row.dead Path'.refl)
-              d104
+              at102
+              (Lifetime.g-forget 𝓤 H A W E G37 8 Row.dead Path'.refl)
+              d102
 
-          d106 : Typed.Typed 𝓤 H A 𝓣 E G39 b79 Δ0 at106
-          d106 =
+          d104 : Typed.Typed 𝓤 H A 𝓣 E G36 b77 Δ0 at104
+          d104 =
               Typed.g-pre
               𝓤
               H
@@ -46757,12 +45189,12 @@ module _ (claims· : Claims) where
               W
               𝓣
               E
-              G39
-              G40
-              b79
+              G36
+              G37
+              b77
               Δ0
-              (Typed.pass T38 T40 s38)
-              at105
+              (Typed.pass T35 T37 s35)
+              at103
               (Reshare.g-back-sl-shr
               𝓤
               H
@@ -46770,7 +45202,7 @@ module _ (claims· : Claims) where
               W
               E
               (KInstanceRow.R)
-              G39
+              G36
               1
               0
               8
@@ -46795,9 +45227,54 @@ module _ (claims· : Claims) where
               (Row.lease (κs .0) (qs .0))))
               Path'.refl
               Path'.refl)
+              d103
+
+          d105 : Typed.Typed 𝓤 H A 𝓣 E G35 b77 Δ0 at105
+          d105 =
+              Typed.g-pre
+              𝓤
+              H
+              A
+              W
+              𝓣
+              E
+              G35
+              G36
+              b77
+              Δ0
+              (λ Ψ. Ψ)
+              at104
+              (Lifetime.g-end 𝓤 H A W E G35 8 Path'.refl)
+              d104
+
+          d106 : Typed.Typed 𝓤 H A 𝓣 E G34 b77 Δ0 at106
+          d106 =
+              Typed.g-pre
+              𝓤
+              H
+              A
+              W
+              𝓣
+              E
+              G34
+              G35
+              b77
+              Δ0
+              (Typed.pass T34 T35 s33)
+              at105
+              (Scalar.g-room
+              𝓤
+              H
+              A
+              W
+              E
+              G34
+              14
+              (Syntax.tyArray (Syntax.tyInt Syntax.w8) 16)
+              (Init.room-arr 𝓤 H A W (Referent.rtF (Referent.fInt Syntax.w8)) 16 0 16 Path'.refl))
               d105
 
-          d107 : Typed.Typed 𝓤 H A 𝓣 E G38 b79 Δ0 at107
+          d107 : Typed.Typed 𝓤 H A 𝓣 E G33 b77 Δ0 at107
           d107 =
               Typed.g-pre
               𝓤
@@ -46806,65 +45283,20 @@ module _ (claims· : Claims) where
               W
               𝓣
               E
-              G38
-              G39
-              b79
+              G33
+              G34
+              b77
               Δ0
-              (λ Ψ. Ψ)
+              (Typed.pass T33 T34 s32)
               at106
-              (Lifetime.g-end 𝓤 H A W E G38 8 Path'.refl)
-              d106
-
-          d108 : Typed.Typed 𝓤 H A 𝓣 E G37 b79 Δ0 at108
-          d108 =
-              Typed.g-pre
-              𝓤
-              H
-              A
-              W
-              𝓣
-              E
-              G37
-              G38
-              b79
-              Δ0
-              (Typed.pass T37 T38 s36)
-              at107
               (Scalar.g-room
               𝓤
               H
               A
               W
               E
-              G37
-              14
-              (Syntax.tyArray (Syntax.tyInt Syntax.w8) 16)
-              (Init.room-arr 𝓤 H A W (Referent.rtF (Referent.fInt Syntax.w8)) 16 0 16 Path'.refl))
-              d107
-
-          d109 : Typed.Typed 𝓤 H A 𝓣 E G36 b79 Δ0 at109
-          d109 =
-              Typed.g-pre
-              𝓤
-              H
-              A
-              W
-              𝓣
-              E
-              G36
-              G37
-              b79
-              Δ0
-              (Typed.pass T36 T37 s35)
-              at108
-              (Scalar.g-room
-              𝓤
-              H
-              A
-              W
-              E
-              G36
-              32
+              G33
+              31
               (Syntax.tyStruct
               (List._∷_ 38 (List._∷_ 91 (List._∷_ 93 List.[])))
               (Syntax.tcons
@@ -46878,10 +45310,10 @@ module _ (claims· : Claims) where
               (KInstanceRow.R)
               (Syntax.tyRef Syntax.erased Syntax.imm (KInstanceRow.named))
               8))
-              d108
+              d106
 
-          d110 : Typed.Typed 𝓤 H A 𝓣 E G35 b80 Δ0 at110
-          d110 =
+          d108 : Typed.Typed 𝓤 H A 𝓣 E G32 b78 Δ0 at108
+          d108 =
               Typed.s-seq
               𝓤
               H
@@ -46889,13 +45321,13 @@ module _ (claims· : Claims) where
               W
               𝓣
               E
-              G35
-              G36
-              b16
-              b79
+              G32
+              G33
+              b14
+              b77
               Δ0
-              (Typed.both s34)
-              at109
+              (Typed.both s31)
+              at107
               (Plain.t-call-plain
               𝓤
               H
@@ -46903,80 +45335,74 @@ module _ (claims· : Claims) where
               W
               𝓣
               1
-              ps·7
-              r·7
-              (claims· .14)
-              (claims· .15)
-              "search::free_delta_if"
-              (known .7)
+              ps·6
+              r·6
+              (claims· .12)
+              (claims· .13)
+              "search::free_delta"
+              (known .6)
               E
               (λ pos β. β)
-              G35 (
-                Bool.bAt 17 λ x. x,
+              G32 (
+                record {
+                  pos = 31;
+                  ty = Syntax.tyRef
+                      Syntax.erased
+                      Syntax.imm
+                      (KInstanceRow.named);
+                  ref = λ x. x;
+                },
                 (
-                  record {
-                    pos = 32;
-                    ty = Syntax.tyRef
-                        Syntax.erased
-                        Syntax.imm
-                        (KInstanceRow.named);
-                    ref = λ x. x;
-                  },
+                  Num.vAt 8 λ x. x,
                   (
-                    Num.vAt 8 λ x. x,
-                    (
-                      Num.vAt 12 λ x. x,
-                      (record { pos = 14; st = List.[]; d = 0; at = λ x. x }, tt),
-                    ),
+                    Num.vAt 12 λ x. x,
+                    (record { pos = 14; st = List.[]; d = 0; at = λ x. x }, tt),
                   ),
                 ),
               )
-              18
+              17
               (List._∷_ 8 List.[])
-              (Call.sub-id 𝓤 H A W (G35 .slots)) (
-                (Scalar.reads-sc 𝓤 H A W Row.sBool, Path'.refl),
+              (Call.sub-id 𝓤 H A W (G32 .slots)) (
+                ShrSlice.spares-sslice
+                    𝓤
+                    H
+                    A
+                    W
+                    (KInstanceRow.R)
+                    (Syntax.tyRef
+                    Syntax.erased
+                    Syntax.imm
+                    (KInstanceRow.named))
+                    8,
+                Shared.reads-sslice
+                    𝓤
+                    H
+                    A
+                    W
+                    (KInstanceRow.R)
+                    (Syntax.tyRef
+                    Syntax.erased
+                    Syntax.imm
+                    (KInstanceRow.named))
+                    8,
+                Path'.refl,
                 (
-                  ShrSlice.spares-sslice
-                      𝓤
-                      H
-                      A
-                      W
-                      (KInstanceRow.R)
-                      (Syntax.tyRef
-                      Syntax.erased
-                      Syntax.imm
-                      (KInstanceRow.named))
-                      8,
-                  Shared.reads-sslice
-                      𝓤
-                      H
-                      A
-                      W
-                      (KInstanceRow.R)
-                      (Syntax.tyRef
-                      Syntax.erased
-                      Syntax.imm
-                      (KInstanceRow.named))
-                      8,
-                  Path'.refl,
+                  (Scalar.reads-sc 𝓤 H A W (Row.sInt Syntax.w64), Path'.refl),
                   (
-                    (Scalar.reads-sc 𝓤 H A W (Row.sInt Syntax.w64), Path'.refl),
+                    (Scalar.reads-sc 𝓤 H A W (Row.sInt Syntax.w8), Path'.refl),
                     (
-                      (Scalar.reads-sc 𝓤 H A W (Row.sInt Syntax.w8), Path'.refl),
                       (
-                        (
-                          Array.arr-yields
-                              𝓤
-                              H
-                              A
-                              W
-                              (Array.eInt Syntax.w8)
-                              (Array.eInt-laws Syntax.w8)
-                              16,
-                          Path'.refl,
-                        ),
-                        tt,
+                        Array.arr-yields
+                            𝓤
+                            H
+                            A
+                            W
+                            (Array.eInt Syntax.w8)
+                            (Array.eInt-laws Syntax.w8)
+                            16,
+                        Path'.refl,
                       ),
+                      tt,
                     ),
                   ),
                 ),
@@ -47018,10 +45444,10 @@ module _ (claims· : Claims) where
               (Syntax.tcons Syntax.tyBool (Syntax.tcons (Syntax.tyInt Syntax.w8) Syntax.tnil))))
               (tt, tt)
               Path'.refl)
-              d109
+              d107
 
-          d111 : Typed.Typed 𝓤 H A 𝓣 E G34 b81 Δ0 at111
-          d111 =
+          d109 : Typed.Typed 𝓤 H A 𝓣 E G31 b79 Δ0 at109
+          d109 =
               Typed.s-seq
               𝓤
               H
@@ -47029,13 +45455,13 @@ module _ (claims· : Claims) where
               W
               𝓣
               E
-              G34
-              G35
-              b15
-              b80
+              G31
+              G32
+              b13
+              b78
               Δ0
-              (Typed.ask s33)
-              at110
+              (Typed.ask s30)
+              at108
               (Relend.t-sl-aggregate
               𝓤
               H
@@ -47045,9 +45471,9 @@ module _ (claims· : Claims) where
               (KInstanceRow.R)
               𝓣
               (Relend.asShr (KInstanceRow.R))
-              G34
+              G31
+              30
               31
-              32
               8
               (Syntax.tyRef Syntax.erased Syntax.imm (KInstanceRow.named))
               (Syntax.tyRef Syntax.erased Syntax.imm (KInstanceRow.named))
@@ -47096,10 +45522,10 @@ module _ (claims· : Claims) where
               Path'.refl
               Path'.refl
               λ b o k. tt)
-              d110
+              d108
 
-          d112 : Typed.Typed 𝓤 H A 𝓣 E G33 b82 Δ0 at112
-          d112 =
+          d110 : Typed.Typed 𝓤 H A 𝓣 E G30 b80 Δ0 at110
+          d110 =
               Typed.s-seq
               𝓤
               H
@@ -47107,13 +45533,13 @@ module _ (claims· : Claims) where
               W
               𝓣
               E
-              G33
-              G34
-              b14
-              b81
+              G30
+              G31
+              b12
+              b79
               Δ0
-              (Typed.give s32)
-              at111
+              (Typed.give s29)
+              at109
               (Reshare.t-sl-reshare
               𝓤
               H
@@ -47122,9 +45548,9 @@ module _ (claims· : Claims) where
               E
               (KInstanceRow.R)
               𝓣
-              G33
+              G30
               1
-              31
+              30
               0
               8
               (Syntax.tyRef
@@ -47160,10 +45586,10 @@ module _ (claims· : Claims) where
               Path'.refl
               Path'.refl
               λ b o. tt)
-              d111
+              d109
 
-          d113 : Typed.Typed 𝓤 H A 𝓣 E G32 b82 Δ0 at113
-          d113 =
+          d111 : Typed.Typed 𝓤 H A 𝓣 E G29 b80 Δ0 at111
+          d111 =
               Typed.g-pre
               𝓤
               H
@@ -47171,13 +45597,13 @@ module _ (claims· : Claims) where
               W
               𝓣
               E
-              G32
-              G33
-              b82
+              G29
+              G30
+              b80
               Δ0
               (λ Ψ. Ψ)
-              at112
-              (Lifetime.g-begin 𝓤 H A W E G32 8 (
+              at110
+              (Lifetime.g-begin 𝓤 H A W E G29 8 (
                 tt,
                 (
                   tt,
@@ -47271,10 +45697,7 @@ module _ (claims· : Claims) where
                                                                                                           tt,
                                                                                                           (
                                                                                                             tt,
-                                                                                                            (
-                                                                                                              tt,
-                                                                                                              tt,
-                                                                                                            ),
+                                                                                                            tt,
                                                                                                           ),
                                                                                                         ),
                                                                                                       ),
@@ -47322,201 +45745,10 @@ module _ (claims· : Claims) where
                   ),
                 ),
               ))
-              d112
+              d110
 
-          d114 : Typed.Typed 𝓤 H A 𝓣 E G31 b82 Δ0 at114
-          d114 =
-              Typed.g-pre
-              𝓤
-              H
-              A
-              W
-              𝓣
-              E
-              G31
-              G32
-              b82
-              Δ0
-              (Typed.pass T31 T32 s30)
-              at113
-              (Scalar.g-room
-              𝓤
-              H
-              A
-              W
-              E
-              G31
-              26
-              (KParsed.spelled)
-              (KParsed.room 𝓤 H A W))
-              d113
-
-          d115 : Typed.Typed 𝓤 H A 𝓣 E G30 b83 Δ0 at115
-          d115 =
-              Typed.s-seq
-              𝓤
-              H
-              A
-              W
-              𝓣
-              E
-              G30
-              G31
-              b13
-              b82
-              Δ0
-              (Typed.both s29)
-              at114
-              (Plain.t-call-plain
-              𝓤
-              H
-              A
-              W
-              𝓣
-              0
-              ps·6
-              r·6
-              (claims· .12)
-              (claims· .13)
-              "request::is_targ_node"
-              (known .6)
-              E
-              (λ pos β. β)
-              G30 (
-                record { pos = 5; st = List.[]; d = 0; at = λ x. x },
-                (record { pos = 26; st = List.[]; d = 0; at = λ x. x }, tt),
-              )
-              17
-              List.[]
-              (Call.sub-id 𝓤 H A W (G30 .slots)) (
-                (
-                  Yields.yields-copy
-                      𝓤
-                      H
-                      A
-                      W
-                      (λ ρ. Unit)
-                      (Declared'.row Own.the-type)
-                      Path'.refl
-                      (Copies.cStruct Own.the-type Laws'7.the-laws Laws'7.the-copy .copy 𝓤 H A W)
-                      (Rows'.whole (Declared'.row Own.the-type))
-                      (λ x. x)
-                      (λ x. x)
-                      (λ ρ told. Local.mem-whole 𝓤 H A W (Declared'.row Own.the-type) ρ)
-                      λ ρ told. Local.whole-mem
-                      𝓤
-                      H
-                      A
-                      W
-                      (Declared'.row Own.the-type)
-                      ρ,
-                  Path'.refl,
-                ),
-                (
-                  (
-                    KParsed.yields 𝓤 H A W,
-                    Path'.refl,
-                  ),
-                  tt,
-                ),
-              )
-              (Reads.room-gone 𝓤 H A Syntax.tyBool)
-              tt
-              Path'.refl)
-              d114
-
-          d116 : Typed.Typed 𝓤 H A 𝓣 E G29 b84 Δ0 at116
-          d116 =
-              Typed.s-seq
-              𝓤
-              H
-              A
-              W
-              𝓣
-              E
-              G29
-              G30
-              b12
-              b83
-              Δ0
-              (Typed.give s28)
-              at115
-              (DerefMove.t-sref-read-copy
-              𝓤
-              H
-              A
-              W
-              E
-              𝓣
-              (λ ρ. Unit)
-              G29
-              10
-              26
-              4
-              (KParsed.R)
-              (Syntax.tyRef
-              (Syntax.named 4)
-              Syntax.imm
-              (KParsed.named))
-              (KParsed.spelled)
-              (KParsed.spelled)
-              (Row.lease (κs .1 .1 .1 .1 .0) (qs .1 .1 .1 .1 .0))
-              (λ x. x)
-              (KParsed.row)
-              (λ x. x)
-              (λ x. Unit)
-              Path'.refl
-              Path'.refl
-              Path'.refl
-              (KParsed.cp .copy
-              𝓤
-              H
-              A
-              W)
-              (DerefMove.learns-nothing
-              𝓤
-              H
-              A
-              (KParsed.R))
-              (Own'.told-none 𝓤 H A (G29 .slots))
-              (Copies.halves
-              𝓤
-              H
-              A
-              W
-              (KParsed.cp))
-              (Reads.as-is
-              𝓤
-              H
-              A
-              (Rows'.sref
-              (KParsed.R)
-              (Syntax.tyRef
-              (Syntax.named 4)
-              Syntax.imm
-              (KParsed.named))
-              4))
-              (Reads.room-gone 𝓤 H A (KParsed.spelled))
-              (Yields.makes-mem
-              𝓤
-              H
-              A
-              W
-              (λ ρ. Unit)
-              (KParsed.R)
-              Path'.refl
-              (KParsed.row)
-              (λ x. x)
-              λ ρ told. KParsed.of-mem 𝓤 H A W
-              ρ)
-              Path'.refl
-              tt
-              Path'.refl
-              Path'.refl)
-              d115
-
-          d117 : Typed.Typed 𝓤 H A 𝓣 E G28 b84 Δ0 at117
-          d117 =
+          d112 : Typed.Typed 𝓤 H A 𝓣 E G28 b80 Δ0 at112
+          d112 =
               Typed.g-pre
               𝓤
               H
@@ -47526,15 +45758,15 @@ module _ (claims· : Claims) where
               E
               G28
               G29
-              b84
+              b80
               Δ0
               (λ Ψ. Ψ)
-              at116
+              at111
               (Lifetime.g-forget 𝓤 H A W E G28 7 Row.dead Path'.refl)
-              d116
+              d111
 
-          d118 : Typed.Typed 𝓤 H A 𝓣 E G27 b84 Δ0 at118
-          d118 =
+          d113 : Typed.Typed 𝓤 H A 𝓣 E G27 b80 Δ0 at113
+          d113 =
               Typed.g-pre
               𝓤
               H
@@ -47544,10 +45776,10 @@ module _ (claims· : Claims) where
               E
               G27
               G28
-              b84
+              b80
               Δ0
               (Typed.pass T26 T28 s26)
-              at117
+              at112
               (Reshare.g-back-sl-shr
               𝓤
               H
@@ -47580,10 +45812,10 @@ module _ (claims· : Claims) where
               (Row.lease (κs .1 .0) (qs .1 .0))))
               Path'.refl
               Path'.refl)
-              d117
+              d112
 
-          d119 : Typed.Typed 𝓤 H A 𝓣 E G26 b84 Δ0 at119
-          d119 =
+          d114 : Typed.Typed 𝓤 H A 𝓣 E G26 b80 Δ0 at114
+          d114 =
               Typed.g-pre
               𝓤
               H
@@ -47593,15 +45825,15 @@ module _ (claims· : Claims) where
               E
               G26
               G27
-              b84
+              b80
               Δ0
               (λ Ψ. Ψ)
-              at118
+              at113
               (Lifetime.g-end 𝓤 H A W E G26 7 Path'.refl)
-              d118
+              d113
 
-          d120 : Typed.Typed 𝓤 H A 𝓣 E G25 b84 Δ0 at120
-          d120 =
+          d115 : Typed.Typed 𝓤 H A 𝓣 E G25 b80 Δ0 at115
+          d115 =
               Typed.g-pre
               𝓤
               H
@@ -47611,10 +45843,10 @@ module _ (claims· : Claims) where
               E
               G25
               G26
-              b84
+              b80
               Δ0
               (Typed.pass T25 T26 s24)
-              at119
+              at114
               (Scalar.g-room
               𝓤
               H
@@ -47625,10 +45857,10 @@ module _ (claims· : Claims) where
               13
               (Syntax.tyArray (Syntax.tyInt Syntax.w8) 16)
               (Init.room-arr 𝓤 H A W (Referent.rtF (Referent.fInt Syntax.w8)) 16 0 16 Path'.refl))
-              d119
+              d114
 
-          d121 : Typed.Typed 𝓤 H A 𝓣 E G24 b84 Δ0 at121
-          d121 =
+          d116 : Typed.Typed 𝓤 H A 𝓣 E G24 b80 Δ0 at116
+          d116 =
               Typed.g-pre
               𝓤
               H
@@ -47638,10 +45870,10 @@ module _ (claims· : Claims) where
               E
               G24
               G25
-              b84
+              b80
               Δ0
               (Typed.pass T24 T25 s23)
-              at120
+              at115
               (Scalar.g-room
               𝓤
               H
@@ -47649,7 +45881,7 @@ module _ (claims· : Claims) where
               W
               E
               G24
-              30
+              29
               (Syntax.tyStruct
               (List._∷_ 38 (List._∷_ 91 (List._∷_ 93 List.[])))
               (Syntax.tcons
@@ -47663,10 +45895,10 @@ module _ (claims· : Claims) where
               (KRouteRow.R)
               (Syntax.tyRef Syntax.erased Syntax.imm (KRouteRow.named))
               7))
-              d120
+              d115
 
-          d122 : Typed.Typed 𝓤 H A 𝓣 E G23 b85 Δ0 at122
-          d122 =
+          d117 : Typed.Typed 𝓤 H A 𝓣 E G23 b81 Δ0 at117
+          d117 =
               Typed.s-seq
               𝓤
               H
@@ -47677,10 +45909,10 @@ module _ (claims· : Claims) where
               G23
               G24
               b11
-              b84
+              b80
               Δ0
               (Typed.both s22)
-              at121
+              at116
               (Plain.t-call-plain
               𝓤
               H
@@ -47698,7 +45930,7 @@ module _ (claims· : Claims) where
               (λ pos β. β)
               G23 (
                 record {
-                  pos = 30;
+                  pos = 29;
                   ty = Syntax.tyRef
                       Syntax.erased
                       Syntax.imm
@@ -47816,10 +46048,10 @@ module _ (claims· : Claims) where
               (Syntax.tcons (KRouteRow.spelled) Syntax.tnil)))))
               (tt, tt)
               Path'.refl)
-              d121
+              d116
 
-          d123 : Typed.Typed 𝓤 H A 𝓣 E G22 b86 Δ0 at123
-          d123 =
+          d118 : Typed.Typed 𝓤 H A 𝓣 E G22 b82 Δ0 at118
+          d118 =
               Typed.s-seq
               𝓤
               H
@@ -47830,10 +46062,10 @@ module _ (claims· : Claims) where
               G22
               G23
               b10
-              b85
+              b81
               Δ0
               (Typed.ask s21)
-              at122
+              at117
               (Relend.t-sl-aggregate
               𝓤
               H
@@ -47844,8 +46076,8 @@ module _ (claims· : Claims) where
               𝓣
               (Relend.asShr (KRouteRow.R))
               G22
+              28
               29
-              30
               7
               (Syntax.tyRef Syntax.erased Syntax.imm (KRouteRow.named))
               (Syntax.tyRef Syntax.erased Syntax.imm (KRouteRow.named))
@@ -47894,10 +46126,10 @@ module _ (claims· : Claims) where
               Path'.refl
               Path'.refl
               λ b o k. tt)
-              d122
+              d117
 
-          d124 : Typed.Typed 𝓤 H A 𝓣 E G21 b87 Δ0 at124
-          d124 =
+          d119 : Typed.Typed 𝓤 H A 𝓣 E G21 b83 Δ0 at119
+          d119 =
               Typed.s-seq
               𝓤
               H
@@ -47908,10 +46140,10 @@ module _ (claims· : Claims) where
               G21
               G22
               b9
-              b86
+              b82
               Δ0
               (Typed.give s20)
-              at123
+              at118
               (Reshare.t-sl-reshare
               𝓤
               H
@@ -47922,7 +46154,7 @@ module _ (claims· : Claims) where
               𝓣
               G21
               2
-              29
+              28
               1
               7
               (Syntax.tyRef
@@ -47955,10 +46187,10 @@ module _ (claims· : Claims) where
               Path'.refl
               Path'.refl
               λ b o. tt)
-              d123
+              d118
 
-          d125 : Typed.Typed 𝓤 H A 𝓣 E G20 b87 Δ0 at125
-          d125 =
+          d120 : Typed.Typed 𝓤 H A 𝓣 E G20 b83 Δ0 at120
+          d120 =
               Typed.g-pre
               𝓤
               H
@@ -47968,10 +46200,10 @@ module _ (claims· : Claims) where
               E
               G20
               G21
-              b87
+              b83
               Δ0
               (λ Ψ. Ψ)
-              at124
+              at119
               (Lifetime.g-begin 𝓤 H A W E G20 7 (
                 tt,
                 (
@@ -48066,10 +46298,7 @@ module _ (claims· : Claims) where
                                                                                                           tt,
                                                                                                           (
                                                                                                             tt,
-                                                                                                            (
-                                                                                                              tt,
-                                                                                                              tt,
-                                                                                                            ),
+                                                                                                            tt,
                                                                                                           ),
                                                                                                         ),
                                                                                                       ),
@@ -48117,10 +46346,10 @@ module _ (claims· : Claims) where
                   ),
                 ),
               ))
-              d124
+              d119
 
-          d126 : Typed.Typed 𝓤 H A 𝓣 E G19 b87 Δ0 at126
-          d126 =
+          d121 : Typed.Typed 𝓤 H A 𝓣 E G19 b83 Δ0 at121
+          d121 =
               Typed.g-pre
               𝓤
               H
@@ -48130,15 +46359,15 @@ module _ (claims· : Claims) where
               E
               G19
               G20
-              b87
+              b83
               Δ0
               (λ Ψ. Ψ)
-              at125
+              at120
               (Lifetime.g-forget 𝓤 H A W E G19 6 Row.dead Path'.refl)
-              d125
+              d120
 
-          d127 : Typed.Typed 𝓤 H A 𝓣 E G18 b87 Δ0 at127
-          d127 =
+          d122 : Typed.Typed 𝓤 H A 𝓣 E G18 b83 Δ0 at122
+          d122 =
               Typed.g-pre
               𝓤
               H
@@ -48148,10 +46377,10 @@ module _ (claims· : Claims) where
               E
               G18
               G19
-              b87
+              b83
               Δ0
               (Typed.pass T17 T19 s17)
-              at126
+              at121
               (Reshare.g-back-sl-shr
               𝓤
               H
@@ -48184,10 +46413,10 @@ module _ (claims· : Claims) where
               (Row.lease (κs .0) (qs .0))))
               Path'.refl
               Path'.refl)
-              d126
+              d121
 
-          d128 : Typed.Typed 𝓤 H A 𝓣 E G17 b87 Δ0 at128
-          d128 =
+          d123 : Typed.Typed 𝓤 H A 𝓣 E G17 b83 Δ0 at123
+          d123 =
               Typed.g-pre
               𝓤
               H
@@ -48197,15 +46426,15 @@ module _ (claims· : Claims) where
               E
               G17
               G18
-              b87
+              b83
               Δ0
               (λ Ψ. Ψ)
-              at127
+              at122
               (Lifetime.g-end 𝓤 H A W E G17 6 Path'.refl)
-              d127
+              d122
 
-          d129 : Typed.Typed 𝓤 H A 𝓣 E G16 b87 Δ0 at129
-          d129 =
+          d124 : Typed.Typed 𝓤 H A 𝓣 E G16 b83 Δ0 at124
+          d124 =
               Typed.g-pre
               𝓤
               H
@@ -48215,10 +46444,10 @@ module _ (claims· : Claims) where
               E
               G16
               G17
-              b87
+              b83
               Δ0
               (Typed.pass T16 T17 s15)
-              at128
+              at123
               (Scalar.g-room
               𝓤
               H
@@ -48226,7 +46455,7 @@ module _ (claims· : Claims) where
               W
               E
               G16
-              28
+              27
               (Syntax.tyStruct
               (List._∷_ 38 (List._∷_ 91 (List._∷_ 93 List.[])))
               (Syntax.tcons
@@ -48240,10 +46469,10 @@ module _ (claims· : Claims) where
               (KInstanceRow.R)
               (Syntax.tyRef Syntax.erased Syntax.imm (KInstanceRow.named))
               6))
-              d128
+              d123
 
-          d130 : Typed.Typed 𝓤 H A 𝓣 E G15 b88 Δ0 at130
-          d130 =
+          d125 : Typed.Typed 𝓤 H A 𝓣 E G15 b84 Δ0 at125
+          d125 =
               Typed.s-seq
               𝓤
               H
@@ -48254,10 +46483,10 @@ module _ (claims· : Claims) where
               G15
               G16
               b8
-              b87
+              b83
               Δ0
               (Typed.both s14)
-              at129
+              at124
               (Plain.t-call-plain
               𝓤
               H
@@ -48275,7 +46504,7 @@ module _ (claims· : Claims) where
               (λ pos β. β)
               G15 (
                 record {
-                  pos = 28;
+                  pos = 27;
                   ty = Syntax.tyRef
                       Syntax.erased
                       Syntax.imm
@@ -48370,10 +46599,10 @@ module _ (claims· : Claims) where
               (Syntax.tcons (KInstanceRow.spelled) Syntax.tnil)))))
               (tt, tt)
               Path'.refl)
-              d129
+              d124
 
-          d131 : Typed.Typed 𝓤 H A 𝓣 E G14 b89 Δ0 at131
-          d131 =
+          d126 : Typed.Typed 𝓤 H A 𝓣 E G14 b85 Δ0 at126
+          d126 =
               Typed.s-seq
               𝓤
               H
@@ -48384,10 +46613,10 @@ module _ (claims· : Claims) where
               G14
               G15
               b7
-              b88
+              b84
               Δ0
               (Typed.ask s13)
-              at130
+              at125
               (Relend.t-sl-aggregate
               𝓤
               H
@@ -48398,8 +46627,8 @@ module _ (claims· : Claims) where
               𝓣
               (Relend.asShr (KInstanceRow.R))
               G14
+              26
               27
-              28
               6
               (Syntax.tyRef Syntax.erased Syntax.imm (KInstanceRow.named))
               (Syntax.tyRef Syntax.erased Syntax.imm (KInstanceRow.named))
@@ -48448,10 +46677,10 @@ module _ (claims· : Claims) where
               Path'.refl
               Path'.refl
               λ b o k. tt)
-              d130
+              d125
 
-          d132 : Typed.Typed 𝓤 H A 𝓣 E G13 b90 Δ0 at132
-          d132 =
+          d127 : Typed.Typed 𝓤 H A 𝓣 E G13 b86 Δ0 at127
+          d127 =
               Typed.s-seq
               𝓤
               H
@@ -48462,10 +46691,10 @@ module _ (claims· : Claims) where
               G13
               G14
               b6
-              b89
+              b85
               Δ0
               (Typed.give s12)
-              at131
+              at126
               (Reshare.t-sl-reshare
               𝓤
               H
@@ -48476,7 +46705,7 @@ module _ (claims· : Claims) where
               𝓣
               G13
               1
-              27
+              26
               0
               6
               (Syntax.tyRef
@@ -48512,10 +46741,10 @@ module _ (claims· : Claims) where
               Path'.refl
               Path'.refl
               λ b o. tt)
-              d131
+              d126
 
-          d133 : Typed.Typed 𝓤 H A 𝓣 E G12 b90 Δ0 at133
-          d133 =
+          d128 : Typed.Typed 𝓤 H A 𝓣 E G12 b86 Δ0 at128
+          d128 =
               Typed.g-pre
               𝓤
               H
@@ -48525,10 +46754,10 @@ module _ (claims· : Claims) where
               E
               G12
               G13
-              b90
+              b86
               Δ0
               (λ Ψ. Ψ)
-              at132
+              at127
               (Lifetime.g-begin 𝓤 H A W E G12 6 (
                 tt,
                 (
@@ -48623,10 +46852,7 @@ module _ (claims· : Claims) where
                                                                                                           tt,
                                                                                                           (
                                                                                                             tt,
-                                                                                                            (
-                                                                                                              tt,
-                                                                                                              tt,
-                                                                                                            ),
+                                                                                                            tt,
                                                                                                           ),
                                                                                                         ),
                                                                                                       ),
@@ -48674,10 +46900,10 @@ module _ (claims· : Claims) where
                   ),
                 ),
               ))
-              d132
+              d127
 
-          d134 : Typed.Typed 𝓤 H A 𝓣 E G11 b91 Δ0 at134
-          d134 =
+          d129 : Typed.Typed 𝓤 H A 𝓣 E G11 b87 Δ0 at129
+          d129 =
               Typed.s-seq
               𝓤
               H
@@ -48688,10 +46914,10 @@ module _ (claims· : Claims) where
               G11
               G12
               b5
-              b90
+              b86
               Δ0
               (Typed.both s10)
-              at133
+              at128
               (Plain.t-call-plain
               𝓤
               H
@@ -48740,10 +46966,10 @@ module _ (claims· : Claims) where
               (Reads.room-gone 𝓤 H A (Syntax.tyArray (Syntax.tyInt Syntax.w8) 16))
               tt
               Path'.refl)
-              d133
+              d128
 
-          d135 : Typed.Typed 𝓤 H A 𝓣 E G10 b91 Δ0 at135
-          d135 =
+          d130 : Typed.Typed 𝓤 H A 𝓣 E G10 b87 Δ0 at130
+          d130 =
               Typed.g-pre
               𝓤
               H
@@ -48753,10 +46979,10 @@ module _ (claims· : Claims) where
               E
               G10
               G11
-              b91
+              b87
               Δ0
               (Typed.pass T10 T11 s9)
-              at134
+              at129
               (Scalar.g-room
               𝓤
               H
@@ -48764,13 +46990,13 @@ module _ (claims· : Claims) where
               W
               E
               G10
-              26
+              25
               (KParsed.spelled)
               (KParsed.room 𝓤 H A W))
-              d134
+              d129
 
-          d136 : Typed.Typed 𝓤 H A 𝓣 E G9 b92 Δ0 at136
-          d136 =
+          d131 : Typed.Typed 𝓤 H A 𝓣 E G9 b88 Δ0 at131
+          d131 =
               Typed.s-seq
               𝓤
               H
@@ -48781,10 +47007,10 @@ module _ (claims· : Claims) where
               G9
               G10
               b4
-              b91
+              b87
               Δ0
               (Typed.both s8)
-              at135
+              at130
               (Plain.t-call-plain
               𝓤
               H
@@ -48801,7 +47027,7 @@ module _ (claims· : Claims) where
               E
               (λ pos β. β)
               G9
-              (record { pos = 26; st = List.[]; d = 0; at = λ x. x }, tt)
+              (record { pos = 25; st = List.[]; d = 0; at = λ x. x }, tt)
               13
               List.[]
               (Call.sub-id 𝓤 H A W (G9 .slots)) (
@@ -48814,10 +47040,10 @@ module _ (claims· : Claims) where
               (Reads.room-gone 𝓤 H A (Syntax.tyArray (Syntax.tyInt Syntax.w8) 16))
               tt
               Path'.refl)
-              d135
+              d130
 
-          d137 : Typed.Typed 𝓤 H A 𝓣 E G8 b93 Δ0 at137
-          d137 =
+          d132 : Typed.Typed 𝓤 H A 𝓣 E G8 b89 Δ0 at132
+          d132 =
               Typed.s-seq
               𝓤
               H
@@ -48828,10 +47054,10 @@ module _ (claims· : Claims) where
               G8
               G9
               b3
-              b92
+              b88
               Δ0
               (Typed.give s7)
-              at136
+              at131
               (DerefMove.t-sref-read-copy
               𝓤
               H
@@ -48842,7 +47068,7 @@ module _ (claims· : Claims) where
               (λ ρ. Unit)
               G8
               10
-              26
+              25
               4
               (KParsed.R)
               (Syntax.tyRef
@@ -48904,10 +47130,10 @@ module _ (claims· : Claims) where
               tt
               Path'.refl
               Path'.refl)
-              d136
+              d131
 
-          d138 : Typed.Typed 𝓤 H A 𝓣 E G7 b93 Δ0 at138
-          d138 =
+          d133 : Typed.Typed 𝓤 H A 𝓣 E G7 b89 Δ0 at133
+          d133 =
               Typed.g-pre
               𝓤
               H
@@ -48917,10 +47143,10 @@ module _ (claims· : Claims) where
               E
               G7
               G8
-              b93
+              b89
               Δ0
               (Typed.pass T7 T8 s6)
-              at137
+              at132
               (Scalar.g-room
               𝓤
               H
@@ -48928,13 +47154,13 @@ module _ (claims· : Claims) where
               W
               E
               G7
-              26
+              25
               (KParsed.spelled)
               (KParsed.room 𝓤 H A W))
-              d137
+              d132
 
-          d139 : Typed.Typed 𝓤 H A 𝓣 E G6 b94 Δ0 at139
-          d139 =
+          d134 : Typed.Typed 𝓤 H A 𝓣 E G6 b90 Δ0 at134
+          d134 =
               Typed.s-seq
               𝓤
               H
@@ -48945,10 +47171,10 @@ module _ (claims· : Claims) where
               G6
               G7
               b2
-              b93
+              b89
               Δ0
               (Typed.both s5)
-              at138
+              at133
               (Plain.t-call-plain
               𝓤
               H
@@ -48965,7 +47191,7 @@ module _ (claims· : Claims) where
               E
               (λ pos β. β)
               G6
-              (record { pos = 26; st = List.[]; d = 0; at = λ x. x }, tt)
+              (record { pos = 25; st = List.[]; d = 0; at = λ x. x }, tt)
               12
               List.[]
               (Call.sub-id 𝓤 H A W (G6 .slots)) (
@@ -48978,10 +47204,10 @@ module _ (claims· : Claims) where
               (Reads.room-gone 𝓤 H A (Syntax.tyInt Syntax.w8))
               tt
               Path'.refl)
-              d138
+              d133
 
-          d140 : Typed.Typed 𝓤 H A 𝓣 E G5 b95 Δ0 at140
-          d140 =
+          d135 : Typed.Typed 𝓤 H A 𝓣 E G5 b91 Δ0 at135
+          d135 =
               Typed.s-seq
               𝓤
               H
@@ -48992,10 +47218,10 @@ module _ (claims· : Claims) where
               G5
               G6
               b1
-              b94
+              b90
               Δ0
               (Typed.give s4)
-              at139
+              at134
               (DerefMove.t-sref-read-copy
               𝓤
               H
@@ -49006,7 +47232,7 @@ module _ (claims· : Claims) where
               (λ ρ. Unit)
               G5
               10
-              26
+              25
               4
               (KParsed.R)
               (Syntax.tyRef
@@ -49068,10 +47294,10 @@ module _ (claims· : Claims) where
               tt
               Path'.refl
               Path'.refl)
-              d139
+              d134
 
-          d141 : Typed.Typed 𝓤 H A 𝓣 E G4 b95 Δ0 at141
-          d141 =
+          d136 : Typed.Typed 𝓤 H A 𝓣 E G4 b91 Δ0 at136
+          d136 =
               Typed.g-pre
               𝓤
               H
@@ -49081,15 +47307,15 @@ module _ (claims· : Claims) where
               E
               G4
               G5
-              b95
+              b91
               Δ0
               (Typed.pass T4 T5 s3)
-              at140
-              (Scalar.g-room 𝓤 H A W E G4 25 Syntax.tyUnit (Scalar.room-sc 𝓤 H A W Row.sUnit))
-              d140
+              at135
+              (Scalar.g-room 𝓤 H A W E G4 24 Syntax.tyUnit (Scalar.room-sc 𝓤 H A W Row.sUnit))
+              d135
 
-          d142 : Typed.Typed 𝓤 H A 𝓣 E G3 b96 Δ0 at142
-          d142 =
+          d137 : Typed.Typed 𝓤 H A 𝓣 E G3 b92 Δ0 at137
+          d137 =
               Typed.s-seq
               𝓤
               H
@@ -49100,10 +47326,10 @@ module _ (claims· : Claims) where
               G3
               G4
               b0
-              b95
+              b91
               Δ0
               (Typed.both s2)
-              at141
+              at136
               (Plain.t-call-plain
               𝓤
               H
@@ -49130,7 +47356,7 @@ module _ (claims· : Claims) where
                 },
                 tt,
               )
-              25
+              24
               (List._∷_ 5 List.[])
               (Call.sub-id 𝓤 H A W (G3 .slots)) (
                 ShrRef.spares-sref
@@ -49161,10 +47387,10 @@ module _ (claims· : Claims) where
               (Reads.room-gone 𝓤 H A Syntax.tyUnit)
               (tt, tt)
               Path'.refl)
-              d141
+              d136
 
-          d143 : Typed.Typed 𝓤 H A 𝓣 E G2 b96 Δ0 at143
-          d143 =
+          d138 : Typed.Typed 𝓤 H A 𝓣 E G2 b92 Δ0 at138
+          d138 =
               Typed.g-pre
               𝓤
               H
@@ -49174,10 +47400,10 @@ module _ (claims· : Claims) where
               E
               G2
               G3
-              b96
+              b92
               Δ0
               (Typed.give s1)
-              at142
+              at137
               (Know.g-sl-known
               𝓤
               H
@@ -49203,10 +47429,10 @@ module _ (claims· : Claims) where
               3))
               Path'.refl
               tt)
-              d142
+              d137
 
-          d144 : Typed.Typed 𝓤 H A 𝓣 E G0 b96 Δ0 at144
-          d144 =
+          d139 : Typed.Typed 𝓤 H A 𝓣 E G0 b92 Δ0 at139
+          d139 =
               Typed.g-pre
               𝓤
               H
@@ -49216,10 +47442,10 @@ module _ (claims· : Claims) where
               E
               G0
               G2
-              b96
+              b92
               Δ0
               (Typed.give s0)
-              at143
+              at138
               (Know.g-sl-known
               𝓤
               H
@@ -49245,7 +47471,7 @@ module _ (claims· : Claims) where
               2))
               Path'.refl
               tt)
-              d143
+              d138
 
           pub typed :
               Typed.Typed
@@ -49255,10 +47481,10 @@ module _ (claims· : Claims) where
               𝓣
               E
               (Function.Γin 6 ps r xs m κs qs)
-              b96
+              b92
               (Function.Δret 6 ps r xs m κs qs)
               Φ
-          typed = d144
+          typed = d139
 
       module _ (κs : Lifetimes.Lfts 6) where
         pub record Args : Type 0 where
@@ -49467,7 +47693,7 @@ module _ (claims· : Claims) where
       module _ (before· : After-instance-of-arg) where
         abbrev pub After-instance-of·own : Type 0
         After-instance-of·own = Called.Called ps·1 r·1 (claims· .3) T6 (
-          record { pos = 26; st = List.[]; d = 0; at = λ x. x },
+          record { pos = 25; st = List.[]; d = 0; at = λ x. x },
           tt,
         ) (m5 (before· .before) (before· .instance-of-arg .given))
 
@@ -49479,7 +47705,7 @@ module _ (claims· : Claims) where
           (c : After-instance-of) →
           s5 .gives (m5 (c .before .before) (c .before .instance-of-arg .given))
       After-instance-of·gave = λ c. Called.given ps·1 r·1 (claims· .3) T6 (
-        record { pos = 26; st = List.[]; d = 0; at = λ x. x },
+        record { pos = 25; st = List.[]; d = 0; at = λ x. x },
         tt,
       ) (m5 (c .before .before) (c .before .instance-of-arg .given)) (c .instance-of)
 
@@ -49516,7 +47742,7 @@ module _ (claims· : Claims) where
       module _ (before· : After-dodagid-of-arg) where
         abbrev pub After-dodagid-of·own : Type 0
         After-dodagid-of·own = Called.Called ps·2 r·2 (claims· .5) T9 (
-          record { pos = 26; st = List.[]; d = 0; at = λ x. x },
+          record { pos = 25; st = List.[]; d = 0; at = λ x. x },
           tt,
         ) (m8 (before· .before) (before· .dodagid-of-arg .given))
 
@@ -49528,7 +47754,7 @@ module _ (claims· : Claims) where
           (c : After-dodagid-of) →
           s8 .gives (m8 (c .before .before) (c .before .dodagid-of-arg .given))
       After-dodagid-of·gave = λ c. Called.given ps·2 r·2 (claims· .5) T9 (
-        record { pos = 26; st = List.[]; d = 0; at = λ x. x },
+        record { pos = 25; st = List.[]; d = 0; at = λ x. x },
         tt,
       ) (m8 (c .before .before) (c .before .dodagid-of-arg .given)) (c .dodagid-of)
 
@@ -49605,7 +47831,7 @@ module _ (claims· : Claims) where
         abbrev pub After-search-request·own : Type 0
         After-search-request·own = Called.Called ps·4 r·4 (claims· .9) T15 (
           record {
-            pos = 28;
+            pos = 27;
             ty = Syntax.tyRef
                 Syntax.erased
                 Syntax.imm
@@ -49627,7 +47853,7 @@ module _ (claims· : Claims) where
           s14 .gives (m13 (c .before .before) (c .before .search-request-arg .given))
       After-search-request·gave = λ c. Called.given ps·4 r·4 (claims· .9) T15 (
         record {
-          pos = 28;
+          pos = 27;
           ty = Syntax.tyRef Syntax.erased Syntax.imm (KInstanceRow.named);
           ref = λ x. x;
         },
@@ -49685,7 +47911,7 @@ module _ (claims· : Claims) where
         abbrev pub After-search-route·own : Type 0
         After-search-route·own = Called.Called ps·5 r·5 (claims· .11) T23 (
           record {
-            pos = 30;
+            pos = 29;
             ty = Syntax.tyRef
                 Syntax.erased
                 Syntax.imm
@@ -49710,7 +47936,7 @@ module _ (claims· : Claims) where
           s22 .gives (m18 (c .before .before) (c .before .search-route-arg .given))
       After-search-route·gave = λ c. Called.given ps·5 r·5 (claims· .11) T23 (
         record {
-          pos = 30;
+          pos = 29;
           ty = Syntax.tyRef Syntax.erased Syntax.imm (KRouteRow.named);
           ref = λ x. x;
         },
@@ -49743,117 +47969,39 @@ module _ (claims· : Claims) where
 
       abbrev pub m23 :
           (before : After-search-route) →
-          (given : s28 .gives (m22 (before .before) (After-search-route·gave before))) →
-          Typed.Mo T30
-      m23 = λ before given. s28 .next (m22 (before .before) (After-search-route·gave before)) given
-
-      module _ (before· : After-search-route) where
-        pub record After-is-targ-node-arg·own : Type 0 where
-          pub given : s28 .gives (m22 (before· .before) (After-search-route·gave before·))
-
-      pub record After-is-targ-node-arg : Type 0 where
-        pub before : After-search-route
-        pub is-targ-node-arg : After-is-targ-node-arg·own before
-
-      abbrev pub Need-is-targ-node-requires : Type 0
-      Need-is-targ-node-requires =
-          (c : After-is-targ-node-arg) → s29 .asks (m23 (c .before) (c .is-targ-node-arg .given))
+          (given : s29 .gives (m22 (before .before) (After-search-route·gave before))) →
+          Typed.Mo T31
+      m23 = λ before given. s29 .next (m22 (before .before) (After-search-route·gave before)) given
 
       abbrev pub m24 :
-          (before : After-is-targ-node-arg) →
-          (given : s29 .gives (m23 (before .before) (before .is-targ-node-arg .given))) →
-          Typed.Mo T31
-      m24 =
-          λ before given. s29 .next (m23 (before .before) (before .is-targ-node-arg .given)) given
+          (before : After-search-route) →
+          (given : s29 .gives (m22 (before .before) (After-search-route·gave before))) →
+          Typed.Mo T32
+      m24 = λ before given. s30 .next (m23 before given)
 
-      module _ (before· : After-is-targ-node-arg) where
-        abbrev pub After-is-targ-node·own : Type 0
-        After-is-targ-node·own = Called.Called ps·6 r·6 (claims· .13) T30 (
-          record { pos = 5; st = List.[]; d = 0; at = λ x. x },
-          (record { pos = 26; st = List.[]; d = 0; at = λ x. x }, tt),
-        ) (m23 (before· .before) (before· .is-targ-node-arg .given))
+      module _ (before· : After-search-route) where
+        pub record After-free-delta-arg·own : Type 0 where
+          pub given : s29 .gives (m22 (before· .before) (After-search-route·gave before·))
 
-      pub record After-is-targ-node : Type 0 where
-        pub before : After-is-targ-node-arg
-        pub is-targ-node : After-is-targ-node·own before
+      pub record After-free-delta-arg : Type 0 where
+        pub before : After-search-route
+        pub free-delta-arg : After-free-delta-arg·own before
 
-      abbrev pub After-is-targ-node·gave :
-          (c : After-is-targ-node) →
-          s29 .gives (m23 (c .before .before) (c .before .is-targ-node-arg .given))
-      After-is-targ-node·gave = λ c. Called.given ps·6 r·6 (claims· .13) T30 (
-        record { pos = 5; st = List.[]; d = 0; at = λ x. x },
-        (record { pos = 26; st = List.[]; d = 0; at = λ x. x }, tt),
-      ) (m23 (c .before .before) (c .before .is-targ-node-arg .given)) (c .is-targ-node)
+      abbrev pub Need-free-delta-requires : Type 0
+      Need-free-delta-requires =
+          (c : After-free-delta-arg) → s31 .asks (m24 (c .before) (c .free-delta-arg .given))
 
       abbrev pub m25 :
-          (before : After-is-targ-node-arg) →
-          (given : s29 .gives (m23 (before .before) (before .is-targ-node-arg .given))) →
-          Typed.Mo T32
-      m25 = λ before given. s30 (m24 before given)
+          (before : After-free-delta-arg) →
+          (given : s31 .gives (m24 (before .before) (before .free-delta-arg .given))) →
+          Typed.Mo T33
+      m25 = λ before given. s31 .next (m24 (before .before) (before .free-delta-arg .given)) given
 
-      abbrev pub m26 :
-          (before : After-is-targ-node) →
-          (given : s32 .gives (m25 (before .before) (After-is-targ-node·gave before))) →
-          Typed.Mo T34
-      m26 = λ before given. s32 .next (m25 (before .before) (After-is-targ-node·gave before)) given
-
-      abbrev pub m27 :
-          (before : After-is-targ-node) →
-          (given : s32 .gives (m25 (before .before) (After-is-targ-node·gave before))) →
-          Typed.Mo T35
-      m27 = λ before given. s33 .next (m26 before given)
-
-      module _ (before· : After-is-targ-node) where
-        pub record After-free-delta-if-arg·own : Type 0 where
-          pub given : s32 .gives (m25 (before· .before) (After-is-targ-node·gave before·))
-
-      pub record After-free-delta-if-arg : Type 0 where
-        pub before : After-is-targ-node
-        pub free-delta-if-arg : After-free-delta-if-arg·own before
-
-      abbrev pub Need-free-delta-if-requires : Type 0
-      Need-free-delta-if-requires =
-          (c : After-free-delta-if-arg) → s34 .asks (m27 (c .before) (c .free-delta-if-arg .given))
-
-      abbrev pub m28 :
-          (before : After-free-delta-if-arg) →
-          (given : s34 .gives (m27 (before .before) (before .free-delta-if-arg .given))) →
-          Typed.Mo T36
-      m28 =
-          λ before given. s34 .next (m27 (before .before) (before .free-delta-if-arg .given)) given
-
-      module _ (before· : After-free-delta-if-arg) where
-        abbrev pub After-free-delta-if·own : Type 0
-        After-free-delta-if·own = Called.Called ps·7 r·7 (claims· .15) T35 (
-          Bool.bAt 17 λ x. x,
-          (
-            record {
-              pos = 32;
-              ty = Syntax.tyRef
-                  Syntax.erased
-                  Syntax.imm
-                  (KInstanceRow.named);
-              ref = λ x. x;
-            },
-            (
-              Num.vAt 8 λ x. x,
-              (Num.vAt 12 λ x. x, (record { pos = 14; st = List.[]; d = 0; at = λ x. x }, tt)),
-            ),
-          ),
-        ) (m27 (before· .before) (before· .free-delta-if-arg .given))
-
-      pub record After-free-delta-if : Type 0 where
-        pub before : After-free-delta-if-arg
-        pub free-delta-if : After-free-delta-if·own before
-
-      abbrev pub After-free-delta-if·gave :
-          (c : After-free-delta-if) →
-          s34 .gives (m27 (c .before .before) (c .before .free-delta-if-arg .given))
-      After-free-delta-if·gave = λ c. Called.given ps·7 r·7 (claims· .15) T35 (
-        Bool.bAt 17 λ x. x,
-        (
+      module _ (before· : After-free-delta-arg) where
+        abbrev pub After-free-delta·own : Type 0
+        After-free-delta·own = Called.Called ps·6 r·6 (claims· .13) T32 (
           record {
-            pos = 32;
+            pos = 31;
             ty = Syntax.tyRef
                 Syntax.erased
                 Syntax.imm
@@ -49864,121 +48012,132 @@ module _ (claims· : Claims) where
             Num.vAt 8 λ x. x,
             (Num.vAt 12 λ x. x, (record { pos = 14; st = List.[]; d = 0; at = λ x. x }, tt)),
           ),
+        ) (m24 (before· .before) (before· .free-delta-arg .given))
+
+      pub record After-free-delta : Type 0 where
+        pub before : After-free-delta-arg
+        pub free-delta : After-free-delta·own before
+
+      abbrev pub After-free-delta·gave :
+          (c : After-free-delta) →
+          s31 .gives (m24 (c .before .before) (c .before .free-delta-arg .given))
+      After-free-delta·gave = λ c. Called.given ps·6 r·6 (claims· .13) T32 (
+        record {
+          pos = 31;
+          ty = Syntax.tyRef Syntax.erased Syntax.imm (KInstanceRow.named);
+          ref = λ x. x;
+        },
+        (
+          Num.vAt 8 λ x. x,
+          (Num.vAt 12 λ x. x, (record { pos = 14; st = List.[]; d = 0; at = λ x. x }, tt)),
         ),
-      ) (m27 (c .before .before) (c .before .free-delta-if-arg .given)) (c .free-delta-if)
+      ) (m24 (c .before .before) (c .before .free-delta-arg .given)) (c .free-delta)
+
+      abbrev pub m26 :
+          (before : After-free-delta-arg) →
+          (given : s31 .gives (m24 (before .before) (before .free-delta-arg .given))) →
+          Typed.Mo T34
+      m26 = λ before given. s32 (m25 before given)
+
+      abbrev pub m27 :
+          (before : After-free-delta-arg) →
+          (given : s31 .gives (m24 (before .before) (before .free-delta-arg .given))) →
+          Typed.Mo T35
+      m27 = λ before given. s33 (m26 before given)
+
+      abbrev pub m28 :
+          (before : After-free-delta-arg) →
+          (given : s31 .gives (m24 (before .before) (before .free-delta-arg .given))) →
+          Typed.Mo T37
+      m28 = λ before given. s35 (m27 before given)
 
       abbrev pub m29 :
-          (before : After-free-delta-if-arg) →
-          (given : s34 .gives (m27 (before .before) (before .free-delta-if-arg .given))) →
-          Typed.Mo T37
-      m29 = λ before given. s35 (m28 before given)
+          (before : After-free-delta) →
+          (given : s37 .gives (m28 (before .before) (After-free-delta·gave before))) →
+          Typed.Mo T39
+      m29 = λ before given. s37 .next (m28 (before .before) (After-free-delta·gave before)) given
 
-      abbrev pub m30 :
-          (before : After-free-delta-if-arg) →
-          (given : s34 .gives (m27 (before .before) (before .free-delta-if-arg .given))) →
-          Typed.Mo T38
-      m30 = λ before given. s36 (m29 before given)
-
-      abbrev pub m31 :
-          (before : After-free-delta-if-arg) →
-          (given : s34 .gives (m27 (before .before) (before .free-delta-if-arg .given))) →
-          Typed.Mo T40
-      m31 = λ before given. s38 (m30 before given)
-
-      abbrev pub m32 :
-          (before : After-free-delta-if) →
-          (given : s40 .gives (m31 (before .before) (After-free-delta-if·gave before))) →
-          Typed.Mo T42
-      m32 =
-          λ before given. s40 .next (m31 (before .before) (After-free-delta-if·gave before)) given
-
-      module _ (before· : After-free-delta-if) where
+      module _ (before· : After-free-delta) where
         pub record After-gather-arg·own : Type 0 where
-          pub given : s40 .gives (m31 (before· .before) (After-free-delta-if·gave before·))
+          pub given : s37 .gives (m28 (before· .before) (After-free-delta·gave before·))
 
       pub record After-gather-arg : Type 0 where
-        pub before : After-free-delta-if
+        pub before : After-free-delta
         pub gather-arg : After-gather-arg·own before
 
       abbrev pub Need-gather-requires : Type 0
       Need-gather-requires =
-          (c : After-gather-arg) → s41 .asks (m32 (c .before) (c .gather-arg .given))
+          (c : After-gather-arg) → s38 .asks (m29 (c .before) (c .gather-arg .given))
 
-      abbrev pub m33 :
+      abbrev pub m30 :
           (before : After-gather-arg) →
-          (given : s41 .gives (m32 (before .before) (before .gather-arg .given))) →
-          Typed.Mo T43
-      m33 = λ before given. s41 .next (m32 (before .before) (before .gather-arg .given)) given
+          (given : s38 .gives (m29 (before .before) (before .gather-arg .given))) →
+          Typed.Mo T40
+      m30 = λ before given. s38 .next (m29 (before .before) (before .gather-arg .given)) given
 
       module _ (before· : After-gather-arg) where
         abbrev pub After-gather·own : Type 0
-        After-gather·own = Called.Called ps·8 r·8 (claims· .17) T42 (
+        After-gather·own = Called.Called ps·7 r·7 (claims· .15) T39 (
           record { pos = 5; st = List.[]; d = 0; at = λ x. x },
           (
             record { pos = 9; st = List.[]; d = 0; at = λ x. x },
             (
-              record { pos = 26; st = List.[]; d = 0; at = λ x. x },
+              record { pos = 25; st = List.[]; d = 0; at = λ x. x },
               (
-                Bool.bAt 17 λ x. x,
+                record { pos = 15; st = List.[]; d = 0; at = λ x. x },
                 (
-                  record { pos = 15; st = List.[]; d = 0; at = λ x. x },
-                  (
-                    record { pos = 16; st = List.[]; d = 0; at = λ x. x },
-                    (record { pos = 18; st = List.[]; d = 0; at = λ x. x }, tt),
-                  ),
+                  record { pos = 16; st = List.[]; d = 0; at = λ x. x },
+                  (record { pos = 17; st = List.[]; d = 0; at = λ x. x }, tt),
                 ),
               ),
             ),
           ),
-        ) (m32 (before· .before) (before· .gather-arg .given))
+        ) (m29 (before· .before) (before· .gather-arg .given))
 
       pub record After-gather : Type 0 where
         pub before : After-gather-arg
         pub gather : After-gather·own before
 
       abbrev pub After-gather·gave :
-          (c : After-gather) → s41 .gives (m32 (c .before .before) (c .before .gather-arg .given))
-      After-gather·gave = λ c. Called.given ps·8 r·8 (claims· .17) T42 (
+          (c : After-gather) → s38 .gives (m29 (c .before .before) (c .before .gather-arg .given))
+      After-gather·gave = λ c. Called.given ps·7 r·7 (claims· .15) T39 (
         record { pos = 5; st = List.[]; d = 0; at = λ x. x },
         (
           record { pos = 9; st = List.[]; d = 0; at = λ x. x },
           (
-            record { pos = 26; st = List.[]; d = 0; at = λ x. x },
+            record { pos = 25; st = List.[]; d = 0; at = λ x. x },
             (
-              Bool.bAt 17 λ x. x,
+              record { pos = 15; st = List.[]; d = 0; at = λ x. x },
               (
-                record { pos = 15; st = List.[]; d = 0; at = λ x. x },
-                (
-                  record { pos = 16; st = List.[]; d = 0; at = λ x. x },
-                  (record { pos = 18; st = List.[]; d = 0; at = λ x. x }, tt),
-                ),
+                record { pos = 16; st = List.[]; d = 0; at = λ x. x },
+                (record { pos = 17; st = List.[]; d = 0; at = λ x. x }, tt),
               ),
             ),
           ),
         ),
-      ) (m32 (c .before .before) (c .before .gather-arg .given)) (c .gather)
+      ) (m29 (c .before .before) (c .before .gather-arg .given)) (c .gather)
 
-      abbrev pub m34 :
+      abbrev pub m31 :
           (before : After-gather-arg) →
-          (given : s41 .gives (m32 (before .before) (before .gather-arg .given))) →
-          Typed.Mo T44
-      m34 = λ before given. s42 (m33 before given)
+          (given : s38 .gives (m29 (before .before) (before .gather-arg .given))) →
+          Typed.Mo T41
+      m31 = λ before given. s39 (m30 before given)
 
-      abbrev pub m35 :
+      abbrev pub m32 :
           (before : After-gather-arg) →
-          (given : s41 .gives (m32 (before .before) (before .gather-arg .given))) →
-          Typed.Mo T45
-      m35 = λ before given. s43 (m34 before given)
+          (given : s38 .gives (m29 (before .before) (before .gather-arg .given))) →
+          Typed.Mo T42
+      m32 = λ before given. s40 (m31 before given)
 
-      abbrev pub m36 :
+      abbrev pub m33 :
           (before : After-gather) →
-          (given : s44 .gives (m35 (before .before) (After-gather·gave before))) →
-          Typed.Mo T46
-      m36 = λ before given. s44 .next (m35 (before .before) (After-gather·gave before)) given
+          (given : s41 .gives (m32 (before .before) (After-gather·gave before))) →
+          Typed.Mo T43
+      m33 = λ before given. s41 .next (m32 (before .before) (After-gather·gave before)) given
 
       module _ (before· : After-gather) where
         pub record After-judge-arg·own : Type 0 where
-          pub given : s44 .gives (m35 (before· .before) (After-gather·gave before·))
+          pub given : s41 .gives (m32 (before· .before) (After-gather·gave before·))
 
       pub record After-judge-arg : Type 0 where
         pub before : After-gather
@@ -49986,22 +48145,22 @@ module _ (claims· : Claims) where
 
       abbrev pub Need-judge-requires : Type 0
       Need-judge-requires =
-          (c : After-judge-arg) → s45 .asks (m36 (c .before) (c .judge-arg .given))
+          (c : After-judge-arg) → s42 .asks (m33 (c .before) (c .judge-arg .given))
 
-      abbrev pub m37 :
+      abbrev pub m34 :
           (before : After-judge-arg) →
-          (given : s45 .gives (m36 (before .before) (before .judge-arg .given))) →
-          Typed.Mo T47
-      m37 = λ before given. s45 .next (m36 (before .before) (before .judge-arg .given)) given
+          (given : s42 .gives (m33 (before .before) (before .judge-arg .given))) →
+          Typed.Mo T44
+      m34 = λ before given. s42 .next (m33 (before .before) (before .judge-arg .given)) given
 
       module _ (before· : After-judge-arg) where
         abbrev pub After-judge·own : Type 0
-        After-judge·own = Called.Called ps·9 r·9 (claims· .19) T46 (
+        After-judge·own = Called.Called ps·8 r·8 (claims· .17) T43 (
           record { pos = 5; st = List.[]; d = 0; at = λ x. x },
           (
             record { pos = 9; st = List.[]; d = 0; at = λ x. x },
             (
-              record { pos = 26; st = List.[]; d = 0; at = λ x. x },
+              record { pos = 25; st = List.[]; d = 0; at = λ x. x },
               (
                 record {
                   pos = 11;
@@ -50011,24 +48170,24 @@ module _ (claims· : Claims) where
                       (Syntax.tyArray (Syntax.tyArray (Syntax.tyInt Syntax.w8) 16) 16);
                   ref = λ x. x;
                 },
-                (record { pos = 19; st = List.[]; d = 0; at = λ x. x }, tt),
+                (record { pos = 18; st = List.[]; d = 0; at = λ x. x }, tt),
               ),
             ),
           ),
-        ) (m36 (before· .before) (before· .judge-arg .given))
+        ) (m33 (before· .before) (before· .judge-arg .given))
 
       pub record After-judge : Type 0 where
         pub before : After-judge-arg
         pub judge : After-judge·own before
 
       abbrev pub After-judge·gave :
-          (c : After-judge) → s45 .gives (m36 (c .before .before) (c .before .judge-arg .given))
-      After-judge·gave = λ c. Called.given ps·9 r·9 (claims· .19) T46 (
+          (c : After-judge) → s42 .gives (m33 (c .before .before) (c .before .judge-arg .given))
+      After-judge·gave = λ c. Called.given ps·8 r·8 (claims· .17) T43 (
         record { pos = 5; st = List.[]; d = 0; at = λ x. x },
         (
           record { pos = 9; st = List.[]; d = 0; at = λ x. x },
           (
-            record { pos = 26; st = List.[]; d = 0; at = λ x. x },
+            record { pos = 25; st = List.[]; d = 0; at = λ x. x },
             (
               record {
                 pos = 11;
@@ -50038,77 +48197,76 @@ module _ (claims· : Claims) where
                     (Syntax.tyArray (Syntax.tyArray (Syntax.tyInt Syntax.w8) 16) 16);
                 ref = λ x. x;
               },
-              (record { pos = 19; st = List.[]; d = 0; at = λ x. x }, tt),
+              (record { pos = 18; st = List.[]; d = 0; at = λ x. x }, tt),
             ),
           ),
         ),
-      ) (m36 (c .before .before) (c .before .judge-arg .given)) (c .judge)
+      ) (m33 (c .before .before) (c .before .judge-arg .given)) (c .judge)
 
-      abbrev pub m38 :
+      abbrev pub m35 :
           (before : After-judge-arg) →
-          (given : s45 .gives (m36 (before .before) (before .judge-arg .given))) →
-          Typed.Mo T48
-      m38 = λ before given. s46 (m37 before given)
+          (given : s42 .gives (m33 (before .before) (before .judge-arg .given))) →
+          Typed.Mo T45
+      m35 = λ before given. s43 (m34 before given)
 
       abbrev pub Need-number-requires : Type 0
-      Need-number-requires = (c : After-judge) → s47 .asks (m38 (c .before) (After-judge·gave c))
+      Need-number-requires = (c : After-judge) → s44 .asks (m35 (c .before) (After-judge·gave c))
 
-      abbrev pub m39 :
+      abbrev pub m36 :
           (before : After-judge) →
-          (given : s47 .gives (m38 (before .before) (After-judge·gave before))) →
-          Typed.Mo T49
-      m39 = λ before given. s47 .next (m38 (before .before) (After-judge·gave before)) given
+          (given : s44 .gives (m35 (before .before) (After-judge·gave before))) →
+          Typed.Mo T46
+      m36 = λ before given. s44 .next (m35 (before .before) (After-judge·gave before)) given
 
       module _ (before· : After-judge) where
         abbrev pub After-number·own : Type 0
-        After-number·own = Called.Called ps·10 r·10 (claims· .21) T48 (
-          record { pos = 20; st = List.[]; d = 0; at = λ x. x },
+        After-number·own = Called.Called ps·9 r·9 (claims· .19) T45 (
+          record { pos = 19; st = List.[]; d = 0; at = λ x. x },
           tt,
-        ) (m38 (before· .before) (After-judge·gave before·))
+        ) (m35 (before· .before) (After-judge·gave before·))
 
       pub record After-number : Type 0 where
         pub before : After-judge
         pub number : After-number·own before
 
       abbrev pub After-number·gave :
-          (c : After-number) → s47 .gives (m38 (c .before .before) (After-judge·gave (c .before)))
-      After-number·gave = λ c. Called.given ps·10 r·10 (claims· .21) T48 (
-        record { pos = 20; st = List.[]; d = 0; at = λ x. x },
+          (c : After-number) → s44 .gives (m35 (c .before .before) (After-judge·gave (c .before)))
+      After-number·gave = λ c. Called.given ps·9 r·9 (claims· .19) T45 (
+        record { pos = 19; st = List.[]; d = 0; at = λ x. x },
         tt,
-      ) (m38 (c .before .before) (After-judge·gave (c .before))) (c .number)
+      ) (m35 (c .before .before) (After-judge·gave (c .before))) (c .number)
 
-      abbrev pub m40 :
+      abbrev pub m37 :
           (before : After-judge) →
-          (given : s47 .gives (m38 (before .before) (After-judge·gave before))) →
-          Typed.Mo T50
-      m40 = λ before given. s48 .next (m39 before given)
+          (given : s44 .gives (m35 (before .before) (After-judge·gave before))) →
+          Typed.Mo T47
+      m37 = λ before given. s45 .next (m36 before given)
 
       abbrev W1 :
           (before : After-judge) →
-          (given : s47 .gives (m38 (before .before) (After-judge·gave before))) →
+          (given : s44 .gives (m35 (before .before) (After-judge·gave before))) →
           Typed.Want O1
       W1 =
-          λ before given. Typed.wantNext T51 O0 (at94 (W0
+          λ before given. Typed.wantNext T48 O0 (at92 (W0
           (before .before .before .before .before .before .before .before .before .before .before
-          .before .before .before .before .before .before .before .before .before .before .κs)
+          .before .before .before .before .before .before .before .before .κs)
           (before .before .before .before .before .before .before .before .before .before .before
-          .before .before .before .before .before .before .before .before .before .before .args)))
-          (W0
+          .before .before .before .before .before .before .before .before .args))) (W0
           (before .before .before .before .before .before .before .before .before .before .before
-          .before .before .before .before .before .before .before .before .before .before .κs)
+          .before .before .before .before .before .before .before .before .κs)
           (before .before .before .before .before .before .before .before .before .before .before
-          .before .before .before .before .before .before .before .before .before .before .args))
+          .before .before .before .before .before .before .before .before .args))
 
-      abbrev pub m41 :
+      abbrev pub m38 :
           (before : After-judge) →
-          (given : s47 .gives (m38 (before .before) (After-judge·gave before))) →
-          Typed.Mo T52
-      m41 = λ before given. s49 (m40 before given)
+          (given : s44 .gives (m35 (before .before) (After-judge·gave before))) →
+          Typed.Mo T49
+      m38 = λ before given. s46 (m37 before given)
 
       module _ (before· : After-number) where
         pub record Then1·own : Type 0 where
           pub taken : Path'._≡_ {A = Nat.ℕ}
-              (Row.get 33 (T49 .locals) (m39 (before· .before) (After-number·gave before·)))
+              (Row.get 32 (T46 .locals) (m36 (before· .before) (After-number·gave before·)))
               0 →
               ⊥
 
@@ -50116,8 +48274,17 @@ module _ (claims· : Claims) where
         pub before : After-number
         pub if1 : Then1·own before
 
+      abbrev pub m39 : (before : After-number) → Typed.Mo T50
+      m39 = λ before. s47 (m38 (before .before) (After-number·gave before))
+
+      abbrev pub m40 : (before : After-number) → Typed.Mo T51
+      m40 = λ before. s48 (m39 before)
+
+      abbrev pub m41 : (before : After-number) → Typed.Mo T52
+      m41 = λ before. s49 (m40 before)
+
       abbrev pub m42 : (before : After-number) → Typed.Mo T53
-      m42 = λ before. s50 (m41 (before .before) (After-number·gave before))
+      m42 = λ before. s50 (m41 before)
 
       abbrev pub m43 : (before : After-number) → Typed.Mo T54
       m43 = λ before. s51 (m42 before)
@@ -50125,143 +48292,129 @@ module _ (claims· : Claims) where
       abbrev pub m44 : (before : After-number) → Typed.Mo T55
       m44 = λ before. s52 (m43 before)
 
-      abbrev pub m45 : (before : After-number) → Typed.Mo T56
-      m45 = λ before. s53 (m44 before)
-
-      abbrev pub m46 : (before : After-number) → Typed.Mo T57
-      m46 = λ before. s54 (m45 before)
-
-      abbrev pub m47 : (before : After-number) → Typed.Mo T58
-      m47 = λ before. s55 (m46 before)
-
       abbrev pub Need-refused-requires : Type 0
-      Need-refused-requires = (c : Then1) → s56 .asks (m47 (c .before))
+      Need-refused-requires = (c : Then1) → s53 .asks (m44 (c .before))
 
-      abbrev pub m48 :
-          (before : Then1) → (given : s56 .gives (m47 (before .before))) → Typed.Mo T59
-      m48 = λ before given. s56 .next (m47 (before .before)) given
+      abbrev pub m45 :
+          (before : Then1) → (given : s53 .gives (m44 (before .before))) → Typed.Mo T56
+      m45 = λ before given. s53 .next (m44 (before .before)) given
 
       module _ (before· : Then1) where
         abbrev pub After-refused·own : Type 0
-        After-refused·own = Called.Called ps·11 r·11 (claims· .23) T58 (
-          record { pos = 20; st = List.[]; d = 0; at = λ x. x },
+        After-refused·own = Called.Called ps·10 r·10 (claims· .21) T55 (
+          record { pos = 19; st = List.[]; d = 0; at = λ x. x },
           (Num.vAt 6 λ x. x, (Num.vAt 7 λ x. x, tt)),
-        ) (m47 (before· .before))
+        ) (m44 (before· .before))
 
       pub record After-refused : Type 0 where
         pub before : Then1
         pub refused : After-refused·own before
 
-      abbrev pub After-refused·gave : (c : After-refused) → s56 .gives (m47 (c .before .before))
-      After-refused·gave = λ c. Called.given ps·11 r·11 (claims· .23) T58 (
-        record { pos = 20; st = List.[]; d = 0; at = λ x. x },
+      abbrev pub After-refused·gave : (c : After-refused) → s53 .gives (m44 (c .before .before))
+      After-refused·gave = λ c. Called.given ps·10 r·10 (claims· .21) T55 (
+        record { pos = 19; st = List.[]; d = 0; at = λ x. x },
         (Num.vAt 6 λ x. x, (Num.vAt 7 λ x. x, tt)),
-      ) (m47 (c .before .before)) (c .refused)
+      ) (m44 (c .before .before)) (c .refused)
+
+      abbrev pub m46 :
+          (before : Then1) → (given : s53 .gives (m44 (before .before))) → Typed.Mo T57
+      m46 = λ before given. s54 (m45 before given)
+
+      abbrev pub m47 :
+          (before : Then1) → (given : s53 .gives (m44 (before .before))) → Typed.Mo T58
+      m47 = λ before given. s55 (m46 before given)
+
+      abbrev pub m48 :
+          (before : Then1) → (given : s53 .gives (m44 (before .before))) → Typed.Mo T59
+      m48 = λ before given. s56 (m47 before given)
 
       abbrev pub m49 :
-          (before : Then1) → (given : s56 .gives (m47 (before .before))) → Typed.Mo T60
+          (before : Then1) → (given : s53 .gives (m44 (before .before))) → Typed.Mo T60
       m49 = λ before given. s57 (m48 before given)
 
       abbrev pub m50 :
-          (before : Then1) → (given : s56 .gives (m47 (before .before))) → Typed.Mo T61
+          (before : Then1) → (given : s53 .gives (m44 (before .before))) → Typed.Mo T61
       m50 = λ before given. s58 (m49 before given)
-
-      abbrev pub m51 :
-          (before : Then1) → (given : s56 .gives (m47 (before .before))) → Typed.Mo T62
-      m51 = λ before given. s59 (m50 before given)
-
-      abbrev pub m52 :
-          (before : Then1) → (given : s56 .gives (m47 (before .before))) → Typed.Mo T63
-      m52 = λ before given. s60 (m51 before given)
-
-      abbrev pub m53 :
-          (before : Then1) → (given : s56 .gives (m47 (before .before))) → Typed.Mo T64
-      m53 = λ before given. s61 (m52 before given)
-
-      abbrev pub m54 :
-          (before : Then1) → (given : s56 .gives (m47 (before .before))) → Typed.Mo T65
-      m54 = λ before given. s62 (m53 before given)
 
       abbrev pub Need-same-length : Type 0
       Need-same-length =
-          (c : After-refused) → MutSlice.SameLen (Row.get 1 (T65 .locals) (m54 (c .before)
+          (c : After-refused) → MutSlice.SameLen (Row.get 1 (T61 .locals) (m50 (c .before)
           (After-refused·gave c))) (dens
           (c .before .before .before .before .before .before .before .before .before .before
           .before .before .before .before .before .before .before .before .before .before .before
-          .before .before .κs)
+          .κs)
           (c .before .before .before .before .before .before .before .before .before .before
           .before .before .before .before .before .before .before .before .before .before .before
-          .before .before .args) .0)
+          .args) .0)
 
       abbrev pub Need-same-length-2 : Type 0
       Need-same-length-2 =
-          (c : After-refused) → MutSlice.SameLen (Row.get 2 (T65 .locals) (m54 (c .before)
+          (c : After-refused) → MutSlice.SameLen (Row.get 2 (T61 .locals) (m50 (c .before)
           (After-refused·gave c))) (dens
           (c .before .before .before .before .before .before .before .before .before .before
           .before .before .before .before .before .before .before .before .before .before .before
-          .before .before .κs)
+          .κs)
           (c .before .before .before .before .before .before .before .before .before .before
           .before .before .before .before .before .before .before .before .before .before .before
-          .before .before .args) .1 .0)
+          .args) .1 .0)
 
       abbrev pub Need-returns : Type 0
       Need-returns =
           (c : After-refused) → Post·
           (c .before .before .before .before .before .before .before .before .before .before
           .before .before .before .before .before .before .before .before .before .before .before
-          .before .before .κs) (dens
+          .κs) (dens
           (c .before .before .before .before .before .before .before .before .before .before
           .before .before .before .before .before .before .before .before .before .before .before
-          .before .before .κs)
+          .κs)
           (c .before .before .before .before .before .before .before .before .before .before
           .before .before .before .before .before .before .before .before .before .before .before
-          .before .before .args)) (Function.resV r
+          .args)) (Function.resV r
           (c .before .before .before .before .before .before .before .before .before .before
           .before .before .before .before .before .before .before .before .before .before .before
-          .before .before .κs) (m54 (c .before) (After-refused·gave c) .0)) (Clauses.atExit
-          (Kinds.endedOf 6 ps r)
+          .κs) (m50 (c .before) (After-refused·gave c) .0)) (Clauses.atExit (Kinds.endedOf 6 ps r)
           (c .before .before .before .before .before .before .before .before .before .before
           .before .before .before .before .before .before .before .before .before .before .before
-          .before .before .κs) (dens
+          .κs) (dens
           (c .before .before .before .before .before .before .before .before .before .before
           .before .before .before .before .before .before .before .before .before .before .before
-          .before .before .κs)
+          .κs)
           (c .before .before .before .before .before .before .before .before .before .before
           .before .before .before .before .before .before .before .before .before .before .before
-          .before .before .args)) (Enter.lastsP
+          .args)) (Enter.lastsP
           (c .before .before .before .before .before .before .before .before .before .before
           .before .before .before .before .before .before .before .before .before .before .before
-          .before .before .κs) 1 ps xs (dens
+          .κs) 1 ps xs (dens
           (c .before .before .before .before .before .before .before .before .before .before
           .before .before .before .before .before .before .before .before .before .before .before
-          .before .before .κs)
+          .κs)
           (c .before .before .before .before .before .before .before .before .before .before
           .before .before .before .before .before .before .before .before .before .before .before
-          .before .before .args)) (m54 (c .before) (After-refused·gave c) .1)))
+          .args)) (m50 (c .before) (After-refused·gave c) .1)))
 
       module _ (before· : After-number) where
         pub record Else1·own : Type 0 where
           pub left : Path'._≡_ {A = Nat.ℕ}
-              (Row.get 33 (T49 .locals) (m39 (before· .before) (After-number·gave before·)))
+              (Row.get 32 (T46 .locals) (m36 (before· .before) (After-number·gave before·)))
               0
 
       pub record Else1 : Type 0 where
         pub before : After-number
         pub if1 : Else1·own before
 
-      abbrev pub m55 : (before : After-number) → Typed.Mo T66
-      m55 = λ before. s63 (m41 (before .before) (After-number·gave before))
+      abbrev pub m51 : (before : After-number) → Typed.Mo T62
+      m51 = λ before. s59 (m38 (before .before) (After-number·gave before))
 
-      abbrev pub m56 : (before : After-number) → Typed.Mo T67
-      m56 = λ before. s64 (m55 before)
+      abbrev pub m52 : (before : After-number) → Typed.Mo T63
+      m52 = λ before. s60 (m51 before)
 
-      abbrev pub m57 :
-          (before : Else1) → (given : s65 .gives (m56 (before .before))) → Typed.Mo T68
-      m57 = λ before given. s65 .next (m56 (before .before)) given
+      abbrev pub m53 :
+          (before : Else1) → (given : s61 .gives (m52 (before .before))) → Typed.Mo T64
+      m53 = λ before given. s61 .next (m52 (before .before)) given
 
       module _ (before· : Else1) where
         pub record After-accepted-arg·own : Type 0 where
-          pub given : s65 .gives (m56 (before· .before))
+          pub given : s61 .gives (m52 (before· .before))
 
       pub record After-accepted-arg : Type 0 where
         pub before : Else1
@@ -50269,17 +48422,17 @@ module _ (claims· : Claims) where
 
       abbrev pub Need-accepted-requires : Type 0
       Need-accepted-requires =
-          (c : After-accepted-arg) → s66 .asks (m57 (c .before) (c .accepted-arg .given))
+          (c : After-accepted-arg) → s62 .asks (m53 (c .before) (c .accepted-arg .given))
 
-      abbrev pub m58 :
+      abbrev pub m54 :
           (before : After-accepted-arg) →
-          (given : s66 .gives (m57 (before .before) (before .accepted-arg .given))) →
-          Typed.Mo T69
-      m58 = λ before given. s66 .next (m57 (before .before) (before .accepted-arg .given)) given
+          (given : s62 .gives (m53 (before .before) (before .accepted-arg .given))) →
+          Typed.Mo T65
+      m54 = λ before given. s62 .next (m53 (before .before) (before .accepted-arg .given)) given
 
       module _ (before· : After-accepted-arg) where
         abbrev pub After-accepted·own : Type 0
-        After-accepted·own = Called.Called ps·12 r·12 (claims· .25) T68 (
+        After-accepted·own = Called.Called ps·11 r·11 (claims· .23) T64 (
           record { pos = 5; st = List.[]; d = 0; at = λ x. x },
           (
             Num.vAt 7 λ x. x,
@@ -50288,13 +48441,13 @@ module _ (claims· : Claims) where
               (
                 record { pos = 9; st = List.[]; d = 0; at = λ x. x },
                 (
-                  record { pos = 26; st = List.[]; d = 0; at = λ x. x },
-                  (record { pos = 19; st = List.[]; d = 0; at = λ x. x }, tt),
+                  record { pos = 25; st = List.[]; d = 0; at = λ x. x },
+                  (record { pos = 18; st = List.[]; d = 0; at = λ x. x }, tt),
                 ),
               ),
             ),
           ),
-        ) (m57 (before· .before) (before· .accepted-arg .given))
+        ) (m53 (before· .before) (before· .accepted-arg .given))
 
       pub record After-accepted : Type 0 where
         pub before : After-accepted-arg
@@ -50302,8 +48455,8 @@ module _ (claims· : Claims) where
 
       abbrev pub After-accepted·gave :
           (c : After-accepted) →
-          s66 .gives (m57 (c .before .before) (c .before .accepted-arg .given))
-      After-accepted·gave = λ c. Called.given ps·12 r·12 (claims· .25) T68 (
+          s62 .gives (m53 (c .before .before) (c .before .accepted-arg .given))
+      After-accepted·gave = λ c. Called.given ps·11 r·11 (claims· .23) T64 (
         record { pos = 5; st = List.[]; d = 0; at = λ x. x },
         (
           Num.vAt 7 λ x. x,
@@ -50312,41 +48465,41 @@ module _ (claims· : Claims) where
             (
               record { pos = 9; st = List.[]; d = 0; at = λ x. x },
               (
-                record { pos = 26; st = List.[]; d = 0; at = λ x. x },
-                (record { pos = 19; st = List.[]; d = 0; at = λ x. x }, tt),
+                record { pos = 25; st = List.[]; d = 0; at = λ x. x },
+                (record { pos = 18; st = List.[]; d = 0; at = λ x. x }, tt),
               ),
             ),
           ),
         ),
-      ) (m57 (c .before .before) (c .before .accepted-arg .given)) (c .accepted)
+      ) (m53 (c .before .before) (c .before .accepted-arg .given)) (c .accepted)
 
-      abbrev pub m59 :
+      abbrev pub m55 :
           (before : After-accepted-arg) →
-          (given : s66 .gives (m57 (before .before) (before .accepted-arg .given))) →
-          Typed.Mo T70
-      m59 = λ before given. s67 (m58 before given)
+          (given : s62 .gives (m53 (before .before) (before .accepted-arg .given))) →
+          Typed.Mo T66
+      m55 = λ before given. s63 (m54 before given)
 
-      abbrev pub m60 :
+      abbrev pub m56 :
           (before : After-accepted-arg) →
-          (given : s66 .gives (m57 (before .before) (before .accepted-arg .given))) →
-          Typed.Mo T71
-      m60 = λ before given. s68 (m59 before given)
+          (given : s62 .gives (m53 (before .before) (before .accepted-arg .given))) →
+          Typed.Mo T67
+      m56 = λ before given. s64 (m55 before given)
 
-      abbrev pub m61 :
+      abbrev pub m57 :
           (before : After-accepted-arg) →
-          (given : s66 .gives (m57 (before .before) (before .accepted-arg .given))) →
-          Typed.Mo T72
-      m61 = λ before given. s69 (m60 before given)
+          (given : s62 .gives (m53 (before .before) (before .accepted-arg .given))) →
+          Typed.Mo T68
+      m57 = λ before given. s65 (m56 before given)
 
-      abbrev pub m62 :
+      abbrev pub m58 :
           (before : After-accepted) →
-          (given : s70 .gives (m61 (before .before) (After-accepted·gave before))) →
-          Typed.Mo T73
-      m62 = λ before given. s70 .next (m61 (before .before) (After-accepted·gave before)) given
+          (given : s66 .gives (m57 (before .before) (After-accepted·gave before))) →
+          Typed.Mo T69
+      m58 = λ before given. s66 .next (m57 (before .before) (After-accepted·gave before)) given
 
       module _ (before· : After-accepted) where
         pub record After-forward-post-arg·own : Type 0 where
-          pub given : s70 .gives (m61 (before· .before) (After-accepted·gave before·))
+          pub given : s66 .gives (m57 (before· .before) (After-accepted·gave before·))
 
       pub record After-forward-post-arg : Type 0 where
         pub before : After-accepted
@@ -50354,24 +48507,24 @@ module _ (claims· : Claims) where
 
       abbrev pub Need-forward-post-requires : Type 0
       Need-forward-post-requires =
-          (c : After-forward-post-arg) → s71 .asks (m62 (c .before) (c .forward-post-arg .given))
+          (c : After-forward-post-arg) → s67 .asks (m58 (c .before) (c .forward-post-arg .given))
 
-      abbrev pub m63 :
+      abbrev pub m59 :
           (before : After-forward-post-arg) →
-          (given : s71 .gives (m62 (before .before) (before .forward-post-arg .given))) →
-          Typed.Mo T74
-      m63 =
-          λ before given. s71 .next (m62 (before .before) (before .forward-post-arg .given)) given
+          (given : s67 .gives (m58 (before .before) (before .forward-post-arg .given))) →
+          Typed.Mo T70
+      m59 =
+          λ before given. s67 .next (m58 (before .before) (before .forward-post-arg .given)) given
 
       module _ (before· : After-forward-post-arg) where
         abbrev pub After-forward-post·own : Type 0
-        After-forward-post·own = Called.Called ps·13 r·13 (claims· .27) T73 (
+        After-forward-post·own = Called.Called ps·12 r·12 (claims· .25) T69 (
           record { pos = 9; st = List.[]; d = 0; at = λ x. x },
           (
-            record { pos = 26; st = List.[]; d = 0; at = λ x. x },
-            (record { pos = 19; st = List.[]; d = 0; at = λ x. x }, tt),
+            record { pos = 25; st = List.[]; d = 0; at = λ x. x },
+            (record { pos = 18; st = List.[]; d = 0; at = λ x. x }, tt),
           ),
-        ) (m62 (before· .before) (before· .forward-post-arg .given))
+        ) (m58 (before· .before) (before· .forward-post-arg .given))
 
       pub record After-forward-post : Type 0 where
         pub before : After-forward-post-arg
@@ -50379,42 +48532,42 @@ module _ (claims· : Claims) where
 
       abbrev pub After-forward-post·gave :
           (c : After-forward-post) →
-          s71 .gives (m62 (c .before .before) (c .before .forward-post-arg .given))
-      After-forward-post·gave = λ c. Called.given ps·13 r·13 (claims· .27) T73 (
+          s67 .gives (m58 (c .before .before) (c .before .forward-post-arg .given))
+      After-forward-post·gave = λ c. Called.given ps·12 r·12 (claims· .25) T69 (
         record { pos = 9; st = List.[]; d = 0; at = λ x. x },
         (
-          record { pos = 26; st = List.[]; d = 0; at = λ x. x },
-          (record { pos = 19; st = List.[]; d = 0; at = λ x. x }, tt),
+          record { pos = 25; st = List.[]; d = 0; at = λ x. x },
+          (record { pos = 18; st = List.[]; d = 0; at = λ x. x }, tt),
         ),
-      ) (m62 (c .before .before) (c .before .forward-post-arg .given)) (c .forward-post)
+      ) (m58 (c .before .before) (c .before .forward-post-arg .given)) (c .forward-post)
 
-      abbrev pub m64 :
+      abbrev pub m60 :
           (before : After-forward-post-arg) →
-          (given : s71 .gives (m62 (before .before) (before .forward-post-arg .given))) →
-          Typed.Mo T75
-      m64 = λ before given. s72 (m63 before given)
+          (given : s67 .gives (m58 (before .before) (before .forward-post-arg .given))) →
+          Typed.Mo T71
+      m60 = λ before given. s68 (m59 before given)
 
-      abbrev pub m65 :
+      abbrev pub m61 :
           (before : After-forward-post-arg) →
-          (given : s71 .gives (m62 (before .before) (before .forward-post-arg .given))) →
-          Typed.Mo T76
-      m65 = λ before given. s73 (m64 before given)
+          (given : s67 .gives (m58 (before .before) (before .forward-post-arg .given))) →
+          Typed.Mo T72
+      m61 = λ before given. s69 (m60 before given)
 
-      abbrev pub m66 :
+      abbrev pub m62 :
           (before : After-forward-post-arg) →
-          (given : s71 .gives (m62 (before .before) (before .forward-post-arg .given))) →
-          Typed.Mo T77
-      m66 = λ before given. s74 (m65 before given)
+          (given : s67 .gives (m58 (before .before) (before .forward-post-arg .given))) →
+          Typed.Mo T73
+      m62 = λ before given. s70 (m61 before given)
 
-      abbrev pub m67 :
+      abbrev pub m63 :
           (before : After-forward-post) →
-          (given : s75 .gives (m66 (before .before) (After-forward-post·gave before))) →
-          Typed.Mo T78
-      m67 = λ before given. s75 .next (m66 (before .before) (After-forward-post·gave before)) given
+          (given : s71 .gives (m62 (before .before) (After-forward-post·gave before))) →
+          Typed.Mo T74
+      m63 = λ before given. s71 .next (m62 (before .before) (After-forward-post·gave before)) given
 
       module _ (before· : After-forward-post) where
         pub record After-reply-post-arg·own : Type 0 where
-          pub given : s75 .gives (m66 (before· .before) (After-forward-post·gave before·))
+          pub given : s71 .gives (m62 (before· .before) (After-forward-post·gave before·))
 
       pub record After-reply-post-arg : Type 0 where
         pub before : After-forward-post
@@ -50422,26 +48575,26 @@ module _ (claims· : Claims) where
 
       abbrev pub Need-reply-post-requires : Type 0
       Need-reply-post-requires =
-          (c : After-reply-post-arg) → s76 .asks (m67 (c .before) (c .reply-post-arg .given))
+          (c : After-reply-post-arg) → s72 .asks (m63 (c .before) (c .reply-post-arg .given))
 
-      abbrev pub m68 :
+      abbrev pub m64 :
           (before : After-reply-post-arg) →
-          (given : s76 .gives (m67 (before .before) (before .reply-post-arg .given))) →
-          Typed.Mo T79
-      m68 = λ before given. s76 .next (m67 (before .before) (before .reply-post-arg .given)) given
+          (given : s72 .gives (m63 (before .before) (before .reply-post-arg .given))) →
+          Typed.Mo T75
+      m64 = λ before given. s72 .next (m63 (before .before) (before .reply-post-arg .given)) given
 
       module _ (before· : After-reply-post-arg) where
         abbrev pub After-reply-post·own : Type 0
-        After-reply-post·own = Called.Called ps·14 r·14 (claims· .29) T78 (
+        After-reply-post·own = Called.Called ps·13 r·13 (claims· .27) T74 (
           record { pos = 5; st = List.[]; d = 0; at = λ x. x },
           (
             record { pos = 9; st = List.[]; d = 0; at = λ x. x },
             (
-              record { pos = 26; st = List.[]; d = 0; at = λ x. x },
-              (record { pos = 19; st = List.[]; d = 0; at = λ x. x }, (Num.vAt 7 λ x. x, tt)),
+              record { pos = 25; st = List.[]; d = 0; at = λ x. x },
+              (record { pos = 18; st = List.[]; d = 0; at = λ x. x }, (Num.vAt 7 λ x. x, tt)),
             ),
           ),
-        ) (m67 (before· .before) (before· .reply-post-arg .given))
+        ) (m63 (before· .before) (before· .reply-post-arg .given))
 
       pub record After-reply-post : Type 0 where
         pub before : After-reply-post-arg
@@ -50449,64 +48602,64 @@ module _ (claims· : Claims) where
 
       abbrev pub After-reply-post·gave :
           (c : After-reply-post) →
-          s76 .gives (m67 (c .before .before) (c .before .reply-post-arg .given))
-      After-reply-post·gave = λ c. Called.given ps·14 r·14 (claims· .29) T78 (
+          s72 .gives (m63 (c .before .before) (c .before .reply-post-arg .given))
+      After-reply-post·gave = λ c. Called.given ps·13 r·13 (claims· .27) T74 (
         record { pos = 5; st = List.[]; d = 0; at = λ x. x },
         (
           record { pos = 9; st = List.[]; d = 0; at = λ x. x },
           (
-            record { pos = 26; st = List.[]; d = 0; at = λ x. x },
-            (record { pos = 19; st = List.[]; d = 0; at = λ x. x }, (Num.vAt 7 λ x. x, tt)),
+            record { pos = 25; st = List.[]; d = 0; at = λ x. x },
+            (record { pos = 18; st = List.[]; d = 0; at = λ x. x }, (Num.vAt 7 λ x. x, tt)),
           ),
         ),
-      ) (m67 (c .before .before) (c .before .reply-post-arg .given)) (c .reply-post)
+      ) (m63 (c .before .before) (c .before .reply-post-arg .given)) (c .reply-post)
+
+      abbrev pub m65 :
+          (before : After-reply-post-arg) →
+          (given : s72 .gives (m63 (before .before) (before .reply-post-arg .given))) →
+          Typed.Mo T76
+      m65 = λ before given. s73 (m64 before given)
+
+      abbrev pub m66 :
+          (before : After-reply-post-arg) →
+          (given : s72 .gives (m63 (before .before) (before .reply-post-arg .given))) →
+          Typed.Mo T77
+      m66 = λ before given. s74 (m65 before given)
+
+      abbrev pub m67 :
+          (before : After-reply-post-arg) →
+          (given : s72 .gives (m63 (before .before) (before .reply-post-arg .given))) →
+          Typed.Mo T78
+      m67 = λ before given. s75 (m66 before given)
+
+      abbrev pub m68 :
+          (before : After-reply-post-arg) →
+          (given : s72 .gives (m63 (before .before) (before .reply-post-arg .given))) →
+          Typed.Mo T79
+      m68 = λ before given. s76 (m67 before given)
 
       abbrev pub m69 :
           (before : After-reply-post-arg) →
-          (given : s76 .gives (m67 (before .before) (before .reply-post-arg .given))) →
+          (given : s72 .gives (m63 (before .before) (before .reply-post-arg .given))) →
           Typed.Mo T80
       m69 = λ before given. s77 (m68 before given)
 
-      abbrev pub m70 :
-          (before : After-reply-post-arg) →
-          (given : s76 .gives (m67 (before .before) (before .reply-post-arg .given))) →
-          Typed.Mo T81
-      m70 = λ before given. s78 (m69 before given)
-
-      abbrev pub m71 :
-          (before : After-reply-post-arg) →
-          (given : s76 .gives (m67 (before .before) (before .reply-post-arg .given))) →
-          Typed.Mo T82
-      m71 = λ before given. s79 (m70 before given)
-
-      abbrev pub m72 :
-          (before : After-reply-post-arg) →
-          (given : s76 .gives (m67 (before .before) (before .reply-post-arg .given))) →
-          Typed.Mo T83
-      m72 = λ before given. s80 (m71 before given)
-
-      abbrev pub m73 :
-          (before : After-reply-post-arg) →
-          (given : s76 .gives (m67 (before .before) (before .reply-post-arg .given))) →
-          Typed.Mo T84
-      m73 = λ before given. s81 (m72 before given)
-
       abbrev pub Need-live-of-requires : Type 0
       Need-live-of-requires =
-          (c : After-reply-post) → s82 .asks (m73 (c .before) (After-reply-post·gave c))
+          (c : After-reply-post) → s78 .asks (m69 (c .before) (After-reply-post·gave c))
 
-      abbrev pub m74 :
+      abbrev pub m70 :
           (before : After-reply-post) →
-          (given : s82 .gives (m73 (before .before) (After-reply-post·gave before))) →
-          Typed.Mo T85
-      m74 = λ before given. s82 .next (m73 (before .before) (After-reply-post·gave before)) given
+          (given : s78 .gives (m69 (before .before) (After-reply-post·gave before))) →
+          Typed.Mo T81
+      m70 = λ before given. s78 .next (m69 (before .before) (After-reply-post·gave before)) given
 
       module _ (before· : After-reply-post) where
         abbrev pub After-live-of·own : Type 0
-        After-live-of·own = Called.Called ps·15 r·15 (claims· .31) T84 (
+        After-live-of·own = Called.Called ps·14 r·14 (claims· .29) T80 (
           record { pos = 15; st = List.[]; d = 0; at = λ x. x },
           (record { pos = 16; st = List.[]; d = 0; at = λ x. x }, tt),
-        ) (m73 (before· .before) (After-reply-post·gave before·))
+        ) (m69 (before· .before) (After-reply-post·gave before·))
 
       pub record After-live-of : Type 0 where
         pub before : After-reply-post
@@ -50514,160 +48667,160 @@ module _ (claims· : Claims) where
 
       abbrev pub After-live-of·gave :
           (c : After-live-of) →
-          s82 .gives (m73 (c .before .before) (After-reply-post·gave (c .before)))
-      After-live-of·gave = λ c. Called.given ps·15 r·15 (claims· .31) T84 (
+          s78 .gives (m69 (c .before .before) (After-reply-post·gave (c .before)))
+      After-live-of·gave = λ c. Called.given ps·14 r·14 (claims· .29) T80 (
         record { pos = 15; st = List.[]; d = 0; at = λ x. x },
         (record { pos = 16; st = List.[]; d = 0; at = λ x. x }, tt),
-      ) (m73 (c .before .before) (After-reply-post·gave (c .before))) (c .live-of)
+      ) (m69 (c .before .before) (After-reply-post·gave (c .before))) (c .live-of)
 
-      abbrev pub m75 :
+      abbrev pub m71 :
           (before : After-reply-post) →
-          (given : s82 .gives (m73 (before .before) (After-reply-post·gave before))) →
+          (given : s78 .gives (m69 (before .before) (After-reply-post·gave before))) →
+          Typed.Mo T82
+      m71 = λ before given. s79 (m70 before given)
+
+      abbrev pub m72 :
+          (before : After-reply-post) →
+          (given : s78 .gives (m69 (before .before) (After-reply-post·gave before))) →
+          Typed.Mo T83
+      m72 = λ before given. s80 (m71 before given)
+
+      abbrev pub m73 :
+          (before : After-live-of) →
+          (given : s82 .gives (m72 (before .before) (After-live-of·gave before))) →
+          Typed.Mo T85
+      m73 = λ before given. s82 .next (m72 (before .before) (After-live-of·gave before)) given
+
+      abbrev pub m74 :
+          (before : After-live-of) →
+          (given : s82 .gives (m72 (before .before) (After-live-of·gave before))) →
           Typed.Mo T86
-      m75 = λ before given. s83 (m74 before given)
-
-      abbrev pub m76 :
-          (before : After-reply-post) →
-          (given : s82 .gives (m73 (before .before) (After-reply-post·gave before))) →
-          Typed.Mo T87
-      m76 = λ before given. s84 (m75 before given)
-
-      abbrev pub m77 :
-          (before : After-live-of) →
-          (given : s86 .gives (m76 (before .before) (After-live-of·gave before))) →
-          Typed.Mo T89
-      m77 = λ before given. s86 .next (m76 (before .before) (After-live-of·gave before)) given
-
-      abbrev pub m78 :
-          (before : After-live-of) →
-          (given : s86 .gives (m76 (before .before) (After-live-of·gave before))) →
-          Typed.Mo T90
-      m78 = λ before given. s87 .next (m77 before given)
+      m74 = λ before given. s83 .next (m73 before given)
 
       module _ (before· : After-live-of) where
         pub record After-finish-arg·own : Type 0 where
-          pub given : s86 .gives (m76 (before· .before) (After-live-of·gave before·))
+          pub given : s82 .gives (m72 (before· .before) (After-live-of·gave before·))
 
       pub record After-finish-arg : Type 0 where
         pub before : After-live-of
         pub finish-arg : After-finish-arg·own before
 
-      abbrev pub m79 :
+      abbrev pub m75 :
           (before : After-finish-arg) →
-          (given : s89 .gives (m78 (before .before) (before .finish-arg .given))) →
-          Typed.Mo T92
-      m79 = λ before given. s89 .next (m78 (before .before) (before .finish-arg .given)) given
+          (given : s85 .gives (m74 (before .before) (before .finish-arg .given))) →
+          Typed.Mo T88
+      m75 = λ before given. s85 .next (m74 (before .before) (before .finish-arg .given)) given
 
-      abbrev pub m80 :
+      abbrev pub m76 :
           (before : After-finish-arg) →
-          (given : s89 .gives (m78 (before .before) (before .finish-arg .given))) →
-          Typed.Mo T93
-      m80 = λ before given. s90 .next (m79 before given)
+          (given : s85 .gives (m74 (before .before) (before .finish-arg .given))) →
+          Typed.Mo T89
+      m76 = λ before given. s86 .next (m75 before given)
 
       module _ (before· : After-finish-arg) where
         pub record After-finish-arg2·own : Type 0 where
-          pub given : s89 .gives (m78 (before· .before) (before· .finish-arg .given))
+          pub given : s85 .gives (m74 (before· .before) (before· .finish-arg .given))
 
       pub record After-finish-arg2 : Type 0 where
         pub before : After-finish-arg
         pub finish-arg2 : After-finish-arg2·own before
 
-      abbrev pub m81 :
+      abbrev pub m77 :
           (before : After-finish-arg2) →
-          (given : s92 .gives (m80 (before .before) (before .finish-arg2 .given))) →
-          Typed.Mo T95
-      m81 = λ before given. s92 .next (m80 (before .before) (before .finish-arg2 .given)) given
+          (given : s88 .gives (m76 (before .before) (before .finish-arg2 .given))) →
+          Typed.Mo T91
+      m77 = λ before given. s88 .next (m76 (before .before) (before .finish-arg2 .given)) given
 
-      abbrev pub m82 :
+      abbrev pub m78 :
           (before : After-finish-arg2) →
-          (given : s92 .gives (m80 (before .before) (before .finish-arg2 .given))) →
-          Typed.Mo T96
-      m82 = λ before given. s93 .next (m81 before given)
+          (given : s88 .gives (m76 (before .before) (before .finish-arg2 .given))) →
+          Typed.Mo T92
+      m78 = λ before given. s89 .next (m77 before given)
 
       module _ (before· : After-finish-arg2) where
         pub record After-finish-arg3·own : Type 0 where
-          pub given : s92 .gives (m80 (before· .before) (before· .finish-arg2 .given))
+          pub given : s88 .gives (m76 (before· .before) (before· .finish-arg2 .given))
 
       pub record After-finish-arg3 : Type 0 where
         pub before : After-finish-arg2
         pub finish-arg3 : After-finish-arg3·own before
 
-      abbrev pub m83 :
+      abbrev pub m79 :
           (before : After-finish-arg3) →
-          (given : s95 .gives (m82 (before .before) (before .finish-arg3 .given))) →
-          Typed.Mo T98
-      m83 = λ before given. s95 .next (m82 (before .before) (before .finish-arg3 .given)) given
+          (given : s91 .gives (m78 (before .before) (before .finish-arg3 .given))) →
+          Typed.Mo T94
+      m79 = λ before given. s91 .next (m78 (before .before) (before .finish-arg3 .given)) given
 
-      abbrev pub m84 :
+      abbrev pub m80 :
           (before : After-finish-arg3) →
-          (given : s95 .gives (m82 (before .before) (before .finish-arg3 .given))) →
-          Typed.Mo T99
-      m84 = λ before given. s96 .next (m83 before given)
+          (given : s91 .gives (m78 (before .before) (before .finish-arg3 .given))) →
+          Typed.Mo T95
+      m80 = λ before given. s92 .next (m79 before given)
 
       module _ (before· : After-finish-arg3) where
         pub record After-finish-arg4·own : Type 0 where
-          pub given : s95 .gives (m82 (before· .before) (before· .finish-arg3 .given))
+          pub given : s91 .gives (m78 (before· .before) (before· .finish-arg3 .given))
 
       pub record After-finish-arg4 : Type 0 where
         pub before : After-finish-arg3
         pub finish-arg4 : After-finish-arg4·own before
 
-      abbrev pub m85 :
+      abbrev pub m81 :
           (before : After-finish-arg4) →
-          (given : s98 .gives (m84 (before .before) (before .finish-arg4 .given))) →
-          Typed.Mo T101
-      m85 = λ before given. s98 .next (m84 (before .before) (before .finish-arg4 .given)) given
+          (given : s94 .gives (m80 (before .before) (before .finish-arg4 .given))) →
+          Typed.Mo T97
+      m81 = λ before given. s94 .next (m80 (before .before) (before .finish-arg4 .given)) given
 
       module _ (before· : After-finish-arg4) where
         pub record After-d·own : Type 0 where
-          pub given : s98 .gives (m84 (before· .before) (before· .finish-arg4 .given))
+          pub given : s94 .gives (m80 (before· .before) (before· .finish-arg4 .given))
 
       pub record After-d : Type 0 where
         pub before : After-finish-arg4
         pub d : After-d·own before
 
-      abbrev pub m86 :
+      abbrev pub m82 :
           (before : After-d) →
-          (given : s100 .gives (m85 (before .before) (before .d .given))) →
-          Typed.Mo T103
-      m86 = λ before given. s100 .next (m85 (before .before) (before .d .given)) given
+          (given : s96 .gives (m81 (before .before) (before .d .given))) →
+          Typed.Mo T99
+      m82 = λ before given. s96 .next (m81 (before .before) (before .d .given)) given
 
       module _ (before· : After-d) where
         pub record After-there·own : Type 0 where
-          pub given : s100 .gives (m85 (before· .before) (before· .d .given))
+          pub given : s96 .gives (m81 (before· .before) (before· .d .given))
 
       pub record After-there : Type 0 where
         pub before : After-d
         pub there : After-there·own before
 
-      abbrev pub m87 :
+      abbrev pub m83 :
           (before : After-there) →
-          (given : s102 .gives (m86 (before .before) (before .there .given))) →
-          Typed.Mo T105
-      m87 = λ before given. s102 .next (m86 (before .before) (before .there .given)) given
+          (given : s98 .gives (m82 (before .before) (before .there .given))) →
+          Typed.Mo T101
+      m83 = λ before given. s98 .next (m82 (before .before) (before .there .given)) given
 
       module _ (before· : After-there) where
         pub record After-back·own : Type 0 where
-          pub given : s102 .gives (m86 (before· .before) (before· .there .given))
+          pub given : s98 .gives (m82 (before· .before) (before· .there .given))
 
       pub record After-back : Type 0 where
         pub before : After-there
         pub back : After-back·own before
 
       abbrev pub Need-finish-requires : Type 0
-      Need-finish-requires = (c : After-back) → s103 .asks (m87 (c .before) (c .back .given))
+      Need-finish-requires = (c : After-back) → s99 .asks (m83 (c .before) (c .back .given))
 
-      abbrev pub m88 :
+      abbrev pub m84 :
           (before : After-back) →
-          (given : s103 .gives (m87 (before .before) (before .back .given))) →
-          Typed.Mo T106
-      m88 = λ before given. s103 .next (m87 (before .before) (before .back .given)) given
+          (given : s99 .gives (m83 (before .before) (before .back .given))) →
+          Typed.Mo T102
+      m84 = λ before given. s99 .next (m83 (before .before) (before .back .given)) given
 
       module _ (before· : After-back) where
         abbrev pub After-finish·own : Type 0
-        After-finish·own = Called.Called ps·16 r·16 (claims· .33) T105 (
+        After-finish·own = Called.Called ps·15 r·15 (claims· .31) T101 (
           record {
-            pos = 38;
+            pos = 37;
             ty = Syntax.tyRef
                 Syntax.erased
                 Syntax.mut
@@ -50676,7 +48829,7 @@ module _ (claims· : Claims) where
           },
           (
             record {
-              pos = 40;
+              pos = 39;
               ty = Syntax.tyRef
                   Syntax.erased
                   Syntax.mut
@@ -50685,13 +48838,13 @@ module _ (claims· : Claims) where
             },
             (
               record {
-                pos = 42;
+                pos = 41;
                 ty = Syntax.tyRef Syntax.erased Syntax.mut (Syntax.tyInt Syntax.w8);
                 ref = λ x. x;
               },
               (
                 record {
-                  pos = 44;
+                  pos = 43;
                   ty = Syntax.tyRef Syntax.erased Syntax.mut (Syntax.tyInt Syntax.w8);
                   ref = λ x. x;
                 },
@@ -50714,7 +48867,7 @@ module _ (claims· : Claims) where
                           },
                           (
                             record {
-                              pos = 45;
+                              pos = 44;
                               ty = Syntax.tyRef
                                   Syntax.erased
                                   Syntax.imm
@@ -50723,7 +48876,7 @@ module _ (claims· : Claims) where
                             },
                             (
                               record {
-                                pos = 46;
+                                pos = 45;
                                 ty = Syntax.tyRef
                                     Syntax.erased
                                     Syntax.imm
@@ -50732,14 +48885,14 @@ module _ (claims· : Claims) where
                               },
                               (
                                 record {
-                                  pos = 47;
+                                  pos = 46;
                                   ty = Syntax.tyRef
                                       Syntax.erased
                                       Syntax.imm
                                       (KPost.named);
                                   ref = λ x. x;
                                 },
-                                (record { pos = 24; st = List.[]; d = 0; at = λ x. x }, tt),
+                                (record { pos = 23; st = List.[]; d = 0; at = λ x. x }, tt),
                               ),
                             ),
                           ),
@@ -50751,23 +48904,23 @@ module _ (claims· : Claims) where
               ),
             ),
           ),
-        ) (m87 (before· .before) (before· .back .given))
+        ) (m83 (before· .before) (before· .back .given))
 
       pub record After-finish : Type 0 where
         pub before : After-back
         pub finish : After-finish·own before
 
       abbrev pub After-finish·gave :
-          (c : After-finish) → s103 .gives (m87 (c .before .before) (c .before .back .given))
-      After-finish·gave = λ c. Called.given ps·16 r·16 (claims· .33) T105 (
+          (c : After-finish) → s99 .gives (m83 (c .before .before) (c .before .back .given))
+      After-finish·gave = λ c. Called.given ps·15 r·15 (claims· .31) T101 (
         record {
-          pos = 38;
+          pos = 37;
           ty = Syntax.tyRef Syntax.erased Syntax.mut (KInstanceRow.named);
           ref = λ x. x;
         },
         (
           record {
-            pos = 40;
+            pos = 39;
             ty = Syntax.tyRef
                 Syntax.erased
                 Syntax.mut
@@ -50776,13 +48929,13 @@ module _ (claims· : Claims) where
           },
           (
             record {
-              pos = 42;
+              pos = 41;
               ty = Syntax.tyRef Syntax.erased Syntax.mut (Syntax.tyInt Syntax.w8);
               ref = λ x. x;
             },
             (
               record {
-                pos = 44;
+                pos = 43;
                 ty = Syntax.tyRef Syntax.erased Syntax.mut (Syntax.tyInt Syntax.w8);
                 ref = λ x. x;
               },
@@ -50805,7 +48958,7 @@ module _ (claims· : Claims) where
                         },
                         (
                           record {
-                            pos = 45;
+                            pos = 44;
                             ty = Syntax.tyRef
                                 Syntax.erased
                                 Syntax.imm
@@ -50814,7 +48967,7 @@ module _ (claims· : Claims) where
                           },
                           (
                             record {
-                              pos = 46;
+                              pos = 45;
                               ty = Syntax.tyRef
                                   Syntax.erased
                                   Syntax.imm
@@ -50823,14 +48976,14 @@ module _ (claims· : Claims) where
                             },
                             (
                               record {
-                                pos = 47;
+                                pos = 46;
                                 ty = Syntax.tyRef
                                     Syntax.erased
                                     Syntax.imm
                                     (KPost.named);
                                 ref = λ x. x;
                               },
-                              (record { pos = 24; st = List.[]; d = 0; at = λ x. x }, tt),
+                              (record { pos = 23; st = List.[]; d = 0; at = λ x. x }, tt),
                             ),
                           ),
                         ),
@@ -50842,247 +48995,234 @@ module _ (claims· : Claims) where
             ),
           ),
         ),
-      ) (m87 (c .before .before) (c .before .back .given)) (c .finish)
+      ) (m83 (c .before .before) (c .before .back .given)) (c .finish)
+
+      abbrev pub m85 :
+          (before : After-back) →
+          (given : s99 .gives (m83 (before .before) (before .back .given))) →
+          Typed.Mo T103
+      m85 = λ before given. s100 (m84 before given)
+
+      abbrev pub m86 :
+          (before : After-back) →
+          (given : s99 .gives (m83 (before .before) (before .back .given))) →
+          Typed.Mo T104
+      m86 = λ before given. s101 (m85 before given)
+
+      abbrev pub m87 :
+          (before : After-back) →
+          (given : s99 .gives (m83 (before .before) (before .back .given))) →
+          Typed.Mo T105
+      m87 = λ before given. s102 (m86 before given)
+
+      abbrev pub m88 :
+          (before : After-back) →
+          (given : s99 .gives (m83 (before .before) (before .back .given))) →
+          Typed.Mo T106
+      m88 = λ before given. s103 (m87 before given)
 
       abbrev pub m89 :
           (before : After-back) →
-          (given : s103 .gives (m87 (before .before) (before .back .given))) →
+          (given : s99 .gives (m83 (before .before) (before .back .given))) →
           Typed.Mo T107
       m89 = λ before given. s104 (m88 before given)
 
       abbrev pub m90 :
           (before : After-back) →
-          (given : s103 .gives (m87 (before .before) (before .back .given))) →
+          (given : s99 .gives (m83 (before .before) (before .back .given))) →
           Typed.Mo T108
       m90 = λ before given. s105 (m89 before given)
 
       abbrev pub m91 :
-          (before : After-back) →
-          (given : s103 .gives (m87 (before .before) (before .back .given))) →
-          Typed.Mo T109
-      m91 = λ before given. s106 (m90 before given)
-
-      abbrev pub m92 :
-          (before : After-back) →
-          (given : s103 .gives (m87 (before .before) (before .back .given))) →
-          Typed.Mo T110
-      m92 = λ before given. s107 (m91 before given)
-
-      abbrev pub m93 :
-          (before : After-back) →
-          (given : s103 .gives (m87 (before .before) (before .back .given))) →
-          Typed.Mo T111
-      m93 = λ before given. s108 (m92 before given)
-
-      abbrev pub m94 :
-          (before : After-back) →
-          (given : s103 .gives (m87 (before .before) (before .back .given))) →
-          Typed.Mo T112
-      m94 = λ before given. s109 (m93 before given)
-
-      abbrev pub m95 :
-          (before : After-back) →
-          (given : s103 .gives (m87 (before .before) (before .back .given))) →
-          Typed.Mo T113
-      m95 = λ before given. s110 (m94 before given)
-
-      abbrev pub m96 :
           (before : After-finish) →
-          (given : s112 .gives (m95 (before .before) (After-finish·gave before))) →
-          Typed.Mo T115
-      m96 = λ before given. s112 .next (m95 (before .before) (After-finish·gave before)) given
+          (given : s107 .gives (m90 (before .before) (After-finish·gave before))) →
+          Typed.Mo T110
+      m91 = λ before given. s107 .next (m90 (before .before) (After-finish·gave before)) given
 
       module _ (before· : After-finish) where
         pub record After-instances·own : Type 0 where
-          pub given : s112 .gives (m95 (before· .before) (After-finish·gave before·))
+          pub given : s107 .gives (m90 (before· .before) (After-finish·gave before·))
 
       pub record After-instances : Type 0 where
         pub before : After-finish
         pub instances : After-instances·own before
 
-      abbrev pub m97 :
+      abbrev pub m92 :
           (before : After-instances) →
-          (given : s115 .gives (m96 (before .before) (before .instances .given))) →
-          Typed.Mo T118
-      m97 = λ before given. s115 .next (m96 (before .before) (before .instances .given)) given
+          (given : s110 .gives (m91 (before .before) (before .instances .given))) →
+          Typed.Mo T113
+      m92 = λ before given. s110 .next (m91 (before .before) (before .instances .given)) given
 
       module _ (before· : After-instances) where
         pub record After-routes·own : Type 0 where
-          pub given : s115 .gives (m96 (before· .before) (before· .instances .given))
+          pub given : s110 .gives (m91 (before· .before) (before· .instances .given))
 
       pub record After-routes : Type 0 where
         pub before : After-instances
         pub routes : After-routes·own before
 
-      abbrev pub m98 :
+      abbrev pub m93 :
           (before : After-routes) →
-          (given : s118 .gives (m97 (before .before) (before .routes .given))) →
-          Typed.Mo T121
-      m98 = λ before given. s118 .next (m97 (before .before) (before .routes .given)) given
+          (given : s113 .gives (m92 (before .before) (before .routes .given))) →
+          Typed.Mo T116
+      m93 = λ before given. s113 .next (m92 (before .before) (before .routes .given)) given
 
       module _ (before· : After-routes) where
         pub record After-forward·own : Type 0 where
-          pub given : s118 .gives (m97 (before· .before) (before· .routes .given))
+          pub given : s113 .gives (m92 (before· .before) (before· .routes .given))
 
       pub record After-forward : Type 0 where
         pub before : After-routes
         pub forward : After-forward·own before
 
-      abbrev pub m99 :
+      abbrev pub m94 :
           (before : After-forward) →
-          (given : s119 .gives (m98 (before .before) (before .forward .given))) →
-          Typed.Mo T122
-      m99 = λ before given. s119 .next (m98 (before .before) (before .forward .given)) given
+          (given : s114 .gives (m93 (before .before) (before .forward .given))) →
+          Typed.Mo T117
+      m94 = λ before given. s114 .next (m93 (before .before) (before .forward .given)) given
 
       module _ (before· : After-forward) where
         pub record After-slice-known3·own : Type 0 where
-          pub given : s119 .gives (m98 (before· .before) (before· .forward .given))
+          pub given : s114 .gives (m93 (before· .before) (before· .forward .given))
 
       pub record After-slice-known3 : Type 0 where
         pub before : After-forward
         pub slice-known3 : After-slice-known3·own before
 
-      abbrev pub m100 :
+      abbrev pub m95 :
           (before : After-slice-known3) →
-          (given : s122 .gives (m99 (before .before) (before .slice-known3 .given))) →
-          Typed.Mo T125
-      m100 = λ before given. s122 .next (m99 (before .before) (before .slice-known3 .given)) given
+          (given : s117 .gives (m94 (before .before) (before .slice-known3 .given))) →
+          Typed.Mo T120
+      m95 = λ before given. s117 .next (m94 (before .before) (before .slice-known3 .given)) given
 
       module _ (before· : After-slice-known3) where
         pub record After-reply·own : Type 0 where
-          pub given : s122 .gives (m99 (before· .before) (before· .slice-known3 .given))
+          pub given : s117 .gives (m94 (before· .before) (before· .slice-known3 .given))
 
       pub record After-reply : Type 0 where
         pub before : After-slice-known3
         pub reply : After-reply·own before
 
+      abbrev pub m96 :
+          (before : After-reply) →
+          (given : s118 .gives (m95 (before .before) (before .reply .given))) →
+          Typed.Mo T121
+      m96 = λ before given. s118 .next (m95 (before .before) (before .reply .given)) given
+
+      abbrev pub m97 :
+          (before : After-reply) →
+          (given : s118 .gives (m95 (before .before) (before .reply .given))) →
+          Typed.Mo T124
+      m97 = λ before given. s121 (m96 before given)
+
+      abbrev pub m98 :
+          (before : After-reply) →
+          (given : s118 .gives (m95 (before .before) (before .reply .given))) →
+          Typed.Mo T126
+      m98 = λ before given. s123 (m97 before given)
+
+      abbrev pub m99 :
+          (before : After-reply) →
+          (given : s118 .gives (m95 (before .before) (before .reply .given))) →
+          Typed.Mo T128
+      m99 = λ before given. s125 (m98 before given)
+
+      abbrev pub m100 :
+          (before : After-reply) →
+          (given : s118 .gives (m95 (before .before) (before .reply .given))) →
+          Typed.Mo T130
+      m100 = λ before given. s127 (m99 before given)
+
       abbrev pub m101 :
           (before : After-reply) →
-          (given : s123 .gives (m100 (before .before) (before .reply .given))) →
-          Typed.Mo T126
-      m101 = λ before given. s123 .next (m100 (before .before) (before .reply .given)) given
+          (given : s118 .gives (m95 (before .before) (before .reply .given))) →
+          Typed.Mo T132
+      m101 = λ before given. s129 (m100 before given)
 
       abbrev pub m102 :
           (before : After-reply) →
-          (given : s123 .gives (m100 (before .before) (before .reply .given))) →
-          Typed.Mo T129
-      m102 = λ before given. s126 (m101 before given)
-
-      abbrev pub m103 :
-          (before : After-reply) →
-          (given : s123 .gives (m100 (before .before) (before .reply .given))) →
-          Typed.Mo T131
-      m103 = λ before given. s128 (m102 before given)
-
-      abbrev pub m104 :
-          (before : After-reply) →
-          (given : s123 .gives (m100 (before .before) (before .reply .given))) →
-          Typed.Mo T133
-      m104 = λ before given. s130 (m103 before given)
-
-      abbrev pub m105 :
-          (before : After-reply) →
-          (given : s123 .gives (m100 (before .before) (before .reply .given))) →
-          Typed.Mo T135
-      m105 = λ before given. s132 (m104 before given)
-
-      abbrev pub m106 :
-          (before : After-reply) →
-          (given : s123 .gives (m100 (before .before) (before .reply .given))) →
-          Typed.Mo T137
-      m106 = λ before given. s134 (m105 before given)
+          (given : s118 .gives (m95 (before .before) (before .reply .given))) →
+          Typed.Mo T134
+      m102 = λ before given. s131 (m101 before given)
 
       module _ (before· : After-reply) where
         pub record After-slice-known4·own : Type 0 where
-          pub given : s123 .gives (m100 (before· .before) (before· .reply .given))
+          pub given : s118 .gives (m95 (before· .before) (before· .reply .given))
 
       pub record After-slice-known4 : Type 0 where
         pub before : After-reply
         pub slice-known4 : After-slice-known4·own before
 
-      abbrev pub m107 :
+      abbrev pub m103 :
           (before : After-reply) →
-          (given : s123 .gives (m100 (before .before) (before .reply .given))) →
-          Typed.Mo T139
-      m107 = λ before given. s136 (m106 before given)
+          (given : s118 .gives (m95 (before .before) (before .reply .given))) →
+          Typed.Mo T135
+      m103 = λ before given. s132 (m102 before given)
 
-      abbrev pub m108 :
+      abbrev pub m104 :
           (before : After-reply) →
-          (given : s123 .gives (m100 (before .before) (before .reply .given))) →
-          Typed.Mo T140
-      m108 = λ before given. s137 (m107 before given)
+          (given : s118 .gives (m95 (before .before) (before .reply .given))) →
+          Typed.Mo T136
+      m104 = λ before given. s133 (m103 before given)
 
-      abbrev pub m109 :
+      abbrev pub m105 :
           (before : After-reply) →
-          (given : s123 .gives (m100 (before .before) (before .reply .given))) →
-          Typed.Mo T141
-      m109 = λ before given. s138 (m108 before given)
-
-      abbrev pub m110 :
-          (before : After-reply) →
-          (given : s123 .gives (m100 (before .before) (before .reply .given))) →
-          Typed.Mo T142
-      m110 = λ before given. s139 (m109 before given)
+          (given : s118 .gives (m95 (before .before) (before .reply .given))) →
+          Typed.Mo T137
+      m105 = λ before given. s134 (m104 before given)
 
       abbrev pub Need-same-length-3 : Type 0
       Need-same-length-3 =
-          (c : After-slice-known4) → MutSlice.SameLen (Row.get 1 (T142 .locals) (m110 (c .before)
+          (c : After-slice-known4) → MutSlice.SameLen (Row.get 1 (T137 .locals) (m105 (c .before)
           (c .slice-known4 .given))) (dens
           (c .before .before .before .before .before .before .before .before .before .before
           .before .before .before .before .before .before .before .before .before .before .before
           .before .before .before .before .before .before .before .before .before .before .before
-          .before .before .before .before .before .before .before .before .before .before .before
-          .κs)
+          .before .before .before .before .before .before .before .before .before .κs)
           (c .before .before .before .before .before .before .before .before .before .before
           .before .before .before .before .before .before .before .before .before .before .before
           .before .before .before .before .before .before .before .before .before .before .before
-          .before .before .before .before .before .before .before .before .before .before .before
-          .args) .0)
+          .before .before .before .before .before .before .before .before .before .args) .0)
 
       abbrev pub Need-same-length-4 : Type 0
       Need-same-length-4 =
-          (c : After-slice-known4) → MutSlice.SameLen (Row.get 2 (T142 .locals) (m110 (c .before)
+          (c : After-slice-known4) → MutSlice.SameLen (Row.get 2 (T137 .locals) (m105 (c .before)
           (c .slice-known4 .given))) (dens
           (c .before .before .before .before .before .before .before .before .before .before
           .before .before .before .before .before .before .before .before .before .before .before
           .before .before .before .before .before .before .before .before .before .before .before
-          .before .before .before .before .before .before .before .before .before .before .before
-          .κs)
+          .before .before .before .before .before .before .before .before .before .κs)
           (c .before .before .before .before .before .before .before .before .before .before
           .before .before .before .before .before .before .before .before .before .before .before
           .before .before .before .before .before .before .before .before .before .before .before
-          .before .before .before .before .before .before .before .before .before .before .before
-          .args) .1 .0)
+          .before .before .before .before .before .before .before .before .before .args) .1 .0)
 
       abbrev pub Need-same-length-5 : Type 0
       Need-same-length-5 =
-          (c : After-slice-known4) → MutSlice.SameLen (Row.get 3 (T142 .locals) (m110 (c .before)
+          (c : After-slice-known4) → MutSlice.SameLen (Row.get 3 (T137 .locals) (m105 (c .before)
           (c .slice-known4 .given))) (dens
           (c .before .before .before .before .before .before .before .before .before .before
           .before .before .before .before .before .before .before .before .before .before .before
           .before .before .before .before .before .before .before .before .before .before .before
-          .before .before .before .before .before .before .before .before .before .before .before
-          .κs)
+          .before .before .before .before .before .before .before .before .before .κs)
           (c .before .before .before .before .before .before .before .before .before .before
           .before .before .before .before .before .before .before .before .before .before .before
           .before .before .before .before .before .before .before .before .before .before .before
-          .before .before .before .before .before .before .before .before .before .before .before
-          .args) .1 .1 .0)
+          .before .before .before .before .before .before .before .before .before .args) .1 .1 .0)
 
       abbrev pub Need-same-length-6 : Type 0
       Need-same-length-6 =
-          (c : After-slice-known4) → MutSlice.SameLen (Row.get 4 (T142 .locals) (m110 (c .before)
+          (c : After-slice-known4) → MutSlice.SameLen (Row.get 4 (T137 .locals) (m105 (c .before)
           (c .slice-known4 .given))) (dens
           (c .before .before .before .before .before .before .before .before .before .before
           .before .before .before .before .before .before .before .before .before .before .before
           .before .before .before .before .before .before .before .before .before .before .before
-          .before .before .before .before .before .before .before .before .before .before .before
-          .κs)
+          .before .before .before .before .before .before .before .before .before .κs)
           (c .before .before .before .before .before .before .before .before .before .before
           .before .before .before .before .before .before .before .before .before .before .before
           .before .before .before .before .before .before .before .before .before .before .before
-          .before .before .before .before .before .before .before .before .before .before .before
-          .args) .1 .1 .1 .0)
+          .before .before .before .before .before .before .before .before .before .args) .1 .1 .1
+          .0)
 
       abbrev pub Need-returns-2 : Type 0
       Need-returns-2 =
@@ -51090,54 +49230,48 @@ module _ (claims· : Claims) where
           (c .before .before .before .before .before .before .before .before .before .before
           .before .before .before .before .before .before .before .before .before .before .before
           .before .before .before .before .before .before .before .before .before .before .before
-          .before .before .before .before .before .before .before .before .before .before .before
-          .κs) (dens
+          .before .before .before .before .before .before .before .before .before .κs) (dens
           (c .before .before .before .before .before .before .before .before .before .before
           .before .before .before .before .before .before .before .before .before .before .before
           .before .before .before .before .before .before .before .before .before .before .before
-          .before .before .before .before .before .before .before .before .before .before .before
-          .κs)
+          .before .before .before .before .before .before .before .before .before .κs)
           (c .before .before .before .before .before .before .before .before .before .before
           .before .before .before .before .before .before .before .before .before .before .before
           .before .before .before .before .before .before .before .before .before .before .before
-          .before .before .before .before .before .before .before .before .before .before .before
-          .args)) (Function.resV r
+          .before .before .before .before .before .before .before .before .before .args))
+          (Function.resV r
           (c .before .before .before .before .before .before .before .before .before .before
           .before .before .before .before .before .before .before .before .before .before .before
           .before .before .before .before .before .before .before .before .before .before .before
-          .before .before .before .before .before .before .before .before .before .before .before
-          .κs) (m110 (c .before) (c .slice-known4 .given) .0)) (Clauses.atExit (Kinds.endedOf 6 ps
-          r)
+          .before .before .before .before .before .before .before .before .before .κs) (m105
+          (c .before) (c .slice-known4 .given) .0)) (Clauses.atExit (Kinds.endedOf 6 ps r)
           (c .before .before .before .before .before .before .before .before .before .before
           .before .before .before .before .before .before .before .before .before .before .before
           .before .before .before .before .before .before .before .before .before .before .before
-          .before .before .before .before .before .before .before .before .before .before .before
-          .κs) (dens
+          .before .before .before .before .before .before .before .before .before .κs) (dens
           (c .before .before .before .before .before .before .before .before .before .before
           .before .before .before .before .before .before .before .before .before .before .before
           .before .before .before .before .before .before .before .before .before .before .before
-          .before .before .before .before .before .before .before .before .before .before .before
-          .κs)
+          .before .before .before .before .before .before .before .before .before .κs)
           (c .before .before .before .before .before .before .before .before .before .before
           .before .before .before .before .before .before .before .before .before .before .before
           .before .before .before .before .before .before .before .before .before .before .before
-          .before .before .before .before .before .before .before .before .before .before .before
-          .args)) (Enter.lastsP
+          .before .before .before .before .before .before .before .before .before .args))
+          (Enter.lastsP
           (c .before .before .before .before .before .before .before .before .before .before
           .before .before .before .before .before .before .before .before .before .before .before
           .before .before .before .before .before .before .before .before .before .before .before
-          .before .before .before .before .before .before .before .before .before .before .before
-          .κs) 1 ps xs (dens
+          .before .before .before .before .before .before .before .before .before .κs) 1 ps xs
+          (dens
           (c .before .before .before .before .before .before .before .before .before .before
           .before .before .before .before .before .before .before .before .before .before .before
           .before .before .before .before .before .before .before .before .before .before .before
-          .before .before .before .before .before .before .before .before .before .before .before
-          .κs)
+          .before .before .before .before .before .before .before .before .before .κs)
           (c .before .before .before .before .before .before .before .before .before .before
           .before .before .before .before .before .before .before .before .before .before .before
           .before .before .before .before .before .before .before .before .before .before .before
-          .before .before .before .before .before .before .before .before .before .before .before
-          .args)) (m110 (c .before) (c .slice-known4 .given) .1)))
+          .before .before .before .before .before .before .before .before .before .args)) (m105
+          (c .before) (c .slice-known4 .given) .1)))
 
       module _ (whole-requires : Need-whole-requires)
           (instance-of-requires : Need-instance-of-requires)
@@ -51145,95 +49279,93 @@ module _ (claims· : Claims) where
           (receiving-of-requires : Need-receiving-of-requires)
           (search-request-requires : Need-search-request-requires)
           (search-route-requires : Need-search-route-requires)
-          (is-targ-node-requires : Need-is-targ-node-requires)
-          (free-delta-if-requires : Need-free-delta-if-requires)
-          (gather-requires : Need-gather-requires) (judge-requires : Need-judge-requires)
-          (number-requires : Need-number-requires) (refused-requires : Need-refused-requires)
-          (same-length : Need-same-length) (same-length-2 : Need-same-length-2)
-          (returns : Need-returns) (accepted-requires : Need-accepted-requires)
+          (free-delta-requires : Need-free-delta-requires) (gather-requires : Need-gather-requires)
+          (judge-requires : Need-judge-requires) (number-requires : Need-number-requires)
+          (refused-requires : Need-refused-requires) (same-length : Need-same-length)
+          (same-length-2 : Need-same-length-2) (returns : Need-returns)
+          (accepted-requires : Need-accepted-requires)
           (forward-post-requires : Need-forward-post-requires)
           (reply-post-requires : Need-reply-post-requires)
           (live-of-requires : Need-live-of-requires) (finish-requires : Need-finish-requires)
           (same-length-3 : Need-same-length-3) (same-length-4 : Need-same-length-4)
           (same-length-5 : Need-same-length-5) (same-length-6 : Need-same-length-6)
           (returns-2 : Need-returns-2) where
-        lay21 :
-            (c : After-slice-known4) → at23 (W0
+        lay20 :
+            (c : After-slice-known4) → at21 (W0
             (c .before .before .before .before .before .before .before .before .before .before
             .before .before .before .before .before .before .before .before .before .before .before
             .before .before .before .before .before .before .before .before .before .before .before
-            .before .before .before .before .before .before .before .before .before .before .before
-            .κs)
+            .before .before .before .before .before .before .before .before .before .κs)
             (c .before .before .before .before .before .before .before .before .before .before
             .before .before .before .before .before .before .before .before .before .before .before
             .before .before .before .before .before .before .before .before .before .before .before
-            .before .before .before .before .before .before .before .before .before .before .before
-            .args)) (m106 (c .before) (c .slice-known4 .given))
-        lay21 = λ c. (
+            .before .before .before .before .before .before .before .before .before .args)) (m102
+            (c .before) (c .slice-known4 .given))
+        lay20 = λ c. (
           (
-            MutSlice.fix-len (Row.get 1 (T142 .locals) (m110 (c .before)
-                (c .slice-known4 .given)) .ptr) (Row.get 1 (T142 .locals) (m110 (c .before)
-                (c .slice-known4 .given)) .name) (Row.get 1 (T142 .locals) (m110 (c .before)
+            MutSlice.fix-len (Row.get 1 (T137 .locals) (m105 (c .before)
+                (c .slice-known4 .given)) .ptr) (Row.get 1 (T137 .locals) (m105 (c .before)
+                (c .slice-known4 .given)) .name) (Row.get 1 (T137 .locals) (m105 (c .before)
                 (c .slice-known4 .given)) .now) (dens
                 (c .before .before .before .before .before .before .before .before .before .before
                 .before .before .before .before .before .before .before .before .before .before
                 .before .before .before .before .before .before .before .before .before .before
                 .before .before .before .before .before .before .before .before .before .before
-                .before .before .before .κs)
+                .before .κs)
                 (c .before .before .before .before .before .before .before .before .before .before
                 .before .before .before .before .before .before .before .before .before .before
                 .before .before .before .before .before .before .before .before .before .before
                 .before .before .before .before .before .before .before .before .before .before
-                .before .before .before .args) .0 .now) (same-length-3
+                .before .args) .0 .now) (same-length-3
                 record { before = c .before; slice-known4 = c .slice-known4 }),
             (
-              MutSlice.fix-len (Row.get 2 (T142 .locals) (m110 (c .before)
-                  (c .slice-known4 .given)) .ptr) (Row.get 2 (T142 .locals) (m110 (c .before)
-                  (c .slice-known4 .given)) .name) (Row.get 2 (T142 .locals) (m110 (c .before)
+              MutSlice.fix-len (Row.get 2 (T137 .locals) (m105 (c .before)
+                  (c .slice-known4 .given)) .ptr) (Row.get 2 (T137 .locals) (m105 (c .before)
+                  (c .slice-known4 .given)) .name) (Row.get 2 (T137 .locals) (m105 (c .before)
                   (c .slice-known4 .given)) .now) (dens
                   (c .before .before .before .before .before .before .before .before .before
                   .before .before .before .before .before .before .before .before .before .before
                   .before .before .before .before .before .before .before .before .before .before
                   .before .before .before .before .before .before .before .before .before .before
-                  .before .before .before .before .κs)
+                  .before .before .κs)
                   (c .before .before .before .before .before .before .before .before .before
                   .before .before .before .before .before .before .before .before .before .before
                   .before .before .before .before .before .before .before .before .before .before
                   .before .before .before .before .before .before .before .before .before .before
-                  .before .before .before .before .args) .1 .0 .now) (same-length-4
+                  .before .before .args) .1 .0 .now) (same-length-4
                   record { before = c .before; slice-known4 = c .slice-known4 }),
               (
-                MutSlice.fix-len (Row.get 3 (T142 .locals) (m110 (c .before)
-                    (c .slice-known4 .given)) .ptr) (Row.get 3 (T142 .locals) (m110 (c .before)
-                    (c .slice-known4 .given)) .name) (Row.get 3 (T142 .locals) (m110 (c .before)
+                MutSlice.fix-len (Row.get 3 (T137 .locals) (m105 (c .before)
+                    (c .slice-known4 .given)) .ptr) (Row.get 3 (T137 .locals) (m105 (c .before)
+                    (c .slice-known4 .given)) .name) (Row.get 3 (T137 .locals) (m105 (c .before)
                     (c .slice-known4 .given)) .now) (dens
                     (c .before .before .before .before .before .before .before .before .before
                     .before .before .before .before .before .before .before .before .before .before
                     .before .before .before .before .before .before .before .before .before .before
                     .before .before .before .before .before .before .before .before .before .before
-                    .before .before .before .before .κs)
+                    .before .before .κs)
                     (c .before .before .before .before .before .before .before .before .before
                     .before .before .before .before .before .before .before .before .before .before
                     .before .before .before .before .before .before .before .before .before .before
                     .before .before .before .before .before .before .before .before .before .before
-                    .before .before .before .before .args) .1 .1 .0 .now) (same-length-5
+                    .before .before .args) .1 .1 .0 .now) (same-length-5
                     record { before = c .before; slice-known4 = c .slice-known4 }),
                 (
-                  MutSlice.fix-len (Row.get 4 (T142 .locals) (m110 (c .before)
-                      (c .slice-known4 .given)) .ptr) (Row.get 4 (T142 .locals) (m110 (c .before)
-                      (c .slice-known4 .given)) .name) (Row.get 4 (T142 .locals) (m110 (c .before)
+                  MutSlice.fix-len (Row.get 4 (T137 .locals) (m105 (c .before)
+                      (c .slice-known4 .given)) .ptr) (Row.get 4 (T137 .locals) (m105 (c .before)
+                      (c .slice-known4 .given)) .name) (Row.get 4 (T137 .locals) (m105 (c .before)
                       (c .slice-known4 .given)) .now) (dens
                       (c .before .before .before .before .before .before .before .before .before
                       .before .before .before .before .before .before .before .before .before
                       .before .before .before .before .before .before .before .before .before
                       .before .before .before .before .before .before .before .before .before
-                      .before .before .before .before .before .before .before .κs)
+                      .before .before .before .before .before .κs)
                       (c .before .before .before .before .before .before .before .before .before
                       .before .before .before .before .before .before .before .before .before
                       .before .before .before .before .before .before .before .before .before
                       .before .before .before .before .before .before .before .before .before
-                      .before .before .before .before .before .before .before .args) .1 .1 .1 .0
-                      .now) (same-length-6
+                      .before .before .before .before .before .args) .1 .1 .1 .0 .now)
+                      (same-length-6
                       record { before = c .before; slice-known4 = c .slice-known4 }),
                   (tt, (tt, (tt, (tt, (tt, (Path'.refl, (Path'.refl, tt))))))),
                 ),
@@ -51243,17 +49375,17 @@ module _ (claims· : Claims) where
           returns-2 record { before = c .before; slice-known4 = c .slice-known4 },
         )
 
-        lay20 :
-            (c : After-finish) → at55 (W0
+        lay19 :
+            (c : After-finish) → at53 (W0
             (c .before .before .before .before .before .before .before .before .before .before
             .before .before .before .before .before .before .before .before .before .before .before
             .before .before .before .before .before .before .before .before .before .before .before
-            .before .before .before .before .before .κs)
+            .before .before .before .κs)
             (c .before .before .before .before .before .before .before .before .before .before
             .before .before .before .before .before .before .before .before .before .before .before
             .before .before .before .before .before .before .before .before .before .before .before
-            .before .before .before .before .before .args)) (m88 (c .before) (After-finish·gave c))
-        lay20 = λ c. (
+            .before .before .before .args)) (m84 (c .before) (After-finish·gave c))
+        lay19 = λ c. (
           Path'.refl,
           λ g. (
             Path'.refl,
@@ -51261,7 +49393,7 @@ module _ (claims· : Claims) where
               Path'.refl,
               λ g''. λ g'3. (
                 Path'.refl,
-                λ g'4. λ g'5. lay21 record {
+                λ g'4. λ g'5. lay20 record {
                   before = record {
                     before = record {
                       before = record {
@@ -51285,16 +49417,16 @@ module _ (claims· : Claims) where
           ),
         )
 
-        lay19 :
-            (c : After-live-of) → at76 (W0
+        lay18 :
+            (c : After-live-of) → at74 (W0
             (c .before .before .before .before .before .before .before .before .before .before
             .before .before .before .before .before .before .before .before .before .before .before
-            .before .before .before .before .before .before .before .before .κs)
+            .before .before .before .before .before .before .κs)
             (c .before .before .before .before .before .before .before .before .before .before
             .before .before .before .before .before .before .before .before .before .before .before
-            .before .before .before .before .before .before .before .before .args)) (m74
-            (c .before) (After-live-of·gave c))
-        lay19 = λ c. λ g. (
+            .before .before .before .before .before .before .args)) (m70 (c .before)
+            (After-live-of·gave c))
+        lay18 = λ c. λ g. (
           Path'.refl,
           λ g'. (
             Path'.refl,
@@ -51325,7 +49457,7 @@ module _ (claims· : Claims) where
                     };
                     back = record { given = g'6 };
                   },
-                  λ g'7. lay20 record {
+                  λ g'7. lay19 record {
                     before = record {
                       before = record {
                         before = record {
@@ -51348,9 +49480,9 @@ module _ (claims· : Claims) where
                       };
                       back = record { given = g'6 };
                     };
-                    finish = Called.called ps·16 r·16 (claims· .33) T105 (
+                    finish = Called.called ps·15 r·15 (claims· .31) T101 (
                       record {
-                        pos = 38;
+                        pos = 37;
                         ty = Syntax.tyRef
                             Syntax.erased
                             Syntax.mut
@@ -51359,7 +49491,7 @@ module _ (claims· : Claims) where
                       },
                       (
                         record {
-                          pos = 40;
+                          pos = 39;
                           ty = Syntax.tyRef
                               Syntax.erased
                               Syntax.mut
@@ -51368,13 +49500,13 @@ module _ (claims· : Claims) where
                         },
                         (
                           record {
-                            pos = 42;
+                            pos = 41;
                             ty = Syntax.tyRef Syntax.erased Syntax.mut (Syntax.tyInt Syntax.w8);
                             ref = λ x. x;
                           },
                           (
                             record {
-                              pos = 44;
+                              pos = 43;
                               ty = Syntax.tyRef Syntax.erased Syntax.mut (Syntax.tyInt Syntax.w8);
                               ref = λ x. x;
                             },
@@ -51399,7 +49531,7 @@ module _ (claims· : Claims) where
                                       },
                                       (
                                         record {
-                                          pos = 45;
+                                          pos = 44;
                                           ty = Syntax.tyRef
                                               Syntax.erased
                                               Syntax.imm
@@ -51408,7 +49540,7 @@ module _ (claims· : Claims) where
                                         },
                                         (
                                           record {
-                                            pos = 46;
+                                            pos = 45;
                                             ty = Syntax.tyRef
                                                 Syntax.erased
                                                 Syntax.imm
@@ -51417,7 +49549,7 @@ module _ (claims· : Claims) where
                                           },
                                           (
                                             record {
-                                              pos = 47;
+                                              pos = 46;
                                               ty = Syntax.tyRef
                                                   Syntax.erased
                                                   Syntax.imm
@@ -51426,7 +49558,7 @@ module _ (claims· : Claims) where
                                             },
                                             (
                                               record {
-                                                pos = 24;
+                                                pos = 23;
                                                 st = List.[];
                                                 d = 0;
                                                 at = λ x. x;
@@ -51444,7 +49576,7 @@ module _ (claims· : Claims) where
                           ),
                         ),
                       ),
-                    ) (m87 record {
+                    ) (m83 record {
                       before = record {
                         before = record {
                           before = record {
@@ -51470,108 +49602,106 @@ module _ (claims· : Claims) where
           ),
         )
 
-        lay18 :
-            (c : After-reply-post) → at82 (W0
-            (c .before .before .before .before .before .before .before .before .before .before
-            .before .before .before .before .before .before .before .before .before .before .before
-            .before .before .before .before .before .before .before .κs)
-            (c .before .before .before .before .before .before .before .before .before .before
-            .before .before .before .before .before .before .before .before .before .before .before
-            .before .before .before .before .before .before .before .args)) (m68 (c .before)
-            (After-reply-post·gave c))
-        lay18 = λ c. (
-          live-of-requires record { before = c .before; reply-post = c .reply-post },
-          λ g. lay19 record {
-            before = record { before = c .before; reply-post = c .reply-post };
-            live-of = Called.called ps·15 r·15 (claims· .31) T84 (
-              record { pos = 15; st = List.[]; d = 0; at = λ x. x },
-              (record { pos = 16; st = List.[]; d = 0; at = λ x. x }, tt),
-            ) (m73 (c .before) (After-reply-post·gave c)) g;
-          },
-        )
-
         lay17 :
-            (c : After-forward-post) → at87 (W0
+            (c : After-reply-post) → at80 (W0
             (c .before .before .before .before .before .before .before .before .before .before
             .before .before .before .before .before .before .before .before .before .before .before
             .before .before .before .before .before .κs)
             (c .before .before .before .before .before .before .before .before .before .before
             .before .before .before .before .before .before .before .before .before .before .before
-            .before .before .before .before .before .args)) (m63 (c .before)
-            (After-forward-post·gave c))
-        lay17 = λ c. λ g. (
-          reply-post-requires record {
-            before = record { before = c .before; forward-post = c .forward-post };
-            reply-post-arg = record { given = g };
-          },
-          λ g'. lay18 record {
-            before = record {
-              before = record { before = c .before; forward-post = c .forward-post };
-              reply-post-arg = record { given = g };
-            };
-            reply-post = Called.called ps·14 r·14 (claims· .29) T78 (
-              record { pos = 5; st = List.[]; d = 0; at = λ x. x },
-              (
-                record { pos = 9; st = List.[]; d = 0; at = λ x. x },
-                (
-                  record { pos = 26; st = List.[]; d = 0; at = λ x. x },
-                  (
-                    record { pos = 19; st = List.[]; d = 0; at = λ x. x },
-                    (Num.vAt 7 λ x. x, tt),
-                  ),
-                ),
-              ),
-            ) (m67 record { before = c .before; forward-post = c .forward-post } g) g';
+            .before .before .before .before .before .args)) (m64 (c .before) (After-reply-post·gave
+            c))
+        lay17 = λ c. (
+          live-of-requires record { before = c .before; reply-post = c .reply-post },
+          λ g. lay18 record {
+            before = record { before = c .before; reply-post = c .reply-post };
+            live-of = Called.called ps·14 r·14 (claims· .29) T80 (
+              record { pos = 15; st = List.[]; d = 0; at = λ x. x },
+              (record { pos = 16; st = List.[]; d = 0; at = λ x. x }, tt),
+            ) (m69 (c .before) (After-reply-post·gave c)) g;
           },
         )
 
         lay16 :
-            (c : After-accepted) → at92 (W0
+            (c : After-forward-post) → at85 (W0
             (c .before .before .before .before .before .before .before .before .before .before
             .before .before .before .before .before .before .before .before .before .before .before
             .before .before .before .κs)
             (c .before .before .before .before .before .before .before .before .before .before
             .before .before .before .before .before .before .before .before .before .before .before
-            .before .before .before .args)) (m58 (c .before) (After-accepted·gave c))
+            .before .before .before .args)) (m59 (c .before) (After-forward-post·gave c))
         lay16 = λ c. λ g. (
-          forward-post-requires record {
-            before = record { before = c .before; accepted = c .accepted };
-            forward-post-arg = record { given = g };
+          reply-post-requires record {
+            before = record { before = c .before; forward-post = c .forward-post };
+            reply-post-arg = record { given = g };
           },
           λ g'. lay17 record {
             before = record {
-              before = record { before = c .before; accepted = c .accepted };
-              forward-post-arg = record { given = g };
+              before = record { before = c .before; forward-post = c .forward-post };
+              reply-post-arg = record { given = g };
             };
-            forward-post = Called.called ps·13 r·13 (claims· .27) T73 (
-              record { pos = 9; st = List.[]; d = 0; at = λ x. x },
+            reply-post = Called.called ps·13 r·13 (claims· .27) T74 (
+              record { pos = 5; st = List.[]; d = 0; at = λ x. x },
               (
-                record { pos = 26; st = List.[]; d = 0; at = λ x. x },
-                (record { pos = 19; st = List.[]; d = 0; at = λ x. x }, tt),
+                record { pos = 9; st = List.[]; d = 0; at = λ x. x },
+                (
+                  record { pos = 25; st = List.[]; d = 0; at = λ x. x },
+                  (
+                    record { pos = 18; st = List.[]; d = 0; at = λ x. x },
+                    (Num.vAt 7 λ x. x, tt),
+                  ),
+                ),
               ),
-            ) (m62 record { before = c .before; accepted = c .accepted } g) g';
+            ) (m63 record { before = c .before; forward-post = c .forward-post } g) g';
           },
         )
 
         lay15 :
-            (c : Else1) → at94 (W0
+            (c : After-accepted) → at90 (W0
             (c .before .before .before .before .before .before .before .before .before .before
             .before .before .before .before .before .before .before .before .before .before .before
             .before .κs)
             (c .before .before .before .before .before .before .before .before .before .before
             .before .before .before .before .before .before .before .before .before .before .before
-            .before .args)) (m56 (c .before))
+            .before .args)) (m54 (c .before) (After-accepted·gave c))
         lay15 = λ c. λ g. (
+          forward-post-requires record {
+            before = record { before = c .before; accepted = c .accepted };
+            forward-post-arg = record { given = g };
+          },
+          λ g'. lay16 record {
+            before = record {
+              before = record { before = c .before; accepted = c .accepted };
+              forward-post-arg = record { given = g };
+            };
+            forward-post = Called.called ps·12 r·12 (claims· .25) T69 (
+              record { pos = 9; st = List.[]; d = 0; at = λ x. x },
+              (
+                record { pos = 25; st = List.[]; d = 0; at = λ x. x },
+                (record { pos = 18; st = List.[]; d = 0; at = λ x. x }, tt),
+              ),
+            ) (m58 record { before = c .before; accepted = c .accepted } g) g';
+          },
+        )
+
+        lay14 :
+            (c : Else1) → at92 (W0
+            (c .before .before .before .before .before .before .before .before .before .before
+            .before .before .before .before .before .before .before .before .before .before .κs)
+            (c .before .before .before .before .before .before .before .before .before .before
+            .before .before .before .before .before .before .before .before .before .before .args))
+            (m52 (c .before))
+        lay14 = λ c. λ g. (
           accepted-requires record {
             before = record { before = c .before; if1 = c .if1 };
             accepted-arg = record { given = g };
           },
-          λ g'. lay16 record {
+          λ g'. lay15 record {
             before = record {
               before = record { before = c .before; if1 = c .if1 };
               accepted-arg = record { given = g };
             };
-            accepted = Called.called ps·12 r·12 (claims· .25) T68 (
+            accepted = Called.called ps·11 r·11 (claims· .23) T64 (
               record { pos = 5; st = List.[]; d = 0; at = λ x. x },
               (
                 Num.vAt 7 λ x. x,
@@ -51580,51 +49710,51 @@ module _ (claims· : Claims) where
                   (
                     record { pos = 9; st = List.[]; d = 0; at = λ x. x },
                     (
-                      record { pos = 26; st = List.[]; d = 0; at = λ x. x },
-                      (record { pos = 19; st = List.[]; d = 0; at = λ x. x }, tt),
+                      record { pos = 25; st = List.[]; d = 0; at = λ x. x },
+                      (record { pos = 18; st = List.[]; d = 0; at = λ x. x }, tt),
                     ),
                   ),
                 ),
               ),
-            ) (m57 record { before = c .before; if1 = c .if1 } g) g';
+            ) (m53 record { before = c .before; if1 = c .if1 } g) g';
           },
         )
 
-        lay14 :
-            (c : Else1) →
-            at16
-            (W1 (c .before .before) (After-number·gave (c .before)))
-            (m41 (c .before .before) (After-number·gave (c .before)))
-        lay14 = λ c. lay15 record { before = c .before; if1 = c .if1 }
-
         lay13 :
+            (c : Else1) →
+            at15
+            (W1 (c .before .before) (After-number·gave (c .before)))
+            (m38 (c .before .before) (After-number·gave (c .before)))
+        lay13 = λ c. lay14 record { before = c .before; if1 = c .if1 }
+
+        lay12 :
             (c : After-refused) →
-            at6
+            at5
             (W1 (c .before .before .before) (After-number·gave (c .before .before)))
-            (m48 (c .before) (After-refused·gave c))
-        lay13 = λ c. (
+            (m45 (c .before) (After-refused·gave c))
+        lay12 = λ c. (
           (
-            MutSlice.fix-len (Row.get 1 (T65 .locals) (m54 (c .before) (After-refused·gave
-                c)) .ptr) (Row.get 1 (T65 .locals) (m54 (c .before) (After-refused·gave c)) .name)
-                (Row.get 1 (T65 .locals) (m54 (c .before) (After-refused·gave c)) .now) (dens
+            MutSlice.fix-len (Row.get 1 (T61 .locals) (m50 (c .before) (After-refused·gave
+                c)) .ptr) (Row.get 1 (T61 .locals) (m50 (c .before) (After-refused·gave c)) .name)
+                (Row.get 1 (T61 .locals) (m50 (c .before) (After-refused·gave c)) .now) (dens
                 (c .before .before .before .before .before .before .before .before .before .before
                 .before .before .before .before .before .before .before .before .before .before
-                .before .before .before .κs)
+                .before .κs)
                 (c .before .before .before .before .before .before .before .before .before .before
                 .before .before .before .before .before .before .before .before .before .before
-                .before .before .before .args) .0 .now) (same-length
+                .before .args) .0 .now) (same-length
                 record { before = c .before; refused = c .refused }),
             (
-              MutSlice.fix-len (Row.get 2 (T65 .locals) (m54 (c .before) (After-refused·gave
-                  c)) .ptr) (Row.get 2 (T65 .locals) (m54 (c .before) (After-refused·gave
-                  c)) .name) (Row.get 2 (T65 .locals) (m54 (c .before) (After-refused·gave
+              MutSlice.fix-len (Row.get 2 (T61 .locals) (m50 (c .before) (After-refused·gave
+                  c)) .ptr) (Row.get 2 (T61 .locals) (m50 (c .before) (After-refused·gave
+                  c)) .name) (Row.get 2 (T61 .locals) (m50 (c .before) (After-refused·gave
                   c)) .now) (dens
                   (c .before .before .before .before .before .before .before .before .before
                   .before .before .before .before .before .before .before .before .before .before
-                  .before .before .before .before .κs)
+                  .before .before .κs)
                   (c .before .before .before .before .before .before .before .before .before
                   .before .before .before .before .before .before .before .before .before .before
-                  .before .before .before .before .args) .1 .0 .now) (same-length-2
+                  .before .before .args) .1 .0 .now) (same-length-2
                   record { before = c .before; refused = c .refused }),
               (
                 Path'.refl,
@@ -51635,99 +49765,98 @@ module _ (claims· : Claims) where
           returns record { before = c .before; refused = c .refused },
         )
 
-        lay12 :
+        lay11 :
             (c : Then1) →
-            at13
+            at12
             (W1 (c .before .before) (After-number·gave (c .before)))
-            (m41 (c .before .before) (After-number·gave (c .before)))
-        lay12 = λ c. (
+            (m38 (c .before .before) (After-number·gave (c .before)))
+        lay11 = λ c. (
           refused-requires record { before = c .before; if1 = c .if1 },
-          λ g. lay13 record {
+          λ g. lay12 record {
             before = record { before = c .before; if1 = c .if1 };
-            refused = Called.called ps·11 r·11 (claims· .23) T58 (
-              record { pos = 20; st = List.[]; d = 0; at = λ x. x },
+            refused = Called.called ps·10 r·10 (claims· .21) T55 (
+              record { pos = 19; st = List.[]; d = 0; at = λ x. x },
               (Num.vAt 6 λ x. x, (Num.vAt 7 λ x. x, tt)),
-            ) (m47 (c .before)) g;
+            ) (m44 (c .before)) g;
           },
         )
 
-        lay11 :
-            (c : After-number) → at96 (W0
+        lay10 :
+            (c : After-number) → at94 (W0
             (c .before .before .before .before .before .before .before .before .before .before
-            .before .before .before .before .before .before .before .before .before .before .before
-            .κs)
+            .before .before .before .before .before .before .before .before .before .κs)
             (c .before .before .before .before .before .before .before .before .before .before
-            .before .before .before .before .before .before .before .before .before .before .before
-            .args)) (m39 (c .before) (After-number·gave c))
-        lay11 = λ c. (
+            .before .before .before .before .before .before .before .before .before .args)) (m36
+            (c .before) (After-number·gave c))
+        lay10 = λ c. (
           tt,
           (
-            λ taken. lay12 record {
+            λ taken. lay11 record {
               before = record { before = c .before; number = c .number };
               if1 = record {
                 taken = Tests.eqb-false
-                    (Row.get 33 (T49 .locals) (m39 (c .before) (After-number·gave c)))
+                    (Row.get 32 (T46 .locals) (m36 (c .before) (After-number·gave c)))
                     0
                     (Tests.not-true
-                    (Dec'.eqb (Row.get 33 (T49 .locals) (m39 (c .before) (After-number·gave c))) 0)
+                    (Dec'.eqb (Row.get 32 (T46 .locals) (m36 (c .before) (After-number·gave c))) 0)
                     taken);
               };
             },
-            λ left. lay14 record {
+            λ left. lay13 record {
               before = record { before = c .before; number = c .number };
               if1 = record {
                 left = Tests.eqb-true
-                    (Row.get 33 (T49 .locals) (m39 (c .before) (After-number·gave c)))
+                    (Row.get 32 (T46 .locals) (m36 (c .before) (After-number·gave c)))
                     0
                     (Tests.not-false
-                    (Dec'.eqb (Row.get 33 (T49 .locals) (m39 (c .before) (After-number·gave c))) 0)
+                    (Dec'.eqb (Row.get 32 (T46 .locals) (m36 (c .before) (After-number·gave c))) 0)
                     left);
               };
             },
           ),
         )
 
-        lay10 :
-            (c : After-judge) → at98 (W0
-            (c .before .before .before .before .before .before .before .before .before .before
-            .before .before .before .before .before .before .before .before .before .before .κs)
-            (c .before .before .before .before .before .before .before .before .before .before
-            .before .before .before .before .before .before .before .before .before .before .args))
-            (m37 (c .before) (After-judge·gave c))
-        lay10 = λ c. (
-          number-requires record { before = c .before; judge = c .judge },
-          λ g. lay11 record {
-            before = record { before = c .before; judge = c .judge };
-            number = Called.called ps·10 r·10 (claims· .21) T48 (
-              record { pos = 20; st = List.[]; d = 0; at = λ x. x },
-              tt,
-            ) (m38 (c .before) (After-judge·gave c)) g;
-          },
-        )
-
         lay9 :
-            (c : After-gather) → at102 (W0
+            (c : After-judge) → at96 (W0
             (c .before .before .before .before .before .before .before .before .before .before
             .before .before .before .before .before .before .before .before .κs)
             (c .before .before .before .before .before .before .before .before .before .before
-            .before .before .before .before .before .before .before .before .args)) (m33
-            (c .before) (After-gather·gave c))
-        lay9 = λ c. λ g. (
+            .before .before .before .before .before .before .before .before .args)) (m34
+            (c .before) (After-judge·gave c))
+        lay9 = λ c. (
+          number-requires record { before = c .before; judge = c .judge },
+          λ g. lay10 record {
+            before = record { before = c .before; judge = c .judge };
+            number = Called.called ps·9 r·9 (claims· .19) T45 (
+              record { pos = 19; st = List.[]; d = 0; at = λ x. x },
+              tt,
+            ) (m35 (c .before) (After-judge·gave c)) g;
+          },
+        )
+
+        lay8 :
+            (c : After-gather) → at100 (W0
+            (c .before .before .before .before .before .before .before .before .before .before
+            .before .before .before .before .before .before .κs)
+            (c .before .before .before .before .before .before .before .before .before .before
+            .before .before .before .before .before .before .args)) (m30 (c .before)
+            (After-gather·gave c))
+        lay8 = λ c. λ g. (
           judge-requires record {
             before = record { before = c .before; gather = c .gather };
             judge-arg = record { given = g };
           },
-          λ g'. lay10 record {
+          λ g'. lay9 record {
             before = record {
               before = record { before = c .before; gather = c .gather };
               judge-arg = record { given = g };
             };
-            judge = Called.called ps·9 r·9 (claims· .19) T46 (
+            judge = Called.called ps·8 r·8 (claims· .17) T43 (
               record { pos = 5; st = List.[]; d = 0; at = λ x. x },
               (
                 record { pos = 9; st = List.[]; d = 0; at = λ x. x },
                 (
-                  record { pos = 26; st = List.[]; d = 0; at = λ x. x },
+                  record { pos = 25; st = List.[]; d = 0; at = λ x. x },
                   (
                     record {
                       pos = 11;
@@ -51737,120 +49866,90 @@ module _ (claims· : Claims) where
                           (Syntax.tyArray (Syntax.tyArray (Syntax.tyInt Syntax.w8) 16) 16);
                       ref = λ x. x;
                     },
-                    (record { pos = 19; st = List.[]; d = 0; at = λ x. x }, tt),
+                    (record { pos = 18; st = List.[]; d = 0; at = λ x. x }, tt),
                   ),
                 ),
               ),
-            ) (m36 record { before = c .before; gather = c .gather } g) g';
-          },
-        )
-
-        lay8 :
-            (c : After-free-delta-if) → at109 (W0
-            (c .before .before .before .before .before .before .before .before .before .before
-            .before .before .before .before .before .before .κs)
-            (c .before .before .before .before .before .before .before .before .before .before
-            .before .before .before .before .before .before .args)) (m28 (c .before)
-            (After-free-delta-if·gave c))
-        lay8 = λ c. λ g. (
-          gather-requires record {
-            before = record { before = c .before; free-delta-if = c .free-delta-if };
-            gather-arg = record { given = g };
-          },
-          λ g'. lay9 record {
-            before = record {
-              before = record { before = c .before; free-delta-if = c .free-delta-if };
-              gather-arg = record { given = g };
-            };
-            gather = Called.called ps·8 r·8 (claims· .17) T42 (
-              record { pos = 5; st = List.[]; d = 0; at = λ x. x },
-              (
-                record { pos = 9; st = List.[]; d = 0; at = λ x. x },
-                (
-                  record { pos = 26; st = List.[]; d = 0; at = λ x. x },
-                  (
-                    Bool.bAt 17 λ x. x,
-                    (
-                      record { pos = 15; st = List.[]; d = 0; at = λ x. x },
-                      (
-                        record { pos = 16; st = List.[]; d = 0; at = λ x. x },
-                        (record { pos = 18; st = List.[]; d = 0; at = λ x. x }, tt),
-                      ),
-                    ),
-                  ),
-                ),
-              ),
-            ) (m32 record { before = c .before; free-delta-if = c .free-delta-if } g) g';
+            ) (m33 record { before = c .before; gather = c .gather } g) g';
           },
         )
 
         lay7 :
-            (c : After-is-targ-node) → at114 (W0
+            (c : After-free-delta) → at107 (W0
             (c .before .before .before .before .before .before .before .before .before .before
             .before .before .before .before .κs)
             (c .before .before .before .before .before .before .before .before .before .before
-            .before .before .before .before .args)) (m24 (c .before) (After-is-targ-node·gave c))
+            .before .before .before .before .args)) (m25 (c .before) (After-free-delta·gave c))
         lay7 = λ c. λ g. (
-          Path'.refl,
-          (
-            free-delta-if-requires record {
-              before = record { before = c .before; is-targ-node = c .is-targ-node };
-              free-delta-if-arg = record { given = g };
-            },
-            λ g'. lay8 record {
-              before = record {
-                before = record { before = c .before; is-targ-node = c .is-targ-node };
-                free-delta-if-arg = record { given = g };
-              };
-              free-delta-if = Called.called ps·7 r·7 (claims· .15) T35 (
-                Bool.bAt 17 λ x. x,
+          gather-requires record {
+            before = record { before = c .before; free-delta = c .free-delta };
+            gather-arg = record { given = g };
+          },
+          λ g'. lay8 record {
+            before = record {
+              before = record { before = c .before; free-delta = c .free-delta };
+              gather-arg = record { given = g };
+            };
+            gather = Called.called ps·7 r·7 (claims· .15) T39 (
+              record { pos = 5; st = List.[]; d = 0; at = λ x. x },
+              (
+                record { pos = 9; st = List.[]; d = 0; at = λ x. x },
                 (
-                  record {
-                    pos = 32;
-                    ty = Syntax.tyRef
-                        Syntax.erased
-                        Syntax.imm
-                        (KInstanceRow.named);
-                    ref = λ x. x;
-                  },
+                  record { pos = 25; st = List.[]; d = 0; at = λ x. x },
                   (
-                    Num.vAt 8 λ x. x,
+                    record { pos = 15; st = List.[]; d = 0; at = λ x. x },
                     (
-                      Num.vAt 12 λ x. x,
-                      (record { pos = 14; st = List.[]; d = 0; at = λ x. x }, tt),
+                      record { pos = 16; st = List.[]; d = 0; at = λ x. x },
+                      (record { pos = 17; st = List.[]; d = 0; at = λ x. x }, tt),
                     ),
                   ),
                 ),
-              ) (m27 record { before = c .before; is-targ-node = c .is-targ-node } g) g';
-            },
-          ),
+              ),
+            ) (m29 record { before = c .before; free-delta = c .free-delta } g) g';
+          },
         )
 
         lay6 :
-            (c : After-search-route) → at121 (W0
+            (c : After-search-route) → at116 (W0
             (c .before .before .before .before .before .before .before .before .before .before
             .before .before .κs)
             (c .before .before .before .before .before .before .before .before .before .before
             .before .before .args)) (m19 (c .before) (After-search-route·gave c))
         lay6 = λ c. λ g. (
-          is-targ-node-requires record {
-            before = record { before = c .before; search-route = c .search-route };
-            is-targ-node-arg = record { given = g };
-          },
-          λ g'. lay7 record {
-            before = record {
+          Path'.refl,
+          (
+            free-delta-requires record {
               before = record { before = c .before; search-route = c .search-route };
-              is-targ-node-arg = record { given = g };
-            };
-            is-targ-node = Called.called ps·6 r·6 (claims· .13) T30 (
-              record { pos = 5; st = List.[]; d = 0; at = λ x. x },
-              (record { pos = 26; st = List.[]; d = 0; at = λ x. x }, tt),
-            ) (m23 record { before = c .before; search-route = c .search-route } g) g';
-          },
+              free-delta-arg = record { given = g };
+            },
+            λ g'. lay7 record {
+              before = record {
+                before = record { before = c .before; search-route = c .search-route };
+                free-delta-arg = record { given = g };
+              };
+              free-delta = Called.called ps·6 r·6 (claims· .13) T32 (
+                record {
+                  pos = 31;
+                  ty = Syntax.tyRef
+                      Syntax.erased
+                      Syntax.imm
+                      (KInstanceRow.named);
+                  ref = λ x. x;
+                },
+                (
+                  Num.vAt 8 λ x. x,
+                  (
+                    Num.vAt 12 λ x. x,
+                    (record { pos = 14; st = List.[]; d = 0; at = λ x. x }, tt),
+                  ),
+                ),
+              ) (m24 record { before = c .before; search-route = c .search-route } g) g';
+            },
+          ),
         )
 
         lay5 :
-            (c : After-search-request) → at129 (W0
+            (c : After-search-request) → at124 (W0
             (c .before .before .before .before .before .before .before .before .before .before .κs)
             (c .before .before .before .before .before .before .before .before .before .before
             .args)) (m14 (c .before) (After-search-request·gave c))
@@ -51868,7 +49967,7 @@ module _ (claims· : Claims) where
               };
               search-route = Called.called ps·5 r·5 (claims· .11) T23 (
                 record {
-                  pos = 30;
+                  pos = 29;
                   ty = Syntax.tyRef
                       Syntax.erased
                       Syntax.imm
@@ -51892,7 +49991,7 @@ module _ (claims· : Claims) where
 
         lay4 :
             (c : After-receiving-of) →
-            at133
+            at128
             (W0
             (c .before .before .before .before .before .before .before .before .κs)
             (c .before .before .before .before .before .before .before .before .args))
@@ -51911,7 +50010,7 @@ module _ (claims· : Claims) where
               };
               search-request = Called.called ps·4 r·4 (claims· .9) T15 (
                 record {
-                  pos = 28;
+                  pos = 27;
                   ty = Syntax.tyRef
                       Syntax.erased
                       Syntax.imm
@@ -51932,7 +50031,7 @@ module _ (claims· : Claims) where
 
         lay3 :
             (c : After-dodagid-of) →
-            at135
+            at130
             (W0
             (c .before .before .before .before .before .before .before .κs)
             (c .before .before .before .before .before .before .before .args))
@@ -51950,7 +50049,7 @@ module _ (claims· : Claims) where
 
         lay2 :
             (c : After-instance-of) →
-            at138
+            at133
             (W0
             (c .before .before .before .before .before .κs)
             (c .before .before .before .before .before .args))
@@ -51966,7 +50065,7 @@ module _ (claims· : Claims) where
               dodagid-of-arg = record { given = g };
             };
             dodagid-of = Called.called ps·2 r·2 (claims· .5) T9 (
-              record { pos = 26; st = List.[]; d = 0; at = λ x. x },
+              record { pos = 25; st = List.[]; d = 0; at = λ x. x },
               tt,
             ) (m8 record { before = c .before; instance-of = c .instance-of } g) g';
           },
@@ -51974,7 +50073,7 @@ module _ (claims· : Claims) where
 
         lay1 :
             (c : After-whole) →
-            at141
+            at136
             (W0 (c .before .before .before .κs) (c .before .before .before .args))
             (m3 (c .before) (After-whole·gave c))
         lay1 = λ c. λ g. (
@@ -51988,13 +50087,13 @@ module _ (claims· : Claims) where
               instance-of-arg = record { given = g };
             };
             instance-of = Called.called ps·1 r·1 (claims· .3) T6 (
-              record { pos = 26; st = List.[]; d = 0; at = λ x. x },
+              record { pos = 25; st = List.[]; d = 0; at = λ x. x },
               tt,
             ) (m5 record { before = c .before; whole = c .whole } g) g';
           },
         )
 
-        pub laid : (c : Start) → at144 (W0 (c .κs) (c .args)) (m0 (c .κs) (c .args))
+        pub laid : (c : Start) → at139 (W0 (c .κs) (c .args)) (m0 (c .κs) (c .args))
         laid = λ c. λ g. λ g'. (
           whole-requires record {
             before = record { before = c; slice-known = record { given = g } };
@@ -52119,48 +50218,48 @@ module _ (claims· : Claims) where
             A
             W
             𝓣
-            0
+            1
             ps·6
             r·6
             (claims· .12)
             (claims· .13)
-            "request::is_targ_node")
+            "search::free_delta")
             (known7 : Plain.Known
             𝓤
             H
             A
             W
             𝓣
-            1
+            0
             ps·7
             r·7
             (claims· .14)
             (claims· .15)
-            "search::free_delta_if")
+            "request::gather")
             (known8 : Plain.Known
             𝓤
             H
             A
             W
             𝓣
-            0
+            1
             ps·8
             r·8
             (claims· .16)
             (claims· .17)
-            "request::gather")
+            "request::judge")
             (known9 : Plain.Known
             𝓤
             H
             A
             W
             𝓣
-            1
+            0
             ps·9
             r·9
             (claims· .18)
             (claims· .19)
-            "request::judge")
+            "answer::number")
             (known10 : Plain.Known
             𝓤
             H
@@ -52172,7 +50271,7 @@ module _ (claims· : Claims) where
             r·10
             (claims· .20)
             (claims· .21)
-            "answer::number")
+            "finish::refused")
             (known11 : Plain.Known
             𝓤
             H
@@ -52184,7 +50283,7 @@ module _ (claims· : Claims) where
             r·11
             (claims· .22)
             (claims· .23)
-            "finish::refused")
+            "request_stored::accepted")
             (known12 : Plain.Known
             𝓤
             H
@@ -52196,7 +50295,7 @@ module _ (claims· : Claims) where
             r·12
             (claims· .24)
             (claims· .25)
-            "request_accepted::accepted")
+            "request_sent::forward_post")
             (known13 : Plain.Known
             𝓤
             H
@@ -52208,7 +50307,7 @@ module _ (claims· : Claims) where
             r·13
             (claims· .26)
             (claims· .27)
-            "request_accepted::forward_post")
+            "request_sent::reply_post")
             (known14 : Plain.Known
             𝓤
             H
@@ -52220,30 +50319,18 @@ module _ (claims· : Claims) where
             r·14
             (claims· .28)
             (claims· .29)
-            "request_accepted::reply_post")
+            "node::live_of")
             (known15 : Plain.Known
             𝓤
             H
             A
             W
             𝓣
-            0
+            8
             ps·15
             r·15
             (claims· .30)
             (claims· .31)
-            "node::live_of")
-            (known16 : Plain.Known
-            𝓤
-            H
-            A
-            W
-            𝓣
-            8
-            ps·16
-            r·16
-            (claims· .32)
-            (claims· .33)
             "finish::finish") where
           pub spec :
               Statement.Triple
@@ -52282,7 +50369,6 @@ module _ (claims· : Claims) where
                 known13,
                 known14,
                 known15,
-                known16,
               ) bs bd)
               Pre·
               Post·
