@@ -31,8 +31,9 @@ use Rattle.reader.specs.Reading.{refusalNumber, heardFrom, Bounded}
 use Rattle.reader.specs.declared.Reading.{Reading}
 use Rattle.heard.specs.Parsed.{parsedOf}
 use Rattle.heard.proofs.Laws.{message-is, reply-is, base-is, heard-sound, lines-bad, lines-long, lines-wrong, lines-refused, lines-heard}
-use Rattle.finish.specs.Gives.{nothingSent, stateOf, decisionOf, Gives}
-use Rattle.finish.specs.declared.Outcome.{Outcome}
+use Rattle.outcome.specs.Nothing.{nothingSent}
+use Rattle.finish.specs.Gives.{stateOf, decisionOf, Gives}
+use Rattle.outcome.specs.declared.Outcome.{Outcome}
 use Rattle.finish.proofs.Laws.{refused-gives}
 use Rattle.bad_call.specs.Lent.{lentBy}
 use Rattle.node.specs.Taken.{Taken, TakenStart, requestDecision, replyDecision, startDecision}

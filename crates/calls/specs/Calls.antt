@@ -15,7 +15,7 @@ use Rattle.start.specs.Start.{startOf}
 use Rattle.start.specs.declared.Asking.{Asking}
 use Rattle.bad_call.specs.Lent.{lentBy}
 use Rattle.finish.specs.Gives.{stateOf, Gives}
-use Rattle.finish.specs.declared.Outcome.{Outcome}
+use Rattle.outcome.specs.declared.Outcome.{Outcome}
 
 -- ---- What the plain node is fed: of the two lent buffers only their lengths
 

@@ -8,9 +8,9 @@ ghost use Rattle.calls.specs.Calls.{Asked, Promised};
 ghost use Rattle.answer.specs.declared.Answer.the-variants.{BadCall, WrongState, OwnDodagid};
 use answer::Answer;
 use art::Targets;
-use finish::Outcome;
 use gather::Gathering;
 use message::Link;
+use outcome::Outcome;
 use own::Own;
 use plain::Target;
 use reader::Reading;
@@ -95,21 +95,21 @@ pub fn message(
     }) ⌝ }
 {
     if bad_call::is_bad(o, clock, t, forward.len(), reply.len()) {
-        return finish::refused(bad_call(), clock, seq);
+        return outcome::refused(bad_call(), clock, seq);
     }
     if 1236 < octets.len() {
-        return finish::refused(bad_call(), clock, seq);
+        return outcome::refused(bad_call(), clock, seq);
     }
     if node::is_wrong(instances, routes, clock, seq) {
-        return finish::refused(wrong_state(), clock, seq);
+        return outcome::refused(wrong_state(), clock, seq);
     }
     let r = reader::read(octets);
     let a = heard::octets_answer(r);
     if answer::number(a) != 0 {
-        return finish::refused(a, clock, seq);
+        return outcome::refused(a, clock, seq);
     }
     if has_own_dodagid(o, r) {
-        return finish::refused(own_dodagid(), clock, seq);
+        return outcome::refused(own_dodagid(), clock, seq);
     }
     let p = heard::parsed(r);
     let v = heard::vector_of(octets, r);
@@ -170,14 +170,14 @@ pub fn start(
     }) ⌝ }
 {
     if bad_call::is_bad(o, clock, t, forward.len(), reply.len()) {
-        return finish::refused(bad_call(), clock, seq);
+        return outcome::refused(bad_call(), clock, seq);
     }
     let g = gather::gather(targets);
     if is_bad_start(g, s) {
-        return finish::refused(bad_call(), clock, seq);
+        return outcome::refused(bad_call(), clock, seq);
     }
     if node::is_wrong(instances, routes, clock, seq) {
-        return finish::refused(wrong_state(), clock, seq);
+        return outcome::refused(wrong_state(), clock, seq);
     }
     node::take_start(
         instances,

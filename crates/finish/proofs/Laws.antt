@@ -33,8 +33,9 @@ use Rattle.place.specs.Places.{rowChange, hopChange, Placed, RoutePlaced}
 use Rattle.place.specs.declared.Places as P
 use Rattle.place.specs.declared.RoutePlace.{RoutePlace}
 use Rattle.finish.specs.declared.Live.{Live}
-use Rattle.finish.specs.declared.Outcome.{Outcome}
-use Rattle.finish.specs.Gives.{nothingSent, stateOf, decisionOf, Records, RouteRecords, Settled, Gives}
+use Rattle.outcome.specs.declared.Outcome.{Outcome}
+use Rattle.outcome.specs.Nothing.{nothingSent}
+use Rattle.finish.specs.Gives.{stateOf, decisionOf, Records, RouteRecords, Settled, Gives}
 
 -- ---- records that are written
 

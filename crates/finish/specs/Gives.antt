@@ -7,12 +7,11 @@ use mathlib.Core.List.{List, map}
 use lib.Dec.{eqb}
 use lib.ListN.{length, getD, replicate}
 use Rattle.lemmas.specs.Written.{over}
-use Rattle.plain.specs.Address.{Address, zeroAddress}
+use Rattle.plain.specs.Address.{Address}
 use Rattle.plain.specs.Given.{Settings, State}
 use Rattle.plain.specs.Request.{Accepted}
 use Rattle.plain.specs.Plain as plain
 use Rattle.answer.specs.Answer.{answerNumber, destinationOf}
-use Rattle.answer.specs.declared.Way.the-variants.{Nowhere}
 use Rattle.row.specs.Meaning.{instanceOf, routeOf, routeIn, noRow, noRoute}
 use Rattle.row.specs.Record.{routeRecord}
 use Rattle.row.specs.declared.InstanceRow.{InstanceRow}
@@ -22,12 +21,7 @@ use Rattle.decision.specs.declared.Post.{Post}
 use Rattle.decision.specs.declared.Decided.{Decided}
 use Rattle.place.specs.Places.{HasRow, HasRoute, rowChange, hopChange}
 use Rattle.finish.specs.declared.Live.{Live}
-use Rattle.finish.specs.declared.Sent.{Sent}
-use Rattle.finish.specs.declared.Outcome.{Outcome}
-
--- "lengths zero, destinations nowhere"
-abbrev pub nothingSent : Sent
-nothingSent = record { size = 0; to = record { way = Nowhere; neighbour = zeroAddress } }
+use Rattle.outcome.specs.declared.Outcome.{Outcome}
 
 -- the state that clock, own number and the lent tables are
 abbrev pub stateOf : ℕ → ℕ → List InstanceRow → List RouteRow → State

@@ -1,4 +1,4 @@
-// What a call comes to: a refusal, 17, or rows stored and octets written.
+// A call that the rules answer 0, taken to its outcome: 17, or rows stored and octets written.
 ghost use mathlib.Core.Path.{_≡_};
 ghost use mathlib.Core.Bool.{_&&_};
 ghost use lib.ListN.{set};
@@ -6,15 +6,13 @@ ghost use Rattle.plain.specs.Request.{Accepted};
 ghost use Rattle.row.specs.Record.{replyRecord};
 ghost use Rattle.decision.specs.Decision.{replyIn};
 ghost use Rattle.own.specs.Settings.{settingsOf};
-ghost use Rattle.finish.specs.Gives.{nothingSent, stateOf, Ready, Settled, Gives};
+ghost use Rattle.finish.specs.Gives.{stateOf, Ready, Settled, Gives};
 ghost use Rattle.plain.specs.Plain.{enact};
 ghost use Rattle.plain.specs.Plain.Decision.{take};
-ghost use Rattle.answer.specs.declared.Answer.the-variants.{Done, NoRow};
-use answer::Answer;
 use answer::Destination;
-use answer::Way;
 use decision::Decided;
 use decision::Post;
+use outcome::Outcome;
 use own::Own;
 use place::Places;
 use place::RoutePlace;
@@ -29,85 +27,13 @@ pub struct Live {
     pub hop: usize,
 }
 
-// What was written into a buffer, and where it is to go.
-pub struct Sent {
-    pub to: Destination,
-    pub size: usize,
-}
-
-// What a call comes to, beside the rows and octets that it writes. In this order no two zeros of a refusal stand side by side: LLVM would write
-// them as one, and the processor wait where they are read apart.
-pub struct Outcome {
-    pub forward: Sent,
-    pub clock: u64,
-    pub reply: Sent,
-    pub answer: Answer,
-    pub seq: u8,
-}
-
 // ---- by value
-
-fn nothing() -> Sent
-    ensures { λ r. ⌜ r ≡ nothingSent ⌝ }
-{
-    let to = Destination {
-        way: Way::Nowhere,
-        neighbour: [0u8; 16],
-    };
-    Sent { size: 0, to }
-}
-
-// A refusal: lengths zero, destinations nowhere, clock and own number as they stood.
-pub fn refused(a: Answer, clock: u64, seq: u8) -> Outcome
-    ensures { λ r. ⌜ r ≡ record { answer = a; forward = nothingSent; reply = nothingSent; clock = clock; seq = seq } ⌝ }
-{
-    let forward = nothing();
-    let reply = nothing();
-    Outcome {
-        answer: a,
-        forward,
-        reply,
-        clock,
-        seq,
-    }
-}
-
-// An accepted call, with what it wrote: its time becomes the last time.
-fn accepted(own: u8, there: Destination, back: Destination, t: u64, n: usize, m: usize) -> Outcome
-    ensures { λ r. ⌜ r ≡ record { answer = Done; forward = record { size = n; to = there }; reply = record { size = m; to = back }; clock = t; seq = own } ⌝ }
-{
-    let forward = Sent { size: n, to: there };
-    let reply = Sent { size: m, to: back };
-    Outcome {
-        answer: Answer::Done,
-        forward,
-        reply,
-        clock: t,
-        seq: own,
-    }
-}
-
-// Without room a call is 17, and the clock stays: "1 to 17 change nothing but the tally".
-fn without_room(clock: u64, seq: u8) -> Outcome
-    ensures { λ r. ⌜ r ≡ record { answer = NoRow; forward = nothingSent; reply = nothingSent; clock = clock; seq = seq } ⌝ }
-{
-    refused(Answer::NoRow, clock, seq)
-}
 
 fn row_of(d: Decided) -> InstanceRow
     ensures { λ r. ⌜ r ≡ d .row ⌝ }
 {
     let r = d.row;
     r
-}
-
-// The record of the reply row.
-fn second_of(d: Decided) -> InstanceRow
-    ensures { λ r. ⌜ r ≡ replyRecord (replyIn (d .second)) ⌝ }
-{
-    let f = d.second;
-    let dodagid = f.dodagid;
-    row::reply_row(f.instance, dodagid, f.seq, f.rank, f.endless, f.deadline)
 }
 
 fn route_of(d: Decided) -> RouteRow
@@ -159,7 +85,7 @@ fn put_second(rows: &mut [InstanceRow], at: usize, d: &Decided)
     ensures { λ _. ⌜ now (rows .exit) ≡ set (now (rows .entry)) at (replyRecord (replyIn (now (d .entry) .second))) ⌝ }
 {
     if at < rows.len() {
-        rows[at] = second_of(*d);
+        rows[at] = outcome::second_of(*d);
         return;
     }
 }
@@ -200,7 +126,7 @@ pub fn finish(
         let m = post::put_post(reply, &o, back, vector);
         // last: what is stored was made just before, and a copy of it would wait
         store(instances, routes, p, q.hop, d);
-        return accepted(own_of(*d), to_of(*there), to_of(*back), t, n, m);
+        return outcome::accepted(own_of(*d), to_of(*there), to_of(*back), t, n, m);
     }
-    without_room(clock, seq)
+    outcome::without_room(clock, seq)
 }

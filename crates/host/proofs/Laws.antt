@@ -8,7 +8,7 @@ use Rattle.answer.specs.Answer.{answerNumber}
 use Rattle.row.specs.declared.InstanceRow.{InstanceRow}
 use Rattle.row.specs.declared.RouteRow.{RouteRow}
 use Rattle.finish.specs.Gives.{Gives}
-use Rattle.finish.specs.declared.Outcome.{Outcome}
+use Rattle.outcome.specs.declared.Outcome.{Outcome}
 use Rattle.host.specs.Host.{wayNumber, neighbourIn, hostOf, HostGives}
 use Rattle.host.specs.declared.HostOutcome.{HostOutcome}
 

@@ -14,7 +14,7 @@ use Rattle.row.specs.declared.InstanceRow.{InstanceRow}
 use Rattle.row.specs.declared.RouteRow.{RouteRow}
 use Rattle.message.specs.declared.Link.{Link}
 use Rattle.finish.specs.Gives.{stateOf, Records, RouteRecords}
-use Rattle.finish.specs.declared.Outcome.{Outcome}
+use Rattle.outcome.specs.declared.Outcome.{Outcome}
 use Rattle.start.specs.declared.Asking.{Asking}
 use Rattle.host.specs.declared.HostLink.{HostLink}
 use Rattle.host.specs.declared.HostStart.{HostStart}

@@ -2,8 +2,8 @@
 use answer::Answer;
 use answer::Destination;
 use answer::Way;
-use finish::Outcome;
 use message::Link;
+use outcome::Outcome;
 use start::Asking;
 ghost use mathlib.Core.Path.{_≡_};
 ghost use Rattle.answer.specs.Answer.{destinationOf};

@@ -30,9 +30,10 @@ use Rattle.decision.specs.declared.Post.{Post}
 use Rattle.reply.specs.Facts.{answeredOf, isFull, Gathered}
 use Rattle.reply.specs.declared.ReplyFacts.{ReplyFacts}
 use Rattle.reply.proofs.Laws as reply
-use Rattle.finish.specs.Gives.{nothingSent, stateOf, decisionOf, Settled, Gives}
+use Rattle.outcome.specs.Nothing.{nothingSent}
+use Rattle.finish.specs.Gives.{stateOf, decisionOf, Settled, Gives}
 use Rattle.finish.specs.declared.Live.{Live}
-use Rattle.finish.specs.declared.Outcome.{Outcome}
+use Rattle.outcome.specs.declared.Outcome.{Outcome}
 use Rattle.finish.proofs.Laws.{refused-gives}
 use Rattle.node.specs.Taken.{replyDecision}
 use Rattle.node.proofs.Laws.{settled}

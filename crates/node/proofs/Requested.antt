@@ -34,9 +34,10 @@ use Rattle.request.specs.Facts.{askedOf, Sendable, Gathered}
 use Rattle.request.specs.Room.{Roomy}
 use Rattle.request.specs.declared.RequestFacts.{RequestFacts}
 use Rattle.request.proofs.Lines.{rank-fits, has-room}
-use Rattle.finish.specs.Gives.{nothingSent, stateOf, decisionOf, Settled, Gives}
+use Rattle.outcome.specs.Nothing.{nothingSent}
+use Rattle.finish.specs.Gives.{stateOf, decisionOf, Settled, Gives}
 use Rattle.finish.specs.declared.Live.{Live}
-use Rattle.finish.specs.declared.Outcome.{Outcome}
+use Rattle.outcome.specs.declared.Outcome.{Outcome}
 use Rattle.finish.proofs.Laws.{refused-gives}
 use Rattle.node.specs.Taken.{requestDecision}
 use Rattle.node.proofs.Laws.{Alike, settled}

@@ -18,11 +18,11 @@ ghost use Rattle.message.specs.Message.{messageIn, receivedBy};
 use answer::Answer;
 use art::Targets;
 use finish::Live;
-use finish::Outcome;
 use message::Found;
 use message::FoundRoute;
 use message::Link;
 use message::Parsed;
+use outcome::Outcome;
 use own::Own;
 use row::InstanceRow;
 use row::RouteRow;
@@ -163,7 +163,7 @@ pub fn take_request(
     let a = request::gather(o, k, *p, targ, f, g, free);
     let answer = request::judge(o, k, *p, vector, a);
     if answer::number(answer) != 0 {
-        return finish::refused(answer, clock, seq);
+        return outcome::refused(answer, clock, seq);
     }
     let d = request_stored::accepted(o, seq, t, k, *p, a);
     let there = request_sent::forward_post(k, *p, a);
@@ -214,7 +214,7 @@ pub fn take_reply(
         let a = reply::gather(o, k, *p, found_row(w), f, g);
         let answer = reply::judge(o, k, *p, vector, a);
         if answer::number(answer) != 0 {
-            return finish::refused(answer, clock, seq);
+            return outcome::refused(answer, clock, seq);
         }
         let d = reply_accepted::accepted(seq, t, k, *p, a);
         let there = reply_accepted::forward_post(o, *p, vector, a);
@@ -236,7 +236,7 @@ pub fn take_reply(
             l,
         );
     }
-    finish::refused(no_partner(), clock, seq)
+    outcome::refused(no_partner(), clock, seq)
 }
 
 // What a start of our own discovery comes to, from 10 on. It is stored in a new row, or refused: no row of its key is written over.
@@ -259,7 +259,7 @@ pub fn take_start(
     let f = search::search_request(instances, t, asked_instance(s), receiving);
     let answer = start::judge(o, s, is_found(f));
     if answer::number(answer) != 0 {
-        return finish::refused(answer, clock, seq);
+        return outcome::refused(answer, clock, seq);
     }
     let d = start::accepted(o, seq, t, s, ts);
     let there = start::start_post(o, seq, s, ts);

@@ -21,7 +21,7 @@ use Rattle.row.specs.declared.InstanceRow.{InstanceRow}
 use Rattle.row.specs.declared.RouteRow.{RouteRow}
 use Rattle.message.specs.declared.Link.{Link}
 use Rattle.start.specs.declared.Asking.{Asking}
-use Rattle.finish.specs.declared.Outcome.{Outcome}
+use Rattle.outcome.specs.declared.Outcome.{Outcome}
 use Rattle.calls.specs.Calls.{Asked, Promised}
 use Rattle.calls.proofs.message as message
 use Rattle.calls.proofs.start as start

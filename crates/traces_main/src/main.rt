@@ -11,7 +11,7 @@ mod print;
 
 ghost use Prim.Native.Nat.{_≤_};
 use answer::Answer;
-use finish::Outcome;
+use outcome::Outcome;
 use own::Own;
 use row::InstanceRow;
 use row::RouteRow;

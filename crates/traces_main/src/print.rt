@@ -1,8 +1,8 @@
 // What the program prints: lines of words, decimal numbers, and octets in hexadecimal.
 use answer::Destination;
 use answer::Way;
-use finish::Outcome;
-use finish::Sent;
+use outcome::Outcome;
+use outcome::Sent;
 use plain::Target;
 use row::InstanceRow;
 use row::RouteRow;

@@ -1,7 +1,7 @@
 // 01's whole example through the node: prints answer, lengths and octets. Then the same with the downward link bad, and with the
 // MinHopRankIncrease of 1 that a calibration sheet once gave.
-use finish::Outcome;
 use message::Link;
+use outcome::Outcome;
 use own::Own;
 use plain::Target;
 use row::InstanceRow;

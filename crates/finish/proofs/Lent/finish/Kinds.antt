@@ -6,8 +6,8 @@ use Rattle.decision.proofs.Elem.Decided as KDecided
 use Rattle.decision.proofs.Elem.Post as KPost
 use Rattle.finish.proofs.Live
 use Rattle.finish.proofs.Live.Laws
-use Rattle.finish.proofs.Outcome
-use Rattle.finish.proofs.Outcome.Laws as Laws'
+use Rattle.outcome.proofs.Outcome
+use Rattle.outcome.proofs.Outcome.Laws as Laws'
 use borrow.Fn.Kinds
 use borrow.Kind.Array
 use borrow.Kind.MutSlice

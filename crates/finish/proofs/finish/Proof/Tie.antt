@@ -1,34 +1,34 @@
 -- Made by tools/lend.py of the twin of `finish`: do not edit.
-use Rattle.finish.proofs.accepted.Met
-use Rattle.finish.proofs.accepted.Reads
-use Rattle.finish.proofs.accepted.Symbol
 use Rattle.finish.proofs.finish.Code
 use Rattle.finish.proofs.finish.Key
 use Rattle.finish.proofs.Lent.finish.Kinds
 use Rattle.finish.proofs.finish.Proof.Lts
-use Rattle.finish.proofs.Lent.finish.Reads as Reads'
+use Rattle.finish.proofs.Lent.finish.Reads
 use Rattle.finish.proofs.finish.Statement
-use Rattle.finish.proofs.has_room.Met as Met'
-use Rattle.finish.proofs.has_room.Reads as Reads''
-use Rattle.finish.proofs.has_room.Symbol as Symbol'
-use Rattle.finish.proofs.is_replying.Met as Met''
-use Rattle.finish.proofs.is_replying.Reads as Reads'3
-use Rattle.finish.proofs.is_replying.Symbol as Symbol''
-use Rattle.finish.proofs.is_routed.Met as Met'3
-use Rattle.finish.proofs.is_routed.Reads as Reads'4
-use Rattle.finish.proofs.is_routed.Symbol as Symbol'3
-use Rattle.finish.proofs.own_of.Met as Met'4
-use Rattle.finish.proofs.own_of.Reads as Reads'5
-use Rattle.finish.proofs.own_of.Symbol as Symbol'4
-use Rattle.finish.proofs.store.Met as Met'5
-use Rattle.finish.proofs.Lent.store.Reads as Reads'6
-use Rattle.finish.proofs.store.Symbol as Symbol'5
-use Rattle.finish.proofs.to_of.Met as Met'6
-use Rattle.finish.proofs.to_of.Reads as Reads'7
-use Rattle.finish.proofs.to_of.Symbol as Symbol'6
-use Rattle.finish.proofs.without_room.Met as Met'7
-use Rattle.finish.proofs.without_room.Reads as Reads'8
-use Rattle.finish.proofs.without_room.Symbol as Symbol'7
+use Rattle.finish.proofs.has_room.Met
+use Rattle.finish.proofs.has_room.Reads as Reads'
+use Rattle.finish.proofs.has_room.Symbol
+use Rattle.finish.proofs.is_replying.Met as Met'
+use Rattle.finish.proofs.is_replying.Reads as Reads''
+use Rattle.finish.proofs.is_replying.Symbol as Symbol'
+use Rattle.finish.proofs.is_routed.Met as Met''
+use Rattle.finish.proofs.is_routed.Reads as Reads'3
+use Rattle.finish.proofs.is_routed.Symbol as Symbol''
+use Rattle.finish.proofs.own_of.Met as Met'3
+use Rattle.finish.proofs.own_of.Reads as Reads'4
+use Rattle.finish.proofs.own_of.Symbol as Symbol'3
+use Rattle.finish.proofs.store.Met as Met'4
+use Rattle.finish.proofs.Lent.store.Reads as Reads'5
+use Rattle.finish.proofs.store.Symbol as Symbol'4
+use Rattle.finish.proofs.to_of.Met as Met'5
+use Rattle.finish.proofs.to_of.Reads as Reads'6
+use Rattle.finish.proofs.to_of.Symbol as Symbol'5
+use Rattle.outcome.proofs.accepted.Met as Met'6
+use Rattle.outcome.proofs.accepted.Reads as Reads'7
+use Rattle.outcome.proofs.accepted.Symbol as Symbol'6
+use Rattle.outcome.proofs.without_room.Met as Met'7
+use Rattle.outcome.proofs.without_room.Reads as Reads'8
+use Rattle.outcome.proofs.without_room.Symbol as Symbol'7
 use Rattle.place.proofs.place_route.Met as Met'8
 use Rattle.place.proofs.Lent.place_route.Reads as Reads'9
 use Rattle.place.proofs.place_route.Symbol as Symbol'8
@@ -44,1511 +44,1511 @@ use contract.Running
 
 abbrev pub Start : Type 0
 Start = Lts.Start (
-  Reads'3.Asked,
-  Reads'3.Learnt,
-  Reads'10.Asked,
-  Reads'10.Learnt,
-  Reads'4.Asked,
-  Reads'4.Learnt,
-  Reads'9.Asked,
-  Reads'9.Learnt,
   Reads''.Asked,
   Reads''.Learnt,
+  Reads'10.Asked,
+  Reads'10.Learnt,
+  Reads'3.Asked,
+  Reads'3.Learnt,
+  Reads'9.Asked,
+  Reads'9.Learnt,
+  Reads'.Asked,
+  Reads'.Learnt,
   Reads'11.Asked,
   Reads'11.Learnt,
-  Reads'6.Asked,
-  Reads'6.Learnt,
   Reads'5.Asked,
   Reads'5.Learnt,
+  Reads'4.Asked,
+  Reads'4.Learnt,
+  Reads'6.Asked,
+  Reads'6.Learnt,
   Reads'7.Asked,
   Reads'7.Learnt,
-  Reads.Asked,
-  Reads.Learnt,
   Reads'8.Asked,
   Reads'8.Learnt,
-) Reads'.Pre Reads'.Post
+) Reads.Pre Reads.Post
 
 abbrev pub After-slice-known : Type 0
 After-slice-known = Lts.After-slice-known (
-  Reads'3.Asked,
-  Reads'3.Learnt,
-  Reads'10.Asked,
-  Reads'10.Learnt,
-  Reads'4.Asked,
-  Reads'4.Learnt,
-  Reads'9.Asked,
-  Reads'9.Learnt,
   Reads''.Asked,
   Reads''.Learnt,
+  Reads'10.Asked,
+  Reads'10.Learnt,
+  Reads'3.Asked,
+  Reads'3.Learnt,
+  Reads'9.Asked,
+  Reads'9.Learnt,
+  Reads'.Asked,
+  Reads'.Learnt,
   Reads'11.Asked,
   Reads'11.Learnt,
-  Reads'6.Asked,
-  Reads'6.Learnt,
   Reads'5.Asked,
   Reads'5.Learnt,
+  Reads'4.Asked,
+  Reads'4.Learnt,
+  Reads'6.Asked,
+  Reads'6.Learnt,
   Reads'7.Asked,
   Reads'7.Learnt,
-  Reads.Asked,
-  Reads.Learnt,
   Reads'8.Asked,
   Reads'8.Learnt,
-) Reads'.Pre Reads'.Post
+) Reads.Pre Reads.Post
 
 abbrev pub After-slice-known2 : Type 0
 After-slice-known2 = Lts.After-slice-known2 (
-  Reads'3.Asked,
-  Reads'3.Learnt,
-  Reads'10.Asked,
-  Reads'10.Learnt,
-  Reads'4.Asked,
-  Reads'4.Learnt,
-  Reads'9.Asked,
-  Reads'9.Learnt,
   Reads''.Asked,
   Reads''.Learnt,
+  Reads'10.Asked,
+  Reads'10.Learnt,
+  Reads'3.Asked,
+  Reads'3.Learnt,
+  Reads'9.Asked,
+  Reads'9.Learnt,
+  Reads'.Asked,
+  Reads'.Learnt,
   Reads'11.Asked,
   Reads'11.Learnt,
-  Reads'6.Asked,
-  Reads'6.Learnt,
   Reads'5.Asked,
   Reads'5.Learnt,
+  Reads'4.Asked,
+  Reads'4.Learnt,
+  Reads'6.Asked,
+  Reads'6.Learnt,
   Reads'7.Asked,
   Reads'7.Learnt,
-  Reads.Asked,
-  Reads.Learnt,
   Reads'8.Asked,
   Reads'8.Learnt,
-) Reads'.Pre Reads'.Post
+) Reads.Pre Reads.Post
 
 abbrev pub After-place-rows-arg : Type 0
 After-place-rows-arg = Lts.After-place-rows-arg (
-  Reads'3.Asked,
-  Reads'3.Learnt,
-  Reads'10.Asked,
-  Reads'10.Learnt,
-  Reads'4.Asked,
-  Reads'4.Learnt,
-  Reads'9.Asked,
-  Reads'9.Learnt,
   Reads''.Asked,
   Reads''.Learnt,
+  Reads'10.Asked,
+  Reads'10.Learnt,
+  Reads'3.Asked,
+  Reads'3.Learnt,
+  Reads'9.Asked,
+  Reads'9.Learnt,
+  Reads'.Asked,
+  Reads'.Learnt,
   Reads'11.Asked,
   Reads'11.Learnt,
-  Reads'6.Asked,
-  Reads'6.Learnt,
   Reads'5.Asked,
   Reads'5.Learnt,
+  Reads'4.Asked,
+  Reads'4.Learnt,
+  Reads'6.Asked,
+  Reads'6.Learnt,
   Reads'7.Asked,
   Reads'7.Learnt,
-  Reads.Asked,
-  Reads.Learnt,
   Reads'8.Asked,
   Reads'8.Learnt,
-) Reads'.Pre Reads'.Post
+) Reads.Pre Reads.Post
 
 abbrev pub After-is-replying-arg : Type 0
 After-is-replying-arg = Lts.After-is-replying-arg (
-  Reads'3.Asked,
-  Reads'3.Learnt,
-  Reads'10.Asked,
-  Reads'10.Learnt,
-  Reads'4.Asked,
-  Reads'4.Learnt,
-  Reads'9.Asked,
-  Reads'9.Learnt,
   Reads''.Asked,
   Reads''.Learnt,
+  Reads'10.Asked,
+  Reads'10.Learnt,
+  Reads'3.Asked,
+  Reads'3.Learnt,
+  Reads'9.Asked,
+  Reads'9.Learnt,
+  Reads'.Asked,
+  Reads'.Learnt,
   Reads'11.Asked,
   Reads'11.Learnt,
-  Reads'6.Asked,
-  Reads'6.Learnt,
   Reads'5.Asked,
   Reads'5.Learnt,
+  Reads'4.Asked,
+  Reads'4.Learnt,
+  Reads'6.Asked,
+  Reads'6.Learnt,
   Reads'7.Asked,
   Reads'7.Learnt,
-  Reads.Asked,
-  Reads.Learnt,
   Reads'8.Asked,
   Reads'8.Learnt,
-) Reads'.Pre Reads'.Post
+) Reads.Pre Reads.Post
 
 abbrev pub After-is-replying : Type 0
 After-is-replying = Lts.After-is-replying (
-  Reads'3.Asked,
-  Reads'3.Learnt,
-  Reads'10.Asked,
-  Reads'10.Learnt,
-  Reads'4.Asked,
-  Reads'4.Learnt,
-  Reads'9.Asked,
-  Reads'9.Learnt,
   Reads''.Asked,
   Reads''.Learnt,
+  Reads'10.Asked,
+  Reads'10.Learnt,
+  Reads'3.Asked,
+  Reads'3.Learnt,
+  Reads'9.Asked,
+  Reads'9.Learnt,
+  Reads'.Asked,
+  Reads'.Learnt,
   Reads'11.Asked,
   Reads'11.Learnt,
-  Reads'6.Asked,
-  Reads'6.Learnt,
   Reads'5.Asked,
   Reads'5.Learnt,
+  Reads'4.Asked,
+  Reads'4.Learnt,
+  Reads'6.Asked,
+  Reads'6.Learnt,
   Reads'7.Asked,
   Reads'7.Learnt,
-  Reads.Asked,
-  Reads.Learnt,
   Reads'8.Asked,
   Reads'8.Learnt,
-) Reads'.Pre Reads'.Post
+) Reads.Pre Reads.Post
 
 abbrev pub After-place-rows : Type 0
 After-place-rows = Lts.After-place-rows (
-  Reads'3.Asked,
-  Reads'3.Learnt,
-  Reads'10.Asked,
-  Reads'10.Learnt,
-  Reads'4.Asked,
-  Reads'4.Learnt,
-  Reads'9.Asked,
-  Reads'9.Learnt,
   Reads''.Asked,
   Reads''.Learnt,
+  Reads'10.Asked,
+  Reads'10.Learnt,
+  Reads'3.Asked,
+  Reads'3.Learnt,
+  Reads'9.Asked,
+  Reads'9.Learnt,
+  Reads'.Asked,
+  Reads'.Learnt,
   Reads'11.Asked,
   Reads'11.Learnt,
-  Reads'6.Asked,
-  Reads'6.Learnt,
   Reads'5.Asked,
   Reads'5.Learnt,
+  Reads'4.Asked,
+  Reads'4.Learnt,
+  Reads'6.Asked,
+  Reads'6.Learnt,
   Reads'7.Asked,
   Reads'7.Learnt,
-  Reads.Asked,
-  Reads.Learnt,
   Reads'8.Asked,
   Reads'8.Learnt,
-) Reads'.Pre Reads'.Post
+) Reads.Pre Reads.Post
 
 abbrev pub After-place-route-arg : Type 0
 After-place-route-arg = Lts.After-place-route-arg (
-  Reads'3.Asked,
-  Reads'3.Learnt,
-  Reads'10.Asked,
-  Reads'10.Learnt,
-  Reads'4.Asked,
-  Reads'4.Learnt,
-  Reads'9.Asked,
-  Reads'9.Learnt,
   Reads''.Asked,
   Reads''.Learnt,
+  Reads'10.Asked,
+  Reads'10.Learnt,
+  Reads'3.Asked,
+  Reads'3.Learnt,
+  Reads'9.Asked,
+  Reads'9.Learnt,
+  Reads'.Asked,
+  Reads'.Learnt,
   Reads'11.Asked,
   Reads'11.Learnt,
-  Reads'6.Asked,
-  Reads'6.Learnt,
   Reads'5.Asked,
   Reads'5.Learnt,
+  Reads'4.Asked,
+  Reads'4.Learnt,
+  Reads'6.Asked,
+  Reads'6.Learnt,
   Reads'7.Asked,
   Reads'7.Learnt,
-  Reads.Asked,
-  Reads.Learnt,
   Reads'8.Asked,
   Reads'8.Learnt,
-) Reads'.Pre Reads'.Post
+) Reads.Pre Reads.Post
 
 abbrev pub After-is-routed-arg : Type 0
 After-is-routed-arg = Lts.After-is-routed-arg (
-  Reads'3.Asked,
-  Reads'3.Learnt,
-  Reads'10.Asked,
-  Reads'10.Learnt,
-  Reads'4.Asked,
-  Reads'4.Learnt,
-  Reads'9.Asked,
-  Reads'9.Learnt,
   Reads''.Asked,
   Reads''.Learnt,
+  Reads'10.Asked,
+  Reads'10.Learnt,
+  Reads'3.Asked,
+  Reads'3.Learnt,
+  Reads'9.Asked,
+  Reads'9.Learnt,
+  Reads'.Asked,
+  Reads'.Learnt,
   Reads'11.Asked,
   Reads'11.Learnt,
-  Reads'6.Asked,
-  Reads'6.Learnt,
   Reads'5.Asked,
   Reads'5.Learnt,
+  Reads'4.Asked,
+  Reads'4.Learnt,
+  Reads'6.Asked,
+  Reads'6.Learnt,
   Reads'7.Asked,
   Reads'7.Learnt,
-  Reads.Asked,
-  Reads.Learnt,
   Reads'8.Asked,
   Reads'8.Learnt,
-) Reads'.Pre Reads'.Post
+) Reads.Pre Reads.Post
 
 abbrev pub After-is-routed : Type 0
 After-is-routed = Lts.After-is-routed (
-  Reads'3.Asked,
-  Reads'3.Learnt,
-  Reads'10.Asked,
-  Reads'10.Learnt,
-  Reads'4.Asked,
-  Reads'4.Learnt,
-  Reads'9.Asked,
-  Reads'9.Learnt,
   Reads''.Asked,
   Reads''.Learnt,
+  Reads'10.Asked,
+  Reads'10.Learnt,
+  Reads'3.Asked,
+  Reads'3.Learnt,
+  Reads'9.Asked,
+  Reads'9.Learnt,
+  Reads'.Asked,
+  Reads'.Learnt,
   Reads'11.Asked,
   Reads'11.Learnt,
-  Reads'6.Asked,
-  Reads'6.Learnt,
   Reads'5.Asked,
   Reads'5.Learnt,
+  Reads'4.Asked,
+  Reads'4.Learnt,
+  Reads'6.Asked,
+  Reads'6.Learnt,
   Reads'7.Asked,
   Reads'7.Learnt,
-  Reads.Asked,
-  Reads.Learnt,
   Reads'8.Asked,
   Reads'8.Learnt,
-) Reads'.Pre Reads'.Post
+) Reads.Pre Reads.Post
 
 abbrev pub After-place-route : Type 0
 After-place-route = Lts.After-place-route (
-  Reads'3.Asked,
-  Reads'3.Learnt,
-  Reads'10.Asked,
-  Reads'10.Learnt,
-  Reads'4.Asked,
-  Reads'4.Learnt,
-  Reads'9.Asked,
-  Reads'9.Learnt,
   Reads''.Asked,
   Reads''.Learnt,
+  Reads'10.Asked,
+  Reads'10.Learnt,
+  Reads'3.Asked,
+  Reads'3.Learnt,
+  Reads'9.Asked,
+  Reads'9.Learnt,
+  Reads'.Asked,
+  Reads'.Learnt,
   Reads'11.Asked,
   Reads'11.Learnt,
-  Reads'6.Asked,
-  Reads'6.Learnt,
   Reads'5.Asked,
   Reads'5.Learnt,
+  Reads'4.Asked,
+  Reads'4.Learnt,
+  Reads'6.Asked,
+  Reads'6.Learnt,
   Reads'7.Asked,
   Reads'7.Learnt,
-  Reads.Asked,
-  Reads.Learnt,
   Reads'8.Asked,
   Reads'8.Learnt,
-) Reads'.Pre Reads'.Post
+) Reads.Pre Reads.Post
 
 abbrev pub After-has-room : Type 0
 After-has-room = Lts.After-has-room (
-  Reads'3.Asked,
-  Reads'3.Learnt,
-  Reads'10.Asked,
-  Reads'10.Learnt,
-  Reads'4.Asked,
-  Reads'4.Learnt,
-  Reads'9.Asked,
-  Reads'9.Learnt,
   Reads''.Asked,
   Reads''.Learnt,
+  Reads'10.Asked,
+  Reads'10.Learnt,
+  Reads'3.Asked,
+  Reads'3.Learnt,
+  Reads'9.Asked,
+  Reads'9.Learnt,
+  Reads'.Asked,
+  Reads'.Learnt,
   Reads'11.Asked,
   Reads'11.Learnt,
-  Reads'6.Asked,
-  Reads'6.Learnt,
   Reads'5.Asked,
   Reads'5.Learnt,
+  Reads'4.Asked,
+  Reads'4.Learnt,
+  Reads'6.Asked,
+  Reads'6.Learnt,
   Reads'7.Asked,
   Reads'7.Learnt,
-  Reads.Asked,
-  Reads.Learnt,
   Reads'8.Asked,
   Reads'8.Learnt,
-) Reads'.Pre Reads'.Post
+) Reads.Pre Reads.Post
 
 abbrev pub Then1 : Type 0
 Then1 = Lts.Then1 (
-  Reads'3.Asked,
-  Reads'3.Learnt,
-  Reads'10.Asked,
-  Reads'10.Learnt,
-  Reads'4.Asked,
-  Reads'4.Learnt,
-  Reads'9.Asked,
-  Reads'9.Learnt,
   Reads''.Asked,
   Reads''.Learnt,
+  Reads'10.Asked,
+  Reads'10.Learnt,
+  Reads'3.Asked,
+  Reads'3.Learnt,
+  Reads'9.Asked,
+  Reads'9.Learnt,
+  Reads'.Asked,
+  Reads'.Learnt,
   Reads'11.Asked,
   Reads'11.Learnt,
-  Reads'6.Asked,
-  Reads'6.Learnt,
   Reads'5.Asked,
   Reads'5.Learnt,
+  Reads'4.Asked,
+  Reads'4.Learnt,
+  Reads'6.Asked,
+  Reads'6.Learnt,
   Reads'7.Asked,
   Reads'7.Learnt,
-  Reads.Asked,
-  Reads.Learnt,
   Reads'8.Asked,
   Reads'8.Learnt,
-) Reads'.Pre Reads'.Post
+) Reads.Pre Reads.Post
 
 abbrev pub After-put-post-arg : Type 0
 After-put-post-arg = Lts.After-put-post-arg (
-  Reads'3.Asked,
-  Reads'3.Learnt,
-  Reads'10.Asked,
-  Reads'10.Learnt,
-  Reads'4.Asked,
-  Reads'4.Learnt,
-  Reads'9.Asked,
-  Reads'9.Learnt,
   Reads''.Asked,
   Reads''.Learnt,
+  Reads'10.Asked,
+  Reads'10.Learnt,
+  Reads'3.Asked,
+  Reads'3.Learnt,
+  Reads'9.Asked,
+  Reads'9.Learnt,
+  Reads'.Asked,
+  Reads'.Learnt,
   Reads'11.Asked,
   Reads'11.Learnt,
-  Reads'6.Asked,
-  Reads'6.Learnt,
   Reads'5.Asked,
   Reads'5.Learnt,
+  Reads'4.Asked,
+  Reads'4.Learnt,
+  Reads'6.Asked,
+  Reads'6.Learnt,
   Reads'7.Asked,
   Reads'7.Learnt,
-  Reads.Asked,
-  Reads.Learnt,
   Reads'8.Asked,
   Reads'8.Learnt,
-) Reads'.Pre Reads'.Post
+) Reads.Pre Reads.Post
 
 abbrev pub After-o : Type 0
 After-o = Lts.After-o (
-  Reads'3.Asked,
-  Reads'3.Learnt,
-  Reads'10.Asked,
-  Reads'10.Learnt,
-  Reads'4.Asked,
-  Reads'4.Learnt,
-  Reads'9.Asked,
-  Reads'9.Learnt,
   Reads''.Asked,
   Reads''.Learnt,
+  Reads'10.Asked,
+  Reads'10.Learnt,
+  Reads'3.Asked,
+  Reads'3.Learnt,
+  Reads'9.Asked,
+  Reads'9.Learnt,
+  Reads'.Asked,
+  Reads'.Learnt,
   Reads'11.Asked,
   Reads'11.Learnt,
-  Reads'6.Asked,
-  Reads'6.Learnt,
   Reads'5.Asked,
   Reads'5.Learnt,
+  Reads'4.Asked,
+  Reads'4.Learnt,
+  Reads'6.Asked,
+  Reads'6.Learnt,
   Reads'7.Asked,
   Reads'7.Learnt,
-  Reads.Asked,
-  Reads.Learnt,
   Reads'8.Asked,
   Reads'8.Learnt,
-) Reads'.Pre Reads'.Post
+) Reads.Pre Reads.Post
 
 abbrev pub After-put-post : Type 0
 After-put-post = Lts.After-put-post (
-  Reads'3.Asked,
-  Reads'3.Learnt,
-  Reads'10.Asked,
-  Reads'10.Learnt,
-  Reads'4.Asked,
-  Reads'4.Learnt,
-  Reads'9.Asked,
-  Reads'9.Learnt,
   Reads''.Asked,
   Reads''.Learnt,
+  Reads'10.Asked,
+  Reads'10.Learnt,
+  Reads'3.Asked,
+  Reads'3.Learnt,
+  Reads'9.Asked,
+  Reads'9.Learnt,
+  Reads'.Asked,
+  Reads'.Learnt,
   Reads'11.Asked,
   Reads'11.Learnt,
-  Reads'6.Asked,
-  Reads'6.Learnt,
   Reads'5.Asked,
   Reads'5.Learnt,
+  Reads'4.Asked,
+  Reads'4.Learnt,
+  Reads'6.Asked,
+  Reads'6.Learnt,
   Reads'7.Asked,
   Reads'7.Learnt,
-  Reads.Asked,
-  Reads.Learnt,
   Reads'8.Asked,
   Reads'8.Learnt,
-) Reads'.Pre Reads'.Post
+) Reads.Pre Reads.Post
 
 abbrev pub After-forward : Type 0
 After-forward = Lts.After-forward (
-  Reads'3.Asked,
-  Reads'3.Learnt,
-  Reads'10.Asked,
-  Reads'10.Learnt,
-  Reads'4.Asked,
-  Reads'4.Learnt,
-  Reads'9.Asked,
-  Reads'9.Learnt,
   Reads''.Asked,
   Reads''.Learnt,
+  Reads'10.Asked,
+  Reads'10.Learnt,
+  Reads'3.Asked,
+  Reads'3.Learnt,
+  Reads'9.Asked,
+  Reads'9.Learnt,
+  Reads'.Asked,
+  Reads'.Learnt,
   Reads'11.Asked,
   Reads'11.Learnt,
-  Reads'6.Asked,
-  Reads'6.Learnt,
   Reads'5.Asked,
   Reads'5.Learnt,
+  Reads'4.Asked,
+  Reads'4.Learnt,
+  Reads'6.Asked,
+  Reads'6.Learnt,
   Reads'7.Asked,
   Reads'7.Learnt,
-  Reads.Asked,
-  Reads.Learnt,
   Reads'8.Asked,
   Reads'8.Learnt,
-) Reads'.Pre Reads'.Post
+) Reads.Pre Reads.Post
 
 abbrev pub After-slice-known3 : Type 0
 After-slice-known3 = Lts.After-slice-known3 (
-  Reads'3.Asked,
-  Reads'3.Learnt,
-  Reads'10.Asked,
-  Reads'10.Learnt,
-  Reads'4.Asked,
-  Reads'4.Learnt,
-  Reads'9.Asked,
-  Reads'9.Learnt,
   Reads''.Asked,
   Reads''.Learnt,
+  Reads'10.Asked,
+  Reads'10.Learnt,
+  Reads'3.Asked,
+  Reads'3.Learnt,
+  Reads'9.Asked,
+  Reads'9.Learnt,
+  Reads'.Asked,
+  Reads'.Learnt,
   Reads'11.Asked,
   Reads'11.Learnt,
-  Reads'6.Asked,
-  Reads'6.Learnt,
   Reads'5.Asked,
   Reads'5.Learnt,
+  Reads'4.Asked,
+  Reads'4.Learnt,
+  Reads'6.Asked,
+  Reads'6.Learnt,
   Reads'7.Asked,
   Reads'7.Learnt,
-  Reads.Asked,
-  Reads.Learnt,
   Reads'8.Asked,
   Reads'8.Learnt,
-) Reads'.Pre Reads'.Post
+) Reads.Pre Reads.Post
 
 abbrev pub After-put-post-arg2 : Type 0
 After-put-post-arg2 = Lts.After-put-post-arg2 (
-  Reads'3.Asked,
-  Reads'3.Learnt,
-  Reads'10.Asked,
-  Reads'10.Learnt,
-  Reads'4.Asked,
-  Reads'4.Learnt,
-  Reads'9.Asked,
-  Reads'9.Learnt,
   Reads''.Asked,
   Reads''.Learnt,
+  Reads'10.Asked,
+  Reads'10.Learnt,
+  Reads'3.Asked,
+  Reads'3.Learnt,
+  Reads'9.Asked,
+  Reads'9.Learnt,
+  Reads'.Asked,
+  Reads'.Learnt,
   Reads'11.Asked,
   Reads'11.Learnt,
-  Reads'6.Asked,
-  Reads'6.Learnt,
   Reads'5.Asked,
   Reads'5.Learnt,
+  Reads'4.Asked,
+  Reads'4.Learnt,
+  Reads'6.Asked,
+  Reads'6.Learnt,
   Reads'7.Asked,
   Reads'7.Learnt,
-  Reads.Asked,
-  Reads.Learnt,
   Reads'8.Asked,
   Reads'8.Learnt,
-) Reads'.Pre Reads'.Post
+) Reads.Pre Reads.Post
 
 abbrev pub After-o2 : Type 0
 After-o2 = Lts.After-o2 (
-  Reads'3.Asked,
-  Reads'3.Learnt,
-  Reads'10.Asked,
-  Reads'10.Learnt,
-  Reads'4.Asked,
-  Reads'4.Learnt,
-  Reads'9.Asked,
-  Reads'9.Learnt,
   Reads''.Asked,
   Reads''.Learnt,
+  Reads'10.Asked,
+  Reads'10.Learnt,
+  Reads'3.Asked,
+  Reads'3.Learnt,
+  Reads'9.Asked,
+  Reads'9.Learnt,
+  Reads'.Asked,
+  Reads'.Learnt,
   Reads'11.Asked,
   Reads'11.Learnt,
-  Reads'6.Asked,
-  Reads'6.Learnt,
   Reads'5.Asked,
   Reads'5.Learnt,
+  Reads'4.Asked,
+  Reads'4.Learnt,
+  Reads'6.Asked,
+  Reads'6.Learnt,
   Reads'7.Asked,
   Reads'7.Learnt,
-  Reads.Asked,
-  Reads.Learnt,
   Reads'8.Asked,
   Reads'8.Learnt,
-) Reads'.Pre Reads'.Post
+) Reads.Pre Reads.Post
 
 abbrev pub After-put-post2 : Type 0
 After-put-post2 = Lts.After-put-post2 (
-  Reads'3.Asked,
-  Reads'3.Learnt,
-  Reads'10.Asked,
-  Reads'10.Learnt,
-  Reads'4.Asked,
-  Reads'4.Learnt,
-  Reads'9.Asked,
-  Reads'9.Learnt,
   Reads''.Asked,
   Reads''.Learnt,
+  Reads'10.Asked,
+  Reads'10.Learnt,
+  Reads'3.Asked,
+  Reads'3.Learnt,
+  Reads'9.Asked,
+  Reads'9.Learnt,
+  Reads'.Asked,
+  Reads'.Learnt,
   Reads'11.Asked,
   Reads'11.Learnt,
-  Reads'6.Asked,
-  Reads'6.Learnt,
   Reads'5.Asked,
   Reads'5.Learnt,
+  Reads'4.Asked,
+  Reads'4.Learnt,
+  Reads'6.Asked,
+  Reads'6.Learnt,
   Reads'7.Asked,
   Reads'7.Learnt,
-  Reads.Asked,
-  Reads.Learnt,
   Reads'8.Asked,
   Reads'8.Learnt,
-) Reads'.Pre Reads'.Post
+) Reads.Pre Reads.Post
 
 abbrev pub After-reply : Type 0
 After-reply = Lts.After-reply (
-  Reads'3.Asked,
-  Reads'3.Learnt,
-  Reads'10.Asked,
-  Reads'10.Learnt,
-  Reads'4.Asked,
-  Reads'4.Learnt,
-  Reads'9.Asked,
-  Reads'9.Learnt,
   Reads''.Asked,
   Reads''.Learnt,
+  Reads'10.Asked,
+  Reads'10.Learnt,
+  Reads'3.Asked,
+  Reads'3.Learnt,
+  Reads'9.Asked,
+  Reads'9.Learnt,
+  Reads'.Asked,
+  Reads'.Learnt,
   Reads'11.Asked,
   Reads'11.Learnt,
-  Reads'6.Asked,
-  Reads'6.Learnt,
   Reads'5.Asked,
   Reads'5.Learnt,
+  Reads'4.Asked,
+  Reads'4.Learnt,
+  Reads'6.Asked,
+  Reads'6.Learnt,
   Reads'7.Asked,
   Reads'7.Learnt,
-  Reads.Asked,
-  Reads.Learnt,
   Reads'8.Asked,
   Reads'8.Learnt,
-) Reads'.Pre Reads'.Post
+) Reads.Pre Reads.Post
 
 abbrev pub After-slice-known4 : Type 0
 After-slice-known4 = Lts.After-slice-known4 (
-  Reads'3.Asked,
-  Reads'3.Learnt,
-  Reads'10.Asked,
-  Reads'10.Learnt,
-  Reads'4.Asked,
-  Reads'4.Learnt,
-  Reads'9.Asked,
-  Reads'9.Learnt,
   Reads''.Asked,
   Reads''.Learnt,
+  Reads'10.Asked,
+  Reads'10.Learnt,
+  Reads'3.Asked,
+  Reads'3.Learnt,
+  Reads'9.Asked,
+  Reads'9.Learnt,
+  Reads'.Asked,
+  Reads'.Learnt,
   Reads'11.Asked,
   Reads'11.Learnt,
-  Reads'6.Asked,
-  Reads'6.Learnt,
   Reads'5.Asked,
   Reads'5.Learnt,
+  Reads'4.Asked,
+  Reads'4.Learnt,
+  Reads'6.Asked,
+  Reads'6.Learnt,
   Reads'7.Asked,
   Reads'7.Learnt,
-  Reads.Asked,
-  Reads.Learnt,
   Reads'8.Asked,
   Reads'8.Learnt,
-) Reads'.Pre Reads'.Post
+) Reads.Pre Reads.Post
 
 abbrev pub After-store-arg : Type 0
 After-store-arg = Lts.After-store-arg (
-  Reads'3.Asked,
-  Reads'3.Learnt,
-  Reads'10.Asked,
-  Reads'10.Learnt,
-  Reads'4.Asked,
-  Reads'4.Learnt,
-  Reads'9.Asked,
-  Reads'9.Learnt,
   Reads''.Asked,
   Reads''.Learnt,
+  Reads'10.Asked,
+  Reads'10.Learnt,
+  Reads'3.Asked,
+  Reads'3.Learnt,
+  Reads'9.Asked,
+  Reads'9.Learnt,
+  Reads'.Asked,
+  Reads'.Learnt,
   Reads'11.Asked,
   Reads'11.Learnt,
-  Reads'6.Asked,
-  Reads'6.Learnt,
   Reads'5.Asked,
   Reads'5.Learnt,
+  Reads'4.Asked,
+  Reads'4.Learnt,
+  Reads'6.Asked,
+  Reads'6.Learnt,
   Reads'7.Asked,
   Reads'7.Learnt,
-  Reads.Asked,
-  Reads.Learnt,
   Reads'8.Asked,
   Reads'8.Learnt,
-) Reads'.Pre Reads'.Post
+) Reads.Pre Reads.Post
 
 abbrev pub After-store-arg2 : Type 0
 After-store-arg2 = Lts.After-store-arg2 (
-  Reads'3.Asked,
-  Reads'3.Learnt,
-  Reads'10.Asked,
-  Reads'10.Learnt,
-  Reads'4.Asked,
-  Reads'4.Learnt,
-  Reads'9.Asked,
-  Reads'9.Learnt,
   Reads''.Asked,
   Reads''.Learnt,
+  Reads'10.Asked,
+  Reads'10.Learnt,
+  Reads'3.Asked,
+  Reads'3.Learnt,
+  Reads'9.Asked,
+  Reads'9.Learnt,
+  Reads'.Asked,
+  Reads'.Learnt,
   Reads'11.Asked,
   Reads'11.Learnt,
-  Reads'6.Asked,
-  Reads'6.Learnt,
   Reads'5.Asked,
   Reads'5.Learnt,
+  Reads'4.Asked,
+  Reads'4.Learnt,
+  Reads'6.Asked,
+  Reads'6.Learnt,
   Reads'7.Asked,
   Reads'7.Learnt,
-  Reads.Asked,
-  Reads.Learnt,
   Reads'8.Asked,
   Reads'8.Learnt,
-) Reads'.Pre Reads'.Post
+) Reads.Pre Reads.Post
 
 abbrev pub After-store : Type 0
 After-store = Lts.After-store (
-  Reads'3.Asked,
-  Reads'3.Learnt,
-  Reads'10.Asked,
-  Reads'10.Learnt,
-  Reads'4.Asked,
-  Reads'4.Learnt,
-  Reads'9.Asked,
-  Reads'9.Learnt,
   Reads''.Asked,
   Reads''.Learnt,
+  Reads'10.Asked,
+  Reads'10.Learnt,
+  Reads'3.Asked,
+  Reads'3.Learnt,
+  Reads'9.Asked,
+  Reads'9.Learnt,
+  Reads'.Asked,
+  Reads'.Learnt,
   Reads'11.Asked,
   Reads'11.Learnt,
-  Reads'6.Asked,
-  Reads'6.Learnt,
   Reads'5.Asked,
   Reads'5.Learnt,
+  Reads'4.Asked,
+  Reads'4.Learnt,
+  Reads'6.Asked,
+  Reads'6.Learnt,
   Reads'7.Asked,
   Reads'7.Learnt,
-  Reads.Asked,
-  Reads.Learnt,
   Reads'8.Asked,
   Reads'8.Learnt,
-) Reads'.Pre Reads'.Post
+) Reads.Pre Reads.Post
 
 abbrev pub After-instances : Type 0
 After-instances = Lts.After-instances (
-  Reads'3.Asked,
-  Reads'3.Learnt,
-  Reads'10.Asked,
-  Reads'10.Learnt,
-  Reads'4.Asked,
-  Reads'4.Learnt,
-  Reads'9.Asked,
-  Reads'9.Learnt,
   Reads''.Asked,
   Reads''.Learnt,
+  Reads'10.Asked,
+  Reads'10.Learnt,
+  Reads'3.Asked,
+  Reads'3.Learnt,
+  Reads'9.Asked,
+  Reads'9.Learnt,
+  Reads'.Asked,
+  Reads'.Learnt,
   Reads'11.Asked,
   Reads'11.Learnt,
-  Reads'6.Asked,
-  Reads'6.Learnt,
   Reads'5.Asked,
   Reads'5.Learnt,
+  Reads'4.Asked,
+  Reads'4.Learnt,
+  Reads'6.Asked,
+  Reads'6.Learnt,
   Reads'7.Asked,
   Reads'7.Learnt,
-  Reads.Asked,
-  Reads.Learnt,
   Reads'8.Asked,
   Reads'8.Learnt,
-) Reads'.Pre Reads'.Post
+) Reads.Pre Reads.Post
 
 abbrev pub After-routes : Type 0
 After-routes = Lts.After-routes (
-  Reads'3.Asked,
-  Reads'3.Learnt,
-  Reads'10.Asked,
-  Reads'10.Learnt,
-  Reads'4.Asked,
-  Reads'4.Learnt,
-  Reads'9.Asked,
-  Reads'9.Learnt,
   Reads''.Asked,
   Reads''.Learnt,
+  Reads'10.Asked,
+  Reads'10.Learnt,
+  Reads'3.Asked,
+  Reads'3.Learnt,
+  Reads'9.Asked,
+  Reads'9.Learnt,
+  Reads'.Asked,
+  Reads'.Learnt,
   Reads'11.Asked,
   Reads'11.Learnt,
-  Reads'6.Asked,
-  Reads'6.Learnt,
   Reads'5.Asked,
   Reads'5.Learnt,
+  Reads'4.Asked,
+  Reads'4.Learnt,
+  Reads'6.Asked,
+  Reads'6.Learnt,
   Reads'7.Asked,
   Reads'7.Learnt,
-  Reads.Asked,
-  Reads.Learnt,
   Reads'8.Asked,
   Reads'8.Learnt,
-) Reads'.Pre Reads'.Post
+) Reads.Pre Reads.Post
 
 abbrev pub After-own-of-arg : Type 0
 After-own-of-arg = Lts.After-own-of-arg (
-  Reads'3.Asked,
-  Reads'3.Learnt,
-  Reads'10.Asked,
-  Reads'10.Learnt,
-  Reads'4.Asked,
-  Reads'4.Learnt,
-  Reads'9.Asked,
-  Reads'9.Learnt,
   Reads''.Asked,
   Reads''.Learnt,
+  Reads'10.Asked,
+  Reads'10.Learnt,
+  Reads'3.Asked,
+  Reads'3.Learnt,
+  Reads'9.Asked,
+  Reads'9.Learnt,
+  Reads'.Asked,
+  Reads'.Learnt,
   Reads'11.Asked,
   Reads'11.Learnt,
-  Reads'6.Asked,
-  Reads'6.Learnt,
   Reads'5.Asked,
   Reads'5.Learnt,
+  Reads'4.Asked,
+  Reads'4.Learnt,
+  Reads'6.Asked,
+  Reads'6.Learnt,
   Reads'7.Asked,
   Reads'7.Learnt,
-  Reads.Asked,
-  Reads.Learnt,
   Reads'8.Asked,
   Reads'8.Learnt,
-) Reads'.Pre Reads'.Post
+) Reads.Pre Reads.Post
 
 abbrev pub After-own-of : Type 0
 After-own-of = Lts.After-own-of (
-  Reads'3.Asked,
-  Reads'3.Learnt,
-  Reads'10.Asked,
-  Reads'10.Learnt,
-  Reads'4.Asked,
-  Reads'4.Learnt,
-  Reads'9.Asked,
-  Reads'9.Learnt,
   Reads''.Asked,
   Reads''.Learnt,
+  Reads'10.Asked,
+  Reads'10.Learnt,
+  Reads'3.Asked,
+  Reads'3.Learnt,
+  Reads'9.Asked,
+  Reads'9.Learnt,
+  Reads'.Asked,
+  Reads'.Learnt,
   Reads'11.Asked,
   Reads'11.Learnt,
-  Reads'6.Asked,
-  Reads'6.Learnt,
   Reads'5.Asked,
   Reads'5.Learnt,
+  Reads'4.Asked,
+  Reads'4.Learnt,
+  Reads'6.Asked,
+  Reads'6.Learnt,
   Reads'7.Asked,
   Reads'7.Learnt,
-  Reads.Asked,
-  Reads.Learnt,
   Reads'8.Asked,
   Reads'8.Learnt,
-) Reads'.Pre Reads'.Post
+) Reads.Pre Reads.Post
 
 abbrev pub After-to-of-arg : Type 0
 After-to-of-arg = Lts.After-to-of-arg (
-  Reads'3.Asked,
-  Reads'3.Learnt,
-  Reads'10.Asked,
-  Reads'10.Learnt,
-  Reads'4.Asked,
-  Reads'4.Learnt,
-  Reads'9.Asked,
-  Reads'9.Learnt,
   Reads''.Asked,
   Reads''.Learnt,
+  Reads'10.Asked,
+  Reads'10.Learnt,
+  Reads'3.Asked,
+  Reads'3.Learnt,
+  Reads'9.Asked,
+  Reads'9.Learnt,
+  Reads'.Asked,
+  Reads'.Learnt,
   Reads'11.Asked,
   Reads'11.Learnt,
-  Reads'6.Asked,
-  Reads'6.Learnt,
   Reads'5.Asked,
   Reads'5.Learnt,
+  Reads'4.Asked,
+  Reads'4.Learnt,
+  Reads'6.Asked,
+  Reads'6.Learnt,
   Reads'7.Asked,
   Reads'7.Learnt,
-  Reads.Asked,
-  Reads.Learnt,
   Reads'8.Asked,
   Reads'8.Learnt,
-) Reads'.Pre Reads'.Post
+) Reads.Pre Reads.Post
 
 abbrev pub After-to-of : Type 0
 After-to-of = Lts.After-to-of (
-  Reads'3.Asked,
-  Reads'3.Learnt,
-  Reads'10.Asked,
-  Reads'10.Learnt,
-  Reads'4.Asked,
-  Reads'4.Learnt,
-  Reads'9.Asked,
-  Reads'9.Learnt,
   Reads''.Asked,
   Reads''.Learnt,
+  Reads'10.Asked,
+  Reads'10.Learnt,
+  Reads'3.Asked,
+  Reads'3.Learnt,
+  Reads'9.Asked,
+  Reads'9.Learnt,
+  Reads'.Asked,
+  Reads'.Learnt,
   Reads'11.Asked,
   Reads'11.Learnt,
-  Reads'6.Asked,
-  Reads'6.Learnt,
   Reads'5.Asked,
   Reads'5.Learnt,
+  Reads'4.Asked,
+  Reads'4.Learnt,
+  Reads'6.Asked,
+  Reads'6.Learnt,
   Reads'7.Asked,
   Reads'7.Learnt,
-  Reads.Asked,
-  Reads.Learnt,
   Reads'8.Asked,
   Reads'8.Learnt,
-) Reads'.Pre Reads'.Post
+) Reads.Pre Reads.Post
 
 abbrev pub After-to-of-arg2 : Type 0
 After-to-of-arg2 = Lts.After-to-of-arg2 (
-  Reads'3.Asked,
-  Reads'3.Learnt,
-  Reads'10.Asked,
-  Reads'10.Learnt,
-  Reads'4.Asked,
-  Reads'4.Learnt,
-  Reads'9.Asked,
-  Reads'9.Learnt,
   Reads''.Asked,
   Reads''.Learnt,
+  Reads'10.Asked,
+  Reads'10.Learnt,
+  Reads'3.Asked,
+  Reads'3.Learnt,
+  Reads'9.Asked,
+  Reads'9.Learnt,
+  Reads'.Asked,
+  Reads'.Learnt,
   Reads'11.Asked,
   Reads'11.Learnt,
-  Reads'6.Asked,
-  Reads'6.Learnt,
   Reads'5.Asked,
   Reads'5.Learnt,
+  Reads'4.Asked,
+  Reads'4.Learnt,
+  Reads'6.Asked,
+  Reads'6.Learnt,
   Reads'7.Asked,
   Reads'7.Learnt,
-  Reads.Asked,
-  Reads.Learnt,
   Reads'8.Asked,
   Reads'8.Learnt,
-) Reads'.Pre Reads'.Post
+) Reads.Pre Reads.Post
 
 abbrev pub After-to-of2 : Type 0
 After-to-of2 = Lts.After-to-of2 (
-  Reads'3.Asked,
-  Reads'3.Learnt,
-  Reads'10.Asked,
-  Reads'10.Learnt,
-  Reads'4.Asked,
-  Reads'4.Learnt,
-  Reads'9.Asked,
-  Reads'9.Learnt,
   Reads''.Asked,
   Reads''.Learnt,
+  Reads'10.Asked,
+  Reads'10.Learnt,
+  Reads'3.Asked,
+  Reads'3.Learnt,
+  Reads'9.Asked,
+  Reads'9.Learnt,
+  Reads'.Asked,
+  Reads'.Learnt,
   Reads'11.Asked,
   Reads'11.Learnt,
-  Reads'6.Asked,
-  Reads'6.Learnt,
   Reads'5.Asked,
   Reads'5.Learnt,
+  Reads'4.Asked,
+  Reads'4.Learnt,
+  Reads'6.Asked,
+  Reads'6.Learnt,
   Reads'7.Asked,
   Reads'7.Learnt,
-  Reads.Asked,
-  Reads.Learnt,
   Reads'8.Asked,
   Reads'8.Learnt,
-) Reads'.Pre Reads'.Post
+) Reads.Pre Reads.Post
 
 abbrev pub After-accepted : Type 0
 After-accepted = Lts.After-accepted (
-  Reads'3.Asked,
-  Reads'3.Learnt,
-  Reads'10.Asked,
-  Reads'10.Learnt,
-  Reads'4.Asked,
-  Reads'4.Learnt,
-  Reads'9.Asked,
-  Reads'9.Learnt,
   Reads''.Asked,
   Reads''.Learnt,
+  Reads'10.Asked,
+  Reads'10.Learnt,
+  Reads'3.Asked,
+  Reads'3.Learnt,
+  Reads'9.Asked,
+  Reads'9.Learnt,
+  Reads'.Asked,
+  Reads'.Learnt,
   Reads'11.Asked,
   Reads'11.Learnt,
-  Reads'6.Asked,
-  Reads'6.Learnt,
   Reads'5.Asked,
   Reads'5.Learnt,
+  Reads'4.Asked,
+  Reads'4.Learnt,
+  Reads'6.Asked,
+  Reads'6.Learnt,
   Reads'7.Asked,
   Reads'7.Learnt,
-  Reads.Asked,
-  Reads.Learnt,
   Reads'8.Asked,
   Reads'8.Learnt,
-) Reads'.Pre Reads'.Post
+) Reads.Pre Reads.Post
 
 abbrev pub Else1 : Type 0
 Else1 = Lts.Else1 (
-  Reads'3.Asked,
-  Reads'3.Learnt,
-  Reads'10.Asked,
-  Reads'10.Learnt,
-  Reads'4.Asked,
-  Reads'4.Learnt,
-  Reads'9.Asked,
-  Reads'9.Learnt,
   Reads''.Asked,
   Reads''.Learnt,
+  Reads'10.Asked,
+  Reads'10.Learnt,
+  Reads'3.Asked,
+  Reads'3.Learnt,
+  Reads'9.Asked,
+  Reads'9.Learnt,
+  Reads'.Asked,
+  Reads'.Learnt,
   Reads'11.Asked,
   Reads'11.Learnt,
-  Reads'6.Asked,
-  Reads'6.Learnt,
   Reads'5.Asked,
   Reads'5.Learnt,
+  Reads'4.Asked,
+  Reads'4.Learnt,
+  Reads'6.Asked,
+  Reads'6.Learnt,
   Reads'7.Asked,
   Reads'7.Learnt,
-  Reads.Asked,
-  Reads.Learnt,
   Reads'8.Asked,
   Reads'8.Learnt,
-) Reads'.Pre Reads'.Post
+) Reads.Pre Reads.Post
 
 abbrev pub After-without-room : Type 0
 After-without-room = Lts.After-without-room (
-  Reads'3.Asked,
-  Reads'3.Learnt,
-  Reads'10.Asked,
-  Reads'10.Learnt,
-  Reads'4.Asked,
-  Reads'4.Learnt,
-  Reads'9.Asked,
-  Reads'9.Learnt,
   Reads''.Asked,
   Reads''.Learnt,
+  Reads'10.Asked,
+  Reads'10.Learnt,
+  Reads'3.Asked,
+  Reads'3.Learnt,
+  Reads'9.Asked,
+  Reads'9.Learnt,
+  Reads'.Asked,
+  Reads'.Learnt,
   Reads'11.Asked,
   Reads'11.Learnt,
-  Reads'6.Asked,
-  Reads'6.Learnt,
   Reads'5.Asked,
   Reads'5.Learnt,
+  Reads'4.Asked,
+  Reads'4.Learnt,
+  Reads'6.Asked,
+  Reads'6.Learnt,
   Reads'7.Asked,
   Reads'7.Learnt,
-  Reads.Asked,
-  Reads.Learnt,
   Reads'8.Asked,
   Reads'8.Learnt,
-) Reads'.Pre Reads'.Post
+) Reads.Pre Reads.Post
 
 abbrev pub Need-is-replying-requires : Type 0
 Need-is-replying-requires = Lts.Need-is-replying-requires (
-  Reads'3.Asked,
-  Reads'3.Learnt,
-  Reads'10.Asked,
-  Reads'10.Learnt,
-  Reads'4.Asked,
-  Reads'4.Learnt,
-  Reads'9.Asked,
-  Reads'9.Learnt,
   Reads''.Asked,
   Reads''.Learnt,
+  Reads'10.Asked,
+  Reads'10.Learnt,
+  Reads'3.Asked,
+  Reads'3.Learnt,
+  Reads'9.Asked,
+  Reads'9.Learnt,
+  Reads'.Asked,
+  Reads'.Learnt,
   Reads'11.Asked,
   Reads'11.Learnt,
-  Reads'6.Asked,
-  Reads'6.Learnt,
   Reads'5.Asked,
   Reads'5.Learnt,
+  Reads'4.Asked,
+  Reads'4.Learnt,
+  Reads'6.Asked,
+  Reads'6.Learnt,
   Reads'7.Asked,
   Reads'7.Learnt,
-  Reads.Asked,
-  Reads.Learnt,
   Reads'8.Asked,
   Reads'8.Learnt,
-) Reads'.Pre Reads'.Post
+) Reads.Pre Reads.Post
 
 abbrev pub Need-place-rows-requires : Type 0
 Need-place-rows-requires = Lts.Need-place-rows-requires (
-  Reads'3.Asked,
-  Reads'3.Learnt,
-  Reads'10.Asked,
-  Reads'10.Learnt,
-  Reads'4.Asked,
-  Reads'4.Learnt,
-  Reads'9.Asked,
-  Reads'9.Learnt,
   Reads''.Asked,
   Reads''.Learnt,
+  Reads'10.Asked,
+  Reads'10.Learnt,
+  Reads'3.Asked,
+  Reads'3.Learnt,
+  Reads'9.Asked,
+  Reads'9.Learnt,
+  Reads'.Asked,
+  Reads'.Learnt,
   Reads'11.Asked,
   Reads'11.Learnt,
-  Reads'6.Asked,
-  Reads'6.Learnt,
   Reads'5.Asked,
   Reads'5.Learnt,
+  Reads'4.Asked,
+  Reads'4.Learnt,
+  Reads'6.Asked,
+  Reads'6.Learnt,
   Reads'7.Asked,
   Reads'7.Learnt,
-  Reads.Asked,
-  Reads.Learnt,
   Reads'8.Asked,
   Reads'8.Learnt,
-) Reads'.Pre Reads'.Post
+) Reads.Pre Reads.Post
 
 abbrev pub Need-is-routed-requires : Type 0
 Need-is-routed-requires = Lts.Need-is-routed-requires (
-  Reads'3.Asked,
-  Reads'3.Learnt,
-  Reads'10.Asked,
-  Reads'10.Learnt,
-  Reads'4.Asked,
-  Reads'4.Learnt,
-  Reads'9.Asked,
-  Reads'9.Learnt,
   Reads''.Asked,
   Reads''.Learnt,
+  Reads'10.Asked,
+  Reads'10.Learnt,
+  Reads'3.Asked,
+  Reads'3.Learnt,
+  Reads'9.Asked,
+  Reads'9.Learnt,
+  Reads'.Asked,
+  Reads'.Learnt,
   Reads'11.Asked,
   Reads'11.Learnt,
-  Reads'6.Asked,
-  Reads'6.Learnt,
   Reads'5.Asked,
   Reads'5.Learnt,
+  Reads'4.Asked,
+  Reads'4.Learnt,
+  Reads'6.Asked,
+  Reads'6.Learnt,
   Reads'7.Asked,
   Reads'7.Learnt,
-  Reads.Asked,
-  Reads.Learnt,
   Reads'8.Asked,
   Reads'8.Learnt,
-) Reads'.Pre Reads'.Post
+) Reads.Pre Reads.Post
 
 abbrev pub Need-place-route-requires : Type 0
 Need-place-route-requires = Lts.Need-place-route-requires (
-  Reads'3.Asked,
-  Reads'3.Learnt,
-  Reads'10.Asked,
-  Reads'10.Learnt,
-  Reads'4.Asked,
-  Reads'4.Learnt,
-  Reads'9.Asked,
-  Reads'9.Learnt,
   Reads''.Asked,
   Reads''.Learnt,
+  Reads'10.Asked,
+  Reads'10.Learnt,
+  Reads'3.Asked,
+  Reads'3.Learnt,
+  Reads'9.Asked,
+  Reads'9.Learnt,
+  Reads'.Asked,
+  Reads'.Learnt,
   Reads'11.Asked,
   Reads'11.Learnt,
-  Reads'6.Asked,
-  Reads'6.Learnt,
   Reads'5.Asked,
   Reads'5.Learnt,
+  Reads'4.Asked,
+  Reads'4.Learnt,
+  Reads'6.Asked,
+  Reads'6.Learnt,
   Reads'7.Asked,
   Reads'7.Learnt,
-  Reads.Asked,
-  Reads.Learnt,
   Reads'8.Asked,
   Reads'8.Learnt,
-) Reads'.Pre Reads'.Post
+) Reads.Pre Reads.Post
 
 abbrev pub Need-has-room-requires : Type 0
 Need-has-room-requires = Lts.Need-has-room-requires (
-  Reads'3.Asked,
-  Reads'3.Learnt,
-  Reads'10.Asked,
-  Reads'10.Learnt,
-  Reads'4.Asked,
-  Reads'4.Learnt,
-  Reads'9.Asked,
-  Reads'9.Learnt,
   Reads''.Asked,
   Reads''.Learnt,
+  Reads'10.Asked,
+  Reads'10.Learnt,
+  Reads'3.Asked,
+  Reads'3.Learnt,
+  Reads'9.Asked,
+  Reads'9.Learnt,
+  Reads'.Asked,
+  Reads'.Learnt,
   Reads'11.Asked,
   Reads'11.Learnt,
-  Reads'6.Asked,
-  Reads'6.Learnt,
   Reads'5.Asked,
   Reads'5.Learnt,
+  Reads'4.Asked,
+  Reads'4.Learnt,
+  Reads'6.Asked,
+  Reads'6.Learnt,
   Reads'7.Asked,
   Reads'7.Learnt,
-  Reads.Asked,
-  Reads.Learnt,
   Reads'8.Asked,
   Reads'8.Learnt,
-) Reads'.Pre Reads'.Post
+) Reads.Pre Reads.Post
 
 abbrev pub Need-put-post-requires : Type 0
 Need-put-post-requires = Lts.Need-put-post-requires (
-  Reads'3.Asked,
-  Reads'3.Learnt,
-  Reads'10.Asked,
-  Reads'10.Learnt,
-  Reads'4.Asked,
-  Reads'4.Learnt,
-  Reads'9.Asked,
-  Reads'9.Learnt,
   Reads''.Asked,
   Reads''.Learnt,
+  Reads'10.Asked,
+  Reads'10.Learnt,
+  Reads'3.Asked,
+  Reads'3.Learnt,
+  Reads'9.Asked,
+  Reads'9.Learnt,
+  Reads'.Asked,
+  Reads'.Learnt,
   Reads'11.Asked,
   Reads'11.Learnt,
-  Reads'6.Asked,
-  Reads'6.Learnt,
   Reads'5.Asked,
   Reads'5.Learnt,
+  Reads'4.Asked,
+  Reads'4.Learnt,
+  Reads'6.Asked,
+  Reads'6.Learnt,
   Reads'7.Asked,
   Reads'7.Learnt,
-  Reads.Asked,
-  Reads.Learnt,
   Reads'8.Asked,
   Reads'8.Learnt,
-) Reads'.Pre Reads'.Post
+) Reads.Pre Reads.Post
 
 abbrev pub Need-put-post-requires-2 : Type 0
 Need-put-post-requires-2 = Lts.Need-put-post-requires-2 (
-  Reads'3.Asked,
-  Reads'3.Learnt,
-  Reads'10.Asked,
-  Reads'10.Learnt,
-  Reads'4.Asked,
-  Reads'4.Learnt,
-  Reads'9.Asked,
-  Reads'9.Learnt,
   Reads''.Asked,
   Reads''.Learnt,
+  Reads'10.Asked,
+  Reads'10.Learnt,
+  Reads'3.Asked,
+  Reads'3.Learnt,
+  Reads'9.Asked,
+  Reads'9.Learnt,
+  Reads'.Asked,
+  Reads'.Learnt,
   Reads'11.Asked,
   Reads'11.Learnt,
-  Reads'6.Asked,
-  Reads'6.Learnt,
   Reads'5.Asked,
   Reads'5.Learnt,
+  Reads'4.Asked,
+  Reads'4.Learnt,
+  Reads'6.Asked,
+  Reads'6.Learnt,
   Reads'7.Asked,
   Reads'7.Learnt,
-  Reads.Asked,
-  Reads.Learnt,
   Reads'8.Asked,
   Reads'8.Learnt,
-) Reads'.Pre Reads'.Post
+) Reads.Pre Reads.Post
 
 abbrev pub Need-store-requires : Type 0
 Need-store-requires = Lts.Need-store-requires (
-  Reads'3.Asked,
-  Reads'3.Learnt,
-  Reads'10.Asked,
-  Reads'10.Learnt,
-  Reads'4.Asked,
-  Reads'4.Learnt,
-  Reads'9.Asked,
-  Reads'9.Learnt,
   Reads''.Asked,
   Reads''.Learnt,
+  Reads'10.Asked,
+  Reads'10.Learnt,
+  Reads'3.Asked,
+  Reads'3.Learnt,
+  Reads'9.Asked,
+  Reads'9.Learnt,
+  Reads'.Asked,
+  Reads'.Learnt,
   Reads'11.Asked,
   Reads'11.Learnt,
-  Reads'6.Asked,
-  Reads'6.Learnt,
   Reads'5.Asked,
   Reads'5.Learnt,
+  Reads'4.Asked,
+  Reads'4.Learnt,
+  Reads'6.Asked,
+  Reads'6.Learnt,
   Reads'7.Asked,
   Reads'7.Learnt,
-  Reads.Asked,
-  Reads.Learnt,
   Reads'8.Asked,
   Reads'8.Learnt,
-) Reads'.Pre Reads'.Post
+) Reads.Pre Reads.Post
 
 abbrev pub Need-own-of-requires : Type 0
 Need-own-of-requires = Lts.Need-own-of-requires (
-  Reads'3.Asked,
-  Reads'3.Learnt,
-  Reads'10.Asked,
-  Reads'10.Learnt,
-  Reads'4.Asked,
-  Reads'4.Learnt,
-  Reads'9.Asked,
-  Reads'9.Learnt,
   Reads''.Asked,
   Reads''.Learnt,
+  Reads'10.Asked,
+  Reads'10.Learnt,
+  Reads'3.Asked,
+  Reads'3.Learnt,
+  Reads'9.Asked,
+  Reads'9.Learnt,
+  Reads'.Asked,
+  Reads'.Learnt,
   Reads'11.Asked,
   Reads'11.Learnt,
-  Reads'6.Asked,
-  Reads'6.Learnt,
   Reads'5.Asked,
   Reads'5.Learnt,
+  Reads'4.Asked,
+  Reads'4.Learnt,
+  Reads'6.Asked,
+  Reads'6.Learnt,
   Reads'7.Asked,
   Reads'7.Learnt,
-  Reads.Asked,
-  Reads.Learnt,
   Reads'8.Asked,
   Reads'8.Learnt,
-) Reads'.Pre Reads'.Post
+) Reads.Pre Reads.Post
 
 abbrev pub Need-to-of-requires : Type 0
 Need-to-of-requires = Lts.Need-to-of-requires (
-  Reads'3.Asked,
-  Reads'3.Learnt,
-  Reads'10.Asked,
-  Reads'10.Learnt,
-  Reads'4.Asked,
-  Reads'4.Learnt,
-  Reads'9.Asked,
-  Reads'9.Learnt,
   Reads''.Asked,
   Reads''.Learnt,
+  Reads'10.Asked,
+  Reads'10.Learnt,
+  Reads'3.Asked,
+  Reads'3.Learnt,
+  Reads'9.Asked,
+  Reads'9.Learnt,
+  Reads'.Asked,
+  Reads'.Learnt,
   Reads'11.Asked,
   Reads'11.Learnt,
-  Reads'6.Asked,
-  Reads'6.Learnt,
   Reads'5.Asked,
   Reads'5.Learnt,
+  Reads'4.Asked,
+  Reads'4.Learnt,
+  Reads'6.Asked,
+  Reads'6.Learnt,
   Reads'7.Asked,
   Reads'7.Learnt,
-  Reads.Asked,
-  Reads.Learnt,
   Reads'8.Asked,
   Reads'8.Learnt,
-) Reads'.Pre Reads'.Post
+) Reads.Pre Reads.Post
 
 abbrev pub Need-to-of-requires-2 : Type 0
 Need-to-of-requires-2 = Lts.Need-to-of-requires-2 (
-  Reads'3.Asked,
-  Reads'3.Learnt,
-  Reads'10.Asked,
-  Reads'10.Learnt,
-  Reads'4.Asked,
-  Reads'4.Learnt,
-  Reads'9.Asked,
-  Reads'9.Learnt,
   Reads''.Asked,
   Reads''.Learnt,
+  Reads'10.Asked,
+  Reads'10.Learnt,
+  Reads'3.Asked,
+  Reads'3.Learnt,
+  Reads'9.Asked,
+  Reads'9.Learnt,
+  Reads'.Asked,
+  Reads'.Learnt,
   Reads'11.Asked,
   Reads'11.Learnt,
-  Reads'6.Asked,
-  Reads'6.Learnt,
   Reads'5.Asked,
   Reads'5.Learnt,
+  Reads'4.Asked,
+  Reads'4.Learnt,
+  Reads'6.Asked,
+  Reads'6.Learnt,
   Reads'7.Asked,
   Reads'7.Learnt,
-  Reads.Asked,
-  Reads.Learnt,
   Reads'8.Asked,
   Reads'8.Learnt,
-) Reads'.Pre Reads'.Post
+) Reads.Pre Reads.Post
 
 abbrev pub Need-accepted-requires : Type 0
 Need-accepted-requires = Lts.Need-accepted-requires (
-  Reads'3.Asked,
-  Reads'3.Learnt,
-  Reads'10.Asked,
-  Reads'10.Learnt,
-  Reads'4.Asked,
-  Reads'4.Learnt,
-  Reads'9.Asked,
-  Reads'9.Learnt,
   Reads''.Asked,
   Reads''.Learnt,
+  Reads'10.Asked,
+  Reads'10.Learnt,
+  Reads'3.Asked,
+  Reads'3.Learnt,
+  Reads'9.Asked,
+  Reads'9.Learnt,
+  Reads'.Asked,
+  Reads'.Learnt,
   Reads'11.Asked,
   Reads'11.Learnt,
-  Reads'6.Asked,
-  Reads'6.Learnt,
   Reads'5.Asked,
   Reads'5.Learnt,
+  Reads'4.Asked,
+  Reads'4.Learnt,
+  Reads'6.Asked,
+  Reads'6.Learnt,
   Reads'7.Asked,
   Reads'7.Learnt,
-  Reads.Asked,
-  Reads.Learnt,
   Reads'8.Asked,
   Reads'8.Learnt,
-) Reads'.Pre Reads'.Post
+) Reads.Pre Reads.Post
 
 abbrev pub Need-same-length : Type 0
 Need-same-length = Lts.Need-same-length (
-  Reads'3.Asked,
-  Reads'3.Learnt,
-  Reads'10.Asked,
-  Reads'10.Learnt,
-  Reads'4.Asked,
-  Reads'4.Learnt,
-  Reads'9.Asked,
-  Reads'9.Learnt,
   Reads''.Asked,
   Reads''.Learnt,
+  Reads'10.Asked,
+  Reads'10.Learnt,
+  Reads'3.Asked,
+  Reads'3.Learnt,
+  Reads'9.Asked,
+  Reads'9.Learnt,
+  Reads'.Asked,
+  Reads'.Learnt,
   Reads'11.Asked,
   Reads'11.Learnt,
-  Reads'6.Asked,
-  Reads'6.Learnt,
   Reads'5.Asked,
   Reads'5.Learnt,
+  Reads'4.Asked,
+  Reads'4.Learnt,
+  Reads'6.Asked,
+  Reads'6.Learnt,
   Reads'7.Asked,
   Reads'7.Learnt,
-  Reads.Asked,
-  Reads.Learnt,
   Reads'8.Asked,
   Reads'8.Learnt,
-) Reads'.Pre Reads'.Post
+) Reads.Pre Reads.Post
 
 abbrev pub Need-same-length-2 : Type 0
 Need-same-length-2 = Lts.Need-same-length-2 (
-  Reads'3.Asked,
-  Reads'3.Learnt,
-  Reads'10.Asked,
-  Reads'10.Learnt,
-  Reads'4.Asked,
-  Reads'4.Learnt,
-  Reads'9.Asked,
-  Reads'9.Learnt,
   Reads''.Asked,
   Reads''.Learnt,
+  Reads'10.Asked,
+  Reads'10.Learnt,
+  Reads'3.Asked,
+  Reads'3.Learnt,
+  Reads'9.Asked,
+  Reads'9.Learnt,
+  Reads'.Asked,
+  Reads'.Learnt,
   Reads'11.Asked,
   Reads'11.Learnt,
-  Reads'6.Asked,
-  Reads'6.Learnt,
   Reads'5.Asked,
   Reads'5.Learnt,
+  Reads'4.Asked,
+  Reads'4.Learnt,
+  Reads'6.Asked,
+  Reads'6.Learnt,
   Reads'7.Asked,
   Reads'7.Learnt,
-  Reads.Asked,
-  Reads.Learnt,
   Reads'8.Asked,
   Reads'8.Learnt,
-) Reads'.Pre Reads'.Post
+) Reads.Pre Reads.Post
 
 abbrev pub Need-same-length-3 : Type 0
 Need-same-length-3 = Lts.Need-same-length-3 (
-  Reads'3.Asked,
-  Reads'3.Learnt,
-  Reads'10.Asked,
-  Reads'10.Learnt,
-  Reads'4.Asked,
-  Reads'4.Learnt,
-  Reads'9.Asked,
-  Reads'9.Learnt,
   Reads''.Asked,
   Reads''.Learnt,
+  Reads'10.Asked,
+  Reads'10.Learnt,
+  Reads'3.Asked,
+  Reads'3.Learnt,
+  Reads'9.Asked,
+  Reads'9.Learnt,
+  Reads'.Asked,
+  Reads'.Learnt,
   Reads'11.Asked,
   Reads'11.Learnt,
-  Reads'6.Asked,
-  Reads'6.Learnt,
   Reads'5.Asked,
   Reads'5.Learnt,
+  Reads'4.Asked,
+  Reads'4.Learnt,
+  Reads'6.Asked,
+  Reads'6.Learnt,
   Reads'7.Asked,
   Reads'7.Learnt,
-  Reads.Asked,
-  Reads.Learnt,
   Reads'8.Asked,
   Reads'8.Learnt,
-) Reads'.Pre Reads'.Post
+) Reads.Pre Reads.Post
 
 abbrev pub Need-same-length-4 : Type 0
 Need-same-length-4 = Lts.Need-same-length-4 (
-  Reads'3.Asked,
-  Reads'3.Learnt,
-  Reads'10.Asked,
-  Reads'10.Learnt,
-  Reads'4.Asked,
-  Reads'4.Learnt,
-  Reads'9.Asked,
-  Reads'9.Learnt,
   Reads''.Asked,
   Reads''.Learnt,
+  Reads'10.Asked,
+  Reads'10.Learnt,
+  Reads'3.Asked,
+  Reads'3.Learnt,
+  Reads'9.Asked,
+  Reads'9.Learnt,
+  Reads'.Asked,
+  Reads'.Learnt,
   Reads'11.Asked,
   Reads'11.Learnt,
-  Reads'6.Asked,
-  Reads'6.Learnt,
   Reads'5.Asked,
   Reads'5.Learnt,
+  Reads'4.Asked,
+  Reads'4.Learnt,
+  Reads'6.Asked,
+  Reads'6.Learnt,
   Reads'7.Asked,
   Reads'7.Learnt,
-  Reads.Asked,
-  Reads.Learnt,
   Reads'8.Asked,
   Reads'8.Learnt,
-) Reads'.Pre Reads'.Post
+) Reads.Pre Reads.Post
 
 abbrev pub Need-returns : Type 0
 Need-returns = Lts.Need-returns (
-  Reads'3.Asked,
-  Reads'3.Learnt,
-  Reads'10.Asked,
-  Reads'10.Learnt,
-  Reads'4.Asked,
-  Reads'4.Learnt,
-  Reads'9.Asked,
-  Reads'9.Learnt,
   Reads''.Asked,
   Reads''.Learnt,
+  Reads'10.Asked,
+  Reads'10.Learnt,
+  Reads'3.Asked,
+  Reads'3.Learnt,
+  Reads'9.Asked,
+  Reads'9.Learnt,
+  Reads'.Asked,
+  Reads'.Learnt,
   Reads'11.Asked,
   Reads'11.Learnt,
-  Reads'6.Asked,
-  Reads'6.Learnt,
   Reads'5.Asked,
   Reads'5.Learnt,
+  Reads'4.Asked,
+  Reads'4.Learnt,
+  Reads'6.Asked,
+  Reads'6.Learnt,
   Reads'7.Asked,
   Reads'7.Learnt,
-  Reads.Asked,
-  Reads.Learnt,
   Reads'8.Asked,
   Reads'8.Learnt,
-) Reads'.Pre Reads'.Post
+) Reads.Pre Reads.Post
 
 abbrev pub Need-without-room-requires : Type 0
 Need-without-room-requires = Lts.Need-without-room-requires (
-  Reads'3.Asked,
-  Reads'3.Learnt,
-  Reads'10.Asked,
-  Reads'10.Learnt,
-  Reads'4.Asked,
-  Reads'4.Learnt,
-  Reads'9.Asked,
-  Reads'9.Learnt,
   Reads''.Asked,
   Reads''.Learnt,
+  Reads'10.Asked,
+  Reads'10.Learnt,
+  Reads'3.Asked,
+  Reads'3.Learnt,
+  Reads'9.Asked,
+  Reads'9.Learnt,
+  Reads'.Asked,
+  Reads'.Learnt,
   Reads'11.Asked,
   Reads'11.Learnt,
-  Reads'6.Asked,
-  Reads'6.Learnt,
   Reads'5.Asked,
   Reads'5.Learnt,
+  Reads'4.Asked,
+  Reads'4.Learnt,
+  Reads'6.Asked,
+  Reads'6.Learnt,
   Reads'7.Asked,
   Reads'7.Learnt,
-  Reads.Asked,
-  Reads.Learnt,
   Reads'8.Asked,
   Reads'8.Learnt,
-) Reads'.Pre Reads'.Post
+) Reads.Pre Reads.Post
 
 abbrev pub Need-same-length-5 : Type 0
 Need-same-length-5 = Lts.Need-same-length-5 (
-  Reads'3.Asked,
-  Reads'3.Learnt,
-  Reads'10.Asked,
-  Reads'10.Learnt,
-  Reads'4.Asked,
-  Reads'4.Learnt,
-  Reads'9.Asked,
-  Reads'9.Learnt,
   Reads''.Asked,
   Reads''.Learnt,
+  Reads'10.Asked,
+  Reads'10.Learnt,
+  Reads'3.Asked,
+  Reads'3.Learnt,
+  Reads'9.Asked,
+  Reads'9.Learnt,
+  Reads'.Asked,
+  Reads'.Learnt,
   Reads'11.Asked,
   Reads'11.Learnt,
-  Reads'6.Asked,
-  Reads'6.Learnt,
   Reads'5.Asked,
   Reads'5.Learnt,
+  Reads'4.Asked,
+  Reads'4.Learnt,
+  Reads'6.Asked,
+  Reads'6.Learnt,
   Reads'7.Asked,
   Reads'7.Learnt,
-  Reads.Asked,
-  Reads.Learnt,
   Reads'8.Asked,
   Reads'8.Learnt,
-) Reads'.Pre Reads'.Post
+) Reads.Pre Reads.Post
 
 abbrev pub Need-same-length-6 : Type 0
 Need-same-length-6 = Lts.Need-same-length-6 (
-  Reads'3.Asked,
-  Reads'3.Learnt,
-  Reads'10.Asked,
-  Reads'10.Learnt,
-  Reads'4.Asked,
-  Reads'4.Learnt,
-  Reads'9.Asked,
-  Reads'9.Learnt,
   Reads''.Asked,
   Reads''.Learnt,
+  Reads'10.Asked,
+  Reads'10.Learnt,
+  Reads'3.Asked,
+  Reads'3.Learnt,
+  Reads'9.Asked,
+  Reads'9.Learnt,
+  Reads'.Asked,
+  Reads'.Learnt,
   Reads'11.Asked,
   Reads'11.Learnt,
-  Reads'6.Asked,
-  Reads'6.Learnt,
   Reads'5.Asked,
   Reads'5.Learnt,
+  Reads'4.Asked,
+  Reads'4.Learnt,
+  Reads'6.Asked,
+  Reads'6.Learnt,
   Reads'7.Asked,
   Reads'7.Learnt,
-  Reads.Asked,
-  Reads.Learnt,
   Reads'8.Asked,
   Reads'8.Learnt,
-) Reads'.Pre Reads'.Post
+) Reads.Pre Reads.Post
 
 abbrev pub Need-returns-2 : Type 0
 Need-returns-2 = Lts.Need-returns-2 (
-  Reads'3.Asked,
-  Reads'3.Learnt,
-  Reads'10.Asked,
-  Reads'10.Learnt,
-  Reads'4.Asked,
-  Reads'4.Learnt,
-  Reads'9.Asked,
-  Reads'9.Learnt,
   Reads''.Asked,
   Reads''.Learnt,
+  Reads'10.Asked,
+  Reads'10.Learnt,
+  Reads'3.Asked,
+  Reads'3.Learnt,
+  Reads'9.Asked,
+  Reads'9.Learnt,
+  Reads'.Asked,
+  Reads'.Learnt,
   Reads'11.Asked,
   Reads'11.Learnt,
-  Reads'6.Asked,
-  Reads'6.Learnt,
   Reads'5.Asked,
   Reads'5.Learnt,
+  Reads'4.Asked,
+  Reads'4.Learnt,
+  Reads'6.Asked,
+  Reads'6.Learnt,
   Reads'7.Asked,
   Reads'7.Learnt,
-  Reads.Asked,
-  Reads.Learnt,
   Reads'8.Asked,
   Reads'8.Learnt,
-) Reads'.Pre Reads'.Post
+) Reads.Pre Reads.Post
 
 module _ {M : Type 1} where
   pub spec :
@@ -1574,58 +1574,58 @@ module _ {M : Type 1} where
       (answer : Need-same-length-6) →
       (answer : Need-returns-2) →
       Lts.Closed (
-        Reads'3.Asked,
-        Reads'3.Learnt,
-        Reads'10.Asked,
-        Reads'10.Learnt,
-        Reads'4.Asked,
-        Reads'4.Learnt,
-        Reads'9.Asked,
-        Reads'9.Learnt,
         Reads''.Asked,
         Reads''.Learnt,
+        Reads'10.Asked,
+        Reads'10.Learnt,
+        Reads'3.Asked,
+        Reads'3.Learnt,
+        Reads'9.Asked,
+        Reads'9.Learnt,
+        Reads'.Asked,
+        Reads'.Learnt,
         Reads'11.Asked,
         Reads'11.Learnt,
-        Reads'6.Asked,
-        Reads'6.Learnt,
         Reads'5.Asked,
         Reads'5.Learnt,
+        Reads'4.Asked,
+        Reads'4.Learnt,
+        Reads'6.Asked,
+        Reads'6.Learnt,
         Reads'7.Asked,
         Reads'7.Learnt,
-        Reads.Asked,
-        Reads.Learnt,
         Reads'8.Asked,
         Reads'8.Learnt,
-      ) Reads'.Pre Reads'.Post M
+      ) Reads.Pre Reads.Post M
   spec =
       λ answer answer' answer'' answer'3 answer'4 answer'5 answer'6 answer'7 answer'8 answer'9
       answer'10 answer'11 answer'12 answer'13 answer'14 answer'15 answer'16 answer'17 answer'18
       answer'19 answer'20. Lts.spec (
-        Reads'3.Asked,
-        Reads'3.Learnt,
-        Reads'10.Asked,
-        Reads'10.Learnt,
-        Reads'4.Asked,
-        Reads'4.Learnt,
-        Reads'9.Asked,
-        Reads'9.Learnt,
         Reads''.Asked,
         Reads''.Learnt,
+        Reads'10.Asked,
+        Reads'10.Learnt,
+        Reads'3.Asked,
+        Reads'3.Learnt,
+        Reads'9.Asked,
+        Reads'9.Learnt,
+        Reads'.Asked,
+        Reads'.Learnt,
         Reads'11.Asked,
         Reads'11.Learnt,
-        Reads'6.Asked,
-        Reads'6.Learnt,
         Reads'5.Asked,
         Reads'5.Learnt,
+        Reads'4.Asked,
+        Reads'4.Learnt,
+        Reads'6.Asked,
+        Reads'6.Learnt,
         Reads'7.Asked,
         Reads'7.Learnt,
-        Reads.Asked,
-        Reads.Learnt,
         Reads'8.Asked,
         Reads'8.Learnt,
       )
-      Reads'.Pre
-      Reads'.Post
+      Reads.Pre
+      Reads.Post
       answer
       answer'
       answer''
@@ -1649,63 +1649,63 @@ module _ {M : Type 1} where
       answer'20
 
   pub close : Lts.Closed (
-    Reads'3.Asked,
-    Reads'3.Learnt,
-    Reads'10.Asked,
-    Reads'10.Learnt,
-    Reads'4.Asked,
-    Reads'4.Learnt,
-    Reads'9.Asked,
-    Reads'9.Learnt,
     Reads''.Asked,
     Reads''.Learnt,
+    Reads'10.Asked,
+    Reads'10.Learnt,
+    Reads'3.Asked,
+    Reads'3.Learnt,
+    Reads'9.Asked,
+    Reads'9.Learnt,
+    Reads'.Asked,
+    Reads'.Learnt,
     Reads'11.Asked,
     Reads'11.Learnt,
-    Reads'6.Asked,
-    Reads'6.Learnt,
     Reads'5.Asked,
     Reads'5.Learnt,
+    Reads'4.Asked,
+    Reads'4.Learnt,
+    Reads'6.Asked,
+    Reads'6.Learnt,
     Reads'7.Asked,
     Reads'7.Learnt,
-    Reads.Asked,
-    Reads.Learnt,
     Reads'8.Asked,
     Reads'8.Learnt,
-  ) Reads'.Pre Reads'.Post M → Statement.statement M
+  ) Reads.Pre Reads.Post M → Statement.statement M
   unfolding Code.routine Running.tablesOf
   close =
       λ closed 𝓤 H 𝓜 𝓖 𝓡. Written.close
       8
       Kinds.ps
       Kinds.r
-      Reads'.Ghost
-      Reads'.requires
-      Reads'.ensures
-      Reads'.pre-read
-      Reads'.Pinned
-      Reads'.Owned
-      Reads'.post-read
+      Reads.Ghost
+      Reads.requires
+      Reads.ensures
+      Reads.pre-read
+      Reads.Pinned
+      Reads.Owned
+      Reads.post-read
       record { M = M; 𝓤 = 𝓤; H = H; 𝓜 = 𝓜; 𝓖 = 𝓖; 𝓡 = 𝓡 }
       Code.env
       Key.name
       Code.function
       (Code.unfolded 𝓤 H 𝓜 𝓡)
       (λ κs a g. tt)
-      (λ κs. Reads'.owns κs record { M = M; 𝓤 = 𝓤; H = H; 𝓜 = 𝓜; 𝓖 = 𝓖; 𝓡 = 𝓡 })
-      (Reads'.passes record { M = M; 𝓤 = 𝓤; H = H; 𝓜 = 𝓜; 𝓖 = 𝓖; 𝓡 = 𝓡 })
+      (λ κs. Reads.owns κs record { M = M; 𝓤 = 𝓤; H = H; 𝓜 = 𝓜; 𝓖 = 𝓖; 𝓡 = 𝓡 })
+      (Reads.passes record { M = M; 𝓤 = 𝓤; H = H; 𝓜 = 𝓜; 𝓖 = 𝓖; 𝓡 = 𝓡 })
       λ g. closed
       𝓤
       H
       (𝓖 .A)
       (Running.givenOf 𝓤 H 𝓜 𝓖)
       (Run.Over 𝓤 H 𝓜 𝓖 𝓡 Code.env)
-      (Reads'3.known
+      (Reads''.known
       record { M = M; 𝓤 = 𝓤; H = H; 𝓜 = 𝓜; 𝓖 = 𝓖; 𝓡 = 𝓡 }
       Code.env
-      Symbol''.name
-      Symbol''.routine
+      Symbol'.name
+      Symbol'.routine
       Code.calls-finish·is-replying
-      (Met''.met 𝓤 H 𝓜 𝓖 𝓡))
+      (Met'.met 𝓤 H 𝓜 𝓖 𝓡))
       (Reads'10.known
       record { M = M; 𝓤 = 𝓤; H = H; 𝓜 = 𝓜; 𝓖 = 𝓖; 𝓡 = 𝓡 }
       Code.env
@@ -1713,13 +1713,13 @@ module _ {M : Type 1} where
       Symbol'9.routine
       Code.calls-place·place-rows
       (Met'9.met 𝓤 H 𝓜 𝓖 𝓡))
-      (Reads'4.known
+      (Reads'3.known
       record { M = M; 𝓤 = 𝓤; H = H; 𝓜 = 𝓜; 𝓖 = 𝓖; 𝓡 = 𝓡 }
       Code.env
-      Symbol'3.name
-      Symbol'3.routine
+      Symbol''.name
+      Symbol''.routine
       Code.calls-finish·is-routed
-      (Met'3.met 𝓤 H 𝓜 𝓖 𝓡))
+      (Met''.met 𝓤 H 𝓜 𝓖 𝓡))
       (Reads'9.known
       record { M = M; 𝓤 = 𝓤; H = H; 𝓜 = 𝓜; 𝓖 = 𝓖; 𝓡 = 𝓡 }
       Code.env
@@ -1727,13 +1727,13 @@ module _ {M : Type 1} where
       Symbol'8.routine
       Code.calls-place·place-route
       (Met'8.met 𝓤 H 𝓜 𝓖 𝓡))
-      (Reads''.known
+      (Reads'.known
       record { M = M; 𝓤 = 𝓤; H = H; 𝓜 = 𝓜; 𝓖 = 𝓖; 𝓡 = 𝓡 }
       Code.env
-      Symbol'.name
-      Symbol'.routine
+      Symbol.name
+      Symbol.routine
       Code.calls-finish·has-room
-      (Met'.met 𝓤 H 𝓜 𝓖 𝓡))
+      (Met.met 𝓤 H 𝓜 𝓖 𝓡))
       (Reads'11.known
       record { M = M; 𝓤 = 𝓤; H = H; 𝓜 = 𝓜; 𝓖 = 𝓖; 𝓡 = 𝓡 }
       Code.env
@@ -1741,38 +1741,38 @@ module _ {M : Type 1} where
       Symbol'10.routine
       Code.calls-post·put-post
       (Met'10.met 𝓤 H 𝓜 𝓖 𝓡))
-      (Reads'6.known
-      record { M = M; 𝓤 = 𝓤; H = H; 𝓜 = 𝓜; 𝓖 = 𝓖; 𝓡 = 𝓡 }
-      Code.env
-      Symbol'5.name
-      Symbol'5.routine
-      Code.calls-finish·store
-      (Met'5.met 𝓤 H 𝓜 𝓖 𝓡))
       (Reads'5.known
       record { M = M; 𝓤 = 𝓤; H = H; 𝓜 = 𝓜; 𝓖 = 𝓖; 𝓡 = 𝓡 }
       Code.env
       Symbol'4.name
       Symbol'4.routine
-      Code.calls-finish·own-of
+      Code.calls-finish·store
       (Met'4.met 𝓤 H 𝓜 𝓖 𝓡))
+      (Reads'4.known
+      record { M = M; 𝓤 = 𝓤; H = H; 𝓜 = 𝓜; 𝓖 = 𝓖; 𝓡 = 𝓡 }
+      Code.env
+      Symbol'3.name
+      Symbol'3.routine
+      Code.calls-finish·own-of
+      (Met'3.met 𝓤 H 𝓜 𝓖 𝓡))
+      (Reads'6.known
+      record { M = M; 𝓤 = 𝓤; H = H; 𝓜 = 𝓜; 𝓖 = 𝓖; 𝓡 = 𝓡 }
+      Code.env
+      Symbol'5.name
+      Symbol'5.routine
+      Code.calls-finish·to-of
+      (Met'5.met 𝓤 H 𝓜 𝓖 𝓡))
       (Reads'7.known
       record { M = M; 𝓤 = 𝓤; H = H; 𝓜 = 𝓜; 𝓖 = 𝓖; 𝓡 = 𝓡 }
       Code.env
       Symbol'6.name
       Symbol'6.routine
-      Code.calls-finish·to-of
+      Code.calls-outcome·accepted
       (Met'6.met 𝓤 H 𝓜 𝓖 𝓡))
-      (Reads.known
-      record { M = M; 𝓤 = 𝓤; H = H; 𝓜 = 𝓜; 𝓖 = 𝓖; 𝓡 = 𝓡 }
-      Code.env
-      Symbol.name
-      Symbol.routine
-      Code.calls-finish·accepted
-      (Met.met 𝓤 H 𝓜 𝓖 𝓡))
       (Reads'8.known
       record { M = M; 𝓤 = 𝓤; H = H; 𝓜 = 𝓜; 𝓖 = 𝓖; 𝓡 = 𝓡 }
       Code.env
       Symbol'7.name
       Symbol'7.routine
-      Code.calls-finish·without-room
+      Code.calls-outcome·without-room
       (Met'7.met 𝓤 H 𝓜 𝓖 𝓡))

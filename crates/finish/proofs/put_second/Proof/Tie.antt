@@ -5,9 +5,9 @@ use Rattle.finish.proofs.Lent.put_second.Kinds
 use Rattle.finish.proofs.put_second.Proof.Lts
 use Rattle.finish.proofs.Lent.put_second.Reads
 use Rattle.finish.proofs.put_second.Statement
-use Rattle.finish.proofs.second_of.Met
-use Rattle.finish.proofs.second_of.Reads as Reads'
-use Rattle.finish.proofs.second_of.Symbol
+use Rattle.outcome.proofs.second_of.Met
+use Rattle.outcome.proofs.second_of.Reads as Reads'
+use Rattle.outcome.proofs.second_of.Symbol
 use borrow.Fn.Run
 use borrow.Fn.Written
 use contract.Running
@@ -95,5 +95,5 @@ module _ {M : Type 1} where
       Code.env
       Symbol.name
       Symbol.routine
-      Code.calls-finish·second-of
+      Code.calls-outcome·second-of
       (Met.met 𝓤 H 𝓜 𝓖 𝓡))

@@ -6,12 +6,12 @@ use Rattle.tally.proofs.Elem.Tally as KTally
 use Prim.Native.Nat
 use Rattle.answer.proofs.Answer
 use Rattle.answer.proofs.Answer.Laws
-use Rattle.finish.proofs.Outcome
-use Rattle.finish.proofs.Outcome.Laws as Laws'
 use Rattle.host.proofs.HostOutcome
-use Rattle.host.proofs.HostOutcome.Laws as Laws''
+use Rattle.host.proofs.HostOutcome.Laws as Laws'
 use Rattle.host.proofs.HostStart
-use Rattle.host.proofs.HostStart.Laws as Laws'3
+use Rattle.host.proofs.HostStart.Laws as Laws''
+use Rattle.outcome.proofs.Outcome
+use Rattle.outcome.proofs.Outcome.Laws as Laws'3
 use Rattle.own.proofs.Own
 use Rattle.own.proofs.Own.Laws as Laws'4
 use Rattle.start.proofs.Asking
@@ -97,16 +97,16 @@ ps =
     (List._∷_ (Num.pNum Syntax.w8) (List._∷_ (Num.pNum Syntax.w64) (List._∷_ (Value.pVal record {
       ty = Declared'.row HostStart.the-type;
       one = Path'.refl;
-      val = Laws'7.val HostStart.the-type Laws'3.the-laws;
-      tells = Laws'7.tells HostStart.the-type Laws'3.the-laws;
-      still = Laws'7.still HostStart.the-type Laws'3.the-copy Exit.yes;
+      val = Laws'7.val HostStart.the-type Laws''.the-laws;
+      tells = Laws'7.tells HostStart.the-type Laws''.the-laws;
+      still = Laws'7.still HostStart.the-type Laws''.the-copy Exit.yes;
       row = Rows.whole (Declared'.row HostStart.the-type);
       rd = λ x. x;
       mk = λ x. x;
     } λ M 𝓤 H A W. record {
-      copies = Laws'7.copy HostStart.the-type Laws'3.the-copy 𝓤 H A W;
-      lawful = Laws'7.lawful HostStart.the-type Laws'3.the-laws 𝓤 H A W;
-      makes = Laws'7.makes HostStart.the-type Laws'3.the-plain 𝓤 H A;
+      copies = Laws'7.copy HostStart.the-type Laws''.the-copy 𝓤 H A W;
+      lawful = Laws'7.lawful HostStart.the-type Laws''.the-laws 𝓤 H A W;
+      makes = Laws'7.makes HostStart.the-type Laws''.the-plain 𝓤 H A;
       in-mem = Local.mem-whole 𝓤 H A W (Declared'.row HostStart.the-type);
       of-mem = Local.whole-mem 𝓤 H A W (Declared'.row HostStart.the-type);
     })
@@ -118,16 +118,16 @@ abbrev pub r : Kinds.RK 6
 r = Value.rVal record {
   ty = Declared'.row HostOutcome.the-type;
   one = Path'.refl;
-  val = Laws'7.val HostOutcome.the-type Laws''.the-laws;
-  tells = Laws'7.tells HostOutcome.the-type Laws''.the-laws;
-  still = Laws'7.still HostOutcome.the-type Laws''.the-copy Exit.yes;
+  val = Laws'7.val HostOutcome.the-type Laws'.the-laws;
+  tells = Laws'7.tells HostOutcome.the-type Laws'.the-laws;
+  still = Laws'7.still HostOutcome.the-type Laws'.the-copy Exit.yes;
   row = Rows.whole (Declared'.row HostOutcome.the-type);
   rd = λ x. x;
   mk = λ x. x;
 } λ M 𝓤 H A W. record {
-  copies = Laws'7.copy HostOutcome.the-type Laws''.the-copy 𝓤 H A W;
-  lawful = Laws'7.lawful HostOutcome.the-type Laws''.the-laws 𝓤 H A W;
-  makes = Laws'7.makes HostOutcome.the-type Laws''.the-plain 𝓤 H A;
+  copies = Laws'7.copy HostOutcome.the-type Laws'.the-copy 𝓤 H A W;
+  lawful = Laws'7.lawful HostOutcome.the-type Laws'.the-laws 𝓤 H A W;
+  makes = Laws'7.makes HostOutcome.the-type Laws'.the-plain 𝓤 H A;
   in-mem = Local.mem-whole 𝓤 H A W (Declared'.row HostOutcome.the-type);
   of-mem = Local.whole-mem 𝓤 H A W (Declared'.row HostOutcome.the-type);
 }
@@ -137,17 +137,19 @@ xs =
     List._∷_
     (Syntax.tyStruct
     (List._∷_
-    102
+    111
     (List._∷_
-    105
+    117
     (List._∷_
-    110
+    116
     (List._∷_
-    105
+    99
     (List._∷_
-    115
+    111
     (List._∷_
-    104
+    109
+    (List._∷_
+    101
     (List._∷_
     58
     (List._∷_
@@ -156,24 +158,26 @@ xs =
     79
     (List._∷_
     117
-    (List._∷_ 116 (List._∷_ 99 (List._∷_ 111 (List._∷_ 109 (List._∷_ 101 List.[])))))))))))))))
+    (List._∷_ 116 (List._∷_ 99 (List._∷_ 111 (List._∷_ 109 (List._∷_ 101 List.[]))))))))))))))))
     (Syntax.tcons
     (Syntax.tyStruct
     (List._∷_
-    102
+    111
     (List._∷_
-    105
+    117
     (List._∷_
-    110
+    116
     (List._∷_
-    105
+    99
     (List._∷_
-    115
+    111
     (List._∷_
-    104
+    109
+    (List._∷_
+    101
     (List._∷_
     58
-    (List._∷_ 58 (List._∷_ 83 (List._∷_ 101 (List._∷_ 110 (List._∷_ 116 List.[]))))))))))))
+    (List._∷_ 58 (List._∷_ 83 (List._∷_ 101 (List._∷_ 110 (List._∷_ 116 List.[])))))))))))))
     (Syntax.tcons
     (Syntax.tyStruct
     (List._∷_
@@ -234,20 +238,22 @@ xs =
     (Syntax.tcons
     (Syntax.tyStruct
     (List._∷_
-    102
+    111
     (List._∷_
-    105
+    117
     (List._∷_
-    110
+    116
     (List._∷_
-    105
+    99
     (List._∷_
-    115
+    111
     (List._∷_
-    104
+    109
+    (List._∷_
+    101
     (List._∷_
     58
-    (List._∷_ 58 (List._∷_ 83 (List._∷_ 101 (List._∷_ 110 (List._∷_ 116 List.[]))))))))))))
+    (List._∷_ 58 (List._∷_ 83 (List._∷_ 101 (List._∷_ 110 (List._∷_ 116 List.[])))))))))))))
     (Syntax.tcons
     (Syntax.tyStruct
     (List._∷_
@@ -483,16 +489,16 @@ abbrev pub ps·0 : List.List (Kinds.PK 0)
 ps·0 = List._∷_ (Value.pVal record {
   ty = Declared'.row HostStart.the-type;
   one = Path'.refl;
-  val = Laws'7.val HostStart.the-type Laws'3.the-laws;
-  tells = Laws'7.tells HostStart.the-type Laws'3.the-laws;
-  still = Laws'7.still HostStart.the-type Laws'3.the-copy Exit.yes;
+  val = Laws'7.val HostStart.the-type Laws''.the-laws;
+  tells = Laws'7.tells HostStart.the-type Laws''.the-laws;
+  still = Laws'7.still HostStart.the-type Laws''.the-copy Exit.yes;
   row = Rows.whole (Declared'.row HostStart.the-type);
   rd = λ x. x;
   mk = λ x. x;
 } λ M 𝓤 H A W. record {
-  copies = Laws'7.copy HostStart.the-type Laws'3.the-copy 𝓤 H A W;
-  lawful = Laws'7.lawful HostStart.the-type Laws'3.the-laws 𝓤 H A W;
-  makes = Laws'7.makes HostStart.the-type Laws'3.the-plain 𝓤 H A;
+  copies = Laws'7.copy HostStart.the-type Laws''.the-copy 𝓤 H A W;
+  lawful = Laws'7.lawful HostStart.the-type Laws''.the-laws 𝓤 H A W;
+  makes = Laws'7.makes HostStart.the-type Laws''.the-plain 𝓤 H A;
   in-mem = Local.mem-whole 𝓤 H A W (Declared'.row HostStart.the-type);
   of-mem = Local.whole-mem 𝓤 H A W (Declared'.row HostStart.the-type);
 }) List.[]
@@ -566,16 +572,16 @@ abbrev pub r·1 : Kinds.RK 5
 r·1 = Value.rVal record {
   ty = Declared'.row Outcome.the-type;
   one = Path'.refl;
-  val = Laws'7.val Outcome.the-type Laws'.the-laws;
-  tells = Laws'7.tells Outcome.the-type Laws'.the-laws;
-  still = Laws'7.still Outcome.the-type Laws'.the-copy Exit.yes;
+  val = Laws'7.val Outcome.the-type Laws'3.the-laws;
+  tells = Laws'7.tells Outcome.the-type Laws'3.the-laws;
+  still = Laws'7.still Outcome.the-type Laws'3.the-copy Exit.yes;
   row = Rows.whole (Declared'.row Outcome.the-type);
   rd = λ x. x;
   mk = λ x. x;
 } λ M 𝓤 H A W. record {
-  copies = Laws'7.copy Outcome.the-type Laws'.the-copy 𝓤 H A W;
-  lawful = Laws'7.lawful Outcome.the-type Laws'.the-laws 𝓤 H A W;
-  makes = Laws'7.makes Outcome.the-type Laws'.the-plain 𝓤 H A;
+  copies = Laws'7.copy Outcome.the-type Laws'3.the-copy 𝓤 H A W;
+  lawful = Laws'7.lawful Outcome.the-type Laws'3.the-laws 𝓤 H A W;
+  makes = Laws'7.makes Outcome.the-type Laws'3.the-plain 𝓤 H A;
   in-mem = Local.mem-whole 𝓤 H A W (Declared'.row Outcome.the-type);
   of-mem = Local.whole-mem 𝓤 H A W (Declared'.row Outcome.the-type);
 }
@@ -584,16 +590,16 @@ abbrev pub ps·2 : List.List (Kinds.PK 0)
 ps·2 = List._∷_ (Value.pVal record {
   ty = Declared'.row Outcome.the-type;
   one = Path'.refl;
-  val = Laws'7.val Outcome.the-type Laws'.the-laws;
-  tells = Laws'7.tells Outcome.the-type Laws'.the-laws;
-  still = Laws'7.still Outcome.the-type Laws'.the-copy Exit.yes;
+  val = Laws'7.val Outcome.the-type Laws'3.the-laws;
+  tells = Laws'7.tells Outcome.the-type Laws'3.the-laws;
+  still = Laws'7.still Outcome.the-type Laws'3.the-copy Exit.yes;
   row = Rows.whole (Declared'.row Outcome.the-type);
   rd = λ x. x;
   mk = λ x. x;
 } λ M 𝓤 H A W. record {
-  copies = Laws'7.copy Outcome.the-type Laws'.the-copy 𝓤 H A W;
-  lawful = Laws'7.lawful Outcome.the-type Laws'.the-laws 𝓤 H A W;
-  makes = Laws'7.makes Outcome.the-type Laws'.the-plain 𝓤 H A;
+  copies = Laws'7.copy Outcome.the-type Laws'3.the-copy 𝓤 H A W;
+  lawful = Laws'7.lawful Outcome.the-type Laws'3.the-laws 𝓤 H A W;
+  makes = Laws'7.makes Outcome.the-type Laws'3.the-plain 𝓤 H A;
   in-mem = Local.mem-whole 𝓤 H A W (Declared'.row Outcome.the-type);
   of-mem = Local.whole-mem 𝓤 H A W (Declared'.row Outcome.the-type);
 }) List.[]
@@ -644,16 +650,16 @@ abbrev pub ps·4 : List.List (Kinds.PK 0)
 ps·4 = List._∷_ (Value.pVal record {
   ty = Declared'.row Outcome.the-type;
   one = Path'.refl;
-  val = Laws'7.val Outcome.the-type Laws'.the-laws;
-  tells = Laws'7.tells Outcome.the-type Laws'.the-laws;
-  still = Laws'7.still Outcome.the-type Laws'.the-copy Exit.yes;
+  val = Laws'7.val Outcome.the-type Laws'3.the-laws;
+  tells = Laws'7.tells Outcome.the-type Laws'3.the-laws;
+  still = Laws'7.still Outcome.the-type Laws'3.the-copy Exit.yes;
   row = Rows.whole (Declared'.row Outcome.the-type);
   rd = λ x. x;
   mk = λ x. x;
 } λ M 𝓤 H A W. record {
-  copies = Laws'7.copy Outcome.the-type Laws'.the-copy 𝓤 H A W;
-  lawful = Laws'7.lawful Outcome.the-type Laws'.the-laws 𝓤 H A W;
-  makes = Laws'7.makes Outcome.the-type Laws'.the-plain 𝓤 H A;
+  copies = Laws'7.copy Outcome.the-type Laws'3.the-copy 𝓤 H A W;
+  lawful = Laws'7.lawful Outcome.the-type Laws'3.the-laws 𝓤 H A W;
+  makes = Laws'7.makes Outcome.the-type Laws'3.the-plain 𝓤 H A;
   in-mem = Local.mem-whole 𝓤 H A W (Declared'.row Outcome.the-type);
   of-mem = Local.whole-mem 𝓤 H A W (Declared'.row Outcome.the-type);
 }) List.[]
@@ -662,16 +668,16 @@ abbrev pub r·4 : Kinds.RK 0
 r·4 = Value.rVal record {
   ty = Declared'.row HostOutcome.the-type;
   one = Path'.refl;
-  val = Laws'7.val HostOutcome.the-type Laws''.the-laws;
-  tells = Laws'7.tells HostOutcome.the-type Laws''.the-laws;
-  still = Laws'7.still HostOutcome.the-type Laws''.the-copy Exit.yes;
+  val = Laws'7.val HostOutcome.the-type Laws'.the-laws;
+  tells = Laws'7.tells HostOutcome.the-type Laws'.the-laws;
+  still = Laws'7.still HostOutcome.the-type Laws'.the-copy Exit.yes;
   row = Rows.whole (Declared'.row HostOutcome.the-type);
   rd = λ x. x;
   mk = λ x. x;
 } λ M 𝓤 H A W. record {
-  copies = Laws'7.copy HostOutcome.the-type Laws''.the-copy 𝓤 H A W;
-  lawful = Laws'7.lawful HostOutcome.the-type Laws''.the-laws 𝓤 H A W;
-  makes = Laws'7.makes HostOutcome.the-type Laws''.the-plain 𝓤 H A;
+  copies = Laws'7.copy HostOutcome.the-type Laws'.the-copy 𝓤 H A W;
+  lawful = Laws'7.lawful HostOutcome.the-type Laws'.the-laws 𝓤 H A W;
+  makes = Laws'7.makes HostOutcome.the-type Laws'.the-plain 𝓤 H A;
   in-mem = Local.mem-whole 𝓤 H A W (Declared'.row HostOutcome.the-type);
   of-mem = Local.whole-mem 𝓤 H A W (Declared'.row HostOutcome.the-type);
 }
@@ -1021,17 +1027,19 @@ t0 = List._∷_ (
   Rows.any-gone
       (Syntax.tyStruct
       (List._∷_
-      102
+      111
       (List._∷_
-      105
+      117
       (List._∷_
-      110
+      116
       (List._∷_
-      105
+      99
       (List._∷_
-      115
+      111
       (List._∷_
-      104
+      109
+      (List._∷_
+      101
       (List._∷_
       58
       (List._∷_
@@ -1040,24 +1048,26 @@ t0 = List._∷_ (
       79
       (List._∷_
       117
-      (List._∷_ 116 (List._∷_ 99 (List._∷_ 111 (List._∷_ 109 (List._∷_ 101 List.[])))))))))))))))
+      (List._∷_ 116 (List._∷_ 99 (List._∷_ 111 (List._∷_ 109 (List._∷_ 101 List.[]))))))))))))))))
       (Syntax.tcons
       (Syntax.tyStruct
       (List._∷_
-      102
+      111
       (List._∷_
-      105
+      117
       (List._∷_
-      110
+      116
       (List._∷_
-      105
+      99
       (List._∷_
-      115
+      111
       (List._∷_
-      104
+      109
+      (List._∷_
+      101
       (List._∷_
       58
-      (List._∷_ 58 (List._∷_ 83 (List._∷_ 101 (List._∷_ 110 (List._∷_ 116 List.[]))))))))))))
+      (List._∷_ 58 (List._∷_ 83 (List._∷_ 101 (List._∷_ 110 (List._∷_ 116 List.[])))))))))))))
       (Syntax.tcons
       (Syntax.tyStruct
       (List._∷_
@@ -1120,20 +1130,22 @@ t0 = List._∷_ (
       (Syntax.tcons
       (Syntax.tyStruct
       (List._∷_
-      102
+      111
       (List._∷_
-      105
+      117
       (List._∷_
-      110
+      116
       (List._∷_
-      105
+      99
       (List._∷_
-      115
+      111
       (List._∷_
-      104
+      109
+      (List._∷_
+      101
       (List._∷_
       58
-      (List._∷_ 58 (List._∷_ 83 (List._∷_ 101 (List._∷_ 110 (List._∷_ 116 List.[]))))))))))))
+      (List._∷_ 58 (List._∷_ 83 (List._∷_ 101 (List._∷_ 110 (List._∷_ 116 List.[])))))))))))))
       (Syntax.tcons
       (Syntax.tyStruct
       (List._∷_
@@ -1484,17 +1496,19 @@ t2 = List._∷_ (0, Rows.whole (Declared'.row HostOutcome.the-type)) (List._∷_
   Rows.any-gone
       (Syntax.tyStruct
       (List._∷_
-      102
+      111
       (List._∷_
-      105
+      117
       (List._∷_
-      110
+      116
       (List._∷_
-      105
+      99
       (List._∷_
-      115
+      111
       (List._∷_
-      104
+      109
+      (List._∷_
+      101
       (List._∷_
       58
       (List._∷_
@@ -1503,24 +1517,26 @@ t2 = List._∷_ (0, Rows.whole (Declared'.row HostOutcome.the-type)) (List._∷_
       79
       (List._∷_
       117
-      (List._∷_ 116 (List._∷_ 99 (List._∷_ 111 (List._∷_ 109 (List._∷_ 101 List.[])))))))))))))))
+      (List._∷_ 116 (List._∷_ 99 (List._∷_ 111 (List._∷_ 109 (List._∷_ 101 List.[]))))))))))))))))
       (Syntax.tcons
       (Syntax.tyStruct
       (List._∷_
-      102
+      111
       (List._∷_
-      105
+      117
       (List._∷_
-      110
+      116
       (List._∷_
-      105
+      99
       (List._∷_
-      115
+      111
       (List._∷_
-      104
+      109
+      (List._∷_
+      101
       (List._∷_
       58
-      (List._∷_ 58 (List._∷_ 83 (List._∷_ 101 (List._∷_ 110 (List._∷_ 116 List.[]))))))))))))
+      (List._∷_ 58 (List._∷_ 83 (List._∷_ 101 (List._∷_ 110 (List._∷_ 116 List.[])))))))))))))
       (Syntax.tcons
       (Syntax.tyStruct
       (List._∷_
@@ -1583,20 +1599,22 @@ t2 = List._∷_ (0, Rows.whole (Declared'.row HostOutcome.the-type)) (List._∷_
       (Syntax.tcons
       (Syntax.tyStruct
       (List._∷_
-      102
+      111
       (List._∷_
-      105
+      117
       (List._∷_
-      110
+      116
       (List._∷_
-      105
+      99
       (List._∷_
-      115
+      111
       (List._∷_
-      104
+      109
+      (List._∷_
+      101
       (List._∷_
       58
-      (List._∷_ 58 (List._∷_ 83 (List._∷_ 101 (List._∷_ 110 (List._∷_ 116 List.[]))))))))))))
+      (List._∷_ 58 (List._∷_ 83 (List._∷_ 101 (List._∷_ 110 (List._∷_ 116 List.[])))))))))))))
       (Syntax.tcons
       (Syntax.tyStruct
       (List._∷_
@@ -1823,17 +1841,19 @@ t3 = List._∷_ (
   Rows.any-gone
       (Syntax.tyStruct
       (List._∷_
-      102
+      111
       (List._∷_
-      105
+      117
       (List._∷_
-      110
+      116
       (List._∷_
-      105
+      99
       (List._∷_
-      115
+      111
       (List._∷_
-      104
+      109
+      (List._∷_
+      101
       (List._∷_
       58
       (List._∷_
@@ -1842,24 +1862,26 @@ t3 = List._∷_ (
       79
       (List._∷_
       117
-      (List._∷_ 116 (List._∷_ 99 (List._∷_ 111 (List._∷_ 109 (List._∷_ 101 List.[])))))))))))))))
+      (List._∷_ 116 (List._∷_ 99 (List._∷_ 111 (List._∷_ 109 (List._∷_ 101 List.[]))))))))))))))))
       (Syntax.tcons
       (Syntax.tyStruct
       (List._∷_
-      102
+      111
       (List._∷_
-      105
+      117
       (List._∷_
-      110
+      116
       (List._∷_
-      105
+      99
       (List._∷_
-      115
+      111
       (List._∷_
-      104
+      109
+      (List._∷_
+      101
       (List._∷_
       58
-      (List._∷_ 58 (List._∷_ 83 (List._∷_ 101 (List._∷_ 110 (List._∷_ 116 List.[]))))))))))))
+      (List._∷_ 58 (List._∷_ 83 (List._∷_ 101 (List._∷_ 110 (List._∷_ 116 List.[])))))))))))))
       (Syntax.tcons
       (Syntax.tyStruct
       (List._∷_
@@ -1922,20 +1944,22 @@ t3 = List._∷_ (
       (Syntax.tcons
       (Syntax.tyStruct
       (List._∷_
-      102
+      111
       (List._∷_
-      105
+      117
       (List._∷_
-      110
+      116
       (List._∷_
-      105
+      99
       (List._∷_
-      115
+      111
       (List._∷_
-      104
+      109
+      (List._∷_
+      101
       (List._∷_
       58
-      (List._∷_ 58 (List._∷_ 83 (List._∷_ 101 (List._∷_ 110 (List._∷_ 116 List.[]))))))))))))
+      (List._∷_ 58 (List._∷_ 83 (List._∷_ 101 (List._∷_ 110 (List._∷_ 116 List.[])))))))))))))
       (Syntax.tcons
       (Syntax.tyStruct
       (List._∷_
@@ -2164,17 +2188,19 @@ t4 = List._∷_ (
   Rows.any-gone
       (Syntax.tyStruct
       (List._∷_
-      102
+      111
       (List._∷_
-      105
+      117
       (List._∷_
-      110
+      116
       (List._∷_
-      105
+      99
       (List._∷_
-      115
+      111
       (List._∷_
-      104
+      109
+      (List._∷_
+      101
       (List._∷_
       58
       (List._∷_
@@ -2183,24 +2209,26 @@ t4 = List._∷_ (
       79
       (List._∷_
       117
-      (List._∷_ 116 (List._∷_ 99 (List._∷_ 111 (List._∷_ 109 (List._∷_ 101 List.[])))))))))))))))
+      (List._∷_ 116 (List._∷_ 99 (List._∷_ 111 (List._∷_ 109 (List._∷_ 101 List.[]))))))))))))))))
       (Syntax.tcons
       (Syntax.tyStruct
       (List._∷_
-      102
+      111
       (List._∷_
-      105
+      117
       (List._∷_
-      110
+      116
       (List._∷_
-      105
+      99
       (List._∷_
-      115
+      111
       (List._∷_
-      104
+      109
+      (List._∷_
+      101
       (List._∷_
       58
-      (List._∷_ 58 (List._∷_ 83 (List._∷_ 101 (List._∷_ 110 (List._∷_ 116 List.[]))))))))))))
+      (List._∷_ 58 (List._∷_ 83 (List._∷_ 101 (List._∷_ 110 (List._∷_ 116 List.[])))))))))))))
       (Syntax.tcons
       (Syntax.tyStruct
       (List._∷_
@@ -2263,20 +2291,22 @@ t4 = List._∷_ (
       (Syntax.tcons
       (Syntax.tyStruct
       (List._∷_
-      102
+      111
       (List._∷_
-      105
+      117
       (List._∷_
-      110
+      116
       (List._∷_
-      105
+      99
       (List._∷_
-      115
+      111
       (List._∷_
-      104
+      109
+      (List._∷_
+      101
       (List._∷_
       58
-      (List._∷_ 58 (List._∷_ 83 (List._∷_ 101 (List._∷_ 110 (List._∷_ 116 List.[]))))))))))))
+      (List._∷_ 58 (List._∷_ 83 (List._∷_ 101 (List._∷_ 110 (List._∷_ 116 List.[])))))))))))))
       (Syntax.tcons
       (Syntax.tyStruct
       (List._∷_
@@ -2503,17 +2533,19 @@ t5 = List._∷_ (
   Rows.any-gone
       (Syntax.tyStruct
       (List._∷_
-      102
+      111
       (List._∷_
-      105
+      117
       (List._∷_
-      110
+      116
       (List._∷_
-      105
+      99
       (List._∷_
-      115
+      111
       (List._∷_
-      104
+      109
+      (List._∷_
+      101
       (List._∷_
       58
       (List._∷_
@@ -2522,24 +2554,26 @@ t5 = List._∷_ (
       79
       (List._∷_
       117
-      (List._∷_ 116 (List._∷_ 99 (List._∷_ 111 (List._∷_ 109 (List._∷_ 101 List.[])))))))))))))))
+      (List._∷_ 116 (List._∷_ 99 (List._∷_ 111 (List._∷_ 109 (List._∷_ 101 List.[]))))))))))))))))
       (Syntax.tcons
       (Syntax.tyStruct
       (List._∷_
-      102
+      111
       (List._∷_
-      105
+      117
       (List._∷_
-      110
+      116
       (List._∷_
-      105
+      99
       (List._∷_
-      115
+      111
       (List._∷_
-      104
+      109
+      (List._∷_
+      101
       (List._∷_
       58
-      (List._∷_ 58 (List._∷_ 83 (List._∷_ 101 (List._∷_ 110 (List._∷_ 116 List.[]))))))))))))
+      (List._∷_ 58 (List._∷_ 83 (List._∷_ 101 (List._∷_ 110 (List._∷_ 116 List.[])))))))))))))
       (Syntax.tcons
       (Syntax.tyStruct
       (List._∷_
@@ -2602,20 +2636,22 @@ t5 = List._∷_ (
       (Syntax.tcons
       (Syntax.tyStruct
       (List._∷_
-      102
+      111
       (List._∷_
-      105
+      117
       (List._∷_
-      110
+      116
       (List._∷_
-      105
+      99
       (List._∷_
-      115
+      111
       (List._∷_
-      104
+      109
+      (List._∷_
+      101
       (List._∷_
       58
-      (List._∷_ 58 (List._∷_ 83 (List._∷_ 101 (List._∷_ 110 (List._∷_ 116 List.[]))))))))))))
+      (List._∷_ 58 (List._∷_ 83 (List._∷_ 101 (List._∷_ 110 (List._∷_ 116 List.[])))))))))))))
       (Syntax.tcons
       (Syntax.tyStruct
       (List._∷_
@@ -2844,17 +2880,19 @@ t6 = List._∷_ (
   Rows.any-gone
       (Syntax.tyStruct
       (List._∷_
-      102
+      111
       (List._∷_
-      105
+      117
       (List._∷_
-      110
+      116
       (List._∷_
-      105
+      99
       (List._∷_
-      115
+      111
       (List._∷_
-      104
+      109
+      (List._∷_
+      101
       (List._∷_
       58
       (List._∷_
@@ -2863,24 +2901,26 @@ t6 = List._∷_ (
       79
       (List._∷_
       117
-      (List._∷_ 116 (List._∷_ 99 (List._∷_ 111 (List._∷_ 109 (List._∷_ 101 List.[])))))))))))))))
+      (List._∷_ 116 (List._∷_ 99 (List._∷_ 111 (List._∷_ 109 (List._∷_ 101 List.[]))))))))))))))))
       (Syntax.tcons
       (Syntax.tyStruct
       (List._∷_
-      102
+      111
       (List._∷_
-      105
+      117
       (List._∷_
-      110
+      116
       (List._∷_
-      105
+      99
       (List._∷_
-      115
+      111
       (List._∷_
-      104
+      109
+      (List._∷_
+      101
       (List._∷_
       58
-      (List._∷_ 58 (List._∷_ 83 (List._∷_ 101 (List._∷_ 110 (List._∷_ 116 List.[]))))))))))))
+      (List._∷_ 58 (List._∷_ 83 (List._∷_ 101 (List._∷_ 110 (List._∷_ 116 List.[])))))))))))))
       (Syntax.tcons
       (Syntax.tyStruct
       (List._∷_
@@ -2943,20 +2983,22 @@ t6 = List._∷_ (
       (Syntax.tcons
       (Syntax.tyStruct
       (List._∷_
-      102
+      111
       (List._∷_
-      105
+      117
       (List._∷_
-      110
+      116
       (List._∷_
-      105
+      99
       (List._∷_
-      115
+      111
       (List._∷_
-      104
+      109
+      (List._∷_
+      101
       (List._∷_
       58
-      (List._∷_ 58 (List._∷_ 83 (List._∷_ 101 (List._∷_ 110 (List._∷_ 116 List.[]))))))))))))
+      (List._∷_ 58 (List._∷_ 83 (List._∷_ 101 (List._∷_ 110 (List._∷_ 116 List.[])))))))))))))
       (Syntax.tcons
       (Syntax.tyStruct
       (List._∷_
@@ -3310,17 +3352,19 @@ t8 = List._∷_ (
   Rows.any-gone
       (Syntax.tyStruct
       (List._∷_
-      102
+      111
       (List._∷_
-      105
+      117
       (List._∷_
-      110
+      116
       (List._∷_
-      105
+      99
       (List._∷_
-      115
+      111
       (List._∷_
-      104
+      109
+      (List._∷_
+      101
       (List._∷_
       58
       (List._∷_
@@ -3329,24 +3373,26 @@ t8 = List._∷_ (
       79
       (List._∷_
       117
-      (List._∷_ 116 (List._∷_ 99 (List._∷_ 111 (List._∷_ 109 (List._∷_ 101 List.[])))))))))))))))
+      (List._∷_ 116 (List._∷_ 99 (List._∷_ 111 (List._∷_ 109 (List._∷_ 101 List.[]))))))))))))))))
       (Syntax.tcons
       (Syntax.tyStruct
       (List._∷_
-      102
+      111
       (List._∷_
-      105
+      117
       (List._∷_
-      110
+      116
       (List._∷_
-      105
+      99
       (List._∷_
-      115
+      111
       (List._∷_
-      104
+      109
+      (List._∷_
+      101
       (List._∷_
       58
-      (List._∷_ 58 (List._∷_ 83 (List._∷_ 101 (List._∷_ 110 (List._∷_ 116 List.[]))))))))))))
+      (List._∷_ 58 (List._∷_ 83 (List._∷_ 101 (List._∷_ 110 (List._∷_ 116 List.[])))))))))))))
       (Syntax.tcons
       (Syntax.tyStruct
       (List._∷_
@@ -3409,20 +3455,22 @@ t8 = List._∷_ (
       (Syntax.tcons
       (Syntax.tyStruct
       (List._∷_
-      102
+      111
       (List._∷_
-      105
+      117
       (List._∷_
-      110
+      116
       (List._∷_
-      105
+      99
       (List._∷_
-      115
+      111
       (List._∷_
-      104
+      109
+      (List._∷_
+      101
       (List._∷_
       58
-      (List._∷_ 58 (List._∷_ 83 (List._∷_ 101 (List._∷_ 110 (List._∷_ 116 List.[]))))))))))))
+      (List._∷_ 58 (List._∷_ 83 (List._∷_ 101 (List._∷_ 110 (List._∷_ 116 List.[])))))))))))))
       (Syntax.tcons
       (Syntax.tyStruct
       (List._∷_
@@ -3904,17 +3952,19 @@ t11 = List._∷_ (
   Rows.any-gone
       (Syntax.tyStruct
       (List._∷_
-      102
+      111
       (List._∷_
-      105
+      117
       (List._∷_
-      110
+      116
       (List._∷_
-      105
+      99
       (List._∷_
-      115
+      111
       (List._∷_
-      104
+      109
+      (List._∷_
+      101
       (List._∷_
       58
       (List._∷_
@@ -3923,24 +3973,26 @@ t11 = List._∷_ (
       79
       (List._∷_
       117
-      (List._∷_ 116 (List._∷_ 99 (List._∷_ 111 (List._∷_ 109 (List._∷_ 101 List.[])))))))))))))))
+      (List._∷_ 116 (List._∷_ 99 (List._∷_ 111 (List._∷_ 109 (List._∷_ 101 List.[]))))))))))))))))
       (Syntax.tcons
       (Syntax.tyStruct
       (List._∷_
-      102
+      111
       (List._∷_
-      105
+      117
       (List._∷_
-      110
+      116
       (List._∷_
-      105
+      99
       (List._∷_
-      115
+      111
       (List._∷_
-      104
+      109
+      (List._∷_
+      101
       (List._∷_
       58
-      (List._∷_ 58 (List._∷_ 83 (List._∷_ 101 (List._∷_ 110 (List._∷_ 116 List.[]))))))))))))
+      (List._∷_ 58 (List._∷_ 83 (List._∷_ 101 (List._∷_ 110 (List._∷_ 116 List.[])))))))))))))
       (Syntax.tcons
       (Syntax.tyStruct
       (List._∷_
@@ -4003,20 +4055,22 @@ t11 = List._∷_ (
       (Syntax.tcons
       (Syntax.tyStruct
       (List._∷_
-      102
+      111
       (List._∷_
-      105
+      117
       (List._∷_
-      110
+      116
       (List._∷_
-      105
+      99
       (List._∷_
-      115
+      111
       (List._∷_
-      104
+      109
+      (List._∷_
+      101
       (List._∷_
       58
-      (List._∷_ 58 (List._∷_ 83 (List._∷_ 101 (List._∷_ 110 (List._∷_ 116 List.[]))))))))))))
+      (List._∷_ 58 (List._∷_ 83 (List._∷_ 101 (List._∷_ 110 (List._∷_ 116 List.[])))))))))))))
       (Syntax.tcons
       (Syntax.tyStruct
       (List._∷_
@@ -4620,17 +4674,19 @@ t15 = List._∷_ (
   Rows.any-gone
       (Syntax.tyStruct
       (List._∷_
-      102
+      111
       (List._∷_
-      105
+      117
       (List._∷_
-      110
+      116
       (List._∷_
-      105
+      99
       (List._∷_
-      115
+      111
       (List._∷_
-      104
+      109
+      (List._∷_
+      101
       (List._∷_
       58
       (List._∷_
@@ -4639,24 +4695,26 @@ t15 = List._∷_ (
       79
       (List._∷_
       117
-      (List._∷_ 116 (List._∷_ 99 (List._∷_ 111 (List._∷_ 109 (List._∷_ 101 List.[])))))))))))))))
+      (List._∷_ 116 (List._∷_ 99 (List._∷_ 111 (List._∷_ 109 (List._∷_ 101 List.[]))))))))))))))))
       (Syntax.tcons
       (Syntax.tyStruct
       (List._∷_
-      102
+      111
       (List._∷_
-      105
+      117
       (List._∷_
-      110
+      116
       (List._∷_
-      105
+      99
       (List._∷_
-      115
+      111
       (List._∷_
-      104
+      109
+      (List._∷_
+      101
       (List._∷_
       58
-      (List._∷_ 58 (List._∷_ 83 (List._∷_ 101 (List._∷_ 110 (List._∷_ 116 List.[]))))))))))))
+      (List._∷_ 58 (List._∷_ 83 (List._∷_ 101 (List._∷_ 110 (List._∷_ 116 List.[])))))))))))))
       (Syntax.tcons
       (Syntax.tyStruct
       (List._∷_
@@ -4719,20 +4777,22 @@ t15 = List._∷_ (
       (Syntax.tcons
       (Syntax.tyStruct
       (List._∷_
-      102
+      111
       (List._∷_
-      105
+      117
       (List._∷_
-      110
+      116
       (List._∷_
-      105
+      99
       (List._∷_
-      115
+      111
       (List._∷_
-      104
+      109
+      (List._∷_
+      101
       (List._∷_
       58
-      (List._∷_ 58 (List._∷_ 83 (List._∷_ 101 (List._∷_ 110 (List._∷_ 116 List.[]))))))))))))
+      (List._∷_ 58 (List._∷_ 83 (List._∷_ 101 (List._∷_ 110 (List._∷_ 116 List.[])))))))))))))
       (Syntax.tcons
       (Syntax.tyStruct
       (List._∷_
@@ -7057,17 +7117,19 @@ t33 = List._∷_ (0, Rows.whole (Declared'.row HostOutcome.the-type)) (List._∷
   Rows.any-gone
       (Syntax.tyStruct
       (List._∷_
-      102
+      111
       (List._∷_
-      105
+      117
       (List._∷_
-      110
+      116
       (List._∷_
-      105
+      99
       (List._∷_
-      115
+      111
       (List._∷_
-      104
+      109
+      (List._∷_
+      101
       (List._∷_
       58
       (List._∷_
@@ -7076,24 +7138,26 @@ t33 = List._∷_ (0, Rows.whole (Declared'.row HostOutcome.the-type)) (List._∷
       79
       (List._∷_
       117
-      (List._∷_ 116 (List._∷_ 99 (List._∷_ 111 (List._∷_ 109 (List._∷_ 101 List.[])))))))))))))))
+      (List._∷_ 116 (List._∷_ 99 (List._∷_ 111 (List._∷_ 109 (List._∷_ 101 List.[]))))))))))))))))
       (Syntax.tcons
       (Syntax.tyStruct
       (List._∷_
-      102
+      111
       (List._∷_
-      105
+      117
       (List._∷_
-      110
+      116
       (List._∷_
-      105
+      99
       (List._∷_
-      115
+      111
       (List._∷_
-      104
+      109
+      (List._∷_
+      101
       (List._∷_
       58
-      (List._∷_ 58 (List._∷_ 83 (List._∷_ 101 (List._∷_ 110 (List._∷_ 116 List.[]))))))))))))
+      (List._∷_ 58 (List._∷_ 83 (List._∷_ 101 (List._∷_ 110 (List._∷_ 116 List.[])))))))))))))
       (Syntax.tcons
       (Syntax.tyStruct
       (List._∷_
@@ -7156,20 +7220,22 @@ t33 = List._∷_ (0, Rows.whole (Declared'.row HostOutcome.the-type)) (List._∷
       (Syntax.tcons
       (Syntax.tyStruct
       (List._∷_
-      102
+      111
       (List._∷_
-      105
+      117
       (List._∷_
-      110
+      116
       (List._∷_
-      105
+      99
       (List._∷_
-      115
+      111
       (List._∷_
-      104
+      109
+      (List._∷_
+      101
       (List._∷_
       58
-      (List._∷_ 58 (List._∷_ 83 (List._∷_ 101 (List._∷_ 110 (List._∷_ 116 List.[]))))))))))))
+      (List._∷_ 58 (List._∷_ 83 (List._∷_ 101 (List._∷_ 110 (List._∷_ 116 List.[])))))))))))))
       (Syntax.tcons
       (Syntax.tyStruct
       (List._∷_
@@ -7393,17 +7459,19 @@ t34 = List._∷_ (0, Rows.whole (Declared'.row HostOutcome.the-type)) (List._∷
   Rows.any-gone
       (Syntax.tyStruct
       (List._∷_
-      102
+      111
       (List._∷_
-      105
+      117
       (List._∷_
-      110
+      116
       (List._∷_
-      105
+      99
       (List._∷_
-      115
+      111
       (List._∷_
-      104
+      109
+      (List._∷_
+      101
       (List._∷_
       58
       (List._∷_
@@ -7412,24 +7480,26 @@ t34 = List._∷_ (0, Rows.whole (Declared'.row HostOutcome.the-type)) (List._∷
       79
       (List._∷_
       117
-      (List._∷_ 116 (List._∷_ 99 (List._∷_ 111 (List._∷_ 109 (List._∷_ 101 List.[])))))))))))))))
+      (List._∷_ 116 (List._∷_ 99 (List._∷_ 111 (List._∷_ 109 (List._∷_ 101 List.[]))))))))))))))))
       (Syntax.tcons
       (Syntax.tyStruct
       (List._∷_
-      102
+      111
       (List._∷_
-      105
+      117
       (List._∷_
-      110
+      116
       (List._∷_
-      105
+      99
       (List._∷_
-      115
+      111
       (List._∷_
-      104
+      109
+      (List._∷_
+      101
       (List._∷_
       58
-      (List._∷_ 58 (List._∷_ 83 (List._∷_ 101 (List._∷_ 110 (List._∷_ 116 List.[]))))))))))))
+      (List._∷_ 58 (List._∷_ 83 (List._∷_ 101 (List._∷_ 110 (List._∷_ 116 List.[])))))))))))))
       (Syntax.tcons
       (Syntax.tyStruct
       (List._∷_
@@ -7492,20 +7562,22 @@ t34 = List._∷_ (0, Rows.whole (Declared'.row HostOutcome.the-type)) (List._∷
       (Syntax.tcons
       (Syntax.tyStruct
       (List._∷_
-      102
+      111
       (List._∷_
-      105
+      117
       (List._∷_
-      110
+      116
       (List._∷_
-      105
+      99
       (List._∷_
-      115
+      111
       (List._∷_
-      104
+      109
+      (List._∷_
+      101
       (List._∷_
       58
-      (List._∷_ 58 (List._∷_ 83 (List._∷_ 101 (List._∷_ 110 (List._∷_ 116 List.[]))))))))))))
+      (List._∷_ 58 (List._∷_ 83 (List._∷_ 101 (List._∷_ 110 (List._∷_ 116 List.[])))))))))))))
       (Syntax.tcons
       (Syntax.tyStruct
       (List._∷_
@@ -7729,17 +7801,19 @@ t35 = List._∷_ (0, Rows.whole (Declared'.row HostOutcome.the-type)) (List._∷
   Rows.any-gone
       (Syntax.tyStruct
       (List._∷_
-      102
+      111
       (List._∷_
-      105
+      117
       (List._∷_
-      110
+      116
       (List._∷_
-      105
+      99
       (List._∷_
-      115
+      111
       (List._∷_
-      104
+      109
+      (List._∷_
+      101
       (List._∷_
       58
       (List._∷_
@@ -7748,24 +7822,26 @@ t35 = List._∷_ (0, Rows.whole (Declared'.row HostOutcome.the-type)) (List._∷
       79
       (List._∷_
       117
-      (List._∷_ 116 (List._∷_ 99 (List._∷_ 111 (List._∷_ 109 (List._∷_ 101 List.[])))))))))))))))
+      (List._∷_ 116 (List._∷_ 99 (List._∷_ 111 (List._∷_ 109 (List._∷_ 101 List.[]))))))))))))))))
       (Syntax.tcons
       (Syntax.tyStruct
       (List._∷_
-      102
+      111
       (List._∷_
-      105
+      117
       (List._∷_
-      110
+      116
       (List._∷_
-      105
+      99
       (List._∷_
-      115
+      111
       (List._∷_
-      104
+      109
+      (List._∷_
+      101
       (List._∷_
       58
-      (List._∷_ 58 (List._∷_ 83 (List._∷_ 101 (List._∷_ 110 (List._∷_ 116 List.[]))))))))))))
+      (List._∷_ 58 (List._∷_ 83 (List._∷_ 101 (List._∷_ 110 (List._∷_ 116 List.[])))))))))))))
       (Syntax.tcons
       (Syntax.tyStruct
       (List._∷_
@@ -7828,20 +7904,22 @@ t35 = List._∷_ (0, Rows.whole (Declared'.row HostOutcome.the-type)) (List._∷
       (Syntax.tcons
       (Syntax.tyStruct
       (List._∷_
-      102
+      111
       (List._∷_
-      105
+      117
       (List._∷_
-      110
+      116
       (List._∷_
-      105
+      99
       (List._∷_
-      115
+      111
       (List._∷_
-      104
+      109
+      (List._∷_
+      101
       (List._∷_
       58
-      (List._∷_ 58 (List._∷_ 83 (List._∷_ 101 (List._∷_ 110 (List._∷_ 116 List.[]))))))))))))
+      (List._∷_ 58 (List._∷_ 83 (List._∷_ 101 (List._∷_ 110 (List._∷_ 116 List.[])))))))))))))
       (Syntax.tcons
       (Syntax.tyStruct
       (List._∷_
@@ -8366,17 +8444,19 @@ module _ (claims· : Claims) where
       (List._∷_ 6 (List._∷_ 7 (List._∷_ 8 (List._∷_ 9 (List._∷_ 4 List.[])))))
       (Syntax.tyStruct
       (List._∷_
-      102
+      111
       (List._∷_
-      105
+      117
       (List._∷_
-      110
+      116
       (List._∷_
-      105
+      99
       (List._∷_
-      115
+      111
       (List._∷_
-      104
+      109
+      (List._∷_
+      101
       (List._∷_
       58
       (List._∷_
@@ -8385,24 +8465,26 @@ module _ (claims· : Claims) where
       79
       (List._∷_
       117
-      (List._∷_ 116 (List._∷_ 99 (List._∷_ 111 (List._∷_ 109 (List._∷_ 101 List.[])))))))))))))))
+      (List._∷_ 116 (List._∷_ 99 (List._∷_ 111 (List._∷_ 109 (List._∷_ 101 List.[]))))))))))))))))
       (Syntax.tcons
       (Syntax.tyStruct
       (List._∷_
-      102
+      111
       (List._∷_
-      105
+      117
       (List._∷_
-      110
+      116
       (List._∷_
-      105
+      99
       (List._∷_
-      115
+      111
       (List._∷_
-      104
+      109
+      (List._∷_
+      101
       (List._∷_
       58
-      (List._∷_ 58 (List._∷_ 83 (List._∷_ 101 (List._∷_ 110 (List._∷_ 116 List.[]))))))))))))
+      (List._∷_ 58 (List._∷_ 83 (List._∷_ 101 (List._∷_ 110 (List._∷_ 116 List.[])))))))))))))
       (Syntax.tcons
       (Syntax.tyStruct
       (List._∷_
@@ -8465,20 +8547,22 @@ module _ (claims· : Claims) where
       (Syntax.tcons
       (Syntax.tyStruct
       (List._∷_
-      102
+      111
       (List._∷_
-      105
+      117
       (List._∷_
-      110
+      116
       (List._∷_
-      105
+      99
       (List._∷_
-      115
+      111
       (List._∷_
-      104
+      109
+      (List._∷_
+      101
       (List._∷_
       58
-      (List._∷_ 58 (List._∷_ 83 (List._∷_ 101 (List._∷_ 110 (List._∷_ 116 List.[]))))))))))))
+      (List._∷_ 58 (List._∷_ 83 (List._∷_ 101 (List._∷_ 110 (List._∷_ 116 List.[])))))))))))))
       (Syntax.tcons
       (Syntax.tyStruct
       (List._∷_
@@ -8946,17 +9030,19 @@ module _ (claims· : Claims) where
       12
       (Syntax.tyStruct
       (List._∷_
-      102
+      111
       (List._∷_
-      105
+      117
       (List._∷_
-      110
+      116
       (List._∷_
-      105
+      99
       (List._∷_
-      115
+      111
       (List._∷_
-      104
+      109
+      (List._∷_
+      101
       (List._∷_
       58
       (List._∷_
@@ -8965,24 +9051,26 @@ module _ (claims· : Claims) where
       79
       (List._∷_
       117
-      (List._∷_ 116 (List._∷_ 99 (List._∷_ 111 (List._∷_ 109 (List._∷_ 101 List.[])))))))))))))))
+      (List._∷_ 116 (List._∷_ 99 (List._∷_ 111 (List._∷_ 109 (List._∷_ 101 List.[]))))))))))))))))
       (Syntax.tcons
       (Syntax.tyStruct
       (List._∷_
-      102
+      111
       (List._∷_
-      105
+      117
       (List._∷_
-      110
+      116
       (List._∷_
-      105
+      99
       (List._∷_
-      115
+      111
       (List._∷_
-      104
+      109
+      (List._∷_
+      101
       (List._∷_
       58
-      (List._∷_ 58 (List._∷_ 83 (List._∷_ 101 (List._∷_ 110 (List._∷_ 116 List.[]))))))))))))
+      (List._∷_ 58 (List._∷_ 83 (List._∷_ 101 (List._∷_ 110 (List._∷_ 116 List.[])))))))))))))
       (Syntax.tcons
       (Syntax.tyStruct
       (List._∷_
@@ -9045,20 +9133,22 @@ module _ (claims· : Claims) where
       (Syntax.tcons
       (Syntax.tyStruct
       (List._∷_
-      102
+      111
       (List._∷_
-      105
+      117
       (List._∷_
-      110
+      116
       (List._∷_
-      105
+      99
       (List._∷_
-      115
+      111
       (List._∷_
-      104
+      109
+      (List._∷_
+      101
       (List._∷_
       58
-      (List._∷_ 58 (List._∷_ 83 (List._∷_ 101 (List._∷_ 110 (List._∷_ 116 List.[]))))))))))))
+      (List._∷_ 58 (List._∷_ 83 (List._∷_ 101 (List._∷_ 110 (List._∷_ 116 List.[])))))))))))))
       (Syntax.tcons
       (Syntax.tyStruct
       (List._∷_
@@ -9464,17 +9554,19 @@ module _ (claims· : Claims) where
           Rows.any-gone
               (Syntax.tyStruct
               (List._∷_
-              102
+              111
               (List._∷_
-              105
+              117
               (List._∷_
-              110
+              116
               (List._∷_
-              105
+              99
               (List._∷_
-              115
+              111
               (List._∷_
-              104
+              109
+              (List._∷_
+              101
               (List._∷_
               58
               (List._∷_
@@ -9485,26 +9577,28 @@ module _ (claims· : Claims) where
               117
               (List._∷_
               116
-              (List._∷_ 99 (List._∷_ 111 (List._∷_ 109 (List._∷_ 101 List.[])))))))))))))))
+              (List._∷_ 99 (List._∷_ 111 (List._∷_ 109 (List._∷_ 101 List.[]))))))))))))))))
               (Syntax.tcons
               (Syntax.tyStruct
               (List._∷_
-              102
+              111
               (List._∷_
-              105
+              117
               (List._∷_
-              110
+              116
               (List._∷_
-              105
+              99
               (List._∷_
-              115
+              111
               (List._∷_
-              104
+              109
+              (List._∷_
+              101
               (List._∷_
               58
               (List._∷_
               58
-              (List._∷_ 83 (List._∷_ 101 (List._∷_ 110 (List._∷_ 116 List.[]))))))))))))
+              (List._∷_ 83 (List._∷_ 101 (List._∷_ 110 (List._∷_ 116 List.[])))))))))))))
               (Syntax.tcons
               (Syntax.tyStruct
               (List._∷_
@@ -9567,22 +9661,24 @@ module _ (claims· : Claims) where
               (Syntax.tcons
               (Syntax.tyStruct
               (List._∷_
-              102
+              111
               (List._∷_
-              105
+              117
               (List._∷_
-              110
+              116
               (List._∷_
-              105
+              99
               (List._∷_
-              115
+              111
               (List._∷_
-              104
+              109
+              (List._∷_
+              101
               (List._∷_
               58
               (List._∷_
               58
-              (List._∷_ 83 (List._∷_ 101 (List._∷_ 110 (List._∷_ 116 List.[]))))))))))))
+              (List._∷_ 83 (List._∷_ 101 (List._∷_ 110 (List._∷_ 116 List.[])))))))))))))
               (Syntax.tcons
               (Syntax.tyStruct
               (List._∷_
@@ -9827,17 +9923,19 @@ module _ (claims· : Claims) where
           Rows.any-gone
               (Syntax.tyStruct
               (List._∷_
-              102
+              111
               (List._∷_
-              105
+              117
               (List._∷_
-              110
+              116
               (List._∷_
-              105
+              99
               (List._∷_
-              115
+              111
               (List._∷_
-              104
+              109
+              (List._∷_
+              101
               (List._∷_
               58
               (List._∷_
@@ -9848,26 +9946,28 @@ module _ (claims· : Claims) where
               117
               (List._∷_
               116
-              (List._∷_ 99 (List._∷_ 111 (List._∷_ 109 (List._∷_ 101 List.[])))))))))))))))
+              (List._∷_ 99 (List._∷_ 111 (List._∷_ 109 (List._∷_ 101 List.[]))))))))))))))))
               (Syntax.tcons
               (Syntax.tyStruct
               (List._∷_
-              102
+              111
               (List._∷_
-              105
+              117
               (List._∷_
-              110
+              116
               (List._∷_
-              105
+              99
               (List._∷_
-              115
+              111
               (List._∷_
-              104
+              109
+              (List._∷_
+              101
               (List._∷_
               58
               (List._∷_
               58
-              (List._∷_ 83 (List._∷_ 101 (List._∷_ 110 (List._∷_ 116 List.[]))))))))))))
+              (List._∷_ 83 (List._∷_ 101 (List._∷_ 110 (List._∷_ 116 List.[])))))))))))))
               (Syntax.tcons
               (Syntax.tyStruct
               (List._∷_
@@ -9930,22 +10030,24 @@ module _ (claims· : Claims) where
               (Syntax.tcons
               (Syntax.tyStruct
               (List._∷_
-              102
+              111
               (List._∷_
-              105
+              117
               (List._∷_
-              110
+              116
               (List._∷_
-              105
+              99
               (List._∷_
-              115
+              111
               (List._∷_
-              104
+              109
+              (List._∷_
+              101
               (List._∷_
               58
               (List._∷_
               58
-              (List._∷_ 83 (List._∷_ 101 (List._∷_ 110 (List._∷_ 116 List.[]))))))))))))
+              (List._∷_ 83 (List._∷_ 101 (List._∷_ 110 (List._∷_ 116 List.[])))))))))))))
               (Syntax.tcons
               (Syntax.tyStruct
               (List._∷_
@@ -10188,17 +10290,19 @@ module _ (claims· : Claims) where
           Rows.any-gone
               (Syntax.tyStruct
               (List._∷_
-              102
+              111
               (List._∷_
-              105
+              117
               (List._∷_
-              110
+              116
               (List._∷_
-              105
+              99
               (List._∷_
-              115
+              111
               (List._∷_
-              104
+              109
+              (List._∷_
+              101
               (List._∷_
               58
               (List._∷_
@@ -10209,26 +10313,28 @@ module _ (claims· : Claims) where
               117
               (List._∷_
               116
-              (List._∷_ 99 (List._∷_ 111 (List._∷_ 109 (List._∷_ 101 List.[])))))))))))))))
+              (List._∷_ 99 (List._∷_ 111 (List._∷_ 109 (List._∷_ 101 List.[]))))))))))))))))
               (Syntax.tcons
               (Syntax.tyStruct
               (List._∷_
-              102
+              111
               (List._∷_
-              105
+              117
               (List._∷_
-              110
+              116
               (List._∷_
-              105
+              99
               (List._∷_
-              115
+              111
               (List._∷_
-              104
+              109
+              (List._∷_
+              101
               (List._∷_
               58
               (List._∷_
               58
-              (List._∷_ 83 (List._∷_ 101 (List._∷_ 110 (List._∷_ 116 List.[]))))))))))))
+              (List._∷_ 83 (List._∷_ 101 (List._∷_ 110 (List._∷_ 116 List.[])))))))))))))
               (Syntax.tcons
               (Syntax.tyStruct
               (List._∷_
@@ -10291,22 +10397,24 @@ module _ (claims· : Claims) where
               (Syntax.tcons
               (Syntax.tyStruct
               (List._∷_
-              102
+              111
               (List._∷_
-              105
+              117
               (List._∷_
-              110
+              116
               (List._∷_
-              105
+              99
               (List._∷_
-              115
+              111
               (List._∷_
-              104
+              109
+              (List._∷_
+              101
               (List._∷_
               58
               (List._∷_
               58
-              (List._∷_ 83 (List._∷_ 101 (List._∷_ 110 (List._∷_ 116 List.[]))))))))))))
+              (List._∷_ 83 (List._∷_ 101 (List._∷_ 110 (List._∷_ 116 List.[])))))))))))))
               (Syntax.tcons
               (Syntax.tyStruct
               (List._∷_
@@ -10551,17 +10659,19 @@ module _ (claims· : Claims) where
           Rows.any-gone
               (Syntax.tyStruct
               (List._∷_
-              102
+              111
               (List._∷_
-              105
+              117
               (List._∷_
-              110
+              116
               (List._∷_
-              105
+              99
               (List._∷_
-              115
+              111
               (List._∷_
-              104
+              109
+              (List._∷_
+              101
               (List._∷_
               58
               (List._∷_
@@ -10572,26 +10682,28 @@ module _ (claims· : Claims) where
               117
               (List._∷_
               116
-              (List._∷_ 99 (List._∷_ 111 (List._∷_ 109 (List._∷_ 101 List.[])))))))))))))))
+              (List._∷_ 99 (List._∷_ 111 (List._∷_ 109 (List._∷_ 101 List.[]))))))))))))))))
               (Syntax.tcons
               (Syntax.tyStruct
               (List._∷_
-              102
+              111
               (List._∷_
-              105
+              117
               (List._∷_
-              110
+              116
               (List._∷_
-              105
+              99
               (List._∷_
-              115
+              111
               (List._∷_
-              104
+              109
+              (List._∷_
+              101
               (List._∷_
               58
               (List._∷_
               58
-              (List._∷_ 83 (List._∷_ 101 (List._∷_ 110 (List._∷_ 116 List.[]))))))))))))
+              (List._∷_ 83 (List._∷_ 101 (List._∷_ 110 (List._∷_ 116 List.[])))))))))))))
               (Syntax.tcons
               (Syntax.tyStruct
               (List._∷_
@@ -10654,22 +10766,24 @@ module _ (claims· : Claims) where
               (Syntax.tcons
               (Syntax.tyStruct
               (List._∷_
-              102
+              111
               (List._∷_
-              105
+              117
               (List._∷_
-              110
+              116
               (List._∷_
-              105
+              99
               (List._∷_
-              115
+              111
               (List._∷_
-              104
+              109
+              (List._∷_
+              101
               (List._∷_
               58
               (List._∷_
               58
-              (List._∷_ 83 (List._∷_ 101 (List._∷_ 110 (List._∷_ 116 List.[]))))))))))))
+              (List._∷_ 83 (List._∷_ 101 (List._∷_ 110 (List._∷_ 116 List.[])))))))))))))
               (Syntax.tcons
               (Syntax.tyStruct
               (List._∷_
@@ -10914,17 +11028,19 @@ module _ (claims· : Claims) where
           Rows.any-gone
               (Syntax.tyStruct
               (List._∷_
-              102
+              111
               (List._∷_
-              105
+              117
               (List._∷_
-              110
+              116
               (List._∷_
-              105
+              99
               (List._∷_
-              115
+              111
               (List._∷_
-              104
+              109
+              (List._∷_
+              101
               (List._∷_
               58
               (List._∷_
@@ -10935,26 +11051,28 @@ module _ (claims· : Claims) where
               117
               (List._∷_
               116
-              (List._∷_ 99 (List._∷_ 111 (List._∷_ 109 (List._∷_ 101 List.[])))))))))))))))
+              (List._∷_ 99 (List._∷_ 111 (List._∷_ 109 (List._∷_ 101 List.[]))))))))))))))))
               (Syntax.tcons
               (Syntax.tyStruct
               (List._∷_
-              102
+              111
               (List._∷_
-              105
+              117
               (List._∷_
-              110
+              116
               (List._∷_
-              105
+              99
               (List._∷_
-              115
+              111
               (List._∷_
-              104
+              109
+              (List._∷_
+              101
               (List._∷_
               58
               (List._∷_
               58
-              (List._∷_ 83 (List._∷_ 101 (List._∷_ 110 (List._∷_ 116 List.[]))))))))))))
+              (List._∷_ 83 (List._∷_ 101 (List._∷_ 110 (List._∷_ 116 List.[])))))))))))))
               (Syntax.tcons
               (Syntax.tyStruct
               (List._∷_
@@ -11017,22 +11135,24 @@ module _ (claims· : Claims) where
               (Syntax.tcons
               (Syntax.tyStruct
               (List._∷_
-              102
+              111
               (List._∷_
-              105
+              117
               (List._∷_
-              110
+              116
               (List._∷_
-              105
+              99
               (List._∷_
-              115
+              111
               (List._∷_
-              104
+              109
+              (List._∷_
+              101
               (List._∷_
               58
               (List._∷_
               58
-              (List._∷_ 83 (List._∷_ 101 (List._∷_ 110 (List._∷_ 116 List.[]))))))))))))
+              (List._∷_ 83 (List._∷_ 101 (List._∷_ 110 (List._∷_ 116 List.[])))))))))))))
               (Syntax.tcons
               (Syntax.tyStruct
               (List._∷_
@@ -11279,17 +11399,19 @@ module _ (claims· : Claims) where
           Rows.any-gone
               (Syntax.tyStruct
               (List._∷_
-              102
+              111
               (List._∷_
-              105
+              117
               (List._∷_
-              110
+              116
               (List._∷_
-              105
+              99
               (List._∷_
-              115
+              111
               (List._∷_
-              104
+              109
+              (List._∷_
+              101
               (List._∷_
               58
               (List._∷_
@@ -11300,26 +11422,28 @@ module _ (claims· : Claims) where
               117
               (List._∷_
               116
-              (List._∷_ 99 (List._∷_ 111 (List._∷_ 109 (List._∷_ 101 List.[])))))))))))))))
+              (List._∷_ 99 (List._∷_ 111 (List._∷_ 109 (List._∷_ 101 List.[]))))))))))))))))
               (Syntax.tcons
               (Syntax.tyStruct
               (List._∷_
-              102
+              111
               (List._∷_
-              105
+              117
               (List._∷_
-              110
+              116
               (List._∷_
-              105
+              99
               (List._∷_
-              115
+              111
               (List._∷_
-              104
+              109
+              (List._∷_
+              101
               (List._∷_
               58
               (List._∷_
               58
-              (List._∷_ 83 (List._∷_ 101 (List._∷_ 110 (List._∷_ 116 List.[]))))))))))))
+              (List._∷_ 83 (List._∷_ 101 (List._∷_ 110 (List._∷_ 116 List.[])))))))))))))
               (Syntax.tcons
               (Syntax.tyStruct
               (List._∷_
@@ -11382,22 +11506,24 @@ module _ (claims· : Claims) where
               (Syntax.tcons
               (Syntax.tyStruct
               (List._∷_
-              102
+              111
               (List._∷_
-              105
+              117
               (List._∷_
-              110
+              116
               (List._∷_
-              105
+              99
               (List._∷_
-              115
+              111
               (List._∷_
-              104
+              109
+              (List._∷_
+              101
               (List._∷_
               58
               (List._∷_
               58
-              (List._∷_ 83 (List._∷_ 101 (List._∷_ 110 (List._∷_ 116 List.[]))))))))))))
+              (List._∷_ 83 (List._∷_ 101 (List._∷_ 110 (List._∷_ 116 List.[])))))))))))))
               (Syntax.tcons
               (Syntax.tyStruct
               (List._∷_
@@ -11680,17 +11806,19 @@ module _ (claims· : Claims) where
           Rows.any-gone
               (Syntax.tyStruct
               (List._∷_
-              102
+              111
               (List._∷_
-              105
+              117
               (List._∷_
-              110
+              116
               (List._∷_
-              105
+              99
               (List._∷_
-              115
+              111
               (List._∷_
-              104
+              109
+              (List._∷_
+              101
               (List._∷_
               58
               (List._∷_
@@ -11701,26 +11829,28 @@ module _ (claims· : Claims) where
               117
               (List._∷_
               116
-              (List._∷_ 99 (List._∷_ 111 (List._∷_ 109 (List._∷_ 101 List.[])))))))))))))))
+              (List._∷_ 99 (List._∷_ 111 (List._∷_ 109 (List._∷_ 101 List.[]))))))))))))))))
               (Syntax.tcons
               (Syntax.tyStruct
               (List._∷_
-              102
+              111
               (List._∷_
-              105
+              117
               (List._∷_
-              110
+              116
               (List._∷_
-              105
+              99
               (List._∷_
-              115
+              111
               (List._∷_
-              104
+              109
+              (List._∷_
+              101
               (List._∷_
               58
               (List._∷_
               58
-              (List._∷_ 83 (List._∷_ 101 (List._∷_ 110 (List._∷_ 116 List.[]))))))))))))
+              (List._∷_ 83 (List._∷_ 101 (List._∷_ 110 (List._∷_ 116 List.[])))))))))))))
               (Syntax.tcons
               (Syntax.tyStruct
               (List._∷_
@@ -11783,22 +11913,24 @@ module _ (claims· : Claims) where
               (Syntax.tcons
               (Syntax.tyStruct
               (List._∷_
-              102
+              111
               (List._∷_
-              105
+              117
               (List._∷_
-              110
+              116
               (List._∷_
-              105
+              99
               (List._∷_
-              115
+              111
               (List._∷_
-              104
+              109
+              (List._∷_
+              101
               (List._∷_
               58
               (List._∷_
               58
-              (List._∷_ 83 (List._∷_ 101 (List._∷_ 110 (List._∷_ 116 List.[]))))))))))))
+              (List._∷_ 83 (List._∷_ 101 (List._∷_ 110 (List._∷_ 116 List.[])))))))))))))
               (Syntax.tcons
               (Syntax.tyStruct
               (List._∷_
@@ -14146,17 +14278,19 @@ module _ (claims· : Claims) where
               12
               (Syntax.tyStruct
               (List._∷_
-              102
+              111
               (List._∷_
-              105
+              117
               (List._∷_
-              110
+              116
               (List._∷_
-              105
+              99
               (List._∷_
-              115
+              111
               (List._∷_
-              104
+              109
+              (List._∷_
+              101
               (List._∷_
               58
               (List._∷_
@@ -14167,26 +14301,28 @@ module _ (claims· : Claims) where
               117
               (List._∷_
               116
-              (List._∷_ 99 (List._∷_ 111 (List._∷_ 109 (List._∷_ 101 List.[])))))))))))))))
+              (List._∷_ 99 (List._∷_ 111 (List._∷_ 109 (List._∷_ 101 List.[]))))))))))))))))
               (Syntax.tcons
               (Syntax.tyStruct
               (List._∷_
-              102
+              111
               (List._∷_
-              105
+              117
               (List._∷_
-              110
+              116
               (List._∷_
-              105
+              99
               (List._∷_
-              115
+              111
               (List._∷_
-              104
+              109
+              (List._∷_
+              101
               (List._∷_
               58
               (List._∷_
               58
-              (List._∷_ 83 (List._∷_ 101 (List._∷_ 110 (List._∷_ 116 List.[]))))))))))))
+              (List._∷_ 83 (List._∷_ 101 (List._∷_ 110 (List._∷_ 116 List.[])))))))))))))
               (Syntax.tcons
               (Syntax.tyStruct
               (List._∷_
@@ -14249,22 +14385,24 @@ module _ (claims· : Claims) where
               (Syntax.tcons
               (Syntax.tyStruct
               (List._∷_
-              102
+              111
               (List._∷_
-              105
+              117
               (List._∷_
-              110
+              116
               (List._∷_
-              105
+              99
               (List._∷_
-              115
+              111
               (List._∷_
-              104
+              109
+              (List._∷_
+              101
               (List._∷_
               58
               (List._∷_
               58
-              (List._∷_ 83 (List._∷_ 101 (List._∷_ 110 (List._∷_ 116 List.[]))))))))))))
+              (List._∷_ 83 (List._∷_ 101 (List._∷_ 110 (List._∷_ 116 List.[])))))))))))))
               (Syntax.tcons
               (Syntax.tyStruct
               (List._∷_
@@ -14387,17 +14525,19 @@ module _ (claims· : Claims) where
               (Declared'.row Outcome.the-type)
               (Syntax.tyStruct
               (List._∷_
-              102
+              111
               (List._∷_
-              105
+              117
               (List._∷_
-              110
+              116
               (List._∷_
-              105
+              99
               (List._∷_
-              115
+              111
               (List._∷_
-              104
+              109
+              (List._∷_
+              101
               (List._∷_
               58
               (List._∷_
@@ -14408,26 +14548,28 @@ module _ (claims· : Claims) where
               117
               (List._∷_
               116
-              (List._∷_ 99 (List._∷_ 111 (List._∷_ 109 (List._∷_ 101 List.[])))))))))))))))
+              (List._∷_ 99 (List._∷_ 111 (List._∷_ 109 (List._∷_ 101 List.[]))))))))))))))))
               (Syntax.tcons
               (Syntax.tyStruct
               (List._∷_
-              102
+              111
               (List._∷_
-              105
+              117
               (List._∷_
-              110
+              116
               (List._∷_
-              105
+              99
               (List._∷_
-              115
+              111
               (List._∷_
-              104
+              109
+              (List._∷_
+              101
               (List._∷_
               58
               (List._∷_
               58
-              (List._∷_ 83 (List._∷_ 101 (List._∷_ 110 (List._∷_ 116 List.[]))))))))))))
+              (List._∷_ 83 (List._∷_ 101 (List._∷_ 110 (List._∷_ 116 List.[])))))))))))))
               (Syntax.tcons
               (Syntax.tyStruct
               (List._∷_
@@ -14490,22 +14632,24 @@ module _ (claims· : Claims) where
               (Syntax.tcons
               (Syntax.tyStruct
               (List._∷_
-              102
+              111
               (List._∷_
-              105
+              117
               (List._∷_
-              110
+              116
               (List._∷_
-              105
+              99
               (List._∷_
-              115
+              111
               (List._∷_
-              104
+              109
+              (List._∷_
+              101
               (List._∷_
               58
               (List._∷_
               58
-              (List._∷_ 83 (List._∷_ 101 (List._∷_ 110 (List._∷_ 116 List.[]))))))))))))
+              (List._∷_ 83 (List._∷_ 101 (List._∷_ 110 (List._∷_ 116 List.[])))))))))))))
               (Syntax.tcons
               (Syntax.tyStruct
               (List._∷_
@@ -14668,7 +14812,14 @@ module _ (claims· : Claims) where
                       (λ ρ. Unit)
                       (Declared'.row Outcome.the-type)
                       Path'.refl
-                      (Copies.cStruct Outcome.the-type Laws'.the-laws Laws'.the-copy .copy 𝓤 H A W)
+                      (Copies.cStruct
+                      Outcome.the-type
+                      Laws'3.the-laws
+                      Laws'3.the-copy .copy
+                      𝓤
+                      H
+                      A
+                      W)
                       (Rows.whole (Declared'.row Outcome.the-type))
                       (λ x. x)
                       (λ x. x)
@@ -15140,7 +15291,14 @@ module _ (claims· : Claims) where
                       (λ ρ. Unit)
                       (Declared'.row Outcome.the-type)
                       Path'.refl
-                      (Copies.cStruct Outcome.the-type Laws'.the-laws Laws'.the-copy .copy 𝓤 H A W)
+                      (Copies.cStruct
+                      Outcome.the-type
+                      Laws'3.the-laws
+                      Laws'3.the-copy .copy
+                      𝓤
+                      H
+                      A
+                      W)
                       (Rows.whole (Declared'.row Outcome.the-type))
                       (λ x. x)
                       (λ x. x)
@@ -16247,17 +16405,19 @@ module _ (claims· : Claims) where
               A
               (Syntax.tyStruct
               (List._∷_
-              102
+              111
               (List._∷_
-              105
+              117
               (List._∷_
-              110
+              116
               (List._∷_
-              105
+              99
               (List._∷_
-              115
+              111
               (List._∷_
-              104
+              109
+              (List._∷_
+              101
               (List._∷_
               58
               (List._∷_
@@ -16268,26 +16428,28 @@ module _ (claims· : Claims) where
               117
               (List._∷_
               116
-              (List._∷_ 99 (List._∷_ 111 (List._∷_ 109 (List._∷_ 101 List.[])))))))))))))))
+              (List._∷_ 99 (List._∷_ 111 (List._∷_ 109 (List._∷_ 101 List.[]))))))))))))))))
               (Syntax.tcons
               (Syntax.tyStruct
               (List._∷_
-              102
+              111
               (List._∷_
-              105
+              117
               (List._∷_
-              110
+              116
               (List._∷_
-              105
+              99
               (List._∷_
-              115
+              111
               (List._∷_
-              104
+              109
+              (List._∷_
+              101
               (List._∷_
               58
               (List._∷_
               58
-              (List._∷_ 83 (List._∷_ 101 (List._∷_ 110 (List._∷_ 116 List.[]))))))))))))
+              (List._∷_ 83 (List._∷_ 101 (List._∷_ 110 (List._∷_ 116 List.[])))))))))))))
               (Syntax.tcons
               (Syntax.tyStruct
               (List._∷_
@@ -16350,22 +16512,24 @@ module _ (claims· : Claims) where
               (Syntax.tcons
               (Syntax.tyStruct
               (List._∷_
-              102
+              111
               (List._∷_
-              105
+              117
               (List._∷_
-              110
+              116
               (List._∷_
-              105
+              99
               (List._∷_
-              115
+              111
               (List._∷_
-              104
+              109
+              (List._∷_
+              101
               (List._∷_
               58
               (List._∷_
               58
-              (List._∷_ 83 (List._∷_ 101 (List._∷_ 110 (List._∷_ 116 List.[]))))))))))))
+              (List._∷_ 83 (List._∷_ 101 (List._∷_ 110 (List._∷_ 116 List.[])))))))))))))
               (Syntax.tcons
               (Syntax.tyStruct
               (List._∷_
@@ -16629,8 +16793,8 @@ module _ (claims· : Claims) where
                       Path'.refl
                       (Copies.cStruct
                       HostStart.the-type
-                      Laws'3.the-laws
-                      Laws'3.the-copy .copy
+                      Laws''.the-laws
+                      Laws''.the-copy .copy
                       𝓤
                       H
                       A
@@ -17622,16 +17786,16 @@ module _ (claims· : Claims) where
           pub start : Kinds.Den {n = 6} κs (Value.pVal record {
             ty = Declared'.row HostStart.the-type;
             one = Path'.refl;
-            val = Laws'7.val HostStart.the-type Laws'3.the-laws;
-            tells = Laws'7.tells HostStart.the-type Laws'3.the-laws;
-            still = Laws'7.still HostStart.the-type Laws'3.the-copy Exit.yes;
+            val = Laws'7.val HostStart.the-type Laws''.the-laws;
+            tells = Laws'7.tells HostStart.the-type Laws''.the-laws;
+            still = Laws'7.still HostStart.the-type Laws''.the-copy Exit.yes;
             row = Rows.whole (Declared'.row HostStart.the-type);
             rd = λ x. x;
             mk = λ x. x;
           } λ M 𝓤 H A W. record {
-            copies = Laws'7.copy HostStart.the-type Laws'3.the-copy 𝓤 H A W;
-            lawful = Laws'7.lawful HostStart.the-type Laws'3.the-laws 𝓤 H A W;
-            makes = Laws'7.makes HostStart.the-type Laws'3.the-plain 𝓤 H A;
+            copies = Laws'7.copy HostStart.the-type Laws''.the-copy 𝓤 H A W;
+            lawful = Laws'7.lawful HostStart.the-type Laws''.the-laws 𝓤 H A W;
+            makes = Laws'7.makes HostStart.the-type Laws''.the-plain 𝓤 H A;
             in-mem = Local.mem-whole 𝓤 H A W (Declared'.row HostStart.the-type);
             of-mem = Local.whole-mem 𝓤 H A W (Declared'.row HostStart.the-type);
           })

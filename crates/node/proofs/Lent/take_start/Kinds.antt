@@ -6,8 +6,8 @@ use Rattle.decision.proofs.Elem.Decided as KDecided
 use Rattle.decision.proofs.Elem.Post as KPost
 use Rattle.art.proofs.Targets
 use Rattle.art.proofs.Targets.Laws
-use Rattle.finish.proofs.Outcome
-use Rattle.finish.proofs.Outcome.Laws as Laws'
+use Rattle.outcome.proofs.Outcome
+use Rattle.outcome.proofs.Outcome.Laws as Laws'
 use Rattle.own.proofs.Own
 use Rattle.own.proofs.Own.Laws as Laws''
 use Rattle.start.proofs.Asking

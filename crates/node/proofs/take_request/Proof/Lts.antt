@@ -9,16 +9,16 @@ use Rattle.answer.proofs.Answer
 use Rattle.answer.proofs.Answer.Laws
 use Rattle.finish.proofs.Live
 use Rattle.finish.proofs.Live.Laws as Laws'
-use Rattle.finish.proofs.Outcome
-use Rattle.finish.proofs.Outcome.Laws as Laws''
 use Rattle.message.proofs.Found
-use Rattle.message.proofs.Found.Laws as Laws'3
+use Rattle.message.proofs.Found.Laws as Laws''
 use Rattle.message.proofs.FoundRoute
-use Rattle.message.proofs.FoundRoute.Laws as Laws'4
+use Rattle.message.proofs.FoundRoute.Laws as Laws'3
 use Rattle.message.proofs.FreeDelta
-use Rattle.message.proofs.FreeDelta.Laws as Laws'5
+use Rattle.message.proofs.FreeDelta.Laws as Laws'4
 use Rattle.message.proofs.Link
-use Rattle.message.proofs.Link.Laws as Laws'6
+use Rattle.message.proofs.Link.Laws as Laws'5
+use Rattle.outcome.proofs.Outcome
+use Rattle.outcome.proofs.Outcome.Laws as Laws'6
 use Rattle.own.proofs.Own
 use Rattle.own.proofs.Own.Laws as Laws'7
 use Rattle.request.proofs.RequestFacts
@@ -111,16 +111,16 @@ ps =
     (List._∷_ (Num.pNum Syntax.w8) (List._∷_ (Num.pNum Syntax.w64) (List._∷_ (Value.pVal record {
       ty = Declared'.row Link.the-type;
       one = Path'.refl;
-      val = Laws'10.val Link.the-type Laws'6.the-laws;
-      tells = Laws'10.tells Link.the-type Laws'6.the-laws;
-      still = Laws'10.still Link.the-type Laws'6.the-copy Exit.yes;
+      val = Laws'10.val Link.the-type Laws'5.the-laws;
+      tells = Laws'10.tells Link.the-type Laws'5.the-laws;
+      still = Laws'10.still Link.the-type Laws'5.the-copy Exit.yes;
       row = Rows'.whole (Declared'.row Link.the-type);
       rd = λ x. x;
       mk = λ x. x;
     } λ M 𝓤 H A W. record {
-      copies = Laws'10.copy Link.the-type Laws'6.the-copy 𝓤 H A W;
-      lawful = Laws'10.lawful Link.the-type Laws'6.the-laws 𝓤 H A W;
-      makes = Laws'10.makes Link.the-type Laws'6.the-plain 𝓤 H A;
+      copies = Laws'10.copy Link.the-type Laws'5.the-copy 𝓤 H A W;
+      lawful = Laws'10.lawful Link.the-type Laws'5.the-laws 𝓤 H A W;
+      makes = Laws'10.makes Link.the-type Laws'5.the-plain 𝓤 H A;
       in-mem = Local.mem-whole 𝓤 H A W (Declared'.row Link.the-type);
       of-mem = Local.whole-mem 𝓤 H A W (Declared'.row Link.the-type);
     })
@@ -134,16 +134,16 @@ abbrev pub r : Kinds.RK 6
 r = Value.rVal record {
   ty = Declared'.row Outcome.the-type;
   one = Path'.refl;
-  val = Laws'10.val Outcome.the-type Laws''.the-laws;
-  tells = Laws'10.tells Outcome.the-type Laws''.the-laws;
-  still = Laws'10.still Outcome.the-type Laws''.the-copy Exit.yes;
+  val = Laws'10.val Outcome.the-type Laws'6.the-laws;
+  tells = Laws'10.tells Outcome.the-type Laws'6.the-laws;
+  still = Laws'10.still Outcome.the-type Laws'6.the-copy Exit.yes;
   row = Rows'.whole (Declared'.row Outcome.the-type);
   rd = λ x. x;
   mk = λ x. x;
 } λ M 𝓤 H A W. record {
-  copies = Laws'10.copy Outcome.the-type Laws''.the-copy 𝓤 H A W;
-  lawful = Laws'10.lawful Outcome.the-type Laws''.the-laws 𝓤 H A W;
-  makes = Laws'10.makes Outcome.the-type Laws''.the-plain 𝓤 H A;
+  copies = Laws'10.copy Outcome.the-type Laws'6.the-copy 𝓤 H A W;
+  lawful = Laws'10.lawful Outcome.the-type Laws'6.the-laws 𝓤 H A W;
+  makes = Laws'10.makes Outcome.the-type Laws'6.the-plain 𝓤 H A;
   in-mem = Local.mem-whole 𝓤 H A W (Declared'.row Outcome.the-type);
   of-mem = Local.whole-mem 𝓤 H A W (Declared'.row Outcome.the-type);
 }
@@ -675,16 +675,16 @@ abbrev pub r·4 : Kinds.RK 1
 r·4 = Value.rVal record {
   ty = Declared'.row Found.the-type;
   one = Path'.refl;
-  val = Laws'10.val Found.the-type Laws'3.the-laws;
-  tells = Laws'10.tells Found.the-type Laws'3.the-laws;
-  still = Laws'10.still Found.the-type Laws'3.the-copy Exit.yes;
+  val = Laws'10.val Found.the-type Laws''.the-laws;
+  tells = Laws'10.tells Found.the-type Laws''.the-laws;
+  still = Laws'10.still Found.the-type Laws''.the-copy Exit.yes;
   row = Rows'.whole (Declared'.row Found.the-type);
   rd = λ x. x;
   mk = λ x. x;
 } λ M 𝓤 H A W. record {
-  copies = Laws'10.copy Found.the-type Laws'3.the-copy 𝓤 H A W;
-  lawful = Laws'10.lawful Found.the-type Laws'3.the-laws 𝓤 H A W;
-  makes = Laws'10.makes Found.the-type Laws'3.the-plain 𝓤 H A;
+  copies = Laws'10.copy Found.the-type Laws''.the-copy 𝓤 H A W;
+  lawful = Laws'10.lawful Found.the-type Laws''.the-laws 𝓤 H A W;
+  makes = Laws'10.makes Found.the-type Laws''.the-plain 𝓤 H A;
   in-mem = Local.mem-whole 𝓤 H A W (Declared'.row Found.the-type);
   of-mem = Local.whole-mem 𝓤 H A W (Declared'.row Found.the-type);
 }
@@ -705,16 +705,16 @@ abbrev pub r·5 : Kinds.RK 1
 r·5 = Value.rVal record {
   ty = Declared'.row FoundRoute.the-type;
   one = Path'.refl;
-  val = Laws'10.val FoundRoute.the-type Laws'4.the-laws;
-  tells = Laws'10.tells FoundRoute.the-type Laws'4.the-laws;
-  still = Laws'10.still FoundRoute.the-type Laws'4.the-copy Exit.yes;
+  val = Laws'10.val FoundRoute.the-type Laws'3.the-laws;
+  tells = Laws'10.tells FoundRoute.the-type Laws'3.the-laws;
+  still = Laws'10.still FoundRoute.the-type Laws'3.the-copy Exit.yes;
   row = Rows'.whole (Declared'.row FoundRoute.the-type);
   rd = λ x. x;
   mk = λ x. x;
 } λ M 𝓤 H A W. record {
-  copies = Laws'10.copy FoundRoute.the-type Laws'4.the-copy 𝓤 H A W;
-  lawful = Laws'10.lawful FoundRoute.the-type Laws'4.the-laws 𝓤 H A W;
-  makes = Laws'10.makes FoundRoute.the-type Laws'4.the-plain 𝓤 H A;
+  copies = Laws'10.copy FoundRoute.the-type Laws'3.the-copy 𝓤 H A W;
+  lawful = Laws'10.lawful FoundRoute.the-type Laws'3.the-laws 𝓤 H A W;
+  makes = Laws'10.makes FoundRoute.the-type Laws'3.the-plain 𝓤 H A;
   in-mem = Local.mem-whole 𝓤 H A W (Declared'.row FoundRoute.the-type);
   of-mem = Local.whole-mem 𝓤 H A W (Declared'.row FoundRoute.the-type);
 }
@@ -733,16 +733,16 @@ abbrev pub r·6 : Kinds.RK 1
 r·6 = Value.rVal record {
   ty = Declared'.row FreeDelta.the-type;
   one = Path'.refl;
-  val = Laws'10.val FreeDelta.the-type Laws'5.the-laws;
-  tells = Laws'10.tells FreeDelta.the-type Laws'5.the-laws;
-  still = Laws'10.still FreeDelta.the-type Laws'5.the-copy Exit.yes;
+  val = Laws'10.val FreeDelta.the-type Laws'4.the-laws;
+  tells = Laws'10.tells FreeDelta.the-type Laws'4.the-laws;
+  still = Laws'10.still FreeDelta.the-type Laws'4.the-copy Exit.yes;
   row = Rows'.whole (Declared'.row FreeDelta.the-type);
   rd = λ x. x;
   mk = λ x. x;
 } λ M 𝓤 H A W. record {
-  copies = Laws'10.copy FreeDelta.the-type Laws'5.the-copy 𝓤 H A W;
-  lawful = Laws'10.lawful FreeDelta.the-type Laws'5.the-laws 𝓤 H A W;
-  makes = Laws'10.makes FreeDelta.the-type Laws'5.the-plain 𝓤 H A;
+  copies = Laws'10.copy FreeDelta.the-type Laws'4.the-copy 𝓤 H A W;
+  lawful = Laws'10.lawful FreeDelta.the-type Laws'4.the-laws 𝓤 H A W;
+  makes = Laws'10.makes FreeDelta.the-type Laws'4.the-plain 𝓤 H A;
   in-mem = Local.mem-whole 𝓤 H A W (Declared'.row FreeDelta.the-type);
   of-mem = Local.whole-mem 𝓤 H A W (Declared'.row FreeDelta.the-type);
 }
@@ -766,16 +766,16 @@ ps·7 = List._∷_ (Value.pVal record {
 }) (List._∷_ (Value.pVal record {
   ty = Declared'.row Link.the-type;
   one = Path'.refl;
-  val = Laws'10.val Link.the-type Laws'6.the-laws;
-  tells = Laws'10.tells Link.the-type Laws'6.the-laws;
-  still = Laws'10.still Link.the-type Laws'6.the-copy Exit.yes;
+  val = Laws'10.val Link.the-type Laws'5.the-laws;
+  tells = Laws'10.tells Link.the-type Laws'5.the-laws;
+  still = Laws'10.still Link.the-type Laws'5.the-copy Exit.yes;
   row = Rows'.whole (Declared'.row Link.the-type);
   rd = λ x. x;
   mk = λ x. x;
 } λ M 𝓤 H A W. record {
-  copies = Laws'10.copy Link.the-type Laws'6.the-copy 𝓤 H A W;
-  lawful = Laws'10.lawful Link.the-type Laws'6.the-laws 𝓤 H A W;
-  makes = Laws'10.makes Link.the-type Laws'6.the-plain 𝓤 H A;
+  copies = Laws'10.copy Link.the-type Laws'5.the-copy 𝓤 H A W;
+  lawful = Laws'10.lawful Link.the-type Laws'5.the-laws 𝓤 H A W;
+  makes = Laws'10.makes Link.the-type Laws'5.the-plain 𝓤 H A;
   in-mem = Local.mem-whole 𝓤 H A W (Declared'.row Link.the-type);
   of-mem = Local.whole-mem 𝓤 H A W (Declared'.row Link.the-type);
 })
@@ -784,46 +784,46 @@ ps·7 = List._∷_ (Value.pVal record {
     (List._∷_ (Value.pVal record {
       ty = Declared'.row Found.the-type;
       one = Path'.refl;
-      val = Laws'10.val Found.the-type Laws'3.the-laws;
-      tells = Laws'10.tells Found.the-type Laws'3.the-laws;
-      still = Laws'10.still Found.the-type Laws'3.the-copy Exit.yes;
+      val = Laws'10.val Found.the-type Laws''.the-laws;
+      tells = Laws'10.tells Found.the-type Laws''.the-laws;
+      still = Laws'10.still Found.the-type Laws''.the-copy Exit.yes;
       row = Rows'.whole (Declared'.row Found.the-type);
       rd = λ x. x;
       mk = λ x. x;
     } λ M 𝓤 H A W. record {
-      copies = Laws'10.copy Found.the-type Laws'3.the-copy 𝓤 H A W;
-      lawful = Laws'10.lawful Found.the-type Laws'3.the-laws 𝓤 H A W;
-      makes = Laws'10.makes Found.the-type Laws'3.the-plain 𝓤 H A;
+      copies = Laws'10.copy Found.the-type Laws''.the-copy 𝓤 H A W;
+      lawful = Laws'10.lawful Found.the-type Laws''.the-laws 𝓤 H A W;
+      makes = Laws'10.makes Found.the-type Laws''.the-plain 𝓤 H A;
       in-mem = Local.mem-whole 𝓤 H A W (Declared'.row Found.the-type);
       of-mem = Local.whole-mem 𝓤 H A W (Declared'.row Found.the-type);
     }) (List._∷_ (Value.pVal record {
       ty = Declared'.row FoundRoute.the-type;
       one = Path'.refl;
-      val = Laws'10.val FoundRoute.the-type Laws'4.the-laws;
-      tells = Laws'10.tells FoundRoute.the-type Laws'4.the-laws;
-      still = Laws'10.still FoundRoute.the-type Laws'4.the-copy Exit.yes;
+      val = Laws'10.val FoundRoute.the-type Laws'3.the-laws;
+      tells = Laws'10.tells FoundRoute.the-type Laws'3.the-laws;
+      still = Laws'10.still FoundRoute.the-type Laws'3.the-copy Exit.yes;
       row = Rows'.whole (Declared'.row FoundRoute.the-type);
       rd = λ x. x;
       mk = λ x. x;
     } λ M 𝓤 H A W. record {
-      copies = Laws'10.copy FoundRoute.the-type Laws'4.the-copy 𝓤 H A W;
-      lawful = Laws'10.lawful FoundRoute.the-type Laws'4.the-laws 𝓤 H A W;
-      makes = Laws'10.makes FoundRoute.the-type Laws'4.the-plain 𝓤 H A;
+      copies = Laws'10.copy FoundRoute.the-type Laws'3.the-copy 𝓤 H A W;
+      lawful = Laws'10.lawful FoundRoute.the-type Laws'3.the-laws 𝓤 H A W;
+      makes = Laws'10.makes FoundRoute.the-type Laws'3.the-plain 𝓤 H A;
       in-mem = Local.mem-whole 𝓤 H A W (Declared'.row FoundRoute.the-type);
       of-mem = Local.whole-mem 𝓤 H A W (Declared'.row FoundRoute.the-type);
     }) (List._∷_ (Value.pVal record {
       ty = Declared'.row FreeDelta.the-type;
       one = Path'.refl;
-      val = Laws'10.val FreeDelta.the-type Laws'5.the-laws;
-      tells = Laws'10.tells FreeDelta.the-type Laws'5.the-laws;
-      still = Laws'10.still FreeDelta.the-type Laws'5.the-copy Exit.yes;
+      val = Laws'10.val FreeDelta.the-type Laws'4.the-laws;
+      tells = Laws'10.tells FreeDelta.the-type Laws'4.the-laws;
+      still = Laws'10.still FreeDelta.the-type Laws'4.the-copy Exit.yes;
       row = Rows'.whole (Declared'.row FreeDelta.the-type);
       rd = λ x. x;
       mk = λ x. x;
     } λ M 𝓤 H A W. record {
-      copies = Laws'10.copy FreeDelta.the-type Laws'5.the-copy 𝓤 H A W;
-      lawful = Laws'10.lawful FreeDelta.the-type Laws'5.the-laws 𝓤 H A W;
-      makes = Laws'10.makes FreeDelta.the-type Laws'5.the-plain 𝓤 H A;
+      copies = Laws'10.copy FreeDelta.the-type Laws'4.the-copy 𝓤 H A W;
+      lawful = Laws'10.lawful FreeDelta.the-type Laws'4.the-laws 𝓤 H A W;
+      makes = Laws'10.makes FreeDelta.the-type Laws'4.the-plain 𝓤 H A;
       in-mem = Local.mem-whole 𝓤 H A W (Declared'.row FreeDelta.the-type);
       of-mem = Local.whole-mem 𝓤 H A W (Declared'.row FreeDelta.the-type);
     }) List.[])))))
@@ -865,16 +865,16 @@ ps·8 = List._∷_ (Value.pVal record {
 }) (List._∷_ (Value.pVal record {
   ty = Declared'.row Link.the-type;
   one = Path'.refl;
-  val = Laws'10.val Link.the-type Laws'6.the-laws;
-  tells = Laws'10.tells Link.the-type Laws'6.the-laws;
-  still = Laws'10.still Link.the-type Laws'6.the-copy Exit.yes;
+  val = Laws'10.val Link.the-type Laws'5.the-laws;
+  tells = Laws'10.tells Link.the-type Laws'5.the-laws;
+  still = Laws'10.still Link.the-type Laws'5.the-copy Exit.yes;
   row = Rows'.whole (Declared'.row Link.the-type);
   rd = λ x. x;
   mk = λ x. x;
 } λ M 𝓤 H A W. record {
-  copies = Laws'10.copy Link.the-type Laws'6.the-copy 𝓤 H A W;
-  lawful = Laws'10.lawful Link.the-type Laws'6.the-laws 𝓤 H A W;
-  makes = Laws'10.makes Link.the-type Laws'6.the-plain 𝓤 H A;
+  copies = Laws'10.copy Link.the-type Laws'5.the-copy 𝓤 H A W;
+  lawful = Laws'10.lawful Link.the-type Laws'5.the-laws 𝓤 H A W;
+  makes = Laws'10.makes Link.the-type Laws'5.the-plain 𝓤 H A;
   in-mem = Local.mem-whole 𝓤 H A W (Declared'.row Link.the-type);
   of-mem = Local.whole-mem 𝓤 H A W (Declared'.row Link.the-type);
 })
@@ -960,16 +960,16 @@ abbrev pub r·10 : Kinds.RK 0
 r·10 = Value.rVal record {
   ty = Declared'.row Outcome.the-type;
   one = Path'.refl;
-  val = Laws'10.val Outcome.the-type Laws''.the-laws;
-  tells = Laws'10.tells Outcome.the-type Laws''.the-laws;
-  still = Laws'10.still Outcome.the-type Laws''.the-copy Exit.yes;
+  val = Laws'10.val Outcome.the-type Laws'6.the-laws;
+  tells = Laws'10.tells Outcome.the-type Laws'6.the-laws;
+  still = Laws'10.still Outcome.the-type Laws'6.the-copy Exit.yes;
   row = Rows'.whole (Declared'.row Outcome.the-type);
   rd = λ x. x;
   mk = λ x. x;
 } λ M 𝓤 H A W. record {
-  copies = Laws'10.copy Outcome.the-type Laws''.the-copy 𝓤 H A W;
-  lawful = Laws'10.lawful Outcome.the-type Laws''.the-laws 𝓤 H A W;
-  makes = Laws'10.makes Outcome.the-type Laws''.the-plain 𝓤 H A;
+  copies = Laws'10.copy Outcome.the-type Laws'6.the-copy 𝓤 H A W;
+  lawful = Laws'10.lawful Outcome.the-type Laws'6.the-laws 𝓤 H A W;
+  makes = Laws'10.makes Outcome.the-type Laws'6.the-plain 𝓤 H A;
   in-mem = Local.mem-whole 𝓤 H A W (Declared'.row Outcome.the-type);
   of-mem = Local.whole-mem 𝓤 H A W (Declared'.row Outcome.the-type);
 }
@@ -993,16 +993,16 @@ ps·11 = List._∷_ (Value.pVal record {
 }) (List._∷_ (Num.pNum Syntax.w8) (List._∷_ (Num.pNum Syntax.w64) (List._∷_ (Value.pVal record {
   ty = Declared'.row Link.the-type;
   one = Path'.refl;
-  val = Laws'10.val Link.the-type Laws'6.the-laws;
-  tells = Laws'10.tells Link.the-type Laws'6.the-laws;
-  still = Laws'10.still Link.the-type Laws'6.the-copy Exit.yes;
+  val = Laws'10.val Link.the-type Laws'5.the-laws;
+  tells = Laws'10.tells Link.the-type Laws'5.the-laws;
+  still = Laws'10.still Link.the-type Laws'5.the-copy Exit.yes;
   row = Rows'.whole (Declared'.row Link.the-type);
   rd = λ x. x;
   mk = λ x. x;
 } λ M 𝓤 H A W. record {
-  copies = Laws'10.copy Link.the-type Laws'6.the-copy 𝓤 H A W;
-  lawful = Laws'10.lawful Link.the-type Laws'6.the-laws 𝓤 H A W;
-  makes = Laws'10.makes Link.the-type Laws'6.the-plain 𝓤 H A;
+  copies = Laws'10.copy Link.the-type Laws'5.the-copy 𝓤 H A W;
+  lawful = Laws'10.lawful Link.the-type Laws'5.the-laws 𝓤 H A W;
+  makes = Laws'10.makes Link.the-type Laws'5.the-plain 𝓤 H A;
   in-mem = Local.mem-whole 𝓤 H A W (Declared'.row Link.the-type);
   of-mem = Local.whole-mem 𝓤 H A W (Declared'.row Link.the-type);
 })
@@ -1032,16 +1032,16 @@ abbrev pub ps·12 : List.List (Kinds.PK 0)
 ps·12 = List._∷_ (Value.pVal record {
   ty = Declared'.row Link.the-type;
   one = Path'.refl;
-  val = Laws'10.val Link.the-type Laws'6.the-laws;
-  tells = Laws'10.tells Link.the-type Laws'6.the-laws;
-  still = Laws'10.still Link.the-type Laws'6.the-copy Exit.yes;
+  val = Laws'10.val Link.the-type Laws'5.the-laws;
+  tells = Laws'10.tells Link.the-type Laws'5.the-laws;
+  still = Laws'10.still Link.the-type Laws'5.the-copy Exit.yes;
   row = Rows'.whole (Declared'.row Link.the-type);
   rd = λ x. x;
   mk = λ x. x;
 } λ M 𝓤 H A W. record {
-  copies = Laws'10.copy Link.the-type Laws'6.the-copy 𝓤 H A W;
-  lawful = Laws'10.lawful Link.the-type Laws'6.the-laws 𝓤 H A W;
-  makes = Laws'10.makes Link.the-type Laws'6.the-plain 𝓤 H A;
+  copies = Laws'10.copy Link.the-type Laws'5.the-copy 𝓤 H A W;
+  lawful = Laws'10.lawful Link.the-type Laws'5.the-laws 𝓤 H A W;
+  makes = Laws'10.makes Link.the-type Laws'5.the-plain 𝓤 H A;
   in-mem = Local.mem-whole 𝓤 H A W (Declared'.row Link.the-type);
   of-mem = Local.whole-mem 𝓤 H A W (Declared'.row Link.the-type);
 })
@@ -1086,16 +1086,16 @@ ps·13 = List._∷_ (Value.pVal record {
 }) (List._∷_ (Value.pVal record {
   ty = Declared'.row Link.the-type;
   one = Path'.refl;
-  val = Laws'10.val Link.the-type Laws'6.the-laws;
-  tells = Laws'10.tells Link.the-type Laws'6.the-laws;
-  still = Laws'10.still Link.the-type Laws'6.the-copy Exit.yes;
+  val = Laws'10.val Link.the-type Laws'5.the-laws;
+  tells = Laws'10.tells Link.the-type Laws'5.the-laws;
+  still = Laws'10.still Link.the-type Laws'5.the-copy Exit.yes;
   row = Rows'.whole (Declared'.row Link.the-type);
   rd = λ x. x;
   mk = λ x. x;
 } λ M 𝓤 H A W. record {
-  copies = Laws'10.copy Link.the-type Laws'6.the-copy 𝓤 H A W;
-  lawful = Laws'10.lawful Link.the-type Laws'6.the-laws 𝓤 H A W;
-  makes = Laws'10.makes Link.the-type Laws'6.the-plain 𝓤 H A;
+  copies = Laws'10.copy Link.the-type Laws'5.the-copy 𝓤 H A W;
+  lawful = Laws'10.lawful Link.the-type Laws'5.the-laws 𝓤 H A W;
+  makes = Laws'10.makes Link.the-type Laws'5.the-plain 𝓤 H A;
   in-mem = Local.mem-whole 𝓤 H A W (Declared'.row Link.the-type);
   of-mem = Local.whole-mem 𝓤 H A W (Declared'.row Link.the-type);
 })
@@ -1125,31 +1125,31 @@ abbrev pub ps·14 : List.List (Kinds.PK 0)
 ps·14 = List._∷_ (Value.pVal record {
   ty = Declared'.row Found.the-type;
   one = Path'.refl;
-  val = Laws'10.val Found.the-type Laws'3.the-laws;
-  tells = Laws'10.tells Found.the-type Laws'3.the-laws;
-  still = Laws'10.still Found.the-type Laws'3.the-copy Exit.yes;
+  val = Laws'10.val Found.the-type Laws''.the-laws;
+  tells = Laws'10.tells Found.the-type Laws''.the-laws;
+  still = Laws'10.still Found.the-type Laws''.the-copy Exit.yes;
   row = Rows'.whole (Declared'.row Found.the-type);
   rd = λ x. x;
   mk = λ x. x;
 } λ M 𝓤 H A W. record {
-  copies = Laws'10.copy Found.the-type Laws'3.the-copy 𝓤 H A W;
-  lawful = Laws'10.lawful Found.the-type Laws'3.the-laws 𝓤 H A W;
-  makes = Laws'10.makes Found.the-type Laws'3.the-plain 𝓤 H A;
+  copies = Laws'10.copy Found.the-type Laws''.the-copy 𝓤 H A W;
+  lawful = Laws'10.lawful Found.the-type Laws''.the-laws 𝓤 H A W;
+  makes = Laws'10.makes Found.the-type Laws''.the-plain 𝓤 H A;
   in-mem = Local.mem-whole 𝓤 H A W (Declared'.row Found.the-type);
   of-mem = Local.whole-mem 𝓤 H A W (Declared'.row Found.the-type);
 }) (List._∷_ (Value.pVal record {
   ty = Declared'.row FoundRoute.the-type;
   one = Path'.refl;
-  val = Laws'10.val FoundRoute.the-type Laws'4.the-laws;
-  tells = Laws'10.tells FoundRoute.the-type Laws'4.the-laws;
-  still = Laws'10.still FoundRoute.the-type Laws'4.the-copy Exit.yes;
+  val = Laws'10.val FoundRoute.the-type Laws'3.the-laws;
+  tells = Laws'10.tells FoundRoute.the-type Laws'3.the-laws;
+  still = Laws'10.still FoundRoute.the-type Laws'3.the-copy Exit.yes;
   row = Rows'.whole (Declared'.row FoundRoute.the-type);
   rd = λ x. x;
   mk = λ x. x;
 } λ M 𝓤 H A W. record {
-  copies = Laws'10.copy FoundRoute.the-type Laws'4.the-copy 𝓤 H A W;
-  lawful = Laws'10.lawful FoundRoute.the-type Laws'4.the-laws 𝓤 H A W;
-  makes = Laws'10.makes FoundRoute.the-type Laws'4.the-plain 𝓤 H A;
+  copies = Laws'10.copy FoundRoute.the-type Laws'3.the-copy 𝓤 H A W;
+  lawful = Laws'10.lawful FoundRoute.the-type Laws'3.the-laws 𝓤 H A W;
+  makes = Laws'10.makes FoundRoute.the-type Laws'3.the-plain 𝓤 H A;
   in-mem = Local.mem-whole 𝓤 H A W (Declared'.row FoundRoute.the-type);
   of-mem = Local.whole-mem 𝓤 H A W (Declared'.row FoundRoute.the-type);
 }) List.[])
@@ -1233,16 +1233,16 @@ abbrev pub r·15 : Kinds.RK 8
 r·15 = Value.rVal record {
   ty = Declared'.row Outcome.the-type;
   one = Path'.refl;
-  val = Laws'10.val Outcome.the-type Laws''.the-laws;
-  tells = Laws'10.tells Outcome.the-type Laws''.the-laws;
-  still = Laws'10.still Outcome.the-type Laws''.the-copy Exit.yes;
+  val = Laws'10.val Outcome.the-type Laws'6.the-laws;
+  tells = Laws'10.tells Outcome.the-type Laws'6.the-laws;
+  still = Laws'10.still Outcome.the-type Laws'6.the-copy Exit.yes;
   row = Rows'.whole (Declared'.row Outcome.the-type);
   rd = λ x. x;
   mk = λ x. x;
 } λ M 𝓤 H A W. record {
-  copies = Laws'10.copy Outcome.the-type Laws''.the-copy 𝓤 H A W;
-  lawful = Laws'10.lawful Outcome.the-type Laws''.the-laws 𝓤 H A W;
-  makes = Laws'10.makes Outcome.the-type Laws''.the-plain 𝓤 H A;
+  copies = Laws'10.copy Outcome.the-type Laws'6.the-copy 𝓤 H A W;
+  lawful = Laws'10.lawful Outcome.the-type Laws'6.the-laws 𝓤 H A W;
+  makes = Laws'10.makes Outcome.the-type Laws'6.the-plain 𝓤 H A;
   in-mem = Local.mem-whole 𝓤 H A W (Declared'.row Outcome.the-type);
   of-mem = Local.whole-mem 𝓤 H A W (Declared'.row Outcome.the-type);
 }
@@ -1560,7 +1560,7 @@ b20 =
 abbrev b21 : Syntax.Body
 b21 =
     Syntax.call
-    "finish::refused"
+    "outcome::refused"
     (List._∷_
     (Syntax.copy (Syntax.place 19 List.[]))
     (List._∷_
@@ -1969,17 +1969,19 @@ t0 = List._∷_ (
   Rows'.any-gone
       (Syntax.tyStruct
       (List._∷_
-      102
+      111
       (List._∷_
-      105
+      117
       (List._∷_
-      110
+      116
       (List._∷_
-      105
+      99
       (List._∷_
-      115
+      111
       (List._∷_
-      104
+      109
+      (List._∷_
+      101
       (List._∷_
       58
       (List._∷_
@@ -1988,24 +1990,26 @@ t0 = List._∷_ (
       79
       (List._∷_
       117
-      (List._∷_ 116 (List._∷_ 99 (List._∷_ 111 (List._∷_ 109 (List._∷_ 101 List.[])))))))))))))))
+      (List._∷_ 116 (List._∷_ 99 (List._∷_ 111 (List._∷_ 109 (List._∷_ 101 List.[]))))))))))))))))
       (Syntax.tcons
       (Syntax.tyStruct
       (List._∷_
-      102
+      111
       (List._∷_
-      105
+      117
       (List._∷_
-      110
+      116
       (List._∷_
-      105
+      99
       (List._∷_
-      115
+      111
       (List._∷_
-      104
+      109
+      (List._∷_
+      101
       (List._∷_
       58
-      (List._∷_ 58 (List._∷_ 83 (List._∷_ 101 (List._∷_ 110 (List._∷_ 116 List.[]))))))))))))
+      (List._∷_ 58 (List._∷_ 83 (List._∷_ 101 (List._∷_ 110 (List._∷_ 116 List.[])))))))))))))
       (Syntax.tcons
       (Syntax.tyStruct
       (List._∷_
@@ -2068,20 +2072,22 @@ t0 = List._∷_ (
       (Syntax.tcons
       (Syntax.tyStruct
       (List._∷_
-      102
+      111
       (List._∷_
-      105
+      117
       (List._∷_
-      110
+      116
       (List._∷_
-      105
+      99
       (List._∷_
-      115
+      111
       (List._∷_
-      104
+      109
+      (List._∷_
+      101
       (List._∷_
       58
-      (List._∷_ 58 (List._∷_ 83 (List._∷_ 101 (List._∷_ 110 (List._∷_ 116 List.[]))))))))))))
+      (List._∷_ 58 (List._∷_ 83 (List._∷_ 101 (List._∷_ 110 (List._∷_ 116 List.[])))))))))))))
       (Syntax.tcons
       (Syntax.tyStruct
       (List._∷_
@@ -3703,17 +3709,19 @@ t6 = List._∷_ (
   Rows'.any-gone
       (Syntax.tyStruct
       (List._∷_
-      102
+      111
       (List._∷_
-      105
+      117
       (List._∷_
-      110
+      116
       (List._∷_
-      105
+      99
       (List._∷_
-      115
+      111
       (List._∷_
-      104
+      109
+      (List._∷_
+      101
       (List._∷_
       58
       (List._∷_
@@ -3722,24 +3730,26 @@ t6 = List._∷_ (
       79
       (List._∷_
       117
-      (List._∷_ 116 (List._∷_ 99 (List._∷_ 111 (List._∷_ 109 (List._∷_ 101 List.[])))))))))))))))
+      (List._∷_ 116 (List._∷_ 99 (List._∷_ 111 (List._∷_ 109 (List._∷_ 101 List.[]))))))))))))))))
       (Syntax.tcons
       (Syntax.tyStruct
       (List._∷_
-      102
+      111
       (List._∷_
-      105
+      117
       (List._∷_
-      110
+      116
       (List._∷_
-      105
+      99
       (List._∷_
-      115
+      111
       (List._∷_
-      104
+      109
+      (List._∷_
+      101
       (List._∷_
       58
-      (List._∷_ 58 (List._∷_ 83 (List._∷_ 101 (List._∷_ 110 (List._∷_ 116 List.[]))))))))))))
+      (List._∷_ 58 (List._∷_ 83 (List._∷_ 101 (List._∷_ 110 (List._∷_ 116 List.[])))))))))))))
       (Syntax.tcons
       (Syntax.tyStruct
       (List._∷_
@@ -3802,20 +3812,22 @@ t6 = List._∷_ (
       (Syntax.tcons
       (Syntax.tyStruct
       (List._∷_
-      102
+      111
       (List._∷_
-      105
+      117
       (List._∷_
-      110
+      116
       (List._∷_
-      105
+      99
       (List._∷_
-      115
+      111
       (List._∷_
-      104
+      109
+      (List._∷_
+      101
       (List._∷_
       58
-      (List._∷_ 58 (List._∷_ 83 (List._∷_ 101 (List._∷_ 110 (List._∷_ 116 List.[]))))))))))))
+      (List._∷_ 58 (List._∷_ 83 (List._∷_ 101 (List._∷_ 110 (List._∷_ 116 List.[])))))))))))))
       (Syntax.tcons
       (Syntax.tyStruct
       (List._∷_
@@ -4012,17 +4024,19 @@ t7 = List._∷_ (
   Rows'.any-gone
       (Syntax.tyStruct
       (List._∷_
-      102
+      111
       (List._∷_
-      105
+      117
       (List._∷_
-      110
+      116
       (List._∷_
-      105
+      99
       (List._∷_
-      115
+      111
       (List._∷_
-      104
+      109
+      (List._∷_
+      101
       (List._∷_
       58
       (List._∷_
@@ -4031,24 +4045,26 @@ t7 = List._∷_ (
       79
       (List._∷_
       117
-      (List._∷_ 116 (List._∷_ 99 (List._∷_ 111 (List._∷_ 109 (List._∷_ 101 List.[])))))))))))))))
+      (List._∷_ 116 (List._∷_ 99 (List._∷_ 111 (List._∷_ 109 (List._∷_ 101 List.[]))))))))))))))))
       (Syntax.tcons
       (Syntax.tyStruct
       (List._∷_
-      102
+      111
       (List._∷_
-      105
+      117
       (List._∷_
-      110
+      116
       (List._∷_
-      105
+      99
       (List._∷_
-      115
+      111
       (List._∷_
-      104
+      109
+      (List._∷_
+      101
       (List._∷_
       58
-      (List._∷_ 58 (List._∷_ 83 (List._∷_ 101 (List._∷_ 110 (List._∷_ 116 List.[]))))))))))))
+      (List._∷_ 58 (List._∷_ 83 (List._∷_ 101 (List._∷_ 110 (List._∷_ 116 List.[])))))))))))))
       (Syntax.tcons
       (Syntax.tyStruct
       (List._∷_
@@ -4111,20 +4127,22 @@ t7 = List._∷_ (
       (Syntax.tcons
       (Syntax.tyStruct
       (List._∷_
-      102
+      111
       (List._∷_
-      105
+      117
       (List._∷_
-      110
+      116
       (List._∷_
-      105
+      99
       (List._∷_
-      115
+      111
       (List._∷_
-      104
+      109
+      (List._∷_
+      101
       (List._∷_
       58
-      (List._∷_ 58 (List._∷_ 83 (List._∷_ 101 (List._∷_ 110 (List._∷_ 116 List.[]))))))))))))
+      (List._∷_ 58 (List._∷_ 83 (List._∷_ 101 (List._∷_ 110 (List._∷_ 116 List.[])))))))))))))
       (Syntax.tcons
       (Syntax.tyStruct
       (List._∷_
@@ -4321,17 +4339,19 @@ t8 = List._∷_ (
   Rows'.any-gone
       (Syntax.tyStruct
       (List._∷_
-      102
+      111
       (List._∷_
-      105
+      117
       (List._∷_
-      110
+      116
       (List._∷_
-      105
+      99
       (List._∷_
-      115
+      111
       (List._∷_
-      104
+      109
+      (List._∷_
+      101
       (List._∷_
       58
       (List._∷_
@@ -4340,24 +4360,26 @@ t8 = List._∷_ (
       79
       (List._∷_
       117
-      (List._∷_ 116 (List._∷_ 99 (List._∷_ 111 (List._∷_ 109 (List._∷_ 101 List.[])))))))))))))))
+      (List._∷_ 116 (List._∷_ 99 (List._∷_ 111 (List._∷_ 109 (List._∷_ 101 List.[]))))))))))))))))
       (Syntax.tcons
       (Syntax.tyStruct
       (List._∷_
-      102
+      111
       (List._∷_
-      105
+      117
       (List._∷_
-      110
+      116
       (List._∷_
-      105
+      99
       (List._∷_
-      115
+      111
       (List._∷_
-      104
+      109
+      (List._∷_
+      101
       (List._∷_
       58
-      (List._∷_ 58 (List._∷_ 83 (List._∷_ 101 (List._∷_ 110 (List._∷_ 116 List.[]))))))))))))
+      (List._∷_ 58 (List._∷_ 83 (List._∷_ 101 (List._∷_ 110 (List._∷_ 116 List.[])))))))))))))
       (Syntax.tcons
       (Syntax.tyStruct
       (List._∷_
@@ -4420,20 +4442,22 @@ t8 = List._∷_ (
       (Syntax.tcons
       (Syntax.tyStruct
       (List._∷_
-      102
+      111
       (List._∷_
-      105
+      117
       (List._∷_
-      110
+      116
       (List._∷_
-      105
+      99
       (List._∷_
-      115
+      111
       (List._∷_
-      104
+      109
+      (List._∷_
+      101
       (List._∷_
       58
-      (List._∷_ 58 (List._∷_ 83 (List._∷_ 101 (List._∷_ 110 (List._∷_ 116 List.[]))))))))))))
+      (List._∷_ 58 (List._∷_ 83 (List._∷_ 101 (List._∷_ 110 (List._∷_ 116 List.[])))))))))))))
       (Syntax.tcons
       (Syntax.tyStruct
       (List._∷_
@@ -4630,17 +4654,19 @@ t9 = List._∷_ (
   Rows'.any-gone
       (Syntax.tyStruct
       (List._∷_
-      102
+      111
       (List._∷_
-      105
+      117
       (List._∷_
-      110
+      116
       (List._∷_
-      105
+      99
       (List._∷_
-      115
+      111
       (List._∷_
-      104
+      109
+      (List._∷_
+      101
       (List._∷_
       58
       (List._∷_
@@ -4649,24 +4675,26 @@ t9 = List._∷_ (
       79
       (List._∷_
       117
-      (List._∷_ 116 (List._∷_ 99 (List._∷_ 111 (List._∷_ 109 (List._∷_ 101 List.[])))))))))))))))
+      (List._∷_ 116 (List._∷_ 99 (List._∷_ 111 (List._∷_ 109 (List._∷_ 101 List.[]))))))))))))))))
       (Syntax.tcons
       (Syntax.tyStruct
       (List._∷_
-      102
+      111
       (List._∷_
-      105
+      117
       (List._∷_
-      110
+      116
       (List._∷_
-      105
+      99
       (List._∷_
-      115
+      111
       (List._∷_
-      104
+      109
+      (List._∷_
+      101
       (List._∷_
       58
-      (List._∷_ 58 (List._∷_ 83 (List._∷_ 101 (List._∷_ 110 (List._∷_ 116 List.[]))))))))))))
+      (List._∷_ 58 (List._∷_ 83 (List._∷_ 101 (List._∷_ 110 (List._∷_ 116 List.[])))))))))))))
       (Syntax.tcons
       (Syntax.tyStruct
       (List._∷_
@@ -4729,20 +4757,22 @@ t9 = List._∷_ (
       (Syntax.tcons
       (Syntax.tyStruct
       (List._∷_
-      102
+      111
       (List._∷_
-      105
+      117
       (List._∷_
-      110
+      116
       (List._∷_
-      105
+      99
       (List._∷_
-      115
+      111
       (List._∷_
-      104
+      109
+      (List._∷_
+      101
       (List._∷_
       58
-      (List._∷_ 58 (List._∷_ 83 (List._∷_ 101 (List._∷_ 110 (List._∷_ 116 List.[]))))))))))))
+      (List._∷_ 58 (List._∷_ 83 (List._∷_ 101 (List._∷_ 110 (List._∷_ 116 List.[])))))))))))))
       (Syntax.tcons
       (Syntax.tyStruct
       (List._∷_
@@ -5767,17 +5797,19 @@ t12 = List._∷_ (
   Rows'.any-gone
       (Syntax.tyStruct
       (List._∷_
-      102
+      111
       (List._∷_
-      105
+      117
       (List._∷_
-      110
+      116
       (List._∷_
-      105
+      99
       (List._∷_
-      115
+      111
       (List._∷_
-      104
+      109
+      (List._∷_
+      101
       (List._∷_
       58
       (List._∷_
@@ -5786,24 +5818,26 @@ t12 = List._∷_ (
       79
       (List._∷_
       117
-      (List._∷_ 116 (List._∷_ 99 (List._∷_ 111 (List._∷_ 109 (List._∷_ 101 List.[])))))))))))))))
+      (List._∷_ 116 (List._∷_ 99 (List._∷_ 111 (List._∷_ 109 (List._∷_ 101 List.[]))))))))))))))))
       (Syntax.tcons
       (Syntax.tyStruct
       (List._∷_
-      102
+      111
       (List._∷_
-      105
+      117
       (List._∷_
-      110
+      116
       (List._∷_
-      105
+      99
       (List._∷_
-      115
+      111
       (List._∷_
-      104
+      109
+      (List._∷_
+      101
       (List._∷_
       58
-      (List._∷_ 58 (List._∷_ 83 (List._∷_ 101 (List._∷_ 110 (List._∷_ 116 List.[]))))))))))))
+      (List._∷_ 58 (List._∷_ 83 (List._∷_ 101 (List._∷_ 110 (List._∷_ 116 List.[])))))))))))))
       (Syntax.tcons
       (Syntax.tyStruct
       (List._∷_
@@ -5866,20 +5900,22 @@ t12 = List._∷_ (
       (Syntax.tcons
       (Syntax.tyStruct
       (List._∷_
-      102
+      111
       (List._∷_
-      105
+      117
       (List._∷_
-      110
+      116
       (List._∷_
-      105
+      99
       (List._∷_
-      115
+      111
       (List._∷_
-      104
+      109
+      (List._∷_
+      101
       (List._∷_
       58
-      (List._∷_ 58 (List._∷_ 83 (List._∷_ 101 (List._∷_ 110 (List._∷_ 116 List.[]))))))))))))
+      (List._∷_ 58 (List._∷_ 83 (List._∷_ 101 (List._∷_ 110 (List._∷_ 116 List.[])))))))))))))
       (Syntax.tcons
       (Syntax.tyStruct
       (List._∷_
@@ -6053,17 +6089,19 @@ t13 = List._∷_ (
   Rows'.any-gone
       (Syntax.tyStruct
       (List._∷_
-      102
+      111
       (List._∷_
-      105
+      117
       (List._∷_
-      110
+      116
       (List._∷_
-      105
+      99
       (List._∷_
-      115
+      111
       (List._∷_
-      104
+      109
+      (List._∷_
+      101
       (List._∷_
       58
       (List._∷_
@@ -6072,24 +6110,26 @@ t13 = List._∷_ (
       79
       (List._∷_
       117
-      (List._∷_ 116 (List._∷_ 99 (List._∷_ 111 (List._∷_ 109 (List._∷_ 101 List.[])))))))))))))))
+      (List._∷_ 116 (List._∷_ 99 (List._∷_ 111 (List._∷_ 109 (List._∷_ 101 List.[]))))))))))))))))
       (Syntax.tcons
       (Syntax.tyStruct
       (List._∷_
-      102
+      111
       (List._∷_
-      105
+      117
       (List._∷_
-      110
+      116
       (List._∷_
-      105
+      99
       (List._∷_
-      115
+      111
       (List._∷_
-      104
+      109
+      (List._∷_
+      101
       (List._∷_
       58
-      (List._∷_ 58 (List._∷_ 83 (List._∷_ 101 (List._∷_ 110 (List._∷_ 116 List.[]))))))))))))
+      (List._∷_ 58 (List._∷_ 83 (List._∷_ 101 (List._∷_ 110 (List._∷_ 116 List.[])))))))))))))
       (Syntax.tcons
       (Syntax.tyStruct
       (List._∷_
@@ -6152,20 +6192,22 @@ t13 = List._∷_ (
       (Syntax.tcons
       (Syntax.tyStruct
       (List._∷_
-      102
+      111
       (List._∷_
-      105
+      117
       (List._∷_
-      110
+      116
       (List._∷_
-      105
+      99
       (List._∷_
-      115
+      111
       (List._∷_
-      104
+      109
+      (List._∷_
+      101
       (List._∷_
       58
-      (List._∷_ 58 (List._∷_ 83 (List._∷_ 101 (List._∷_ 110 (List._∷_ 116 List.[]))))))))))))
+      (List._∷_ 58 (List._∷_ 83 (List._∷_ 101 (List._∷_ 110 (List._∷_ 116 List.[])))))))))))))
       (Syntax.tcons
       (Syntax.tyStruct
       (List._∷_
@@ -6337,17 +6379,19 @@ t14 = List._∷_ (
   Rows'.any-gone
       (Syntax.tyStruct
       (List._∷_
-      102
+      111
       (List._∷_
-      105
+      117
       (List._∷_
-      110
+      116
       (List._∷_
-      105
+      99
       (List._∷_
-      115
+      111
       (List._∷_
-      104
+      109
+      (List._∷_
+      101
       (List._∷_
       58
       (List._∷_
@@ -6356,24 +6400,26 @@ t14 = List._∷_ (
       79
       (List._∷_
       117
-      (List._∷_ 116 (List._∷_ 99 (List._∷_ 111 (List._∷_ 109 (List._∷_ 101 List.[])))))))))))))))
+      (List._∷_ 116 (List._∷_ 99 (List._∷_ 111 (List._∷_ 109 (List._∷_ 101 List.[]))))))))))))))))
       (Syntax.tcons
       (Syntax.tyStruct
       (List._∷_
-      102
+      111
       (List._∷_
-      105
+      117
       (List._∷_
-      110
+      116
       (List._∷_
-      105
+      99
       (List._∷_
-      115
+      111
       (List._∷_
-      104
+      109
+      (List._∷_
+      101
       (List._∷_
       58
-      (List._∷_ 58 (List._∷_ 83 (List._∷_ 101 (List._∷_ 110 (List._∷_ 116 List.[]))))))))))))
+      (List._∷_ 58 (List._∷_ 83 (List._∷_ 101 (List._∷_ 110 (List._∷_ 116 List.[])))))))))))))
       (Syntax.tcons
       (Syntax.tyStruct
       (List._∷_
@@ -6436,20 +6482,22 @@ t14 = List._∷_ (
       (Syntax.tcons
       (Syntax.tyStruct
       (List._∷_
-      102
+      111
       (List._∷_
-      105
+      117
       (List._∷_
-      110
+      116
       (List._∷_
-      105
+      99
       (List._∷_
-      115
+      111
       (List._∷_
-      104
+      109
+      (List._∷_
+      101
       (List._∷_
       58
-      (List._∷_ 58 (List._∷_ 83 (List._∷_ 101 (List._∷_ 110 (List._∷_ 116 List.[]))))))))))))
+      (List._∷_ 58 (List._∷_ 83 (List._∷_ 101 (List._∷_ 110 (List._∷_ 116 List.[])))))))))))))
       (Syntax.tcons
       (Syntax.tyStruct
       (List._∷_
@@ -8193,17 +8241,19 @@ t19 = List._∷_ (
   Rows'.any-gone
       (Syntax.tyStruct
       (List._∷_
-      102
+      111
       (List._∷_
-      105
+      117
       (List._∷_
-      110
+      116
       (List._∷_
-      105
+      99
       (List._∷_
-      115
+      111
       (List._∷_
-      104
+      109
+      (List._∷_
+      101
       (List._∷_
       58
       (List._∷_
@@ -8212,24 +8262,26 @@ t19 = List._∷_ (
       79
       (List._∷_
       117
-      (List._∷_ 116 (List._∷_ 99 (List._∷_ 111 (List._∷_ 109 (List._∷_ 101 List.[])))))))))))))))
+      (List._∷_ 116 (List._∷_ 99 (List._∷_ 111 (List._∷_ 109 (List._∷_ 101 List.[]))))))))))))))))
       (Syntax.tcons
       (Syntax.tyStruct
       (List._∷_
-      102
+      111
       (List._∷_
-      105
+      117
       (List._∷_
-      110
+      116
       (List._∷_
-      105
+      99
       (List._∷_
-      115
+      111
       (List._∷_
-      104
+      109
+      (List._∷_
+      101
       (List._∷_
       58
-      (List._∷_ 58 (List._∷_ 83 (List._∷_ 101 (List._∷_ 110 (List._∷_ 116 List.[]))))))))))))
+      (List._∷_ 58 (List._∷_ 83 (List._∷_ 101 (List._∷_ 110 (List._∷_ 116 List.[])))))))))))))
       (Syntax.tcons
       (Syntax.tyStruct
       (List._∷_
@@ -8292,20 +8344,22 @@ t19 = List._∷_ (
       (Syntax.tcons
       (Syntax.tyStruct
       (List._∷_
-      102
+      111
       (List._∷_
-      105
+      117
       (List._∷_
-      110
+      116
       (List._∷_
-      105
+      99
       (List._∷_
-      115
+      111
       (List._∷_
-      104
+      109
+      (List._∷_
+      101
       (List._∷_
       58
-      (List._∷_ 58 (List._∷_ 83 (List._∷_ 101 (List._∷_ 110 (List._∷_ 116 List.[]))))))))))))
+      (List._∷_ 58 (List._∷_ 83 (List._∷_ 101 (List._∷_ 110 (List._∷_ 116 List.[])))))))))))))
       (Syntax.tcons
       (Syntax.tyStruct
       (List._∷_
@@ -8479,17 +8533,19 @@ t20 = List._∷_ (
   Rows'.any-gone
       (Syntax.tyStruct
       (List._∷_
-      102
+      111
       (List._∷_
-      105
+      117
       (List._∷_
-      110
+      116
       (List._∷_
-      105
+      99
       (List._∷_
-      115
+      111
       (List._∷_
-      104
+      109
+      (List._∷_
+      101
       (List._∷_
       58
       (List._∷_
@@ -8498,24 +8554,26 @@ t20 = List._∷_ (
       79
       (List._∷_
       117
-      (List._∷_ 116 (List._∷_ 99 (List._∷_ 111 (List._∷_ 109 (List._∷_ 101 List.[])))))))))))))))
+      (List._∷_ 116 (List._∷_ 99 (List._∷_ 111 (List._∷_ 109 (List._∷_ 101 List.[]))))))))))))))))
       (Syntax.tcons
       (Syntax.tyStruct
       (List._∷_
-      102
+      111
       (List._∷_
-      105
+      117
       (List._∷_
-      110
+      116
       (List._∷_
-      105
+      99
       (List._∷_
-      115
+      111
       (List._∷_
-      104
+      109
+      (List._∷_
+      101
       (List._∷_
       58
-      (List._∷_ 58 (List._∷_ 83 (List._∷_ 101 (List._∷_ 110 (List._∷_ 116 List.[]))))))))))))
+      (List._∷_ 58 (List._∷_ 83 (List._∷_ 101 (List._∷_ 110 (List._∷_ 116 List.[])))))))))))))
       (Syntax.tcons
       (Syntax.tyStruct
       (List._∷_
@@ -8578,20 +8636,22 @@ t20 = List._∷_ (
       (Syntax.tcons
       (Syntax.tyStruct
       (List._∷_
-      102
+      111
       (List._∷_
-      105
+      117
       (List._∷_
-      110
+      116
       (List._∷_
-      105
+      99
       (List._∷_
-      115
+      111
       (List._∷_
-      104
+      109
+      (List._∷_
+      101
       (List._∷_
       58
-      (List._∷_ 58 (List._∷_ 83 (List._∷_ 101 (List._∷_ 110 (List._∷_ 116 List.[]))))))))))))
+      (List._∷_ 58 (List._∷_ 83 (List._∷_ 101 (List._∷_ 110 (List._∷_ 116 List.[])))))))))))))
       (Syntax.tcons
       (Syntax.tyStruct
       (List._∷_
@@ -8763,17 +8823,19 @@ t21 = List._∷_ (
   Rows'.any-gone
       (Syntax.tyStruct
       (List._∷_
-      102
+      111
       (List._∷_
-      105
+      117
       (List._∷_
-      110
+      116
       (List._∷_
-      105
+      99
       (List._∷_
-      115
+      111
       (List._∷_
-      104
+      109
+      (List._∷_
+      101
       (List._∷_
       58
       (List._∷_
@@ -8782,24 +8844,26 @@ t21 = List._∷_ (
       79
       (List._∷_
       117
-      (List._∷_ 116 (List._∷_ 99 (List._∷_ 111 (List._∷_ 109 (List._∷_ 101 List.[])))))))))))))))
+      (List._∷_ 116 (List._∷_ 99 (List._∷_ 111 (List._∷_ 109 (List._∷_ 101 List.[]))))))))))))))))
       (Syntax.tcons
       (Syntax.tyStruct
       (List._∷_
-      102
+      111
       (List._∷_
-      105
+      117
       (List._∷_
-      110
+      116
       (List._∷_
-      105
+      99
       (List._∷_
-      115
+      111
       (List._∷_
-      104
+      109
+      (List._∷_
+      101
       (List._∷_
       58
-      (List._∷_ 58 (List._∷_ 83 (List._∷_ 101 (List._∷_ 110 (List._∷_ 116 List.[]))))))))))))
+      (List._∷_ 58 (List._∷_ 83 (List._∷_ 101 (List._∷_ 110 (List._∷_ 116 List.[])))))))))))))
       (Syntax.tcons
       (Syntax.tyStruct
       (List._∷_
@@ -8862,20 +8926,22 @@ t21 = List._∷_ (
       (Syntax.tcons
       (Syntax.tyStruct
       (List._∷_
-      102
+      111
       (List._∷_
-      105
+      117
       (List._∷_
-      110
+      116
       (List._∷_
-      105
+      99
       (List._∷_
-      115
+      111
       (List._∷_
-      104
+      109
+      (List._∷_
+      101
       (List._∷_
       58
-      (List._∷_ 58 (List._∷_ 83 (List._∷_ 101 (List._∷_ 110 (List._∷_ 116 List.[]))))))))))))
+      (List._∷_ 58 (List._∷_ 83 (List._∷_ 101 (List._∷_ 110 (List._∷_ 116 List.[])))))))))))))
       (Syntax.tcons
       (Syntax.tyStruct
       (List._∷_
@@ -10481,17 +10547,19 @@ t26 = List._∷_ (
   Rows'.any-gone
       (Syntax.tyStruct
       (List._∷_
-      102
+      111
       (List._∷_
-      105
+      117
       (List._∷_
-      110
+      116
       (List._∷_
-      105
+      99
       (List._∷_
-      115
+      111
       (List._∷_
-      104
+      109
+      (List._∷_
+      101
       (List._∷_
       58
       (List._∷_
@@ -10500,24 +10568,26 @@ t26 = List._∷_ (
       79
       (List._∷_
       117
-      (List._∷_ 116 (List._∷_ 99 (List._∷_ 111 (List._∷_ 109 (List._∷_ 101 List.[])))))))))))))))
+      (List._∷_ 116 (List._∷_ 99 (List._∷_ 111 (List._∷_ 109 (List._∷_ 101 List.[]))))))))))))))))
       (Syntax.tcons
       (Syntax.tyStruct
       (List._∷_
-      102
+      111
       (List._∷_
-      105
+      117
       (List._∷_
-      110
+      116
       (List._∷_
-      105
+      99
       (List._∷_
-      115
+      111
       (List._∷_
-      104
+      109
+      (List._∷_
+      101
       (List._∷_
       58
-      (List._∷_ 58 (List._∷_ 83 (List._∷_ 101 (List._∷_ 110 (List._∷_ 116 List.[]))))))))))))
+      (List._∷_ 58 (List._∷_ 83 (List._∷_ 101 (List._∷_ 110 (List._∷_ 116 List.[])))))))))))))
       (Syntax.tcons
       (Syntax.tyStruct
       (List._∷_
@@ -10580,20 +10650,22 @@ t26 = List._∷_ (
       (Syntax.tcons
       (Syntax.tyStruct
       (List._∷_
-      102
+      111
       (List._∷_
-      105
+      117
       (List._∷_
-      110
+      116
       (List._∷_
-      105
+      99
       (List._∷_
-      115
+      111
       (List._∷_
-      104
+      109
+      (List._∷_
+      101
       (List._∷_
       58
-      (List._∷_ 58 (List._∷_ 83 (List._∷_ 101 (List._∷_ 110 (List._∷_ 116 List.[]))))))))))))
+      (List._∷_ 58 (List._∷_ 83 (List._∷_ 101 (List._∷_ 110 (List._∷_ 116 List.[])))))))))))))
       (Syntax.tcons
       (Syntax.tyStruct
       (List._∷_
@@ -10767,17 +10839,19 @@ t27 = List._∷_ (
   Rows'.any-gone
       (Syntax.tyStruct
       (List._∷_
-      102
+      111
       (List._∷_
-      105
+      117
       (List._∷_
-      110
+      116
       (List._∷_
-      105
+      99
       (List._∷_
-      115
+      111
       (List._∷_
-      104
+      109
+      (List._∷_
+      101
       (List._∷_
       58
       (List._∷_
@@ -10786,24 +10860,26 @@ t27 = List._∷_ (
       79
       (List._∷_
       117
-      (List._∷_ 116 (List._∷_ 99 (List._∷_ 111 (List._∷_ 109 (List._∷_ 101 List.[])))))))))))))))
+      (List._∷_ 116 (List._∷_ 99 (List._∷_ 111 (List._∷_ 109 (List._∷_ 101 List.[]))))))))))))))))
       (Syntax.tcons
       (Syntax.tyStruct
       (List._∷_
-      102
+      111
       (List._∷_
-      105
+      117
       (List._∷_
-      110
+      116
       (List._∷_
-      105
+      99
       (List._∷_
-      115
+      111
       (List._∷_
-      104
+      109
+      (List._∷_
+      101
       (List._∷_
       58
-      (List._∷_ 58 (List._∷_ 83 (List._∷_ 101 (List._∷_ 110 (List._∷_ 116 List.[]))))))))))))
+      (List._∷_ 58 (List._∷_ 83 (List._∷_ 101 (List._∷_ 110 (List._∷_ 116 List.[])))))))))))))
       (Syntax.tcons
       (Syntax.tyStruct
       (List._∷_
@@ -10866,20 +10942,22 @@ t27 = List._∷_ (
       (Syntax.tcons
       (Syntax.tyStruct
       (List._∷_
-      102
+      111
       (List._∷_
-      105
+      117
       (List._∷_
-      110
+      116
       (List._∷_
-      105
+      99
       (List._∷_
-      115
+      111
       (List._∷_
-      104
+      109
+      (List._∷_
+      101
       (List._∷_
       58
-      (List._∷_ 58 (List._∷_ 83 (List._∷_ 101 (List._∷_ 110 (List._∷_ 116 List.[]))))))))))))
+      (List._∷_ 58 (List._∷_ 83 (List._∷_ 101 (List._∷_ 110 (List._∷_ 116 List.[])))))))))))))
       (Syntax.tcons
       (Syntax.tyStruct
       (List._∷_
@@ -12248,17 +12326,19 @@ t37 = List._∷_ (
   Rows'.any-gone
       (Syntax.tyStruct
       (List._∷_
-      102
+      111
       (List._∷_
-      105
+      117
       (List._∷_
-      110
+      116
       (List._∷_
-      105
+      99
       (List._∷_
-      115
+      111
       (List._∷_
-      104
+      109
+      (List._∷_
+      101
       (List._∷_
       58
       (List._∷_
@@ -12267,24 +12347,26 @@ t37 = List._∷_ (
       79
       (List._∷_
       117
-      (List._∷_ 116 (List._∷_ 99 (List._∷_ 111 (List._∷_ 109 (List._∷_ 101 List.[])))))))))))))))
+      (List._∷_ 116 (List._∷_ 99 (List._∷_ 111 (List._∷_ 109 (List._∷_ 101 List.[]))))))))))))))))
       (Syntax.tcons
       (Syntax.tyStruct
       (List._∷_
-      102
+      111
       (List._∷_
-      105
+      117
       (List._∷_
-      110
+      116
       (List._∷_
-      105
+      99
       (List._∷_
-      115
+      111
       (List._∷_
-      104
+      109
+      (List._∷_
+      101
       (List._∷_
       58
-      (List._∷_ 58 (List._∷_ 83 (List._∷_ 101 (List._∷_ 110 (List._∷_ 116 List.[]))))))))))))
+      (List._∷_ 58 (List._∷_ 83 (List._∷_ 101 (List._∷_ 110 (List._∷_ 116 List.[])))))))))))))
       (Syntax.tcons
       (Syntax.tyStruct
       (List._∷_
@@ -12347,20 +12429,22 @@ t37 = List._∷_ (
       (Syntax.tcons
       (Syntax.tyStruct
       (List._∷_
-      102
+      111
       (List._∷_
-      105
+      117
       (List._∷_
-      110
+      116
       (List._∷_
-      105
+      99
       (List._∷_
-      115
+      111
       (List._∷_
-      104
+      109
+      (List._∷_
+      101
       (List._∷_
       58
-      (List._∷_ 58 (List._∷_ 83 (List._∷_ 101 (List._∷_ 110 (List._∷_ 116 List.[]))))))))))))
+      (List._∷_ 58 (List._∷_ 83 (List._∷_ 101 (List._∷_ 110 (List._∷_ 116 List.[])))))))))))))
       (Syntax.tcons
       (Syntax.tyStruct
       (List._∷_
@@ -12546,17 +12630,19 @@ t38 = List._∷_ (
   Rows'.any-gone
       (Syntax.tyStruct
       (List._∷_
-      102
+      111
       (List._∷_
-      105
+      117
       (List._∷_
-      110
+      116
       (List._∷_
-      105
+      99
       (List._∷_
-      115
+      111
       (List._∷_
-      104
+      109
+      (List._∷_
+      101
       (List._∷_
       58
       (List._∷_
@@ -12565,24 +12651,26 @@ t38 = List._∷_ (
       79
       (List._∷_
       117
-      (List._∷_ 116 (List._∷_ 99 (List._∷_ 111 (List._∷_ 109 (List._∷_ 101 List.[])))))))))))))))
+      (List._∷_ 116 (List._∷_ 99 (List._∷_ 111 (List._∷_ 109 (List._∷_ 101 List.[]))))))))))))))))
       (Syntax.tcons
       (Syntax.tyStruct
       (List._∷_
-      102
+      111
       (List._∷_
-      105
+      117
       (List._∷_
-      110
+      116
       (List._∷_
-      105
+      99
       (List._∷_
-      115
+      111
       (List._∷_
-      104
+      109
+      (List._∷_
+      101
       (List._∷_
       58
-      (List._∷_ 58 (List._∷_ 83 (List._∷_ 101 (List._∷_ 110 (List._∷_ 116 List.[]))))))))))))
+      (List._∷_ 58 (List._∷_ 83 (List._∷_ 101 (List._∷_ 110 (List._∷_ 116 List.[])))))))))))))
       (Syntax.tcons
       (Syntax.tyStruct
       (List._∷_
@@ -12645,20 +12733,22 @@ t38 = List._∷_ (
       (Syntax.tcons
       (Syntax.tyStruct
       (List._∷_
-      102
+      111
       (List._∷_
-      105
+      117
       (List._∷_
-      110
+      116
       (List._∷_
-      105
+      99
       (List._∷_
-      115
+      111
       (List._∷_
-      104
+      109
+      (List._∷_
+      101
       (List._∷_
       58
-      (List._∷_ 58 (List._∷_ 83 (List._∷_ 101 (List._∷_ 110 (List._∷_ 116 List.[]))))))))))))
+      (List._∷_ 58 (List._∷_ 83 (List._∷_ 101 (List._∷_ 110 (List._∷_ 116 List.[])))))))))))))
       (Syntax.tcons
       (Syntax.tyStruct
       (List._∷_
@@ -12869,17 +12959,19 @@ t39 = List._∷_ (
   Rows'.any-gone
       (Syntax.tyStruct
       (List._∷_
-      102
+      111
       (List._∷_
-      105
+      117
       (List._∷_
-      110
+      116
       (List._∷_
-      105
+      99
       (List._∷_
-      115
+      111
       (List._∷_
-      104
+      109
+      (List._∷_
+      101
       (List._∷_
       58
       (List._∷_
@@ -12888,24 +12980,26 @@ t39 = List._∷_ (
       79
       (List._∷_
       117
-      (List._∷_ 116 (List._∷_ 99 (List._∷_ 111 (List._∷_ 109 (List._∷_ 101 List.[])))))))))))))))
+      (List._∷_ 116 (List._∷_ 99 (List._∷_ 111 (List._∷_ 109 (List._∷_ 101 List.[]))))))))))))))))
       (Syntax.tcons
       (Syntax.tyStruct
       (List._∷_
-      102
+      111
       (List._∷_
-      105
+      117
       (List._∷_
-      110
+      116
       (List._∷_
-      105
+      99
       (List._∷_
-      115
+      111
       (List._∷_
-      104
+      109
+      (List._∷_
+      101
       (List._∷_
       58
-      (List._∷_ 58 (List._∷_ 83 (List._∷_ 101 (List._∷_ 110 (List._∷_ 116 List.[]))))))))))))
+      (List._∷_ 58 (List._∷_ 83 (List._∷_ 101 (List._∷_ 110 (List._∷_ 116 List.[])))))))))))))
       (Syntax.tcons
       (Syntax.tyStruct
       (List._∷_
@@ -12968,20 +13062,22 @@ t39 = List._∷_ (
       (Syntax.tcons
       (Syntax.tyStruct
       (List._∷_
-      102
+      111
       (List._∷_
-      105
+      117
       (List._∷_
-      110
+      116
       (List._∷_
-      105
+      99
       (List._∷_
-      115
+      111
       (List._∷_
-      104
+      109
+      (List._∷_
+      101
       (List._∷_
       58
-      (List._∷_ 58 (List._∷_ 83 (List._∷_ 101 (List._∷_ 110 (List._∷_ 116 List.[]))))))))))))
+      (List._∷_ 58 (List._∷_ 83 (List._∷_ 101 (List._∷_ 110 (List._∷_ 116 List.[])))))))))))))
       (Syntax.tcons
       (Syntax.tyStruct
       (List._∷_
@@ -14957,17 +15053,19 @@ t52 = List._∷_ (
   Rows'.any-gone
       (Syntax.tyStruct
       (List._∷_
-      102
+      111
       (List._∷_
-      105
+      117
       (List._∷_
-      110
+      116
       (List._∷_
-      105
+      99
       (List._∷_
-      115
+      111
       (List._∷_
-      104
+      109
+      (List._∷_
+      101
       (List._∷_
       58
       (List._∷_
@@ -14976,24 +15074,26 @@ t52 = List._∷_ (
       79
       (List._∷_
       117
-      (List._∷_ 116 (List._∷_ 99 (List._∷_ 111 (List._∷_ 109 (List._∷_ 101 List.[])))))))))))))))
+      (List._∷_ 116 (List._∷_ 99 (List._∷_ 111 (List._∷_ 109 (List._∷_ 101 List.[]))))))))))))))))
       (Syntax.tcons
       (Syntax.tyStruct
       (List._∷_
-      102
+      111
       (List._∷_
-      105
+      117
       (List._∷_
-      110
+      116
       (List._∷_
-      105
+      99
       (List._∷_
-      115
+      111
       (List._∷_
-      104
+      109
+      (List._∷_
+      101
       (List._∷_
       58
-      (List._∷_ 58 (List._∷_ 83 (List._∷_ 101 (List._∷_ 110 (List._∷_ 116 List.[]))))))))))))
+      (List._∷_ 58 (List._∷_ 83 (List._∷_ 101 (List._∷_ 110 (List._∷_ 116 List.[])))))))))))))
       (Syntax.tcons
       (Syntax.tyStruct
       (List._∷_
@@ -15056,20 +15156,22 @@ t52 = List._∷_ (
       (Syntax.tcons
       (Syntax.tyStruct
       (List._∷_
-      102
+      111
       (List._∷_
-      105
+      117
       (List._∷_
-      110
+      116
       (List._∷_
-      105
+      99
       (List._∷_
-      115
+      111
       (List._∷_
-      104
+      109
+      (List._∷_
+      101
       (List._∷_
       58
-      (List._∷_ 58 (List._∷_ 83 (List._∷_ 101 (List._∷_ 110 (List._∷_ 116 List.[]))))))))))))
+      (List._∷_ 58 (List._∷_ 83 (List._∷_ 101 (List._∷_ 110 (List._∷_ 116 List.[])))))))))))))
       (Syntax.tcons
       (Syntax.tyStruct
       (List._∷_
@@ -16740,17 +16842,19 @@ t57 = List._∷_ (
   Rows'.any-gone
       (Syntax.tyStruct
       (List._∷_
-      102
+      111
       (List._∷_
-      105
+      117
       (List._∷_
-      110
+      116
       (List._∷_
-      105
+      99
       (List._∷_
-      115
+      111
       (List._∷_
-      104
+      109
+      (List._∷_
+      101
       (List._∷_
       58
       (List._∷_
@@ -16759,24 +16863,26 @@ t57 = List._∷_ (
       79
       (List._∷_
       117
-      (List._∷_ 116 (List._∷_ 99 (List._∷_ 111 (List._∷_ 109 (List._∷_ 101 List.[])))))))))))))))
+      (List._∷_ 116 (List._∷_ 99 (List._∷_ 111 (List._∷_ 109 (List._∷_ 101 List.[]))))))))))))))))
       (Syntax.tcons
       (Syntax.tyStruct
       (List._∷_
-      102
+      111
       (List._∷_
-      105
+      117
       (List._∷_
-      110
+      116
       (List._∷_
-      105
+      99
       (List._∷_
-      115
+      111
       (List._∷_
-      104
+      109
+      (List._∷_
+      101
       (List._∷_
       58
-      (List._∷_ 58 (List._∷_ 83 (List._∷_ 101 (List._∷_ 110 (List._∷_ 116 List.[]))))))))))))
+      (List._∷_ 58 (List._∷_ 83 (List._∷_ 101 (List._∷_ 110 (List._∷_ 116 List.[])))))))))))))
       (Syntax.tcons
       (Syntax.tyStruct
       (List._∷_
@@ -16839,20 +16945,22 @@ t57 = List._∷_ (
       (Syntax.tcons
       (Syntax.tyStruct
       (List._∷_
-      102
+      111
       (List._∷_
-      105
+      117
       (List._∷_
-      110
+      116
       (List._∷_
-      105
+      99
       (List._∷_
-      115
+      111
       (List._∷_
-      104
+      109
+      (List._∷_
+      101
       (List._∷_
       58
-      (List._∷_ 58 (List._∷_ 83 (List._∷_ 101 (List._∷_ 110 (List._∷_ 116 List.[]))))))))))))
+      (List._∷_ 58 (List._∷_ 83 (List._∷_ 101 (List._∷_ 110 (List._∷_ 116 List.[])))))))))))))
       (Syntax.tcons
       (Syntax.tyStruct
       (List._∷_
@@ -17469,17 +17577,19 @@ t59 = List._∷_ (
   Rows'.any-gone
       (Syntax.tyStruct
       (List._∷_
-      102
+      111
       (List._∷_
-      105
+      117
       (List._∷_
-      110
+      116
       (List._∷_
-      105
+      99
       (List._∷_
-      115
+      111
       (List._∷_
-      104
+      109
+      (List._∷_
+      101
       (List._∷_
       58
       (List._∷_
@@ -17488,24 +17598,26 @@ t59 = List._∷_ (
       79
       (List._∷_
       117
-      (List._∷_ 116 (List._∷_ 99 (List._∷_ 111 (List._∷_ 109 (List._∷_ 101 List.[])))))))))))))))
+      (List._∷_ 116 (List._∷_ 99 (List._∷_ 111 (List._∷_ 109 (List._∷_ 101 List.[]))))))))))))))))
       (Syntax.tcons
       (Syntax.tyStruct
       (List._∷_
-      102
+      111
       (List._∷_
-      105
+      117
       (List._∷_
-      110
+      116
       (List._∷_
-      105
+      99
       (List._∷_
-      115
+      111
       (List._∷_
-      104
+      109
+      (List._∷_
+      101
       (List._∷_
       58
-      (List._∷_ 58 (List._∷_ 83 (List._∷_ 101 (List._∷_ 110 (List._∷_ 116 List.[]))))))))))))
+      (List._∷_ 58 (List._∷_ 83 (List._∷_ 101 (List._∷_ 110 (List._∷_ 116 List.[])))))))))))))
       (Syntax.tcons
       (Syntax.tyStruct
       (List._∷_
@@ -17568,20 +17680,22 @@ t59 = List._∷_ (
       (Syntax.tcons
       (Syntax.tyStruct
       (List._∷_
-      102
+      111
       (List._∷_
-      105
+      117
       (List._∷_
-      110
+      116
       (List._∷_
-      105
+      99
       (List._∷_
-      115
+      111
       (List._∷_
-      104
+      109
+      (List._∷_
+      101
       (List._∷_
       58
-      (List._∷_ 58 (List._∷_ 83 (List._∷_ 101 (List._∷_ 110 (List._∷_ 116 List.[]))))))))))))
+      (List._∷_ 58 (List._∷_ 83 (List._∷_ 101 (List._∷_ 110 (List._∷_ 116 List.[])))))))))))))
       (Syntax.tcons
       (Syntax.tyStruct
       (List._∷_
@@ -17944,17 +18058,19 @@ t62 = List._∷_ (
   Rows'.any-gone
       (Syntax.tyStruct
       (List._∷_
-      102
+      111
       (List._∷_
-      105
+      117
       (List._∷_
-      110
+      116
       (List._∷_
-      105
+      99
       (List._∷_
-      115
+      111
       (List._∷_
-      104
+      109
+      (List._∷_
+      101
       (List._∷_
       58
       (List._∷_
@@ -17963,24 +18079,26 @@ t62 = List._∷_ (
       79
       (List._∷_
       117
-      (List._∷_ 116 (List._∷_ 99 (List._∷_ 111 (List._∷_ 109 (List._∷_ 101 List.[])))))))))))))))
+      (List._∷_ 116 (List._∷_ 99 (List._∷_ 111 (List._∷_ 109 (List._∷_ 101 List.[]))))))))))))))))
       (Syntax.tcons
       (Syntax.tyStruct
       (List._∷_
-      102
+      111
       (List._∷_
-      105
+      117
       (List._∷_
-      110
+      116
       (List._∷_
-      105
+      99
       (List._∷_
-      115
+      111
       (List._∷_
-      104
+      109
+      (List._∷_
+      101
       (List._∷_
       58
-      (List._∷_ 58 (List._∷_ 83 (List._∷_ 101 (List._∷_ 110 (List._∷_ 116 List.[]))))))))))))
+      (List._∷_ 58 (List._∷_ 83 (List._∷_ 101 (List._∷_ 110 (List._∷_ 116 List.[])))))))))))))
       (Syntax.tcons
       (Syntax.tyStruct
       (List._∷_
@@ -18043,20 +18161,22 @@ t62 = List._∷_ (
       (Syntax.tcons
       (Syntax.tyStruct
       (List._∷_
-      102
+      111
       (List._∷_
-      105
+      117
       (List._∷_
-      110
+      116
       (List._∷_
-      105
+      99
       (List._∷_
-      115
+      111
       (List._∷_
-      104
+      109
+      (List._∷_
+      101
       (List._∷_
       58
-      (List._∷_ 58 (List._∷_ 83 (List._∷_ 101 (List._∷_ 110 (List._∷_ 116 List.[]))))))))))))
+      (List._∷_ 58 (List._∷_ 83 (List._∷_ 101 (List._∷_ 110 (List._∷_ 116 List.[])))))))))))))
       (Syntax.tcons
       (Syntax.tyStruct
       (List._∷_
@@ -18417,17 +18537,19 @@ t65 = List._∷_ (
   Rows'.any-gone
       (Syntax.tyStruct
       (List._∷_
-      102
+      111
       (List._∷_
-      105
+      117
       (List._∷_
-      110
+      116
       (List._∷_
-      105
+      99
       (List._∷_
-      115
+      111
       (List._∷_
-      104
+      109
+      (List._∷_
+      101
       (List._∷_
       58
       (List._∷_
@@ -18436,24 +18558,26 @@ t65 = List._∷_ (
       79
       (List._∷_
       117
-      (List._∷_ 116 (List._∷_ 99 (List._∷_ 111 (List._∷_ 109 (List._∷_ 101 List.[])))))))))))))))
+      (List._∷_ 116 (List._∷_ 99 (List._∷_ 111 (List._∷_ 109 (List._∷_ 101 List.[]))))))))))))))))
       (Syntax.tcons
       (Syntax.tyStruct
       (List._∷_
-      102
+      111
       (List._∷_
-      105
+      117
       (List._∷_
-      110
+      116
       (List._∷_
-      105
+      99
       (List._∷_
-      115
+      111
       (List._∷_
-      104
+      109
+      (List._∷_
+      101
       (List._∷_
       58
-      (List._∷_ 58 (List._∷_ 83 (List._∷_ 101 (List._∷_ 110 (List._∷_ 116 List.[]))))))))))))
+      (List._∷_ 58 (List._∷_ 83 (List._∷_ 101 (List._∷_ 110 (List._∷_ 116 List.[])))))))))))))
       (Syntax.tcons
       (Syntax.tyStruct
       (List._∷_
@@ -18516,20 +18640,22 @@ t65 = List._∷_ (
       (Syntax.tcons
       (Syntax.tyStruct
       (List._∷_
-      102
+      111
       (List._∷_
-      105
+      117
       (List._∷_
-      110
+      116
       (List._∷_
-      105
+      99
       (List._∷_
-      115
+      111
       (List._∷_
-      104
+      109
+      (List._∷_
+      101
       (List._∷_
       58
-      (List._∷_ 58 (List._∷_ 83 (List._∷_ 101 (List._∷_ 110 (List._∷_ 116 List.[]))))))))))))
+      (List._∷_ 58 (List._∷_ 83 (List._∷_ 101 (List._∷_ 110 (List._∷_ 116 List.[])))))))))))))
       (Syntax.tcons
       (Syntax.tyStruct
       (List._∷_
@@ -18889,17 +19015,19 @@ t68 = List._∷_ (
   Rows'.any-gone
       (Syntax.tyStruct
       (List._∷_
-      102
+      111
       (List._∷_
-      105
+      117
       (List._∷_
-      110
+      116
       (List._∷_
-      105
+      99
       (List._∷_
-      115
+      111
       (List._∷_
-      104
+      109
+      (List._∷_
+      101
       (List._∷_
       58
       (List._∷_
@@ -18908,24 +19036,26 @@ t68 = List._∷_ (
       79
       (List._∷_
       117
-      (List._∷_ 116 (List._∷_ 99 (List._∷_ 111 (List._∷_ 109 (List._∷_ 101 List.[])))))))))))))))
+      (List._∷_ 116 (List._∷_ 99 (List._∷_ 111 (List._∷_ 109 (List._∷_ 101 List.[]))))))))))))))))
       (Syntax.tcons
       (Syntax.tyStruct
       (List._∷_
-      102
+      111
       (List._∷_
-      105
+      117
       (List._∷_
-      110
+      116
       (List._∷_
-      105
+      99
       (List._∷_
-      115
+      111
       (List._∷_
-      104
+      109
+      (List._∷_
+      101
       (List._∷_
       58
-      (List._∷_ 58 (List._∷_ 83 (List._∷_ 101 (List._∷_ 110 (List._∷_ 116 List.[]))))))))))))
+      (List._∷_ 58 (List._∷_ 83 (List._∷_ 101 (List._∷_ 110 (List._∷_ 116 List.[])))))))))))))
       (Syntax.tcons
       (Syntax.tyStruct
       (List._∷_
@@ -18988,20 +19118,22 @@ t68 = List._∷_ (
       (Syntax.tcons
       (Syntax.tyStruct
       (List._∷_
-      102
+      111
       (List._∷_
-      105
+      117
       (List._∷_
-      110
+      116
       (List._∷_
-      105
+      99
       (List._∷_
-      115
+      111
       (List._∷_
-      104
+      109
+      (List._∷_
+      101
       (List._∷_
       58
-      (List._∷_ 58 (List._∷_ 83 (List._∷_ 101 (List._∷_ 110 (List._∷_ 116 List.[]))))))))))))
+      (List._∷_ 58 (List._∷_ 83 (List._∷_ 101 (List._∷_ 110 (List._∷_ 116 List.[])))))))))))))
       (Syntax.tcons
       (Syntax.tyStruct
       (List._∷_
@@ -26303,17 +26435,19 @@ module _ (claims· : Claims) where
       List.[]
       (Syntax.tyStruct
       (List._∷_
-      102
+      111
       (List._∷_
-      105
+      117
       (List._∷_
-      110
+      116
       (List._∷_
-      105
+      99
       (List._∷_
-      115
+      111
       (List._∷_
-      104
+      109
+      (List._∷_
+      101
       (List._∷_
       58
       (List._∷_
@@ -26322,24 +26456,26 @@ module _ (claims· : Claims) where
       79
       (List._∷_
       117
-      (List._∷_ 116 (List._∷_ 99 (List._∷_ 111 (List._∷_ 109 (List._∷_ 101 List.[])))))))))))))))
+      (List._∷_ 116 (List._∷_ 99 (List._∷_ 111 (List._∷_ 109 (List._∷_ 101 List.[]))))))))))))))))
       (Syntax.tcons
       (Syntax.tyStruct
       (List._∷_
-      102
+      111
       (List._∷_
-      105
+      117
       (List._∷_
-      110
+      116
       (List._∷_
-      105
+      99
       (List._∷_
-      115
+      111
       (List._∷_
-      104
+      109
+      (List._∷_
+      101
       (List._∷_
       58
-      (List._∷_ 58 (List._∷_ 83 (List._∷_ 101 (List._∷_ 110 (List._∷_ 116 List.[]))))))))))))
+      (List._∷_ 58 (List._∷_ 83 (List._∷_ 101 (List._∷_ 110 (List._∷_ 116 List.[])))))))))))))
       (Syntax.tcons
       (Syntax.tyStruct
       (List._∷_
@@ -26402,20 +26538,22 @@ module _ (claims· : Claims) where
       (Syntax.tcons
       (Syntax.tyStruct
       (List._∷_
-      102
+      111
       (List._∷_
-      105
+      117
       (List._∷_
-      110
+      116
       (List._∷_
-      105
+      99
       (List._∷_
-      115
+      111
       (List._∷_
-      104
+      109
+      (List._∷_
+      101
       (List._∷_
       58
-      (List._∷_ 58 (List._∷_ 83 (List._∷_ 101 (List._∷_ 110 (List._∷_ 116 List.[]))))))))))))
+      (List._∷_ 58 (List._∷_ 83 (List._∷_ 101 (List._∷_ 110 (List._∷_ 116 List.[])))))))))))))
       (Syntax.tcons
       (Syntax.tyStruct
       (List._∷_
@@ -27427,17 +27565,19 @@ module _ (claims· : Claims) where
       (List._∷_ 11 (List._∷_ 12 (List._∷_ 5 (List._∷_ 13 (List._∷_ 14 (List._∷_ 15 List.[]))))))))
       (Syntax.tyStruct
       (List._∷_
-      102
+      111
       (List._∷_
-      105
+      117
       (List._∷_
-      110
+      116
       (List._∷_
-      105
+      99
       (List._∷_
-      115
+      111
       (List._∷_
-      104
+      109
+      (List._∷_
+      101
       (List._∷_
       58
       (List._∷_
@@ -27446,24 +27586,26 @@ module _ (claims· : Claims) where
       79
       (List._∷_
       117
-      (List._∷_ 116 (List._∷_ 99 (List._∷_ 111 (List._∷_ 109 (List._∷_ 101 List.[])))))))))))))))
+      (List._∷_ 116 (List._∷_ 99 (List._∷_ 111 (List._∷_ 109 (List._∷_ 101 List.[]))))))))))))))))
       (Syntax.tcons
       (Syntax.tyStruct
       (List._∷_
-      102
+      111
       (List._∷_
-      105
+      117
       (List._∷_
-      110
+      116
       (List._∷_
-      105
+      99
       (List._∷_
-      115
+      111
       (List._∷_
-      104
+      109
+      (List._∷_
+      101
       (List._∷_
       58
-      (List._∷_ 58 (List._∷_ 83 (List._∷_ 101 (List._∷_ 110 (List._∷_ 116 List.[]))))))))))))
+      (List._∷_ 58 (List._∷_ 83 (List._∷_ 101 (List._∷_ 110 (List._∷_ 116 List.[])))))))))))))
       (Syntax.tcons
       (Syntax.tyStruct
       (List._∷_
@@ -27526,20 +27668,22 @@ module _ (claims· : Claims) where
       (Syntax.tcons
       (Syntax.tyStruct
       (List._∷_
-      102
+      111
       (List._∷_
-      105
+      117
       (List._∷_
-      110
+      116
       (List._∷_
-      105
+      99
       (List._∷_
-      115
+      111
       (List._∷_
-      104
+      109
+      (List._∷_
+      101
       (List._∷_
       58
-      (List._∷_ 58 (List._∷_ 83 (List._∷_ 101 (List._∷_ 110 (List._∷_ 116 List.[]))))))))))))
+      (List._∷_ 58 (List._∷_ 83 (List._∷_ 101 (List._∷_ 110 (List._∷_ 116 List.[])))))))))))))
       (Syntax.tcons
       (Syntax.tyStruct
       (List._∷_
@@ -27852,7 +27996,7 @@ module _ (claims· : Claims) where
           𝓣 0 ps·7 r·7 (claims· .14) (claims· .15) "request::gather") (known8 : Plain.Known 𝓤 H A W
           𝓣 1 ps·8 r·8 (claims· .16) (claims· .17) "request::judge") (known9 : Plain.Known 𝓤 H A W
           𝓣 0 ps·9 r·9 (claims· .18) (claims· .19) "answer::number") (known10 : Plain.Known 𝓤 H A W
-          𝓣 0 ps·10 r·10 (claims· .20) (claims· .21) "finish::refused") (known11 : Plain.Known 𝓤 H
+          𝓣 0 ps·10 r·10 (claims· .20) (claims· .21) "outcome::refused") (known11 : Plain.Known 𝓤 H
           A W 𝓣 0 ps·11 r·11 (claims· .22) (claims· .23)
           "request_stored::accepted") (known12 : Plain.Known 𝓤 H A W 𝓣 0 ps·12 r·12 (claims· .24)
           (claims· .25) "request_sent::forward_post") (known13 : Plain.Known 𝓤 H A W 𝓣 0 ps·13 r·13
@@ -28300,7 +28444,7 @@ module _ (claims· : Claims) where
             Plain.Known 𝓤 H A W 𝓣 0 ps·7 r·7 (claims· .14) (claims· .15) "request::gather" ×
             Plain.Known 𝓤 H A W 𝓣 1 ps·8 r·8 (claims· .16) (claims· .17) "request::judge" ×
             Plain.Known 𝓤 H A W 𝓣 0 ps·9 r·9 (claims· .18) (claims· .19) "answer::number" ×
-            Plain.Known 𝓤 H A W 𝓣 0 ps·10 r·10 (claims· .20) (claims· .21) "finish::refused" ×
+            Plain.Known 𝓤 H A W 𝓣 0 ps·10 r·10 (claims· .20) (claims· .21) "outcome::refused" ×
             Plain.Known
             𝓤
             H
@@ -28347,17 +28491,19 @@ module _ (claims· : Claims) where
           Rows'.any-gone
               (Syntax.tyStruct
               (List._∷_
-              102
+              111
               (List._∷_
-              105
+              117
               (List._∷_
-              110
+              116
               (List._∷_
-              105
+              99
               (List._∷_
-              115
+              111
               (List._∷_
-              104
+              109
+              (List._∷_
+              101
               (List._∷_
               58
               (List._∷_
@@ -28368,26 +28514,28 @@ module _ (claims· : Claims) where
               117
               (List._∷_
               116
-              (List._∷_ 99 (List._∷_ 111 (List._∷_ 109 (List._∷_ 101 List.[])))))))))))))))
+              (List._∷_ 99 (List._∷_ 111 (List._∷_ 109 (List._∷_ 101 List.[]))))))))))))))))
               (Syntax.tcons
               (Syntax.tyStruct
               (List._∷_
-              102
+              111
               (List._∷_
-              105
+              117
               (List._∷_
-              110
+              116
               (List._∷_
-              105
+              99
               (List._∷_
-              115
+              111
               (List._∷_
-              104
+              109
+              (List._∷_
+              101
               (List._∷_
               58
               (List._∷_
               58
-              (List._∷_ 83 (List._∷_ 101 (List._∷_ 110 (List._∷_ 116 List.[]))))))))))))
+              (List._∷_ 83 (List._∷_ 101 (List._∷_ 110 (List._∷_ 116 List.[])))))))))))))
               (Syntax.tcons
               (Syntax.tyStruct
               (List._∷_
@@ -28450,22 +28598,24 @@ module _ (claims· : Claims) where
               (Syntax.tcons
               (Syntax.tyStruct
               (List._∷_
-              102
+              111
               (List._∷_
-              105
+              117
               (List._∷_
-              110
+              116
               (List._∷_
-              105
+              99
               (List._∷_
-              115
+              111
               (List._∷_
-              104
+              109
+              (List._∷_
+              101
               (List._∷_
               58
               (List._∷_
               58
-              (List._∷_ 83 (List._∷_ 101 (List._∷_ 110 (List._∷_ 116 List.[]))))))))))))
+              (List._∷_ 83 (List._∷_ 101 (List._∷_ 110 (List._∷_ 116 List.[])))))))))))))
               (Syntax.tcons
               (Syntax.tyStruct
               (List._∷_
@@ -28677,17 +28827,19 @@ module _ (claims· : Claims) where
           Rows'.any-gone
               (Syntax.tyStruct
               (List._∷_
-              102
+              111
               (List._∷_
-              105
+              117
               (List._∷_
-              110
+              116
               (List._∷_
-              105
+              99
               (List._∷_
-              115
+              111
               (List._∷_
-              104
+              109
+              (List._∷_
+              101
               (List._∷_
               58
               (List._∷_
@@ -28698,26 +28850,28 @@ module _ (claims· : Claims) where
               117
               (List._∷_
               116
-              (List._∷_ 99 (List._∷_ 111 (List._∷_ 109 (List._∷_ 101 List.[])))))))))))))))
+              (List._∷_ 99 (List._∷_ 111 (List._∷_ 109 (List._∷_ 101 List.[]))))))))))))))))
               (Syntax.tcons
               (Syntax.tyStruct
               (List._∷_
-              102
+              111
               (List._∷_
-              105
+              117
               (List._∷_
-              110
+              116
               (List._∷_
-              105
+              99
               (List._∷_
-              115
+              111
               (List._∷_
-              104
+              109
+              (List._∷_
+              101
               (List._∷_
               58
               (List._∷_
               58
-              (List._∷_ 83 (List._∷_ 101 (List._∷_ 110 (List._∷_ 116 List.[]))))))))))))
+              (List._∷_ 83 (List._∷_ 101 (List._∷_ 110 (List._∷_ 116 List.[])))))))))))))
               (Syntax.tcons
               (Syntax.tyStruct
               (List._∷_
@@ -28780,22 +28934,24 @@ module _ (claims· : Claims) where
               (Syntax.tcons
               (Syntax.tyStruct
               (List._∷_
-              102
+              111
               (List._∷_
-              105
+              117
               (List._∷_
-              110
+              116
               (List._∷_
-              105
+              99
               (List._∷_
-              115
+              111
               (List._∷_
-              104
+              109
+              (List._∷_
+              101
               (List._∷_
               58
               (List._∷_
               58
-              (List._∷_ 83 (List._∷_ 101 (List._∷_ 110 (List._∷_ 116 List.[]))))))))))))
+              (List._∷_ 83 (List._∷_ 101 (List._∷_ 110 (List._∷_ 116 List.[])))))))))))))
               (Syntax.tcons
               (Syntax.tyStruct
               (List._∷_
@@ -28980,17 +29136,19 @@ module _ (claims· : Claims) where
           Rows'.any-gone
               (Syntax.tyStruct
               (List._∷_
-              102
+              111
               (List._∷_
-              105
+              117
               (List._∷_
-              110
+              116
               (List._∷_
-              105
+              99
               (List._∷_
-              115
+              111
               (List._∷_
-              104
+              109
+              (List._∷_
+              101
               (List._∷_
               58
               (List._∷_
@@ -29001,26 +29159,28 @@ module _ (claims· : Claims) where
               117
               (List._∷_
               116
-              (List._∷_ 99 (List._∷_ 111 (List._∷_ 109 (List._∷_ 101 List.[])))))))))))))))
+              (List._∷_ 99 (List._∷_ 111 (List._∷_ 109 (List._∷_ 101 List.[]))))))))))))))))
               (Syntax.tcons
               (Syntax.tyStruct
               (List._∷_
-              102
+              111
               (List._∷_
-              105
+              117
               (List._∷_
-              110
+              116
               (List._∷_
-              105
+              99
               (List._∷_
-              115
+              111
               (List._∷_
-              104
+              109
+              (List._∷_
+              101
               (List._∷_
               58
               (List._∷_
               58
-              (List._∷_ 83 (List._∷_ 101 (List._∷_ 110 (List._∷_ 116 List.[]))))))))))))
+              (List._∷_ 83 (List._∷_ 101 (List._∷_ 110 (List._∷_ 116 List.[])))))))))))))
               (Syntax.tcons
               (Syntax.tyStruct
               (List._∷_
@@ -29083,22 +29243,24 @@ module _ (claims· : Claims) where
               (Syntax.tcons
               (Syntax.tyStruct
               (List._∷_
-              102
+              111
               (List._∷_
-              105
+              117
               (List._∷_
-              110
+              116
               (List._∷_
-              105
+              99
               (List._∷_
-              115
+              111
               (List._∷_
-              104
+              109
+              (List._∷_
+              101
               (List._∷_
               58
               (List._∷_
               58
-              (List._∷_ 83 (List._∷_ 101 (List._∷_ 110 (List._∷_ 116 List.[]))))))))))))
+              (List._∷_ 83 (List._∷_ 101 (List._∷_ 110 (List._∷_ 116 List.[])))))))))))))
               (Syntax.tcons
               (Syntax.tyStruct
               (List._∷_
@@ -29283,17 +29445,19 @@ module _ (claims· : Claims) where
           Rows'.any-gone
               (Syntax.tyStruct
               (List._∷_
-              102
+              111
               (List._∷_
-              105
+              117
               (List._∷_
-              110
+              116
               (List._∷_
-              105
+              99
               (List._∷_
-              115
+              111
               (List._∷_
-              104
+              109
+              (List._∷_
+              101
               (List._∷_
               58
               (List._∷_
@@ -29304,26 +29468,28 @@ module _ (claims· : Claims) where
               117
               (List._∷_
               116
-              (List._∷_ 99 (List._∷_ 111 (List._∷_ 109 (List._∷_ 101 List.[])))))))))))))))
+              (List._∷_ 99 (List._∷_ 111 (List._∷_ 109 (List._∷_ 101 List.[]))))))))))))))))
               (Syntax.tcons
               (Syntax.tyStruct
               (List._∷_
-              102
+              111
               (List._∷_
-              105
+              117
               (List._∷_
-              110
+              116
               (List._∷_
-              105
+              99
               (List._∷_
-              115
+              111
               (List._∷_
-              104
+              109
+              (List._∷_
+              101
               (List._∷_
               58
               (List._∷_
               58
-              (List._∷_ 83 (List._∷_ 101 (List._∷_ 110 (List._∷_ 116 List.[]))))))))))))
+              (List._∷_ 83 (List._∷_ 101 (List._∷_ 110 (List._∷_ 116 List.[])))))))))))))
               (Syntax.tcons
               (Syntax.tyStruct
               (List._∷_
@@ -29386,22 +29552,24 @@ module _ (claims· : Claims) where
               (Syntax.tcons
               (Syntax.tyStruct
               (List._∷_
-              102
+              111
               (List._∷_
-              105
+              117
               (List._∷_
-              110
+              116
               (List._∷_
-              105
+              99
               (List._∷_
-              115
+              111
               (List._∷_
-              104
+              109
+              (List._∷_
+              101
               (List._∷_
               58
               (List._∷_
               58
-              (List._∷_ 83 (List._∷_ 101 (List._∷_ 110 (List._∷_ 116 List.[]))))))))))))
+              (List._∷_ 83 (List._∷_ 101 (List._∷_ 110 (List._∷_ 116 List.[])))))))))))))
               (Syntax.tcons
               (Syntax.tyStruct
               (List._∷_
@@ -29586,17 +29754,19 @@ module _ (claims· : Claims) where
           Rows'.any-gone
               (Syntax.tyStruct
               (List._∷_
-              102
+              111
               (List._∷_
-              105
+              117
               (List._∷_
-              110
+              116
               (List._∷_
-              105
+              99
               (List._∷_
-              115
+              111
               (List._∷_
-              104
+              109
+              (List._∷_
+              101
               (List._∷_
               58
               (List._∷_
@@ -29607,26 +29777,28 @@ module _ (claims· : Claims) where
               117
               (List._∷_
               116
-              (List._∷_ 99 (List._∷_ 111 (List._∷_ 109 (List._∷_ 101 List.[])))))))))))))))
+              (List._∷_ 99 (List._∷_ 111 (List._∷_ 109 (List._∷_ 101 List.[]))))))))))))))))
               (Syntax.tcons
               (Syntax.tyStruct
               (List._∷_
-              102
+              111
               (List._∷_
-              105
+              117
               (List._∷_
-              110
+              116
               (List._∷_
-              105
+              99
               (List._∷_
-              115
+              111
               (List._∷_
-              104
+              109
+              (List._∷_
+              101
               (List._∷_
               58
               (List._∷_
               58
-              (List._∷_ 83 (List._∷_ 101 (List._∷_ 110 (List._∷_ 116 List.[]))))))))))))
+              (List._∷_ 83 (List._∷_ 101 (List._∷_ 110 (List._∷_ 116 List.[])))))))))))))
               (Syntax.tcons
               (Syntax.tyStruct
               (List._∷_
@@ -29689,22 +29861,24 @@ module _ (claims· : Claims) where
               (Syntax.tcons
               (Syntax.tyStruct
               (List._∷_
-              102
+              111
               (List._∷_
-              105
+              117
               (List._∷_
-              110
+              116
               (List._∷_
-              105
+              99
               (List._∷_
-              115
+              111
               (List._∷_
-              104
+              109
+              (List._∷_
+              101
               (List._∷_
               58
               (List._∷_
               58
-              (List._∷_ 83 (List._∷_ 101 (List._∷_ 110 (List._∷_ 116 List.[]))))))))))))
+              (List._∷_ 83 (List._∷_ 101 (List._∷_ 110 (List._∷_ 116 List.[])))))))))))))
               (Syntax.tcons
               (Syntax.tyStruct
               (List._∷_
@@ -29889,17 +30063,19 @@ module _ (claims· : Claims) where
           Rows'.any-gone
               (Syntax.tyStruct
               (List._∷_
-              102
+              111
               (List._∷_
-              105
+              117
               (List._∷_
-              110
+              116
               (List._∷_
-              105
+              99
               (List._∷_
-              115
+              111
               (List._∷_
-              104
+              109
+              (List._∷_
+              101
               (List._∷_
               58
               (List._∷_
@@ -29910,26 +30086,28 @@ module _ (claims· : Claims) where
               117
               (List._∷_
               116
-              (List._∷_ 99 (List._∷_ 111 (List._∷_ 109 (List._∷_ 101 List.[])))))))))))))))
+              (List._∷_ 99 (List._∷_ 111 (List._∷_ 109 (List._∷_ 101 List.[]))))))))))))))))
               (Syntax.tcons
               (Syntax.tyStruct
               (List._∷_
-              102
+              111
               (List._∷_
-              105
+              117
               (List._∷_
-              110
+              116
               (List._∷_
-              105
+              99
               (List._∷_
-              115
+              111
               (List._∷_
-              104
+              109
+              (List._∷_
+              101
               (List._∷_
               58
               (List._∷_
               58
-              (List._∷_ 83 (List._∷_ 101 (List._∷_ 110 (List._∷_ 116 List.[]))))))))))))
+              (List._∷_ 83 (List._∷_ 101 (List._∷_ 110 (List._∷_ 116 List.[])))))))))))))
               (Syntax.tcons
               (Syntax.tyStruct
               (List._∷_
@@ -29992,22 +30170,24 @@ module _ (claims· : Claims) where
               (Syntax.tcons
               (Syntax.tyStruct
               (List._∷_
-              102
+              111
               (List._∷_
-              105
+              117
               (List._∷_
-              110
+              116
               (List._∷_
-              105
+              99
               (List._∷_
-              115
+              111
               (List._∷_
-              104
+              109
+              (List._∷_
+              101
               (List._∷_
               58
               (List._∷_
               58
-              (List._∷_ 83 (List._∷_ 101 (List._∷_ 110 (List._∷_ 116 List.[]))))))))))))
+              (List._∷_ 83 (List._∷_ 101 (List._∷_ 110 (List._∷_ 116 List.[])))))))))))))
               (Syntax.tcons
               (Syntax.tyStruct
               (List._∷_
@@ -30192,17 +30372,19 @@ module _ (claims· : Claims) where
           Rows'.any-gone
               (Syntax.tyStruct
               (List._∷_
-              102
+              111
               (List._∷_
-              105
+              117
               (List._∷_
-              110
+              116
               (List._∷_
-              105
+              99
               (List._∷_
-              115
+              111
               (List._∷_
-              104
+              109
+              (List._∷_
+              101
               (List._∷_
               58
               (List._∷_
@@ -30213,26 +30395,28 @@ module _ (claims· : Claims) where
               117
               (List._∷_
               116
-              (List._∷_ 99 (List._∷_ 111 (List._∷_ 109 (List._∷_ 101 List.[])))))))))))))))
+              (List._∷_ 99 (List._∷_ 111 (List._∷_ 109 (List._∷_ 101 List.[]))))))))))))))))
               (Syntax.tcons
               (Syntax.tyStruct
               (List._∷_
-              102
+              111
               (List._∷_
-              105
+              117
               (List._∷_
-              110
+              116
               (List._∷_
-              105
+              99
               (List._∷_
-              115
+              111
               (List._∷_
-              104
+              109
+              (List._∷_
+              101
               (List._∷_
               58
               (List._∷_
               58
-              (List._∷_ 83 (List._∷_ 101 (List._∷_ 110 (List._∷_ 116 List.[]))))))))))))
+              (List._∷_ 83 (List._∷_ 101 (List._∷_ 110 (List._∷_ 116 List.[])))))))))))))
               (Syntax.tcons
               (Syntax.tyStruct
               (List._∷_
@@ -30295,22 +30479,24 @@ module _ (claims· : Claims) where
               (Syntax.tcons
               (Syntax.tyStruct
               (List._∷_
-              102
+              111
               (List._∷_
-              105
+              117
               (List._∷_
-              110
+              116
               (List._∷_
-              105
+              99
               (List._∷_
-              115
+              111
               (List._∷_
-              104
+              109
+              (List._∷_
+              101
               (List._∷_
               58
               (List._∷_
               58
-              (List._∷_ 83 (List._∷_ 101 (List._∷_ 110 (List._∷_ 116 List.[]))))))))))))
+              (List._∷_ 83 (List._∷_ 101 (List._∷_ 110 (List._∷_ 116 List.[])))))))))))))
               (Syntax.tcons
               (Syntax.tyStruct
               (List._∷_
@@ -30552,17 +30738,19 @@ module _ (claims· : Claims) where
           Rows'.any-gone
               (Syntax.tyStruct
               (List._∷_
-              102
+              111
               (List._∷_
-              105
+              117
               (List._∷_
-              110
+              116
               (List._∷_
-              105
+              99
               (List._∷_
-              115
+              111
               (List._∷_
-              104
+              109
+              (List._∷_
+              101
               (List._∷_
               58
               (List._∷_
@@ -30573,26 +30761,28 @@ module _ (claims· : Claims) where
               117
               (List._∷_
               116
-              (List._∷_ 99 (List._∷_ 111 (List._∷_ 109 (List._∷_ 101 List.[])))))))))))))))
+              (List._∷_ 99 (List._∷_ 111 (List._∷_ 109 (List._∷_ 101 List.[]))))))))))))))))
               (Syntax.tcons
               (Syntax.tyStruct
               (List._∷_
-              102
+              111
               (List._∷_
-              105
+              117
               (List._∷_
-              110
+              116
               (List._∷_
-              105
+              99
               (List._∷_
-              115
+              111
               (List._∷_
-              104
+              109
+              (List._∷_
+              101
               (List._∷_
               58
               (List._∷_
               58
-              (List._∷_ 83 (List._∷_ 101 (List._∷_ 110 (List._∷_ 116 List.[]))))))))))))
+              (List._∷_ 83 (List._∷_ 101 (List._∷_ 110 (List._∷_ 116 List.[])))))))))))))
               (Syntax.tcons
               (Syntax.tyStruct
               (List._∷_
@@ -30655,22 +30845,24 @@ module _ (claims· : Claims) where
               (Syntax.tcons
               (Syntax.tyStruct
               (List._∷_
-              102
+              111
               (List._∷_
-              105
+              117
               (List._∷_
-              110
+              116
               (List._∷_
-              105
+              99
               (List._∷_
-              115
+              111
               (List._∷_
-              104
+              109
+              (List._∷_
+              101
               (List._∷_
               58
               (List._∷_
               58
-              (List._∷_ 83 (List._∷_ 101 (List._∷_ 110 (List._∷_ 116 List.[]))))))))))))
+              (List._∷_ 83 (List._∷_ 101 (List._∷_ 110 (List._∷_ 116 List.[])))))))))))))
               (Syntax.tcons
               (Syntax.tyStruct
               (List._∷_
@@ -30914,17 +31106,19 @@ module _ (claims· : Claims) where
           Rows'.any-gone
               (Syntax.tyStruct
               (List._∷_
-              102
+              111
               (List._∷_
-              105
+              117
               (List._∷_
-              110
+              116
               (List._∷_
-              105
+              99
               (List._∷_
-              115
+              111
               (List._∷_
-              104
+              109
+              (List._∷_
+              101
               (List._∷_
               58
               (List._∷_
@@ -30935,26 +31129,28 @@ module _ (claims· : Claims) where
               117
               (List._∷_
               116
-              (List._∷_ 99 (List._∷_ 111 (List._∷_ 109 (List._∷_ 101 List.[])))))))))))))))
+              (List._∷_ 99 (List._∷_ 111 (List._∷_ 109 (List._∷_ 101 List.[]))))))))))))))))
               (Syntax.tcons
               (Syntax.tyStruct
               (List._∷_
-              102
+              111
               (List._∷_
-              105
+              117
               (List._∷_
-              110
+              116
               (List._∷_
-              105
+              99
               (List._∷_
-              115
+              111
               (List._∷_
-              104
+              109
+              (List._∷_
+              101
               (List._∷_
               58
               (List._∷_
               58
-              (List._∷_ 83 (List._∷_ 101 (List._∷_ 110 (List._∷_ 116 List.[]))))))))))))
+              (List._∷_ 83 (List._∷_ 101 (List._∷_ 110 (List._∷_ 116 List.[])))))))))))))
               (Syntax.tcons
               (Syntax.tyStruct
               (List._∷_
@@ -31017,22 +31213,24 @@ module _ (claims· : Claims) where
               (Syntax.tcons
               (Syntax.tyStruct
               (List._∷_
-              102
+              111
               (List._∷_
-              105
+              117
               (List._∷_
-              110
+              116
               (List._∷_
-              105
+              99
               (List._∷_
-              115
+              111
               (List._∷_
-              104
+              109
+              (List._∷_
+              101
               (List._∷_
               58
               (List._∷_
               58
-              (List._∷_ 83 (List._∷_ 101 (List._∷_ 110 (List._∷_ 116 List.[]))))))))))))
+              (List._∷_ 83 (List._∷_ 101 (List._∷_ 110 (List._∷_ 116 List.[])))))))))))))
               (Syntax.tcons
               (Syntax.tyStruct
               (List._∷_
@@ -31278,17 +31476,19 @@ module _ (claims· : Claims) where
           Rows'.any-gone
               (Syntax.tyStruct
               (List._∷_
-              102
+              111
               (List._∷_
-              105
+              117
               (List._∷_
-              110
+              116
               (List._∷_
-              105
+              99
               (List._∷_
-              115
+              111
               (List._∷_
-              104
+              109
+              (List._∷_
+              101
               (List._∷_
               58
               (List._∷_
@@ -31299,26 +31499,28 @@ module _ (claims· : Claims) where
               117
               (List._∷_
               116
-              (List._∷_ 99 (List._∷_ 111 (List._∷_ 109 (List._∷_ 101 List.[])))))))))))))))
+              (List._∷_ 99 (List._∷_ 111 (List._∷_ 109 (List._∷_ 101 List.[]))))))))))))))))
               (Syntax.tcons
               (Syntax.tyStruct
               (List._∷_
-              102
+              111
               (List._∷_
-              105
+              117
               (List._∷_
-              110
+              116
               (List._∷_
-              105
+              99
               (List._∷_
-              115
+              111
               (List._∷_
-              104
+              109
+              (List._∷_
+              101
               (List._∷_
               58
               (List._∷_
               58
-              (List._∷_ 83 (List._∷_ 101 (List._∷_ 110 (List._∷_ 116 List.[]))))))))))))
+              (List._∷_ 83 (List._∷_ 101 (List._∷_ 110 (List._∷_ 116 List.[])))))))))))))
               (Syntax.tcons
               (Syntax.tyStruct
               (List._∷_
@@ -31381,22 +31583,24 @@ module _ (claims· : Claims) where
               (Syntax.tcons
               (Syntax.tyStruct
               (List._∷_
-              102
+              111
               (List._∷_
-              105
+              117
               (List._∷_
-              110
+              116
               (List._∷_
-              105
+              99
               (List._∷_
-              115
+              111
               (List._∷_
-              104
+              109
+              (List._∷_
+              101
               (List._∷_
               58
               (List._∷_
               58
-              (List._∷_ 83 (List._∷_ 101 (List._∷_ 110 (List._∷_ 116 List.[]))))))))))))
+              (List._∷_ 83 (List._∷_ 101 (List._∷_ 110 (List._∷_ 116 List.[])))))))))))))
               (Syntax.tcons
               (Syntax.tyStruct
               (List._∷_
@@ -37157,7 +37361,7 @@ module _ (claims· : Claims) where
               r·10
               (claims· .20)
               (claims· .21)
-              "finish::refused"
+              "outcome::refused"
               (known .10)
               E
               (λ pos β. β)
@@ -37202,17 +37406,19 @@ module _ (claims· : Claims) where
               A
               (Syntax.tyStruct
               (List._∷_
-              102
+              111
               (List._∷_
-              105
+              117
               (List._∷_
-              110
+              116
               (List._∷_
-              105
+              99
               (List._∷_
-              115
+              111
               (List._∷_
-              104
+              109
+              (List._∷_
+              101
               (List._∷_
               58
               (List._∷_
@@ -37223,26 +37429,28 @@ module _ (claims· : Claims) where
               117
               (List._∷_
               116
-              (List._∷_ 99 (List._∷_ 111 (List._∷_ 109 (List._∷_ 101 List.[])))))))))))))))
+              (List._∷_ 99 (List._∷_ 111 (List._∷_ 109 (List._∷_ 101 List.[]))))))))))))))))
               (Syntax.tcons
               (Syntax.tyStruct
               (List._∷_
-              102
+              111
               (List._∷_
-              105
+              117
               (List._∷_
-              110
+              116
               (List._∷_
-              105
+              99
               (List._∷_
-              115
+              111
               (List._∷_
-              104
+              109
+              (List._∷_
+              101
               (List._∷_
               58
               (List._∷_
               58
-              (List._∷_ 83 (List._∷_ 101 (List._∷_ 110 (List._∷_ 116 List.[]))))))))))))
+              (List._∷_ 83 (List._∷_ 101 (List._∷_ 110 (List._∷_ 116 List.[])))))))))))))
               (Syntax.tcons
               (Syntax.tyStruct
               (List._∷_
@@ -37305,22 +37513,24 @@ module _ (claims· : Claims) where
               (Syntax.tcons
               (Syntax.tyStruct
               (List._∷_
-              102
+              111
               (List._∷_
-              105
+              117
               (List._∷_
-              110
+              116
               (List._∷_
-              105
+              99
               (List._∷_
-              115
+              111
               (List._∷_
-              104
+              109
+              (List._∷_
+              101
               (List._∷_
               58
               (List._∷_
               58
-              (List._∷_ 83 (List._∷_ 101 (List._∷_ 110 (List._∷_ 116 List.[]))))))))))))
+              (List._∷_ 83 (List._∷_ 101 (List._∷_ 110 (List._∷_ 116 List.[])))))))))))))
               (Syntax.tcons
               (Syntax.tyStruct
               (List._∷_
@@ -40040,17 +40250,19 @@ module _ (claims· : Claims) where
               A
               (Syntax.tyStruct
               (List._∷_
-              102
+              111
               (List._∷_
-              105
+              117
               (List._∷_
-              110
+              116
               (List._∷_
-              105
+              99
               (List._∷_
-              115
+              111
               (List._∷_
-              104
+              109
+              (List._∷_
+              101
               (List._∷_
               58
               (List._∷_
@@ -40061,26 +40273,28 @@ module _ (claims· : Claims) where
               117
               (List._∷_
               116
-              (List._∷_ 99 (List._∷_ 111 (List._∷_ 109 (List._∷_ 101 List.[])))))))))))))))
+              (List._∷_ 99 (List._∷_ 111 (List._∷_ 109 (List._∷_ 101 List.[]))))))))))))))))
               (Syntax.tcons
               (Syntax.tyStruct
               (List._∷_
-              102
+              111
               (List._∷_
-              105
+              117
               (List._∷_
-              110
+              116
               (List._∷_
-              105
+              99
               (List._∷_
-              115
+              111
               (List._∷_
-              104
+              109
+              (List._∷_
+              101
               (List._∷_
               58
               (List._∷_
               58
-              (List._∷_ 83 (List._∷_ 101 (List._∷_ 110 (List._∷_ 116 List.[]))))))))))))
+              (List._∷_ 83 (List._∷_ 101 (List._∷_ 110 (List._∷_ 116 List.[])))))))))))))
               (Syntax.tcons
               (Syntax.tyStruct
               (List._∷_
@@ -40143,22 +40357,24 @@ module _ (claims· : Claims) where
               (Syntax.tcons
               (Syntax.tyStruct
               (List._∷_
-              102
+              111
               (List._∷_
-              105
+              117
               (List._∷_
-              110
+              116
               (List._∷_
-              105
+              99
               (List._∷_
-              115
+              111
               (List._∷_
-              104
+              109
+              (List._∷_
+              101
               (List._∷_
               58
               (List._∷_
               58
-              (List._∷_ 83 (List._∷_ 101 (List._∷_ 110 (List._∷_ 116 List.[]))))))))))))
+              (List._∷_ 83 (List._∷_ 101 (List._∷_ 110 (List._∷_ 116 List.[])))))))))))))
               (Syntax.tcons
               (Syntax.tyStruct
               (List._∷_
@@ -42299,7 +42515,7 @@ module _ (claims· : Claims) where
                       (λ ρ. Unit)
                       (Declared'.row Found.the-type)
                       Path'.refl
-                      (Copies.cStruct Found.the-type Laws'3.the-laws Laws'3.the-copy .copy 𝓤 H A W)
+                      (Copies.cStruct Found.the-type Laws''.the-laws Laws''.the-copy .copy 𝓤 H A W)
                       (Rows'.whole (Declared'.row Found.the-type))
                       (λ x. x)
                       (λ x. x)
@@ -42325,8 +42541,8 @@ module _ (claims· : Claims) where
                         Path'.refl
                         (Copies.cStruct
                         FoundRoute.the-type
-                        Laws'4.the-laws
-                        Laws'4.the-copy .copy
+                        Laws'3.the-laws
+                        Laws'3.the-copy .copy
                         𝓤
                         H
                         A
@@ -43151,8 +43367,8 @@ module _ (claims· : Claims) where
                         Path'.refl
                         (Copies.cStruct
                         Link.the-type
-                        Laws'6.the-laws
-                        Laws'6.the-copy .copy
+                        Laws'5.the-laws
+                        Laws'5.the-copy .copy
                         𝓤
                         H
                         A
@@ -43489,7 +43705,7 @@ module _ (claims· : Claims) where
                       (λ ρ. Unit)
                       (Declared'.row Link.the-type)
                       Path'.refl
-                      (Copies.cStruct Link.the-type Laws'6.the-laws Laws'6.the-copy .copy 𝓤 H A W)
+                      (Copies.cStruct Link.the-type Laws'5.the-laws Laws'5.the-copy .copy 𝓤 H A W)
                       (Rows'.whole (Declared'.row Link.the-type))
                       (λ x. x)
                       (λ x. x)
@@ -43860,8 +44076,8 @@ module _ (claims· : Claims) where
                             Path'.refl
                             (Copies.cStruct
                             Link.the-type
-                            Laws'6.the-laws
-                            Laws'6.the-copy .copy
+                            Laws'5.the-laws
+                            Laws'5.the-copy .copy
                             𝓤
                             H
                             A
@@ -44249,8 +44465,8 @@ module _ (claims· : Claims) where
                         Path'.refl
                         (Copies.cStruct
                         Link.the-type
-                        Laws'6.the-laws
-                        Laws'6.the-copy .copy
+                        Laws'5.the-laws
+                        Laws'5.the-copy .copy
                         𝓤
                         H
                         A
@@ -44705,8 +44921,8 @@ module _ (claims· : Claims) where
                         Path'.refl
                         (Copies.cStruct
                         Link.the-type
-                        Laws'6.the-laws
-                        Laws'6.the-copy .copy
+                        Laws'5.the-laws
+                        Laws'5.the-copy .copy
                         𝓤
                         H
                         A
@@ -44741,8 +44957,8 @@ module _ (claims· : Claims) where
                             Path'.refl
                             (Copies.cStruct
                             Found.the-type
-                            Laws'3.the-laws
-                            Laws'3.the-copy .copy
+                            Laws''.the-laws
+                            Laws''.the-copy .copy
                             𝓤
                             H
                             A
@@ -44772,8 +44988,8 @@ module _ (claims· : Claims) where
                               Path'.refl
                               (Copies.cStruct
                               FoundRoute.the-type
-                              Laws'4.the-laws
-                              Laws'4.the-copy .copy
+                              Laws'3.the-laws
+                              Laws'3.the-copy .copy
                               𝓤
                               H
                               A
@@ -44809,8 +45025,8 @@ module _ (claims· : Claims) where
                                 Path'.refl
                                 (Copies.cStruct
                                 FreeDelta.the-type
-                                Laws'5.the-laws
-                                Laws'5.the-copy .copy
+                                Laws'4.the-laws
+                                Laws'4.the-copy .copy
                                 𝓤
                                 H
                                 A
@@ -47522,16 +47738,16 @@ module _ (claims· : Claims) where
           pub k : Kinds.Den {n = 6} κs (Value.pVal record {
             ty = Declared'.row Link.the-type;
             one = Path'.refl;
-            val = Laws'10.val Link.the-type Laws'6.the-laws;
-            tells = Laws'10.tells Link.the-type Laws'6.the-laws;
-            still = Laws'10.still Link.the-type Laws'6.the-copy Exit.yes;
+            val = Laws'10.val Link.the-type Laws'5.the-laws;
+            tells = Laws'10.tells Link.the-type Laws'5.the-laws;
+            still = Laws'10.still Link.the-type Laws'5.the-copy Exit.yes;
             row = Rows'.whole (Declared'.row Link.the-type);
             rd = λ x. x;
             mk = λ x. x;
           } λ M 𝓤 H A W. record {
-            copies = Laws'10.copy Link.the-type Laws'6.the-copy 𝓤 H A W;
-            lawful = Laws'10.lawful Link.the-type Laws'6.the-laws 𝓤 H A W;
-            makes = Laws'10.makes Link.the-type Laws'6.the-plain 𝓤 H A;
+            copies = Laws'10.copy Link.the-type Laws'5.the-copy 𝓤 H A W;
+            lawful = Laws'10.lawful Link.the-type Laws'5.the-laws 𝓤 H A W;
+            makes = Laws'10.makes Link.the-type Laws'5.the-plain 𝓤 H A;
             in-mem = Local.mem-whole 𝓤 H A W (Declared'.row Link.the-type);
             of-mem = Local.whole-mem 𝓤 H A W (Declared'.row Link.the-type);
           })
@@ -50271,7 +50487,7 @@ module _ (claims· : Claims) where
             r·10
             (claims· .20)
             (claims· .21)
-            "finish::refused")
+            "outcome::refused")
             (known11 : Plain.Known
             𝓤
             H

@@ -4,10 +4,10 @@ use Rattle.row.proofs.Elem.RouteRow as KRouteRow
 use Rattle.plain.proofs.Elem.Target as KTarget
 use Rattle.tally.proofs.Elem.Tally as KTally
 use Prim.Native.Nat
-use Rattle.finish.proofs.Outcome
-use Rattle.finish.proofs.Outcome.Laws
 use Rattle.message.proofs.Link
-use Rattle.message.proofs.Link.Laws as Laws'
+use Rattle.message.proofs.Link.Laws
+use Rattle.outcome.proofs.Outcome
+use Rattle.outcome.proofs.Outcome.Laws as Laws'
 use Rattle.own.proofs.Own
 use Rattle.own.proofs.Own.Laws as Laws''
 use Rattle.traces_main.proofs.Host
@@ -100,16 +100,16 @@ abbrev pub r : Kinds.RK 5
 r = Value.rVal record {
   ty = Declared.row Outcome.the-type;
   one = Path'.refl;
-  val = Laws'4.val Outcome.the-type Laws.the-laws;
-  tells = Laws'4.tells Outcome.the-type Laws.the-laws;
-  still = Laws'4.still Outcome.the-type Laws.the-copy Exit.yes;
+  val = Laws'4.val Outcome.the-type Laws'.the-laws;
+  tells = Laws'4.tells Outcome.the-type Laws'.the-laws;
+  still = Laws'4.still Outcome.the-type Laws'.the-copy Exit.yes;
   row = Rows.whole (Declared.row Outcome.the-type);
   rd = λ x. x;
   mk = λ x. x;
 } λ M 𝓤 H A W. record {
-  copies = Laws'4.copy Outcome.the-type Laws.the-copy 𝓤 H A W;
-  lawful = Laws'4.lawful Outcome.the-type Laws.the-laws 𝓤 H A W;
-  makes = Laws'4.makes Outcome.the-type Laws.the-plain 𝓤 H A;
+  copies = Laws'4.copy Outcome.the-type Laws'.the-copy 𝓤 H A W;
+  lawful = Laws'4.lawful Outcome.the-type Laws'.the-laws 𝓤 H A W;
+  makes = Laws'4.makes Outcome.the-type Laws'.the-plain 𝓤 H A;
   in-mem = Local.mem-whole 𝓤 H A W (Declared.row Outcome.the-type);
   of-mem = Local.whole-mem 𝓤 H A W (Declared.row Outcome.the-type);
 }
@@ -229,16 +229,16 @@ abbrev pub r·2 : Kinds.RK 1
 r·2 = Value.rVal record {
   ty = Declared.row Link.the-type;
   one = Path'.refl;
-  val = Laws'4.val Link.the-type Laws'.the-laws;
-  tells = Laws'4.tells Link.the-type Laws'.the-laws;
-  still = Laws'4.still Link.the-type Laws'.the-copy Exit.yes;
+  val = Laws'4.val Link.the-type Laws.the-laws;
+  tells = Laws'4.tells Link.the-type Laws.the-laws;
+  still = Laws'4.still Link.the-type Laws.the-copy Exit.yes;
   row = Rows.whole (Declared.row Link.the-type);
   rd = λ x. x;
   mk = λ x. x;
 } λ M 𝓤 H A W. record {
-  copies = Laws'4.copy Link.the-type Laws'.the-copy 𝓤 H A W;
-  lawful = Laws'4.lawful Link.the-type Laws'.the-laws 𝓤 H A W;
-  makes = Laws'4.makes Link.the-type Laws'.the-plain 𝓤 H A;
+  copies = Laws'4.copy Link.the-type Laws.the-copy 𝓤 H A W;
+  lawful = Laws'4.lawful Link.the-type Laws.the-laws 𝓤 H A W;
+  makes = Laws'4.makes Link.the-type Laws.the-plain 𝓤 H A;
   in-mem = Local.mem-whole 𝓤 H A W (Declared.row Link.the-type);
   of-mem = Local.whole-mem 𝓤 H A W (Declared.row Link.the-type);
 }
@@ -276,16 +276,16 @@ ps·3 =
     (List._∷_ (Num.pNum Syntax.w8) (List._∷_ (Num.pNum Syntax.w64) (List._∷_ (Value.pVal record {
       ty = Declared.row Link.the-type;
       one = Path'.refl;
-      val = Laws'4.val Link.the-type Laws'.the-laws;
-      tells = Laws'4.tells Link.the-type Laws'.the-laws;
-      still = Laws'4.still Link.the-type Laws'.the-copy Exit.yes;
+      val = Laws'4.val Link.the-type Laws.the-laws;
+      tells = Laws'4.tells Link.the-type Laws.the-laws;
+      still = Laws'4.still Link.the-type Laws.the-copy Exit.yes;
       row = Rows.whole (Declared.row Link.the-type);
       rd = λ x. x;
       mk = λ x. x;
     } λ M 𝓤 H A W. record {
-      copies = Laws'4.copy Link.the-type Laws'.the-copy 𝓤 H A W;
-      lawful = Laws'4.lawful Link.the-type Laws'.the-laws 𝓤 H A W;
-      makes = Laws'4.makes Link.the-type Laws'.the-plain 𝓤 H A;
+      copies = Laws'4.copy Link.the-type Laws.the-copy 𝓤 H A W;
+      lawful = Laws'4.lawful Link.the-type Laws.the-laws 𝓤 H A W;
+      makes = Laws'4.makes Link.the-type Laws.the-plain 𝓤 H A;
       in-mem = Local.mem-whole 𝓤 H A W (Declared.row Link.the-type);
       of-mem = Local.whole-mem 𝓤 H A W (Declared.row Link.the-type);
     }) List.[])))))))))
@@ -294,16 +294,16 @@ abbrev pub r·3 : Kinds.RK 5
 r·3 = Value.rVal record {
   ty = Declared.row Outcome.the-type;
   one = Path'.refl;
-  val = Laws'4.val Outcome.the-type Laws.the-laws;
-  tells = Laws'4.tells Outcome.the-type Laws.the-laws;
-  still = Laws'4.still Outcome.the-type Laws.the-copy Exit.yes;
+  val = Laws'4.val Outcome.the-type Laws'.the-laws;
+  tells = Laws'4.tells Outcome.the-type Laws'.the-laws;
+  still = Laws'4.still Outcome.the-type Laws'.the-copy Exit.yes;
   row = Rows.whole (Declared.row Outcome.the-type);
   rd = λ x. x;
   mk = λ x. x;
 } λ M 𝓤 H A W. record {
-  copies = Laws'4.copy Outcome.the-type Laws.the-copy 𝓤 H A W;
-  lawful = Laws'4.lawful Outcome.the-type Laws.the-laws 𝓤 H A W;
-  makes = Laws'4.makes Outcome.the-type Laws.the-plain 𝓤 H A;
+  copies = Laws'4.copy Outcome.the-type Laws'.the-copy 𝓤 H A W;
+  lawful = Laws'4.lawful Outcome.the-type Laws'.the-laws 𝓤 H A W;
+  makes = Laws'4.makes Outcome.the-type Laws'.the-plain 𝓤 H A;
   in-mem = Local.mem-whole 𝓤 H A W (Declared.row Outcome.the-type);
   of-mem = Local.whole-mem 𝓤 H A W (Declared.row Outcome.the-type);
 }
@@ -589,17 +589,19 @@ t0 = List._∷_ (
   Rows.any-gone
       (Syntax.tyStruct
       (List._∷_
-      102
+      111
       (List._∷_
-      105
+      117
       (List._∷_
-      110
+      116
       (List._∷_
-      105
+      99
       (List._∷_
-      115
+      111
       (List._∷_
-      104
+      109
+      (List._∷_
+      101
       (List._∷_
       58
       (List._∷_
@@ -608,24 +610,26 @@ t0 = List._∷_ (
       79
       (List._∷_
       117
-      (List._∷_ 116 (List._∷_ 99 (List._∷_ 111 (List._∷_ 109 (List._∷_ 101 List.[])))))))))))))))
+      (List._∷_ 116 (List._∷_ 99 (List._∷_ 111 (List._∷_ 109 (List._∷_ 101 List.[]))))))))))))))))
       (Syntax.tcons
       (Syntax.tyStruct
       (List._∷_
-      102
+      111
       (List._∷_
-      105
+      117
       (List._∷_
-      110
+      116
       (List._∷_
-      105
+      99
       (List._∷_
-      115
+      111
       (List._∷_
-      104
+      109
+      (List._∷_
+      101
       (List._∷_
       58
-      (List._∷_ 58 (List._∷_ 83 (List._∷_ 101 (List._∷_ 110 (List._∷_ 116 List.[]))))))))))))
+      (List._∷_ 58 (List._∷_ 83 (List._∷_ 101 (List._∷_ 110 (List._∷_ 116 List.[])))))))))))))
       (Syntax.tcons
       (Syntax.tyStruct
       (List._∷_
@@ -688,20 +692,22 @@ t0 = List._∷_ (
       (Syntax.tcons
       (Syntax.tyStruct
       (List._∷_
-      102
+      111
       (List._∷_
-      105
+      117
       (List._∷_
-      110
+      116
       (List._∷_
-      105
+      99
       (List._∷_
-      115
+      111
       (List._∷_
-      104
+      109
+      (List._∷_
+      101
       (List._∷_
       58
-      (List._∷_ 58 (List._∷_ 83 (List._∷_ 101 (List._∷_ 110 (List._∷_ 116 List.[]))))))))))))
+      (List._∷_ 58 (List._∷_ 83 (List._∷_ 101 (List._∷_ 110 (List._∷_ 116 List.[])))))))))))))
       (Syntax.tcons
       (Syntax.tyStruct
       (List._∷_
@@ -1112,17 +1118,19 @@ t3 = List._∷_ (
   Rows.any-gone
       (Syntax.tyStruct
       (List._∷_
-      102
+      111
       (List._∷_
-      105
+      117
       (List._∷_
-      110
+      116
       (List._∷_
-      105
+      99
       (List._∷_
-      115
+      111
       (List._∷_
-      104
+      109
+      (List._∷_
+      101
       (List._∷_
       58
       (List._∷_
@@ -1131,24 +1139,26 @@ t3 = List._∷_ (
       79
       (List._∷_
       117
-      (List._∷_ 116 (List._∷_ 99 (List._∷_ 111 (List._∷_ 109 (List._∷_ 101 List.[])))))))))))))))
+      (List._∷_ 116 (List._∷_ 99 (List._∷_ 111 (List._∷_ 109 (List._∷_ 101 List.[]))))))))))))))))
       (Syntax.tcons
       (Syntax.tyStruct
       (List._∷_
-      102
+      111
       (List._∷_
-      105
+      117
       (List._∷_
-      110
+      116
       (List._∷_
-      105
+      99
       (List._∷_
-      115
+      111
       (List._∷_
-      104
+      109
+      (List._∷_
+      101
       (List._∷_
       58
-      (List._∷_ 58 (List._∷_ 83 (List._∷_ 101 (List._∷_ 110 (List._∷_ 116 List.[]))))))))))))
+      (List._∷_ 58 (List._∷_ 83 (List._∷_ 101 (List._∷_ 110 (List._∷_ 116 List.[])))))))))))))
       (Syntax.tcons
       (Syntax.tyStruct
       (List._∷_
@@ -1211,20 +1221,22 @@ t3 = List._∷_ (
       (Syntax.tcons
       (Syntax.tyStruct
       (List._∷_
-      102
+      111
       (List._∷_
-      105
+      117
       (List._∷_
-      110
+      116
       (List._∷_
-      105
+      99
       (List._∷_
-      115
+      111
       (List._∷_
-      104
+      109
+      (List._∷_
+      101
       (List._∷_
       58
-      (List._∷_ 58 (List._∷_ 83 (List._∷_ 101 (List._∷_ 110 (List._∷_ 116 List.[]))))))))))))
+      (List._∷_ 58 (List._∷_ 83 (List._∷_ 101 (List._∷_ 110 (List._∷_ 116 List.[])))))))))))))
       (Syntax.tcons
       (Syntax.tyStruct
       (List._∷_
@@ -1447,17 +1459,19 @@ t4 = List._∷_ (
   Rows.any-gone
       (Syntax.tyStruct
       (List._∷_
-      102
+      111
       (List._∷_
-      105
+      117
       (List._∷_
-      110
+      116
       (List._∷_
-      105
+      99
       (List._∷_
-      115
+      111
       (List._∷_
-      104
+      109
+      (List._∷_
+      101
       (List._∷_
       58
       (List._∷_
@@ -1466,24 +1480,26 @@ t4 = List._∷_ (
       79
       (List._∷_
       117
-      (List._∷_ 116 (List._∷_ 99 (List._∷_ 111 (List._∷_ 109 (List._∷_ 101 List.[])))))))))))))))
+      (List._∷_ 116 (List._∷_ 99 (List._∷_ 111 (List._∷_ 109 (List._∷_ 101 List.[]))))))))))))))))
       (Syntax.tcons
       (Syntax.tyStruct
       (List._∷_
-      102
+      111
       (List._∷_
-      105
+      117
       (List._∷_
-      110
+      116
       (List._∷_
-      105
+      99
       (List._∷_
-      115
+      111
       (List._∷_
-      104
+      109
+      (List._∷_
+      101
       (List._∷_
       58
-      (List._∷_ 58 (List._∷_ 83 (List._∷_ 101 (List._∷_ 110 (List._∷_ 116 List.[]))))))))))))
+      (List._∷_ 58 (List._∷_ 83 (List._∷_ 101 (List._∷_ 110 (List._∷_ 116 List.[])))))))))))))
       (Syntax.tcons
       (Syntax.tyStruct
       (List._∷_
@@ -1546,20 +1562,22 @@ t4 = List._∷_ (
       (Syntax.tcons
       (Syntax.tyStruct
       (List._∷_
-      102
+      111
       (List._∷_
-      105
+      117
       (List._∷_
-      110
+      116
       (List._∷_
-      105
+      99
       (List._∷_
-      115
+      111
       (List._∷_
-      104
+      109
+      (List._∷_
+      101
       (List._∷_
       58
-      (List._∷_ 58 (List._∷_ 83 (List._∷_ 101 (List._∷_ 110 (List._∷_ 116 List.[]))))))))))))
+      (List._∷_ 58 (List._∷_ 83 (List._∷_ 101 (List._∷_ 110 (List._∷_ 116 List.[])))))))))))))
       (Syntax.tcons
       (Syntax.tyStruct
       (List._∷_
@@ -1771,17 +1789,19 @@ t5 = List._∷_ (
   Rows.any-gone
       (Syntax.tyStruct
       (List._∷_
-      102
+      111
       (List._∷_
-      105
+      117
       (List._∷_
-      110
+      116
       (List._∷_
-      105
+      99
       (List._∷_
-      115
+      111
       (List._∷_
-      104
+      109
+      (List._∷_
+      101
       (List._∷_
       58
       (List._∷_
@@ -1790,24 +1810,26 @@ t5 = List._∷_ (
       79
       (List._∷_
       117
-      (List._∷_ 116 (List._∷_ 99 (List._∷_ 111 (List._∷_ 109 (List._∷_ 101 List.[])))))))))))))))
+      (List._∷_ 116 (List._∷_ 99 (List._∷_ 111 (List._∷_ 109 (List._∷_ 101 List.[]))))))))))))))))
       (Syntax.tcons
       (Syntax.tyStruct
       (List._∷_
-      102
+      111
       (List._∷_
-      105
+      117
       (List._∷_
-      110
+      116
       (List._∷_
-      105
+      99
       (List._∷_
-      115
+      111
       (List._∷_
-      104
+      109
+      (List._∷_
+      101
       (List._∷_
       58
-      (List._∷_ 58 (List._∷_ 83 (List._∷_ 101 (List._∷_ 110 (List._∷_ 116 List.[]))))))))))))
+      (List._∷_ 58 (List._∷_ 83 (List._∷_ 101 (List._∷_ 110 (List._∷_ 116 List.[])))))))))))))
       (Syntax.tcons
       (Syntax.tyStruct
       (List._∷_
@@ -1870,20 +1892,22 @@ t5 = List._∷_ (
       (Syntax.tcons
       (Syntax.tyStruct
       (List._∷_
-      102
+      111
       (List._∷_
-      105
+      117
       (List._∷_
-      110
+      116
       (List._∷_
-      105
+      99
       (List._∷_
-      115
+      111
       (List._∷_
-      104
+      109
+      (List._∷_
+      101
       (List._∷_
       58
-      (List._∷_ 58 (List._∷_ 83 (List._∷_ 101 (List._∷_ 110 (List._∷_ 116 List.[]))))))))))))
+      (List._∷_ 58 (List._∷_ 83 (List._∷_ 101 (List._∷_ 110 (List._∷_ 116 List.[])))))))))))))
       (Syntax.tcons
       (Syntax.tyStruct
       (List._∷_
@@ -2095,17 +2119,19 @@ t6 = List._∷_ (
   Rows.any-gone
       (Syntax.tyStruct
       (List._∷_
-      102
+      111
       (List._∷_
-      105
+      117
       (List._∷_
-      110
+      116
       (List._∷_
-      105
+      99
       (List._∷_
-      115
+      111
       (List._∷_
-      104
+      109
+      (List._∷_
+      101
       (List._∷_
       58
       (List._∷_
@@ -2114,24 +2140,26 @@ t6 = List._∷_ (
       79
       (List._∷_
       117
-      (List._∷_ 116 (List._∷_ 99 (List._∷_ 111 (List._∷_ 109 (List._∷_ 101 List.[])))))))))))))))
+      (List._∷_ 116 (List._∷_ 99 (List._∷_ 111 (List._∷_ 109 (List._∷_ 101 List.[]))))))))))))))))
       (Syntax.tcons
       (Syntax.tyStruct
       (List._∷_
-      102
+      111
       (List._∷_
-      105
+      117
       (List._∷_
-      110
+      116
       (List._∷_
-      105
+      99
       (List._∷_
-      115
+      111
       (List._∷_
-      104
+      109
+      (List._∷_
+      101
       (List._∷_
       58
-      (List._∷_ 58 (List._∷_ 83 (List._∷_ 101 (List._∷_ 110 (List._∷_ 116 List.[]))))))))))))
+      (List._∷_ 58 (List._∷_ 83 (List._∷_ 101 (List._∷_ 110 (List._∷_ 116 List.[])))))))))))))
       (Syntax.tcons
       (Syntax.tyStruct
       (List._∷_
@@ -2194,20 +2222,22 @@ t6 = List._∷_ (
       (Syntax.tcons
       (Syntax.tyStruct
       (List._∷_
-      102
+      111
       (List._∷_
-      105
+      117
       (List._∷_
-      110
+      116
       (List._∷_
-      105
+      99
       (List._∷_
-      115
+      111
       (List._∷_
-      104
+      109
+      (List._∷_
+      101
       (List._∷_
       58
-      (List._∷_ 58 (List._∷_ 83 (List._∷_ 101 (List._∷_ 110 (List._∷_ 116 List.[]))))))))))))
+      (List._∷_ 58 (List._∷_ 83 (List._∷_ 101 (List._∷_ 110 (List._∷_ 116 List.[])))))))))))))
       (Syntax.tcons
       (Syntax.tyStruct
       (List._∷_
@@ -2391,17 +2421,19 @@ t7 = List._∷_ (
   Rows.any-gone
       (Syntax.tyStruct
       (List._∷_
-      102
+      111
       (List._∷_
-      105
+      117
       (List._∷_
-      110
+      116
       (List._∷_
-      105
+      99
       (List._∷_
-      115
+      111
       (List._∷_
-      104
+      109
+      (List._∷_
+      101
       (List._∷_
       58
       (List._∷_
@@ -2410,24 +2442,26 @@ t7 = List._∷_ (
       79
       (List._∷_
       117
-      (List._∷_ 116 (List._∷_ 99 (List._∷_ 111 (List._∷_ 109 (List._∷_ 101 List.[])))))))))))))))
+      (List._∷_ 116 (List._∷_ 99 (List._∷_ 111 (List._∷_ 109 (List._∷_ 101 List.[]))))))))))))))))
       (Syntax.tcons
       (Syntax.tyStruct
       (List._∷_
-      102
+      111
       (List._∷_
-      105
+      117
       (List._∷_
-      110
+      116
       (List._∷_
-      105
+      99
       (List._∷_
-      115
+      111
       (List._∷_
-      104
+      109
+      (List._∷_
+      101
       (List._∷_
       58
-      (List._∷_ 58 (List._∷_ 83 (List._∷_ 101 (List._∷_ 110 (List._∷_ 116 List.[]))))))))))))
+      (List._∷_ 58 (List._∷_ 83 (List._∷_ 101 (List._∷_ 110 (List._∷_ 116 List.[])))))))))))))
       (Syntax.tcons
       (Syntax.tyStruct
       (List._∷_
@@ -2490,20 +2524,22 @@ t7 = List._∷_ (
       (Syntax.tcons
       (Syntax.tyStruct
       (List._∷_
-      102
+      111
       (List._∷_
-      105
+      117
       (List._∷_
-      110
+      116
       (List._∷_
-      105
+      99
       (List._∷_
-      115
+      111
       (List._∷_
-      104
+      109
+      (List._∷_
+      101
       (List._∷_
       58
-      (List._∷_ 58 (List._∷_ 83 (List._∷_ 101 (List._∷_ 110 (List._∷_ 116 List.[]))))))))))))
+      (List._∷_ 58 (List._∷_ 83 (List._∷_ 101 (List._∷_ 110 (List._∷_ 116 List.[])))))))))))))
       (Syntax.tcons
       (Syntax.tyStruct
       (List._∷_
@@ -2691,17 +2727,19 @@ t8 = List._∷_ (
   Rows.any-gone
       (Syntax.tyStruct
       (List._∷_
-      102
+      111
       (List._∷_
-      105
+      117
       (List._∷_
-      110
+      116
       (List._∷_
-      105
+      99
       (List._∷_
-      115
+      111
       (List._∷_
-      104
+      109
+      (List._∷_
+      101
       (List._∷_
       58
       (List._∷_
@@ -2710,24 +2748,26 @@ t8 = List._∷_ (
       79
       (List._∷_
       117
-      (List._∷_ 116 (List._∷_ 99 (List._∷_ 111 (List._∷_ 109 (List._∷_ 101 List.[])))))))))))))))
+      (List._∷_ 116 (List._∷_ 99 (List._∷_ 111 (List._∷_ 109 (List._∷_ 101 List.[]))))))))))))))))
       (Syntax.tcons
       (Syntax.tyStruct
       (List._∷_
-      102
+      111
       (List._∷_
-      105
+      117
       (List._∷_
-      110
+      116
       (List._∷_
-      105
+      99
       (List._∷_
-      115
+      111
       (List._∷_
-      104
+      109
+      (List._∷_
+      101
       (List._∷_
       58
-      (List._∷_ 58 (List._∷_ 83 (List._∷_ 101 (List._∷_ 110 (List._∷_ 116 List.[]))))))))))))
+      (List._∷_ 58 (List._∷_ 83 (List._∷_ 101 (List._∷_ 110 (List._∷_ 116 List.[])))))))))))))
       (Syntax.tcons
       (Syntax.tyStruct
       (List._∷_
@@ -2790,20 +2830,22 @@ t8 = List._∷_ (
       (Syntax.tcons
       (Syntax.tyStruct
       (List._∷_
-      102
+      111
       (List._∷_
-      105
+      117
       (List._∷_
-      110
+      116
       (List._∷_
-      105
+      99
       (List._∷_
-      115
+      111
       (List._∷_
-      104
+      109
+      (List._∷_
+      101
       (List._∷_
       58
-      (List._∷_ 58 (List._∷_ 83 (List._∷_ 101 (List._∷_ 110 (List._∷_ 116 List.[]))))))))))))
+      (List._∷_ 58 (List._∷_ 83 (List._∷_ 101 (List._∷_ 110 (List._∷_ 116 List.[])))))))))))))
       (Syntax.tcons
       (Syntax.tyStruct
       (List._∷_
@@ -2987,17 +3029,19 @@ t9 = List._∷_ (
   Rows.any-gone
       (Syntax.tyStruct
       (List._∷_
-      102
+      111
       (List._∷_
-      105
+      117
       (List._∷_
-      110
+      116
       (List._∷_
-      105
+      99
       (List._∷_
-      115
+      111
       (List._∷_
-      104
+      109
+      (List._∷_
+      101
       (List._∷_
       58
       (List._∷_
@@ -3006,24 +3050,26 @@ t9 = List._∷_ (
       79
       (List._∷_
       117
-      (List._∷_ 116 (List._∷_ 99 (List._∷_ 111 (List._∷_ 109 (List._∷_ 101 List.[])))))))))))))))
+      (List._∷_ 116 (List._∷_ 99 (List._∷_ 111 (List._∷_ 109 (List._∷_ 101 List.[]))))))))))))))))
       (Syntax.tcons
       (Syntax.tyStruct
       (List._∷_
-      102
+      111
       (List._∷_
-      105
+      117
       (List._∷_
-      110
+      116
       (List._∷_
-      105
+      99
       (List._∷_
-      115
+      111
       (List._∷_
-      104
+      109
+      (List._∷_
+      101
       (List._∷_
       58
-      (List._∷_ 58 (List._∷_ 83 (List._∷_ 101 (List._∷_ 110 (List._∷_ 116 List.[]))))))))))))
+      (List._∷_ 58 (List._∷_ 83 (List._∷_ 101 (List._∷_ 110 (List._∷_ 116 List.[])))))))))))))
       (Syntax.tcons
       (Syntax.tyStruct
       (List._∷_
@@ -3086,20 +3132,22 @@ t9 = List._∷_ (
       (Syntax.tcons
       (Syntax.tyStruct
       (List._∷_
-      102
+      111
       (List._∷_
-      105
+      117
       (List._∷_
-      110
+      116
       (List._∷_
-      105
+      99
       (List._∷_
-      115
+      111
       (List._∷_
-      104
+      109
+      (List._∷_
+      101
       (List._∷_
       58
-      (List._∷_ 58 (List._∷_ 83 (List._∷_ 101 (List._∷_ 110 (List._∷_ 116 List.[]))))))))))))
+      (List._∷_ 58 (List._∷_ 83 (List._∷_ 101 (List._∷_ 110 (List._∷_ 116 List.[])))))))))))))
       (Syntax.tcons
       (Syntax.tyStruct
       (List._∷_
@@ -3287,17 +3335,19 @@ t10 = List._∷_ (
   Rows.any-gone
       (Syntax.tyStruct
       (List._∷_
-      102
+      111
       (List._∷_
-      105
+      117
       (List._∷_
-      110
+      116
       (List._∷_
-      105
+      99
       (List._∷_
-      115
+      111
       (List._∷_
-      104
+      109
+      (List._∷_
+      101
       (List._∷_
       58
       (List._∷_
@@ -3306,24 +3356,26 @@ t10 = List._∷_ (
       79
       (List._∷_
       117
-      (List._∷_ 116 (List._∷_ 99 (List._∷_ 111 (List._∷_ 109 (List._∷_ 101 List.[])))))))))))))))
+      (List._∷_ 116 (List._∷_ 99 (List._∷_ 111 (List._∷_ 109 (List._∷_ 101 List.[]))))))))))))))))
       (Syntax.tcons
       (Syntax.tyStruct
       (List._∷_
-      102
+      111
       (List._∷_
-      105
+      117
       (List._∷_
-      110
+      116
       (List._∷_
-      105
+      99
       (List._∷_
-      115
+      111
       (List._∷_
-      104
+      109
+      (List._∷_
+      101
       (List._∷_
       58
-      (List._∷_ 58 (List._∷_ 83 (List._∷_ 101 (List._∷_ 110 (List._∷_ 116 List.[]))))))))))))
+      (List._∷_ 58 (List._∷_ 83 (List._∷_ 101 (List._∷_ 110 (List._∷_ 116 List.[])))))))))))))
       (Syntax.tcons
       (Syntax.tyStruct
       (List._∷_
@@ -3386,20 +3438,22 @@ t10 = List._∷_ (
       (Syntax.tcons
       (Syntax.tyStruct
       (List._∷_
-      102
+      111
       (List._∷_
-      105
+      117
       (List._∷_
-      110
+      116
       (List._∷_
-      105
+      99
       (List._∷_
-      115
+      111
       (List._∷_
-      104
+      109
+      (List._∷_
+      101
       (List._∷_
       58
-      (List._∷_ 58 (List._∷_ 83 (List._∷_ 101 (List._∷_ 110 (List._∷_ 116 List.[]))))))))))))
+      (List._∷_ 58 (List._∷_ 83 (List._∷_ 101 (List._∷_ 110 (List._∷_ 116 List.[])))))))))))))
       (Syntax.tcons
       (Syntax.tyStruct
       (List._∷_
@@ -3583,17 +3637,19 @@ t11 = List._∷_ (
   Rows.any-gone
       (Syntax.tyStruct
       (List._∷_
-      102
+      111
       (List._∷_
-      105
+      117
       (List._∷_
-      110
+      116
       (List._∷_
-      105
+      99
       (List._∷_
-      115
+      111
       (List._∷_
-      104
+      109
+      (List._∷_
+      101
       (List._∷_
       58
       (List._∷_
@@ -3602,24 +3658,26 @@ t11 = List._∷_ (
       79
       (List._∷_
       117
-      (List._∷_ 116 (List._∷_ 99 (List._∷_ 111 (List._∷_ 109 (List._∷_ 101 List.[])))))))))))))))
+      (List._∷_ 116 (List._∷_ 99 (List._∷_ 111 (List._∷_ 109 (List._∷_ 101 List.[]))))))))))))))))
       (Syntax.tcons
       (Syntax.tyStruct
       (List._∷_
-      102
+      111
       (List._∷_
-      105
+      117
       (List._∷_
-      110
+      116
       (List._∷_
-      105
+      99
       (List._∷_
-      115
+      111
       (List._∷_
-      104
+      109
+      (List._∷_
+      101
       (List._∷_
       58
-      (List._∷_ 58 (List._∷_ 83 (List._∷_ 101 (List._∷_ 110 (List._∷_ 116 List.[]))))))))))))
+      (List._∷_ 58 (List._∷_ 83 (List._∷_ 101 (List._∷_ 110 (List._∷_ 116 List.[])))))))))))))
       (Syntax.tcons
       (Syntax.tyStruct
       (List._∷_
@@ -3682,20 +3740,22 @@ t11 = List._∷_ (
       (Syntax.tcons
       (Syntax.tyStruct
       (List._∷_
-      102
+      111
       (List._∷_
-      105
+      117
       (List._∷_
-      110
+      116
       (List._∷_
-      105
+      99
       (List._∷_
-      115
+      111
       (List._∷_
-      104
+      109
+      (List._∷_
+      101
       (List._∷_
       58
-      (List._∷_ 58 (List._∷_ 83 (List._∷_ 101 (List._∷_ 110 (List._∷_ 116 List.[]))))))))))))
+      (List._∷_ 58 (List._∷_ 83 (List._∷_ 101 (List._∷_ 110 (List._∷_ 116 List.[])))))))))))))
       (Syntax.tcons
       (Syntax.tyStruct
       (List._∷_
@@ -3884,17 +3944,19 @@ t12 = List._∷_ (
   Rows.any-gone
       (Syntax.tyStruct
       (List._∷_
-      102
+      111
       (List._∷_
-      105
+      117
       (List._∷_
-      110
+      116
       (List._∷_
-      105
+      99
       (List._∷_
-      115
+      111
       (List._∷_
-      104
+      109
+      (List._∷_
+      101
       (List._∷_
       58
       (List._∷_
@@ -3903,24 +3965,26 @@ t12 = List._∷_ (
       79
       (List._∷_
       117
-      (List._∷_ 116 (List._∷_ 99 (List._∷_ 111 (List._∷_ 109 (List._∷_ 101 List.[])))))))))))))))
+      (List._∷_ 116 (List._∷_ 99 (List._∷_ 111 (List._∷_ 109 (List._∷_ 101 List.[]))))))))))))))))
       (Syntax.tcons
       (Syntax.tyStruct
       (List._∷_
-      102
+      111
       (List._∷_
-      105
+      117
       (List._∷_
-      110
+      116
       (List._∷_
-      105
+      99
       (List._∷_
-      115
+      111
       (List._∷_
-      104
+      109
+      (List._∷_
+      101
       (List._∷_
       58
-      (List._∷_ 58 (List._∷_ 83 (List._∷_ 101 (List._∷_ 110 (List._∷_ 116 List.[]))))))))))))
+      (List._∷_ 58 (List._∷_ 83 (List._∷_ 101 (List._∷_ 110 (List._∷_ 116 List.[])))))))))))))
       (Syntax.tcons
       (Syntax.tyStruct
       (List._∷_
@@ -3983,20 +4047,22 @@ t12 = List._∷_ (
       (Syntax.tcons
       (Syntax.tyStruct
       (List._∷_
-      102
+      111
       (List._∷_
-      105
+      117
       (List._∷_
-      110
+      116
       (List._∷_
-      105
+      99
       (List._∷_
-      115
+      111
       (List._∷_
-      104
+      109
+      (List._∷_
+      101
       (List._∷_
       58
-      (List._∷_ 58 (List._∷_ 83 (List._∷_ 101 (List._∷_ 110 (List._∷_ 116 List.[]))))))))))))
+      (List._∷_ 58 (List._∷_ 83 (List._∷_ 101 (List._∷_ 110 (List._∷_ 116 List.[])))))))))))))
       (Syntax.tcons
       (Syntax.tyStruct
       (List._∷_
@@ -4216,17 +4282,19 @@ t14 = List._∷_ (
   Rows.any-gone
       (Syntax.tyStruct
       (List._∷_
-      102
+      111
       (List._∷_
-      105
+      117
       (List._∷_
-      110
+      116
       (List._∷_
-      105
+      99
       (List._∷_
-      115
+      111
       (List._∷_
-      104
+      109
+      (List._∷_
+      101
       (List._∷_
       58
       (List._∷_
@@ -4235,24 +4303,26 @@ t14 = List._∷_ (
       79
       (List._∷_
       117
-      (List._∷_ 116 (List._∷_ 99 (List._∷_ 111 (List._∷_ 109 (List._∷_ 101 List.[])))))))))))))))
+      (List._∷_ 116 (List._∷_ 99 (List._∷_ 111 (List._∷_ 109 (List._∷_ 101 List.[]))))))))))))))))
       (Syntax.tcons
       (Syntax.tyStruct
       (List._∷_
-      102
+      111
       (List._∷_
-      105
+      117
       (List._∷_
-      110
+      116
       (List._∷_
-      105
+      99
       (List._∷_
-      115
+      111
       (List._∷_
-      104
+      109
+      (List._∷_
+      101
       (List._∷_
       58
-      (List._∷_ 58 (List._∷_ 83 (List._∷_ 101 (List._∷_ 110 (List._∷_ 116 List.[]))))))))))))
+      (List._∷_ 58 (List._∷_ 83 (List._∷_ 101 (List._∷_ 110 (List._∷_ 116 List.[])))))))))))))
       (Syntax.tcons
       (Syntax.tyStruct
       (List._∷_
@@ -4315,20 +4385,22 @@ t14 = List._∷_ (
       (Syntax.tcons
       (Syntax.tyStruct
       (List._∷_
-      102
+      111
       (List._∷_
-      105
+      117
       (List._∷_
-      110
+      116
       (List._∷_
-      105
+      99
       (List._∷_
-      115
+      111
       (List._∷_
-      104
+      109
+      (List._∷_
+      101
       (List._∷_
       58
-      (List._∷_ 58 (List._∷_ 83 (List._∷_ 101 (List._∷_ 110 (List._∷_ 116 List.[]))))))))))))
+      (List._∷_ 58 (List._∷_ 83 (List._∷_ 101 (List._∷_ 110 (List._∷_ 116 List.[])))))))))))))
       (Syntax.tcons
       (Syntax.tyStruct
       (List._∷_
@@ -6537,17 +6609,19 @@ module _ (claims· : Claims) where
       (List._∷_ 5 (List._∷_ 6 (List._∷_ 7 (List._∷_ 8 (List._∷_ 4 List.[])))))
       (Syntax.tyStruct
       (List._∷_
-      102
+      111
       (List._∷_
-      105
+      117
       (List._∷_
-      110
+      116
       (List._∷_
-      105
+      99
       (List._∷_
-      115
+      111
       (List._∷_
-      104
+      109
+      (List._∷_
+      101
       (List._∷_
       58
       (List._∷_
@@ -6556,24 +6630,26 @@ module _ (claims· : Claims) where
       79
       (List._∷_
       117
-      (List._∷_ 116 (List._∷_ 99 (List._∷_ 111 (List._∷_ 109 (List._∷_ 101 List.[])))))))))))))))
+      (List._∷_ 116 (List._∷_ 99 (List._∷_ 111 (List._∷_ 109 (List._∷_ 101 List.[]))))))))))))))))
       (Syntax.tcons
       (Syntax.tyStruct
       (List._∷_
-      102
+      111
       (List._∷_
-      105
+      117
       (List._∷_
-      110
+      116
       (List._∷_
-      105
+      99
       (List._∷_
-      115
+      111
       (List._∷_
-      104
+      109
+      (List._∷_
+      101
       (List._∷_
       58
-      (List._∷_ 58 (List._∷_ 83 (List._∷_ 101 (List._∷_ 110 (List._∷_ 116 List.[]))))))))))))
+      (List._∷_ 58 (List._∷_ 83 (List._∷_ 101 (List._∷_ 110 (List._∷_ 116 List.[])))))))))))))
       (Syntax.tcons
       (Syntax.tyStruct
       (List._∷_
@@ -6636,20 +6712,22 @@ module _ (claims· : Claims) where
       (Syntax.tcons
       (Syntax.tyStruct
       (List._∷_
-      102
+      111
       (List._∷_
-      105
+      117
       (List._∷_
-      110
+      116
       (List._∷_
-      105
+      99
       (List._∷_
-      115
+      111
       (List._∷_
-      104
+      109
+      (List._∷_
+      101
       (List._∷_
       58
-      (List._∷_ 58 (List._∷_ 83 (List._∷_ 101 (List._∷_ 110 (List._∷_ 116 List.[]))))))))))))
+      (List._∷_ 58 (List._∷_ 83 (List._∷_ 101 (List._∷_ 110 (List._∷_ 116 List.[])))))))))))))
       (Syntax.tcons
       (Syntax.tyStruct
       (List._∷_
@@ -7173,17 +7251,19 @@ module _ (claims· : Claims) where
           Rows.any-gone
               (Syntax.tyStruct
               (List._∷_
-              102
+              111
               (List._∷_
-              105
+              117
               (List._∷_
-              110
+              116
               (List._∷_
-              105
+              99
               (List._∷_
-              115
+              111
               (List._∷_
-              104
+              109
+              (List._∷_
+              101
               (List._∷_
               58
               (List._∷_
@@ -7194,26 +7274,28 @@ module _ (claims· : Claims) where
               117
               (List._∷_
               116
-              (List._∷_ 99 (List._∷_ 111 (List._∷_ 109 (List._∷_ 101 List.[])))))))))))))))
+              (List._∷_ 99 (List._∷_ 111 (List._∷_ 109 (List._∷_ 101 List.[]))))))))))))))))
               (Syntax.tcons
               (Syntax.tyStruct
               (List._∷_
-              102
+              111
               (List._∷_
-              105
+              117
               (List._∷_
-              110
+              116
               (List._∷_
-              105
+              99
               (List._∷_
-              115
+              111
               (List._∷_
-              104
+              109
+              (List._∷_
+              101
               (List._∷_
               58
               (List._∷_
               58
-              (List._∷_ 83 (List._∷_ 101 (List._∷_ 110 (List._∷_ 116 List.[]))))))))))))
+              (List._∷_ 83 (List._∷_ 101 (List._∷_ 110 (List._∷_ 116 List.[])))))))))))))
               (Syntax.tcons
               (Syntax.tyStruct
               (List._∷_
@@ -7276,22 +7358,24 @@ module _ (claims· : Claims) where
               (Syntax.tcons
               (Syntax.tyStruct
               (List._∷_
-              102
+              111
               (List._∷_
-              105
+              117
               (List._∷_
-              110
+              116
               (List._∷_
-              105
+              99
               (List._∷_
-              115
+              111
               (List._∷_
-              104
+              109
+              (List._∷_
+              101
               (List._∷_
               58
               (List._∷_
               58
-              (List._∷_ 83 (List._∷_ 101 (List._∷_ 110 (List._∷_ 116 List.[]))))))))))))
+              (List._∷_ 83 (List._∷_ 101 (List._∷_ 110 (List._∷_ 116 List.[])))))))))))))
               (Syntax.tcons
               (Syntax.tyStruct
               (List._∷_
@@ -7487,17 +7571,19 @@ module _ (claims· : Claims) where
           Rows.any-gone
               (Syntax.tyStruct
               (List._∷_
-              102
+              111
               (List._∷_
-              105
+              117
               (List._∷_
-              110
+              116
               (List._∷_
-              105
+              99
               (List._∷_
-              115
+              111
               (List._∷_
-              104
+              109
+              (List._∷_
+              101
               (List._∷_
               58
               (List._∷_
@@ -7508,26 +7594,28 @@ module _ (claims· : Claims) where
               117
               (List._∷_
               116
-              (List._∷_ 99 (List._∷_ 111 (List._∷_ 109 (List._∷_ 101 List.[])))))))))))))))
+              (List._∷_ 99 (List._∷_ 111 (List._∷_ 109 (List._∷_ 101 List.[]))))))))))))))))
               (Syntax.tcons
               (Syntax.tyStruct
               (List._∷_
-              102
+              111
               (List._∷_
-              105
+              117
               (List._∷_
-              110
+              116
               (List._∷_
-              105
+              99
               (List._∷_
-              115
+              111
               (List._∷_
-              104
+              109
+              (List._∷_
+              101
               (List._∷_
               58
               (List._∷_
               58
-              (List._∷_ 83 (List._∷_ 101 (List._∷_ 110 (List._∷_ 116 List.[]))))))))))))
+              (List._∷_ 83 (List._∷_ 101 (List._∷_ 110 (List._∷_ 116 List.[])))))))))))))
               (Syntax.tcons
               (Syntax.tyStruct
               (List._∷_
@@ -7590,22 +7678,24 @@ module _ (claims· : Claims) where
               (Syntax.tcons
               (Syntax.tyStruct
               (List._∷_
-              102
+              111
               (List._∷_
-              105
+              117
               (List._∷_
-              110
+              116
               (List._∷_
-              105
+              99
               (List._∷_
-              115
+              111
               (List._∷_
-              104
+              109
+              (List._∷_
+              101
               (List._∷_
               58
               (List._∷_
               58
-              (List._∷_ 83 (List._∷_ 101 (List._∷_ 110 (List._∷_ 116 List.[]))))))))))))
+              (List._∷_ 83 (List._∷_ 101 (List._∷_ 110 (List._∷_ 116 List.[])))))))))))))
               (Syntax.tcons
               (Syntax.tyStruct
               (List._∷_
@@ -7797,17 +7887,19 @@ module _ (claims· : Claims) where
           Rows.any-gone
               (Syntax.tyStruct
               (List._∷_
-              102
+              111
               (List._∷_
-              105
+              117
               (List._∷_
-              110
+              116
               (List._∷_
-              105
+              99
               (List._∷_
-              115
+              111
               (List._∷_
-              104
+              109
+              (List._∷_
+              101
               (List._∷_
               58
               (List._∷_
@@ -7818,26 +7910,28 @@ module _ (claims· : Claims) where
               117
               (List._∷_
               116
-              (List._∷_ 99 (List._∷_ 111 (List._∷_ 109 (List._∷_ 101 List.[])))))))))))))))
+              (List._∷_ 99 (List._∷_ 111 (List._∷_ 109 (List._∷_ 101 List.[]))))))))))))))))
               (Syntax.tcons
               (Syntax.tyStruct
               (List._∷_
-              102
+              111
               (List._∷_
-              105
+              117
               (List._∷_
-              110
+              116
               (List._∷_
-              105
+              99
               (List._∷_
-              115
+              111
               (List._∷_
-              104
+              109
+              (List._∷_
+              101
               (List._∷_
               58
               (List._∷_
               58
-              (List._∷_ 83 (List._∷_ 101 (List._∷_ 110 (List._∷_ 116 List.[]))))))))))))
+              (List._∷_ 83 (List._∷_ 101 (List._∷_ 110 (List._∷_ 116 List.[])))))))))))))
               (Syntax.tcons
               (Syntax.tyStruct
               (List._∷_
@@ -7900,22 +7994,24 @@ module _ (claims· : Claims) where
               (Syntax.tcons
               (Syntax.tyStruct
               (List._∷_
-              102
+              111
               (List._∷_
-              105
+              117
               (List._∷_
-              110
+              116
               (List._∷_
-              105
+              99
               (List._∷_
-              115
+              111
               (List._∷_
-              104
+              109
+              (List._∷_
+              101
               (List._∷_
               58
               (List._∷_
               58
-              (List._∷_ 83 (List._∷_ 101 (List._∷_ 110 (List._∷_ 116 List.[]))))))))))))
+              (List._∷_ 83 (List._∷_ 101 (List._∷_ 110 (List._∷_ 116 List.[])))))))))))))
               (Syntax.tcons
               (Syntax.tyStruct
               (List._∷_
@@ -8111,17 +8207,19 @@ module _ (claims· : Claims) where
           Rows.any-gone
               (Syntax.tyStruct
               (List._∷_
-              102
+              111
               (List._∷_
-              105
+              117
               (List._∷_
-              110
+              116
               (List._∷_
-              105
+              99
               (List._∷_
-              115
+              111
               (List._∷_
-              104
+              109
+              (List._∷_
+              101
               (List._∷_
               58
               (List._∷_
@@ -8132,26 +8230,28 @@ module _ (claims· : Claims) where
               117
               (List._∷_
               116
-              (List._∷_ 99 (List._∷_ 111 (List._∷_ 109 (List._∷_ 101 List.[])))))))))))))))
+              (List._∷_ 99 (List._∷_ 111 (List._∷_ 109 (List._∷_ 101 List.[]))))))))))))))))
               (Syntax.tcons
               (Syntax.tyStruct
               (List._∷_
-              102
+              111
               (List._∷_
-              105
+              117
               (List._∷_
-              110
+              116
               (List._∷_
-              105
+              99
               (List._∷_
-              115
+              111
               (List._∷_
-              104
+              109
+              (List._∷_
+              101
               (List._∷_
               58
               (List._∷_
               58
-              (List._∷_ 83 (List._∷_ 101 (List._∷_ 110 (List._∷_ 116 List.[]))))))))))))
+              (List._∷_ 83 (List._∷_ 101 (List._∷_ 110 (List._∷_ 116 List.[])))))))))))))
               (Syntax.tcons
               (Syntax.tyStruct
               (List._∷_
@@ -8214,22 +8314,24 @@ module _ (claims· : Claims) where
               (Syntax.tcons
               (Syntax.tyStruct
               (List._∷_
-              102
+              111
               (List._∷_
-              105
+              117
               (List._∷_
-              110
+              116
               (List._∷_
-              105
+              99
               (List._∷_
-              115
+              111
               (List._∷_
-              104
+              109
+              (List._∷_
+              101
               (List._∷_
               58
               (List._∷_
               58
-              (List._∷_ 83 (List._∷_ 101 (List._∷_ 110 (List._∷_ 116 List.[]))))))))))))
+              (List._∷_ 83 (List._∷_ 101 (List._∷_ 110 (List._∷_ 116 List.[])))))))))))))
               (Syntax.tcons
               (Syntax.tyStruct
               (List._∷_
@@ -8421,17 +8523,19 @@ module _ (claims· : Claims) where
           Rows.any-gone
               (Syntax.tyStruct
               (List._∷_
-              102
+              111
               (List._∷_
-              105
+              117
               (List._∷_
-              110
+              116
               (List._∷_
-              105
+              99
               (List._∷_
-              115
+              111
               (List._∷_
-              104
+              109
+              (List._∷_
+              101
               (List._∷_
               58
               (List._∷_
@@ -8442,26 +8546,28 @@ module _ (claims· : Claims) where
               117
               (List._∷_
               116
-              (List._∷_ 99 (List._∷_ 111 (List._∷_ 109 (List._∷_ 101 List.[])))))))))))))))
+              (List._∷_ 99 (List._∷_ 111 (List._∷_ 109 (List._∷_ 101 List.[]))))))))))))))))
               (Syntax.tcons
               (Syntax.tyStruct
               (List._∷_
-              102
+              111
               (List._∷_
-              105
+              117
               (List._∷_
-              110
+              116
               (List._∷_
-              105
+              99
               (List._∷_
-              115
+              111
               (List._∷_
-              104
+              109
+              (List._∷_
+              101
               (List._∷_
               58
               (List._∷_
               58
-              (List._∷_ 83 (List._∷_ 101 (List._∷_ 110 (List._∷_ 116 List.[]))))))))))))
+              (List._∷_ 83 (List._∷_ 101 (List._∷_ 110 (List._∷_ 116 List.[])))))))))))))
               (Syntax.tcons
               (Syntax.tyStruct
               (List._∷_
@@ -8524,22 +8630,24 @@ module _ (claims· : Claims) where
               (Syntax.tcons
               (Syntax.tyStruct
               (List._∷_
-              102
+              111
               (List._∷_
-              105
+              117
               (List._∷_
-              110
+              116
               (List._∷_
-              105
+              99
               (List._∷_
-              115
+              111
               (List._∷_
-              104
+              109
+              (List._∷_
+              101
               (List._∷_
               58
               (List._∷_
               58
-              (List._∷_ 83 (List._∷_ 101 (List._∷_ 110 (List._∷_ 116 List.[]))))))))))))
+              (List._∷_ 83 (List._∷_ 101 (List._∷_ 110 (List._∷_ 116 List.[])))))))))))))
               (Syntax.tcons
               (Syntax.tyStruct
               (List._∷_
@@ -8736,17 +8844,19 @@ module _ (claims· : Claims) where
           Rows.any-gone
               (Syntax.tyStruct
               (List._∷_
-              102
+              111
               (List._∷_
-              105
+              117
               (List._∷_
-              110
+              116
               (List._∷_
-              105
+              99
               (List._∷_
-              115
+              111
               (List._∷_
-              104
+              109
+              (List._∷_
+              101
               (List._∷_
               58
               (List._∷_
@@ -8757,26 +8867,28 @@ module _ (claims· : Claims) where
               117
               (List._∷_
               116
-              (List._∷_ 99 (List._∷_ 111 (List._∷_ 109 (List._∷_ 101 List.[])))))))))))))))
+              (List._∷_ 99 (List._∷_ 111 (List._∷_ 109 (List._∷_ 101 List.[]))))))))))))))))
               (Syntax.tcons
               (Syntax.tyStruct
               (List._∷_
-              102
+              111
               (List._∷_
-              105
+              117
               (List._∷_
-              110
+              116
               (List._∷_
-              105
+              99
               (List._∷_
-              115
+              111
               (List._∷_
-              104
+              109
+              (List._∷_
+              101
               (List._∷_
               58
               (List._∷_
               58
-              (List._∷_ 83 (List._∷_ 101 (List._∷_ 110 (List._∷_ 116 List.[]))))))))))))
+              (List._∷_ 83 (List._∷_ 101 (List._∷_ 110 (List._∷_ 116 List.[])))))))))))))
               (Syntax.tcons
               (Syntax.tyStruct
               (List._∷_
@@ -8839,22 +8951,24 @@ module _ (claims· : Claims) where
               (Syntax.tcons
               (Syntax.tyStruct
               (List._∷_
-              102
+              111
               (List._∷_
-              105
+              117
               (List._∷_
-              110
+              116
               (List._∷_
-              105
+              99
               (List._∷_
-              115
+              111
               (List._∷_
-              104
+              109
+              (List._∷_
+              101
               (List._∷_
               58
               (List._∷_
               58
-              (List._∷_ 83 (List._∷_ 101 (List._∷_ 110 (List._∷_ 116 List.[]))))))))))))
+              (List._∷_ 83 (List._∷_ 101 (List._∷_ 110 (List._∷_ 116 List.[])))))))))))))
               (Syntax.tcons
               (Syntax.tyStruct
               (List._∷_
@@ -9048,17 +9162,19 @@ module _ (claims· : Claims) where
           Rows.any-gone
               (Syntax.tyStruct
               (List._∷_
-              102
+              111
               (List._∷_
-              105
+              117
               (List._∷_
-              110
+              116
               (List._∷_
-              105
+              99
               (List._∷_
-              115
+              111
               (List._∷_
-              104
+              109
+              (List._∷_
+              101
               (List._∷_
               58
               (List._∷_
@@ -9069,26 +9185,28 @@ module _ (claims· : Claims) where
               117
               (List._∷_
               116
-              (List._∷_ 99 (List._∷_ 111 (List._∷_ 109 (List._∷_ 101 List.[])))))))))))))))
+              (List._∷_ 99 (List._∷_ 111 (List._∷_ 109 (List._∷_ 101 List.[]))))))))))))))))
               (Syntax.tcons
               (Syntax.tyStruct
               (List._∷_
-              102
+              111
               (List._∷_
-              105
+              117
               (List._∷_
-              110
+              116
               (List._∷_
-              105
+              99
               (List._∷_
-              115
+              111
               (List._∷_
-              104
+              109
+              (List._∷_
+              101
               (List._∷_
               58
               (List._∷_
               58
-              (List._∷_ 83 (List._∷_ 101 (List._∷_ 110 (List._∷_ 116 List.[]))))))))))))
+              (List._∷_ 83 (List._∷_ 101 (List._∷_ 110 (List._∷_ 116 List.[])))))))))))))
               (Syntax.tcons
               (Syntax.tyStruct
               (List._∷_
@@ -9151,22 +9269,24 @@ module _ (claims· : Claims) where
               (Syntax.tcons
               (Syntax.tyStruct
               (List._∷_
-              102
+              111
               (List._∷_
-              105
+              117
               (List._∷_
-              110
+              116
               (List._∷_
-              105
+              99
               (List._∷_
-              115
+              111
               (List._∷_
-              104
+              109
+              (List._∷_
+              101
               (List._∷_
               58
               (List._∷_
               58
-              (List._∷_ 83 (List._∷_ 101 (List._∷_ 110 (List._∷_ 116 List.[]))))))))))))
+              (List._∷_ 83 (List._∷_ 101 (List._∷_ 110 (List._∷_ 116 List.[])))))))))))))
               (Syntax.tcons
               (Syntax.tyStruct
               (List._∷_
@@ -12585,8 +12705,8 @@ module _ (claims· : Claims) where
                                         Path'.refl
                                         (Copies.cStruct
                                         Link.the-type
-                                        Laws'.the-laws
-                                        Laws'.the-copy .copy
+                                        Laws.the-laws
+                                        Laws.the-copy .copy
                                         𝓤
                                         H
                                         A
@@ -12627,17 +12747,19 @@ module _ (claims· : Claims) where
               A
               (Syntax.tyStruct
               (List._∷_
-              102
+              111
               (List._∷_
-              105
+              117
               (List._∷_
-              110
+              116
               (List._∷_
-              105
+              99
               (List._∷_
-              115
+              111
               (List._∷_
-              104
+              109
+              (List._∷_
+              101
               (List._∷_
               58
               (List._∷_
@@ -12648,26 +12770,28 @@ module _ (claims· : Claims) where
               117
               (List._∷_
               116
-              (List._∷_ 99 (List._∷_ 111 (List._∷_ 109 (List._∷_ 101 List.[])))))))))))))))
+              (List._∷_ 99 (List._∷_ 111 (List._∷_ 109 (List._∷_ 101 List.[]))))))))))))))))
               (Syntax.tcons
               (Syntax.tyStruct
               (List._∷_
-              102
+              111
               (List._∷_
-              105
+              117
               (List._∷_
-              110
+              116
               (List._∷_
-              105
+              99
               (List._∷_
-              115
+              111
               (List._∷_
-              104
+              109
+              (List._∷_
+              101
               (List._∷_
               58
               (List._∷_
               58
-              (List._∷_ 83 (List._∷_ 101 (List._∷_ 110 (List._∷_ 116 List.[]))))))))))))
+              (List._∷_ 83 (List._∷_ 101 (List._∷_ 110 (List._∷_ 116 List.[])))))))))))))
               (Syntax.tcons
               (Syntax.tyStruct
               (List._∷_
@@ -12730,22 +12854,24 @@ module _ (claims· : Claims) where
               (Syntax.tcons
               (Syntax.tyStruct
               (List._∷_
-              102
+              111
               (List._∷_
-              105
+              117
               (List._∷_
-              110
+              116
               (List._∷_
-              105
+              99
               (List._∷_
-              115
+              111
               (List._∷_
-              104
+              109
+              (List._∷_
+              101
               (List._∷_
               58
               (List._∷_
               58
-              (List._∷_ 83 (List._∷_ 101 (List._∷_ 110 (List._∷_ 116 List.[]))))))))))))
+              (List._∷_ 83 (List._∷_ 101 (List._∷_ 110 (List._∷_ 116 List.[])))))))))))))
               (Syntax.tcons
               (Syntax.tyStruct
               (List._∷_

@@ -4,8 +4,8 @@ use Rattle.row.proofs.Elem.RouteRow as KRouteRow
 use Rattle.plain.proofs.Elem.Target as KTarget
 use Rattle.tally.proofs.Elem.Tally as KTally
 use Prim.Native.Nat
-use Rattle.finish.proofs.Outcome
-use Rattle.finish.proofs.Outcome.Laws
+use Rattle.outcome.proofs.Outcome
+use Rattle.outcome.proofs.Outcome.Laws
 use Rattle.traces_main.proofs.Host
 use Rattle.traces_main.proofs.Host.Laws as Laws'
 use borrow.Author.Called
@@ -533,17 +533,19 @@ t1 = List._∷_ (0, Rows'.sc-here Row.sUnit) (List._∷_ (
   Rows'.any-gone
       (Syntax.tyStruct
       (List._∷_
-      102
+      111
       (List._∷_
-      105
+      117
       (List._∷_
-      110
+      116
       (List._∷_
-      105
+      99
       (List._∷_
-      115
+      111
       (List._∷_
-      104
+      109
+      (List._∷_
+      101
       (List._∷_
       58
       (List._∷_
@@ -552,24 +554,26 @@ t1 = List._∷_ (0, Rows'.sc-here Row.sUnit) (List._∷_ (
       79
       (List._∷_
       117
-      (List._∷_ 116 (List._∷_ 99 (List._∷_ 111 (List._∷_ 109 (List._∷_ 101 List.[])))))))))))))))
+      (List._∷_ 116 (List._∷_ 99 (List._∷_ 111 (List._∷_ 109 (List._∷_ 101 List.[]))))))))))))))))
       (Syntax.tcons
       (Syntax.tyStruct
       (List._∷_
-      102
+      111
       (List._∷_
-      105
+      117
       (List._∷_
-      110
+      116
       (List._∷_
-      105
+      99
       (List._∷_
-      115
+      111
       (List._∷_
-      104
+      109
+      (List._∷_
+      101
       (List._∷_
       58
-      (List._∷_ 58 (List._∷_ 83 (List._∷_ 101 (List._∷_ 110 (List._∷_ 116 List.[]))))))))))))
+      (List._∷_ 58 (List._∷_ 83 (List._∷_ 101 (List._∷_ 110 (List._∷_ 116 List.[])))))))))))))
       (Syntax.tcons
       (Syntax.tyStruct
       (List._∷_
@@ -632,20 +636,22 @@ t1 = List._∷_ (0, Rows'.sc-here Row.sUnit) (List._∷_ (
       (Syntax.tcons
       (Syntax.tyStruct
       (List._∷_
-      102
+      111
       (List._∷_
-      105
+      117
       (List._∷_
-      110
+      116
       (List._∷_
-      105
+      99
       (List._∷_
-      115
+      111
       (List._∷_
-      104
+      109
+      (List._∷_
+      101
       (List._∷_
       58
-      (List._∷_ 58 (List._∷_ 83 (List._∷_ 101 (List._∷_ 110 (List._∷_ 116 List.[]))))))))))))
+      (List._∷_ 58 (List._∷_ 83 (List._∷_ 101 (List._∷_ 110 (List._∷_ 116 List.[])))))))))))))
       (Syntax.tcons
       (Syntax.tyStruct
       (List._∷_
@@ -1773,17 +1779,19 @@ t18 = List._∷_ (0, Rows'.any-gone Syntax.tyUnit) (List._∷_ (
   Rows'.any-gone
       (Syntax.tyStruct
       (List._∷_
-      102
+      111
       (List._∷_
-      105
+      117
       (List._∷_
-      110
+      116
       (List._∷_
-      105
+      99
       (List._∷_
-      115
+      111
       (List._∷_
-      104
+      109
+      (List._∷_
+      101
       (List._∷_
       58
       (List._∷_
@@ -1792,24 +1800,26 @@ t18 = List._∷_ (0, Rows'.any-gone Syntax.tyUnit) (List._∷_ (
       79
       (List._∷_
       117
-      (List._∷_ 116 (List._∷_ 99 (List._∷_ 111 (List._∷_ 109 (List._∷_ 101 List.[])))))))))))))))
+      (List._∷_ 116 (List._∷_ 99 (List._∷_ 111 (List._∷_ 109 (List._∷_ 101 List.[]))))))))))))))))
       (Syntax.tcons
       (Syntax.tyStruct
       (List._∷_
-      102
+      111
       (List._∷_
-      105
+      117
       (List._∷_
-      110
+      116
       (List._∷_
-      105
+      99
       (List._∷_
-      115
+      111
       (List._∷_
-      104
+      109
+      (List._∷_
+      101
       (List._∷_
       58
-      (List._∷_ 58 (List._∷_ 83 (List._∷_ 101 (List._∷_ 110 (List._∷_ 116 List.[]))))))))))))
+      (List._∷_ 58 (List._∷_ 83 (List._∷_ 101 (List._∷_ 110 (List._∷_ 116 List.[])))))))))))))
       (Syntax.tcons
       (Syntax.tyStruct
       (List._∷_
@@ -1872,20 +1882,22 @@ t18 = List._∷_ (0, Rows'.any-gone Syntax.tyUnit) (List._∷_ (
       (Syntax.tcons
       (Syntax.tyStruct
       (List._∷_
-      102
+      111
       (List._∷_
-      105
+      117
       (List._∷_
-      110
+      116
       (List._∷_
-      105
+      99
       (List._∷_
-      115
+      111
       (List._∷_
-      104
+      109
+      (List._∷_
+      101
       (List._∷_
       58
-      (List._∷_ 58 (List._∷_ 83 (List._∷_ 101 (List._∷_ 110 (List._∷_ 116 List.[]))))))))))))
+      (List._∷_ 58 (List._∷_ 83 (List._∷_ 101 (List._∷_ 110 (List._∷_ 116 List.[])))))))))))))
       (Syntax.tcons
       (Syntax.tyStruct
       (List._∷_
@@ -2058,17 +2070,19 @@ t19 = List._∷_ (0, Rows'.any-gone Syntax.tyUnit) (List._∷_ (
   Rows'.any-gone
       (Syntax.tyStruct
       (List._∷_
-      102
+      111
       (List._∷_
-      105
+      117
       (List._∷_
-      110
+      116
       (List._∷_
-      105
+      99
       (List._∷_
-      115
+      111
       (List._∷_
-      104
+      109
+      (List._∷_
+      101
       (List._∷_
       58
       (List._∷_
@@ -2077,24 +2091,26 @@ t19 = List._∷_ (0, Rows'.any-gone Syntax.tyUnit) (List._∷_ (
       79
       (List._∷_
       117
-      (List._∷_ 116 (List._∷_ 99 (List._∷_ 111 (List._∷_ 109 (List._∷_ 101 List.[])))))))))))))))
+      (List._∷_ 116 (List._∷_ 99 (List._∷_ 111 (List._∷_ 109 (List._∷_ 101 List.[]))))))))))))))))
       (Syntax.tcons
       (Syntax.tyStruct
       (List._∷_
-      102
+      111
       (List._∷_
-      105
+      117
       (List._∷_
-      110
+      116
       (List._∷_
-      105
+      99
       (List._∷_
-      115
+      111
       (List._∷_
-      104
+      109
+      (List._∷_
+      101
       (List._∷_
       58
-      (List._∷_ 58 (List._∷_ 83 (List._∷_ 101 (List._∷_ 110 (List._∷_ 116 List.[]))))))))))))
+      (List._∷_ 58 (List._∷_ 83 (List._∷_ 101 (List._∷_ 110 (List._∷_ 116 List.[])))))))))))))
       (Syntax.tcons
       (Syntax.tyStruct
       (List._∷_
@@ -2157,20 +2173,22 @@ t19 = List._∷_ (0, Rows'.any-gone Syntax.tyUnit) (List._∷_ (
       (Syntax.tcons
       (Syntax.tyStruct
       (List._∷_
-      102
+      111
       (List._∷_
-      105
+      117
       (List._∷_
-      110
+      116
       (List._∷_
-      105
+      99
       (List._∷_
-      115
+      111
       (List._∷_
-      104
+      109
+      (List._∷_
+      101
       (List._∷_
       58
-      (List._∷_ 58 (List._∷_ 83 (List._∷_ 101 (List._∷_ 110 (List._∷_ 116 List.[]))))))))))))
+      (List._∷_ 58 (List._∷_ 83 (List._∷_ 101 (List._∷_ 110 (List._∷_ 116 List.[])))))))))))))
       (Syntax.tcons
       (Syntax.tyStruct
       (List._∷_
@@ -2343,17 +2361,19 @@ t20 = List._∷_ (0, Rows'.any-gone Syntax.tyUnit) (List._∷_ (
   Rows'.any-gone
       (Syntax.tyStruct
       (List._∷_
-      102
+      111
       (List._∷_
-      105
+      117
       (List._∷_
-      110
+      116
       (List._∷_
-      105
+      99
       (List._∷_
-      115
+      111
       (List._∷_
-      104
+      109
+      (List._∷_
+      101
       (List._∷_
       58
       (List._∷_
@@ -2362,24 +2382,26 @@ t20 = List._∷_ (0, Rows'.any-gone Syntax.tyUnit) (List._∷_ (
       79
       (List._∷_
       117
-      (List._∷_ 116 (List._∷_ 99 (List._∷_ 111 (List._∷_ 109 (List._∷_ 101 List.[])))))))))))))))
+      (List._∷_ 116 (List._∷_ 99 (List._∷_ 111 (List._∷_ 109 (List._∷_ 101 List.[]))))))))))))))))
       (Syntax.tcons
       (Syntax.tyStruct
       (List._∷_
-      102
+      111
       (List._∷_
-      105
+      117
       (List._∷_
-      110
+      116
       (List._∷_
-      105
+      99
       (List._∷_
-      115
+      111
       (List._∷_
-      104
+      109
+      (List._∷_
+      101
       (List._∷_
       58
-      (List._∷_ 58 (List._∷_ 83 (List._∷_ 101 (List._∷_ 110 (List._∷_ 116 List.[]))))))))))))
+      (List._∷_ 58 (List._∷_ 83 (List._∷_ 101 (List._∷_ 110 (List._∷_ 116 List.[])))))))))))))
       (Syntax.tcons
       (Syntax.tyStruct
       (List._∷_
@@ -2442,20 +2464,22 @@ t20 = List._∷_ (0, Rows'.any-gone Syntax.tyUnit) (List._∷_ (
       (Syntax.tcons
       (Syntax.tyStruct
       (List._∷_
-      102
+      111
       (List._∷_
-      105
+      117
       (List._∷_
-      110
+      116
       (List._∷_
-      105
+      99
       (List._∷_
-      115
+      111
       (List._∷_
-      104
+      109
+      (List._∷_
+      101
       (List._∷_
       58
-      (List._∷_ 58 (List._∷_ 83 (List._∷_ 101 (List._∷_ 110 (List._∷_ 116 List.[]))))))))))))
+      (List._∷_ 58 (List._∷_ 83 (List._∷_ 101 (List._∷_ 110 (List._∷_ 116 List.[])))))))))))))
       (Syntax.tcons
       (Syntax.tyStruct
       (List._∷_
@@ -2630,17 +2654,19 @@ t21 = List._∷_ (0, Rows'.any-gone Syntax.tyUnit) (List._∷_ (
   Rows'.any-gone
       (Syntax.tyStruct
       (List._∷_
-      102
+      111
       (List._∷_
-      105
+      117
       (List._∷_
-      110
+      116
       (List._∷_
-      105
+      99
       (List._∷_
-      115
+      111
       (List._∷_
-      104
+      109
+      (List._∷_
+      101
       (List._∷_
       58
       (List._∷_
@@ -2649,24 +2675,26 @@ t21 = List._∷_ (0, Rows'.any-gone Syntax.tyUnit) (List._∷_ (
       79
       (List._∷_
       117
-      (List._∷_ 116 (List._∷_ 99 (List._∷_ 111 (List._∷_ 109 (List._∷_ 101 List.[])))))))))))))))
+      (List._∷_ 116 (List._∷_ 99 (List._∷_ 111 (List._∷_ 109 (List._∷_ 101 List.[]))))))))))))))))
       (Syntax.tcons
       (Syntax.tyStruct
       (List._∷_
-      102
+      111
       (List._∷_
-      105
+      117
       (List._∷_
-      110
+      116
       (List._∷_
-      105
+      99
       (List._∷_
-      115
+      111
       (List._∷_
-      104
+      109
+      (List._∷_
+      101
       (List._∷_
       58
-      (List._∷_ 58 (List._∷_ 83 (List._∷_ 101 (List._∷_ 110 (List._∷_ 116 List.[]))))))))))))
+      (List._∷_ 58 (List._∷_ 83 (List._∷_ 101 (List._∷_ 110 (List._∷_ 116 List.[])))))))))))))
       (Syntax.tcons
       (Syntax.tyStruct
       (List._∷_
@@ -2729,20 +2757,22 @@ t21 = List._∷_ (0, Rows'.any-gone Syntax.tyUnit) (List._∷_ (
       (Syntax.tcons
       (Syntax.tyStruct
       (List._∷_
-      102
+      111
       (List._∷_
-      105
+      117
       (List._∷_
-      110
+      116
       (List._∷_
-      105
+      99
       (List._∷_
-      115
+      111
       (List._∷_
-      104
+      109
+      (List._∷_
+      101
       (List._∷_
       58
-      (List._∷_ 58 (List._∷_ 83 (List._∷_ 101 (List._∷_ 110 (List._∷_ 116 List.[]))))))))))))
+      (List._∷_ 58 (List._∷_ 83 (List._∷_ 101 (List._∷_ 110 (List._∷_ 116 List.[])))))))))))))
       (Syntax.tcons
       (Syntax.tyStruct
       (List._∷_
@@ -2917,17 +2947,19 @@ t22 = List._∷_ (0, Rows'.any-gone Syntax.tyUnit) (List._∷_ (
   Rows'.any-gone
       (Syntax.tyStruct
       (List._∷_
-      102
+      111
       (List._∷_
-      105
+      117
       (List._∷_
-      110
+      116
       (List._∷_
-      105
+      99
       (List._∷_
-      115
+      111
       (List._∷_
-      104
+      109
+      (List._∷_
+      101
       (List._∷_
       58
       (List._∷_
@@ -2936,24 +2968,26 @@ t22 = List._∷_ (0, Rows'.any-gone Syntax.tyUnit) (List._∷_ (
       79
       (List._∷_
       117
-      (List._∷_ 116 (List._∷_ 99 (List._∷_ 111 (List._∷_ 109 (List._∷_ 101 List.[])))))))))))))))
+      (List._∷_ 116 (List._∷_ 99 (List._∷_ 111 (List._∷_ 109 (List._∷_ 101 List.[]))))))))))))))))
       (Syntax.tcons
       (Syntax.tyStruct
       (List._∷_
-      102
+      111
       (List._∷_
-      105
+      117
       (List._∷_
-      110
+      116
       (List._∷_
-      105
+      99
       (List._∷_
-      115
+      111
       (List._∷_
-      104
+      109
+      (List._∷_
+      101
       (List._∷_
       58
-      (List._∷_ 58 (List._∷_ 83 (List._∷_ 101 (List._∷_ 110 (List._∷_ 116 List.[]))))))))))))
+      (List._∷_ 58 (List._∷_ 83 (List._∷_ 101 (List._∷_ 110 (List._∷_ 116 List.[])))))))))))))
       (Syntax.tcons
       (Syntax.tyStruct
       (List._∷_
@@ -3016,20 +3050,22 @@ t22 = List._∷_ (0, Rows'.any-gone Syntax.tyUnit) (List._∷_ (
       (Syntax.tcons
       (Syntax.tyStruct
       (List._∷_
-      102
+      111
       (List._∷_
-      105
+      117
       (List._∷_
-      110
+      116
       (List._∷_
-      105
+      99
       (List._∷_
-      115
+      111
       (List._∷_
-      104
+      109
+      (List._∷_
+      101
       (List._∷_
       58
-      (List._∷_ 58 (List._∷_ 83 (List._∷_ 101 (List._∷_ 110 (List._∷_ 116 List.[]))))))))))))
+      (List._∷_ 58 (List._∷_ 83 (List._∷_ 101 (List._∷_ 110 (List._∷_ 116 List.[])))))))))))))
       (Syntax.tcons
       (Syntax.tyStruct
       (List._∷_
@@ -3204,17 +3240,19 @@ t23 = List._∷_ (0, Rows'.any-gone Syntax.tyUnit) (List._∷_ (
   Rows'.any-gone
       (Syntax.tyStruct
       (List._∷_
-      102
+      111
       (List._∷_
-      105
+      117
       (List._∷_
-      110
+      116
       (List._∷_
-      105
+      99
       (List._∷_
-      115
+      111
       (List._∷_
-      104
+      109
+      (List._∷_
+      101
       (List._∷_
       58
       (List._∷_
@@ -3223,24 +3261,26 @@ t23 = List._∷_ (0, Rows'.any-gone Syntax.tyUnit) (List._∷_ (
       79
       (List._∷_
       117
-      (List._∷_ 116 (List._∷_ 99 (List._∷_ 111 (List._∷_ 109 (List._∷_ 101 List.[])))))))))))))))
+      (List._∷_ 116 (List._∷_ 99 (List._∷_ 111 (List._∷_ 109 (List._∷_ 101 List.[]))))))))))))))))
       (Syntax.tcons
       (Syntax.tyStruct
       (List._∷_
-      102
+      111
       (List._∷_
-      105
+      117
       (List._∷_
-      110
+      116
       (List._∷_
-      105
+      99
       (List._∷_
-      115
+      111
       (List._∷_
-      104
+      109
+      (List._∷_
+      101
       (List._∷_
       58
-      (List._∷_ 58 (List._∷_ 83 (List._∷_ 101 (List._∷_ 110 (List._∷_ 116 List.[]))))))))))))
+      (List._∷_ 58 (List._∷_ 83 (List._∷_ 101 (List._∷_ 110 (List._∷_ 116 List.[])))))))))))))
       (Syntax.tcons
       (Syntax.tyStruct
       (List._∷_
@@ -3303,20 +3343,22 @@ t23 = List._∷_ (0, Rows'.any-gone Syntax.tyUnit) (List._∷_ (
       (Syntax.tcons
       (Syntax.tyStruct
       (List._∷_
-      102
+      111
       (List._∷_
-      105
+      117
       (List._∷_
-      110
+      116
       (List._∷_
-      105
+      99
       (List._∷_
-      115
+      111
       (List._∷_
-      104
+      109
+      (List._∷_
+      101
       (List._∷_
       58
-      (List._∷_ 58 (List._∷_ 83 (List._∷_ 101 (List._∷_ 110 (List._∷_ 116 List.[]))))))))))))
+      (List._∷_ 58 (List._∷_ 83 (List._∷_ 101 (List._∷_ 110 (List._∷_ 116 List.[])))))))))))))
       (Syntax.tcons
       (Syntax.tyStruct
       (List._∷_
@@ -3491,17 +3533,19 @@ t24 = List._∷_ (0, Rows'.any-gone Syntax.tyUnit) (List._∷_ (
   Rows'.any-gone
       (Syntax.tyStruct
       (List._∷_
-      102
+      111
       (List._∷_
-      105
+      117
       (List._∷_
-      110
+      116
       (List._∷_
-      105
+      99
       (List._∷_
-      115
+      111
       (List._∷_
-      104
+      109
+      (List._∷_
+      101
       (List._∷_
       58
       (List._∷_
@@ -3510,24 +3554,26 @@ t24 = List._∷_ (0, Rows'.any-gone Syntax.tyUnit) (List._∷_ (
       79
       (List._∷_
       117
-      (List._∷_ 116 (List._∷_ 99 (List._∷_ 111 (List._∷_ 109 (List._∷_ 101 List.[])))))))))))))))
+      (List._∷_ 116 (List._∷_ 99 (List._∷_ 111 (List._∷_ 109 (List._∷_ 101 List.[]))))))))))))))))
       (Syntax.tcons
       (Syntax.tyStruct
       (List._∷_
-      102
+      111
       (List._∷_
-      105
+      117
       (List._∷_
-      110
+      116
       (List._∷_
-      105
+      99
       (List._∷_
-      115
+      111
       (List._∷_
-      104
+      109
+      (List._∷_
+      101
       (List._∷_
       58
-      (List._∷_ 58 (List._∷_ 83 (List._∷_ 101 (List._∷_ 110 (List._∷_ 116 List.[]))))))))))))
+      (List._∷_ 58 (List._∷_ 83 (List._∷_ 101 (List._∷_ 110 (List._∷_ 116 List.[])))))))))))))
       (Syntax.tcons
       (Syntax.tyStruct
       (List._∷_
@@ -3590,20 +3636,22 @@ t24 = List._∷_ (0, Rows'.any-gone Syntax.tyUnit) (List._∷_ (
       (Syntax.tcons
       (Syntax.tyStruct
       (List._∷_
-      102
+      111
       (List._∷_
-      105
+      117
       (List._∷_
-      110
+      116
       (List._∷_
-      105
+      99
       (List._∷_
-      115
+      111
       (List._∷_
-      104
+      109
+      (List._∷_
+      101
       (List._∷_
       58
-      (List._∷_ 58 (List._∷_ 83 (List._∷_ 101 (List._∷_ 110 (List._∷_ 116 List.[]))))))))))))
+      (List._∷_ 58 (List._∷_ 83 (List._∷_ 101 (List._∷_ 110 (List._∷_ 116 List.[])))))))))))))
       (Syntax.tcons
       (Syntax.tyStruct
       (List._∷_
@@ -3778,17 +3826,19 @@ t25 = List._∷_ (0, Rows'.any-gone Syntax.tyUnit) (List._∷_ (
   Rows'.any-gone
       (Syntax.tyStruct
       (List._∷_
-      102
+      111
       (List._∷_
-      105
+      117
       (List._∷_
-      110
+      116
       (List._∷_
-      105
+      99
       (List._∷_
-      115
+      111
       (List._∷_
-      104
+      109
+      (List._∷_
+      101
       (List._∷_
       58
       (List._∷_
@@ -3797,24 +3847,26 @@ t25 = List._∷_ (0, Rows'.any-gone Syntax.tyUnit) (List._∷_ (
       79
       (List._∷_
       117
-      (List._∷_ 116 (List._∷_ 99 (List._∷_ 111 (List._∷_ 109 (List._∷_ 101 List.[])))))))))))))))
+      (List._∷_ 116 (List._∷_ 99 (List._∷_ 111 (List._∷_ 109 (List._∷_ 101 List.[]))))))))))))))))
       (Syntax.tcons
       (Syntax.tyStruct
       (List._∷_
-      102
+      111
       (List._∷_
-      105
+      117
       (List._∷_
-      110
+      116
       (List._∷_
-      105
+      99
       (List._∷_
-      115
+      111
       (List._∷_
-      104
+      109
+      (List._∷_
+      101
       (List._∷_
       58
-      (List._∷_ 58 (List._∷_ 83 (List._∷_ 101 (List._∷_ 110 (List._∷_ 116 List.[]))))))))))))
+      (List._∷_ 58 (List._∷_ 83 (List._∷_ 101 (List._∷_ 110 (List._∷_ 116 List.[])))))))))))))
       (Syntax.tcons
       (Syntax.tyStruct
       (List._∷_
@@ -3877,20 +3929,22 @@ t25 = List._∷_ (0, Rows'.any-gone Syntax.tyUnit) (List._∷_ (
       (Syntax.tcons
       (Syntax.tyStruct
       (List._∷_
-      102
+      111
       (List._∷_
-      105
+      117
       (List._∷_
-      110
+      116
       (List._∷_
-      105
+      99
       (List._∷_
-      115
+      111
       (List._∷_
-      104
+      109
+      (List._∷_
+      101
       (List._∷_
       58
-      (List._∷_ 58 (List._∷_ 83 (List._∷_ 101 (List._∷_ 110 (List._∷_ 116 List.[]))))))))))))
+      (List._∷_ 58 (List._∷_ 83 (List._∷_ 101 (List._∷_ 110 (List._∷_ 116 List.[])))))))))))))
       (Syntax.tcons
       (Syntax.tyStruct
       (List._∷_
@@ -4065,17 +4119,19 @@ t26 = List._∷_ (0, Rows'.any-gone Syntax.tyUnit) (List._∷_ (
   Rows'.any-gone
       (Syntax.tyStruct
       (List._∷_
-      102
+      111
       (List._∷_
-      105
+      117
       (List._∷_
-      110
+      116
       (List._∷_
-      105
+      99
       (List._∷_
-      115
+      111
       (List._∷_
-      104
+      109
+      (List._∷_
+      101
       (List._∷_
       58
       (List._∷_
@@ -4084,24 +4140,26 @@ t26 = List._∷_ (0, Rows'.any-gone Syntax.tyUnit) (List._∷_ (
       79
       (List._∷_
       117
-      (List._∷_ 116 (List._∷_ 99 (List._∷_ 111 (List._∷_ 109 (List._∷_ 101 List.[])))))))))))))))
+      (List._∷_ 116 (List._∷_ 99 (List._∷_ 111 (List._∷_ 109 (List._∷_ 101 List.[]))))))))))))))))
       (Syntax.tcons
       (Syntax.tyStruct
       (List._∷_
-      102
+      111
       (List._∷_
-      105
+      117
       (List._∷_
-      110
+      116
       (List._∷_
-      105
+      99
       (List._∷_
-      115
+      111
       (List._∷_
-      104
+      109
+      (List._∷_
+      101
       (List._∷_
       58
-      (List._∷_ 58 (List._∷_ 83 (List._∷_ 101 (List._∷_ 110 (List._∷_ 116 List.[]))))))))))))
+      (List._∷_ 58 (List._∷_ 83 (List._∷_ 101 (List._∷_ 110 (List._∷_ 116 List.[])))))))))))))
       (Syntax.tcons
       (Syntax.tyStruct
       (List._∷_
@@ -4164,20 +4222,22 @@ t26 = List._∷_ (0, Rows'.any-gone Syntax.tyUnit) (List._∷_ (
       (Syntax.tcons
       (Syntax.tyStruct
       (List._∷_
-      102
+      111
       (List._∷_
-      105
+      117
       (List._∷_
-      110
+      116
       (List._∷_
-      105
+      99
       (List._∷_
-      115
+      111
       (List._∷_
-      104
+      109
+      (List._∷_
+      101
       (List._∷_
       58
-      (List._∷_ 58 (List._∷_ 83 (List._∷_ 101 (List._∷_ 110 (List._∷_ 116 List.[]))))))))))))
+      (List._∷_ 58 (List._∷_ 83 (List._∷_ 101 (List._∷_ 110 (List._∷_ 116 List.[])))))))))))))
       (Syntax.tcons
       (Syntax.tyStruct
       (List._∷_
@@ -4399,17 +4459,19 @@ t27 = List._∷_ (0, Rows'.any-gone Syntax.tyUnit) (List._∷_ (
   Rows'.any-gone
       (Syntax.tyStruct
       (List._∷_
-      102
+      111
       (List._∷_
-      105
+      117
       (List._∷_
-      110
+      116
       (List._∷_
-      105
+      99
       (List._∷_
-      115
+      111
       (List._∷_
-      104
+      109
+      (List._∷_
+      101
       (List._∷_
       58
       (List._∷_
@@ -4418,24 +4480,26 @@ t27 = List._∷_ (0, Rows'.any-gone Syntax.tyUnit) (List._∷_ (
       79
       (List._∷_
       117
-      (List._∷_ 116 (List._∷_ 99 (List._∷_ 111 (List._∷_ 109 (List._∷_ 101 List.[])))))))))))))))
+      (List._∷_ 116 (List._∷_ 99 (List._∷_ 111 (List._∷_ 109 (List._∷_ 101 List.[]))))))))))))))))
       (Syntax.tcons
       (Syntax.tyStruct
       (List._∷_
-      102
+      111
       (List._∷_
-      105
+      117
       (List._∷_
-      110
+      116
       (List._∷_
-      105
+      99
       (List._∷_
-      115
+      111
       (List._∷_
-      104
+      109
+      (List._∷_
+      101
       (List._∷_
       58
-      (List._∷_ 58 (List._∷_ 83 (List._∷_ 101 (List._∷_ 110 (List._∷_ 116 List.[]))))))))))))
+      (List._∷_ 58 (List._∷_ 83 (List._∷_ 101 (List._∷_ 110 (List._∷_ 116 List.[])))))))))))))
       (Syntax.tcons
       (Syntax.tyStruct
       (List._∷_
@@ -4498,20 +4562,22 @@ t27 = List._∷_ (0, Rows'.any-gone Syntax.tyUnit) (List._∷_ (
       (Syntax.tcons
       (Syntax.tyStruct
       (List._∷_
-      102
+      111
       (List._∷_
-      105
+      117
       (List._∷_
-      110
+      116
       (List._∷_
-      105
+      99
       (List._∷_
-      115
+      111
       (List._∷_
-      104
+      109
+      (List._∷_
+      101
       (List._∷_
       58
-      (List._∷_ 58 (List._∷_ 83 (List._∷_ 101 (List._∷_ 110 (List._∷_ 116 List.[]))))))))))))
+      (List._∷_ 58 (List._∷_ 83 (List._∷_ 101 (List._∷_ 110 (List._∷_ 116 List.[])))))))))))))
       (Syntax.tcons
       (Syntax.tyStruct
       (List._∷_
@@ -4991,17 +5057,19 @@ module _ (claims· : Claims) where
       5
       (Syntax.tyStruct
       (List._∷_
-      102
+      111
       (List._∷_
-      105
+      117
       (List._∷_
-      110
+      116
       (List._∷_
-      105
+      99
       (List._∷_
-      115
+      111
       (List._∷_
-      104
+      109
+      (List._∷_
+      101
       (List._∷_
       58
       (List._∷_
@@ -5010,24 +5078,26 @@ module _ (claims· : Claims) where
       79
       (List._∷_
       117
-      (List._∷_ 116 (List._∷_ 99 (List._∷_ 111 (List._∷_ 109 (List._∷_ 101 List.[])))))))))))))))
+      (List._∷_ 116 (List._∷_ 99 (List._∷_ 111 (List._∷_ 109 (List._∷_ 101 List.[]))))))))))))))))
       (Syntax.tcons
       (Syntax.tyStruct
       (List._∷_
-      102
+      111
       (List._∷_
-      105
+      117
       (List._∷_
-      110
+      116
       (List._∷_
-      105
+      99
       (List._∷_
-      115
+      111
       (List._∷_
-      104
+      109
+      (List._∷_
+      101
       (List._∷_
       58
-      (List._∷_ 58 (List._∷_ 83 (List._∷_ 101 (List._∷_ 110 (List._∷_ 116 List.[]))))))))))))
+      (List._∷_ 58 (List._∷_ 83 (List._∷_ 101 (List._∷_ 110 (List._∷_ 116 List.[])))))))))))))
       (Syntax.tcons
       (Syntax.tyStruct
       (List._∷_
@@ -5090,20 +5160,22 @@ module _ (claims· : Claims) where
       (Syntax.tcons
       (Syntax.tyStruct
       (List._∷_
-      102
+      111
       (List._∷_
-      105
+      117
       (List._∷_
-      110
+      116
       (List._∷_
-      105
+      99
       (List._∷_
-      115
+      111
       (List._∷_
-      104
+      109
+      (List._∷_
+      101
       (List._∷_
       58
-      (List._∷_ 58 (List._∷_ 83 (List._∷_ 101 (List._∷_ 110 (List._∷_ 116 List.[]))))))))))))
+      (List._∷_ 58 (List._∷_ 83 (List._∷_ 101 (List._∷_ 110 (List._∷_ 116 List.[])))))))))))))
       (Syntax.tcons
       (Syntax.tyStruct
       (List._∷_
@@ -6817,17 +6889,19 @@ module _ (claims· : Claims) where
               5
               (Syntax.tyStruct
               (List._∷_
-              102
+              111
               (List._∷_
-              105
+              117
               (List._∷_
-              110
+              116
               (List._∷_
-              105
+              99
               (List._∷_
-              115
+              111
               (List._∷_
-              104
+              109
+              (List._∷_
+              101
               (List._∷_
               58
               (List._∷_
@@ -6838,26 +6912,28 @@ module _ (claims· : Claims) where
               117
               (List._∷_
               116
-              (List._∷_ 99 (List._∷_ 111 (List._∷_ 109 (List._∷_ 101 List.[])))))))))))))))
+              (List._∷_ 99 (List._∷_ 111 (List._∷_ 109 (List._∷_ 101 List.[]))))))))))))))))
               (Syntax.tcons
               (Syntax.tyStruct
               (List._∷_
-              102
+              111
               (List._∷_
-              105
+              117
               (List._∷_
-              110
+              116
               (List._∷_
-              105
+              99
               (List._∷_
-              115
+              111
               (List._∷_
-              104
+              109
+              (List._∷_
+              101
               (List._∷_
               58
               (List._∷_
               58
-              (List._∷_ 83 (List._∷_ 101 (List._∷_ 110 (List._∷_ 116 List.[]))))))))))))
+              (List._∷_ 83 (List._∷_ 101 (List._∷_ 110 (List._∷_ 116 List.[])))))))))))))
               (Syntax.tcons
               (Syntax.tyStruct
               (List._∷_
@@ -6920,22 +6996,24 @@ module _ (claims· : Claims) where
               (Syntax.tcons
               (Syntax.tyStruct
               (List._∷_
-              102
+              111
               (List._∷_
-              105
+              117
               (List._∷_
-              110
+              116
               (List._∷_
-              105
+              99
               (List._∷_
-              115
+              111
               (List._∷_
-              104
+              109
+              (List._∷_
+              101
               (List._∷_
               58
               (List._∷_
               58
-              (List._∷_ 83 (List._∷_ 101 (List._∷_ 110 (List._∷_ 116 List.[]))))))))))))
+              (List._∷_ 83 (List._∷_ 101 (List._∷_ 110 (List._∷_ 116 List.[])))))))))))))
               (Syntax.tcons
               (Syntax.tyStruct
               (List._∷_
@@ -7058,17 +7136,19 @@ module _ (claims· : Claims) where
               (Declared.row Outcome.the-type)
               (Syntax.tyStruct
               (List._∷_
-              102
+              111
               (List._∷_
-              105
+              117
               (List._∷_
-              110
+              116
               (List._∷_
-              105
+              99
               (List._∷_
-              115
+              111
               (List._∷_
-              104
+              109
+              (List._∷_
+              101
               (List._∷_
               58
               (List._∷_
@@ -7079,26 +7159,28 @@ module _ (claims· : Claims) where
               117
               (List._∷_
               116
-              (List._∷_ 99 (List._∷_ 111 (List._∷_ 109 (List._∷_ 101 List.[])))))))))))))))
+              (List._∷_ 99 (List._∷_ 111 (List._∷_ 109 (List._∷_ 101 List.[]))))))))))))))))
               (Syntax.tcons
               (Syntax.tyStruct
               (List._∷_
-              102
+              111
               (List._∷_
-              105
+              117
               (List._∷_
-              110
+              116
               (List._∷_
-              105
+              99
               (List._∷_
-              115
+              111
               (List._∷_
-              104
+              109
+              (List._∷_
+              101
               (List._∷_
               58
               (List._∷_
               58
-              (List._∷_ 83 (List._∷_ 101 (List._∷_ 110 (List._∷_ 116 List.[]))))))))))))
+              (List._∷_ 83 (List._∷_ 101 (List._∷_ 110 (List._∷_ 116 List.[])))))))))))))
               (Syntax.tcons
               (Syntax.tyStruct
               (List._∷_
@@ -7161,22 +7243,24 @@ module _ (claims· : Claims) where
               (Syntax.tcons
               (Syntax.tyStruct
               (List._∷_
-              102
+              111
               (List._∷_
-              105
+              117
               (List._∷_
-              110
+              116
               (List._∷_
-              105
+              99
               (List._∷_
-              115
+              111
               (List._∷_
-              104
+              109
+              (List._∷_
+              101
               (List._∷_
               58
               (List._∷_
               58
-              (List._∷_ 83 (List._∷_ 101 (List._∷_ 110 (List._∷_ 116 List.[]))))))))))))
+              (List._∷_ 83 (List._∷_ 101 (List._∷_ 110 (List._∷_ 116 List.[])))))))))))))
               (Syntax.tcons
               (Syntax.tyStruct
               (List._∷_

@@ -2,10 +2,10 @@
 use Rattle.row.proofs.Elem.InstanceRow as KInstanceRow
 use Rattle.row.proofs.Elem.RouteRow as KRouteRow
 use Prim.Native.Nat
-use Rattle.finish.proofs.Outcome
-use Rattle.finish.proofs.Outcome.Laws
 use Rattle.message.proofs.Link
-use Rattle.message.proofs.Link.Laws as Laws'
+use Rattle.message.proofs.Link.Laws
+use Rattle.outcome.proofs.Outcome
+use Rattle.outcome.proofs.Outcome.Laws as Laws'
 use Rattle.own.proofs.Own
 use Rattle.own.proofs.Own.Laws as Laws''
 use borrow.Author.Called
@@ -87,17 +87,19 @@ xs =
     (List._∷_
     (Syntax.tyStruct
     (List._∷_
-    102
+    111
     (List._∷_
-    105
+    117
     (List._∷_
-    110
+    116
     (List._∷_
-    105
+    99
     (List._∷_
-    115
+    111
     (List._∷_
-    104
+    109
+    (List._∷_
+    101
     (List._∷_
     58
     (List._∷_
@@ -106,24 +108,26 @@ xs =
     79
     (List._∷_
     117
-    (List._∷_ 116 (List._∷_ 99 (List._∷_ 111 (List._∷_ 109 (List._∷_ 101 List.[])))))))))))))))
+    (List._∷_ 116 (List._∷_ 99 (List._∷_ 111 (List._∷_ 109 (List._∷_ 101 List.[]))))))))))))))))
     (Syntax.tcons
     (Syntax.tyStruct
     (List._∷_
-    102
+    111
     (List._∷_
-    105
+    117
     (List._∷_
-    110
+    116
     (List._∷_
-    105
+    99
     (List._∷_
-    115
+    111
     (List._∷_
-    104
+    109
+    (List._∷_
+    101
     (List._∷_
     58
-    (List._∷_ 58 (List._∷_ 83 (List._∷_ 101 (List._∷_ 110 (List._∷_ 116 List.[]))))))))))))
+    (List._∷_ 58 (List._∷_ 83 (List._∷_ 101 (List._∷_ 110 (List._∷_ 116 List.[])))))))))))))
     (Syntax.tcons
     (Syntax.tyStruct
     (List._∷_
@@ -184,20 +188,22 @@ xs =
     (Syntax.tcons
     (Syntax.tyStruct
     (List._∷_
-    102
+    111
     (List._∷_
-    105
+    117
     (List._∷_
-    110
+    116
     (List._∷_
-    105
+    99
     (List._∷_
-    115
+    111
     (List._∷_
-    104
+    109
+    (List._∷_
+    101
     (List._∷_
     58
-    (List._∷_ 58 (List._∷_ 83 (List._∷_ 101 (List._∷_ 110 (List._∷_ 116 List.[]))))))))))))
+    (List._∷_ 58 (List._∷_ 83 (List._∷_ 101 (List._∷_ 110 (List._∷_ 116 List.[])))))))))))))
     (Syntax.tcons
     (Syntax.tyStruct
     (List._∷_
@@ -451,16 +457,16 @@ abbrev pub r·3 : Kinds.RK 0
 r·3 = Value.rVal record {
   ty = Declared.row Link.the-type;
   one = Path'.refl;
-  val = Laws'3.val Link.the-type Laws'.the-laws;
-  tells = Laws'3.tells Link.the-type Laws'.the-laws;
-  still = Laws'3.still Link.the-type Laws'.the-copy Exit.yes;
+  val = Laws'3.val Link.the-type Laws.the-laws;
+  tells = Laws'3.tells Link.the-type Laws.the-laws;
+  still = Laws'3.still Link.the-type Laws.the-copy Exit.yes;
   row = Rows'.whole (Declared.row Link.the-type);
   rd = λ x. x;
   mk = λ x. x;
 } λ M 𝓤 H A W. record {
-  copies = Laws'3.copy Link.the-type Laws'.the-copy 𝓤 H A W;
-  lawful = Laws'3.lawful Link.the-type Laws'.the-laws 𝓤 H A W;
-  makes = Laws'3.makes Link.the-type Laws'.the-plain 𝓤 H A;
+  copies = Laws'3.copy Link.the-type Laws.the-copy 𝓤 H A W;
+  lawful = Laws'3.lawful Link.the-type Laws.the-laws 𝓤 H A W;
+  makes = Laws'3.makes Link.the-type Laws.the-plain 𝓤 H A;
   in-mem = Local.mem-whole 𝓤 H A W (Declared.row Link.the-type);
   of-mem = Local.whole-mem 𝓤 H A W (Declared.row Link.the-type);
 }
@@ -498,16 +504,16 @@ ps·4 =
     (List._∷_ (Num.pNum Syntax.w8) (List._∷_ (Num.pNum Syntax.w64) (List._∷_ (Value.pVal record {
       ty = Declared.row Link.the-type;
       one = Path'.refl;
-      val = Laws'3.val Link.the-type Laws'.the-laws;
-      tells = Laws'3.tells Link.the-type Laws'.the-laws;
-      still = Laws'3.still Link.the-type Laws'.the-copy Exit.yes;
+      val = Laws'3.val Link.the-type Laws.the-laws;
+      tells = Laws'3.tells Link.the-type Laws.the-laws;
+      still = Laws'3.still Link.the-type Laws.the-copy Exit.yes;
       row = Rows'.whole (Declared.row Link.the-type);
       rd = λ x. x;
       mk = λ x. x;
     } λ M 𝓤 H A W. record {
-      copies = Laws'3.copy Link.the-type Laws'.the-copy 𝓤 H A W;
-      lawful = Laws'3.lawful Link.the-type Laws'.the-laws 𝓤 H A W;
-      makes = Laws'3.makes Link.the-type Laws'.the-plain 𝓤 H A;
+      copies = Laws'3.copy Link.the-type Laws.the-copy 𝓤 H A W;
+      lawful = Laws'3.lawful Link.the-type Laws.the-laws 𝓤 H A W;
+      makes = Laws'3.makes Link.the-type Laws.the-plain 𝓤 H A;
       in-mem = Local.mem-whole 𝓤 H A W (Declared.row Link.the-type);
       of-mem = Local.whole-mem 𝓤 H A W (Declared.row Link.the-type);
     }) List.[])))))))))
@@ -516,16 +522,16 @@ abbrev pub r·4 : Kinds.RK 5
 r·4 = Value.rVal record {
   ty = Declared.row Outcome.the-type;
   one = Path'.refl;
-  val = Laws'3.val Outcome.the-type Laws.the-laws;
-  tells = Laws'3.tells Outcome.the-type Laws.the-laws;
-  still = Laws'3.still Outcome.the-type Laws.the-copy Exit.yes;
+  val = Laws'3.val Outcome.the-type Laws'.the-laws;
+  tells = Laws'3.tells Outcome.the-type Laws'.the-laws;
+  still = Laws'3.still Outcome.the-type Laws'.the-copy Exit.yes;
   row = Rows'.whole (Declared.row Outcome.the-type);
   rd = λ x. x;
   mk = λ x. x;
 } λ M 𝓤 H A W. record {
-  copies = Laws'3.copy Outcome.the-type Laws.the-copy 𝓤 H A W;
-  lawful = Laws'3.lawful Outcome.the-type Laws.the-laws 𝓤 H A W;
-  makes = Laws'3.makes Outcome.the-type Laws.the-plain 𝓤 H A;
+  copies = Laws'3.copy Outcome.the-type Laws'.the-copy 𝓤 H A W;
+  lawful = Laws'3.lawful Outcome.the-type Laws'.the-laws 𝓤 H A W;
+  makes = Laws'3.makes Outcome.the-type Laws'.the-plain 𝓤 H A;
   in-mem = Local.mem-whole 𝓤 H A W (Declared.row Outcome.the-type);
   of-mem = Local.whole-mem 𝓤 H A W (Declared.row Outcome.the-type);
 }
@@ -534,16 +540,16 @@ abbrev pub ps·5 : List.List (Kinds.PK 2)
 ps·5 = List._∷_ (Value.pVal record {
   ty = Declared.row Outcome.the-type;
   one = Path'.refl;
-  val = Laws'3.val Outcome.the-type Laws.the-laws;
-  tells = Laws'3.tells Outcome.the-type Laws.the-laws;
-  still = Laws'3.still Outcome.the-type Laws.the-copy Exit.yes;
+  val = Laws'3.val Outcome.the-type Laws'.the-laws;
+  tells = Laws'3.tells Outcome.the-type Laws'.the-laws;
+  still = Laws'3.still Outcome.the-type Laws'.the-copy Exit.yes;
   row = Rows'.whole (Declared.row Outcome.the-type);
   rd = λ x. x;
   mk = λ x. x;
 } λ M 𝓤 H A W. record {
-  copies = Laws'3.copy Outcome.the-type Laws.the-copy 𝓤 H A W;
-  lawful = Laws'3.lawful Outcome.the-type Laws.the-laws 𝓤 H A W;
-  makes = Laws'3.makes Outcome.the-type Laws.the-plain 𝓤 H A;
+  copies = Laws'3.copy Outcome.the-type Laws'.the-copy 𝓤 H A W;
+  lawful = Laws'3.lawful Outcome.the-type Laws'.the-laws 𝓤 H A W;
+  makes = Laws'3.makes Outcome.the-type Laws'.the-plain 𝓤 H A;
   in-mem = Local.mem-whole 𝓤 H A W (Declared.row Outcome.the-type);
   of-mem = Local.whole-mem 𝓤 H A W (Declared.row Outcome.the-type);
 })
@@ -856,17 +862,19 @@ t0 = List._∷_ (0, Rows'.any-gone Syntax.tyUnit) (List._∷_ (
       Rows'.any-gone
           (Syntax.tyStruct
           (List._∷_
-          102
+          111
           (List._∷_
-          105
+          117
           (List._∷_
-          110
+          116
           (List._∷_
-          105
+          99
           (List._∷_
-          115
+          111
           (List._∷_
-          104
+          109
+          (List._∷_
+          101
           (List._∷_
           58
           (List._∷_
@@ -877,24 +885,26 @@ t0 = List._∷_ (0, Rows'.any-gone Syntax.tyUnit) (List._∷_ (
           117
           (List._∷_
           116
-          (List._∷_ 99 (List._∷_ 111 (List._∷_ 109 (List._∷_ 101 List.[])))))))))))))))
+          (List._∷_ 99 (List._∷_ 111 (List._∷_ 109 (List._∷_ 101 List.[]))))))))))))))))
           (Syntax.tcons
           (Syntax.tyStruct
           (List._∷_
-          102
+          111
           (List._∷_
-          105
+          117
           (List._∷_
-          110
+          116
           (List._∷_
-          105
+          99
           (List._∷_
-          115
+          111
           (List._∷_
-          104
+          109
+          (List._∷_
+          101
           (List._∷_
           58
-          (List._∷_ 58 (List._∷_ 83 (List._∷_ 101 (List._∷_ 110 (List._∷_ 116 List.[]))))))))))))
+          (List._∷_ 58 (List._∷_ 83 (List._∷_ 101 (List._∷_ 110 (List._∷_ 116 List.[])))))))))))))
           (Syntax.tcons
           (Syntax.tyStruct
           (List._∷_
@@ -957,20 +967,22 @@ t0 = List._∷_ (0, Rows'.any-gone Syntax.tyUnit) (List._∷_ (
           (Syntax.tcons
           (Syntax.tyStruct
           (List._∷_
-          102
+          111
           (List._∷_
-          105
+          117
           (List._∷_
-          110
+          116
           (List._∷_
-          105
+          99
           (List._∷_
-          115
+          111
           (List._∷_
-          104
+          109
+          (List._∷_
+          101
           (List._∷_
           58
-          (List._∷_ 58 (List._∷_ 83 (List._∷_ 101 (List._∷_ 110 (List._∷_ 116 List.[]))))))))))))
+          (List._∷_ 58 (List._∷_ 83 (List._∷_ 101 (List._∷_ 110 (List._∷_ 116 List.[])))))))))))))
           (Syntax.tcons
           (Syntax.tyStruct
           (List._∷_
@@ -1234,17 +1246,19 @@ t2 = List._∷_ (0, Rows'.sc-here Row.sUnit) (List._∷_ (
       Rows'.any-gone
           (Syntax.tyStruct
           (List._∷_
-          102
+          111
           (List._∷_
-          105
+          117
           (List._∷_
-          110
+          116
           (List._∷_
-          105
+          99
           (List._∷_
-          115
+          111
           (List._∷_
-          104
+          109
+          (List._∷_
+          101
           (List._∷_
           58
           (List._∷_
@@ -1255,24 +1269,26 @@ t2 = List._∷_ (0, Rows'.sc-here Row.sUnit) (List._∷_ (
           117
           (List._∷_
           116
-          (List._∷_ 99 (List._∷_ 111 (List._∷_ 109 (List._∷_ 101 List.[])))))))))))))))
+          (List._∷_ 99 (List._∷_ 111 (List._∷_ 109 (List._∷_ 101 List.[]))))))))))))))))
           (Syntax.tcons
           (Syntax.tyStruct
           (List._∷_
-          102
+          111
           (List._∷_
-          105
+          117
           (List._∷_
-          110
+          116
           (List._∷_
-          105
+          99
           (List._∷_
-          115
+          111
           (List._∷_
-          104
+          109
+          (List._∷_
+          101
           (List._∷_
           58
-          (List._∷_ 58 (List._∷_ 83 (List._∷_ 101 (List._∷_ 110 (List._∷_ 116 List.[]))))))))))))
+          (List._∷_ 58 (List._∷_ 83 (List._∷_ 101 (List._∷_ 110 (List._∷_ 116 List.[])))))))))))))
           (Syntax.tcons
           (Syntax.tyStruct
           (List._∷_
@@ -1335,20 +1351,22 @@ t2 = List._∷_ (0, Rows'.sc-here Row.sUnit) (List._∷_ (
           (Syntax.tcons
           (Syntax.tyStruct
           (List._∷_
-          102
+          111
           (List._∷_
-          105
+          117
           (List._∷_
-          110
+          116
           (List._∷_
-          105
+          99
           (List._∷_
-          115
+          111
           (List._∷_
-          104
+          109
+          (List._∷_
+          101
           (List._∷_
           58
-          (List._∷_ 58 (List._∷_ 83 (List._∷_ 101 (List._∷_ 110 (List._∷_ 116 List.[]))))))))))))
+          (List._∷_ 58 (List._∷_ 83 (List._∷_ 101 (List._∷_ 110 (List._∷_ 116 List.[])))))))))))))
           (Syntax.tcons
           (Syntax.tyStruct
           (List._∷_
@@ -1531,17 +1549,19 @@ t3 = List._∷_ (0, Rows'.any-gone Syntax.tyUnit) (List._∷_ (
       Rows'.any-gone
           (Syntax.tyStruct
           (List._∷_
-          102
+          111
           (List._∷_
-          105
+          117
           (List._∷_
-          110
+          116
           (List._∷_
-          105
+          99
           (List._∷_
-          115
+          111
           (List._∷_
-          104
+          109
+          (List._∷_
+          101
           (List._∷_
           58
           (List._∷_
@@ -1552,24 +1572,26 @@ t3 = List._∷_ (0, Rows'.any-gone Syntax.tyUnit) (List._∷_ (
           117
           (List._∷_
           116
-          (List._∷_ 99 (List._∷_ 111 (List._∷_ 109 (List._∷_ 101 List.[])))))))))))))))
+          (List._∷_ 99 (List._∷_ 111 (List._∷_ 109 (List._∷_ 101 List.[]))))))))))))))))
           (Syntax.tcons
           (Syntax.tyStruct
           (List._∷_
-          102
+          111
           (List._∷_
-          105
+          117
           (List._∷_
-          110
+          116
           (List._∷_
-          105
+          99
           (List._∷_
-          115
+          111
           (List._∷_
-          104
+          109
+          (List._∷_
+          101
           (List._∷_
           58
-          (List._∷_ 58 (List._∷_ 83 (List._∷_ 101 (List._∷_ 110 (List._∷_ 116 List.[]))))))))))))
+          (List._∷_ 58 (List._∷_ 83 (List._∷_ 101 (List._∷_ 110 (List._∷_ 116 List.[])))))))))))))
           (Syntax.tcons
           (Syntax.tyStruct
           (List._∷_
@@ -1632,20 +1654,22 @@ t3 = List._∷_ (0, Rows'.any-gone Syntax.tyUnit) (List._∷_ (
           (Syntax.tcons
           (Syntax.tyStruct
           (List._∷_
-          102
+          111
           (List._∷_
-          105
+          117
           (List._∷_
-          110
+          116
           (List._∷_
-          105
+          99
           (List._∷_
-          115
+          111
           (List._∷_
-          104
+          109
+          (List._∷_
+          101
           (List._∷_
           58
-          (List._∷_ 58 (List._∷_ 83 (List._∷_ 101 (List._∷_ 110 (List._∷_ 116 List.[]))))))))))))
+          (List._∷_ 58 (List._∷_ 83 (List._∷_ 101 (List._∷_ 110 (List._∷_ 116 List.[])))))))))))))
           (Syntax.tcons
           (Syntax.tyStruct
           (List._∷_
@@ -1828,17 +1852,19 @@ t4 = List._∷_ (0, Rows'.any-gone Syntax.tyUnit) (List._∷_ (
       Rows'.any-gone
           (Syntax.tyStruct
           (List._∷_
-          102
+          111
           (List._∷_
-          105
+          117
           (List._∷_
-          110
+          116
           (List._∷_
-          105
+          99
           (List._∷_
-          115
+          111
           (List._∷_
-          104
+          109
+          (List._∷_
+          101
           (List._∷_
           58
           (List._∷_
@@ -1849,24 +1875,26 @@ t4 = List._∷_ (0, Rows'.any-gone Syntax.tyUnit) (List._∷_ (
           117
           (List._∷_
           116
-          (List._∷_ 99 (List._∷_ 111 (List._∷_ 109 (List._∷_ 101 List.[])))))))))))))))
+          (List._∷_ 99 (List._∷_ 111 (List._∷_ 109 (List._∷_ 101 List.[]))))))))))))))))
           (Syntax.tcons
           (Syntax.tyStruct
           (List._∷_
-          102
+          111
           (List._∷_
-          105
+          117
           (List._∷_
-          110
+          116
           (List._∷_
-          105
+          99
           (List._∷_
-          115
+          111
           (List._∷_
-          104
+          109
+          (List._∷_
+          101
           (List._∷_
           58
-          (List._∷_ 58 (List._∷_ 83 (List._∷_ 101 (List._∷_ 110 (List._∷_ 116 List.[]))))))))))))
+          (List._∷_ 58 (List._∷_ 83 (List._∷_ 101 (List._∷_ 110 (List._∷_ 116 List.[])))))))))))))
           (Syntax.tcons
           (Syntax.tyStruct
           (List._∷_
@@ -1929,20 +1957,22 @@ t4 = List._∷_ (0, Rows'.any-gone Syntax.tyUnit) (List._∷_ (
           (Syntax.tcons
           (Syntax.tyStruct
           (List._∷_
-          102
+          111
           (List._∷_
-          105
+          117
           (List._∷_
-          110
+          116
           (List._∷_
-          105
+          99
           (List._∷_
-          115
+          111
           (List._∷_
-          104
+          109
+          (List._∷_
+          101
           (List._∷_
           58
-          (List._∷_ 58 (List._∷_ 83 (List._∷_ 101 (List._∷_ 110 (List._∷_ 116 List.[]))))))))))))
+          (List._∷_ 58 (List._∷_ 83 (List._∷_ 101 (List._∷_ 110 (List._∷_ 116 List.[])))))))))))))
           (Syntax.tcons
           (Syntax.tyStruct
           (List._∷_
@@ -2125,17 +2155,19 @@ t5 = List._∷_ (0, Rows'.any-gone Syntax.tyUnit) (List._∷_ (
       Rows'.any-gone
           (Syntax.tyStruct
           (List._∷_
-          102
+          111
           (List._∷_
-          105
+          117
           (List._∷_
-          110
+          116
           (List._∷_
-          105
+          99
           (List._∷_
-          115
+          111
           (List._∷_
-          104
+          109
+          (List._∷_
+          101
           (List._∷_
           58
           (List._∷_
@@ -2146,24 +2178,26 @@ t5 = List._∷_ (0, Rows'.any-gone Syntax.tyUnit) (List._∷_ (
           117
           (List._∷_
           116
-          (List._∷_ 99 (List._∷_ 111 (List._∷_ 109 (List._∷_ 101 List.[])))))))))))))))
+          (List._∷_ 99 (List._∷_ 111 (List._∷_ 109 (List._∷_ 101 List.[]))))))))))))))))
           (Syntax.tcons
           (Syntax.tyStruct
           (List._∷_
-          102
+          111
           (List._∷_
-          105
+          117
           (List._∷_
-          110
+          116
           (List._∷_
-          105
+          99
           (List._∷_
-          115
+          111
           (List._∷_
-          104
+          109
+          (List._∷_
+          101
           (List._∷_
           58
-          (List._∷_ 58 (List._∷_ 83 (List._∷_ 101 (List._∷_ 110 (List._∷_ 116 List.[]))))))))))))
+          (List._∷_ 58 (List._∷_ 83 (List._∷_ 101 (List._∷_ 110 (List._∷_ 116 List.[])))))))))))))
           (Syntax.tcons
           (Syntax.tyStruct
           (List._∷_
@@ -2226,20 +2260,22 @@ t5 = List._∷_ (0, Rows'.any-gone Syntax.tyUnit) (List._∷_ (
           (Syntax.tcons
           (Syntax.tyStruct
           (List._∷_
-          102
+          111
           (List._∷_
-          105
+          117
           (List._∷_
-          110
+          116
           (List._∷_
-          105
+          99
           (List._∷_
-          115
+          111
           (List._∷_
-          104
+          109
+          (List._∷_
+          101
           (List._∷_
           58
-          (List._∷_ 58 (List._∷_ 83 (List._∷_ 101 (List._∷_ 110 (List._∷_ 116 List.[]))))))))))))
+          (List._∷_ 58 (List._∷_ 83 (List._∷_ 101 (List._∷_ 110 (List._∷_ 116 List.[])))))))))))))
           (Syntax.tcons
           (Syntax.tyStruct
           (List._∷_
@@ -2422,17 +2458,19 @@ t6 = List._∷_ (0, Rows'.any-gone Syntax.tyUnit) (List._∷_ (
       Rows'.any-gone
           (Syntax.tyStruct
           (List._∷_
-          102
+          111
           (List._∷_
-          105
+          117
           (List._∷_
-          110
+          116
           (List._∷_
-          105
+          99
           (List._∷_
-          115
+          111
           (List._∷_
-          104
+          109
+          (List._∷_
+          101
           (List._∷_
           58
           (List._∷_
@@ -2443,24 +2481,26 @@ t6 = List._∷_ (0, Rows'.any-gone Syntax.tyUnit) (List._∷_ (
           117
           (List._∷_
           116
-          (List._∷_ 99 (List._∷_ 111 (List._∷_ 109 (List._∷_ 101 List.[])))))))))))))))
+          (List._∷_ 99 (List._∷_ 111 (List._∷_ 109 (List._∷_ 101 List.[]))))))))))))))))
           (Syntax.tcons
           (Syntax.tyStruct
           (List._∷_
-          102
+          111
           (List._∷_
-          105
+          117
           (List._∷_
-          110
+          116
           (List._∷_
-          105
+          99
           (List._∷_
-          115
+          111
           (List._∷_
-          104
+          109
+          (List._∷_
+          101
           (List._∷_
           58
-          (List._∷_ 58 (List._∷_ 83 (List._∷_ 101 (List._∷_ 110 (List._∷_ 116 List.[]))))))))))))
+          (List._∷_ 58 (List._∷_ 83 (List._∷_ 101 (List._∷_ 110 (List._∷_ 116 List.[])))))))))))))
           (Syntax.tcons
           (Syntax.tyStruct
           (List._∷_
@@ -2523,20 +2563,22 @@ t6 = List._∷_ (0, Rows'.any-gone Syntax.tyUnit) (List._∷_ (
           (Syntax.tcons
           (Syntax.tyStruct
           (List._∷_
-          102
+          111
           (List._∷_
-          105
+          117
           (List._∷_
-          110
+          116
           (List._∷_
-          105
+          99
           (List._∷_
-          115
+          111
           (List._∷_
-          104
+          109
+          (List._∷_
+          101
           (List._∷_
           58
-          (List._∷_ 58 (List._∷_ 83 (List._∷_ 101 (List._∷_ 110 (List._∷_ 116 List.[]))))))))))))
+          (List._∷_ 58 (List._∷_ 83 (List._∷_ 101 (List._∷_ 110 (List._∷_ 116 List.[])))))))))))))
           (Syntax.tcons
           (Syntax.tyStruct
           (List._∷_
@@ -2719,17 +2761,19 @@ t7 = List._∷_ (0, Rows'.any-gone Syntax.tyUnit) (List._∷_ (
       Rows'.any-gone
           (Syntax.tyStruct
           (List._∷_
-          102
+          111
           (List._∷_
-          105
+          117
           (List._∷_
-          110
+          116
           (List._∷_
-          105
+          99
           (List._∷_
-          115
+          111
           (List._∷_
-          104
+          109
+          (List._∷_
+          101
           (List._∷_
           58
           (List._∷_
@@ -2740,24 +2784,26 @@ t7 = List._∷_ (0, Rows'.any-gone Syntax.tyUnit) (List._∷_ (
           117
           (List._∷_
           116
-          (List._∷_ 99 (List._∷_ 111 (List._∷_ 109 (List._∷_ 101 List.[])))))))))))))))
+          (List._∷_ 99 (List._∷_ 111 (List._∷_ 109 (List._∷_ 101 List.[]))))))))))))))))
           (Syntax.tcons
           (Syntax.tyStruct
           (List._∷_
-          102
+          111
           (List._∷_
-          105
+          117
           (List._∷_
-          110
+          116
           (List._∷_
-          105
+          99
           (List._∷_
-          115
+          111
           (List._∷_
-          104
+          109
+          (List._∷_
+          101
           (List._∷_
           58
-          (List._∷_ 58 (List._∷_ 83 (List._∷_ 101 (List._∷_ 110 (List._∷_ 116 List.[]))))))))))))
+          (List._∷_ 58 (List._∷_ 83 (List._∷_ 101 (List._∷_ 110 (List._∷_ 116 List.[])))))))))))))
           (Syntax.tcons
           (Syntax.tyStruct
           (List._∷_
@@ -2820,20 +2866,22 @@ t7 = List._∷_ (0, Rows'.any-gone Syntax.tyUnit) (List._∷_ (
           (Syntax.tcons
           (Syntax.tyStruct
           (List._∷_
-          102
+          111
           (List._∷_
-          105
+          117
           (List._∷_
-          110
+          116
           (List._∷_
-          105
+          99
           (List._∷_
-          115
+          111
           (List._∷_
-          104
+          109
+          (List._∷_
+          101
           (List._∷_
           58
-          (List._∷_ 58 (List._∷_ 83 (List._∷_ 101 (List._∷_ 110 (List._∷_ 116 List.[]))))))))))))
+          (List._∷_ 58 (List._∷_ 83 (List._∷_ 101 (List._∷_ 110 (List._∷_ 116 List.[])))))))))))))
           (Syntax.tcons
           (Syntax.tyStruct
           (List._∷_
@@ -3016,17 +3064,19 @@ t8 = List._∷_ (0, Rows'.any-gone Syntax.tyUnit) (List._∷_ (
   Rows'.any-gone
       (Syntax.tyStruct
       (List._∷_
-      102
+      111
       (List._∷_
-      105
+      117
       (List._∷_
-      110
+      116
       (List._∷_
-      105
+      99
       (List._∷_
-      115
+      111
       (List._∷_
-      104
+      109
+      (List._∷_
+      101
       (List._∷_
       58
       (List._∷_
@@ -3035,24 +3085,26 @@ t8 = List._∷_ (0, Rows'.any-gone Syntax.tyUnit) (List._∷_ (
       79
       (List._∷_
       117
-      (List._∷_ 116 (List._∷_ 99 (List._∷_ 111 (List._∷_ 109 (List._∷_ 101 List.[])))))))))))))))
+      (List._∷_ 116 (List._∷_ 99 (List._∷_ 111 (List._∷_ 109 (List._∷_ 101 List.[]))))))))))))))))
       (Syntax.tcons
       (Syntax.tyStruct
       (List._∷_
-      102
+      111
       (List._∷_
-      105
+      117
       (List._∷_
-      110
+      116
       (List._∷_
-      105
+      99
       (List._∷_
-      115
+      111
       (List._∷_
-      104
+      109
+      (List._∷_
+      101
       (List._∷_
       58
-      (List._∷_ 58 (List._∷_ 83 (List._∷_ 101 (List._∷_ 110 (List._∷_ 116 List.[]))))))))))))
+      (List._∷_ 58 (List._∷_ 83 (List._∷_ 101 (List._∷_ 110 (List._∷_ 116 List.[])))))))))))))
       (Syntax.tcons
       (Syntax.tyStruct
       (List._∷_
@@ -3115,20 +3167,22 @@ t8 = List._∷_ (0, Rows'.any-gone Syntax.tyUnit) (List._∷_ (
       (Syntax.tcons
       (Syntax.tyStruct
       (List._∷_
-      102
+      111
       (List._∷_
-      105
+      117
       (List._∷_
-      110
+      116
       (List._∷_
-      105
+      99
       (List._∷_
-      115
+      111
       (List._∷_
-      104
+      109
+      (List._∷_
+      101
       (List._∷_
       58
-      (List._∷_ 58 (List._∷_ 83 (List._∷_ 101 (List._∷_ 110 (List._∷_ 116 List.[]))))))))))))
+      (List._∷_ 58 (List._∷_ 83 (List._∷_ 101 (List._∷_ 110 (List._∷_ 116 List.[])))))))))))))
       (Syntax.tcons
       (Syntax.tyStruct
       (List._∷_
@@ -3309,17 +3363,19 @@ t9 = List._∷_ (0, Rows'.any-gone Syntax.tyUnit) (List._∷_ (
       Rows'.any-gone
           (Syntax.tyStruct
           (List._∷_
-          102
+          111
           (List._∷_
-          105
+          117
           (List._∷_
-          110
+          116
           (List._∷_
-          105
+          99
           (List._∷_
-          115
+          111
           (List._∷_
-          104
+          109
+          (List._∷_
+          101
           (List._∷_
           58
           (List._∷_
@@ -3330,24 +3386,26 @@ t9 = List._∷_ (0, Rows'.any-gone Syntax.tyUnit) (List._∷_ (
           117
           (List._∷_
           116
-          (List._∷_ 99 (List._∷_ 111 (List._∷_ 109 (List._∷_ 101 List.[])))))))))))))))
+          (List._∷_ 99 (List._∷_ 111 (List._∷_ 109 (List._∷_ 101 List.[]))))))))))))))))
           (Syntax.tcons
           (Syntax.tyStruct
           (List._∷_
-          102
+          111
           (List._∷_
-          105
+          117
           (List._∷_
-          110
+          116
           (List._∷_
-          105
+          99
           (List._∷_
-          115
+          111
           (List._∷_
-          104
+          109
+          (List._∷_
+          101
           (List._∷_
           58
-          (List._∷_ 58 (List._∷_ 83 (List._∷_ 101 (List._∷_ 110 (List._∷_ 116 List.[]))))))))))))
+          (List._∷_ 58 (List._∷_ 83 (List._∷_ 101 (List._∷_ 110 (List._∷_ 116 List.[])))))))))))))
           (Syntax.tcons
           (Syntax.tyStruct
           (List._∷_
@@ -3410,20 +3468,22 @@ t9 = List._∷_ (0, Rows'.any-gone Syntax.tyUnit) (List._∷_ (
           (Syntax.tcons
           (Syntax.tyStruct
           (List._∷_
-          102
+          111
           (List._∷_
-          105
+          117
           (List._∷_
-          110
+          116
           (List._∷_
-          105
+          99
           (List._∷_
-          115
+          111
           (List._∷_
-          104
+          109
+          (List._∷_
+          101
           (List._∷_
           58
-          (List._∷_ 58 (List._∷_ 83 (List._∷_ 101 (List._∷_ 110 (List._∷_ 116 List.[]))))))))))))
+          (List._∷_ 58 (List._∷_ 83 (List._∷_ 101 (List._∷_ 110 (List._∷_ 116 List.[])))))))))))))
           (Syntax.tcons
           (Syntax.tyStruct
           (List._∷_
@@ -3606,17 +3666,19 @@ t10 = List._∷_ (0, Rows'.any-gone Syntax.tyUnit) (List._∷_ (
       Rows'.any-gone
           (Syntax.tyStruct
           (List._∷_
-          102
+          111
           (List._∷_
-          105
+          117
           (List._∷_
-          110
+          116
           (List._∷_
-          105
+          99
           (List._∷_
-          115
+          111
           (List._∷_
-          104
+          109
+          (List._∷_
+          101
           (List._∷_
           58
           (List._∷_
@@ -3627,24 +3689,26 @@ t10 = List._∷_ (0, Rows'.any-gone Syntax.tyUnit) (List._∷_ (
           117
           (List._∷_
           116
-          (List._∷_ 99 (List._∷_ 111 (List._∷_ 109 (List._∷_ 101 List.[])))))))))))))))
+          (List._∷_ 99 (List._∷_ 111 (List._∷_ 109 (List._∷_ 101 List.[]))))))))))))))))
           (Syntax.tcons
           (Syntax.tyStruct
           (List._∷_
-          102
+          111
           (List._∷_
-          105
+          117
           (List._∷_
-          110
+          116
           (List._∷_
-          105
+          99
           (List._∷_
-          115
+          111
           (List._∷_
-          104
+          109
+          (List._∷_
+          101
           (List._∷_
           58
-          (List._∷_ 58 (List._∷_ 83 (List._∷_ 101 (List._∷_ 110 (List._∷_ 116 List.[]))))))))))))
+          (List._∷_ 58 (List._∷_ 83 (List._∷_ 101 (List._∷_ 110 (List._∷_ 116 List.[])))))))))))))
           (Syntax.tcons
           (Syntax.tyStruct
           (List._∷_
@@ -3707,20 +3771,22 @@ t10 = List._∷_ (0, Rows'.any-gone Syntax.tyUnit) (List._∷_ (
           (Syntax.tcons
           (Syntax.tyStruct
           (List._∷_
-          102
+          111
           (List._∷_
-          105
+          117
           (List._∷_
-          110
+          116
           (List._∷_
-          105
+          99
           (List._∷_
-          115
+          111
           (List._∷_
-          104
+          109
+          (List._∷_
+          101
           (List._∷_
           58
-          (List._∷_ 58 (List._∷_ 83 (List._∷_ 101 (List._∷_ 110 (List._∷_ 116 List.[]))))))))))))
+          (List._∷_ 58 (List._∷_ 83 (List._∷_ 101 (List._∷_ 110 (List._∷_ 116 List.[])))))))))))))
           (Syntax.tcons
           (Syntax.tyStruct
           (List._∷_
@@ -3902,17 +3968,19 @@ t11 = List._∷_ (0, Rows'.any-gone Syntax.tyUnit) (List._∷_ (
       Rows'.any-gone
           (Syntax.tyStruct
           (List._∷_
-          102
+          111
           (List._∷_
-          105
+          117
           (List._∷_
-          110
+          116
           (List._∷_
-          105
+          99
           (List._∷_
-          115
+          111
           (List._∷_
-          104
+          109
+          (List._∷_
+          101
           (List._∷_
           58
           (List._∷_
@@ -3923,24 +3991,26 @@ t11 = List._∷_ (0, Rows'.any-gone Syntax.tyUnit) (List._∷_ (
           117
           (List._∷_
           116
-          (List._∷_ 99 (List._∷_ 111 (List._∷_ 109 (List._∷_ 101 List.[])))))))))))))))
+          (List._∷_ 99 (List._∷_ 111 (List._∷_ 109 (List._∷_ 101 List.[]))))))))))))))))
           (Syntax.tcons
           (Syntax.tyStruct
           (List._∷_
-          102
+          111
           (List._∷_
-          105
+          117
           (List._∷_
-          110
+          116
           (List._∷_
-          105
+          99
           (List._∷_
-          115
+          111
           (List._∷_
-          104
+          109
+          (List._∷_
+          101
           (List._∷_
           58
-          (List._∷_ 58 (List._∷_ 83 (List._∷_ 101 (List._∷_ 110 (List._∷_ 116 List.[]))))))))))))
+          (List._∷_ 58 (List._∷_ 83 (List._∷_ 101 (List._∷_ 110 (List._∷_ 116 List.[])))))))))))))
           (Syntax.tcons
           (Syntax.tyStruct
           (List._∷_
@@ -4003,20 +4073,22 @@ t11 = List._∷_ (0, Rows'.any-gone Syntax.tyUnit) (List._∷_ (
           (Syntax.tcons
           (Syntax.tyStruct
           (List._∷_
-          102
+          111
           (List._∷_
-          105
+          117
           (List._∷_
-          110
+          116
           (List._∷_
-          105
+          99
           (List._∷_
-          115
+          111
           (List._∷_
-          104
+          109
+          (List._∷_
+          101
           (List._∷_
           58
-          (List._∷_ 58 (List._∷_ 83 (List._∷_ 101 (List._∷_ 110 (List._∷_ 116 List.[]))))))))))))
+          (List._∷_ 58 (List._∷_ 83 (List._∷_ 101 (List._∷_ 110 (List._∷_ 116 List.[])))))))))))))
           (Syntax.tcons
           (Syntax.tyStruct
           (List._∷_
@@ -4199,17 +4271,19 @@ t12 = List._∷_ (0, Rows'.any-gone Syntax.tyUnit) (List._∷_ (
       Rows'.any-gone
           (Syntax.tyStruct
           (List._∷_
-          102
+          111
           (List._∷_
-          105
+          117
           (List._∷_
-          110
+          116
           (List._∷_
-          105
+          99
           (List._∷_
-          115
+          111
           (List._∷_
-          104
+          109
+          (List._∷_
+          101
           (List._∷_
           58
           (List._∷_
@@ -4220,24 +4294,26 @@ t12 = List._∷_ (0, Rows'.any-gone Syntax.tyUnit) (List._∷_ (
           117
           (List._∷_
           116
-          (List._∷_ 99 (List._∷_ 111 (List._∷_ 109 (List._∷_ 101 List.[])))))))))))))))
+          (List._∷_ 99 (List._∷_ 111 (List._∷_ 109 (List._∷_ 101 List.[]))))))))))))))))
           (Syntax.tcons
           (Syntax.tyStruct
           (List._∷_
-          102
+          111
           (List._∷_
-          105
+          117
           (List._∷_
-          110
+          116
           (List._∷_
-          105
+          99
           (List._∷_
-          115
+          111
           (List._∷_
-          104
+          109
+          (List._∷_
+          101
           (List._∷_
           58
-          (List._∷_ 58 (List._∷_ 83 (List._∷_ 101 (List._∷_ 110 (List._∷_ 116 List.[]))))))))))))
+          (List._∷_ 58 (List._∷_ 83 (List._∷_ 101 (List._∷_ 110 (List._∷_ 116 List.[])))))))))))))
           (Syntax.tcons
           (Syntax.tyStruct
           (List._∷_
@@ -4300,20 +4376,22 @@ t12 = List._∷_ (0, Rows'.any-gone Syntax.tyUnit) (List._∷_ (
           (Syntax.tcons
           (Syntax.tyStruct
           (List._∷_
-          102
+          111
           (List._∷_
-          105
+          117
           (List._∷_
-          110
+          116
           (List._∷_
-          105
+          99
           (List._∷_
-          115
+          111
           (List._∷_
-          104
+          109
+          (List._∷_
+          101
           (List._∷_
           58
-          (List._∷_ 58 (List._∷_ 83 (List._∷_ 101 (List._∷_ 110 (List._∷_ 116 List.[]))))))))))))
+          (List._∷_ 58 (List._∷_ 83 (List._∷_ 101 (List._∷_ 110 (List._∷_ 116 List.[])))))))))))))
           (Syntax.tcons
           (Syntax.tyStruct
           (List._∷_
@@ -4496,17 +4574,19 @@ t13 = List._∷_ (0, Rows'.any-gone Syntax.tyUnit) (List._∷_ (
       Rows'.any-gone
           (Syntax.tyStruct
           (List._∷_
-          102
+          111
           (List._∷_
-          105
+          117
           (List._∷_
-          110
+          116
           (List._∷_
-          105
+          99
           (List._∷_
-          115
+          111
           (List._∷_
-          104
+          109
+          (List._∷_
+          101
           (List._∷_
           58
           (List._∷_
@@ -4517,24 +4597,26 @@ t13 = List._∷_ (0, Rows'.any-gone Syntax.tyUnit) (List._∷_ (
           117
           (List._∷_
           116
-          (List._∷_ 99 (List._∷_ 111 (List._∷_ 109 (List._∷_ 101 List.[])))))))))))))))
+          (List._∷_ 99 (List._∷_ 111 (List._∷_ 109 (List._∷_ 101 List.[]))))))))))))))))
           (Syntax.tcons
           (Syntax.tyStruct
           (List._∷_
-          102
+          111
           (List._∷_
-          105
+          117
           (List._∷_
-          110
+          116
           (List._∷_
-          105
+          99
           (List._∷_
-          115
+          111
           (List._∷_
-          104
+          109
+          (List._∷_
+          101
           (List._∷_
           58
-          (List._∷_ 58 (List._∷_ 83 (List._∷_ 101 (List._∷_ 110 (List._∷_ 116 List.[]))))))))))))
+          (List._∷_ 58 (List._∷_ 83 (List._∷_ 101 (List._∷_ 110 (List._∷_ 116 List.[])))))))))))))
           (Syntax.tcons
           (Syntax.tyStruct
           (List._∷_
@@ -4597,20 +4679,22 @@ t13 = List._∷_ (0, Rows'.any-gone Syntax.tyUnit) (List._∷_ (
           (Syntax.tcons
           (Syntax.tyStruct
           (List._∷_
-          102
+          111
           (List._∷_
-          105
+          117
           (List._∷_
-          110
+          116
           (List._∷_
-          105
+          99
           (List._∷_
-          115
+          111
           (List._∷_
-          104
+          109
+          (List._∷_
+          101
           (List._∷_
           58
-          (List._∷_ 58 (List._∷_ 83 (List._∷_ 101 (List._∷_ 110 (List._∷_ 116 List.[]))))))))))))
+          (List._∷_ 58 (List._∷_ 83 (List._∷_ 101 (List._∷_ 110 (List._∷_ 116 List.[])))))))))))))
           (Syntax.tcons
           (Syntax.tyStruct
           (List._∷_
@@ -4793,17 +4877,19 @@ t14 = List._∷_ (0, Rows'.any-gone Syntax.tyUnit) (List._∷_ (
       Rows'.any-gone
           (Syntax.tyStruct
           (List._∷_
-          102
+          111
           (List._∷_
-          105
+          117
           (List._∷_
-          110
+          116
           (List._∷_
-          105
+          99
           (List._∷_
-          115
+          111
           (List._∷_
-          104
+          109
+          (List._∷_
+          101
           (List._∷_
           58
           (List._∷_
@@ -4814,24 +4900,26 @@ t14 = List._∷_ (0, Rows'.any-gone Syntax.tyUnit) (List._∷_ (
           117
           (List._∷_
           116
-          (List._∷_ 99 (List._∷_ 111 (List._∷_ 109 (List._∷_ 101 List.[])))))))))))))))
+          (List._∷_ 99 (List._∷_ 111 (List._∷_ 109 (List._∷_ 101 List.[]))))))))))))))))
           (Syntax.tcons
           (Syntax.tyStruct
           (List._∷_
-          102
+          111
           (List._∷_
-          105
+          117
           (List._∷_
-          110
+          116
           (List._∷_
-          105
+          99
           (List._∷_
-          115
+          111
           (List._∷_
-          104
+          109
+          (List._∷_
+          101
           (List._∷_
           58
-          (List._∷_ 58 (List._∷_ 83 (List._∷_ 101 (List._∷_ 110 (List._∷_ 116 List.[]))))))))))))
+          (List._∷_ 58 (List._∷_ 83 (List._∷_ 101 (List._∷_ 110 (List._∷_ 116 List.[])))))))))))))
           (Syntax.tcons
           (Syntax.tyStruct
           (List._∷_
@@ -4894,20 +4982,22 @@ t14 = List._∷_ (0, Rows'.any-gone Syntax.tyUnit) (List._∷_ (
           (Syntax.tcons
           (Syntax.tyStruct
           (List._∷_
-          102
+          111
           (List._∷_
-          105
+          117
           (List._∷_
-          110
+          116
           (List._∷_
-          105
+          99
           (List._∷_
-          115
+          111
           (List._∷_
-          104
+          109
+          (List._∷_
+          101
           (List._∷_
           58
-          (List._∷_ 58 (List._∷_ 83 (List._∷_ 101 (List._∷_ 110 (List._∷_ 116 List.[]))))))))))))
+          (List._∷_ 58 (List._∷_ 83 (List._∷_ 101 (List._∷_ 110 (List._∷_ 116 List.[])))))))))))))
           (Syntax.tcons
           (Syntax.tyStruct
           (List._∷_
@@ -5090,17 +5180,19 @@ t15 = List._∷_ (0, Rows'.any-gone Syntax.tyUnit) (List._∷_ (
       Rows'.any-gone
           (Syntax.tyStruct
           (List._∷_
-          102
+          111
           (List._∷_
-          105
+          117
           (List._∷_
-          110
+          116
           (List._∷_
-          105
+          99
           (List._∷_
-          115
+          111
           (List._∷_
-          104
+          109
+          (List._∷_
+          101
           (List._∷_
           58
           (List._∷_
@@ -5111,24 +5203,26 @@ t15 = List._∷_ (0, Rows'.any-gone Syntax.tyUnit) (List._∷_ (
           117
           (List._∷_
           116
-          (List._∷_ 99 (List._∷_ 111 (List._∷_ 109 (List._∷_ 101 List.[])))))))))))))))
+          (List._∷_ 99 (List._∷_ 111 (List._∷_ 109 (List._∷_ 101 List.[]))))))))))))))))
           (Syntax.tcons
           (Syntax.tyStruct
           (List._∷_
-          102
+          111
           (List._∷_
-          105
+          117
           (List._∷_
-          110
+          116
           (List._∷_
-          105
+          99
           (List._∷_
-          115
+          111
           (List._∷_
-          104
+          109
+          (List._∷_
+          101
           (List._∷_
           58
-          (List._∷_ 58 (List._∷_ 83 (List._∷_ 101 (List._∷_ 110 (List._∷_ 116 List.[]))))))))))))
+          (List._∷_ 58 (List._∷_ 83 (List._∷_ 101 (List._∷_ 110 (List._∷_ 116 List.[])))))))))))))
           (Syntax.tcons
           (Syntax.tyStruct
           (List._∷_
@@ -5191,20 +5285,22 @@ t15 = List._∷_ (0, Rows'.any-gone Syntax.tyUnit) (List._∷_ (
           (Syntax.tcons
           (Syntax.tyStruct
           (List._∷_
-          102
+          111
           (List._∷_
-          105
+          117
           (List._∷_
-          110
+          116
           (List._∷_
-          105
+          99
           (List._∷_
-          115
+          111
           (List._∷_
-          104
+          109
+          (List._∷_
+          101
           (List._∷_
           58
-          (List._∷_ 58 (List._∷_ 83 (List._∷_ 101 (List._∷_ 110 (List._∷_ 116 List.[]))))))))))))
+          (List._∷_ 58 (List._∷_ 83 (List._∷_ 101 (List._∷_ 110 (List._∷_ 116 List.[])))))))))))))
           (Syntax.tcons
           (Syntax.tyStruct
           (List._∷_
@@ -5389,17 +5485,19 @@ t16 = List._∷_ (0, Rows'.any-gone Syntax.tyUnit) (List._∷_ (
       Rows'.any-gone
           (Syntax.tyStruct
           (List._∷_
-          102
+          111
           (List._∷_
-          105
+          117
           (List._∷_
-          110
+          116
           (List._∷_
-          105
+          99
           (List._∷_
-          115
+          111
           (List._∷_
-          104
+          109
+          (List._∷_
+          101
           (List._∷_
           58
           (List._∷_
@@ -5410,24 +5508,26 @@ t16 = List._∷_ (0, Rows'.any-gone Syntax.tyUnit) (List._∷_ (
           117
           (List._∷_
           116
-          (List._∷_ 99 (List._∷_ 111 (List._∷_ 109 (List._∷_ 101 List.[])))))))))))))))
+          (List._∷_ 99 (List._∷_ 111 (List._∷_ 109 (List._∷_ 101 List.[]))))))))))))))))
           (Syntax.tcons
           (Syntax.tyStruct
           (List._∷_
-          102
+          111
           (List._∷_
-          105
+          117
           (List._∷_
-          110
+          116
           (List._∷_
-          105
+          99
           (List._∷_
-          115
+          111
           (List._∷_
-          104
+          109
+          (List._∷_
+          101
           (List._∷_
           58
-          (List._∷_ 58 (List._∷_ 83 (List._∷_ 101 (List._∷_ 110 (List._∷_ 116 List.[]))))))))))))
+          (List._∷_ 58 (List._∷_ 83 (List._∷_ 101 (List._∷_ 110 (List._∷_ 116 List.[])))))))))))))
           (Syntax.tcons
           (Syntax.tyStruct
           (List._∷_
@@ -5490,20 +5590,22 @@ t16 = List._∷_ (0, Rows'.any-gone Syntax.tyUnit) (List._∷_ (
           (Syntax.tcons
           (Syntax.tyStruct
           (List._∷_
-          102
+          111
           (List._∷_
-          105
+          117
           (List._∷_
-          110
+          116
           (List._∷_
-          105
+          99
           (List._∷_
-          115
+          111
           (List._∷_
-          104
+          109
+          (List._∷_
+          101
           (List._∷_
           58
-          (List._∷_ 58 (List._∷_ 83 (List._∷_ 101 (List._∷_ 110 (List._∷_ 116 List.[]))))))))))))
+          (List._∷_ 58 (List._∷_ 83 (List._∷_ 101 (List._∷_ 110 (List._∷_ 116 List.[])))))))))))))
           (Syntax.tcons
           (Syntax.tyStruct
           (List._∷_
@@ -5684,17 +5786,19 @@ t17 = List._∷_ (0, Rows'.any-gone Syntax.tyUnit) (List._∷_ (
       Rows'.any-gone
           (Syntax.tyStruct
           (List._∷_
-          102
+          111
           (List._∷_
-          105
+          117
           (List._∷_
-          110
+          116
           (List._∷_
-          105
+          99
           (List._∷_
-          115
+          111
           (List._∷_
-          104
+          109
+          (List._∷_
+          101
           (List._∷_
           58
           (List._∷_
@@ -5705,24 +5809,26 @@ t17 = List._∷_ (0, Rows'.any-gone Syntax.tyUnit) (List._∷_ (
           117
           (List._∷_
           116
-          (List._∷_ 99 (List._∷_ 111 (List._∷_ 109 (List._∷_ 101 List.[])))))))))))))))
+          (List._∷_ 99 (List._∷_ 111 (List._∷_ 109 (List._∷_ 101 List.[]))))))))))))))))
           (Syntax.tcons
           (Syntax.tyStruct
           (List._∷_
-          102
+          111
           (List._∷_
-          105
+          117
           (List._∷_
-          110
+          116
           (List._∷_
-          105
+          99
           (List._∷_
-          115
+          111
           (List._∷_
-          104
+          109
+          (List._∷_
+          101
           (List._∷_
           58
-          (List._∷_ 58 (List._∷_ 83 (List._∷_ 101 (List._∷_ 110 (List._∷_ 116 List.[]))))))))))))
+          (List._∷_ 58 (List._∷_ 83 (List._∷_ 101 (List._∷_ 110 (List._∷_ 116 List.[])))))))))))))
           (Syntax.tcons
           (Syntax.tyStruct
           (List._∷_
@@ -5785,20 +5891,22 @@ t17 = List._∷_ (0, Rows'.any-gone Syntax.tyUnit) (List._∷_ (
           (Syntax.tcons
           (Syntax.tyStruct
           (List._∷_
-          102
+          111
           (List._∷_
-          105
+          117
           (List._∷_
-          110
+          116
           (List._∷_
-          105
+          99
           (List._∷_
-          115
+          111
           (List._∷_
-          104
+          109
+          (List._∷_
+          101
           (List._∷_
           58
-          (List._∷_ 58 (List._∷_ 83 (List._∷_ 101 (List._∷_ 110 (List._∷_ 116 List.[]))))))))))))
+          (List._∷_ 58 (List._∷_ 83 (List._∷_ 101 (List._∷_ 110 (List._∷_ 116 List.[])))))))))))))
           (Syntax.tcons
           (Syntax.tyStruct
           (List._∷_
@@ -5981,17 +6089,19 @@ t18 = List._∷_ (0, Rows'.any-gone Syntax.tyUnit) (List._∷_ (
       Rows'.any-gone
           (Syntax.tyStruct
           (List._∷_
-          102
+          111
           (List._∷_
-          105
+          117
           (List._∷_
-          110
+          116
           (List._∷_
-          105
+          99
           (List._∷_
-          115
+          111
           (List._∷_
-          104
+          109
+          (List._∷_
+          101
           (List._∷_
           58
           (List._∷_
@@ -6002,24 +6112,26 @@ t18 = List._∷_ (0, Rows'.any-gone Syntax.tyUnit) (List._∷_ (
           117
           (List._∷_
           116
-          (List._∷_ 99 (List._∷_ 111 (List._∷_ 109 (List._∷_ 101 List.[])))))))))))))))
+          (List._∷_ 99 (List._∷_ 111 (List._∷_ 109 (List._∷_ 101 List.[]))))))))))))))))
           (Syntax.tcons
           (Syntax.tyStruct
           (List._∷_
-          102
+          111
           (List._∷_
-          105
+          117
           (List._∷_
-          110
+          116
           (List._∷_
-          105
+          99
           (List._∷_
-          115
+          111
           (List._∷_
-          104
+          109
+          (List._∷_
+          101
           (List._∷_
           58
-          (List._∷_ 58 (List._∷_ 83 (List._∷_ 101 (List._∷_ 110 (List._∷_ 116 List.[]))))))))))))
+          (List._∷_ 58 (List._∷_ 83 (List._∷_ 101 (List._∷_ 110 (List._∷_ 116 List.[])))))))))))))
           (Syntax.tcons
           (Syntax.tyStruct
           (List._∷_
@@ -6082,20 +6194,22 @@ t18 = List._∷_ (0, Rows'.any-gone Syntax.tyUnit) (List._∷_ (
           (Syntax.tcons
           (Syntax.tyStruct
           (List._∷_
-          102
+          111
           (List._∷_
-          105
+          117
           (List._∷_
-          110
+          116
           (List._∷_
-          105
+          99
           (List._∷_
-          115
+          111
           (List._∷_
-          104
+          109
+          (List._∷_
+          101
           (List._∷_
           58
-          (List._∷_ 58 (List._∷_ 83 (List._∷_ 101 (List._∷_ 110 (List._∷_ 116 List.[]))))))))))))
+          (List._∷_ 58 (List._∷_ 83 (List._∷_ 101 (List._∷_ 110 (List._∷_ 116 List.[])))))))))))))
           (Syntax.tcons
           (Syntax.tyStruct
           (List._∷_
@@ -6274,17 +6388,19 @@ t19 = List._∷_ (0, Rows'.any-gone Syntax.tyUnit) (List._∷_ (
       Rows'.any-gone
           (Syntax.tyStruct
           (List._∷_
-          102
+          111
           (List._∷_
-          105
+          117
           (List._∷_
-          110
+          116
           (List._∷_
-          105
+          99
           (List._∷_
-          115
+          111
           (List._∷_
-          104
+          109
+          (List._∷_
+          101
           (List._∷_
           58
           (List._∷_
@@ -6295,24 +6411,26 @@ t19 = List._∷_ (0, Rows'.any-gone Syntax.tyUnit) (List._∷_ (
           117
           (List._∷_
           116
-          (List._∷_ 99 (List._∷_ 111 (List._∷_ 109 (List._∷_ 101 List.[])))))))))))))))
+          (List._∷_ 99 (List._∷_ 111 (List._∷_ 109 (List._∷_ 101 List.[]))))))))))))))))
           (Syntax.tcons
           (Syntax.tyStruct
           (List._∷_
-          102
+          111
           (List._∷_
-          105
+          117
           (List._∷_
-          110
+          116
           (List._∷_
-          105
+          99
           (List._∷_
-          115
+          111
           (List._∷_
-          104
+          109
+          (List._∷_
+          101
           (List._∷_
           58
-          (List._∷_ 58 (List._∷_ 83 (List._∷_ 101 (List._∷_ 110 (List._∷_ 116 List.[]))))))))))))
+          (List._∷_ 58 (List._∷_ 83 (List._∷_ 101 (List._∷_ 110 (List._∷_ 116 List.[])))))))))))))
           (Syntax.tcons
           (Syntax.tyStruct
           (List._∷_
@@ -6375,20 +6493,22 @@ t19 = List._∷_ (0, Rows'.any-gone Syntax.tyUnit) (List._∷_ (
           (Syntax.tcons
           (Syntax.tyStruct
           (List._∷_
-          102
+          111
           (List._∷_
-          105
+          117
           (List._∷_
-          110
+          116
           (List._∷_
-          105
+          99
           (List._∷_
-          115
+          111
           (List._∷_
-          104
+          109
+          (List._∷_
+          101
           (List._∷_
           58
-          (List._∷_ 58 (List._∷_ 83 (List._∷_ 101 (List._∷_ 110 (List._∷_ 116 List.[]))))))))))))
+          (List._∷_ 58 (List._∷_ 83 (List._∷_ 101 (List._∷_ 110 (List._∷_ 116 List.[])))))))))))))
           (Syntax.tcons
           (Syntax.tyStruct
           (List._∷_
@@ -6569,17 +6689,19 @@ t20 = List._∷_ (0, Rows'.any-gone Syntax.tyUnit) (List._∷_ (
       Rows'.any-gone
           (Syntax.tyStruct
           (List._∷_
-          102
+          111
           (List._∷_
-          105
+          117
           (List._∷_
-          110
+          116
           (List._∷_
-          105
+          99
           (List._∷_
-          115
+          111
           (List._∷_
-          104
+          109
+          (List._∷_
+          101
           (List._∷_
           58
           (List._∷_
@@ -6590,24 +6712,26 @@ t20 = List._∷_ (0, Rows'.any-gone Syntax.tyUnit) (List._∷_ (
           117
           (List._∷_
           116
-          (List._∷_ 99 (List._∷_ 111 (List._∷_ 109 (List._∷_ 101 List.[])))))))))))))))
+          (List._∷_ 99 (List._∷_ 111 (List._∷_ 109 (List._∷_ 101 List.[]))))))))))))))))
           (Syntax.tcons
           (Syntax.tyStruct
           (List._∷_
-          102
+          111
           (List._∷_
-          105
+          117
           (List._∷_
-          110
+          116
           (List._∷_
-          105
+          99
           (List._∷_
-          115
+          111
           (List._∷_
-          104
+          109
+          (List._∷_
+          101
           (List._∷_
           58
-          (List._∷_ 58 (List._∷_ 83 (List._∷_ 101 (List._∷_ 110 (List._∷_ 116 List.[]))))))))))))
+          (List._∷_ 58 (List._∷_ 83 (List._∷_ 101 (List._∷_ 110 (List._∷_ 116 List.[])))))))))))))
           (Syntax.tcons
           (Syntax.tyStruct
           (List._∷_
@@ -6670,20 +6794,22 @@ t20 = List._∷_ (0, Rows'.any-gone Syntax.tyUnit) (List._∷_ (
           (Syntax.tcons
           (Syntax.tyStruct
           (List._∷_
-          102
+          111
           (List._∷_
-          105
+          117
           (List._∷_
-          110
+          116
           (List._∷_
-          105
+          99
           (List._∷_
-          115
+          111
           (List._∷_
-          104
+          109
+          (List._∷_
+          101
           (List._∷_
           58
-          (List._∷_ 58 (List._∷_ 83 (List._∷_ 101 (List._∷_ 110 (List._∷_ 116 List.[]))))))))))))
+          (List._∷_ 58 (List._∷_ 83 (List._∷_ 101 (List._∷_ 110 (List._∷_ 116 List.[])))))))))))))
           (Syntax.tcons
           (Syntax.tyStruct
           (List._∷_
@@ -6860,17 +6986,19 @@ t21 = List._∷_ (0, Rows'.any-gone Syntax.tyUnit) (List._∷_ (
       Rows'.any-gone
           (Syntax.tyStruct
           (List._∷_
-          102
+          111
           (List._∷_
-          105
+          117
           (List._∷_
-          110
+          116
           (List._∷_
-          105
+          99
           (List._∷_
-          115
+          111
           (List._∷_
-          104
+          109
+          (List._∷_
+          101
           (List._∷_
           58
           (List._∷_
@@ -6881,24 +7009,26 @@ t21 = List._∷_ (0, Rows'.any-gone Syntax.tyUnit) (List._∷_ (
           117
           (List._∷_
           116
-          (List._∷_ 99 (List._∷_ 111 (List._∷_ 109 (List._∷_ 101 List.[])))))))))))))))
+          (List._∷_ 99 (List._∷_ 111 (List._∷_ 109 (List._∷_ 101 List.[]))))))))))))))))
           (Syntax.tcons
           (Syntax.tyStruct
           (List._∷_
-          102
+          111
           (List._∷_
-          105
+          117
           (List._∷_
-          110
+          116
           (List._∷_
-          105
+          99
           (List._∷_
-          115
+          111
           (List._∷_
-          104
+          109
+          (List._∷_
+          101
           (List._∷_
           58
-          (List._∷_ 58 (List._∷_ 83 (List._∷_ 101 (List._∷_ 110 (List._∷_ 116 List.[]))))))))))))
+          (List._∷_ 58 (List._∷_ 83 (List._∷_ 101 (List._∷_ 110 (List._∷_ 116 List.[])))))))))))))
           (Syntax.tcons
           (Syntax.tyStruct
           (List._∷_
@@ -6961,20 +7091,22 @@ t21 = List._∷_ (0, Rows'.any-gone Syntax.tyUnit) (List._∷_ (
           (Syntax.tcons
           (Syntax.tyStruct
           (List._∷_
-          102
+          111
           (List._∷_
-          105
+          117
           (List._∷_
-          110
+          116
           (List._∷_
-          105
+          99
           (List._∷_
-          115
+          111
           (List._∷_
-          104
+          109
+          (List._∷_
+          101
           (List._∷_
           58
-          (List._∷_ 58 (List._∷_ 83 (List._∷_ 101 (List._∷_ 110 (List._∷_ 116 List.[]))))))))))))
+          (List._∷_ 58 (List._∷_ 83 (List._∷_ 101 (List._∷_ 110 (List._∷_ 116 List.[])))))))))))))
           (Syntax.tcons
           (Syntax.tyStruct
           (List._∷_
@@ -8685,17 +8817,19 @@ t45 = List._∷_ (0, Rows'.any-gone Syntax.tyUnit) (List._∷_ (
       Rows'.any-gone
           (Syntax.tyStruct
           (List._∷_
-          102
+          111
           (List._∷_
-          105
+          117
           (List._∷_
-          110
+          116
           (List._∷_
-          105
+          99
           (List._∷_
-          115
+          111
           (List._∷_
-          104
+          109
+          (List._∷_
+          101
           (List._∷_
           58
           (List._∷_
@@ -8706,24 +8840,26 @@ t45 = List._∷_ (0, Rows'.any-gone Syntax.tyUnit) (List._∷_ (
           117
           (List._∷_
           116
-          (List._∷_ 99 (List._∷_ 111 (List._∷_ 109 (List._∷_ 101 List.[])))))))))))))))
+          (List._∷_ 99 (List._∷_ 111 (List._∷_ 109 (List._∷_ 101 List.[]))))))))))))))))
           (Syntax.tcons
           (Syntax.tyStruct
           (List._∷_
-          102
+          111
           (List._∷_
-          105
+          117
           (List._∷_
-          110
+          116
           (List._∷_
-          105
+          99
           (List._∷_
-          115
+          111
           (List._∷_
-          104
+          109
+          (List._∷_
+          101
           (List._∷_
           58
-          (List._∷_ 58 (List._∷_ 83 (List._∷_ 101 (List._∷_ 110 (List._∷_ 116 List.[]))))))))))))
+          (List._∷_ 58 (List._∷_ 83 (List._∷_ 101 (List._∷_ 110 (List._∷_ 116 List.[])))))))))))))
           (Syntax.tcons
           (Syntax.tyStruct
           (List._∷_
@@ -8786,20 +8922,22 @@ t45 = List._∷_ (0, Rows'.any-gone Syntax.tyUnit) (List._∷_ (
           (Syntax.tcons
           (Syntax.tyStruct
           (List._∷_
-          102
+          111
           (List._∷_
-          105
+          117
           (List._∷_
-          110
+          116
           (List._∷_
-          105
+          99
           (List._∷_
-          115
+          111
           (List._∷_
-          104
+          109
+          (List._∷_
+          101
           (List._∷_
           58
-          (List._∷_ 58 (List._∷_ 83 (List._∷_ 101 (List._∷_ 110 (List._∷_ 116 List.[]))))))))))))
+          (List._∷_ 58 (List._∷_ 83 (List._∷_ 101 (List._∷_ 110 (List._∷_ 116 List.[])))))))))))))
           (Syntax.tcons
           (Syntax.tyStruct
           (List._∷_
@@ -8982,17 +9120,19 @@ t46 = List._∷_ (0, Rows'.any-gone Syntax.tyUnit) (List._∷_ (
       Rows'.any-gone
           (Syntax.tyStruct
           (List._∷_
-          102
+          111
           (List._∷_
-          105
+          117
           (List._∷_
-          110
+          116
           (List._∷_
-          105
+          99
           (List._∷_
-          115
+          111
           (List._∷_
-          104
+          109
+          (List._∷_
+          101
           (List._∷_
           58
           (List._∷_
@@ -9003,24 +9143,26 @@ t46 = List._∷_ (0, Rows'.any-gone Syntax.tyUnit) (List._∷_ (
           117
           (List._∷_
           116
-          (List._∷_ 99 (List._∷_ 111 (List._∷_ 109 (List._∷_ 101 List.[])))))))))))))))
+          (List._∷_ 99 (List._∷_ 111 (List._∷_ 109 (List._∷_ 101 List.[]))))))))))))))))
           (Syntax.tcons
           (Syntax.tyStruct
           (List._∷_
-          102
+          111
           (List._∷_
-          105
+          117
           (List._∷_
-          110
+          116
           (List._∷_
-          105
+          99
           (List._∷_
-          115
+          111
           (List._∷_
-          104
+          109
+          (List._∷_
+          101
           (List._∷_
           58
-          (List._∷_ 58 (List._∷_ 83 (List._∷_ 101 (List._∷_ 110 (List._∷_ 116 List.[]))))))))))))
+          (List._∷_ 58 (List._∷_ 83 (List._∷_ 101 (List._∷_ 110 (List._∷_ 116 List.[])))))))))))))
           (Syntax.tcons
           (Syntax.tyStruct
           (List._∷_
@@ -9083,20 +9225,22 @@ t46 = List._∷_ (0, Rows'.any-gone Syntax.tyUnit) (List._∷_ (
           (Syntax.tcons
           (Syntax.tyStruct
           (List._∷_
-          102
+          111
           (List._∷_
-          105
+          117
           (List._∷_
-          110
+          116
           (List._∷_
-          105
+          99
           (List._∷_
-          115
+          111
           (List._∷_
-          104
+          109
+          (List._∷_
+          101
           (List._∷_
           58
-          (List._∷_ 58 (List._∷_ 83 (List._∷_ 101 (List._∷_ 110 (List._∷_ 116 List.[]))))))))))))
+          (List._∷_ 58 (List._∷_ 83 (List._∷_ 101 (List._∷_ 110 (List._∷_ 116 List.[])))))))))))))
           (Syntax.tcons
           (Syntax.tyStruct
           (List._∷_
@@ -9279,17 +9423,19 @@ t47 = List._∷_ (0, Rows'.any-gone Syntax.tyUnit) (List._∷_ (
       Rows'.any-gone
           (Syntax.tyStruct
           (List._∷_
-          102
+          111
           (List._∷_
-          105
+          117
           (List._∷_
-          110
+          116
           (List._∷_
-          105
+          99
           (List._∷_
-          115
+          111
           (List._∷_
-          104
+          109
+          (List._∷_
+          101
           (List._∷_
           58
           (List._∷_
@@ -9300,24 +9446,26 @@ t47 = List._∷_ (0, Rows'.any-gone Syntax.tyUnit) (List._∷_ (
           117
           (List._∷_
           116
-          (List._∷_ 99 (List._∷_ 111 (List._∷_ 109 (List._∷_ 101 List.[])))))))))))))))
+          (List._∷_ 99 (List._∷_ 111 (List._∷_ 109 (List._∷_ 101 List.[]))))))))))))))))
           (Syntax.tcons
           (Syntax.tyStruct
           (List._∷_
-          102
+          111
           (List._∷_
-          105
+          117
           (List._∷_
-          110
+          116
           (List._∷_
-          105
+          99
           (List._∷_
-          115
+          111
           (List._∷_
-          104
+          109
+          (List._∷_
+          101
           (List._∷_
           58
-          (List._∷_ 58 (List._∷_ 83 (List._∷_ 101 (List._∷_ 110 (List._∷_ 116 List.[]))))))))))))
+          (List._∷_ 58 (List._∷_ 83 (List._∷_ 101 (List._∷_ 110 (List._∷_ 116 List.[])))))))))))))
           (Syntax.tcons
           (Syntax.tyStruct
           (List._∷_
@@ -9380,20 +9528,22 @@ t47 = List._∷_ (0, Rows'.any-gone Syntax.tyUnit) (List._∷_ (
           (Syntax.tcons
           (Syntax.tyStruct
           (List._∷_
-          102
+          111
           (List._∷_
-          105
+          117
           (List._∷_
-          110
+          116
           (List._∷_
-          105
+          99
           (List._∷_
-          115
+          111
           (List._∷_
-          104
+          109
+          (List._∷_
+          101
           (List._∷_
           58
-          (List._∷_ 58 (List._∷_ 83 (List._∷_ 101 (List._∷_ 110 (List._∷_ 116 List.[]))))))))))))
+          (List._∷_ 58 (List._∷_ 83 (List._∷_ 101 (List._∷_ 110 (List._∷_ 116 List.[])))))))))))))
           (Syntax.tcons
           (Syntax.tyStruct
           (List._∷_
@@ -9576,17 +9726,19 @@ t48 = List._∷_ (0, Rows'.any-gone Syntax.tyUnit) (List._∷_ (
       Rows'.any-gone
           (Syntax.tyStruct
           (List._∷_
-          102
+          111
           (List._∷_
-          105
+          117
           (List._∷_
-          110
+          116
           (List._∷_
-          105
+          99
           (List._∷_
-          115
+          111
           (List._∷_
-          104
+          109
+          (List._∷_
+          101
           (List._∷_
           58
           (List._∷_
@@ -9597,24 +9749,26 @@ t48 = List._∷_ (0, Rows'.any-gone Syntax.tyUnit) (List._∷_ (
           117
           (List._∷_
           116
-          (List._∷_ 99 (List._∷_ 111 (List._∷_ 109 (List._∷_ 101 List.[])))))))))))))))
+          (List._∷_ 99 (List._∷_ 111 (List._∷_ 109 (List._∷_ 101 List.[]))))))))))))))))
           (Syntax.tcons
           (Syntax.tyStruct
           (List._∷_
-          102
+          111
           (List._∷_
-          105
+          117
           (List._∷_
-          110
+          116
           (List._∷_
-          105
+          99
           (List._∷_
-          115
+          111
           (List._∷_
-          104
+          109
+          (List._∷_
+          101
           (List._∷_
           58
-          (List._∷_ 58 (List._∷_ 83 (List._∷_ 101 (List._∷_ 110 (List._∷_ 116 List.[]))))))))))))
+          (List._∷_ 58 (List._∷_ 83 (List._∷_ 101 (List._∷_ 110 (List._∷_ 116 List.[])))))))))))))
           (Syntax.tcons
           (Syntax.tyStruct
           (List._∷_
@@ -9677,20 +9831,22 @@ t48 = List._∷_ (0, Rows'.any-gone Syntax.tyUnit) (List._∷_ (
           (Syntax.tcons
           (Syntax.tyStruct
           (List._∷_
-          102
+          111
           (List._∷_
-          105
+          117
           (List._∷_
-          110
+          116
           (List._∷_
-          105
+          99
           (List._∷_
-          115
+          111
           (List._∷_
-          104
+          109
+          (List._∷_
+          101
           (List._∷_
           58
-          (List._∷_ 58 (List._∷_ 83 (List._∷_ 101 (List._∷_ 110 (List._∷_ 116 List.[]))))))))))))
+          (List._∷_ 58 (List._∷_ 83 (List._∷_ 101 (List._∷_ 110 (List._∷_ 116 List.[])))))))))))))
           (Syntax.tcons
           (Syntax.tyStruct
           (List._∷_
@@ -9873,17 +10029,19 @@ t49 = List._∷_ (0, Rows'.sc-here Row.sUnit) (List._∷_ (
       Rows'.any-gone
           (Syntax.tyStruct
           (List._∷_
-          102
+          111
           (List._∷_
-          105
+          117
           (List._∷_
-          110
+          116
           (List._∷_
-          105
+          99
           (List._∷_
-          115
+          111
           (List._∷_
-          104
+          109
+          (List._∷_
+          101
           (List._∷_
           58
           (List._∷_
@@ -9894,24 +10052,26 @@ t49 = List._∷_ (0, Rows'.sc-here Row.sUnit) (List._∷_ (
           117
           (List._∷_
           116
-          (List._∷_ 99 (List._∷_ 111 (List._∷_ 109 (List._∷_ 101 List.[])))))))))))))))
+          (List._∷_ 99 (List._∷_ 111 (List._∷_ 109 (List._∷_ 101 List.[]))))))))))))))))
           (Syntax.tcons
           (Syntax.tyStruct
           (List._∷_
-          102
+          111
           (List._∷_
-          105
+          117
           (List._∷_
-          110
+          116
           (List._∷_
-          105
+          99
           (List._∷_
-          115
+          111
           (List._∷_
-          104
+          109
+          (List._∷_
+          101
           (List._∷_
           58
-          (List._∷_ 58 (List._∷_ 83 (List._∷_ 101 (List._∷_ 110 (List._∷_ 116 List.[]))))))))))))
+          (List._∷_ 58 (List._∷_ 83 (List._∷_ 101 (List._∷_ 110 (List._∷_ 116 List.[])))))))))))))
           (Syntax.tcons
           (Syntax.tyStruct
           (List._∷_
@@ -9974,20 +10134,22 @@ t49 = List._∷_ (0, Rows'.sc-here Row.sUnit) (List._∷_ (
           (Syntax.tcons
           (Syntax.tyStruct
           (List._∷_
-          102
+          111
           (List._∷_
-          105
+          117
           (List._∷_
-          110
+          116
           (List._∷_
-          105
+          99
           (List._∷_
-          115
+          111
           (List._∷_
-          104
+          109
+          (List._∷_
+          101
           (List._∷_
           58
-          (List._∷_ 58 (List._∷_ 83 (List._∷_ 101 (List._∷_ 110 (List._∷_ 116 List.[]))))))))))))
+          (List._∷_ 58 (List._∷_ 83 (List._∷_ 101 (List._∷_ 110 (List._∷_ 116 List.[])))))))))))))
           (Syntax.tcons
           (Syntax.tyStruct
           (List._∷_
@@ -10630,17 +10792,19 @@ module _ (claims· : Claims) where
       (List._∷_ 1 (List._∷_ 2 (List._∷_ 3 (List._∷_ 4 (List._∷_ 0 List.[])))))
       (Syntax.tyStruct
       (List._∷_
-      102
+      111
       (List._∷_
-      105
+      117
       (List._∷_
-      110
+      116
       (List._∷_
-      105
+      99
       (List._∷_
-      115
+      111
       (List._∷_
-      104
+      109
+      (List._∷_
+      101
       (List._∷_
       58
       (List._∷_
@@ -10649,24 +10813,26 @@ module _ (claims· : Claims) where
       79
       (List._∷_
       117
-      (List._∷_ 116 (List._∷_ 99 (List._∷_ 111 (List._∷_ 109 (List._∷_ 101 List.[])))))))))))))))
+      (List._∷_ 116 (List._∷_ 99 (List._∷_ 111 (List._∷_ 109 (List._∷_ 101 List.[]))))))))))))))))
       (Syntax.tcons
       (Syntax.tyStruct
       (List._∷_
-      102
+      111
       (List._∷_
-      105
+      117
       (List._∷_
-      110
+      116
       (List._∷_
-      105
+      99
       (List._∷_
-      115
+      111
       (List._∷_
-      104
+      109
+      (List._∷_
+      101
       (List._∷_
       58
-      (List._∷_ 58 (List._∷_ 83 (List._∷_ 101 (List._∷_ 110 (List._∷_ 116 List.[]))))))))))))
+      (List._∷_ 58 (List._∷_ 83 (List._∷_ 101 (List._∷_ 110 (List._∷_ 116 List.[])))))))))))))
       (Syntax.tcons
       (Syntax.tyStruct
       (List._∷_
@@ -10729,20 +10895,22 @@ module _ (claims· : Claims) where
       (Syntax.tcons
       (Syntax.tyStruct
       (List._∷_
-      102
+      111
       (List._∷_
-      105
+      117
       (List._∷_
-      110
+      116
       (List._∷_
-      105
+      99
       (List._∷_
-      115
+      111
       (List._∷_
-      104
+      109
+      (List._∷_
+      101
       (List._∷_
       58
-      (List._∷_ 58 (List._∷_ 83 (List._∷_ 101 (List._∷_ 110 (List._∷_ 116 List.[]))))))))))))
+      (List._∷_ 58 (List._∷_ 83 (List._∷_ 101 (List._∷_ 110 (List._∷_ 116 List.[])))))))))))))
       (Syntax.tcons
       (Syntax.tyStruct
       (List._∷_
@@ -11063,17 +11231,19 @@ module _ (claims· : Claims) where
       7
       (Syntax.tyStruct
       (List._∷_
-      102
+      111
       (List._∷_
-      105
+      117
       (List._∷_
-      110
+      116
       (List._∷_
-      105
+      99
       (List._∷_
-      115
+      111
       (List._∷_
-      104
+      109
+      (List._∷_
+      101
       (List._∷_
       58
       (List._∷_
@@ -11082,24 +11252,26 @@ module _ (claims· : Claims) where
       79
       (List._∷_
       117
-      (List._∷_ 116 (List._∷_ 99 (List._∷_ 111 (List._∷_ 109 (List._∷_ 101 List.[])))))))))))))))
+      (List._∷_ 116 (List._∷_ 99 (List._∷_ 111 (List._∷_ 109 (List._∷_ 101 List.[]))))))))))))))))
       (Syntax.tcons
       (Syntax.tyStruct
       (List._∷_
-      102
+      111
       (List._∷_
-      105
+      117
       (List._∷_
-      110
+      116
       (List._∷_
-      105
+      99
       (List._∷_
-      115
+      111
       (List._∷_
-      104
+      109
+      (List._∷_
+      101
       (List._∷_
       58
-      (List._∷_ 58 (List._∷_ 83 (List._∷_ 101 (List._∷_ 110 (List._∷_ 116 List.[]))))))))))))
+      (List._∷_ 58 (List._∷_ 83 (List._∷_ 101 (List._∷_ 110 (List._∷_ 116 List.[])))))))))))))
       (Syntax.tcons
       (Syntax.tyStruct
       (List._∷_
@@ -11162,20 +11334,22 @@ module _ (claims· : Claims) where
       (Syntax.tcons
       (Syntax.tyStruct
       (List._∷_
-      102
+      111
       (List._∷_
-      105
+      117
       (List._∷_
-      110
+      116
       (List._∷_
-      105
+      99
       (List._∷_
-      115
+      111
       (List._∷_
-      104
+      109
+      (List._∷_
+      101
       (List._∷_
       58
-      (List._∷_ 58 (List._∷_ 83 (List._∷_ 101 (List._∷_ 110 (List._∷_ 116 List.[]))))))))))))
+      (List._∷_ 58 (List._∷_ 83 (List._∷_ 101 (List._∷_ 110 (List._∷_ 116 List.[])))))))))))))
       (Syntax.tcons
       (Syntax.tyStruct
       (List._∷_
@@ -12806,17 +12980,19 @@ module _ (claims· : Claims) where
               7
               (Syntax.tyStruct
               (List._∷_
-              102
+              111
               (List._∷_
-              105
+              117
               (List._∷_
-              110
+              116
               (List._∷_
-              105
+              99
               (List._∷_
-              115
+              111
               (List._∷_
-              104
+              109
+              (List._∷_
+              101
               (List._∷_
               58
               (List._∷_
@@ -12827,26 +13003,28 @@ module _ (claims· : Claims) where
               117
               (List._∷_
               116
-              (List._∷_ 99 (List._∷_ 111 (List._∷_ 109 (List._∷_ 101 List.[])))))))))))))))
+              (List._∷_ 99 (List._∷_ 111 (List._∷_ 109 (List._∷_ 101 List.[]))))))))))))))))
               (Syntax.tcons
               (Syntax.tyStruct
               (List._∷_
-              102
+              111
               (List._∷_
-              105
+              117
               (List._∷_
-              110
+              116
               (List._∷_
-              105
+              99
               (List._∷_
-              115
+              111
               (List._∷_
-              104
+              109
+              (List._∷_
+              101
               (List._∷_
               58
               (List._∷_
               58
-              (List._∷_ 83 (List._∷_ 101 (List._∷_ 110 (List._∷_ 116 List.[]))))))))))))
+              (List._∷_ 83 (List._∷_ 101 (List._∷_ 110 (List._∷_ 116 List.[])))))))))))))
               (Syntax.tcons
               (Syntax.tyStruct
               (List._∷_
@@ -12909,22 +13087,24 @@ module _ (claims· : Claims) where
               (Syntax.tcons
               (Syntax.tyStruct
               (List._∷_
-              102
+              111
               (List._∷_
-              105
+              117
               (List._∷_
-              110
+              116
               (List._∷_
-              105
+              99
               (List._∷_
-              115
+              111
               (List._∷_
-              104
+              109
+              (List._∷_
+              101
               (List._∷_
               58
               (List._∷_
               58
-              (List._∷_ 83 (List._∷_ 101 (List._∷_ 110 (List._∷_ 116 List.[]))))))))))))
+              (List._∷_ 83 (List._∷_ 101 (List._∷_ 110 (List._∷_ 116 List.[])))))))))))))
               (Syntax.tcons
               (Syntax.tyStruct
               (List._∷_
@@ -13047,17 +13227,19 @@ module _ (claims· : Claims) where
               (Declared.row Outcome.the-type)
               (Syntax.tyStruct
               (List._∷_
-              102
+              111
               (List._∷_
-              105
+              117
               (List._∷_
-              110
+              116
               (List._∷_
-              105
+              99
               (List._∷_
-              115
+              111
               (List._∷_
-              104
+              109
+              (List._∷_
+              101
               (List._∷_
               58
               (List._∷_
@@ -13068,26 +13250,28 @@ module _ (claims· : Claims) where
               117
               (List._∷_
               116
-              (List._∷_ 99 (List._∷_ 111 (List._∷_ 109 (List._∷_ 101 List.[])))))))))))))))
+              (List._∷_ 99 (List._∷_ 111 (List._∷_ 109 (List._∷_ 101 List.[]))))))))))))))))
               (Syntax.tcons
               (Syntax.tyStruct
               (List._∷_
-              102
+              111
               (List._∷_
-              105
+              117
               (List._∷_
-              110
+              116
               (List._∷_
-              105
+              99
               (List._∷_
-              115
+              111
               (List._∷_
-              104
+              109
+              (List._∷_
+              101
               (List._∷_
               58
               (List._∷_
               58
-              (List._∷_ 83 (List._∷_ 101 (List._∷_ 110 (List._∷_ 116 List.[]))))))))))))
+              (List._∷_ 83 (List._∷_ 101 (List._∷_ 110 (List._∷_ 116 List.[])))))))))))))
               (Syntax.tcons
               (Syntax.tyStruct
               (List._∷_
@@ -13150,22 +13334,24 @@ module _ (claims· : Claims) where
               (Syntax.tcons
               (Syntax.tyStruct
               (List._∷_
-              102
+              111
               (List._∷_
-              105
+              117
               (List._∷_
-              110
+              116
               (List._∷_
-              105
+              99
               (List._∷_
-              115
+              111
               (List._∷_
-              104
+              109
+              (List._∷_
+              101
               (List._∷_
               58
               (List._∷_
               58
-              (List._∷_ 83 (List._∷_ 101 (List._∷_ 110 (List._∷_ 116 List.[]))))))))))))
+              (List._∷_ 83 (List._∷_ 101 (List._∷_ 110 (List._∷_ 116 List.[])))))))))))))
               (Syntax.tcons
               (Syntax.tyStruct
               (List._∷_
@@ -13420,7 +13606,7 @@ module _ (claims· : Claims) where
                       (λ ρ. Unit)
                       (Declared.row Outcome.the-type)
                       Path'.refl
-                      (Copies.cStruct Outcome.the-type Laws.the-laws Laws.the-copy .copy 𝓤 H A W)
+                      (Copies.cStruct Outcome.the-type Laws'.the-laws Laws'.the-copy .copy 𝓤 H A W)
                       (Rows'.whole (Declared.row Outcome.the-type))
                       (λ x. x)
                       (λ x. x)
@@ -14621,8 +14807,8 @@ module _ (claims· : Claims) where
                                         Path'.refl
                                         (Copies.cStruct
                                         Link.the-type
-                                        Laws'.the-laws
-                                        Laws'.the-copy .copy
+                                        Laws.the-laws
+                                        Laws.the-copy .copy
                                         𝓤
                                         H
                                         A
@@ -14663,17 +14849,19 @@ module _ (claims· : Claims) where
               A
               (Syntax.tyStruct
               (List._∷_
-              102
+              111
               (List._∷_
-              105
+              117
               (List._∷_
-              110
+              116
               (List._∷_
-              105
+              99
               (List._∷_
-              115
+              111
               (List._∷_
-              104
+              109
+              (List._∷_
+              101
               (List._∷_
               58
               (List._∷_
@@ -14684,26 +14872,28 @@ module _ (claims· : Claims) where
               117
               (List._∷_
               116
-              (List._∷_ 99 (List._∷_ 111 (List._∷_ 109 (List._∷_ 101 List.[])))))))))))))))
+              (List._∷_ 99 (List._∷_ 111 (List._∷_ 109 (List._∷_ 101 List.[]))))))))))))))))
               (Syntax.tcons
               (Syntax.tyStruct
               (List._∷_
-              102
+              111
               (List._∷_
-              105
+              117
               (List._∷_
-              110
+              116
               (List._∷_
-              105
+              99
               (List._∷_
-              115
+              111
               (List._∷_
-              104
+              109
+              (List._∷_
+              101
               (List._∷_
               58
               (List._∷_
               58
-              (List._∷_ 83 (List._∷_ 101 (List._∷_ 110 (List._∷_ 116 List.[]))))))))))))
+              (List._∷_ 83 (List._∷_ 101 (List._∷_ 110 (List._∷_ 116 List.[])))))))))))))
               (Syntax.tcons
               (Syntax.tyStruct
               (List._∷_
@@ -14766,22 +14956,24 @@ module _ (claims· : Claims) where
               (Syntax.tcons
               (Syntax.tyStruct
               (List._∷_
-              102
+              111
               (List._∷_
-              105
+              117
               (List._∷_
-              110
+              116
               (List._∷_
-              105
+              99
               (List._∷_
-              115
+              111
               (List._∷_
-              104
+              109
+              (List._∷_
+              101
               (List._∷_
               58
               (List._∷_
               58
-              (List._∷_ 83 (List._∷_ 101 (List._∷_ 110 (List._∷_ 116 List.[]))))))))))))
+              (List._∷_ 83 (List._∷_ 101 (List._∷_ 110 (List._∷_ 116 List.[])))))))))))))
               (Syntax.tcons
               (Syntax.tyStruct
               (List._∷_

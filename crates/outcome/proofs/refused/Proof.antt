@@ -1,20 +1,17 @@
 use borrow.Author.Needs.{needs}
-use Rattle.finish.proofs.refused.Statement.{statement}
-use Rattle.finish.proofs.refused.Tie as tie
-use Rattle.finish.proofs.refused.Reads as reads
-use Rattle.finish.proofs.refused.Lts as lts
-use Rattle.finish.proofs.nothing.Reads as nothing-reads
+use Rattle.outcome.proofs.refused.Statement.{statement}
+use Rattle.outcome.proofs.refused.Tie as tie
+use Rattle.outcome.proofs.refused.Reads as reads
+use Rattle.outcome.proofs.refused.Lts as lts
+use Rattle.outcome.proofs.nothing.Reads as nothing-reads
 use Rattle.lemmas.proofs.Cases.{cases}
 
--- src/lib.rt:56:9
 nothing-requires : tie.Need-nothing-requires
 nothing-requires c κs = search needs
 
--- src/lib.rt:57:9
 nothing-requires-2 : tie.Need-nothing-requires-2
 nothing-requires-2 c κs = search needs
 
--- src/lib.rt:53:1
 returns : tie.Need-returns
 returns c = rw (c .nothing2 .ensures, c .before .nothing .ensures)
 

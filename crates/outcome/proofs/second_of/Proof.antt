@@ -1,7 +1,7 @@
 use Rattle.decision.specs.Decision.{replyIn}
 use borrow.Author.Needs.{needs}
-use Rattle.finish.proofs.second_of.Statement.{statement}
-use Rattle.finish.proofs.second_of.Tie as tie
+use Rattle.outcome.proofs.second_of.Statement.{statement}
+use Rattle.outcome.proofs.second_of.Tie as tie
 
 reply-row-requires : tie.Need-reply-row-requires
 reply-row-requires c κs = search needs
