@@ -1,3 +1,2 @@
-pub mod Counts
 pub mod Routes
 pub mod Message

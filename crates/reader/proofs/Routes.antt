@@ -18,10 +18,8 @@ use Rattle.scan.specs.declared.Scan.{Scan}
 use Rattle.scan.specs.Seen.{Right, Told}
 use Rattle.scan.specs.Scanned.{Outlined}
 use Rattle.reader.specs.Parts.{RouteAt}
-use Rattle.reader.proofs.Counts.{request-rreq, reply-rrep}
-
-pub length-part : (msg : List ℕ) (start end : ℕ) → end ≤ length msg → length (partOf msg start end) ≡ end - start
-length-part msg start end h = simp (length-take, length-drop) (omega arith)
+use Rattle.fault.proofs.Part.{length-part}
+use Rattle.fault.proofs.Counts.{request-rreq, reply-rrep}
 
 drop-take : {A : Type 0} (k n : ℕ) (xs : List A) → drop k (take n xs) ≡ take (n - k) (drop k xs)
 drop-take zero n xs = let e : n - 0 ≡ n = omega arith in rw e

@@ -2,15 +2,12 @@
 ghost use mathlib.Core.Path.{_≡_};
 ghost use mathlib.Core.Bool.{false};
 ghost use mathlib.Core.List.{List};
-ghost use Prim.Native.Nat.{ℕ, _-_, _/_, _≤_, _<_};
-ghost use lib.Dec.{ltb};
+ghost use Prim.Native.Nat.{ℕ, _≤_, _<_};
 ghost use lib.ListN.{length};
-ghost use mathlib.Core.Bool.{_||_};
-ghost use Rattle.plain.specs.Address.{unusable};
-ghost use Rattle.plain.specs.Octets.{optionsOf, requestCounts, replyCounts, malformed, unfit, mopOf, baseOf, hear};
+ghost use Rattle.plain.specs.Octets.{unfit, baseOf, hear};
 ghost use Rattle.option.specs.Follows.{partOf};
 ghost use Rattle.scan.specs.Seen.{Told};
-ghost use Rattle.scan.specs.Scanned.{Outlined, Scanned};
+ghost use Rattle.scan.specs.Scanned.{Outlined};
 ghost use Rattle.reader.specs.Reading.{refusalNumber, heardFrom, Bounded};
 ghost use Rattle.reader.specs.Parts.{RouteAt, Filled};
 use art::Targets;
@@ -43,95 +40,13 @@ pub struct Reading {
     pub targets: [Target; 8],
 }
 
-// Whether the options are a request's: one RREQ, no RREP, one ART or more.
-fn is_request(s: Scan) -> bool
-    ensures { λ r. ⌜ ((msg : List ℕ) → Outlined msg s → r ≡ requestCounts (optionsOf msg)) ⌝ }
-{
-    if s.rreq.count != 1 {
-        return false;
-    }
-    if s.rrep.count != 0 {
-        return false;
-    }
-    0 < s.art.count
-}
-
-// Whether the options are a reply's: one RREP, no RREQ, one ART.
-fn is_reply(s: Scan) -> bool
-    ensures { λ r. ⌜ ((msg : List ℕ) → Outlined msg s → r ≡ replyCounts (optionsOf msg)) ⌝ }
-{
-    if s.rrep.count != 1 {
-        return false;
-    }
-    if s.rreq.count != 0 {
-        return false;
-    }
-    s.art.count == 1
-}
-
-// Whether the message is cut or malformed.
-fn is_malformed(msg: &[u8], s: Scan) -> bool
-    requires { ⌜ Scanned (now msg) s ⌝ }
-    ensures { λ r. ⌜ r ≡ malformed (now (msg .entry)) ⌝ }
-{
-    if msg.len() < 24 {
-        return true;
-    }
-    if s.bad {
-        return true;
-    }
-    if 1 < s.configuration.count {
-        return true;
-    }
-    if is_reply(s) {
-        let start = s.art.start;
-        let end = s.art.end;
-        return art::prefix_length(&msg[start..end]) != 0;
-    }
-    false
-}
-
-// Whether MOP is not 4, or the counts of options are wrong.
-fn is_unfit(msg: &[u8], s: Scan) -> bool
-    requires { ⌜ Outlined (now msg) s ⌝ }
-    ensures { λ r. ⌜ r ≡ unfit (now (msg .entry)) ⌝ }
-{
-    if art::octet_at(msg, 4) / 8 % 8 != 4 {
-        return true;
-    }
-    if is_request(s) {
-        return false;
-    }
-    if is_reply(s) {
-        return false;
-    }
-    true
-}
-
-fn read_dodagid(msg: &[u8]) -> [u8; 16]
-    requires { ⌜ 24 ≤ length (now msg) ⌝ }
-    ensures { λ r. ⌜ r ≡ baseOf (now (msg .entry)) .dodagid ⌝ }
-{
-    let mut dodagid = [0u8; 16];
-    address::put_over(&mut dodagid, 0, &msg[8..24]);
-    dodagid
-}
-
-// 5: the DODAGID is read for this by itself. One that is looked at octet by octet is kept octet by octet, and each copy of it waits.
-fn has_unusable_dodagid(msg: &[u8]) -> bool
-    requires { ⌜ 24 ≤ length (now msg) ⌝ }
-    ensures { λ r. ⌜ r ≡ unusable (baseOf (now (msg .entry)) .dodagid) ⌝ }
-{
-    address::is_unusable(read_dodagid(msg))
-}
-
 // The base object.
 fn read_base(msg: &[u8]) -> Base
     requires { ⌜ 24 ≤ length (now msg) ⌝ }
     ensures { λ r. ⌜ r ≡ baseOf (now (msg .entry)) ⌝ }
 {
     let flags = art::octet_at(msg, 4);
-    let dodagid = read_dodagid(msg);
+    let dodagid = fault::read_dodagid(msg);
     Base {
         instance: art::octet_at(msg, 0),
         version: art::octet_at(msg, 1),
@@ -161,7 +76,7 @@ fn read_configuration(msg: &[u8], f: Found) -> [u8; 14]
 fn route(s: Scan) -> Found
     ensures { λ r. ⌜ ((msg : List ℕ) → Outlined msg s → unfit msg ≡ false → RouteAt msg r) ⌝ }
 {
-    if is_reply(s) {
+    if fault::is_reply(s) {
         return s.rrep;
     }
     s.rreq
@@ -183,24 +98,12 @@ fn fill(msg: &[u8], s: Scan, base: Base, ts: Targets) -> Reading
         base,
         configured: 0 < configuration.count,
         configuration: octets,
-        discovery: option::discovery(is_reply(s), &msg[start..end]),
+        discovery: option::discovery(fault::is_reply(s), &msg[start..end]),
         at: start + 3,
         size: end - start - 3,
         count: ts.count,
         targets,
     }
-}
-
-// Whether there are over 16 vector addresses or over 8 targets.
-fn is_too_many(size: usize, compr: u8, over: bool) -> bool
-    requires { ⌜ compr ≤ 15 ⌝ }
-    ensures { λ r. ⌜ r ≡ (ltb 16 (size / (16 - compr)) || over) ⌝ }
-{
-    let width = 16 - compr as usize;
-    if 16 < size / width {
-        return true;
-    }
-    over
 }
 
 // A refusal.
@@ -245,19 +148,19 @@ pub fn read(msg: &[u8]) -> Reading
     ensures bounded { λ r. ⌜ (refusalNumber (r .refusal) ≡ 0 → Bounded (length (now (msg .entry))) r) ⌝ }
 {
     let s = scan::read_options(msg);
-    if is_malformed(msg, s) {
+    if fault::is_malformed(msg, s) {
         return refused(Refusal::Malformed);
     }
-    if is_unfit(msg, s) {
+    if fault::is_unfit(msg, s) {
         return refused(Refusal::Unfit);
     }
-    if has_unusable_dodagid(msg) {
+    if fault::has_unusable_dodagid(msg) {
         return refused(Refusal::Unusable);
     }
     let base = read_base(msg);
     let ts = scan::read_targets(msg);
     let r = fill(msg, s, base, ts);
-    if is_too_many(r.size, r.discovery.compr, ts.over) {
+    if fault::is_too_many(r.size, r.discovery.compr, ts.over) {
         return refused(Refusal::TooMany);
     }
     r

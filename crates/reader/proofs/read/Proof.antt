@@ -2,7 +2,7 @@ use mathlib.Core.Path.{sym, _∙_}
 use native.Mathlib.Omega.{arith}
 use borrow.Author.Needs.{needs}
 use Rattle.reader.proofs.Message.{compr-most, hear-many, hear-heard, bounded, refused-as, hear-malformed, hear-unfit, hear-unusable}
-use Rattle.reader.proofs.Counts.{formed-long, formed-good, formed-outline}
+use Rattle.fault.proofs.Counts.{formed-long, formed-good, formed-outline}
 use Rattle.reader.proofs.read.Statement.{statement}
 use Rattle.reader.proofs.read.Tie as tie
 

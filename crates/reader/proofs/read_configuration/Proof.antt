@@ -3,7 +3,8 @@ use mathlib.Core.Path.{_∙_}
 use native.Mathlib.Omega.{arith}
 use borrow.Author.Needs.{needs}
 use Rattle.address.proofs.Laws.{over-end}
-use Rattle.reader.proofs.Routes.{configuration-size, length-part}
+use Rattle.fault.proofs.Part.{length-part}
+use Rattle.reader.proofs.Routes.{configuration-size}
 use Rattle.reader.proofs.read_configuration.Statement.{statement}
 use Rattle.reader.proofs.read_configuration.Tie as tie
 

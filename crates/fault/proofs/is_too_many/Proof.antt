@@ -1,7 +1,7 @@
 use borrow.Author.Needs.{needs}
 use Rattle.lemmas.proofs.Cases.{cases}
-use Rattle.reader.proofs.is_too_many.Statement.{statement}
-use Rattle.reader.proofs.is_too_many.Tie as tie
+use Rattle.fault.proofs.is_too_many.Statement.{statement}
+use Rattle.fault.proofs.is_too_many.Tie as tie
 
 sub-width : tie.Need-sub-width
 sub-width c = search needs

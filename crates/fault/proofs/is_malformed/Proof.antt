@@ -1,9 +1,9 @@
 use mathlib.Core.Path.{sym, _∙_}
 use borrow.Author.Tests.{lt-ltb, le-ltb}
 use borrow.Author.Needs.{needs}
-use Rattle.reader.proofs.Counts.{malformed-short, malformed-bad, malformed-is, reply-art}
-use Rattle.reader.proofs.is_malformed.Statement.{statement}
-use Rattle.reader.proofs.is_malformed.Tie as tie
+use Rattle.fault.proofs.Counts.{malformed-short, malformed-bad, malformed-is, reply-art}
+use Rattle.fault.proofs.is_malformed.Statement.{statement}
+use Rattle.fault.proofs.is_malformed.Tie as tie
 
 returns : tie.Need-returns
 returns c = sym (malformed-short _ (c .if1 .taken))

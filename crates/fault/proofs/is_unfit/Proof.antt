@@ -1,8 +1,8 @@
 use mathlib.Core.Path.{sym, _∙_}
 use borrow.Author.Needs.{needs}
-use Rattle.reader.proofs.Counts.{mop-is, unfit-mop, unfit-is}
-use Rattle.reader.proofs.is_unfit.Statement.{statement}
-use Rattle.reader.proofs.is_unfit.Tie as tie
+use Rattle.fault.proofs.Counts.{mop-is, unfit-mop, unfit-is}
+use Rattle.fault.proofs.is_unfit.Statement.{statement}
+use Rattle.fault.proofs.is_unfit.Tie as tie
 
 octet-at-requires : tie.Need-octet-at-requires
 octet-at-requires c κs = search needs
