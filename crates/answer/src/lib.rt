@@ -1,6 +1,7 @@
 // What a call answers: one of 01's numbers, and where what was written is to go.
 ghost use mathlib.Core.Path.{_≡_};
-ghost use Rattle.answer.specs.Answer.{answerNumber};
+ghost use Rattle.plain.specs.Given as given;
+ghost use Rattle.answer.specs.Answer.{answerNumber, destinationOf};
 
 // 01, "Answer numbers": the table's lines.
 pub enum Answer {
@@ -62,4 +63,13 @@ pub enum Way {
 pub struct Destination {
     pub neighbour: [u8; 16],
     pub way: Way,
+}
+
+pub fn to_group() -> Destination
+    ensures { λ r. ⌜ destinationOf r ≡ given.Destination.group ⌝ }
+{
+    Destination {
+        way: Way::Group,
+        neighbour: [0; 16],
+    }
 }

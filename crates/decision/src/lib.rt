@@ -1,9 +1,15 @@
 // What the rules decide of a call that they answer 0, by value: the records to store, our number, and what is sent. Where the records go,
 // and whether there is room for them, is decided by whoever holds the tables.
 use answer::Destination;
+use answer::Way;
 use message::Parsed;
+use plain::Base;
+use plain::Discovery;
+use plain::Target;
 use row::InstanceRow;
 use row::RouteRow;
+ghost use mathlib.Core.Path.{_≡_};
+ghost use Rattle.decision.specs.Blank.{noPost, noReply};
 
 // What goes into a buffer.
 pub enum What {
@@ -41,4 +47,65 @@ pub struct Decided {
     pub seq: u8,
     pub replies: bool,
     pub routed: bool,
+}
+
+// Nothing is sent.
+pub fn no_post() -> Post
+    ensures { λ r. ⌜ r ≡ noPost ⌝ }
+{
+    let zero = [0u8; 16];
+    let blank = Target {
+        seq: 0,
+        plen: 0,
+        addr: zero,
+    };
+    let base = Base {
+        instance: 0,
+        version: 0,
+        rank: 0,
+        g: false,
+        prf: 0,
+        dodagid: zero,
+    };
+    let discovery = Discovery {
+        reply: false,
+        flag: false,
+        h: false,
+        compr: 0,
+        l: 0,
+        limit: 0,
+        number: 0,
+    };
+    Post {
+        what: What::Nothing,
+        message: Parsed {
+            base,
+            configured: false,
+            configuration: [0u8; 14],
+            discovery,
+            n: 0,
+            count: 0,
+            targets: [blank; 8],
+        },
+        grown: false,
+        turned: false,
+        to: Destination {
+            way: Way::Nowhere,
+            neighbour: zero,
+        },
+    }
+}
+
+// No reply row is stored.
+pub fn no_reply() -> ReplyFields
+    ensures { λ r. ⌜ r ≡ noReply ⌝ }
+{
+    ReplyFields {
+        instance: 0,
+        seq: 0,
+        endless: false,
+        rank: 0,
+        dodagid: [0u8; 16],
+        deadline: 0,
+    }
 }

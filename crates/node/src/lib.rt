@@ -218,7 +218,7 @@ pub fn take_reply(
         }
         let d = reply_accepted::accepted(seq, t, k, *p, a);
         let there = reply_accepted::forward_post(o, *p, vector, a);
-        let back = rule::no_post();
+        let back = decision::no_post();
         let l = live_of(f, g);
         return finish::finish(
             instances,
@@ -263,7 +263,7 @@ pub fn take_start(
     }
     let d = start::accepted(o, seq, t, s, ts);
     let there = start::start_post(o, seq, s, ts);
-    let back = rule::no_post();
+    let back = decision::no_post();
     let vector = no_vector();
     finish::finish(
         instances,

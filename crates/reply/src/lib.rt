@@ -190,7 +190,7 @@ fn is_stale(p: Parsed, w: ReplyFacts) -> bool
     ensures { λ r. ⌜ ((v : List Address) → r ≡ isStale (w .standing) || routeStale (p .discovery .h) (routeFound (w .route)) (destSeq (messageIn p v))) ⌝ }
 {
     let standing = w.standing;
-    if rule::is_stale(standing) {
+    if standing::is_stale(standing) {
         return true;
     }
     let g = w.route;
@@ -234,7 +234,7 @@ pub fn judge(o: Own, k: Link, p: Parsed, vector: &[[u8; 16]; 16], w: ReplyFacts)
         return Answer::Stale;
     }
     let standing = w.standing;
-    if rule::is_nothing_new(standing) {
+    if standing::is_nothing_new(standing) {
         return Answer::NothingNew;
     }
     if rule::cannot_add(o, does_grow(p, w), p.discovery.compr, p.n) {

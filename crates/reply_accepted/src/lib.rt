@@ -42,7 +42,7 @@ fn kept_deadline(t: u64, l: u8, w: ReplyFacts) -> Deadline
     let f = w.found;
     if f.is {
         let standing = w.standing;
-        if rule::is_update(standing) {
+        if standing::is_update(standing) {
             return Deadline {
                 endless: f.row.endless != 0,
                 at: f.row.deadline,
@@ -198,7 +198,7 @@ pub fn accepted(seq: u8, t: u64, k: Link, p: Parsed, w: ReplyFacts) -> Decided
 {
     let row = reply_row(t, p, w);
     let route = route(t, k, p);
-    let none = rule::no_reply();
+    let none = decision::no_reply();
     Decided {
         row,
         replies: false,

@@ -89,7 +89,7 @@ fn targets_kept(o: Own, s: Standing, f: Found, ts: Targets, targ: bool) -> Targe
 {
     let receiving = o.receiving;
     let sending = o.sending;
-    if rule::is_update(s) {
+    if standing::is_update(s) {
         let both = matching::common(ts, row_targets(f));
         return matching::not_ours(both, receiving, sending);
     }
@@ -187,7 +187,7 @@ pub fn replies_now(a: RequestFacts) -> bool
 {
     if a.targ {
         let s = a.standing;
-        let updates = rule::is_update(s);
+        let updates = standing::is_update(s);
         return !updates;
     }
     false
@@ -213,7 +213,7 @@ fn is_outdated(p: Parsed, a: RequestFacts) -> bool
     ensures { λ r. ⌜ r ≡ isStale (a .standing) || routeStale (p .discovery .h) (routeFound (a .route)) (p .discovery .number) ⌝ }
 {
     let s = a.standing;
-    if rule::is_stale(s) {
+    if standing::is_stale(s) {
         return true;
     }
     let g = a.route;
@@ -264,7 +264,7 @@ pub fn judge(o: Own, k: Link, p: Parsed, vector: &[[u8; 16]; 16], a: RequestFact
     if is_outdated(p, a) {
         return Answer::Stale;
     }
-    if rule::is_nothing_new(s) {
+    if standing::is_nothing_new(s) {
         return Answer::NothingNew;
     }
     if lacks_delta(a) {

@@ -31,7 +31,7 @@ fn kept_deadline(t: u64, l: u8, a: RequestFacts) -> Deadline
 {
     let s = a.standing;
     let f = a.row;
-    if rule::is_update(s) {
+    if standing::is_update(s) {
         if f.is {
             return Deadline {
                 endless: f.row.endless != 0,

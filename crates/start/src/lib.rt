@@ -122,7 +122,7 @@ pub fn start_post(o: Own, seq: u8, s: Asking, ts: Targets) -> Post
     ensures { λ r. ⌜ ((t : ℕ) (vector : List Address) (targets : List plain.Target) → Posts (settingsOf o) vector (acceptStart (settingsOf o) seq t (startOf s targets) (listOf ts) .sent .forward) (acceptStart (settingsOf o) seq t (startOf s targets) (listOf ts) .sent .forwardTo) r) ⌝ }
 {
     let message = start_message(o, sequence::step(seq), s, ts);
-    let to = rule::to_group();
+    let to = answer::to_group();
     Post {
         what: What::Dio,
         message,
@@ -139,7 +139,7 @@ pub fn accepted(o: Own, seq: u8, t: u64, s: Asking, ts: Targets) -> Decided
 {
     let next = sequence::step(seq);
     let row = start_row(o, next, t, s, ts);
-    let none = rule::no_reply();
+    let none = decision::no_reply();
     let route = row::no_route();
     Decided {
         row,

@@ -5,7 +5,7 @@ use Rattle.reply.proofs.is_stale.Reads as reads
 use Rattle.reply.proofs.is_stale.Lts as lts
 use Rattle.reply.proofs.dest_seq.Reads as dest-seq-reads
 use Rattle.rule.proofs.is_route_stale.Reads as is-route-stale-reads
-use Rattle.rule.proofs.is_stale.Reads as is-stale-reads
+use Rattle.standing.proofs.is_stale.Reads as is-stale-reads
 use Rattle.lemmas.proofs.Cases.{cases}
 
 -- src/lib.rt:190:8

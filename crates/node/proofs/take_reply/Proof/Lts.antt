@@ -1672,7 +1672,7 @@ b38 =
     Syntax.assign (Syntax.place 21 List.[]) (Syntax.rvOpd (Syntax.copy (Syntax.place 39 List.[])))
 
 abbrev b39 : Syntax.Body
-b39 = Syntax.call "rule::no_post" List.[] (Syntax.place 39 List.[])
+b39 = Syntax.call "decision::no_post" List.[] (Syntax.place 39 List.[])
 
 abbrev b40 : Syntax.Body
 b40 =
@@ -26345,7 +26345,7 @@ module _ (claims· : Claims) where
           ps·15 r·15 (claims· .30) (claims· .31) "reply_accepted::accepted") (known16 : Plain.Known
           𝓤 H A W 𝓣 1 ps·16 r·16 (claims· .32) (claims· .33)
           "reply_accepted::forward_post") (known17 : Plain.Known 𝓤 H A W 𝓣 0 ps·17 r·17
-          (claims· .34) (claims· .35) "rule::no_post") (known18 : Plain.Known 𝓤 H A W 𝓣 0 ps·18
+          (claims· .34) (claims· .35) "decision::no_post") (known18 : Plain.Known 𝓤 H A W 𝓣 0 ps·18
           r·18 (claims· .36) (claims· .37) "node::live_of") (known19 : Plain.Known 𝓤 H A W 𝓣 8
           ps·19 r·19 (claims· .38) (claims· .39) "finish::finish") (known20 : Plain.Known 𝓤 H A W 𝓣
           0 ps·20 r·20 (claims· .40) (claims· .41) "node::no_partner") → Statement.Triple 𝓤
@@ -26903,7 +26903,7 @@ module _ (claims· : Claims) where
             (claims· .32)
             (claims· .33)
             "reply_accepted::forward_post" ×
-            Plain.Known 𝓤 H A W 𝓣 0 ps·17 r·17 (claims· .34) (claims· .35) "rule::no_post" ×
+            Plain.Known 𝓤 H A W 𝓣 0 ps·17 r·17 (claims· .34) (claims· .35) "decision::no_post" ×
             Plain.Known 𝓤 H A W 𝓣 0 ps·18 r·18 (claims· .36) (claims· .37) "node::live_of" ×
             Plain.Known 𝓤 H A W 𝓣 8 ps·19 r·19 (claims· .38) (claims· .39) "finish::finish" ×
             Plain.Known 𝓤 H A W 𝓣 0 ps·20 r·20 (claims· .40) (claims· .41) "node::no_partner"
@@ -41768,7 +41768,7 @@ module _ (claims· : Claims) where
               r·17
               (claims· .34)
               (claims· .35)
-              "rule::no_post"
+              "decision::no_post"
               (known .17)
               E
               (λ pos β. β)
@@ -51297,7 +51297,7 @@ module _ (claims· : Claims) where
             r·17
             (claims· .34)
             (claims· .35)
-            "rule::no_post")
+            "decision::no_post")
             (known18 : Plain.Known
             𝓤
             H

@@ -11,10 +11,10 @@ use Rattle.art.proofs.Targets
 use Rattle.art.proofs.Targets.Laws as Laws'
 use Rattle.finish.proofs.Live
 use Rattle.finish.proofs.Live.Laws as Laws''
+use Rattle.finish.proofs.Outcome
+use Rattle.finish.proofs.Outcome.Laws as Laws'3
 use Rattle.message.proofs.Found
-use Rattle.message.proofs.Found.Laws as Laws'3
-use Rattle.outcome.proofs.Outcome
-use Rattle.outcome.proofs.Outcome.Laws as Laws'4
+use Rattle.message.proofs.Found.Laws as Laws'4
 use Rattle.own.proofs.Own
 use Rattle.own.proofs.Own.Laws as Laws'5
 use Rattle.start.proofs.Asking
@@ -139,16 +139,16 @@ abbrev pub r : Kinds.RK 4
 r = Value.rVal record {
   ty = Declared'.row Outcome.the-type;
   one = Path'.refl;
-  val = Laws'8.val Outcome.the-type Laws'4.the-laws;
-  tells = Laws'8.tells Outcome.the-type Laws'4.the-laws;
-  still = Laws'8.still Outcome.the-type Laws'4.the-copy Exit.yes;
+  val = Laws'8.val Outcome.the-type Laws'3.the-laws;
+  tells = Laws'8.tells Outcome.the-type Laws'3.the-laws;
+  still = Laws'8.still Outcome.the-type Laws'3.the-copy Exit.yes;
   row = Rows'.whole (Declared'.row Outcome.the-type);
   rd = λ x. x;
   mk = λ x. x;
 } λ M 𝓤 H A W. record {
-  copies = Laws'8.copy Outcome.the-type Laws'4.the-copy 𝓤 H A W;
-  lawful = Laws'8.lawful Outcome.the-type Laws'4.the-laws 𝓤 H A W;
-  makes = Laws'8.makes Outcome.the-type Laws'4.the-plain 𝓤 H A;
+  copies = Laws'8.copy Outcome.the-type Laws'3.the-copy 𝓤 H A W;
+  lawful = Laws'8.lawful Outcome.the-type Laws'3.the-laws 𝓤 H A W;
+  makes = Laws'8.makes Outcome.the-type Laws'3.the-plain 𝓤 H A;
   in-mem = Local.mem-whole 𝓤 H A W (Declared'.row Outcome.the-type);
   of-mem = Local.whole-mem 𝓤 H A W (Declared'.row Outcome.the-type);
 }
@@ -389,16 +389,16 @@ abbrev pub r·2 : Kinds.RK 1
 r·2 = Value.rVal record {
   ty = Declared'.row Found.the-type;
   one = Path'.refl;
-  val = Laws'8.val Found.the-type Laws'3.the-laws;
-  tells = Laws'8.tells Found.the-type Laws'3.the-laws;
-  still = Laws'8.still Found.the-type Laws'3.the-copy Exit.yes;
+  val = Laws'8.val Found.the-type Laws'4.the-laws;
+  tells = Laws'8.tells Found.the-type Laws'4.the-laws;
+  still = Laws'8.still Found.the-type Laws'4.the-copy Exit.yes;
   row = Rows'.whole (Declared'.row Found.the-type);
   rd = λ x. x;
   mk = λ x. x;
 } λ M 𝓤 H A W. record {
-  copies = Laws'8.copy Found.the-type Laws'3.the-copy 𝓤 H A W;
-  lawful = Laws'8.lawful Found.the-type Laws'3.the-laws 𝓤 H A W;
-  makes = Laws'8.makes Found.the-type Laws'3.the-plain 𝓤 H A;
+  copies = Laws'8.copy Found.the-type Laws'4.the-copy 𝓤 H A W;
+  lawful = Laws'8.lawful Found.the-type Laws'4.the-laws 𝓤 H A W;
+  makes = Laws'8.makes Found.the-type Laws'4.the-plain 𝓤 H A;
   in-mem = Local.mem-whole 𝓤 H A W (Declared'.row Found.the-type);
   of-mem = Local.whole-mem 𝓤 H A W (Declared'.row Found.the-type);
 }
@@ -407,16 +407,16 @@ abbrev pub ps·3 : List.List (Kinds.PK 0)
 ps·3 = List._∷_ (Value.pVal record {
   ty = Declared'.row Found.the-type;
   one = Path'.refl;
-  val = Laws'8.val Found.the-type Laws'3.the-laws;
-  tells = Laws'8.tells Found.the-type Laws'3.the-laws;
-  still = Laws'8.still Found.the-type Laws'3.the-copy Exit.yes;
+  val = Laws'8.val Found.the-type Laws'4.the-laws;
+  tells = Laws'8.tells Found.the-type Laws'4.the-laws;
+  still = Laws'8.still Found.the-type Laws'4.the-copy Exit.yes;
   row = Rows'.whole (Declared'.row Found.the-type);
   rd = λ x. x;
   mk = λ x. x;
 } λ M 𝓤 H A W. record {
-  copies = Laws'8.copy Found.the-type Laws'3.the-copy 𝓤 H A W;
-  lawful = Laws'8.lawful Found.the-type Laws'3.the-laws 𝓤 H A W;
-  makes = Laws'8.makes Found.the-type Laws'3.the-plain 𝓤 H A;
+  copies = Laws'8.copy Found.the-type Laws'4.the-copy 𝓤 H A W;
+  lawful = Laws'8.lawful Found.the-type Laws'4.the-laws 𝓤 H A W;
+  makes = Laws'8.makes Found.the-type Laws'4.the-plain 𝓤 H A;
   in-mem = Local.mem-whole 𝓤 H A W (Declared'.row Found.the-type);
   of-mem = Local.whole-mem 𝓤 H A W (Declared'.row Found.the-type);
 }) List.[]
@@ -518,16 +518,16 @@ abbrev pub r·6 : Kinds.RK 0
 r·6 = Value.rVal record {
   ty = Declared'.row Outcome.the-type;
   one = Path'.refl;
-  val = Laws'8.val Outcome.the-type Laws'4.the-laws;
-  tells = Laws'8.tells Outcome.the-type Laws'4.the-laws;
-  still = Laws'8.still Outcome.the-type Laws'4.the-copy Exit.yes;
+  val = Laws'8.val Outcome.the-type Laws'3.the-laws;
+  tells = Laws'8.tells Outcome.the-type Laws'3.the-laws;
+  still = Laws'8.still Outcome.the-type Laws'3.the-copy Exit.yes;
   row = Rows'.whole (Declared'.row Outcome.the-type);
   rd = λ x. x;
   mk = λ x. x;
 } λ M 𝓤 H A W. record {
-  copies = Laws'8.copy Outcome.the-type Laws'4.the-copy 𝓤 H A W;
-  lawful = Laws'8.lawful Outcome.the-type Laws'4.the-laws 𝓤 H A W;
-  makes = Laws'8.makes Outcome.the-type Laws'4.the-plain 𝓤 H A;
+  copies = Laws'8.copy Outcome.the-type Laws'3.the-copy 𝓤 H A W;
+  lawful = Laws'8.lawful Outcome.the-type Laws'3.the-laws 𝓤 H A W;
+  makes = Laws'8.makes Outcome.the-type Laws'3.the-plain 𝓤 H A;
   in-mem = Local.mem-whole 𝓤 H A W (Declared'.row Outcome.the-type);
   of-mem = Local.whole-mem 𝓤 H A W (Declared'.row Outcome.the-type);
 }
@@ -732,16 +732,16 @@ abbrev pub r·12 : Kinds.RK 8
 r·12 = Value.rVal record {
   ty = Declared'.row Outcome.the-type;
   one = Path'.refl;
-  val = Laws'8.val Outcome.the-type Laws'4.the-laws;
-  tells = Laws'8.tells Outcome.the-type Laws'4.the-laws;
-  still = Laws'8.still Outcome.the-type Laws'4.the-copy Exit.yes;
+  val = Laws'8.val Outcome.the-type Laws'3.the-laws;
+  tells = Laws'8.tells Outcome.the-type Laws'3.the-laws;
+  still = Laws'8.still Outcome.the-type Laws'3.the-copy Exit.yes;
   row = Rows'.whole (Declared'.row Outcome.the-type);
   rd = λ x. x;
   mk = λ x. x;
 } λ M 𝓤 H A W. record {
-  copies = Laws'8.copy Outcome.the-type Laws'4.the-copy 𝓤 H A W;
-  lawful = Laws'8.lawful Outcome.the-type Laws'4.the-laws 𝓤 H A W;
-  makes = Laws'8.makes Outcome.the-type Laws'4.the-plain 𝓤 H A;
+  copies = Laws'8.copy Outcome.the-type Laws'3.the-copy 𝓤 H A W;
+  lawful = Laws'8.lawful Outcome.the-type Laws'3.the-laws 𝓤 H A W;
+  makes = Laws'8.makes Outcome.the-type Laws'3.the-plain 𝓤 H A;
   in-mem = Local.mem-whole 𝓤 H A W (Declared'.row Outcome.the-type);
   of-mem = Local.whole-mem 𝓤 H A W (Declared'.row Outcome.the-type);
 }
@@ -905,7 +905,7 @@ b8 =
 abbrev b9 : Syntax.Body
 b9 =
     Syntax.call
-    "outcome::refused"
+    "finish::refused"
     (List._∷_
     (Syntax.copy (Syntax.place 13 List.[]))
     (List._∷_
@@ -962,7 +962,7 @@ b17 =
     Syntax.assign (Syntax.place 15 List.[]) (Syntax.rvOpd (Syntax.copy (Syntax.place 23 List.[])))
 
 abbrev b18 : Syntax.Body
-b18 = Syntax.call "rule::no_post" List.[] (Syntax.place 23 List.[])
+b18 = Syntax.call "decision::no_post" List.[] (Syntax.place 23 List.[])
 
 abbrev b19 : Syntax.Body
 b19 =
@@ -1234,19 +1234,17 @@ t0 = List._∷_ (
   Rows'.any-gone
       (Syntax.tyStruct
       (List._∷_
-      111
+      102
       (List._∷_
-      117
+      105
       (List._∷_
-      116
+      110
       (List._∷_
-      99
+      105
       (List._∷_
-      111
+      115
       (List._∷_
-      109
-      (List._∷_
-      101
+      104
       (List._∷_
       58
       (List._∷_
@@ -1255,26 +1253,24 @@ t0 = List._∷_ (
       79
       (List._∷_
       117
-      (List._∷_ 116 (List._∷_ 99 (List._∷_ 111 (List._∷_ 109 (List._∷_ 101 List.[]))))))))))))))))
+      (List._∷_ 116 (List._∷_ 99 (List._∷_ 111 (List._∷_ 109 (List._∷_ 101 List.[])))))))))))))))
       (Syntax.tcons
       (Syntax.tyStruct
       (List._∷_
-      111
+      102
       (List._∷_
-      117
+      105
       (List._∷_
-      116
+      110
       (List._∷_
-      99
+      105
       (List._∷_
-      111
+      115
       (List._∷_
-      109
-      (List._∷_
-      101
+      104
       (List._∷_
       58
-      (List._∷_ 58 (List._∷_ 83 (List._∷_ 101 (List._∷_ 110 (List._∷_ 116 List.[])))))))))))))
+      (List._∷_ 58 (List._∷_ 83 (List._∷_ 101 (List._∷_ 110 (List._∷_ 116 List.[]))))))))))))
       (Syntax.tcons
       (Syntax.tyStruct
       (List._∷_
@@ -1337,22 +1333,20 @@ t0 = List._∷_ (
       (Syntax.tcons
       (Syntax.tyStruct
       (List._∷_
-      111
+      102
       (List._∷_
-      117
+      105
       (List._∷_
-      116
+      110
       (List._∷_
-      99
+      105
       (List._∷_
-      111
+      115
       (List._∷_
-      109
-      (List._∷_
-      101
+      104
       (List._∷_
       58
-      (List._∷_ 58 (List._∷_ 83 (List._∷_ 101 (List._∷_ 110 (List._∷_ 116 List.[])))))))))))))
+      (List._∷_ 58 (List._∷_ 83 (List._∷_ 101 (List._∷_ 110 (List._∷_ 116 List.[]))))))))))))
       (Syntax.tcons
       (Syntax.tyStruct
       (List._∷_
@@ -1924,19 +1918,17 @@ t4 = List._∷_ (
   Rows'.any-gone
       (Syntax.tyStruct
       (List._∷_
-      111
+      102
       (List._∷_
-      117
+      105
       (List._∷_
-      116
+      110
       (List._∷_
-      99
+      105
       (List._∷_
-      111
+      115
       (List._∷_
-      109
-      (List._∷_
-      101
+      104
       (List._∷_
       58
       (List._∷_
@@ -1945,26 +1937,24 @@ t4 = List._∷_ (
       79
       (List._∷_
       117
-      (List._∷_ 116 (List._∷_ 99 (List._∷_ 111 (List._∷_ 109 (List._∷_ 101 List.[]))))))))))))))))
+      (List._∷_ 116 (List._∷_ 99 (List._∷_ 111 (List._∷_ 109 (List._∷_ 101 List.[])))))))))))))))
       (Syntax.tcons
       (Syntax.tyStruct
       (List._∷_
-      111
+      102
       (List._∷_
-      117
+      105
       (List._∷_
-      116
+      110
       (List._∷_
-      99
+      105
       (List._∷_
-      111
+      115
       (List._∷_
-      109
-      (List._∷_
-      101
+      104
       (List._∷_
       58
-      (List._∷_ 58 (List._∷_ 83 (List._∷_ 101 (List._∷_ 110 (List._∷_ 116 List.[])))))))))))))
+      (List._∷_ 58 (List._∷_ 83 (List._∷_ 101 (List._∷_ 110 (List._∷_ 116 List.[]))))))))))))
       (Syntax.tcons
       (Syntax.tyStruct
       (List._∷_
@@ -2027,22 +2017,20 @@ t4 = List._∷_ (
       (Syntax.tcons
       (Syntax.tyStruct
       (List._∷_
-      111
+      102
       (List._∷_
-      117
+      105
       (List._∷_
-      116
+      110
       (List._∷_
-      99
+      105
       (List._∷_
-      111
+      115
       (List._∷_
-      109
-      (List._∷_
-      101
+      104
       (List._∷_
       58
-      (List._∷_ 58 (List._∷_ 83 (List._∷_ 101 (List._∷_ 110 (List._∷_ 116 List.[])))))))))))))
+      (List._∷_ 58 (List._∷_ 83 (List._∷_ 101 (List._∷_ 110 (List._∷_ 116 List.[]))))))))))))
       (Syntax.tcons
       (Syntax.tyStruct
       (List._∷_
@@ -2283,19 +2271,17 @@ t5 = List._∷_ (
   Rows'.any-gone
       (Syntax.tyStruct
       (List._∷_
-      111
+      102
       (List._∷_
-      117
+      105
       (List._∷_
-      116
+      110
       (List._∷_
-      99
+      105
       (List._∷_
-      111
+      115
       (List._∷_
-      109
-      (List._∷_
-      101
+      104
       (List._∷_
       58
       (List._∷_
@@ -2304,26 +2290,24 @@ t5 = List._∷_ (
       79
       (List._∷_
       117
-      (List._∷_ 116 (List._∷_ 99 (List._∷_ 111 (List._∷_ 109 (List._∷_ 101 List.[]))))))))))))))))
+      (List._∷_ 116 (List._∷_ 99 (List._∷_ 111 (List._∷_ 109 (List._∷_ 101 List.[])))))))))))))))
       (Syntax.tcons
       (Syntax.tyStruct
       (List._∷_
-      111
+      102
       (List._∷_
-      117
+      105
       (List._∷_
-      116
+      110
       (List._∷_
-      99
+      105
       (List._∷_
-      111
+      115
       (List._∷_
-      109
-      (List._∷_
-      101
+      104
       (List._∷_
       58
-      (List._∷_ 58 (List._∷_ 83 (List._∷_ 101 (List._∷_ 110 (List._∷_ 116 List.[])))))))))))))
+      (List._∷_ 58 (List._∷_ 83 (List._∷_ 101 (List._∷_ 110 (List._∷_ 116 List.[]))))))))))))
       (Syntax.tcons
       (Syntax.tyStruct
       (List._∷_
@@ -2386,22 +2370,20 @@ t5 = List._∷_ (
       (Syntax.tcons
       (Syntax.tyStruct
       (List._∷_
-      111
+      102
       (List._∷_
-      117
+      105
       (List._∷_
-      116
+      110
       (List._∷_
-      99
+      105
       (List._∷_
-      111
+      115
       (List._∷_
-      109
-      (List._∷_
-      101
+      104
       (List._∷_
       58
-      (List._∷_ 58 (List._∷_ 83 (List._∷_ 101 (List._∷_ 110 (List._∷_ 116 List.[])))))))))))))
+      (List._∷_ 58 (List._∷_ 83 (List._∷_ 101 (List._∷_ 110 (List._∷_ 116 List.[]))))))))))))
       (Syntax.tcons
       (Syntax.tyStruct
       (List._∷_
@@ -2840,19 +2822,17 @@ t9 = List._∷_ (
   Rows'.any-gone
       (Syntax.tyStruct
       (List._∷_
-      111
+      102
       (List._∷_
-      117
+      105
       (List._∷_
-      116
+      110
       (List._∷_
-      99
+      105
       (List._∷_
-      111
+      115
       (List._∷_
-      109
-      (List._∷_
-      101
+      104
       (List._∷_
       58
       (List._∷_
@@ -2861,26 +2841,24 @@ t9 = List._∷_ (
       79
       (List._∷_
       117
-      (List._∷_ 116 (List._∷_ 99 (List._∷_ 111 (List._∷_ 109 (List._∷_ 101 List.[]))))))))))))))))
+      (List._∷_ 116 (List._∷_ 99 (List._∷_ 111 (List._∷_ 109 (List._∷_ 101 List.[])))))))))))))))
       (Syntax.tcons
       (Syntax.tyStruct
       (List._∷_
-      111
+      102
       (List._∷_
-      117
+      105
       (List._∷_
-      116
+      110
       (List._∷_
-      99
+      105
       (List._∷_
-      111
+      115
       (List._∷_
-      109
-      (List._∷_
-      101
+      104
       (List._∷_
       58
-      (List._∷_ 58 (List._∷_ 83 (List._∷_ 101 (List._∷_ 110 (List._∷_ 116 List.[])))))))))))))
+      (List._∷_ 58 (List._∷_ 83 (List._∷_ 101 (List._∷_ 110 (List._∷_ 116 List.[]))))))))))))
       (Syntax.tcons
       (Syntax.tyStruct
       (List._∷_
@@ -2943,22 +2921,20 @@ t9 = List._∷_ (
       (Syntax.tcons
       (Syntax.tyStruct
       (List._∷_
-      111
+      102
       (List._∷_
-      117
+      105
       (List._∷_
-      116
+      110
       (List._∷_
-      99
+      105
       (List._∷_
-      111
+      115
       (List._∷_
-      109
-      (List._∷_
-      101
+      104
       (List._∷_
       58
-      (List._∷_ 58 (List._∷_ 83 (List._∷_ 101 (List._∷_ 110 (List._∷_ 116 List.[])))))))))))))
+      (List._∷_ 58 (List._∷_ 83 (List._∷_ 101 (List._∷_ 110 (List._∷_ 116 List.[]))))))))))))
       (Syntax.tcons
       (Syntax.tyStruct
       (List._∷_
@@ -3242,19 +3218,17 @@ t11 = List._∷_ (
   Rows'.any-gone
       (Syntax.tyStruct
       (List._∷_
-      111
+      102
       (List._∷_
-      117
+      105
       (List._∷_
-      116
+      110
       (List._∷_
-      99
+      105
       (List._∷_
-      111
+      115
       (List._∷_
-      109
-      (List._∷_
-      101
+      104
       (List._∷_
       58
       (List._∷_
@@ -3263,26 +3237,24 @@ t11 = List._∷_ (
       79
       (List._∷_
       117
-      (List._∷_ 116 (List._∷_ 99 (List._∷_ 111 (List._∷_ 109 (List._∷_ 101 List.[]))))))))))))))))
+      (List._∷_ 116 (List._∷_ 99 (List._∷_ 111 (List._∷_ 109 (List._∷_ 101 List.[])))))))))))))))
       (Syntax.tcons
       (Syntax.tyStruct
       (List._∷_
-      111
+      102
       (List._∷_
-      117
+      105
       (List._∷_
-      116
+      110
       (List._∷_
-      99
+      105
       (List._∷_
-      111
+      115
       (List._∷_
-      109
-      (List._∷_
-      101
+      104
       (List._∷_
       58
-      (List._∷_ 58 (List._∷_ 83 (List._∷_ 101 (List._∷_ 110 (List._∷_ 116 List.[])))))))))))))
+      (List._∷_ 58 (List._∷_ 83 (List._∷_ 101 (List._∷_ 110 (List._∷_ 116 List.[]))))))))))))
       (Syntax.tcons
       (Syntax.tyStruct
       (List._∷_
@@ -3345,22 +3317,20 @@ t11 = List._∷_ (
       (Syntax.tcons
       (Syntax.tyStruct
       (List._∷_
-      111
+      102
       (List._∷_
-      117
+      105
       (List._∷_
-      116
+      110
       (List._∷_
-      99
+      105
       (List._∷_
-      111
+      115
       (List._∷_
-      109
-      (List._∷_
-      101
+      104
       (List._∷_
       58
-      (List._∷_ 58 (List._∷_ 83 (List._∷_ 101 (List._∷_ 110 (List._∷_ 116 List.[])))))))))))))
+      (List._∷_ 58 (List._∷_ 83 (List._∷_ 101 (List._∷_ 110 (List._∷_ 116 List.[]))))))))))))
       (Syntax.tcons
       (Syntax.tyStruct
       (List._∷_
@@ -3578,19 +3548,17 @@ t12 = List._∷_ (
   Rows'.any-gone
       (Syntax.tyStruct
       (List._∷_
-      111
+      102
       (List._∷_
-      117
+      105
       (List._∷_
-      116
+      110
       (List._∷_
-      99
+      105
       (List._∷_
-      111
+      115
       (List._∷_
-      109
-      (List._∷_
-      101
+      104
       (List._∷_
       58
       (List._∷_
@@ -3599,26 +3567,24 @@ t12 = List._∷_ (
       79
       (List._∷_
       117
-      (List._∷_ 116 (List._∷_ 99 (List._∷_ 111 (List._∷_ 109 (List._∷_ 101 List.[]))))))))))))))))
+      (List._∷_ 116 (List._∷_ 99 (List._∷_ 111 (List._∷_ 109 (List._∷_ 101 List.[])))))))))))))))
       (Syntax.tcons
       (Syntax.tyStruct
       (List._∷_
-      111
+      102
       (List._∷_
-      117
+      105
       (List._∷_
-      116
+      110
       (List._∷_
-      99
+      105
       (List._∷_
-      111
+      115
       (List._∷_
-      109
-      (List._∷_
-      101
+      104
       (List._∷_
       58
-      (List._∷_ 58 (List._∷_ 83 (List._∷_ 101 (List._∷_ 110 (List._∷_ 116 List.[])))))))))))))
+      (List._∷_ 58 (List._∷_ 83 (List._∷_ 101 (List._∷_ 110 (List._∷_ 116 List.[]))))))))))))
       (Syntax.tcons
       (Syntax.tyStruct
       (List._∷_
@@ -3681,22 +3647,20 @@ t12 = List._∷_ (
       (Syntax.tcons
       (Syntax.tyStruct
       (List._∷_
-      111
+      102
       (List._∷_
-      117
+      105
       (List._∷_
-      116
+      110
       (List._∷_
-      99
+      105
       (List._∷_
-      111
+      115
       (List._∷_
-      109
-      (List._∷_
-      101
+      104
       (List._∷_
       58
-      (List._∷_ 58 (List._∷_ 83 (List._∷_ 101 (List._∷_ 110 (List._∷_ 116 List.[])))))))))))))
+      (List._∷_ 58 (List._∷_ 83 (List._∷_ 101 (List._∷_ 110 (List._∷_ 116 List.[]))))))))))))
       (Syntax.tcons
       (Syntax.tyStruct
       (List._∷_
@@ -3978,19 +3942,17 @@ t14 = List._∷_ (
   Rows'.any-gone
       (Syntax.tyStruct
       (List._∷_
-      111
+      102
       (List._∷_
-      117
+      105
       (List._∷_
-      116
+      110
       (List._∷_
-      99
+      105
       (List._∷_
-      111
+      115
       (List._∷_
-      109
-      (List._∷_
-      101
+      104
       (List._∷_
       58
       (List._∷_
@@ -3999,26 +3961,24 @@ t14 = List._∷_ (
       79
       (List._∷_
       117
-      (List._∷_ 116 (List._∷_ 99 (List._∷_ 111 (List._∷_ 109 (List._∷_ 101 List.[]))))))))))))))))
+      (List._∷_ 116 (List._∷_ 99 (List._∷_ 111 (List._∷_ 109 (List._∷_ 101 List.[])))))))))))))))
       (Syntax.tcons
       (Syntax.tyStruct
       (List._∷_
-      111
+      102
       (List._∷_
-      117
+      105
       (List._∷_
-      116
+      110
       (List._∷_
-      99
+      105
       (List._∷_
-      111
+      115
       (List._∷_
-      109
-      (List._∷_
-      101
+      104
       (List._∷_
       58
-      (List._∷_ 58 (List._∷_ 83 (List._∷_ 101 (List._∷_ 110 (List._∷_ 116 List.[])))))))))))))
+      (List._∷_ 58 (List._∷_ 83 (List._∷_ 101 (List._∷_ 110 (List._∷_ 116 List.[]))))))))))))
       (Syntax.tcons
       (Syntax.tyStruct
       (List._∷_
@@ -4081,22 +4041,20 @@ t14 = List._∷_ (
       (Syntax.tcons
       (Syntax.tyStruct
       (List._∷_
-      111
+      102
       (List._∷_
-      117
+      105
       (List._∷_
-      116
+      110
       (List._∷_
-      99
+      105
       (List._∷_
-      111
+      115
       (List._∷_
-      109
-      (List._∷_
-      101
+      104
       (List._∷_
       58
-      (List._∷_ 58 (List._∷_ 83 (List._∷_ 101 (List._∷_ 110 (List._∷_ 116 List.[])))))))))))))
+      (List._∷_ 58 (List._∷_ 83 (List._∷_ 101 (List._∷_ 110 (List._∷_ 116 List.[]))))))))))))
       (Syntax.tcons
       (Syntax.tyStruct
       (List._∷_
@@ -4349,19 +4307,17 @@ t16 = List._∷_ (
   Rows'.any-gone
       (Syntax.tyStruct
       (List._∷_
-      111
+      102
       (List._∷_
-      117
+      105
       (List._∷_
-      116
+      110
       (List._∷_
-      99
+      105
       (List._∷_
-      111
+      115
       (List._∷_
-      109
-      (List._∷_
-      101
+      104
       (List._∷_
       58
       (List._∷_
@@ -4370,26 +4326,24 @@ t16 = List._∷_ (
       79
       (List._∷_
       117
-      (List._∷_ 116 (List._∷_ 99 (List._∷_ 111 (List._∷_ 109 (List._∷_ 101 List.[]))))))))))))))))
+      (List._∷_ 116 (List._∷_ 99 (List._∷_ 111 (List._∷_ 109 (List._∷_ 101 List.[])))))))))))))))
       (Syntax.tcons
       (Syntax.tyStruct
       (List._∷_
-      111
+      102
       (List._∷_
-      117
+      105
       (List._∷_
-      116
+      110
       (List._∷_
-      99
+      105
       (List._∷_
-      111
+      115
       (List._∷_
-      109
-      (List._∷_
-      101
+      104
       (List._∷_
       58
-      (List._∷_ 58 (List._∷_ 83 (List._∷_ 101 (List._∷_ 110 (List._∷_ 116 List.[])))))))))))))
+      (List._∷_ 58 (List._∷_ 83 (List._∷_ 101 (List._∷_ 110 (List._∷_ 116 List.[]))))))))))))
       (Syntax.tcons
       (Syntax.tyStruct
       (List._∷_
@@ -4452,22 +4406,20 @@ t16 = List._∷_ (
       (Syntax.tcons
       (Syntax.tyStruct
       (List._∷_
-      111
+      102
       (List._∷_
-      117
+      105
       (List._∷_
-      116
+      110
       (List._∷_
-      99
+      105
       (List._∷_
-      111
+      115
       (List._∷_
-      109
-      (List._∷_
-      101
+      104
       (List._∷_
       58
-      (List._∷_ 58 (List._∷_ 83 (List._∷_ 101 (List._∷_ 110 (List._∷_ 116 List.[])))))))))))))
+      (List._∷_ 58 (List._∷_ 83 (List._∷_ 101 (List._∷_ 110 (List._∷_ 116 List.[]))))))))))))
       (Syntax.tcons
       (Syntax.tyStruct
       (List._∷_
@@ -4669,19 +4621,17 @@ t17 = List._∷_ (
   Rows'.any-gone
       (Syntax.tyStruct
       (List._∷_
-      111
+      102
       (List._∷_
-      117
+      105
       (List._∷_
-      116
+      110
       (List._∷_
-      99
+      105
       (List._∷_
-      111
+      115
       (List._∷_
-      109
-      (List._∷_
-      101
+      104
       (List._∷_
       58
       (List._∷_
@@ -4690,26 +4640,24 @@ t17 = List._∷_ (
       79
       (List._∷_
       117
-      (List._∷_ 116 (List._∷_ 99 (List._∷_ 111 (List._∷_ 109 (List._∷_ 101 List.[]))))))))))))))))
+      (List._∷_ 116 (List._∷_ 99 (List._∷_ 111 (List._∷_ 109 (List._∷_ 101 List.[])))))))))))))))
       (Syntax.tcons
       (Syntax.tyStruct
       (List._∷_
-      111
+      102
       (List._∷_
-      117
+      105
       (List._∷_
-      116
+      110
       (List._∷_
-      99
+      105
       (List._∷_
-      111
+      115
       (List._∷_
-      109
-      (List._∷_
-      101
+      104
       (List._∷_
       58
-      (List._∷_ 58 (List._∷_ 83 (List._∷_ 101 (List._∷_ 110 (List._∷_ 116 List.[])))))))))))))
+      (List._∷_ 58 (List._∷_ 83 (List._∷_ 101 (List._∷_ 110 (List._∷_ 116 List.[]))))))))))))
       (Syntax.tcons
       (Syntax.tyStruct
       (List._∷_
@@ -4772,22 +4720,20 @@ t17 = List._∷_ (
       (Syntax.tcons
       (Syntax.tyStruct
       (List._∷_
-      111
+      102
       (List._∷_
-      117
+      105
       (List._∷_
-      116
+      110
       (List._∷_
-      99
+      105
       (List._∷_
-      111
+      115
       (List._∷_
-      109
-      (List._∷_
-      101
+      104
       (List._∷_
       58
-      (List._∷_ 58 (List._∷_ 83 (List._∷_ 101 (List._∷_ 110 (List._∷_ 116 List.[])))))))))))))
+      (List._∷_ 58 (List._∷_ 83 (List._∷_ 101 (List._∷_ 110 (List._∷_ 116 List.[]))))))))))))
       (Syntax.tcons
       (Syntax.tyStruct
       (List._∷_
@@ -5016,19 +4962,17 @@ t18 = List._∷_ (
   Rows'.any-gone
       (Syntax.tyStruct
       (List._∷_
-      111
+      102
       (List._∷_
-      117
+      105
       (List._∷_
-      116
+      110
       (List._∷_
-      99
+      105
       (List._∷_
-      111
+      115
       (List._∷_
-      109
-      (List._∷_
-      101
+      104
       (List._∷_
       58
       (List._∷_
@@ -5037,26 +4981,24 @@ t18 = List._∷_ (
       79
       (List._∷_
       117
-      (List._∷_ 116 (List._∷_ 99 (List._∷_ 111 (List._∷_ 109 (List._∷_ 101 List.[]))))))))))))))))
+      (List._∷_ 116 (List._∷_ 99 (List._∷_ 111 (List._∷_ 109 (List._∷_ 101 List.[])))))))))))))))
       (Syntax.tcons
       (Syntax.tyStruct
       (List._∷_
-      111
+      102
       (List._∷_
-      117
+      105
       (List._∷_
-      116
+      110
       (List._∷_
-      99
+      105
       (List._∷_
-      111
+      115
       (List._∷_
-      109
-      (List._∷_
-      101
+      104
       (List._∷_
       58
-      (List._∷_ 58 (List._∷_ 83 (List._∷_ 101 (List._∷_ 110 (List._∷_ 116 List.[])))))))))))))
+      (List._∷_ 58 (List._∷_ 83 (List._∷_ 101 (List._∷_ 110 (List._∷_ 116 List.[]))))))))))))
       (Syntax.tcons
       (Syntax.tyStruct
       (List._∷_
@@ -5119,22 +5061,20 @@ t18 = List._∷_ (
       (Syntax.tcons
       (Syntax.tyStruct
       (List._∷_
-      111
+      102
       (List._∷_
-      117
+      105
       (List._∷_
-      116
+      110
       (List._∷_
-      99
+      105
       (List._∷_
-      111
+      115
       (List._∷_
-      109
-      (List._∷_
-      101
+      104
       (List._∷_
       58
-      (List._∷_ 58 (List._∷_ 83 (List._∷_ 101 (List._∷_ 110 (List._∷_ 116 List.[])))))))))))))
+      (List._∷_ 58 (List._∷_ 83 (List._∷_ 101 (List._∷_ 110 (List._∷_ 116 List.[]))))))))))))
       (Syntax.tcons
       (Syntax.tyStruct
       (List._∷_
@@ -6267,19 +6207,17 @@ t24 = List._∷_ (
   Rows'.any-gone
       (Syntax.tyStruct
       (List._∷_
-      111
+      102
       (List._∷_
-      117
+      105
       (List._∷_
-      116
+      110
       (List._∷_
-      99
+      105
       (List._∷_
-      111
+      115
       (List._∷_
-      109
-      (List._∷_
-      101
+      104
       (List._∷_
       58
       (List._∷_
@@ -6288,26 +6226,24 @@ t24 = List._∷_ (
       79
       (List._∷_
       117
-      (List._∷_ 116 (List._∷_ 99 (List._∷_ 111 (List._∷_ 109 (List._∷_ 101 List.[]))))))))))))))))
+      (List._∷_ 116 (List._∷_ 99 (List._∷_ 111 (List._∷_ 109 (List._∷_ 101 List.[])))))))))))))))
       (Syntax.tcons
       (Syntax.tyStruct
       (List._∷_
-      111
+      102
       (List._∷_
-      117
+      105
       (List._∷_
-      116
+      110
       (List._∷_
-      99
+      105
       (List._∷_
-      111
+      115
       (List._∷_
-      109
-      (List._∷_
-      101
+      104
       (List._∷_
       58
-      (List._∷_ 58 (List._∷_ 83 (List._∷_ 101 (List._∷_ 110 (List._∷_ 116 List.[])))))))))))))
+      (List._∷_ 58 (List._∷_ 83 (List._∷_ 101 (List._∷_ 110 (List._∷_ 116 List.[]))))))))))))
       (Syntax.tcons
       (Syntax.tyStruct
       (List._∷_
@@ -6370,22 +6306,20 @@ t24 = List._∷_ (
       (Syntax.tcons
       (Syntax.tyStruct
       (List._∷_
-      111
+      102
       (List._∷_
-      117
+      105
       (List._∷_
-      116
+      110
       (List._∷_
-      99
+      105
       (List._∷_
-      111
+      115
       (List._∷_
-      109
-      (List._∷_
-      101
+      104
       (List._∷_
       58
-      (List._∷_ 58 (List._∷_ 83 (List._∷_ 101 (List._∷_ 110 (List._∷_ 116 List.[])))))))))))))
+      (List._∷_ 58 (List._∷_ 83 (List._∷_ 101 (List._∷_ 110 (List._∷_ 116 List.[]))))))))))))
       (Syntax.tcons
       (Syntax.tyStruct
       (List._∷_
@@ -6692,19 +6626,17 @@ t26 = List._∷_ (
   Rows'.any-gone
       (Syntax.tyStruct
       (List._∷_
-      111
+      102
       (List._∷_
-      117
+      105
       (List._∷_
-      116
+      110
       (List._∷_
-      99
+      105
       (List._∷_
-      111
+      115
       (List._∷_
-      109
-      (List._∷_
-      101
+      104
       (List._∷_
       58
       (List._∷_
@@ -6713,26 +6645,24 @@ t26 = List._∷_ (
       79
       (List._∷_
       117
-      (List._∷_ 116 (List._∷_ 99 (List._∷_ 111 (List._∷_ 109 (List._∷_ 101 List.[]))))))))))))))))
+      (List._∷_ 116 (List._∷_ 99 (List._∷_ 111 (List._∷_ 109 (List._∷_ 101 List.[])))))))))))))))
       (Syntax.tcons
       (Syntax.tyStruct
       (List._∷_
-      111
+      102
       (List._∷_
-      117
+      105
       (List._∷_
-      116
+      110
       (List._∷_
-      99
+      105
       (List._∷_
-      111
+      115
       (List._∷_
-      109
-      (List._∷_
-      101
+      104
       (List._∷_
       58
-      (List._∷_ 58 (List._∷_ 83 (List._∷_ 101 (List._∷_ 110 (List._∷_ 116 List.[])))))))))))))
+      (List._∷_ 58 (List._∷_ 83 (List._∷_ 101 (List._∷_ 110 (List._∷_ 116 List.[]))))))))))))
       (Syntax.tcons
       (Syntax.tyStruct
       (List._∷_
@@ -6795,22 +6725,20 @@ t26 = List._∷_ (
       (Syntax.tcons
       (Syntax.tyStruct
       (List._∷_
-      111
+      102
       (List._∷_
-      117
+      105
       (List._∷_
-      116
+      110
       (List._∷_
-      99
+      105
       (List._∷_
-      111
+      115
       (List._∷_
-      109
-      (List._∷_
-      101
+      104
       (List._∷_
       58
-      (List._∷_ 58 (List._∷_ 83 (List._∷_ 101 (List._∷_ 110 (List._∷_ 116 List.[])))))))))))))
+      (List._∷_ 58 (List._∷_ 83 (List._∷_ 101 (List._∷_ 110 (List._∷_ 116 List.[]))))))))))))
       (Syntax.tcons
       (Syntax.tyStruct
       (List._∷_
@@ -7081,19 +7009,17 @@ t27 = List._∷_ (
   Rows'.any-gone
       (Syntax.tyStruct
       (List._∷_
-      111
+      102
       (List._∷_
-      117
+      105
       (List._∷_
-      116
+      110
       (List._∷_
-      99
+      105
       (List._∷_
-      111
+      115
       (List._∷_
-      109
-      (List._∷_
-      101
+      104
       (List._∷_
       58
       (List._∷_
@@ -7102,26 +7028,24 @@ t27 = List._∷_ (
       79
       (List._∷_
       117
-      (List._∷_ 116 (List._∷_ 99 (List._∷_ 111 (List._∷_ 109 (List._∷_ 101 List.[]))))))))))))))))
+      (List._∷_ 116 (List._∷_ 99 (List._∷_ 111 (List._∷_ 109 (List._∷_ 101 List.[])))))))))))))))
       (Syntax.tcons
       (Syntax.tyStruct
       (List._∷_
-      111
+      102
       (List._∷_
-      117
+      105
       (List._∷_
-      116
+      110
       (List._∷_
-      99
+      105
       (List._∷_
-      111
+      115
       (List._∷_
-      109
-      (List._∷_
-      101
+      104
       (List._∷_
       58
-      (List._∷_ 58 (List._∷_ 83 (List._∷_ 101 (List._∷_ 110 (List._∷_ 116 List.[])))))))))))))
+      (List._∷_ 58 (List._∷_ 83 (List._∷_ 101 (List._∷_ 110 (List._∷_ 116 List.[]))))))))))))
       (Syntax.tcons
       (Syntax.tyStruct
       (List._∷_
@@ -7184,22 +7108,20 @@ t27 = List._∷_ (
       (Syntax.tcons
       (Syntax.tyStruct
       (List._∷_
-      111
+      102
       (List._∷_
-      117
+      105
       (List._∷_
-      116
+      110
       (List._∷_
-      99
+      105
       (List._∷_
-      111
+      115
       (List._∷_
-      109
-      (List._∷_
-      101
+      104
       (List._∷_
       58
-      (List._∷_ 58 (List._∷_ 83 (List._∷_ 101 (List._∷_ 110 (List._∷_ 116 List.[])))))))))))))
+      (List._∷_ 58 (List._∷_ 83 (List._∷_ 101 (List._∷_ 110 (List._∷_ 116 List.[]))))))))))))
       (Syntax.tcons
       (Syntax.tyStruct
       (List._∷_
@@ -7517,19 +7439,17 @@ t28 = List._∷_ (
   Rows'.any-gone
       (Syntax.tyStruct
       (List._∷_
-      111
+      102
       (List._∷_
-      117
+      105
       (List._∷_
-      116
+      110
       (List._∷_
-      99
+      105
       (List._∷_
-      111
+      115
       (List._∷_
-      109
-      (List._∷_
-      101
+      104
       (List._∷_
       58
       (List._∷_
@@ -7538,26 +7458,24 @@ t28 = List._∷_ (
       79
       (List._∷_
       117
-      (List._∷_ 116 (List._∷_ 99 (List._∷_ 111 (List._∷_ 109 (List._∷_ 101 List.[]))))))))))))))))
+      (List._∷_ 116 (List._∷_ 99 (List._∷_ 111 (List._∷_ 109 (List._∷_ 101 List.[])))))))))))))))
       (Syntax.tcons
       (Syntax.tyStruct
       (List._∷_
-      111
+      102
       (List._∷_
-      117
+      105
       (List._∷_
-      116
+      110
       (List._∷_
-      99
+      105
       (List._∷_
-      111
+      115
       (List._∷_
-      109
-      (List._∷_
-      101
+      104
       (List._∷_
       58
-      (List._∷_ 58 (List._∷_ 83 (List._∷_ 101 (List._∷_ 110 (List._∷_ 116 List.[])))))))))))))
+      (List._∷_ 58 (List._∷_ 83 (List._∷_ 101 (List._∷_ 110 (List._∷_ 116 List.[]))))))))))))
       (Syntax.tcons
       (Syntax.tyStruct
       (List._∷_
@@ -7620,22 +7538,20 @@ t28 = List._∷_ (
       (Syntax.tcons
       (Syntax.tyStruct
       (List._∷_
-      111
+      102
       (List._∷_
-      117
+      105
       (List._∷_
-      116
+      110
       (List._∷_
-      99
+      105
       (List._∷_
-      111
+      115
       (List._∷_
-      109
-      (List._∷_
-      101
+      104
       (List._∷_
       58
-      (List._∷_ 58 (List._∷_ 83 (List._∷_ 101 (List._∷_ 110 (List._∷_ 116 List.[])))))))))))))
+      (List._∷_ 58 (List._∷_ 83 (List._∷_ 101 (List._∷_ 110 (List._∷_ 116 List.[]))))))))))))
       (Syntax.tcons
       (Syntax.tyStruct
       (List._∷_
@@ -8281,19 +8197,17 @@ t34 = List._∷_ (
   Rows'.any-gone
       (Syntax.tyStruct
       (List._∷_
-      111
+      102
       (List._∷_
-      117
+      105
       (List._∷_
-      116
+      110
       (List._∷_
-      99
+      105
       (List._∷_
-      111
+      115
       (List._∷_
-      109
-      (List._∷_
-      101
+      104
       (List._∷_
       58
       (List._∷_
@@ -8302,26 +8216,24 @@ t34 = List._∷_ (
       79
       (List._∷_
       117
-      (List._∷_ 116 (List._∷_ 99 (List._∷_ 111 (List._∷_ 109 (List._∷_ 101 List.[]))))))))))))))))
+      (List._∷_ 116 (List._∷_ 99 (List._∷_ 111 (List._∷_ 109 (List._∷_ 101 List.[])))))))))))))))
       (Syntax.tcons
       (Syntax.tyStruct
       (List._∷_
-      111
+      102
       (List._∷_
-      117
+      105
       (List._∷_
-      116
+      110
       (List._∷_
-      99
+      105
       (List._∷_
-      111
+      115
       (List._∷_
-      109
-      (List._∷_
-      101
+      104
       (List._∷_
       58
-      (List._∷_ 58 (List._∷_ 83 (List._∷_ 101 (List._∷_ 110 (List._∷_ 116 List.[])))))))))))))
+      (List._∷_ 58 (List._∷_ 83 (List._∷_ 101 (List._∷_ 110 (List._∷_ 116 List.[]))))))))))))
       (Syntax.tcons
       (Syntax.tyStruct
       (List._∷_
@@ -8384,22 +8296,20 @@ t34 = List._∷_ (
       (Syntax.tcons
       (Syntax.tyStruct
       (List._∷_
-      111
+      102
       (List._∷_
-      117
+      105
       (List._∷_
-      116
+      110
       (List._∷_
-      99
+      105
       (List._∷_
-      111
+      115
       (List._∷_
-      109
-      (List._∷_
-      101
+      104
       (List._∷_
       58
-      (List._∷_ 58 (List._∷_ 83 (List._∷_ 101 (List._∷_ 110 (List._∷_ 116 List.[])))))))))))))
+      (List._∷_ 58 (List._∷_ 83 (List._∷_ 101 (List._∷_ 110 (List._∷_ 116 List.[]))))))))))))
       (Syntax.tcons
       (Syntax.tyStruct
       (List._∷_
@@ -8851,19 +8761,17 @@ t37 = List._∷_ (
   Rows'.any-gone
       (Syntax.tyStruct
       (List._∷_
-      111
+      102
       (List._∷_
-      117
+      105
       (List._∷_
-      116
+      110
       (List._∷_
-      99
+      105
       (List._∷_
-      111
+      115
       (List._∷_
-      109
-      (List._∷_
-      101
+      104
       (List._∷_
       58
       (List._∷_
@@ -8872,26 +8780,24 @@ t37 = List._∷_ (
       79
       (List._∷_
       117
-      (List._∷_ 116 (List._∷_ 99 (List._∷_ 111 (List._∷_ 109 (List._∷_ 101 List.[]))))))))))))))))
+      (List._∷_ 116 (List._∷_ 99 (List._∷_ 111 (List._∷_ 109 (List._∷_ 101 List.[])))))))))))))))
       (Syntax.tcons
       (Syntax.tyStruct
       (List._∷_
-      111
+      102
       (List._∷_
-      117
+      105
       (List._∷_
-      116
+      110
       (List._∷_
-      99
+      105
       (List._∷_
-      111
+      115
       (List._∷_
-      109
-      (List._∷_
-      101
+      104
       (List._∷_
       58
-      (List._∷_ 58 (List._∷_ 83 (List._∷_ 101 (List._∷_ 110 (List._∷_ 116 List.[])))))))))))))
+      (List._∷_ 58 (List._∷_ 83 (List._∷_ 101 (List._∷_ 110 (List._∷_ 116 List.[]))))))))))))
       (Syntax.tcons
       (Syntax.tyStruct
       (List._∷_
@@ -8954,22 +8860,20 @@ t37 = List._∷_ (
       (Syntax.tcons
       (Syntax.tyStruct
       (List._∷_
-      111
+      102
       (List._∷_
-      117
+      105
       (List._∷_
-      116
+      110
       (List._∷_
-      99
+      105
       (List._∷_
-      111
+      115
       (List._∷_
-      109
-      (List._∷_
-      101
+      104
       (List._∷_
       58
-      (List._∷_ 58 (List._∷_ 83 (List._∷_ 101 (List._∷_ 110 (List._∷_ 116 List.[])))))))))))))
+      (List._∷_ 58 (List._∷_ 83 (List._∷_ 101 (List._∷_ 110 (List._∷_ 116 List.[]))))))))))))
       (Syntax.tcons
       (Syntax.tyStruct
       (List._∷_
@@ -9419,19 +9323,17 @@ t40 = List._∷_ (
   Rows'.any-gone
       (Syntax.tyStruct
       (List._∷_
-      111
+      102
       (List._∷_
-      117
+      105
       (List._∷_
-      116
+      110
       (List._∷_
-      99
+      105
       (List._∷_
-      111
+      115
       (List._∷_
-      109
-      (List._∷_
-      101
+      104
       (List._∷_
       58
       (List._∷_
@@ -9440,26 +9342,24 @@ t40 = List._∷_ (
       79
       (List._∷_
       117
-      (List._∷_ 116 (List._∷_ 99 (List._∷_ 111 (List._∷_ 109 (List._∷_ 101 List.[]))))))))))))))))
+      (List._∷_ 116 (List._∷_ 99 (List._∷_ 111 (List._∷_ 109 (List._∷_ 101 List.[])))))))))))))))
       (Syntax.tcons
       (Syntax.tyStruct
       (List._∷_
-      111
+      102
       (List._∷_
-      117
+      105
       (List._∷_
-      116
+      110
       (List._∷_
-      99
+      105
       (List._∷_
-      111
+      115
       (List._∷_
-      109
-      (List._∷_
-      101
+      104
       (List._∷_
       58
-      (List._∷_ 58 (List._∷_ 83 (List._∷_ 101 (List._∷_ 110 (List._∷_ 116 List.[])))))))))))))
+      (List._∷_ 58 (List._∷_ 83 (List._∷_ 101 (List._∷_ 110 (List._∷_ 116 List.[]))))))))))))
       (Syntax.tcons
       (Syntax.tyStruct
       (List._∷_
@@ -9522,22 +9422,20 @@ t40 = List._∷_ (
       (Syntax.tcons
       (Syntax.tyStruct
       (List._∷_
-      111
+      102
       (List._∷_
-      117
+      105
       (List._∷_
-      116
+      110
       (List._∷_
-      99
+      105
       (List._∷_
-      111
+      115
       (List._∷_
-      109
-      (List._∷_
-      101
+      104
       (List._∷_
       58
-      (List._∷_ 58 (List._∷_ 83 (List._∷_ 101 (List._∷_ 110 (List._∷_ 116 List.[])))))))))))))
+      (List._∷_ 58 (List._∷_ 83 (List._∷_ 101 (List._∷_ 110 (List._∷_ 116 List.[]))))))))))))
       (Syntax.tcons
       (Syntax.tyStruct
       (List._∷_
@@ -9986,19 +9884,17 @@ t43 = List._∷_ (
   Rows'.any-gone
       (Syntax.tyStruct
       (List._∷_
-      111
+      102
       (List._∷_
-      117
+      105
       (List._∷_
-      116
+      110
       (List._∷_
-      99
+      105
       (List._∷_
-      111
+      115
       (List._∷_
-      109
-      (List._∷_
-      101
+      104
       (List._∷_
       58
       (List._∷_
@@ -10007,26 +9903,24 @@ t43 = List._∷_ (
       79
       (List._∷_
       117
-      (List._∷_ 116 (List._∷_ 99 (List._∷_ 111 (List._∷_ 109 (List._∷_ 101 List.[]))))))))))))))))
+      (List._∷_ 116 (List._∷_ 99 (List._∷_ 111 (List._∷_ 109 (List._∷_ 101 List.[])))))))))))))))
       (Syntax.tcons
       (Syntax.tyStruct
       (List._∷_
-      111
+      102
       (List._∷_
-      117
+      105
       (List._∷_
-      116
+      110
       (List._∷_
-      99
+      105
       (List._∷_
-      111
+      115
       (List._∷_
-      109
-      (List._∷_
-      101
+      104
       (List._∷_
       58
-      (List._∷_ 58 (List._∷_ 83 (List._∷_ 101 (List._∷_ 110 (List._∷_ 116 List.[])))))))))))))
+      (List._∷_ 58 (List._∷_ 83 (List._∷_ 101 (List._∷_ 110 (List._∷_ 116 List.[]))))))))))))
       (Syntax.tcons
       (Syntax.tyStruct
       (List._∷_
@@ -10089,22 +9983,20 @@ t43 = List._∷_ (
       (Syntax.tcons
       (Syntax.tyStruct
       (List._∷_
-      111
+      102
       (List._∷_
-      117
+      105
       (List._∷_
-      116
+      110
       (List._∷_
-      99
+      105
       (List._∷_
-      111
+      115
       (List._∷_
-      109
-      (List._∷_
-      101
+      104
       (List._∷_
       58
-      (List._∷_ 58 (List._∷_ 83 (List._∷_ 101 (List._∷_ 110 (List._∷_ 116 List.[])))))))))))))
+      (List._∷_ 58 (List._∷_ 83 (List._∷_ 101 (List._∷_ 110 (List._∷_ 116 List.[]))))))))))))
       (Syntax.tcons
       (Syntax.tyStruct
       (List._∷_
@@ -10663,19 +10555,17 @@ t48 = List._∷_ (
   Rows'.any-gone
       (Syntax.tyStruct
       (List._∷_
-      111
+      102
       (List._∷_
-      117
+      105
       (List._∷_
-      116
+      110
       (List._∷_
-      99
+      105
       (List._∷_
-      111
+      115
       (List._∷_
-      109
-      (List._∷_
-      101
+      104
       (List._∷_
       58
       (List._∷_
@@ -10684,26 +10574,24 @@ t48 = List._∷_ (
       79
       (List._∷_
       117
-      (List._∷_ 116 (List._∷_ 99 (List._∷_ 111 (List._∷_ 109 (List._∷_ 101 List.[]))))))))))))))))
+      (List._∷_ 116 (List._∷_ 99 (List._∷_ 111 (List._∷_ 109 (List._∷_ 101 List.[])))))))))))))))
       (Syntax.tcons
       (Syntax.tyStruct
       (List._∷_
-      111
+      102
       (List._∷_
-      117
+      105
       (List._∷_
-      116
+      110
       (List._∷_
-      99
+      105
       (List._∷_
-      111
+      115
       (List._∷_
-      109
-      (List._∷_
-      101
+      104
       (List._∷_
       58
-      (List._∷_ 58 (List._∷_ 83 (List._∷_ 101 (List._∷_ 110 (List._∷_ 116 List.[])))))))))))))
+      (List._∷_ 58 (List._∷_ 83 (List._∷_ 101 (List._∷_ 110 (List._∷_ 116 List.[]))))))))))))
       (Syntax.tcons
       (Syntax.tyStruct
       (List._∷_
@@ -10766,22 +10654,20 @@ t48 = List._∷_ (
       (Syntax.tcons
       (Syntax.tyStruct
       (List._∷_
-      111
+      102
       (List._∷_
-      117
+      105
       (List._∷_
-      116
+      110
       (List._∷_
-      99
+      105
       (List._∷_
-      111
+      115
       (List._∷_
-      109
-      (List._∷_
-      101
+      104
       (List._∷_
       58
-      (List._∷_ 58 (List._∷_ 83 (List._∷_ 101 (List._∷_ 110 (List._∷_ 116 List.[])))))))))))))
+      (List._∷_ 58 (List._∷_ 83 (List._∷_ 101 (List._∷_ 110 (List._∷_ 116 List.[]))))))))))))
       (Syntax.tcons
       (Syntax.tyStruct
       (List._∷_
@@ -11167,19 +11053,17 @@ t50 = List._∷_ (
   Rows'.any-gone
       (Syntax.tyStruct
       (List._∷_
-      111
+      102
       (List._∷_
-      117
+      105
       (List._∷_
-      116
+      110
       (List._∷_
-      99
+      105
       (List._∷_
-      111
+      115
       (List._∷_
-      109
-      (List._∷_
-      101
+      104
       (List._∷_
       58
       (List._∷_
@@ -11188,26 +11072,24 @@ t50 = List._∷_ (
       79
       (List._∷_
       117
-      (List._∷_ 116 (List._∷_ 99 (List._∷_ 111 (List._∷_ 109 (List._∷_ 101 List.[]))))))))))))))))
+      (List._∷_ 116 (List._∷_ 99 (List._∷_ 111 (List._∷_ 109 (List._∷_ 101 List.[])))))))))))))))
       (Syntax.tcons
       (Syntax.tyStruct
       (List._∷_
-      111
+      102
       (List._∷_
-      117
+      105
       (List._∷_
-      116
+      110
       (List._∷_
-      99
+      105
       (List._∷_
-      111
+      115
       (List._∷_
-      109
-      (List._∷_
-      101
+      104
       (List._∷_
       58
-      (List._∷_ 58 (List._∷_ 83 (List._∷_ 101 (List._∷_ 110 (List._∷_ 116 List.[])))))))))))))
+      (List._∷_ 58 (List._∷_ 83 (List._∷_ 101 (List._∷_ 110 (List._∷_ 116 List.[]))))))))))))
       (Syntax.tcons
       (Syntax.tyStruct
       (List._∷_
@@ -11270,22 +11152,20 @@ t50 = List._∷_ (
       (Syntax.tcons
       (Syntax.tyStruct
       (List._∷_
-      111
+      102
       (List._∷_
-      117
+      105
       (List._∷_
-      116
+      110
       (List._∷_
-      99
+      105
       (List._∷_
-      111
+      115
       (List._∷_
-      109
-      (List._∷_
-      101
+      104
       (List._∷_
       58
-      (List._∷_ 58 (List._∷_ 83 (List._∷_ 101 (List._∷_ 110 (List._∷_ 116 List.[])))))))))))))
+      (List._∷_ 58 (List._∷_ 83 (List._∷_ 101 (List._∷_ 110 (List._∷_ 116 List.[]))))))))))))
       (Syntax.tcons
       (Syntax.tyStruct
       (List._∷_
@@ -15103,19 +14983,17 @@ module _ (claims· : Claims) where
       List.[]
       (Syntax.tyStruct
       (List._∷_
-      111
+      102
       (List._∷_
-      117
+      105
       (List._∷_
-      116
+      110
       (List._∷_
-      99
+      105
       (List._∷_
-      111
+      115
       (List._∷_
-      109
-      (List._∷_
-      101
+      104
       (List._∷_
       58
       (List._∷_
@@ -15124,26 +15002,24 @@ module _ (claims· : Claims) where
       79
       (List._∷_
       117
-      (List._∷_ 116 (List._∷_ 99 (List._∷_ 111 (List._∷_ 109 (List._∷_ 101 List.[]))))))))))))))))
+      (List._∷_ 116 (List._∷_ 99 (List._∷_ 111 (List._∷_ 109 (List._∷_ 101 List.[])))))))))))))))
       (Syntax.tcons
       (Syntax.tyStruct
       (List._∷_
-      111
+      102
       (List._∷_
-      117
+      105
       (List._∷_
-      116
+      110
       (List._∷_
-      99
+      105
       (List._∷_
-      111
+      115
       (List._∷_
-      109
-      (List._∷_
-      101
+      104
       (List._∷_
       58
-      (List._∷_ 58 (List._∷_ 83 (List._∷_ 101 (List._∷_ 110 (List._∷_ 116 List.[])))))))))))))
+      (List._∷_ 58 (List._∷_ 83 (List._∷_ 101 (List._∷_ 110 (List._∷_ 116 List.[]))))))))))))
       (Syntax.tcons
       (Syntax.tyStruct
       (List._∷_
@@ -15206,22 +15082,20 @@ module _ (claims· : Claims) where
       (Syntax.tcons
       (Syntax.tyStruct
       (List._∷_
-      111
+      102
       (List._∷_
-      117
+      105
       (List._∷_
-      116
+      110
       (List._∷_
-      99
+      105
       (List._∷_
-      111
+      115
       (List._∷_
-      109
-      (List._∷_
-      101
+      104
       (List._∷_
       58
-      (List._∷_ 58 (List._∷_ 83 (List._∷_ 101 (List._∷_ 110 (List._∷_ 116 List.[])))))))))))))
+      (List._∷_ 58 (List._∷_ 83 (List._∷_ 101 (List._∷_ 110 (List._∷_ 116 List.[]))))))))))))
       (Syntax.tcons
       (Syntax.tyStruct
       (List._∷_
@@ -15974,19 +15848,17 @@ module _ (claims· : Claims) where
       (List._∷_ 7 (List._∷_ 8 (List._∷_ 9 (List._∷_ 10 (List._∷_ 11 (List._∷_ 12 List.[]))))))))
       (Syntax.tyStruct
       (List._∷_
-      111
+      102
       (List._∷_
-      117
+      105
       (List._∷_
-      116
+      110
       (List._∷_
-      99
+      105
       (List._∷_
-      111
+      115
       (List._∷_
-      109
-      (List._∷_
-      101
+      104
       (List._∷_
       58
       (List._∷_
@@ -15995,26 +15867,24 @@ module _ (claims· : Claims) where
       79
       (List._∷_
       117
-      (List._∷_ 116 (List._∷_ 99 (List._∷_ 111 (List._∷_ 109 (List._∷_ 101 List.[]))))))))))))))))
+      (List._∷_ 116 (List._∷_ 99 (List._∷_ 111 (List._∷_ 109 (List._∷_ 101 List.[])))))))))))))))
       (Syntax.tcons
       (Syntax.tyStruct
       (List._∷_
-      111
+      102
       (List._∷_
-      117
+      105
       (List._∷_
-      116
+      110
       (List._∷_
-      99
+      105
       (List._∷_
-      111
+      115
       (List._∷_
-      109
-      (List._∷_
-      101
+      104
       (List._∷_
       58
-      (List._∷_ 58 (List._∷_ 83 (List._∷_ 101 (List._∷_ 110 (List._∷_ 116 List.[])))))))))))))
+      (List._∷_ 58 (List._∷_ 83 (List._∷_ 101 (List._∷_ 110 (List._∷_ 116 List.[]))))))))))))
       (Syntax.tcons
       (Syntax.tyStruct
       (List._∷_
@@ -16077,22 +15947,20 @@ module _ (claims· : Claims) where
       (Syntax.tcons
       (Syntax.tyStruct
       (List._∷_
-      111
+      102
       (List._∷_
-      117
+      105
       (List._∷_
-      116
+      110
       (List._∷_
-      99
+      105
       (List._∷_
-      111
+      115
       (List._∷_
-      109
-      (List._∷_
-      101
+      104
       (List._∷_
       58
-      (List._∷_ 58 (List._∷_ 83 (List._∷_ 101 (List._∷_ 110 (List._∷_ 116 List.[])))))))))))))
+      (List._∷_ 58 (List._∷_ 83 (List._∷_ 101 (List._∷_ 110 (List._∷_ 116 List.[]))))))))))))
       (Syntax.tcons
       (Syntax.tyStruct
       (List._∷_
@@ -16420,13 +16288,13 @@ module _ (claims· : Claims) where
           ps·3 r·3 (claims· .6) (claims· .7) "node::is_found") (known4 : Plain.Known 𝓤 H A W 𝓣 0
           ps·4 r·4 (claims· .8) (claims· .9) "start::judge") (known5 : Plain.Known 𝓤 H A W 𝓣 0 ps·5
           r·5 (claims· .10) (claims· .11) "answer::number") (known6 : Plain.Known 𝓤 H A W 𝓣 0 ps·6
-          r·6 (claims· .12) (claims· .13) "outcome::refused") (known7 : Plain.Known 𝓤 H A W 𝓣 0
-          ps·7 r·7 (claims· .14) (claims· .15) "start::accepted") (known8 : Plain.Known 𝓤 H A W 𝓣 0
-          ps·8 r·8 (claims· .16) (claims· .17) "start::start_post") (known9 : Plain.Known 𝓤 H A W 𝓣
-          0 ps·9 r·9 (claims· .18) (claims· .19) "rule::no_post") (known10 : Plain.Known 𝓤 H A W 𝓣
-          0 ps·10 r·10 (claims· .20) (claims· .21) "node::no_vector") (known11 : Plain.Known 𝓤 H A
-          W 𝓣 0 ps·11 r·11 (claims· .22) (claims· .23) "node::none_live") (known12 : Plain.Known 𝓤
-          H A W 𝓣 8 ps·12 r·12 (claims· .24) (claims· .25) "finish::finish") → Statement.Triple 𝓤
+          r·6 (claims· .12) (claims· .13) "finish::refused") (known7 : Plain.Known 𝓤 H A W 𝓣 0 ps·7
+          r·7 (claims· .14) (claims· .15) "start::accepted") (known8 : Plain.Known 𝓤 H A W 𝓣 0 ps·8
+          r·8 (claims· .16) (claims· .17) "start::start_post") (known9 : Plain.Known 𝓤 H A W 𝓣 0
+          ps·9 r·9 (claims· .18) (claims· .19) "decision::no_post") (known10 : Plain.Known 𝓤 H A W
+          𝓣 0 ps·10 r·10 (claims· .20) (claims· .21) "node::no_vector") (known11 : Plain.Known 𝓤 H
+          A W 𝓣 0 ps·11 r·11 (claims· .22) (claims· .23) "node::none_live") (known12 : Plain.Known
+          𝓤 H A W 𝓣 8 ps·12 r·12 (claims· .24) (claims· .25) "finish::finish") → Statement.Triple 𝓤
           (Wp.WpFn 𝓤 H (𝓣 .C) (𝓣 .Λ) (Function.fnOf 4 ps r xs m hs body)) (Function.plainOf 𝓤 H A 4
           ps r Pre· Post·)
 
@@ -16780,10 +16648,10 @@ module _ (claims· : Claims) where
             Plain.Known 𝓤 H A W 𝓣 0 ps·3 r·3 (claims· .6) (claims· .7) "node::is_found" ×
             Plain.Known 𝓤 H A W 𝓣 0 ps·4 r·4 (claims· .8) (claims· .9) "start::judge" ×
             Plain.Known 𝓤 H A W 𝓣 0 ps·5 r·5 (claims· .10) (claims· .11) "answer::number" ×
-            Plain.Known 𝓤 H A W 𝓣 0 ps·6 r·6 (claims· .12) (claims· .13) "outcome::refused" ×
+            Plain.Known 𝓤 H A W 𝓣 0 ps·6 r·6 (claims· .12) (claims· .13) "finish::refused" ×
             Plain.Known 𝓤 H A W 𝓣 0 ps·7 r·7 (claims· .14) (claims· .15) "start::accepted" ×
             Plain.Known 𝓤 H A W 𝓣 0 ps·8 r·8 (claims· .16) (claims· .17) "start::start_post" ×
-            Plain.Known 𝓤 H A W 𝓣 0 ps·9 r·9 (claims· .18) (claims· .19) "rule::no_post" ×
+            Plain.Known 𝓤 H A W 𝓣 0 ps·9 r·9 (claims· .18) (claims· .19) "decision::no_post" ×
             Plain.Known 𝓤 H A W 𝓣 0 ps·10 r·10 (claims· .20) (claims· .21) "node::no_vector" ×
             Plain.Known 𝓤 H A W 𝓣 0 ps·11 r·11 (claims· .22) (claims· .23) "node::none_live" ×
             Plain.Known 𝓤 H A W 𝓣 8 ps·12 r·12 (claims· .24) (claims· .25) "finish::finish"
@@ -16795,19 +16663,17 @@ module _ (claims· : Claims) where
           Rows'.any-gone
               (Syntax.tyStruct
               (List._∷_
-              111
+              102
               (List._∷_
-              117
+              105
               (List._∷_
-              116
+              110
               (List._∷_
-              99
+              105
               (List._∷_
-              111
+              115
               (List._∷_
-              109
-              (List._∷_
-              101
+              104
               (List._∷_
               58
               (List._∷_
@@ -16818,28 +16684,26 @@ module _ (claims· : Claims) where
               117
               (List._∷_
               116
-              (List._∷_ 99 (List._∷_ 111 (List._∷_ 109 (List._∷_ 101 List.[]))))))))))))))))
+              (List._∷_ 99 (List._∷_ 111 (List._∷_ 109 (List._∷_ 101 List.[])))))))))))))))
               (Syntax.tcons
               (Syntax.tyStruct
               (List._∷_
-              111
+              102
               (List._∷_
-              117
+              105
               (List._∷_
-              116
+              110
               (List._∷_
-              99
+              105
               (List._∷_
-              111
+              115
               (List._∷_
-              109
-              (List._∷_
-              101
+              104
               (List._∷_
               58
               (List._∷_
               58
-              (List._∷_ 83 (List._∷_ 101 (List._∷_ 110 (List._∷_ 116 List.[])))))))))))))
+              (List._∷_ 83 (List._∷_ 101 (List._∷_ 110 (List._∷_ 116 List.[]))))))))))))
               (Syntax.tcons
               (Syntax.tyStruct
               (List._∷_
@@ -16902,24 +16766,22 @@ module _ (claims· : Claims) where
               (Syntax.tcons
               (Syntax.tyStruct
               (List._∷_
-              111
+              102
               (List._∷_
-              117
+              105
               (List._∷_
-              116
+              110
               (List._∷_
-              99
+              105
               (List._∷_
-              111
+              115
               (List._∷_
-              109
-              (List._∷_
-              101
+              104
               (List._∷_
               58
               (List._∷_
               58
-              (List._∷_ 83 (List._∷_ 101 (List._∷_ 110 (List._∷_ 116 List.[])))))))))))))
+              (List._∷_ 83 (List._∷_ 101 (List._∷_ 110 (List._∷_ 116 List.[]))))))))))))
               (Syntax.tcons
               (Syntax.tyStruct
               (List._∷_
@@ -17174,19 +17036,17 @@ module _ (claims· : Claims) where
           Rows'.any-gone
               (Syntax.tyStruct
               (List._∷_
-              111
+              102
               (List._∷_
-              117
+              105
               (List._∷_
-              116
+              110
               (List._∷_
-              99
+              105
               (List._∷_
-              111
+              115
               (List._∷_
-              109
-              (List._∷_
-              101
+              104
               (List._∷_
               58
               (List._∷_
@@ -17197,28 +17057,26 @@ module _ (claims· : Claims) where
               117
               (List._∷_
               116
-              (List._∷_ 99 (List._∷_ 111 (List._∷_ 109 (List._∷_ 101 List.[]))))))))))))))))
+              (List._∷_ 99 (List._∷_ 111 (List._∷_ 109 (List._∷_ 101 List.[])))))))))))))))
               (Syntax.tcons
               (Syntax.tyStruct
               (List._∷_
-              111
+              102
               (List._∷_
-              117
+              105
               (List._∷_
-              116
+              110
               (List._∷_
-              99
+              105
               (List._∷_
-              111
+              115
               (List._∷_
-              109
-              (List._∷_
-              101
+              104
               (List._∷_
               58
               (List._∷_
               58
-              (List._∷_ 83 (List._∷_ 101 (List._∷_ 110 (List._∷_ 116 List.[])))))))))))))
+              (List._∷_ 83 (List._∷_ 101 (List._∷_ 110 (List._∷_ 116 List.[]))))))))))))
               (Syntax.tcons
               (Syntax.tyStruct
               (List._∷_
@@ -17281,24 +17139,22 @@ module _ (claims· : Claims) where
               (Syntax.tcons
               (Syntax.tyStruct
               (List._∷_
-              111
+              102
               (List._∷_
-              117
+              105
               (List._∷_
-              116
+              110
               (List._∷_
-              99
+              105
               (List._∷_
-              111
+              115
               (List._∷_
-              109
-              (List._∷_
-              101
+              104
               (List._∷_
               58
               (List._∷_
               58
-              (List._∷_ 83 (List._∷_ 101 (List._∷_ 110 (List._∷_ 116 List.[])))))))))))))
+              (List._∷_ 83 (List._∷_ 101 (List._∷_ 110 (List._∷_ 116 List.[]))))))))))))
               (Syntax.tcons
               (Syntax.tyStruct
               (List._∷_
@@ -17526,19 +17382,17 @@ module _ (claims· : Claims) where
           Rows'.any-gone
               (Syntax.tyStruct
               (List._∷_
-              111
+              102
               (List._∷_
-              117
+              105
               (List._∷_
-              116
+              110
               (List._∷_
-              99
+              105
               (List._∷_
-              111
+              115
               (List._∷_
-              109
-              (List._∷_
-              101
+              104
               (List._∷_
               58
               (List._∷_
@@ -17549,28 +17403,26 @@ module _ (claims· : Claims) where
               117
               (List._∷_
               116
-              (List._∷_ 99 (List._∷_ 111 (List._∷_ 109 (List._∷_ 101 List.[]))))))))))))))))
+              (List._∷_ 99 (List._∷_ 111 (List._∷_ 109 (List._∷_ 101 List.[])))))))))))))))
               (Syntax.tcons
               (Syntax.tyStruct
               (List._∷_
-              111
+              102
               (List._∷_
-              117
+              105
               (List._∷_
-              116
+              110
               (List._∷_
-              99
+              105
               (List._∷_
-              111
+              115
               (List._∷_
-              109
-              (List._∷_
-              101
+              104
               (List._∷_
               58
               (List._∷_
               58
-              (List._∷_ 83 (List._∷_ 101 (List._∷_ 110 (List._∷_ 116 List.[])))))))))))))
+              (List._∷_ 83 (List._∷_ 101 (List._∷_ 110 (List._∷_ 116 List.[]))))))))))))
               (Syntax.tcons
               (Syntax.tyStruct
               (List._∷_
@@ -17633,24 +17485,22 @@ module _ (claims· : Claims) where
               (Syntax.tcons
               (Syntax.tyStruct
               (List._∷_
-              111
+              102
               (List._∷_
-              117
+              105
               (List._∷_
-              116
+              110
               (List._∷_
-              99
+              105
               (List._∷_
-              111
+              115
               (List._∷_
-              109
-              (List._∷_
-              101
+              104
               (List._∷_
               58
               (List._∷_
               58
-              (List._∷_ 83 (List._∷_ 101 (List._∷_ 110 (List._∷_ 116 List.[])))))))))))))
+              (List._∷_ 83 (List._∷_ 101 (List._∷_ 110 (List._∷_ 116 List.[]))))))))))))
               (Syntax.tcons
               (Syntax.tyStruct
               (List._∷_
@@ -17878,19 +17728,17 @@ module _ (claims· : Claims) where
           Rows'.any-gone
               (Syntax.tyStruct
               (List._∷_
-              111
+              102
               (List._∷_
-              117
+              105
               (List._∷_
-              116
+              110
               (List._∷_
-              99
+              105
               (List._∷_
-              111
+              115
               (List._∷_
-              109
-              (List._∷_
-              101
+              104
               (List._∷_
               58
               (List._∷_
@@ -17901,28 +17749,26 @@ module _ (claims· : Claims) where
               117
               (List._∷_
               116
-              (List._∷_ 99 (List._∷_ 111 (List._∷_ 109 (List._∷_ 101 List.[]))))))))))))))))
+              (List._∷_ 99 (List._∷_ 111 (List._∷_ 109 (List._∷_ 101 List.[])))))))))))))))
               (Syntax.tcons
               (Syntax.tyStruct
               (List._∷_
-              111
+              102
               (List._∷_
-              117
+              105
               (List._∷_
-              116
+              110
               (List._∷_
-              99
+              105
               (List._∷_
-              111
+              115
               (List._∷_
-              109
-              (List._∷_
-              101
+              104
               (List._∷_
               58
               (List._∷_
               58
-              (List._∷_ 83 (List._∷_ 101 (List._∷_ 110 (List._∷_ 116 List.[])))))))))))))
+              (List._∷_ 83 (List._∷_ 101 (List._∷_ 110 (List._∷_ 116 List.[]))))))))))))
               (Syntax.tcons
               (Syntax.tyStruct
               (List._∷_
@@ -17985,24 +17831,22 @@ module _ (claims· : Claims) where
               (Syntax.tcons
               (Syntax.tyStruct
               (List._∷_
-              111
+              102
               (List._∷_
-              117
+              105
               (List._∷_
-              116
+              110
               (List._∷_
-              99
+              105
               (List._∷_
-              111
+              115
               (List._∷_
-              109
-              (List._∷_
-              101
+              104
               (List._∷_
               58
               (List._∷_
               58
-              (List._∷_ 83 (List._∷_ 101 (List._∷_ 110 (List._∷_ 116 List.[])))))))))))))
+              (List._∷_ 83 (List._∷_ 101 (List._∷_ 110 (List._∷_ 116 List.[]))))))))))))
               (Syntax.tcons
               (Syntax.tyStruct
               (List._∷_
@@ -18340,19 +18184,17 @@ module _ (claims· : Claims) where
           Rows'.any-gone
               (Syntax.tyStruct
               (List._∷_
-              111
+              102
               (List._∷_
-              117
+              105
               (List._∷_
-              116
+              110
               (List._∷_
-              99
+              105
               (List._∷_
-              111
+              115
               (List._∷_
-              109
-              (List._∷_
-              101
+              104
               (List._∷_
               58
               (List._∷_
@@ -18363,28 +18205,26 @@ module _ (claims· : Claims) where
               117
               (List._∷_
               116
-              (List._∷_ 99 (List._∷_ 111 (List._∷_ 109 (List._∷_ 101 List.[]))))))))))))))))
+              (List._∷_ 99 (List._∷_ 111 (List._∷_ 109 (List._∷_ 101 List.[])))))))))))))))
               (Syntax.tcons
               (Syntax.tyStruct
               (List._∷_
-              111
+              102
               (List._∷_
-              117
+              105
               (List._∷_
-              116
+              110
               (List._∷_
-              99
+              105
               (List._∷_
-              111
+              115
               (List._∷_
-              109
-              (List._∷_
-              101
+              104
               (List._∷_
               58
               (List._∷_
               58
-              (List._∷_ 83 (List._∷_ 101 (List._∷_ 110 (List._∷_ 116 List.[])))))))))))))
+              (List._∷_ 83 (List._∷_ 101 (List._∷_ 110 (List._∷_ 116 List.[]))))))))))))
               (Syntax.tcons
               (Syntax.tyStruct
               (List._∷_
@@ -18447,24 +18287,22 @@ module _ (claims· : Claims) where
               (Syntax.tcons
               (Syntax.tyStruct
               (List._∷_
-              111
+              102
               (List._∷_
-              117
+              105
               (List._∷_
-              116
+              110
               (List._∷_
-              99
+              105
               (List._∷_
-              111
+              115
               (List._∷_
-              109
-              (List._∷_
-              101
+              104
               (List._∷_
               58
               (List._∷_
               58
-              (List._∷_ 83 (List._∷_ 101 (List._∷_ 110 (List._∷_ 116 List.[])))))))))))))
+              (List._∷_ 83 (List._∷_ 101 (List._∷_ 110 (List._∷_ 116 List.[]))))))))))))
               (Syntax.tcons
               (Syntax.tyStruct
               (List._∷_
@@ -18804,19 +18642,17 @@ module _ (claims· : Claims) where
           Rows'.any-gone
               (Syntax.tyStruct
               (List._∷_
-              111
+              102
               (List._∷_
-              117
+              105
               (List._∷_
-              116
+              110
               (List._∷_
-              99
+              105
               (List._∷_
-              111
+              115
               (List._∷_
-              109
-              (List._∷_
-              101
+              104
               (List._∷_
               58
               (List._∷_
@@ -18827,28 +18663,26 @@ module _ (claims· : Claims) where
               117
               (List._∷_
               116
-              (List._∷_ 99 (List._∷_ 111 (List._∷_ 109 (List._∷_ 101 List.[]))))))))))))))))
+              (List._∷_ 99 (List._∷_ 111 (List._∷_ 109 (List._∷_ 101 List.[])))))))))))))))
               (Syntax.tcons
               (Syntax.tyStruct
               (List._∷_
-              111
+              102
               (List._∷_
-              117
+              105
               (List._∷_
-              116
+              110
               (List._∷_
-              99
+              105
               (List._∷_
-              111
+              115
               (List._∷_
-              109
-              (List._∷_
-              101
+              104
               (List._∷_
               58
               (List._∷_
               58
-              (List._∷_ 83 (List._∷_ 101 (List._∷_ 110 (List._∷_ 116 List.[])))))))))))))
+              (List._∷_ 83 (List._∷_ 101 (List._∷_ 110 (List._∷_ 116 List.[]))))))))))))
               (Syntax.tcons
               (Syntax.tyStruct
               (List._∷_
@@ -18911,24 +18745,22 @@ module _ (claims· : Claims) where
               (Syntax.tcons
               (Syntax.tyStruct
               (List._∷_
-              111
+              102
               (List._∷_
-              117
+              105
               (List._∷_
-              116
+              110
               (List._∷_
-              99
+              105
               (List._∷_
-              111
+              115
               (List._∷_
-              109
-              (List._∷_
-              101
+              104
               (List._∷_
               58
               (List._∷_
               58
-              (List._∷_ 83 (List._∷_ 101 (List._∷_ 110 (List._∷_ 116 List.[])))))))))))))
+              (List._∷_ 83 (List._∷_ 101 (List._∷_ 110 (List._∷_ 116 List.[]))))))))))))
               (Syntax.tcons
               (Syntax.tyStruct
               (List._∷_
@@ -19270,19 +19102,17 @@ module _ (claims· : Claims) where
           Rows'.any-gone
               (Syntax.tyStruct
               (List._∷_
-              111
+              102
               (List._∷_
-              117
+              105
               (List._∷_
-              116
+              110
               (List._∷_
-              99
+              105
               (List._∷_
-              111
+              115
               (List._∷_
-              109
-              (List._∷_
-              101
+              104
               (List._∷_
               58
               (List._∷_
@@ -19293,28 +19123,26 @@ module _ (claims· : Claims) where
               117
               (List._∷_
               116
-              (List._∷_ 99 (List._∷_ 111 (List._∷_ 109 (List._∷_ 101 List.[]))))))))))))))))
+              (List._∷_ 99 (List._∷_ 111 (List._∷_ 109 (List._∷_ 101 List.[])))))))))))))))
               (Syntax.tcons
               (Syntax.tyStruct
               (List._∷_
-              111
+              102
               (List._∷_
-              117
+              105
               (List._∷_
-              116
+              110
               (List._∷_
-              99
+              105
               (List._∷_
-              111
+              115
               (List._∷_
-              109
-              (List._∷_
-              101
+              104
               (List._∷_
               58
               (List._∷_
               58
-              (List._∷_ 83 (List._∷_ 101 (List._∷_ 110 (List._∷_ 116 List.[])))))))))))))
+              (List._∷_ 83 (List._∷_ 101 (List._∷_ 110 (List._∷_ 116 List.[]))))))))))))
               (Syntax.tcons
               (Syntax.tyStruct
               (List._∷_
@@ -19377,24 +19205,22 @@ module _ (claims· : Claims) where
               (Syntax.tcons
               (Syntax.tyStruct
               (List._∷_
-              111
+              102
               (List._∷_
-              117
+              105
               (List._∷_
-              116
+              110
               (List._∷_
-              99
+              105
               (List._∷_
-              111
+              115
               (List._∷_
-              109
-              (List._∷_
-              101
+              104
               (List._∷_
               58
               (List._∷_
               58
-              (List._∷_ 83 (List._∷_ 101 (List._∷_ 110 (List._∷_ 116 List.[])))))))))))))
+              (List._∷_ 83 (List._∷_ 101 (List._∷_ 110 (List._∷_ 116 List.[]))))))))))))
               (Syntax.tcons
               (Syntax.tyStruct
               (List._∷_
@@ -19738,19 +19564,17 @@ module _ (claims· : Claims) where
           Rows'.any-gone
               (Syntax.tyStruct
               (List._∷_
-              111
+              102
               (List._∷_
-              117
+              105
               (List._∷_
-              116
+              110
               (List._∷_
-              99
+              105
               (List._∷_
-              111
+              115
               (List._∷_
-              109
-              (List._∷_
-              101
+              104
               (List._∷_
               58
               (List._∷_
@@ -19761,28 +19585,26 @@ module _ (claims· : Claims) where
               117
               (List._∷_
               116
-              (List._∷_ 99 (List._∷_ 111 (List._∷_ 109 (List._∷_ 101 List.[]))))))))))))))))
+              (List._∷_ 99 (List._∷_ 111 (List._∷_ 109 (List._∷_ 101 List.[])))))))))))))))
               (Syntax.tcons
               (Syntax.tyStruct
               (List._∷_
-              111
+              102
               (List._∷_
-              117
+              105
               (List._∷_
-              116
+              110
               (List._∷_
-              99
+              105
               (List._∷_
-              111
+              115
               (List._∷_
-              109
-              (List._∷_
-              101
+              104
               (List._∷_
               58
               (List._∷_
               58
-              (List._∷_ 83 (List._∷_ 101 (List._∷_ 110 (List._∷_ 116 List.[])))))))))))))
+              (List._∷_ 83 (List._∷_ 101 (List._∷_ 110 (List._∷_ 116 List.[]))))))))))))
               (Syntax.tcons
               (Syntax.tyStruct
               (List._∷_
@@ -19845,24 +19667,22 @@ module _ (claims· : Claims) where
               (Syntax.tcons
               (Syntax.tyStruct
               (List._∷_
-              111
+              102
               (List._∷_
-              117
+              105
               (List._∷_
-              116
+              110
               (List._∷_
-              99
+              105
               (List._∷_
-              111
+              115
               (List._∷_
-              109
-              (List._∷_
-              101
+              104
               (List._∷_
               58
               (List._∷_
               58
-              (List._∷_ 83 (List._∷_ 101 (List._∷_ 110 (List._∷_ 116 List.[])))))))))))))
+              (List._∷_ 83 (List._∷_ 101 (List._∷_ 110 (List._∷_ 116 List.[]))))))))))))
               (Syntax.tcons
               (Syntax.tyStruct
               (List._∷_
@@ -20213,19 +20033,17 @@ module _ (claims· : Claims) where
           Rows'.any-gone
               (Syntax.tyStruct
               (List._∷_
-              111
+              102
               (List._∷_
-              117
+              105
               (List._∷_
-              116
+              110
               (List._∷_
-              99
+              105
               (List._∷_
-              111
+              115
               (List._∷_
-              109
-              (List._∷_
-              101
+              104
               (List._∷_
               58
               (List._∷_
@@ -20236,28 +20054,26 @@ module _ (claims· : Claims) where
               117
               (List._∷_
               116
-              (List._∷_ 99 (List._∷_ 111 (List._∷_ 109 (List._∷_ 101 List.[]))))))))))))))))
+              (List._∷_ 99 (List._∷_ 111 (List._∷_ 109 (List._∷_ 101 List.[])))))))))))))))
               (Syntax.tcons
               (Syntax.tyStruct
               (List._∷_
-              111
+              102
               (List._∷_
-              117
+              105
               (List._∷_
-              116
+              110
               (List._∷_
-              99
+              105
               (List._∷_
-              111
+              115
               (List._∷_
-              109
-              (List._∷_
-              101
+              104
               (List._∷_
               58
               (List._∷_
               58
-              (List._∷_ 83 (List._∷_ 101 (List._∷_ 110 (List._∷_ 116 List.[])))))))))))))
+              (List._∷_ 83 (List._∷_ 101 (List._∷_ 110 (List._∷_ 116 List.[]))))))))))))
               (Syntax.tcons
               (Syntax.tyStruct
               (List._∷_
@@ -20320,24 +20136,22 @@ module _ (claims· : Claims) where
               (Syntax.tcons
               (Syntax.tyStruct
               (List._∷_
-              111
+              102
               (List._∷_
-              117
+              105
               (List._∷_
-              116
+              110
               (List._∷_
-              99
+              105
               (List._∷_
-              111
+              115
               (List._∷_
-              109
-              (List._∷_
-              101
+              104
               (List._∷_
               58
               (List._∷_
               58
-              (List._∷_ 83 (List._∷_ 101 (List._∷_ 110 (List._∷_ 116 List.[])))))))))))))
+              (List._∷_ 83 (List._∷_ 101 (List._∷_ 110 (List._∷_ 116 List.[]))))))))))))
               (Syntax.tcons
               (Syntax.tyStruct
               (List._∷_
@@ -25018,7 +24832,7 @@ module _ (claims· : Claims) where
               r·6
               (claims· .12)
               (claims· .13)
-              "outcome::refused"
+              "finish::refused"
               (known .6)
               E
               (λ pos β. β)
@@ -25063,19 +24877,17 @@ module _ (claims· : Claims) where
               A
               (Syntax.tyStruct
               (List._∷_
-              111
+              102
               (List._∷_
-              117
+              105
               (List._∷_
-              116
+              110
               (List._∷_
-              99
+              105
               (List._∷_
-              111
+              115
               (List._∷_
-              109
-              (List._∷_
-              101
+              104
               (List._∷_
               58
               (List._∷_
@@ -25086,28 +24898,26 @@ module _ (claims· : Claims) where
               117
               (List._∷_
               116
-              (List._∷_ 99 (List._∷_ 111 (List._∷_ 109 (List._∷_ 101 List.[]))))))))))))))))
+              (List._∷_ 99 (List._∷_ 111 (List._∷_ 109 (List._∷_ 101 List.[])))))))))))))))
               (Syntax.tcons
               (Syntax.tyStruct
               (List._∷_
-              111
+              102
               (List._∷_
-              117
+              105
               (List._∷_
-              116
+              110
               (List._∷_
-              99
+              105
               (List._∷_
-              111
+              115
               (List._∷_
-              109
-              (List._∷_
-              101
+              104
               (List._∷_
               58
               (List._∷_
               58
-              (List._∷_ 83 (List._∷_ 101 (List._∷_ 110 (List._∷_ 116 List.[])))))))))))))
+              (List._∷_ 83 (List._∷_ 101 (List._∷_ 110 (List._∷_ 116 List.[]))))))))))))
               (Syntax.tcons
               (Syntax.tyStruct
               (List._∷_
@@ -25170,24 +24980,22 @@ module _ (claims· : Claims) where
               (Syntax.tcons
               (Syntax.tyStruct
               (List._∷_
-              111
+              102
               (List._∷_
-              117
+              105
               (List._∷_
-              116
+              110
               (List._∷_
-              99
+              105
               (List._∷_
-              111
+              115
               (List._∷_
-              109
-              (List._∷_
-              101
+              104
               (List._∷_
               58
               (List._∷_
               58
-              (List._∷_ 83 (List._∷_ 101 (List._∷_ 110 (List._∷_ 116 List.[])))))))))))))
+              (List._∷_ 83 (List._∷_ 101 (List._∷_ 110 (List._∷_ 116 List.[]))))))))))))
               (Syntax.tcons
               (Syntax.tyStruct
               (List._∷_
@@ -27520,19 +27328,17 @@ module _ (claims· : Claims) where
               A
               (Syntax.tyStruct
               (List._∷_
-              111
+              102
               (List._∷_
-              117
+              105
               (List._∷_
-              116
+              110
               (List._∷_
-              99
+              105
               (List._∷_
-              111
+              115
               (List._∷_
-              109
-              (List._∷_
-              101
+              104
               (List._∷_
               58
               (List._∷_
@@ -27543,28 +27349,26 @@ module _ (claims· : Claims) where
               117
               (List._∷_
               116
-              (List._∷_ 99 (List._∷_ 111 (List._∷_ 109 (List._∷_ 101 List.[]))))))))))))))))
+              (List._∷_ 99 (List._∷_ 111 (List._∷_ 109 (List._∷_ 101 List.[])))))))))))))))
               (Syntax.tcons
               (Syntax.tyStruct
               (List._∷_
-              111
+              102
               (List._∷_
-              117
+              105
               (List._∷_
-              116
+              110
               (List._∷_
-              99
+              105
               (List._∷_
-              111
+              115
               (List._∷_
-              109
-              (List._∷_
-              101
+              104
               (List._∷_
               58
               (List._∷_
               58
-              (List._∷_ 83 (List._∷_ 101 (List._∷_ 110 (List._∷_ 116 List.[])))))))))))))
+              (List._∷_ 83 (List._∷_ 101 (List._∷_ 110 (List._∷_ 116 List.[]))))))))))))
               (Syntax.tcons
               (Syntax.tyStruct
               (List._∷_
@@ -27627,24 +27431,22 @@ module _ (claims· : Claims) where
               (Syntax.tcons
               (Syntax.tyStruct
               (List._∷_
-              111
+              102
               (List._∷_
-              117
+              105
               (List._∷_
-              116
+              110
               (List._∷_
-              99
+              105
               (List._∷_
-              111
+              115
               (List._∷_
-              109
-              (List._∷_
-              101
+              104
               (List._∷_
               58
               (List._∷_
               58
-              (List._∷_ 83 (List._∷_ 101 (List._∷_ 110 (List._∷_ 116 List.[])))))))))))))
+              (List._∷_ 83 (List._∷_ 101 (List._∷_ 110 (List._∷_ 116 List.[]))))))))))))
               (Syntax.tcons
               (Syntax.tyStruct
               (List._∷_
@@ -29892,7 +29694,7 @@ module _ (claims· : Claims) where
               r·9
               (claims· .18)
               (claims· .19)
-              "rule::no_post"
+              "decision::no_post"
               (known .9)
               E
               (λ pos β. β)
@@ -31044,7 +30846,7 @@ module _ (claims· : Claims) where
                       (λ ρ. Unit)
                       (Declared'.row Found.the-type)
                       Path'.refl
-                      (Copies.cStruct Found.the-type Laws'3.the-laws Laws'3.the-copy .copy 𝓤 H A W)
+                      (Copies.cStruct Found.the-type Laws'4.the-laws Laws'4.the-copy .copy 𝓤 H A W)
                       (Rows'.whole (Declared'.row Found.the-type))
                       (λ x. x)
                       (λ x. x)
@@ -33964,7 +33766,7 @@ module _ (claims· : Claims) where
             r·6
             (claims· .12)
             (claims· .13)
-            "outcome::refused")
+            "finish::refused")
             (known7 : Plain.Known
             𝓤
             H
@@ -33989,7 +33791,18 @@ module _ (claims· : Claims) where
             (claims· .16)
             (claims· .17)
             "start::start_post")
-            (known9 : Plain.Known 𝓤 H A W 𝓣 0 ps·9 r·9 (claims· .18) (claims· .19) "rule::no_post")
+            (known9 : Plain.Known
+            𝓤
+            H
+            A
+            W
+            𝓣
+            0
+            ps·9
+            r·9
+            (claims· .18)
+            (claims· .19)
+            "decision::no_post")
             (known10 : Plain.Known
             𝓤
             H
