@@ -38,7 +38,7 @@ use Rattle.finish.proofs.Laws.{refused-gives}
 use Rattle.bad_call.specs.Lent.{lentBy}
 use Rattle.node.specs.Taken.{Taken, TakenStart, requestDecision, replyDecision, startDecision}
 use Rattle.plain.specs.declared.Target.{Target}
-use Rattle.art.specs.declared.Targets.{Targets}
+use Rattle.targets.specs.declared.Targets.{Targets}
 use Rattle.matching.specs.Kept.{listOf}
 use Rattle.gather.specs.Gathers.{Gathers, Judged}
 use Rattle.gather.specs.declared.Gathering.{Gathering}

@@ -7,7 +7,6 @@ ghost use Rattle.gather.specs.Gathers.{Judged};
 ghost use Rattle.calls.specs.Calls.{Asked, Promised};
 ghost use Rattle.answer.specs.declared.Answer.the-variants.{BadCall, WrongState, OwnDodagid};
 use answer::Answer;
-use art::Targets;
 use gather::Gathering;
 use message::Link;
 use outcome::Outcome;
@@ -17,6 +16,7 @@ use reader::Reading;
 use row::InstanceRow;
 use row::RouteRow;
 use start::Asking;
+use targets::Targets;
 
 // ---- by value
 

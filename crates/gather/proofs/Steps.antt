@@ -10,9 +10,9 @@ use Rattle.plain.specs.Request.{wholeBits}
 use Rattle.plain.specs.Blank.{noTarget, Padded}
 use Rattle.plain.specs.declared.Target.{Target}
 use Rattle.lemmas.proofs.Walk.{left-at}
-use Rattle.art.specs.declared.Count.{Count}
-use Rattle.art.specs.Collected.{noneYet, targetsIn, Collected, Joined}
-use Rattle.art.proofs.Laws.{none-collected, gathered}
+use Rattle.targets.specs.declared.Count.{Count}
+use Rattle.targets.specs.Collected.{noneYet, targetsIn, Collected, Joined}
+use Rattle.targets.proofs.Laws.{none-collected, gathered}
 use Rattle.matching.proofs.Whole.{once-whole}
 use Rattle.gather.specs.declared.Gathering.{Gathering}
 use Rattle.gather.specs.Gathers.{isLong, Gathers}

@@ -1,11 +1,11 @@
 // The targets of a start of our own discovery (01, "Octets on the air"): "A target listed twice in a request or start .. counts once, at its
 // first place; the 8 are counted after that." Spare bits are "stored and sent as zero".
-use art::Count;
-use art::Targets;
 use plain::Target;
+use targets::Count;
+use targets::Targets;
 ghost use mathlib.Core.Path.{_≡_};
 ghost use mathlib.Core.Bool.{_||_};
-ghost use Rattle.art.specs.Collected.{targetsIn};
+ghost use Rattle.targets.specs.Collected.{targetsIn};
 ghost use Rattle.gather.specs.Gathers.{isLong, Gathers, Judged};
 
 // What is gathered: the targets, and whether a prefix is over 127.
@@ -37,12 +37,12 @@ fn gathered(list: [Target; 8], c: Count, long: bool) -> Gathering
 pub fn gather(given: &[Target]) -> Gathering
     ensures { λ r. ⌜ Gathers (now (given .entry)) r ⌝ }
 {
-    let mut list = art::blank_list();
-    let mut c = art::none_yet();
+    let mut list = targets::blank_list();
+    let mut c = targets::none_yet();
     let mut long = false;
     let mut i: usize = 0;
     while i < given.len() {
-        c = art::collect(&mut list, c, matching::whole_bits(given[i]));
+        c = collect::collect(&mut list, c, matching::whole_bits(given[i]));
         long = is_long(long, given[i]);
         i += 1;
     }

@@ -7,7 +7,7 @@ use lib.ListN.{take}
 use Rattle.plain.specs.Blank.{Padded}
 use Rattle.plain.specs.Octets.{mostTargets}
 use Rattle.plain.specs.declared.Target.{Target}
-use Rattle.art.specs.declared.Targets.{Targets}
+use Rattle.targets.specs.declared.Targets.{Targets}
 
 -- the first `count` of them
 abbrev pub listOf : Targets → List Target

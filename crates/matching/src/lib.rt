@@ -1,6 +1,6 @@
 // Which targets are ours, and which are kept (01, "A request").
-use art::Targets;
 use plain::Target;
+use targets::Targets;
 ghost use Prim.Native.Nat.{_+_, _≤_, _<_};
 ghost use mathlib.Core.Path.{_≡_};
 ghost use mathlib.Core.Bool.{cond};
@@ -33,7 +33,7 @@ pub fn is_named(ts: Targets, receiving: [u8; 16], sending: [u8; 16]) -> bool
 fn nothing() -> Targets
     ensures { λ r. ⌜ Nothing r ⌝ }
 {
-    let list = art::blank_list();
+    let list = targets::blank_list();
     Targets {
         over: false,
         count: 0,
@@ -106,7 +106,7 @@ pub fn common(ts: Targets, row: Targets) -> Targets
     let mut i: usize = 0;
     while i < n {
         let t = list[i];
-        kept = keep_if(kept, t, art::is_listed(t, &held, m));
+        kept = keep_if(kept, t, collect::is_listed(t, &held, m));
         i = i + 1;
     }
     kept

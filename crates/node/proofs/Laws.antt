@@ -40,7 +40,7 @@ use Rattle.search.specs.Seen.{requestSeen, replySeen, routeSeen, partnerSeen, d
 use Rattle.place.specs.Places.{rowChange, hopChange}
 use Rattle.finish.specs.Gives.{stateOf, decisionOf, Ready, Settled}
 use Rattle.finish.specs.declared.Live.{Live}
-use Rattle.art.specs.declared.Targets.{Targets}
+use Rattle.targets.specs.declared.Targets.{Targets}
 use Rattle.matching.specs.Kept.{listOf}
 use Rattle.start.specs.Start.{startOf, startAnswer}
 use Rattle.start.specs.declared.Asking.{Asking}

@@ -16,7 +16,7 @@ use Rattle.row.specs.declared.InstanceRow.{InstanceRow}
 use Rattle.message.specs.declared.Parsed.{Parsed}
 use Rattle.rule.specs.Heard.{Heard}
 use Rattle.plain.specs.declared.Target.{Target}
-use Rattle.art.specs.declared.Targets.{Targets}
+use Rattle.targets.specs.declared.Targets.{Targets}
 use Rattle.start.specs.Start.{Sendable}
 use Rattle.start.specs.declared.Asking.{Asking}
 use Rattle.finish.specs.Gives.{decisionOf}

@@ -16,7 +16,6 @@ ghost use Rattle.finish.specs.Gives.{stateOf, Gives};
 ghost use Rattle.node.specs.Taken.{Taken, TakenStart, requestDecision, replyDecision, startDecision};
 ghost use Rattle.message.specs.Message.{messageIn, receivedBy};
 use answer::Answer;
-use art::Targets;
 use finish::Live;
 use message::Found;
 use message::FoundRoute;
@@ -27,6 +26,7 @@ use own::Own;
 use row::InstanceRow;
 use row::RouteRow;
 use start::Asking;
+use targets::Targets;
 
 // ---- by value
 

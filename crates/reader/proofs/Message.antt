@@ -14,8 +14,8 @@ use Rattle.plain.specs.Octets.{octetAt, wordAt, optionsOf, ofType, artType, tar
 use Rattle.plain.specs.declared.Base.{Base}
 use Rattle.plain.specs.declared.Discovery.{Discovery}
 use Rattle.plain.specs.declared.Target.{Target}
-use Rattle.art.specs.declared.Targets.{Targets}
-use Rattle.art.specs.Collected.{Gathered}
+use Rattle.targets.specs.declared.Targets.{Targets}
+use Rattle.targets.specs.Collected.{Gathered}
 use Rattle.option_body.proofs.Laws.{compr-below}
 use Rattle.reader.specs.declared.Reading.{Reading}
 use Rattle.reader.specs.declared.Refusal.{Refusal}

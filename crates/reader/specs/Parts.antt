@@ -7,7 +7,7 @@ use mathlib.Core.Option.{some, none}
 use lib.ListN.{length, take, drop}
 use Rattle.plain.specs.Octets.{optionsOf, ofType, configurationType, configurationOf, routeBody, replyCounts, discoveryOf, vectorOctets, hOf}
 use Rattle.plain.specs.declared.Base.{Base}
-use Rattle.art.specs.declared.Targets.{Targets}
+use Rattle.targets.specs.declared.Targets.{Targets}
 use Rattle.option.specs.Follows.{partOf}
 use Rattle.scan.specs.declared.Found.{Found}
 use Rattle.reader.specs.declared.Reading.{Reading}

@@ -10,12 +10,12 @@ ghost use Rattle.scan.specs.Seen.{Told};
 ghost use Rattle.scan.specs.Scanned.{Outlined};
 ghost use Rattle.reader.specs.Reading.{refusalNumber, heardFrom, Bounded};
 ghost use Rattle.reader.specs.Parts.{RouteAt, Filled};
-use art::Targets;
 use plain::Base;
 use plain::Discovery;
 use plain::Target;
 use scan::Found;
 use scan::Scan;
+use targets::Targets;
 
 // Why octets are refused, or that they are heard.
 pub enum Refusal {
@@ -128,7 +128,7 @@ fn refused(refusal: Refusal) -> Reading
         limit: 0,
         number: 0,
     };
-    let targets = art::blank_list();
+    let targets = targets::blank_list();
     Reading {
         refusal,
         base,

@@ -9,7 +9,7 @@ use Rattle.plain.specs.Table.{Numbered}
 use Rattle.plain.specs.Request.{matchesUs, notOurs, common, isUpdate, rowTargets, targetsKept}
 use Rattle.plain.specs.declared.Standing.{Standing}
 use Rattle.plain.specs.declared.Target.{Target}
-use Rattle.art.specs.declared.Targets.{Targets}
+use Rattle.targets.specs.declared.Targets.{Targets}
 use Rattle.matching.specs.Kept.{listOf, Kept}
 use Rattle.lemmas.proofs.Choice.{cond-case, and-left, and-right, and-both, or-left, or-right}
 

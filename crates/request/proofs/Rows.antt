@@ -5,7 +5,7 @@ use denote.Laws.{Is}
 use denote.Struct.Declared.{row}
 use Rattle.message.proofs.Found as found
 use Rattle.row.proofs.InstanceRow as instance
-use Rattle.art.proofs.Targets as targets
+use Rattle.targets.proofs.Targets as targets
 use Rattle.request.proofs.RequestFacts as facts
 use mathlib.Core.Path.{_≡_, refl, sym}
 use mathlib.Core.Bool.{Bool, true, false, cond}
@@ -24,7 +24,7 @@ use Rattle.writer_option.specs.Sendable.{shortPrefix, shortPrefixes}
 use Rattle.matching.specs.Kept.{listOf, Kept}
 use Rattle.message.specs.Message.{messageIn, receivedBy, requestFound, routeFound, deltaFound}
 use Rattle.row.specs.declared.InstanceRow.{InstanceRow}
-use Rattle.art.specs.declared.Targets.{Targets}
+use Rattle.targets.specs.declared.Targets.{Targets}
 use Rattle.request.specs.declared.RequestFacts.{RequestFacts}
 use Rattle.message.specs.declared.Found.{Found}
 use Rattle.message.specs.declared.FoundRoute.{FoundRoute}

@@ -1,6 +1,5 @@
 // A received request by value (01, "A request"): the facts that it rests on, and its answer.
 use answer::Answer;
-use art::Targets;
 use message::Found;
 use message::FoundRoute;
 use message::FreeDelta;
@@ -8,6 +7,7 @@ use message::Link;
 use message::Parsed;
 use own::Own;
 use plain::Standing;
+use targets::Targets;
 ghost use Prim.Native.Nat.{_≤_};
 ghost use mathlib.Core.Path.{_≡_};
 ghost use mathlib.Core.Bool.{true, false, not, _&&_, _||_};

@@ -11,9 +11,9 @@ use Rattle.plain.specs.Lists.{any, those, once}
 use Rattle.plain.specs.Octets.{Opt, ofType, artType, optionsIn, optionsOf, anyBad, badOption, badArt, followedBy, targetOf, sameTarget}
 use Rattle.plain.specs.Blank.{Padded}
 use Rattle.plain.specs.declared.Target.{Target}
-use Rattle.art.specs.declared.Targets.{Targets}
-use Rattle.art.specs.Collected.{Collected, Gathered}
-use Rattle.art.proofs.Laws.{gathered}
+use Rattle.targets.specs.declared.Targets.{Targets}
+use Rattle.targets.specs.Collected.{Collected, Gathered}
+use Rattle.targets.proofs.Laws.{gathered}
 use Rattle.option.specs.Follows.{optionOf, partOf, Follows}
 use Rattle.option.specs.declared.Next.{Next}
 use Rattle.option.specs.declared.Next.the-variants.{Pad, Body, End, Cut}

@@ -3,13 +3,13 @@ ghost use Prim.Native.Nat.{ℕ};
 ghost use mathlib.Core.Path.{_≡_};
 ghost use mathlib.Core.Bool.{false, true};
 ghost use Rattle.plain.specs.Octets.{optionsOf, ofType, artType, anyBad, targetsOf};
-ghost use Rattle.art.specs.Collected.{targetsIn, Gathered};
+ghost use Rattle.targets.specs.Collected.{targetsIn, Gathered};
 ghost use Rattle.scan.specs.Seen.{Noted};
 ghost use Rattle.scan.specs.Scanned.{freshScan, OptionTaken, Scanned};
-use art::Count;
-use art::Targets;
 use option::Next;
 use plain::Target;
+use targets::Count;
+use targets::Targets;
 
 // The options of one type: how many, as far as 2, and where the body of the first one is.
 pub struct Found {
@@ -140,8 +140,8 @@ pub fn read_targets(msg: &[u8]) -> Targets
     requires { ⌜ anyBad (optionsOf (now msg)) ≡ false ⌝ }
     ensures { λ r. ⌜ Gathered (targetsOf (ofType artType (optionsOf (now (msg .entry))))) r ⌝ }
 {
-    let mut list = art::blank_list();
-    let mut c = art::none_yet();
+    let mut list = targets::blank_list();
+    let mut c = targets::none_yet();
     let mut at = 24;
     let mut left = msg.len();
     while 0 < left {
@@ -153,7 +153,7 @@ pub fn read_targets(msg: &[u8]) -> Targets
             Next::Body { kind, start, end } => {
                 at = end;
                 if kind == 0x0D {
-                    c = art::collect(&mut list, c, art::read_target(&msg[start..end]));
+                    c = collect::collect(&mut list, c, art::read_target(&msg[start..end]));
                 }
             }
             Next::End => {

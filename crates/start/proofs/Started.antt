@@ -19,7 +19,7 @@ use Rattle.deadline.specs.Deadline.{deadlineOf}
 use Rattle.deadline.specs.declared.Deadline.{Deadline}
 use Rattle.row.specs.Record.{requestRecord}
 use Rattle.writer_option.specs.Sendable.{Sendable, shortPrefixes}
-use Rattle.art.specs.declared.Targets.{Targets}
+use Rattle.targets.specs.declared.Targets.{Targets}
 use Rattle.matching.specs.Kept.{listOf}
 use Rattle.message.specs.Message.{messageIn}
 use Rattle.message.specs.declared.Parsed.{Parsed}

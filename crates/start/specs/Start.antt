@@ -7,7 +7,7 @@ use Rattle.plain.specs.Given as rules
 use Rattle.plain.specs.Request.{cannotElide}
 use Rattle.plain.specs.declared.Target.{Target}
 use Rattle.writer_option.specs.Sendable.{shortPrefixes}
-use Rattle.art.specs.declared.Targets.{Targets}
+use Rattle.targets.specs.declared.Targets.{Targets}
 use Rattle.matching.specs.Kept.{listOf}
 use Rattle.start.specs.declared.Asking.{Asking}
 

@@ -1,6 +1,5 @@
 // The start of our own discovery by value (01, "A request").
 use answer::Answer;
-use art::Targets;
 use decision::Decided;
 use decision::Post;
 use decision::What;
@@ -9,6 +8,7 @@ use own::Own;
 use plain::Base;
 use plain::Discovery;
 use row::InstanceRow;
+use targets::Targets;
 ghost use Prim.Native.Nat.{ℕ, _≤_, _^_};
 ghost use mathlib.Core.Path.{_≡_};
 ghost use mathlib.Core.Bool.{cond};

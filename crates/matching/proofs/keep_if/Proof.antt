@@ -4,7 +4,7 @@ use native.Mathlib.Numerals.{add-one}
 use lib.ListN.{length, length-map}
 use lib.Seq.{take-suc-set}
 use borrow.Author.Needs.{needs}
-use Rattle.art.proofs.Laws.{padded-more}
+use Rattle.targets.proofs.Laws.{padded-more}
 use Rattle.matching.proofs.keep_if.Statement.{statement}
 use Rattle.matching.proofs.keep_if.Tie as tie
 

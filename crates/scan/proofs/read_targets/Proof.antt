@@ -4,8 +4,8 @@ use mathlib.Core.Path.{refl}
 use native.Mathlib.Omega.{arith}
 use denote.Ref.{now}
 use borrow.Author.Needs.{needs}
-use Rattle.art.specs.Collected.{targetsIn}
-use Rattle.art.proofs.Laws.{none-collected}
+use Rattle.targets.specs.Collected.{targetsIn}
+use Rattle.targets.proofs.Laws.{none-collected}
 use Rattle.scan.proofs.Turn.{pad-placed, body-placed}
 use Rattle.scan.proofs.Collecting.{Collecting, artTargets, gathered-out, gathered-end, gathered-cut, collecting-pad, art-here, collecting-other, collecting-art}
 use Rattle.plain.specs.Octets.{optionsOf}

@@ -6,16 +6,16 @@ use Rattle.plain.proofs.Elem.Target as KTarget
 use Prim.Native.Nat
 use Rattle.answer.proofs.Answer
 use Rattle.answer.proofs.Answer.Laws
-use Rattle.art.proofs.Targets
-use Rattle.art.proofs.Targets.Laws as Laws'
+use Rattle.finish.proofs.Outcome
+use Rattle.finish.proofs.Outcome.Laws as Laws'
 use Rattle.gather.proofs.Gathering
 use Rattle.gather.proofs.Gathering.Laws as Laws''
-use Rattle.outcome.proofs.Outcome
-use Rattle.outcome.proofs.Outcome.Laws as Laws'3
 use Rattle.own.proofs.Own
-use Rattle.own.proofs.Own.Laws as Laws'4
+use Rattle.own.proofs.Own.Laws as Laws'3
 use Rattle.start.proofs.Asking
-use Rattle.start.proofs.Asking.Laws as Laws'5
+use Rattle.start.proofs.Asking.Laws as Laws'4
+use Rattle.targets.proofs.Targets
+use Rattle.targets.proofs.Targets.Laws as Laws'5
 use borrow.Author.Called
 use borrow.Fn.Any
 use borrow.Fn.Call
@@ -80,16 +80,16 @@ ps =
     (List._∷_ (Value.pVal record {
       ty = Declared'.row Own.the-type;
       one = Path'.refl;
-      val = Laws'7.val Own.the-type Laws'4.the-laws;
-      tells = Laws'7.tells Own.the-type Laws'4.the-laws;
-      still = Laws'7.still Own.the-type Laws'4.the-copy Exit.yes;
+      val = Laws'7.val Own.the-type Laws'3.the-laws;
+      tells = Laws'7.tells Own.the-type Laws'3.the-laws;
+      still = Laws'7.still Own.the-type Laws'3.the-copy Exit.yes;
       row = Rows.whole (Declared'.row Own.the-type);
       rd = λ x. x;
       mk = λ x. x;
     } λ M 𝓤 H A W. record {
-      copies = Laws'7.copy Own.the-type Laws'4.the-copy 𝓤 H A W;
-      lawful = Laws'7.lawful Own.the-type Laws'4.the-laws 𝓤 H A W;
-      makes = Laws'7.makes Own.the-type Laws'4.the-plain 𝓤 H A;
+      copies = Laws'7.copy Own.the-type Laws'3.the-copy 𝓤 H A W;
+      lawful = Laws'7.lawful Own.the-type Laws'3.the-laws 𝓤 H A W;
+      makes = Laws'7.makes Own.the-type Laws'3.the-plain 𝓤 H A;
       in-mem = Local.mem-whole 𝓤 H A W (Declared'.row Own.the-type);
       of-mem = Local.whole-mem 𝓤 H A W (Declared'.row Own.the-type);
     })
@@ -98,16 +98,16 @@ ps =
     (List._∷_ (Num.pNum Syntax.w8) (List._∷_ (Num.pNum Syntax.w64) (List._∷_ (Value.pVal record {
       ty = Declared'.row Asking.the-type;
       one = Path'.refl;
-      val = Laws'7.val Asking.the-type Laws'5.the-laws;
-      tells = Laws'7.tells Asking.the-type Laws'5.the-laws;
-      still = Laws'7.still Asking.the-type Laws'5.the-copy Exit.yes;
+      val = Laws'7.val Asking.the-type Laws'4.the-laws;
+      tells = Laws'7.tells Asking.the-type Laws'4.the-laws;
+      still = Laws'7.still Asking.the-type Laws'4.the-copy Exit.yes;
       row = Rows.whole (Declared'.row Asking.the-type);
       rd = λ x. x;
       mk = λ x. x;
     } λ M 𝓤 H A W. record {
-      copies = Laws'7.copy Asking.the-type Laws'5.the-copy 𝓤 H A W;
-      lawful = Laws'7.lawful Asking.the-type Laws'5.the-laws 𝓤 H A W;
-      makes = Laws'7.makes Asking.the-type Laws'5.the-plain 𝓤 H A;
+      copies = Laws'7.copy Asking.the-type Laws'4.the-copy 𝓤 H A W;
+      lawful = Laws'7.lawful Asking.the-type Laws'4.the-laws 𝓤 H A W;
+      makes = Laws'7.makes Asking.the-type Laws'4.the-plain 𝓤 H A;
       in-mem = Local.mem-whole 𝓤 H A W (Declared'.row Asking.the-type);
       of-mem = Local.whole-mem 𝓤 H A W (Declared'.row Asking.the-type);
     }) List.[])))))))))
@@ -116,16 +116,16 @@ abbrev pub r : Kinds.RK 5
 r = Value.rVal record {
   ty = Declared'.row Outcome.the-type;
   one = Path'.refl;
-  val = Laws'7.val Outcome.the-type Laws'3.the-laws;
-  tells = Laws'7.tells Outcome.the-type Laws'3.the-laws;
-  still = Laws'7.still Outcome.the-type Laws'3.the-copy Exit.yes;
+  val = Laws'7.val Outcome.the-type Laws'.the-laws;
+  tells = Laws'7.tells Outcome.the-type Laws'.the-laws;
+  still = Laws'7.still Outcome.the-type Laws'.the-copy Exit.yes;
   row = Rows.whole (Declared'.row Outcome.the-type);
   rd = λ x. x;
   mk = λ x. x;
 } λ M 𝓤 H A W. record {
-  copies = Laws'7.copy Outcome.the-type Laws'3.the-copy 𝓤 H A W;
-  lawful = Laws'7.lawful Outcome.the-type Laws'3.the-laws 𝓤 H A W;
-  makes = Laws'7.makes Outcome.the-type Laws'3.the-plain 𝓤 H A;
+  copies = Laws'7.copy Outcome.the-type Laws'.the-copy 𝓤 H A W;
+  lawful = Laws'7.lawful Outcome.the-type Laws'.the-laws 𝓤 H A W;
+  makes = Laws'7.makes Outcome.the-type Laws'.the-plain 𝓤 H A;
   in-mem = Local.mem-whole 𝓤 H A W (Declared'.row Outcome.the-type);
   of-mem = Local.whole-mem 𝓤 H A W (Declared'.row Outcome.the-type);
 }
@@ -162,11 +162,19 @@ xs =
     (Syntax.tcons
     (Syntax.tyStruct
     (List._∷_
+    116
+    (List._∷_
     97
     (List._∷_
     114
     (List._∷_
+    103
+    (List._∷_
+    101
+    (List._∷_
     116
+    (List._∷_
+    115
     (List._∷_
     58
     (List._∷_
@@ -175,7 +183,7 @@ xs =
     84
     (List._∷_
     97
-    (List._∷_ 114 (List._∷_ 103 (List._∷_ 101 (List._∷_ 116 (List._∷_ 115 List.[]))))))))))))
+    (List._∷_ 114 (List._∷_ 103 (List._∷_ 101 (List._∷_ 116 (List._∷_ 115 List.[]))))))))))))))))
     (Syntax.tcons
     Syntax.tyBool
     (Syntax.tcons
@@ -431,11 +439,19 @@ xs =
     (List._∷_
     (Syntax.tyStruct
     (List._∷_
+    116
+    (List._∷_
     97
     (List._∷_
     114
     (List._∷_
+    103
+    (List._∷_
+    101
+    (List._∷_
     116
+    (List._∷_
+    115
     (List._∷_
     58
     (List._∷_
@@ -444,7 +460,7 @@ xs =
     84
     (List._∷_
     97
-    (List._∷_ 114 (List._∷_ 103 (List._∷_ 101 (List._∷_ 116 (List._∷_ 115 List.[]))))))))))))
+    (List._∷_ 114 (List._∷_ 103 (List._∷_ 101 (List._∷_ 116 (List._∷_ 115 List.[]))))))))))))))))
     (Syntax.tcons
     Syntax.tyBool
     (Syntax.tcons
@@ -485,16 +501,16 @@ abbrev pub ps·0 : List.List (Kinds.PK 0)
 ps·0 = List._∷_ (Value.pVal record {
   ty = Declared'.row Own.the-type;
   one = Path'.refl;
-  val = Laws'7.val Own.the-type Laws'4.the-laws;
-  tells = Laws'7.tells Own.the-type Laws'4.the-laws;
-  still = Laws'7.still Own.the-type Laws'4.the-copy Exit.yes;
+  val = Laws'7.val Own.the-type Laws'3.the-laws;
+  tells = Laws'7.tells Own.the-type Laws'3.the-laws;
+  still = Laws'7.still Own.the-type Laws'3.the-copy Exit.yes;
   row = Rows.whole (Declared'.row Own.the-type);
   rd = λ x. x;
   mk = λ x. x;
 } λ M 𝓤 H A W. record {
-  copies = Laws'7.copy Own.the-type Laws'4.the-copy 𝓤 H A W;
-  lawful = Laws'7.lawful Own.the-type Laws'4.the-laws 𝓤 H A W;
-  makes = Laws'7.makes Own.the-type Laws'4.the-plain 𝓤 H A;
+  copies = Laws'7.copy Own.the-type Laws'3.the-copy 𝓤 H A W;
+  lawful = Laws'7.lawful Own.the-type Laws'3.the-laws 𝓤 H A W;
+  makes = Laws'7.makes Own.the-type Laws'3.the-plain 𝓤 H A;
   in-mem = Local.mem-whole 𝓤 H A W (Declared'.row Own.the-type);
   of-mem = Local.whole-mem 𝓤 H A W (Declared'.row Own.the-type);
 })
@@ -550,16 +566,16 @@ abbrev pub r·2 : Kinds.RK 0
 r·2 = Value.rVal record {
   ty = Declared'.row Outcome.the-type;
   one = Path'.refl;
-  val = Laws'7.val Outcome.the-type Laws'3.the-laws;
-  tells = Laws'7.tells Outcome.the-type Laws'3.the-laws;
-  still = Laws'7.still Outcome.the-type Laws'3.the-copy Exit.yes;
+  val = Laws'7.val Outcome.the-type Laws'.the-laws;
+  tells = Laws'7.tells Outcome.the-type Laws'.the-laws;
+  still = Laws'7.still Outcome.the-type Laws'.the-copy Exit.yes;
   row = Rows.whole (Declared'.row Outcome.the-type);
   rd = λ x. x;
   mk = λ x. x;
 } λ M 𝓤 H A W. record {
-  copies = Laws'7.copy Outcome.the-type Laws'3.the-copy 𝓤 H A W;
-  lawful = Laws'7.lawful Outcome.the-type Laws'3.the-laws 𝓤 H A W;
-  makes = Laws'7.makes Outcome.the-type Laws'3.the-plain 𝓤 H A;
+  copies = Laws'7.copy Outcome.the-type Laws'.the-copy 𝓤 H A W;
+  lawful = Laws'7.lawful Outcome.the-type Laws'.the-laws 𝓤 H A W;
+  makes = Laws'7.makes Outcome.the-type Laws'.the-plain 𝓤 H A;
   in-mem = Local.mem-whole 𝓤 H A W (Declared'.row Outcome.the-type);
   of-mem = Local.whole-mem 𝓤 H A W (Declared'.row Outcome.the-type);
 }
@@ -607,16 +623,16 @@ ps·4 = List._∷_ (Value.pVal record {
 }) (List._∷_ (Value.pVal record {
   ty = Declared'.row Asking.the-type;
   one = Path'.refl;
-  val = Laws'7.val Asking.the-type Laws'5.the-laws;
-  tells = Laws'7.tells Asking.the-type Laws'5.the-laws;
-  still = Laws'7.still Asking.the-type Laws'5.the-copy Exit.yes;
+  val = Laws'7.val Asking.the-type Laws'4.the-laws;
+  tells = Laws'7.tells Asking.the-type Laws'4.the-laws;
+  still = Laws'7.still Asking.the-type Laws'4.the-copy Exit.yes;
   row = Rows.whole (Declared'.row Asking.the-type);
   rd = λ x. x;
   mk = λ x. x;
 } λ M 𝓤 H A W. record {
-  copies = Laws'7.copy Asking.the-type Laws'5.the-copy 𝓤 H A W;
-  lawful = Laws'7.lawful Asking.the-type Laws'5.the-laws 𝓤 H A W;
-  makes = Laws'7.makes Asking.the-type Laws'5.the-plain 𝓤 H A;
+  copies = Laws'7.copy Asking.the-type Laws'4.the-copy 𝓤 H A W;
+  lawful = Laws'7.lawful Asking.the-type Laws'4.the-laws 𝓤 H A W;
+  makes = Laws'7.makes Asking.the-type Laws'4.the-plain 𝓤 H A;
   in-mem = Local.mem-whole 𝓤 H A W (Declared'.row Asking.the-type);
   of-mem = Local.whole-mem 𝓤 H A W (Declared'.row Asking.the-type);
 }) List.[])
@@ -678,16 +694,16 @@ abbrev pub r·7 : Kinds.RK 0
 r·7 = Value.rVal record {
   ty = Declared'.row Targets.the-type;
   one = Path'.refl;
-  val = Laws'7.val Targets.the-type Laws'.the-laws;
-  tells = Laws'7.tells Targets.the-type Laws'.the-laws;
-  still = Laws'7.still Targets.the-type Laws'.the-copy Exit.yes;
+  val = Laws'7.val Targets.the-type Laws'5.the-laws;
+  tells = Laws'7.tells Targets.the-type Laws'5.the-laws;
+  still = Laws'7.still Targets.the-type Laws'5.the-copy Exit.yes;
   row = Rows.whole (Declared'.row Targets.the-type);
   rd = λ x. x;
   mk = λ x. x;
 } λ M 𝓤 H A W. record {
-  copies = Laws'7.copy Targets.the-type Laws'.the-copy 𝓤 H A W;
-  lawful = Laws'7.lawful Targets.the-type Laws'.the-laws 𝓤 H A W;
-  makes = Laws'7.makes Targets.the-type Laws'.the-plain 𝓤 H A;
+  copies = Laws'7.copy Targets.the-type Laws'5.the-copy 𝓤 H A W;
+  lawful = Laws'7.lawful Targets.the-type Laws'5.the-laws 𝓤 H A W;
+  makes = Laws'7.makes Targets.the-type Laws'5.the-plain 𝓤 H A;
   in-mem = Local.mem-whole 𝓤 H A W (Declared'.row Targets.the-type);
   of-mem = Local.whole-mem 𝓤 H A W (Declared'.row Targets.the-type);
 }
@@ -705,16 +721,16 @@ ps·8 =
     (List._∷_ (Value.pVal record {
       ty = Declared'.row Own.the-type;
       one = Path'.refl;
-      val = Laws'7.val Own.the-type Laws'4.the-laws;
-      tells = Laws'7.tells Own.the-type Laws'4.the-laws;
-      still = Laws'7.still Own.the-type Laws'4.the-copy Exit.yes;
+      val = Laws'7.val Own.the-type Laws'3.the-laws;
+      tells = Laws'7.tells Own.the-type Laws'3.the-laws;
+      still = Laws'7.still Own.the-type Laws'3.the-copy Exit.yes;
       row = Rows.whole (Declared'.row Own.the-type);
       rd = λ x. x;
       mk = λ x. x;
     } λ M 𝓤 H A W. record {
-      copies = Laws'7.copy Own.the-type Laws'4.the-copy 𝓤 H A W;
-      lawful = Laws'7.lawful Own.the-type Laws'4.the-laws 𝓤 H A W;
-      makes = Laws'7.makes Own.the-type Laws'4.the-plain 𝓤 H A;
+      copies = Laws'7.copy Own.the-type Laws'3.the-copy 𝓤 H A W;
+      lawful = Laws'7.lawful Own.the-type Laws'3.the-laws 𝓤 H A W;
+      makes = Laws'7.makes Own.the-type Laws'3.the-plain 𝓤 H A;
       in-mem = Local.mem-whole 𝓤 H A W (Declared'.row Own.the-type);
       of-mem = Local.whole-mem 𝓤 H A W (Declared'.row Own.the-type);
     })
@@ -723,31 +739,31 @@ ps·8 =
     (List._∷_ (Num.pNum Syntax.w8) (List._∷_ (Num.pNum Syntax.w64) (List._∷_ (Value.pVal record {
       ty = Declared'.row Asking.the-type;
       one = Path'.refl;
-      val = Laws'7.val Asking.the-type Laws'5.the-laws;
-      tells = Laws'7.tells Asking.the-type Laws'5.the-laws;
-      still = Laws'7.still Asking.the-type Laws'5.the-copy Exit.yes;
+      val = Laws'7.val Asking.the-type Laws'4.the-laws;
+      tells = Laws'7.tells Asking.the-type Laws'4.the-laws;
+      still = Laws'7.still Asking.the-type Laws'4.the-copy Exit.yes;
       row = Rows.whole (Declared'.row Asking.the-type);
       rd = λ x. x;
       mk = λ x. x;
     } λ M 𝓤 H A W. record {
-      copies = Laws'7.copy Asking.the-type Laws'5.the-copy 𝓤 H A W;
-      lawful = Laws'7.lawful Asking.the-type Laws'5.the-laws 𝓤 H A W;
-      makes = Laws'7.makes Asking.the-type Laws'5.the-plain 𝓤 H A;
+      copies = Laws'7.copy Asking.the-type Laws'4.the-copy 𝓤 H A W;
+      lawful = Laws'7.lawful Asking.the-type Laws'4.the-laws 𝓤 H A W;
+      makes = Laws'7.makes Asking.the-type Laws'4.the-plain 𝓤 H A;
       in-mem = Local.mem-whole 𝓤 H A W (Declared'.row Asking.the-type);
       of-mem = Local.whole-mem 𝓤 H A W (Declared'.row Asking.the-type);
     }) (List._∷_ (Value.pVal record {
       ty = Declared'.row Targets.the-type;
       one = Path'.refl;
-      val = Laws'7.val Targets.the-type Laws'.the-laws;
-      tells = Laws'7.tells Targets.the-type Laws'.the-laws;
-      still = Laws'7.still Targets.the-type Laws'.the-copy Exit.yes;
+      val = Laws'7.val Targets.the-type Laws'5.the-laws;
+      tells = Laws'7.tells Targets.the-type Laws'5.the-laws;
+      still = Laws'7.still Targets.the-type Laws'5.the-copy Exit.yes;
       row = Rows.whole (Declared'.row Targets.the-type);
       rd = λ x. x;
       mk = λ x. x;
     } λ M 𝓤 H A W. record {
-      copies = Laws'7.copy Targets.the-type Laws'.the-copy 𝓤 H A W;
-      lawful = Laws'7.lawful Targets.the-type Laws'.the-laws 𝓤 H A W;
-      makes = Laws'7.makes Targets.the-type Laws'.the-plain 𝓤 H A;
+      copies = Laws'7.copy Targets.the-type Laws'5.the-copy 𝓤 H A W;
+      lawful = Laws'7.lawful Targets.the-type Laws'5.the-laws 𝓤 H A W;
+      makes = Laws'7.makes Targets.the-type Laws'5.the-plain 𝓤 H A;
       in-mem = Local.mem-whole 𝓤 H A W (Declared'.row Targets.the-type);
       of-mem = Local.whole-mem 𝓤 H A W (Declared'.row Targets.the-type);
     }) List.[])))))))))
@@ -756,16 +772,16 @@ abbrev pub r·8 : Kinds.RK 4
 r·8 = Value.rVal record {
   ty = Declared'.row Outcome.the-type;
   one = Path'.refl;
-  val = Laws'7.val Outcome.the-type Laws'3.the-laws;
-  tells = Laws'7.tells Outcome.the-type Laws'3.the-laws;
-  still = Laws'7.still Outcome.the-type Laws'3.the-copy Exit.yes;
+  val = Laws'7.val Outcome.the-type Laws'.the-laws;
+  tells = Laws'7.tells Outcome.the-type Laws'.the-laws;
+  still = Laws'7.still Outcome.the-type Laws'.the-copy Exit.yes;
   row = Rows.whole (Declared'.row Outcome.the-type);
   rd = λ x. x;
   mk = λ x. x;
 } λ M 𝓤 H A W. record {
-  copies = Laws'7.copy Outcome.the-type Laws'3.the-copy 𝓤 H A W;
-  lawful = Laws'7.lawful Outcome.the-type Laws'3.the-laws 𝓤 H A W;
-  makes = Laws'7.makes Outcome.the-type Laws'3.the-plain 𝓤 H A;
+  copies = Laws'7.copy Outcome.the-type Laws'.the-copy 𝓤 H A W;
+  lawful = Laws'7.lawful Outcome.the-type Laws'.the-laws 𝓤 H A W;
+  makes = Laws'7.makes Outcome.the-type Laws'.the-plain 𝓤 H A;
   in-mem = Local.mem-whole 𝓤 H A W (Declared'.row Outcome.the-type);
   of-mem = Local.whole-mem 𝓤 H A W (Declared'.row Outcome.the-type);
 }
@@ -869,7 +885,7 @@ b3 = Syntax.call "calls::bad_call" List.[] (Syntax.place 15 List.[])
 abbrev b4 : Syntax.Body
 b4 =
     Syntax.call
-    "outcome::refused"
+    "finish::refused"
     (List._∷_
     (Syntax.copy (Syntax.place 15 List.[]))
     (List._∷_
@@ -914,7 +930,7 @@ b12 = Syntax.call "calls::bad_call" List.[] (Syntax.place 17 List.[])
 abbrev b13 : Syntax.Body
 b13 =
     Syntax.call
-    "outcome::refused"
+    "finish::refused"
     (List._∷_
     (Syntax.copy (Syntax.place 17 List.[]))
     (List._∷_
@@ -996,7 +1012,7 @@ b24 = Syntax.call "calls::wrong_state" List.[] (Syntax.place 23 List.[])
 abbrev b25 : Syntax.Body
 b25 =
     Syntax.call
-    "outcome::refused"
+    "finish::refused"
     (List._∷_
     (Syntax.copy (Syntax.place 23 List.[]))
     (List._∷_
@@ -1229,19 +1245,17 @@ t0 = List._∷_ (
   Rows.any-gone
       (Syntax.tyStruct
       (List._∷_
-      111
+      102
       (List._∷_
-      117
+      105
       (List._∷_
-      116
+      110
       (List._∷_
-      99
+      105
       (List._∷_
-      111
+      115
       (List._∷_
-      109
-      (List._∷_
-      101
+      104
       (List._∷_
       58
       (List._∷_
@@ -1250,26 +1264,24 @@ t0 = List._∷_ (
       79
       (List._∷_
       117
-      (List._∷_ 116 (List._∷_ 99 (List._∷_ 111 (List._∷_ 109 (List._∷_ 101 List.[]))))))))))))))))
+      (List._∷_ 116 (List._∷_ 99 (List._∷_ 111 (List._∷_ 109 (List._∷_ 101 List.[])))))))))))))))
       (Syntax.tcons
       (Syntax.tyStruct
       (List._∷_
-      111
+      102
       (List._∷_
-      117
+      105
       (List._∷_
-      116
+      110
       (List._∷_
-      99
+      105
       (List._∷_
-      111
+      115
       (List._∷_
-      109
-      (List._∷_
-      101
+      104
       (List._∷_
       58
-      (List._∷_ 58 (List._∷_ 83 (List._∷_ 101 (List._∷_ 110 (List._∷_ 116 List.[])))))))))))))
+      (List._∷_ 58 (List._∷_ 83 (List._∷_ 101 (List._∷_ 110 (List._∷_ 116 List.[]))))))))))))
       (Syntax.tcons
       (Syntax.tyStruct
       (List._∷_
@@ -1332,22 +1344,20 @@ t0 = List._∷_ (
       (Syntax.tcons
       (Syntax.tyStruct
       (List._∷_
-      111
+      102
       (List._∷_
-      117
+      105
       (List._∷_
-      116
+      110
       (List._∷_
-      99
+      105
       (List._∷_
-      111
+      115
       (List._∷_
-      109
-      (List._∷_
-      101
+      104
       (List._∷_
       58
-      (List._∷_ 58 (List._∷_ 83 (List._∷_ 101 (List._∷_ 110 (List._∷_ 116 List.[])))))))))))))
+      (List._∷_ 58 (List._∷_ 83 (List._∷_ 101 (List._∷_ 110 (List._∷_ 116 List.[]))))))))))))
       (Syntax.tcons
       (Syntax.tyStruct
       (List._∷_
@@ -1530,11 +1540,19 @@ t0 = List._∷_ (
       (Syntax.tcons
       (Syntax.tyStruct
       (List._∷_
+      116
+      (List._∷_
       97
       (List._∷_
       114
       (List._∷_
+      103
+      (List._∷_
+      101
+      (List._∷_
       116
+      (List._∷_
+      115
       (List._∷_
       58
       (List._∷_
@@ -1543,7 +1561,7 @@ t0 = List._∷_ (
       84
       (List._∷_
       97
-      (List._∷_ 114 (List._∷_ 103 (List._∷_ 101 (List._∷_ 116 (List._∷_ 115 List.[]))))))))))))
+      (List._∷_ 114 (List._∷_ 103 (List._∷_ 101 (List._∷_ 116 (List._∷_ 115 List.[]))))))))))))))))
       (Syntax.tcons
       Syntax.tyBool
       (Syntax.tcons
@@ -1828,11 +1846,19 @@ t2 = List._∷_ (
   Rows.any-gone
       (Syntax.tyStruct
       (List._∷_
+      116
+      (List._∷_
       97
       (List._∷_
       114
       (List._∷_
+      103
+      (List._∷_
+      101
+      (List._∷_
       116
+      (List._∷_
+      115
       (List._∷_
       58
       (List._∷_
@@ -1841,7 +1867,7 @@ t2 = List._∷_ (
       84
       (List._∷_
       97
-      (List._∷_ 114 (List._∷_ 103 (List._∷_ 101 (List._∷_ 116 (List._∷_ 115 List.[]))))))))))))
+      (List._∷_ 114 (List._∷_ 103 (List._∷_ 101 (List._∷_ 116 (List._∷_ 115 List.[]))))))))))))))))
       (Syntax.tcons
       Syntax.tyBool
       (Syntax.tcons
@@ -1987,11 +2013,19 @@ t3 = List._∷_ (0, Rows.whole (Declared'.row Outcome.the-type)) (List._∷_ (
       (Syntax.tcons
       (Syntax.tyStruct
       (List._∷_
+      116
+      (List._∷_
       97
       (List._∷_
       114
       (List._∷_
+      103
+      (List._∷_
+      101
+      (List._∷_
       116
+      (List._∷_
+      115
       (List._∷_
       58
       (List._∷_
@@ -2000,7 +2034,7 @@ t3 = List._∷_ (0, Rows.whole (Declared'.row Outcome.the-type)) (List._∷_ (
       84
       (List._∷_
       97
-      (List._∷_ 114 (List._∷_ 103 (List._∷_ 101 (List._∷_ 116 (List._∷_ 115 List.[]))))))))))))
+      (List._∷_ 114 (List._∷_ 103 (List._∷_ 101 (List._∷_ 116 (List._∷_ 115 List.[]))))))))))))))))
       (Syntax.tcons
       Syntax.tyBool
       (Syntax.tcons
@@ -2100,19 +2134,17 @@ t4 = List._∷_ (
   Rows.any-gone
       (Syntax.tyStruct
       (List._∷_
-      111
+      102
       (List._∷_
-      117
+      105
       (List._∷_
-      116
+      110
       (List._∷_
-      99
+      105
       (List._∷_
-      111
+      115
       (List._∷_
-      109
-      (List._∷_
-      101
+      104
       (List._∷_
       58
       (List._∷_
@@ -2121,26 +2153,24 @@ t4 = List._∷_ (
       79
       (List._∷_
       117
-      (List._∷_ 116 (List._∷_ 99 (List._∷_ 111 (List._∷_ 109 (List._∷_ 101 List.[]))))))))))))))))
+      (List._∷_ 116 (List._∷_ 99 (List._∷_ 111 (List._∷_ 109 (List._∷_ 101 List.[])))))))))))))))
       (Syntax.tcons
       (Syntax.tyStruct
       (List._∷_
-      111
+      102
       (List._∷_
-      117
+      105
       (List._∷_
-      116
+      110
       (List._∷_
-      99
+      105
       (List._∷_
-      111
+      115
       (List._∷_
-      109
-      (List._∷_
-      101
+      104
       (List._∷_
       58
-      (List._∷_ 58 (List._∷_ 83 (List._∷_ 101 (List._∷_ 110 (List._∷_ 116 List.[])))))))))))))
+      (List._∷_ 58 (List._∷_ 83 (List._∷_ 101 (List._∷_ 110 (List._∷_ 116 List.[]))))))))))))
       (Syntax.tcons
       (Syntax.tyStruct
       (List._∷_
@@ -2203,22 +2233,20 @@ t4 = List._∷_ (
       (Syntax.tcons
       (Syntax.tyStruct
       (List._∷_
-      111
+      102
       (List._∷_
-      117
+      105
       (List._∷_
-      116
+      110
       (List._∷_
-      99
+      105
       (List._∷_
-      111
+      115
       (List._∷_
-      109
-      (List._∷_
-      101
+      104
       (List._∷_
       58
-      (List._∷_ 58 (List._∷_ 83 (List._∷_ 101 (List._∷_ 110 (List._∷_ 116 List.[])))))))))))))
+      (List._∷_ 58 (List._∷_ 83 (List._∷_ 101 (List._∷_ 110 (List._∷_ 116 List.[]))))))))))))
       (Syntax.tcons
       (Syntax.tyStruct
       (List._∷_
@@ -2401,11 +2429,19 @@ t4 = List._∷_ (
       (Syntax.tcons
       (Syntax.tyStruct
       (List._∷_
+      116
+      (List._∷_
       97
       (List._∷_
       114
       (List._∷_
+      103
+      (List._∷_
+      101
+      (List._∷_
       116
+      (List._∷_
+      115
       (List._∷_
       58
       (List._∷_
@@ -2414,7 +2450,7 @@ t4 = List._∷_ (
       84
       (List._∷_
       97
-      (List._∷_ 114 (List._∷_ 103 (List._∷_ 101 (List._∷_ 116 (List._∷_ 115 List.[]))))))))))))
+      (List._∷_ 114 (List._∷_ 103 (List._∷_ 101 (List._∷_ 116 (List._∷_ 115 List.[]))))))))))))))))
       (Syntax.tcons
       Syntax.tyBool
       (Syntax.tcons
@@ -2517,19 +2553,17 @@ t5 = List._∷_ (
   Rows.any-gone
       (Syntax.tyStruct
       (List._∷_
-      111
+      102
       (List._∷_
-      117
+      105
       (List._∷_
-      116
+      110
       (List._∷_
-      99
+      105
       (List._∷_
-      111
+      115
       (List._∷_
-      109
-      (List._∷_
-      101
+      104
       (List._∷_
       58
       (List._∷_
@@ -2538,26 +2572,24 @@ t5 = List._∷_ (
       79
       (List._∷_
       117
-      (List._∷_ 116 (List._∷_ 99 (List._∷_ 111 (List._∷_ 109 (List._∷_ 101 List.[]))))))))))))))))
+      (List._∷_ 116 (List._∷_ 99 (List._∷_ 111 (List._∷_ 109 (List._∷_ 101 List.[])))))))))))))))
       (Syntax.tcons
       (Syntax.tyStruct
       (List._∷_
-      111
+      102
       (List._∷_
-      117
+      105
       (List._∷_
-      116
+      110
       (List._∷_
-      99
+      105
       (List._∷_
-      111
+      115
       (List._∷_
-      109
-      (List._∷_
-      101
+      104
       (List._∷_
       58
-      (List._∷_ 58 (List._∷_ 83 (List._∷_ 101 (List._∷_ 110 (List._∷_ 116 List.[])))))))))))))
+      (List._∷_ 58 (List._∷_ 83 (List._∷_ 101 (List._∷_ 110 (List._∷_ 116 List.[]))))))))))))
       (Syntax.tcons
       (Syntax.tyStruct
       (List._∷_
@@ -2620,22 +2652,20 @@ t5 = List._∷_ (
       (Syntax.tcons
       (Syntax.tyStruct
       (List._∷_
-      111
+      102
       (List._∷_
-      117
+      105
       (List._∷_
-      116
+      110
       (List._∷_
-      99
+      105
       (List._∷_
-      111
+      115
       (List._∷_
-      109
-      (List._∷_
-      101
+      104
       (List._∷_
       58
-      (List._∷_ 58 (List._∷_ 83 (List._∷_ 101 (List._∷_ 110 (List._∷_ 116 List.[])))))))))))))
+      (List._∷_ 58 (List._∷_ 83 (List._∷_ 101 (List._∷_ 110 (List._∷_ 116 List.[]))))))))))))
       (Syntax.tcons
       (Syntax.tyStruct
       (List._∷_
@@ -2818,11 +2848,19 @@ t5 = List._∷_ (
       (Syntax.tcons
       (Syntax.tyStruct
       (List._∷_
+      116
+      (List._∷_
       97
       (List._∷_
       114
       (List._∷_
+      103
+      (List._∷_
+      101
+      (List._∷_
       116
+      (List._∷_
+      115
       (List._∷_
       58
       (List._∷_
@@ -2831,7 +2869,7 @@ t5 = List._∷_ (
       84
       (List._∷_
       97
-      (List._∷_ 114 (List._∷_ 103 (List._∷_ 101 (List._∷_ 116 (List._∷_ 115 List.[]))))))))))))
+      (List._∷_ 114 (List._∷_ 103 (List._∷_ 101 (List._∷_ 116 (List._∷_ 115 List.[]))))))))))))))))
       (Syntax.tcons
       Syntax.tyBool
       (Syntax.tcons
@@ -2934,19 +2972,17 @@ t6 = List._∷_ (
   Rows.any-gone
       (Syntax.tyStruct
       (List._∷_
-      111
+      102
       (List._∷_
-      117
+      105
       (List._∷_
-      116
+      110
       (List._∷_
-      99
+      105
       (List._∷_
-      111
+      115
       (List._∷_
-      109
-      (List._∷_
-      101
+      104
       (List._∷_
       58
       (List._∷_
@@ -2955,26 +2991,24 @@ t6 = List._∷_ (
       79
       (List._∷_
       117
-      (List._∷_ 116 (List._∷_ 99 (List._∷_ 111 (List._∷_ 109 (List._∷_ 101 List.[]))))))))))))))))
+      (List._∷_ 116 (List._∷_ 99 (List._∷_ 111 (List._∷_ 109 (List._∷_ 101 List.[])))))))))))))))
       (Syntax.tcons
       (Syntax.tyStruct
       (List._∷_
-      111
+      102
       (List._∷_
-      117
+      105
       (List._∷_
-      116
+      110
       (List._∷_
-      99
+      105
       (List._∷_
-      111
+      115
       (List._∷_
-      109
-      (List._∷_
-      101
+      104
       (List._∷_
       58
-      (List._∷_ 58 (List._∷_ 83 (List._∷_ 101 (List._∷_ 110 (List._∷_ 116 List.[])))))))))))))
+      (List._∷_ 58 (List._∷_ 83 (List._∷_ 101 (List._∷_ 110 (List._∷_ 116 List.[]))))))))))))
       (Syntax.tcons
       (Syntax.tyStruct
       (List._∷_
@@ -3037,22 +3071,20 @@ t6 = List._∷_ (
       (Syntax.tcons
       (Syntax.tyStruct
       (List._∷_
-      111
+      102
       (List._∷_
-      117
+      105
       (List._∷_
-      116
+      110
       (List._∷_
-      99
+      105
       (List._∷_
-      111
+      115
       (List._∷_
-      109
-      (List._∷_
-      101
+      104
       (List._∷_
       58
-      (List._∷_ 58 (List._∷_ 83 (List._∷_ 101 (List._∷_ 110 (List._∷_ 116 List.[])))))))))))))
+      (List._∷_ 58 (List._∷_ 83 (List._∷_ 101 (List._∷_ 110 (List._∷_ 116 List.[]))))))))))))
       (Syntax.tcons
       (Syntax.tyStruct
       (List._∷_
@@ -3235,11 +3267,19 @@ t6 = List._∷_ (
       (Syntax.tcons
       (Syntax.tyStruct
       (List._∷_
+      116
+      (List._∷_
       97
       (List._∷_
       114
       (List._∷_
+      103
+      (List._∷_
+      101
+      (List._∷_
       116
+      (List._∷_
+      115
       (List._∷_
       58
       (List._∷_
@@ -3248,7 +3288,7 @@ t6 = List._∷_ (
       84
       (List._∷_
       97
-      (List._∷_ 114 (List._∷_ 103 (List._∷_ 101 (List._∷_ 116 (List._∷_ 115 List.[]))))))))))))
+      (List._∷_ 114 (List._∷_ 103 (List._∷_ 101 (List._∷_ 116 (List._∷_ 115 List.[]))))))))))))))))
       (Syntax.tcons
       Syntax.tyBool
       (Syntax.tcons
@@ -3353,19 +3393,17 @@ t7 = List._∷_ (
   Rows.any-gone
       (Syntax.tyStruct
       (List._∷_
-      111
+      102
       (List._∷_
-      117
+      105
       (List._∷_
-      116
+      110
       (List._∷_
-      99
+      105
       (List._∷_
-      111
+      115
       (List._∷_
-      109
-      (List._∷_
-      101
+      104
       (List._∷_
       58
       (List._∷_
@@ -3374,26 +3412,24 @@ t7 = List._∷_ (
       79
       (List._∷_
       117
-      (List._∷_ 116 (List._∷_ 99 (List._∷_ 111 (List._∷_ 109 (List._∷_ 101 List.[]))))))))))))))))
+      (List._∷_ 116 (List._∷_ 99 (List._∷_ 111 (List._∷_ 109 (List._∷_ 101 List.[])))))))))))))))
       (Syntax.tcons
       (Syntax.tyStruct
       (List._∷_
-      111
+      102
       (List._∷_
-      117
+      105
       (List._∷_
-      116
+      110
       (List._∷_
-      99
+      105
       (List._∷_
-      111
+      115
       (List._∷_
-      109
-      (List._∷_
-      101
+      104
       (List._∷_
       58
-      (List._∷_ 58 (List._∷_ 83 (List._∷_ 101 (List._∷_ 110 (List._∷_ 116 List.[])))))))))))))
+      (List._∷_ 58 (List._∷_ 83 (List._∷_ 101 (List._∷_ 110 (List._∷_ 116 List.[]))))))))))))
       (Syntax.tcons
       (Syntax.tyStruct
       (List._∷_
@@ -3456,22 +3492,20 @@ t7 = List._∷_ (
       (Syntax.tcons
       (Syntax.tyStruct
       (List._∷_
-      111
+      102
       (List._∷_
-      117
+      105
       (List._∷_
-      116
+      110
       (List._∷_
-      99
+      105
       (List._∷_
-      111
+      115
       (List._∷_
-      109
-      (List._∷_
-      101
+      104
       (List._∷_
       58
-      (List._∷_ 58 (List._∷_ 83 (List._∷_ 101 (List._∷_ 110 (List._∷_ 116 List.[])))))))))))))
+      (List._∷_ 58 (List._∷_ 83 (List._∷_ 101 (List._∷_ 110 (List._∷_ 116 List.[]))))))))))))
       (Syntax.tcons
       (Syntax.tyStruct
       (List._∷_
@@ -3654,11 +3688,19 @@ t7 = List._∷_ (
       (Syntax.tcons
       (Syntax.tyStruct
       (List._∷_
+      116
+      (List._∷_
       97
       (List._∷_
       114
       (List._∷_
+      103
+      (List._∷_
+      101
+      (List._∷_
       116
+      (List._∷_
+      115
       (List._∷_
       58
       (List._∷_
@@ -3667,7 +3709,7 @@ t7 = List._∷_ (
       84
       (List._∷_
       97
-      (List._∷_ 114 (List._∷_ 103 (List._∷_ 101 (List._∷_ 116 (List._∷_ 115 List.[]))))))))))))
+      (List._∷_ 114 (List._∷_ 103 (List._∷_ 101 (List._∷_ 116 (List._∷_ 115 List.[]))))))))))))))))
       (Syntax.tcons
       Syntax.tyBool
       (Syntax.tcons
@@ -3770,19 +3812,17 @@ t8 = List._∷_ (
   Rows.any-gone
       (Syntax.tyStruct
       (List._∷_
-      111
+      102
       (List._∷_
-      117
+      105
       (List._∷_
-      116
+      110
       (List._∷_
-      99
+      105
       (List._∷_
-      111
+      115
       (List._∷_
-      109
-      (List._∷_
-      101
+      104
       (List._∷_
       58
       (List._∷_
@@ -3791,26 +3831,24 @@ t8 = List._∷_ (
       79
       (List._∷_
       117
-      (List._∷_ 116 (List._∷_ 99 (List._∷_ 111 (List._∷_ 109 (List._∷_ 101 List.[]))))))))))))))))
+      (List._∷_ 116 (List._∷_ 99 (List._∷_ 111 (List._∷_ 109 (List._∷_ 101 List.[])))))))))))))))
       (Syntax.tcons
       (Syntax.tyStruct
       (List._∷_
-      111
+      102
       (List._∷_
-      117
+      105
       (List._∷_
-      116
+      110
       (List._∷_
-      99
+      105
       (List._∷_
-      111
+      115
       (List._∷_
-      109
-      (List._∷_
-      101
+      104
       (List._∷_
       58
-      (List._∷_ 58 (List._∷_ 83 (List._∷_ 101 (List._∷_ 110 (List._∷_ 116 List.[])))))))))))))
+      (List._∷_ 58 (List._∷_ 83 (List._∷_ 101 (List._∷_ 110 (List._∷_ 116 List.[]))))))))))))
       (Syntax.tcons
       (Syntax.tyStruct
       (List._∷_
@@ -3873,22 +3911,20 @@ t8 = List._∷_ (
       (Syntax.tcons
       (Syntax.tyStruct
       (List._∷_
-      111
+      102
       (List._∷_
-      117
+      105
       (List._∷_
-      116
+      110
       (List._∷_
-      99
+      105
       (List._∷_
-      111
+      115
       (List._∷_
-      109
-      (List._∷_
-      101
+      104
       (List._∷_
       58
-      (List._∷_ 58 (List._∷_ 83 (List._∷_ 101 (List._∷_ 110 (List._∷_ 116 List.[])))))))))))))
+      (List._∷_ 58 (List._∷_ 83 (List._∷_ 101 (List._∷_ 110 (List._∷_ 116 List.[]))))))))))))
       (Syntax.tcons
       (Syntax.tyStruct
       (List._∷_
@@ -4071,11 +4107,19 @@ t8 = List._∷_ (
       (Syntax.tcons
       (Syntax.tyStruct
       (List._∷_
+      116
+      (List._∷_
       97
       (List._∷_
       114
       (List._∷_
+      103
+      (List._∷_
+      101
+      (List._∷_
       116
+      (List._∷_
+      115
       (List._∷_
       58
       (List._∷_
@@ -4084,7 +4128,7 @@ t8 = List._∷_ (
       84
       (List._∷_
       97
-      (List._∷_ 114 (List._∷_ 103 (List._∷_ 101 (List._∷_ 116 (List._∷_ 115 List.[]))))))))))))
+      (List._∷_ 114 (List._∷_ 103 (List._∷_ 101 (List._∷_ 116 (List._∷_ 115 List.[]))))))))))))))))
       (Syntax.tcons
       Syntax.tyBool
       (Syntax.tcons
@@ -4187,19 +4231,17 @@ t9 = List._∷_ (
   Rows.any-gone
       (Syntax.tyStruct
       (List._∷_
-      111
+      102
       (List._∷_
-      117
+      105
       (List._∷_
-      116
+      110
       (List._∷_
-      99
+      105
       (List._∷_
-      111
+      115
       (List._∷_
-      109
-      (List._∷_
-      101
+      104
       (List._∷_
       58
       (List._∷_
@@ -4208,26 +4250,24 @@ t9 = List._∷_ (
       79
       (List._∷_
       117
-      (List._∷_ 116 (List._∷_ 99 (List._∷_ 111 (List._∷_ 109 (List._∷_ 101 List.[]))))))))))))))))
+      (List._∷_ 116 (List._∷_ 99 (List._∷_ 111 (List._∷_ 109 (List._∷_ 101 List.[])))))))))))))))
       (Syntax.tcons
       (Syntax.tyStruct
       (List._∷_
-      111
+      102
       (List._∷_
-      117
+      105
       (List._∷_
-      116
+      110
       (List._∷_
-      99
+      105
       (List._∷_
-      111
+      115
       (List._∷_
-      109
-      (List._∷_
-      101
+      104
       (List._∷_
       58
-      (List._∷_ 58 (List._∷_ 83 (List._∷_ 101 (List._∷_ 110 (List._∷_ 116 List.[])))))))))))))
+      (List._∷_ 58 (List._∷_ 83 (List._∷_ 101 (List._∷_ 110 (List._∷_ 116 List.[]))))))))))))
       (Syntax.tcons
       (Syntax.tyStruct
       (List._∷_
@@ -4290,22 +4330,20 @@ t9 = List._∷_ (
       (Syntax.tcons
       (Syntax.tyStruct
       (List._∷_
-      111
+      102
       (List._∷_
-      117
+      105
       (List._∷_
-      116
+      110
       (List._∷_
-      99
+      105
       (List._∷_
-      111
+      115
       (List._∷_
-      109
-      (List._∷_
-      101
+      104
       (List._∷_
       58
-      (List._∷_ 58 (List._∷_ 83 (List._∷_ 101 (List._∷_ 110 (List._∷_ 116 List.[])))))))))))))
+      (List._∷_ 58 (List._∷_ 83 (List._∷_ 101 (List._∷_ 110 (List._∷_ 116 List.[]))))))))))))
       (Syntax.tcons
       (Syntax.tyStruct
       (List._∷_
@@ -4502,11 +4540,19 @@ t9 = List._∷_ (
       (Syntax.tcons
       (Syntax.tyStruct
       (List._∷_
+      116
+      (List._∷_
       97
       (List._∷_
       114
       (List._∷_
+      103
+      (List._∷_
+      101
+      (List._∷_
       116
+      (List._∷_
+      115
       (List._∷_
       58
       (List._∷_
@@ -4515,7 +4561,7 @@ t9 = List._∷_ (
       84
       (List._∷_
       97
-      (List._∷_ 114 (List._∷_ 103 (List._∷_ 101 (List._∷_ 116 (List._∷_ 115 List.[]))))))))))))
+      (List._∷_ 114 (List._∷_ 103 (List._∷_ 101 (List._∷_ 116 (List._∷_ 115 List.[]))))))))))))))))
       (Syntax.tcons
       Syntax.tyBool
       (Syntax.tcons
@@ -4618,19 +4664,17 @@ t10 = List._∷_ (
   Rows.any-gone
       (Syntax.tyStruct
       (List._∷_
-      111
+      102
       (List._∷_
-      117
+      105
       (List._∷_
-      116
+      110
       (List._∷_
-      99
+      105
       (List._∷_
-      111
+      115
       (List._∷_
-      109
-      (List._∷_
-      101
+      104
       (List._∷_
       58
       (List._∷_
@@ -4639,26 +4683,24 @@ t10 = List._∷_ (
       79
       (List._∷_
       117
-      (List._∷_ 116 (List._∷_ 99 (List._∷_ 111 (List._∷_ 109 (List._∷_ 101 List.[]))))))))))))))))
+      (List._∷_ 116 (List._∷_ 99 (List._∷_ 111 (List._∷_ 109 (List._∷_ 101 List.[])))))))))))))))
       (Syntax.tcons
       (Syntax.tyStruct
       (List._∷_
-      111
+      102
       (List._∷_
-      117
+      105
       (List._∷_
-      116
+      110
       (List._∷_
-      99
+      105
       (List._∷_
-      111
+      115
       (List._∷_
-      109
-      (List._∷_
-      101
+      104
       (List._∷_
       58
-      (List._∷_ 58 (List._∷_ 83 (List._∷_ 101 (List._∷_ 110 (List._∷_ 116 List.[])))))))))))))
+      (List._∷_ 58 (List._∷_ 83 (List._∷_ 101 (List._∷_ 110 (List._∷_ 116 List.[]))))))))))))
       (Syntax.tcons
       (Syntax.tyStruct
       (List._∷_
@@ -4721,22 +4763,20 @@ t10 = List._∷_ (
       (Syntax.tcons
       (Syntax.tyStruct
       (List._∷_
-      111
+      102
       (List._∷_
-      117
+      105
       (List._∷_
-      116
+      110
       (List._∷_
-      99
+      105
       (List._∷_
-      111
+      115
       (List._∷_
-      109
-      (List._∷_
-      101
+      104
       (List._∷_
       58
-      (List._∷_ 58 (List._∷_ 83 (List._∷_ 101 (List._∷_ 110 (List._∷_ 116 List.[])))))))))))))
+      (List._∷_ 58 (List._∷_ 83 (List._∷_ 101 (List._∷_ 110 (List._∷_ 116 List.[]))))))))))))
       (Syntax.tcons
       (Syntax.tyStruct
       (List._∷_
@@ -4960,11 +5000,19 @@ t10 = List._∷_ (
       (Syntax.tcons
       (Syntax.tyStruct
       (List._∷_
+      116
+      (List._∷_
       97
       (List._∷_
       114
       (List._∷_
+      103
+      (List._∷_
+      101
+      (List._∷_
       116
+      (List._∷_
+      115
       (List._∷_
       58
       (List._∷_
@@ -4973,7 +5021,7 @@ t10 = List._∷_ (
       84
       (List._∷_
       97
-      (List._∷_ 114 (List._∷_ 103 (List._∷_ 101 (List._∷_ 116 (List._∷_ 115 List.[]))))))))))))
+      (List._∷_ 114 (List._∷_ 103 (List._∷_ 101 (List._∷_ 116 (List._∷_ 115 List.[]))))))))))))))))
       (Syntax.tcons
       Syntax.tyBool
       (Syntax.tcons
@@ -5076,19 +5124,17 @@ t11 = List._∷_ (
   Rows.any-gone
       (Syntax.tyStruct
       (List._∷_
-      111
+      102
       (List._∷_
-      117
+      105
       (List._∷_
-      116
+      110
       (List._∷_
-      99
+      105
       (List._∷_
-      111
+      115
       (List._∷_
-      109
-      (List._∷_
-      101
+      104
       (List._∷_
       58
       (List._∷_
@@ -5097,26 +5143,24 @@ t11 = List._∷_ (
       79
       (List._∷_
       117
-      (List._∷_ 116 (List._∷_ 99 (List._∷_ 111 (List._∷_ 109 (List._∷_ 101 List.[]))))))))))))))))
+      (List._∷_ 116 (List._∷_ 99 (List._∷_ 111 (List._∷_ 109 (List._∷_ 101 List.[])))))))))))))))
       (Syntax.tcons
       (Syntax.tyStruct
       (List._∷_
-      111
+      102
       (List._∷_
-      117
+      105
       (List._∷_
-      116
+      110
       (List._∷_
-      99
+      105
       (List._∷_
-      111
+      115
       (List._∷_
-      109
-      (List._∷_
-      101
+      104
       (List._∷_
       58
-      (List._∷_ 58 (List._∷_ 83 (List._∷_ 101 (List._∷_ 110 (List._∷_ 116 List.[])))))))))))))
+      (List._∷_ 58 (List._∷_ 83 (List._∷_ 101 (List._∷_ 110 (List._∷_ 116 List.[]))))))))))))
       (Syntax.tcons
       (Syntax.tyStruct
       (List._∷_
@@ -5179,22 +5223,20 @@ t11 = List._∷_ (
       (Syntax.tcons
       (Syntax.tyStruct
       (List._∷_
-      111
+      102
       (List._∷_
-      117
+      105
       (List._∷_
-      116
+      110
       (List._∷_
-      99
+      105
       (List._∷_
-      111
+      115
       (List._∷_
-      109
-      (List._∷_
-      101
+      104
       (List._∷_
       58
-      (List._∷_ 58 (List._∷_ 83 (List._∷_ 101 (List._∷_ 110 (List._∷_ 116 List.[])))))))))))))
+      (List._∷_ 58 (List._∷_ 83 (List._∷_ 101 (List._∷_ 110 (List._∷_ 116 List.[]))))))))))))
       (Syntax.tcons
       (Syntax.tyStruct
       (List._∷_
@@ -5418,11 +5460,19 @@ t11 = List._∷_ (
       (Syntax.tcons
       (Syntax.tyStruct
       (List._∷_
+      116
+      (List._∷_
       97
       (List._∷_
       114
       (List._∷_
+      103
+      (List._∷_
+      101
+      (List._∷_
       116
+      (List._∷_
+      115
       (List._∷_
       58
       (List._∷_
@@ -5431,7 +5481,7 @@ t11 = List._∷_ (
       84
       (List._∷_
       97
-      (List._∷_ 114 (List._∷_ 103 (List._∷_ 101 (List._∷_ 116 (List._∷_ 115 List.[]))))))))))))
+      (List._∷_ 114 (List._∷_ 103 (List._∷_ 101 (List._∷_ 116 (List._∷_ 115 List.[]))))))))))))))))
       (Syntax.tcons
       Syntax.tyBool
       (Syntax.tcons
@@ -5531,19 +5581,17 @@ t12 = List._∷_ (
   Rows.any-gone
       (Syntax.tyStruct
       (List._∷_
-      111
+      102
       (List._∷_
-      117
+      105
       (List._∷_
-      116
+      110
       (List._∷_
-      99
+      105
       (List._∷_
-      111
+      115
       (List._∷_
-      109
-      (List._∷_
-      101
+      104
       (List._∷_
       58
       (List._∷_
@@ -5552,26 +5600,24 @@ t12 = List._∷_ (
       79
       (List._∷_
       117
-      (List._∷_ 116 (List._∷_ 99 (List._∷_ 111 (List._∷_ 109 (List._∷_ 101 List.[]))))))))))))))))
+      (List._∷_ 116 (List._∷_ 99 (List._∷_ 111 (List._∷_ 109 (List._∷_ 101 List.[])))))))))))))))
       (Syntax.tcons
       (Syntax.tyStruct
       (List._∷_
-      111
+      102
       (List._∷_
-      117
+      105
       (List._∷_
-      116
+      110
       (List._∷_
-      99
+      105
       (List._∷_
-      111
+      115
       (List._∷_
-      109
-      (List._∷_
-      101
+      104
       (List._∷_
       58
-      (List._∷_ 58 (List._∷_ 83 (List._∷_ 101 (List._∷_ 110 (List._∷_ 116 List.[])))))))))))))
+      (List._∷_ 58 (List._∷_ 83 (List._∷_ 101 (List._∷_ 110 (List._∷_ 116 List.[]))))))))))))
       (Syntax.tcons
       (Syntax.tyStruct
       (List._∷_
@@ -5634,22 +5680,20 @@ t12 = List._∷_ (
       (Syntax.tcons
       (Syntax.tyStruct
       (List._∷_
-      111
+      102
       (List._∷_
-      117
+      105
       (List._∷_
-      116
+      110
       (List._∷_
-      99
+      105
       (List._∷_
-      111
+      115
       (List._∷_
-      109
-      (List._∷_
-      101
+      104
       (List._∷_
       58
-      (List._∷_ 58 (List._∷_ 83 (List._∷_ 101 (List._∷_ 110 (List._∷_ 116 List.[])))))))))))))
+      (List._∷_ 58 (List._∷_ 83 (List._∷_ 101 (List._∷_ 110 (List._∷_ 116 List.[]))))))))))))
       (Syntax.tcons
       (Syntax.tyStruct
       (List._∷_
@@ -5873,11 +5917,19 @@ t12 = List._∷_ (
       (Syntax.tcons
       (Syntax.tyStruct
       (List._∷_
+      116
+      (List._∷_
       97
       (List._∷_
       114
       (List._∷_
+      103
+      (List._∷_
+      101
+      (List._∷_
       116
+      (List._∷_
+      115
       (List._∷_
       58
       (List._∷_
@@ -5886,7 +5938,7 @@ t12 = List._∷_ (
       84
       (List._∷_
       97
-      (List._∷_ 114 (List._∷_ 103 (List._∷_ 101 (List._∷_ 116 (List._∷_ 115 List.[]))))))))))))
+      (List._∷_ 114 (List._∷_ 103 (List._∷_ 101 (List._∷_ 116 (List._∷_ 115 List.[]))))))))))))))))
       (Syntax.tcons
       Syntax.tyBool
       (Syntax.tcons
@@ -6039,11 +6091,19 @@ t13 = List._∷_ (0, Rows.whole (Declared'.row Outcome.the-type)) (List._∷_ (
       (Syntax.tcons
       (Syntax.tyStruct
       (List._∷_
+      116
+      (List._∷_
       97
       (List._∷_
       114
       (List._∷_
+      103
+      (List._∷_
+      101
+      (List._∷_
       116
+      (List._∷_
+      115
       (List._∷_
       58
       (List._∷_
@@ -6052,7 +6112,7 @@ t13 = List._∷_ (0, Rows.whole (Declared'.row Outcome.the-type)) (List._∷_ (
       84
       (List._∷_
       97
-      (List._∷_ 114 (List._∷_ 103 (List._∷_ 101 (List._∷_ 116 (List._∷_ 115 List.[]))))))))))))
+      (List._∷_ 114 (List._∷_ 103 (List._∷_ 101 (List._∷_ 116 (List._∷_ 115 List.[]))))))))))))))))
       (Syntax.tcons
       Syntax.tyBool
       (Syntax.tcons
@@ -6205,11 +6265,19 @@ t14 = List._∷_ (0, Rows.whole (Declared'.row Outcome.the-type)) (List._∷_ (
       (Syntax.tcons
       (Syntax.tyStruct
       (List._∷_
+      116
+      (List._∷_
       97
       (List._∷_
       114
       (List._∷_
+      103
+      (List._∷_
+      101
+      (List._∷_
       116
+      (List._∷_
+      115
       (List._∷_
       58
       (List._∷_
@@ -6218,7 +6286,7 @@ t14 = List._∷_ (0, Rows.whole (Declared'.row Outcome.the-type)) (List._∷_ (
       84
       (List._∷_
       97
-      (List._∷_ 114 (List._∷_ 103 (List._∷_ 101 (List._∷_ 116 (List._∷_ 115 List.[]))))))))))))
+      (List._∷_ 114 (List._∷_ 103 (List._∷_ 101 (List._∷_ 116 (List._∷_ 115 List.[]))))))))))))))))
       (Syntax.tcons
       Syntax.tyBool
       (Syntax.tcons
@@ -6424,11 +6492,19 @@ t15 = List._∷_ (0, Rows.whole (Declared'.row Outcome.the-type)) (List._∷_ (
       (Syntax.tcons
       (Syntax.tyStruct
       (List._∷_
+      116
+      (List._∷_
       97
       (List._∷_
       114
       (List._∷_
+      103
+      (List._∷_
+      101
+      (List._∷_
       116
+      (List._∷_
+      115
       (List._∷_
       58
       (List._∷_
@@ -6437,7 +6513,7 @@ t15 = List._∷_ (0, Rows.whole (Declared'.row Outcome.the-type)) (List._∷_ (
       84
       (List._∷_
       97
-      (List._∷_ 114 (List._∷_ 103 (List._∷_ 101 (List._∷_ 116 (List._∷_ 115 List.[]))))))))))))
+      (List._∷_ 114 (List._∷_ 103 (List._∷_ 101 (List._∷_ 116 (List._∷_ 115 List.[]))))))))))))))))
       (Syntax.tcons
       Syntax.tyBool
       (Syntax.tcons
@@ -6643,11 +6719,19 @@ t16 = List._∷_ (0, Rows.whole (Declared'.row Outcome.the-type)) (List._∷_ (
       (Syntax.tcons
       (Syntax.tyStruct
       (List._∷_
+      116
+      (List._∷_
       97
       (List._∷_
       114
       (List._∷_
+      103
+      (List._∷_
+      101
+      (List._∷_
       116
+      (List._∷_
+      115
       (List._∷_
       58
       (List._∷_
@@ -6656,7 +6740,7 @@ t16 = List._∷_ (0, Rows.whole (Declared'.row Outcome.the-type)) (List._∷_ (
       84
       (List._∷_
       97
-      (List._∷_ 114 (List._∷_ 103 (List._∷_ 101 (List._∷_ 116 (List._∷_ 115 List.[]))))))))))))
+      (List._∷_ 114 (List._∷_ 103 (List._∷_ 101 (List._∷_ 116 (List._∷_ 115 List.[]))))))))))))))))
       (Syntax.tcons
       Syntax.tyBool
       (Syntax.tcons
@@ -6756,19 +6840,17 @@ t17 = List._∷_ (
   Rows.any-gone
       (Syntax.tyStruct
       (List._∷_
-      111
+      102
       (List._∷_
-      117
+      105
       (List._∷_
-      116
+      110
       (List._∷_
-      99
+      105
       (List._∷_
-      111
+      115
       (List._∷_
-      109
-      (List._∷_
-      101
+      104
       (List._∷_
       58
       (List._∷_
@@ -6777,26 +6859,24 @@ t17 = List._∷_ (
       79
       (List._∷_
       117
-      (List._∷_ 116 (List._∷_ 99 (List._∷_ 111 (List._∷_ 109 (List._∷_ 101 List.[]))))))))))))))))
+      (List._∷_ 116 (List._∷_ 99 (List._∷_ 111 (List._∷_ 109 (List._∷_ 101 List.[])))))))))))))))
       (Syntax.tcons
       (Syntax.tyStruct
       (List._∷_
-      111
+      102
       (List._∷_
-      117
+      105
       (List._∷_
-      116
+      110
       (List._∷_
-      99
+      105
       (List._∷_
-      111
+      115
       (List._∷_
-      109
-      (List._∷_
-      101
+      104
       (List._∷_
       58
-      (List._∷_ 58 (List._∷_ 83 (List._∷_ 101 (List._∷_ 110 (List._∷_ 116 List.[])))))))))))))
+      (List._∷_ 58 (List._∷_ 83 (List._∷_ 101 (List._∷_ 110 (List._∷_ 116 List.[]))))))))))))
       (Syntax.tcons
       (Syntax.tyStruct
       (List._∷_
@@ -6859,22 +6939,20 @@ t17 = List._∷_ (
       (Syntax.tcons
       (Syntax.tyStruct
       (List._∷_
-      111
+      102
       (List._∷_
-      117
+      105
       (List._∷_
-      116
+      110
       (List._∷_
-      99
+      105
       (List._∷_
-      111
+      115
       (List._∷_
-      109
-      (List._∷_
-      101
+      104
       (List._∷_
       58
-      (List._∷_ 58 (List._∷_ 83 (List._∷_ 101 (List._∷_ 110 (List._∷_ 116 List.[])))))))))))))
+      (List._∷_ 58 (List._∷_ 83 (List._∷_ 101 (List._∷_ 110 (List._∷_ 116 List.[]))))))))))))
       (Syntax.tcons
       (Syntax.tyStruct
       (List._∷_
@@ -7278,19 +7356,17 @@ t19 = List._∷_ (
   Rows.any-gone
       (Syntax.tyStruct
       (List._∷_
-      111
+      102
       (List._∷_
-      117
+      105
       (List._∷_
-      116
+      110
       (List._∷_
-      99
+      105
       (List._∷_
-      111
+      115
       (List._∷_
-      109
-      (List._∷_
-      101
+      104
       (List._∷_
       58
       (List._∷_
@@ -7299,26 +7375,24 @@ t19 = List._∷_ (
       79
       (List._∷_
       117
-      (List._∷_ 116 (List._∷_ 99 (List._∷_ 111 (List._∷_ 109 (List._∷_ 101 List.[]))))))))))))))))
+      (List._∷_ 116 (List._∷_ 99 (List._∷_ 111 (List._∷_ 109 (List._∷_ 101 List.[])))))))))))))))
       (Syntax.tcons
       (Syntax.tyStruct
       (List._∷_
-      111
+      102
       (List._∷_
-      117
+      105
       (List._∷_
-      116
+      110
       (List._∷_
-      99
+      105
       (List._∷_
-      111
+      115
       (List._∷_
-      109
-      (List._∷_
-      101
+      104
       (List._∷_
       58
-      (List._∷_ 58 (List._∷_ 83 (List._∷_ 101 (List._∷_ 110 (List._∷_ 116 List.[])))))))))))))
+      (List._∷_ 58 (List._∷_ 83 (List._∷_ 101 (List._∷_ 110 (List._∷_ 116 List.[]))))))))))))
       (Syntax.tcons
       (Syntax.tyStruct
       (List._∷_
@@ -7381,22 +7455,20 @@ t19 = List._∷_ (
       (Syntax.tcons
       (Syntax.tyStruct
       (List._∷_
-      111
+      102
       (List._∷_
-      117
+      105
       (List._∷_
-      116
+      110
       (List._∷_
-      99
+      105
       (List._∷_
-      111
+      115
       (List._∷_
-      109
-      (List._∷_
-      101
+      104
       (List._∷_
       58
-      (List._∷_ 58 (List._∷_ 83 (List._∷_ 101 (List._∷_ 110 (List._∷_ 116 List.[])))))))))))))
+      (List._∷_ 58 (List._∷_ 83 (List._∷_ 101 (List._∷_ 110 (List._∷_ 116 List.[]))))))))))))
       (Syntax.tcons
       (Syntax.tyStruct
       (List._∷_
@@ -7629,19 +7701,17 @@ t20 = List._∷_ (
   Rows.any-gone
       (Syntax.tyStruct
       (List._∷_
-      111
+      102
       (List._∷_
-      117
+      105
       (List._∷_
-      116
+      110
       (List._∷_
-      99
+      105
       (List._∷_
-      111
+      115
       (List._∷_
-      109
-      (List._∷_
-      101
+      104
       (List._∷_
       58
       (List._∷_
@@ -7650,26 +7720,24 @@ t20 = List._∷_ (
       79
       (List._∷_
       117
-      (List._∷_ 116 (List._∷_ 99 (List._∷_ 111 (List._∷_ 109 (List._∷_ 101 List.[]))))))))))))))))
+      (List._∷_ 116 (List._∷_ 99 (List._∷_ 111 (List._∷_ 109 (List._∷_ 101 List.[])))))))))))))))
       (Syntax.tcons
       (Syntax.tyStruct
       (List._∷_
-      111
+      102
       (List._∷_
-      117
+      105
       (List._∷_
-      116
+      110
       (List._∷_
-      99
+      105
       (List._∷_
-      111
+      115
       (List._∷_
-      109
-      (List._∷_
-      101
+      104
       (List._∷_
       58
-      (List._∷_ 58 (List._∷_ 83 (List._∷_ 101 (List._∷_ 110 (List._∷_ 116 List.[])))))))))))))
+      (List._∷_ 58 (List._∷_ 83 (List._∷_ 101 (List._∷_ 110 (List._∷_ 116 List.[]))))))))))))
       (Syntax.tcons
       (Syntax.tyStruct
       (List._∷_
@@ -7732,22 +7800,20 @@ t20 = List._∷_ (
       (Syntax.tcons
       (Syntax.tyStruct
       (List._∷_
-      111
+      102
       (List._∷_
-      117
+      105
       (List._∷_
-      116
+      110
       (List._∷_
-      99
+      105
       (List._∷_
-      111
+      115
       (List._∷_
-      109
-      (List._∷_
-      101
+      104
       (List._∷_
       58
-      (List._∷_ 58 (List._∷_ 83 (List._∷_ 101 (List._∷_ 110 (List._∷_ 116 List.[])))))))))))))
+      (List._∷_ 58 (List._∷_ 83 (List._∷_ 101 (List._∷_ 110 (List._∷_ 116 List.[]))))))))))))
       (Syntax.tcons
       (Syntax.tyStruct
       (List._∷_
@@ -8139,19 +8205,17 @@ t22 = List._∷_ (
   Rows.any-gone
       (Syntax.tyStruct
       (List._∷_
-      111
+      102
       (List._∷_
-      117
+      105
       (List._∷_
-      116
+      110
       (List._∷_
-      99
+      105
       (List._∷_
-      111
+      115
       (List._∷_
-      109
-      (List._∷_
-      101
+      104
       (List._∷_
       58
       (List._∷_
@@ -8160,26 +8224,24 @@ t22 = List._∷_ (
       79
       (List._∷_
       117
-      (List._∷_ 116 (List._∷_ 99 (List._∷_ 111 (List._∷_ 109 (List._∷_ 101 List.[]))))))))))))))))
+      (List._∷_ 116 (List._∷_ 99 (List._∷_ 111 (List._∷_ 109 (List._∷_ 101 List.[])))))))))))))))
       (Syntax.tcons
       (Syntax.tyStruct
       (List._∷_
-      111
+      102
       (List._∷_
-      117
+      105
       (List._∷_
-      116
+      110
       (List._∷_
-      99
+      105
       (List._∷_
-      111
+      115
       (List._∷_
-      109
-      (List._∷_
-      101
+      104
       (List._∷_
       58
-      (List._∷_ 58 (List._∷_ 83 (List._∷_ 101 (List._∷_ 110 (List._∷_ 116 List.[])))))))))))))
+      (List._∷_ 58 (List._∷_ 83 (List._∷_ 101 (List._∷_ 110 (List._∷_ 116 List.[]))))))))))))
       (Syntax.tcons
       (Syntax.tyStruct
       (List._∷_
@@ -8242,22 +8304,20 @@ t22 = List._∷_ (
       (Syntax.tcons
       (Syntax.tyStruct
       (List._∷_
-      111
+      102
       (List._∷_
-      117
+      105
       (List._∷_
-      116
+      110
       (List._∷_
-      99
+      105
       (List._∷_
-      111
+      115
       (List._∷_
-      109
-      (List._∷_
-      101
+      104
       (List._∷_
       58
-      (List._∷_ 58 (List._∷_ 83 (List._∷_ 101 (List._∷_ 110 (List._∷_ 116 List.[])))))))))))))
+      (List._∷_ 58 (List._∷_ 83 (List._∷_ 101 (List._∷_ 110 (List._∷_ 116 List.[]))))))))))))
       (Syntax.tcons
       (Syntax.tyStruct
       (List._∷_
@@ -8848,19 +8908,17 @@ t25 = List._∷_ (
   Rows.any-gone
       (Syntax.tyStruct
       (List._∷_
-      111
+      102
       (List._∷_
-      117
+      105
       (List._∷_
-      116
+      110
       (List._∷_
-      99
+      105
       (List._∷_
-      111
+      115
       (List._∷_
-      109
-      (List._∷_
-      101
+      104
       (List._∷_
       58
       (List._∷_
@@ -8869,26 +8927,24 @@ t25 = List._∷_ (
       79
       (List._∷_
       117
-      (List._∷_ 116 (List._∷_ 99 (List._∷_ 111 (List._∷_ 109 (List._∷_ 101 List.[]))))))))))))))))
+      (List._∷_ 116 (List._∷_ 99 (List._∷_ 111 (List._∷_ 109 (List._∷_ 101 List.[])))))))))))))))
       (Syntax.tcons
       (Syntax.tyStruct
       (List._∷_
-      111
+      102
       (List._∷_
-      117
+      105
       (List._∷_
-      116
+      110
       (List._∷_
-      99
+      105
       (List._∷_
-      111
+      115
       (List._∷_
-      109
-      (List._∷_
-      101
+      104
       (List._∷_
       58
-      (List._∷_ 58 (List._∷_ 83 (List._∷_ 101 (List._∷_ 110 (List._∷_ 116 List.[])))))))))))))
+      (List._∷_ 58 (List._∷_ 83 (List._∷_ 101 (List._∷_ 110 (List._∷_ 116 List.[]))))))))))))
       (Syntax.tcons
       (Syntax.tyStruct
       (List._∷_
@@ -8951,22 +9007,20 @@ t25 = List._∷_ (
       (Syntax.tcons
       (Syntax.tyStruct
       (List._∷_
-      111
+      102
       (List._∷_
-      117
+      105
       (List._∷_
-      116
+      110
       (List._∷_
-      99
+      105
       (List._∷_
-      111
+      115
       (List._∷_
-      109
-      (List._∷_
-      101
+      104
       (List._∷_
       58
-      (List._∷_ 58 (List._∷_ 83 (List._∷_ 101 (List._∷_ 110 (List._∷_ 116 List.[])))))))))))))
+      (List._∷_ 58 (List._∷_ 83 (List._∷_ 101 (List._∷_ 110 (List._∷_ 116 List.[]))))))))))))
       (Syntax.tcons
       (Syntax.tyStruct
       (List._∷_
@@ -10104,19 +10158,17 @@ t31 = List._∷_ (
   Rows.any-gone
       (Syntax.tyStruct
       (List._∷_
-      111
+      102
       (List._∷_
-      117
+      105
       (List._∷_
-      116
+      110
       (List._∷_
-      99
+      105
       (List._∷_
-      111
+      115
       (List._∷_
-      109
-      (List._∷_
-      101
+      104
       (List._∷_
       58
       (List._∷_
@@ -10125,26 +10177,24 @@ t31 = List._∷_ (
       79
       (List._∷_
       117
-      (List._∷_ 116 (List._∷_ 99 (List._∷_ 111 (List._∷_ 109 (List._∷_ 101 List.[]))))))))))))))))
+      (List._∷_ 116 (List._∷_ 99 (List._∷_ 111 (List._∷_ 109 (List._∷_ 101 List.[])))))))))))))))
       (Syntax.tcons
       (Syntax.tyStruct
       (List._∷_
-      111
+      102
       (List._∷_
-      117
+      105
       (List._∷_
-      116
+      110
       (List._∷_
-      99
+      105
       (List._∷_
-      111
+      115
       (List._∷_
-      109
-      (List._∷_
-      101
+      104
       (List._∷_
       58
-      (List._∷_ 58 (List._∷_ 83 (List._∷_ 101 (List._∷_ 110 (List._∷_ 116 List.[])))))))))))))
+      (List._∷_ 58 (List._∷_ 83 (List._∷_ 101 (List._∷_ 110 (List._∷_ 116 List.[]))))))))))))
       (Syntax.tcons
       (Syntax.tyStruct
       (List._∷_
@@ -10207,22 +10257,20 @@ t31 = List._∷_ (
       (Syntax.tcons
       (Syntax.tyStruct
       (List._∷_
-      111
+      102
       (List._∷_
-      117
+      105
       (List._∷_
-      116
+      110
       (List._∷_
-      99
+      105
       (List._∷_
-      111
+      115
       (List._∷_
-      109
-      (List._∷_
-      101
+      104
       (List._∷_
       58
-      (List._∷_ 58 (List._∷_ 83 (List._∷_ 101 (List._∷_ 110 (List._∷_ 116 List.[])))))))))))))
+      (List._∷_ 58 (List._∷_ 83 (List._∷_ 101 (List._∷_ 110 (List._∷_ 116 List.[]))))))))))))
       (Syntax.tcons
       (Syntax.tyStruct
       (List._∷_
@@ -10572,19 +10620,17 @@ t33 = List._∷_ (
   Rows.any-gone
       (Syntax.tyStruct
       (List._∷_
-      111
+      102
       (List._∷_
-      117
+      105
       (List._∷_
-      116
+      110
       (List._∷_
-      99
+      105
       (List._∷_
-      111
+      115
       (List._∷_
-      109
-      (List._∷_
-      101
+      104
       (List._∷_
       58
       (List._∷_
@@ -10593,26 +10639,24 @@ t33 = List._∷_ (
       79
       (List._∷_
       117
-      (List._∷_ 116 (List._∷_ 99 (List._∷_ 111 (List._∷_ 109 (List._∷_ 101 List.[]))))))))))))))))
+      (List._∷_ 116 (List._∷_ 99 (List._∷_ 111 (List._∷_ 109 (List._∷_ 101 List.[])))))))))))))))
       (Syntax.tcons
       (Syntax.tyStruct
       (List._∷_
-      111
+      102
       (List._∷_
-      117
+      105
       (List._∷_
-      116
+      110
       (List._∷_
-      99
+      105
       (List._∷_
-      111
+      115
       (List._∷_
-      109
-      (List._∷_
-      101
+      104
       (List._∷_
       58
-      (List._∷_ 58 (List._∷_ 83 (List._∷_ 101 (List._∷_ 110 (List._∷_ 116 List.[])))))))))))))
+      (List._∷_ 58 (List._∷_ 83 (List._∷_ 101 (List._∷_ 110 (List._∷_ 116 List.[]))))))))))))
       (Syntax.tcons
       (Syntax.tyStruct
       (List._∷_
@@ -10675,22 +10719,20 @@ t33 = List._∷_ (
       (Syntax.tcons
       (Syntax.tyStruct
       (List._∷_
-      111
+      102
       (List._∷_
-      117
+      105
       (List._∷_
-      116
+      110
       (List._∷_
-      99
+      105
       (List._∷_
-      111
+      115
       (List._∷_
-      109
-      (List._∷_
-      101
+      104
       (List._∷_
       58
-      (List._∷_ 58 (List._∷_ 83 (List._∷_ 101 (List._∷_ 110 (List._∷_ 116 List.[])))))))))))))
+      (List._∷_ 58 (List._∷_ 83 (List._∷_ 101 (List._∷_ 110 (List._∷_ 116 List.[]))))))))))))
       (Syntax.tcons
       (Syntax.tyStruct
       (List._∷_
@@ -11281,19 +11323,17 @@ t36 = List._∷_ (
   Rows.any-gone
       (Syntax.tyStruct
       (List._∷_
-      111
+      102
       (List._∷_
-      117
+      105
       (List._∷_
-      116
+      110
       (List._∷_
-      99
+      105
       (List._∷_
-      111
+      115
       (List._∷_
-      109
-      (List._∷_
-      101
+      104
       (List._∷_
       58
       (List._∷_
@@ -11302,26 +11342,24 @@ t36 = List._∷_ (
       79
       (List._∷_
       117
-      (List._∷_ 116 (List._∷_ 99 (List._∷_ 111 (List._∷_ 109 (List._∷_ 101 List.[]))))))))))))))))
+      (List._∷_ 116 (List._∷_ 99 (List._∷_ 111 (List._∷_ 109 (List._∷_ 101 List.[])))))))))))))))
       (Syntax.tcons
       (Syntax.tyStruct
       (List._∷_
-      111
+      102
       (List._∷_
-      117
+      105
       (List._∷_
-      116
+      110
       (List._∷_
-      99
+      105
       (List._∷_
-      111
+      115
       (List._∷_
-      109
-      (List._∷_
-      101
+      104
       (List._∷_
       58
-      (List._∷_ 58 (List._∷_ 83 (List._∷_ 101 (List._∷_ 110 (List._∷_ 116 List.[])))))))))))))
+      (List._∷_ 58 (List._∷_ 83 (List._∷_ 101 (List._∷_ 110 (List._∷_ 116 List.[]))))))))))))
       (Syntax.tcons
       (Syntax.tyStruct
       (List._∷_
@@ -11384,22 +11422,20 @@ t36 = List._∷_ (
       (Syntax.tcons
       (Syntax.tyStruct
       (List._∷_
-      111
+      102
       (List._∷_
-      117
+      105
       (List._∷_
-      116
+      110
       (List._∷_
-      99
+      105
       (List._∷_
-      111
+      115
       (List._∷_
-      109
-      (List._∷_
-      101
+      104
       (List._∷_
       58
-      (List._∷_ 58 (List._∷_ 83 (List._∷_ 101 (List._∷_ 110 (List._∷_ 116 List.[])))))))))))))
+      (List._∷_ 58 (List._∷_ 83 (List._∷_ 101 (List._∷_ 110 (List._∷_ 116 List.[]))))))))))))
       (Syntax.tcons
       (Syntax.tyStruct
       (List._∷_
@@ -11988,19 +12024,17 @@ t39 = List._∷_ (
   Rows.any-gone
       (Syntax.tyStruct
       (List._∷_
-      111
+      102
       (List._∷_
-      117
+      105
       (List._∷_
-      116
+      110
       (List._∷_
-      99
+      105
       (List._∷_
-      111
+      115
       (List._∷_
-      109
-      (List._∷_
-      101
+      104
       (List._∷_
       58
       (List._∷_
@@ -12009,26 +12043,24 @@ t39 = List._∷_ (
       79
       (List._∷_
       117
-      (List._∷_ 116 (List._∷_ 99 (List._∷_ 111 (List._∷_ 109 (List._∷_ 101 List.[]))))))))))))))))
+      (List._∷_ 116 (List._∷_ 99 (List._∷_ 111 (List._∷_ 109 (List._∷_ 101 List.[])))))))))))))))
       (Syntax.tcons
       (Syntax.tyStruct
       (List._∷_
-      111
+      102
       (List._∷_
-      117
+      105
       (List._∷_
-      116
+      110
       (List._∷_
-      99
+      105
       (List._∷_
-      111
+      115
       (List._∷_
-      109
-      (List._∷_
-      101
+      104
       (List._∷_
       58
-      (List._∷_ 58 (List._∷_ 83 (List._∷_ 101 (List._∷_ 110 (List._∷_ 116 List.[])))))))))))))
+      (List._∷_ 58 (List._∷_ 83 (List._∷_ 101 (List._∷_ 110 (List._∷_ 116 List.[]))))))))))))
       (Syntax.tcons
       (Syntax.tyStruct
       (List._∷_
@@ -12091,22 +12123,20 @@ t39 = List._∷_ (
       (Syntax.tcons
       (Syntax.tyStruct
       (List._∷_
-      111
+      102
       (List._∷_
-      117
+      105
       (List._∷_
-      116
+      110
       (List._∷_
-      99
+      105
       (List._∷_
-      111
+      115
       (List._∷_
-      109
-      (List._∷_
-      101
+      104
       (List._∷_
       58
-      (List._∷_ 58 (List._∷_ 83 (List._∷_ 101 (List._∷_ 110 (List._∷_ 116 List.[])))))))))))))
+      (List._∷_ 58 (List._∷_ 83 (List._∷_ 101 (List._∷_ 110 (List._∷_ 116 List.[]))))))))))))
       (Syntax.tcons
       (Syntax.tyStruct
       (List._∷_
@@ -12694,19 +12724,17 @@ t42 = List._∷_ (
   Rows.any-gone
       (Syntax.tyStruct
       (List._∷_
-      111
+      102
       (List._∷_
-      117
+      105
       (List._∷_
-      116
+      110
       (List._∷_
-      99
+      105
       (List._∷_
-      111
+      115
       (List._∷_
-      109
-      (List._∷_
-      101
+      104
       (List._∷_
       58
       (List._∷_
@@ -12715,26 +12743,24 @@ t42 = List._∷_ (
       79
       (List._∷_
       117
-      (List._∷_ 116 (List._∷_ 99 (List._∷_ 111 (List._∷_ 109 (List._∷_ 101 List.[]))))))))))))))))
+      (List._∷_ 116 (List._∷_ 99 (List._∷_ 111 (List._∷_ 109 (List._∷_ 101 List.[])))))))))))))))
       (Syntax.tcons
       (Syntax.tyStruct
       (List._∷_
-      111
+      102
       (List._∷_
-      117
+      105
       (List._∷_
-      116
+      110
       (List._∷_
-      99
+      105
       (List._∷_
-      111
+      115
       (List._∷_
-      109
-      (List._∷_
-      101
+      104
       (List._∷_
       58
-      (List._∷_ 58 (List._∷_ 83 (List._∷_ 101 (List._∷_ 110 (List._∷_ 116 List.[])))))))))))))
+      (List._∷_ 58 (List._∷_ 83 (List._∷_ 101 (List._∷_ 110 (List._∷_ 116 List.[]))))))))))))
       (Syntax.tcons
       (Syntax.tyStruct
       (List._∷_
@@ -12797,22 +12823,20 @@ t42 = List._∷_ (
       (Syntax.tcons
       (Syntax.tyStruct
       (List._∷_
-      111
+      102
       (List._∷_
-      117
+      105
       (List._∷_
-      116
+      110
       (List._∷_
-      99
+      105
       (List._∷_
-      111
+      115
       (List._∷_
-      109
-      (List._∷_
-      101
+      104
       (List._∷_
       58
-      (List._∷_ 58 (List._∷_ 83 (List._∷_ 101 (List._∷_ 110 (List._∷_ 116 List.[])))))))))))))
+      (List._∷_ 58 (List._∷_ 83 (List._∷_ 101 (List._∷_ 110 (List._∷_ 116 List.[]))))))))))))
       (Syntax.tcons
       (Syntax.tyStruct
       (List._∷_
@@ -13401,19 +13425,17 @@ t46 = List._∷_ (
   Rows.any-gone
       (Syntax.tyStruct
       (List._∷_
-      111
+      102
       (List._∷_
-      117
+      105
       (List._∷_
-      116
+      110
       (List._∷_
-      99
+      105
       (List._∷_
-      111
+      115
       (List._∷_
-      109
-      (List._∷_
-      101
+      104
       (List._∷_
       58
       (List._∷_
@@ -13422,26 +13444,24 @@ t46 = List._∷_ (
       79
       (List._∷_
       117
-      (List._∷_ 116 (List._∷_ 99 (List._∷_ 111 (List._∷_ 109 (List._∷_ 101 List.[]))))))))))))))))
+      (List._∷_ 116 (List._∷_ 99 (List._∷_ 111 (List._∷_ 109 (List._∷_ 101 List.[])))))))))))))))
       (Syntax.tcons
       (Syntax.tyStruct
       (List._∷_
-      111
+      102
       (List._∷_
-      117
+      105
       (List._∷_
-      116
+      110
       (List._∷_
-      99
+      105
       (List._∷_
-      111
+      115
       (List._∷_
-      109
-      (List._∷_
-      101
+      104
       (List._∷_
       58
-      (List._∷_ 58 (List._∷_ 83 (List._∷_ 101 (List._∷_ 110 (List._∷_ 116 List.[])))))))))))))
+      (List._∷_ 58 (List._∷_ 83 (List._∷_ 101 (List._∷_ 110 (List._∷_ 116 List.[]))))))))))))
       (Syntax.tcons
       (Syntax.tyStruct
       (List._∷_
@@ -13504,22 +13524,20 @@ t46 = List._∷_ (
       (Syntax.tcons
       (Syntax.tyStruct
       (List._∷_
-      111
+      102
       (List._∷_
-      117
+      105
       (List._∷_
-      116
+      110
       (List._∷_
-      99
+      105
       (List._∷_
-      111
+      115
       (List._∷_
-      109
-      (List._∷_
-      101
+      104
       (List._∷_
       58
-      (List._∷_ 58 (List._∷_ 83 (List._∷_ 101 (List._∷_ 110 (List._∷_ 116 List.[])))))))))))))
+      (List._∷_ 58 (List._∷_ 83 (List._∷_ 101 (List._∷_ 110 (List._∷_ 116 List.[]))))))))))))
       (Syntax.tcons
       (Syntax.tyStruct
       (List._∷_
@@ -13710,11 +13728,19 @@ t46 = List._∷_ (
       (Syntax.tcons
       (Syntax.tyStruct
       (List._∷_
+      116
+      (List._∷_
       97
       (List._∷_
       114
       (List._∷_
+      103
+      (List._∷_
+      101
+      (List._∷_
       116
+      (List._∷_
+      115
       (List._∷_
       58
       (List._∷_
@@ -13723,7 +13749,7 @@ t46 = List._∷_ (
       84
       (List._∷_
       97
-      (List._∷_ 114 (List._∷_ 103 (List._∷_ 101 (List._∷_ 116 (List._∷_ 115 List.[]))))))))))))
+      (List._∷_ 114 (List._∷_ 103 (List._∷_ 101 (List._∷_ 116 (List._∷_ 115 List.[]))))))))))))))))
       (Syntax.tcons
       Syntax.tyBool
       (Syntax.tcons
@@ -13896,11 +13922,19 @@ t47 = List._∷_ (0, Rows.whole (Declared'.row Outcome.the-type)) (List._∷_ (
       (Syntax.tcons
       (Syntax.tyStruct
       (List._∷_
+      116
+      (List._∷_
       97
       (List._∷_
       114
       (List._∷_
+      103
+      (List._∷_
+      101
+      (List._∷_
       116
+      (List._∷_
+      115
       (List._∷_
       58
       (List._∷_
@@ -13909,7 +13943,7 @@ t47 = List._∷_ (0, Rows.whole (Declared'.row Outcome.the-type)) (List._∷_ (
       84
       (List._∷_
       97
-      (List._∷_ 114 (List._∷_ 103 (List._∷_ 101 (List._∷_ 116 (List._∷_ 115 List.[]))))))))))))
+      (List._∷_ 114 (List._∷_ 103 (List._∷_ 101 (List._∷_ 116 (List._∷_ 115 List.[]))))))))))))))))
       (Syntax.tcons
       Syntax.tyBool
       (Syntax.tcons
@@ -14269,11 +14303,19 @@ t49 = List._∷_ (0, Rows.whole (Declared'.row Outcome.the-type)) (List._∷_ (
       (Syntax.tcons
       (Syntax.tyStruct
       (List._∷_
+      116
+      (List._∷_
       97
       (List._∷_
       114
       (List._∷_
+      103
+      (List._∷_
+      101
+      (List._∷_
       116
+      (List._∷_
+      115
       (List._∷_
       58
       (List._∷_
@@ -14282,7 +14324,7 @@ t49 = List._∷_ (0, Rows.whole (Declared'.row Outcome.the-type)) (List._∷_ (
       84
       (List._∷_
       97
-      (List._∷_ 114 (List._∷_ 103 (List._∷_ 101 (List._∷_ 116 (List._∷_ 115 List.[]))))))))))))
+      (List._∷_ 114 (List._∷_ 103 (List._∷_ 101 (List._∷_ 116 (List._∷_ 115 List.[]))))))))))))))))
       (Syntax.tcons
       Syntax.tyBool
       (Syntax.tcons
@@ -14496,11 +14538,19 @@ t50 = List._∷_ (0, Rows.whole (Declared'.row Outcome.the-type)) (List._∷_ (
       (Syntax.tcons
       (Syntax.tyStruct
       (List._∷_
+      116
+      (List._∷_
       97
       (List._∷_
       114
       (List._∷_
+      103
+      (List._∷_
+      101
+      (List._∷_
       116
+      (List._∷_
+      115
       (List._∷_
       58
       (List._∷_
@@ -14509,7 +14559,7 @@ t50 = List._∷_ (0, Rows.whole (Declared'.row Outcome.the-type)) (List._∷_ (
       84
       (List._∷_
       97
-      (List._∷_ 114 (List._∷_ 103 (List._∷_ 101 (List._∷_ 116 (List._∷_ 115 List.[]))))))))))))
+      (List._∷_ 114 (List._∷_ 103 (List._∷_ 101 (List._∷_ 116 (List._∷_ 115 List.[]))))))))))))))))
       (Syntax.tcons
       Syntax.tyBool
       (Syntax.tcons
@@ -14721,11 +14771,19 @@ t51 = List._∷_ (0, Rows.whole (Declared'.row Outcome.the-type)) (List._∷_ (
       (Syntax.tcons
       (Syntax.tyStruct
       (List._∷_
+      116
+      (List._∷_
       97
       (List._∷_
       114
       (List._∷_
+      103
+      (List._∷_
+      101
+      (List._∷_
       116
+      (List._∷_
+      115
       (List._∷_
       58
       (List._∷_
@@ -14734,7 +14792,7 @@ t51 = List._∷_ (0, Rows.whole (Declared'.row Outcome.the-type)) (List._∷_ (
       84
       (List._∷_
       97
-      (List._∷_ 114 (List._∷_ 103 (List._∷_ 101 (List._∷_ 116 (List._∷_ 115 List.[]))))))))))))
+      (List._∷_ 114 (List._∷_ 103 (List._∷_ 101 (List._∷_ 116 (List._∷_ 115 List.[]))))))))))))))))
       (Syntax.tcons
       Syntax.tyBool
       (Syntax.tcons
@@ -15120,11 +15178,19 @@ t53 = List._∷_ (0, Rows.whole (Declared'.row Outcome.the-type)) (List._∷_ (
       (Syntax.tcons
       (Syntax.tyStruct
       (List._∷_
+      116
+      (List._∷_
       97
       (List._∷_
       114
       (List._∷_
+      103
+      (List._∷_
+      101
+      (List._∷_
       116
+      (List._∷_
+      115
       (List._∷_
       58
       (List._∷_
@@ -15133,7 +15199,7 @@ t53 = List._∷_ (0, Rows.whole (Declared'.row Outcome.the-type)) (List._∷_ (
       84
       (List._∷_
       97
-      (List._∷_ 114 (List._∷_ 103 (List._∷_ 101 (List._∷_ 116 (List._∷_ 115 List.[]))))))))))))
+      (List._∷_ 114 (List._∷_ 103 (List._∷_ 101 (List._∷_ 116 (List._∷_ 115 List.[]))))))))))))))))
       (Syntax.tcons
       Syntax.tyBool
       (Syntax.tcons
@@ -15520,11 +15586,19 @@ t55 = List._∷_ (0, Rows.whole (Declared'.row Outcome.the-type)) (List._∷_ (
       (Syntax.tcons
       (Syntax.tyStruct
       (List._∷_
+      116
+      (List._∷_
       97
       (List._∷_
       114
       (List._∷_
+      103
+      (List._∷_
+      101
+      (List._∷_
       116
+      (List._∷_
+      115
       (List._∷_
       58
       (List._∷_
@@ -15533,7 +15607,7 @@ t55 = List._∷_ (0, Rows.whole (Declared'.row Outcome.the-type)) (List._∷_ (
       84
       (List._∷_
       97
-      (List._∷_ 114 (List._∷_ 103 (List._∷_ 101 (List._∷_ 116 (List._∷_ 115 List.[]))))))))))))
+      (List._∷_ 114 (List._∷_ 103 (List._∷_ 101 (List._∷_ 116 (List._∷_ 115 List.[]))))))))))))))))
       (Syntax.tcons
       Syntax.tyBool
       (Syntax.tcons
@@ -16237,19 +16311,17 @@ module _ (claims· : Claims) where
       List.[]
       (Syntax.tyStruct
       (List._∷_
-      111
+      102
       (List._∷_
-      117
+      105
       (List._∷_
-      116
+      110
       (List._∷_
-      99
+      105
       (List._∷_
-      111
+      115
       (List._∷_
-      109
-      (List._∷_
-      101
+      104
       (List._∷_
       58
       (List._∷_
@@ -16258,26 +16330,24 @@ module _ (claims· : Claims) where
       79
       (List._∷_
       117
-      (List._∷_ 116 (List._∷_ 99 (List._∷_ 111 (List._∷_ 109 (List._∷_ 101 List.[]))))))))))))))))
+      (List._∷_ 116 (List._∷_ 99 (List._∷_ 111 (List._∷_ 109 (List._∷_ 101 List.[])))))))))))))))
       (Syntax.tcons
       (Syntax.tyStruct
       (List._∷_
-      111
+      102
       (List._∷_
-      117
+      105
       (List._∷_
-      116
+      110
       (List._∷_
-      99
+      105
       (List._∷_
-      111
+      115
       (List._∷_
-      109
-      (List._∷_
-      101
+      104
       (List._∷_
       58
-      (List._∷_ 58 (List._∷_ 83 (List._∷_ 101 (List._∷_ 110 (List._∷_ 116 List.[])))))))))))))
+      (List._∷_ 58 (List._∷_ 83 (List._∷_ 101 (List._∷_ 110 (List._∷_ 116 List.[]))))))))))))
       (Syntax.tcons
       (Syntax.tyStruct
       (List._∷_
@@ -16340,22 +16410,20 @@ module _ (claims· : Claims) where
       (Syntax.tcons
       (Syntax.tyStruct
       (List._∷_
-      111
+      102
       (List._∷_
-      117
+      105
       (List._∷_
-      116
+      110
       (List._∷_
-      99
+      105
       (List._∷_
-      111
+      115
       (List._∷_
-      109
-      (List._∷_
-      101
+      104
       (List._∷_
       58
-      (List._∷_ 58 (List._∷_ 83 (List._∷_ 101 (List._∷_ 110 (List._∷_ 116 List.[])))))))))))))
+      (List._∷_ 58 (List._∷_ 83 (List._∷_ 101 (List._∷_ 110 (List._∷_ 116 List.[]))))))))))))
       (Syntax.tcons
       (Syntax.tyStruct
       (List._∷_
@@ -16582,11 +16650,19 @@ module _ (claims· : Claims) where
       (Syntax.tcons
       (Syntax.tyStruct
       (List._∷_
+      116
+      (List._∷_
       97
       (List._∷_
       114
       (List._∷_
+      103
+      (List._∷_
+      101
+      (List._∷_
       116
+      (List._∷_
+      115
       (List._∷_
       58
       (List._∷_
@@ -16595,7 +16671,7 @@ module _ (claims· : Claims) where
       84
       (List._∷_
       97
-      (List._∷_ 114 (List._∷_ 103 (List._∷_ 101 (List._∷_ 116 (List._∷_ 115 List.[]))))))))))))
+      (List._∷_ 114 (List._∷_ 103 (List._∷_ 101 (List._∷_ 116 (List._∷_ 115 List.[]))))))))))))))))
       (Syntax.tcons
       Syntax.tyBool
       (Syntax.tcons
@@ -16721,11 +16797,19 @@ module _ (claims· : Claims) where
       (Syntax.tcons
       (Syntax.tyStruct
       (List._∷_
+      116
+      (List._∷_
       97
       (List._∷_
       114
       (List._∷_
+      103
+      (List._∷_
+      101
+      (List._∷_
       116
+      (List._∷_
+      115
       (List._∷_
       58
       (List._∷_
@@ -16734,7 +16818,7 @@ module _ (claims· : Claims) where
       84
       (List._∷_
       97
-      (List._∷_ 114 (List._∷_ 103 (List._∷_ 101 (List._∷_ 116 (List._∷_ 115 List.[]))))))))))))
+      (List._∷_ 114 (List._∷_ 103 (List._∷_ 101 (List._∷_ 116 (List._∷_ 115 List.[]))))))))))))))))
       (Syntax.tcons
       Syntax.tyBool
       (Syntax.tcons
@@ -16845,19 +16929,17 @@ module _ (claims· : Claims) where
       List.[]
       (Syntax.tyStruct
       (List._∷_
-      111
+      102
       (List._∷_
-      117
+      105
       (List._∷_
-      116
+      110
       (List._∷_
-      99
+      105
       (List._∷_
-      111
+      115
       (List._∷_
-      109
-      (List._∷_
-      101
+      104
       (List._∷_
       58
       (List._∷_
@@ -16866,26 +16948,24 @@ module _ (claims· : Claims) where
       79
       (List._∷_
       117
-      (List._∷_ 116 (List._∷_ 99 (List._∷_ 111 (List._∷_ 109 (List._∷_ 101 List.[]))))))))))))))))
+      (List._∷_ 116 (List._∷_ 99 (List._∷_ 111 (List._∷_ 109 (List._∷_ 101 List.[])))))))))))))))
       (Syntax.tcons
       (Syntax.tyStruct
       (List._∷_
-      111
+      102
       (List._∷_
-      117
+      105
       (List._∷_
-      116
+      110
       (List._∷_
-      99
+      105
       (List._∷_
-      111
+      115
       (List._∷_
-      109
-      (List._∷_
-      101
+      104
       (List._∷_
       58
-      (List._∷_ 58 (List._∷_ 83 (List._∷_ 101 (List._∷_ 110 (List._∷_ 116 List.[])))))))))))))
+      (List._∷_ 58 (List._∷_ 83 (List._∷_ 101 (List._∷_ 110 (List._∷_ 116 List.[]))))))))))))
       (Syntax.tcons
       (Syntax.tyStruct
       (List._∷_
@@ -16948,22 +17028,20 @@ module _ (claims· : Claims) where
       (Syntax.tcons
       (Syntax.tyStruct
       (List._∷_
-      111
+      102
       (List._∷_
-      117
+      105
       (List._∷_
-      116
+      110
       (List._∷_
-      99
+      105
       (List._∷_
-      111
+      115
       (List._∷_
-      109
-      (List._∷_
-      101
+      104
       (List._∷_
       58
-      (List._∷_ 58 (List._∷_ 83 (List._∷_ 101 (List._∷_ 110 (List._∷_ 116 List.[])))))))))))))
+      (List._∷_ 58 (List._∷_ 83 (List._∷_ 101 (List._∷_ 110 (List._∷_ 116 List.[]))))))))))))
       (Syntax.tcons
       (Syntax.tyStruct
       (List._∷_
@@ -17365,11 +17443,19 @@ module _ (claims· : Claims) where
       (Syntax.tcons
       (Syntax.tyStruct
       (List._∷_
+      116
+      (List._∷_
       97
       (List._∷_
       114
       (List._∷_
+      103
+      (List._∷_
+      101
+      (List._∷_
       116
+      (List._∷_
+      115
       (List._∷_
       58
       (List._∷_
@@ -17378,7 +17464,7 @@ module _ (claims· : Claims) where
       84
       (List._∷_
       97
-      (List._∷_ 114 (List._∷_ 103 (List._∷_ 101 (List._∷_ 116 (List._∷_ 115 List.[]))))))))))))
+      (List._∷_ 114 (List._∷_ 103 (List._∷_ 101 (List._∷_ 116 (List._∷_ 115 List.[]))))))))))))))))
       (Syntax.tcons
       Syntax.tyBool
       (Syntax.tcons
@@ -17489,19 +17575,17 @@ module _ (claims· : Claims) where
       List.[]
       (Syntax.tyStruct
       (List._∷_
-      111
+      102
       (List._∷_
-      117
+      105
       (List._∷_
-      116
+      110
       (List._∷_
-      99
+      105
       (List._∷_
-      111
+      115
       (List._∷_
-      109
-      (List._∷_
-      101
+      104
       (List._∷_
       58
       (List._∷_
@@ -17510,26 +17594,24 @@ module _ (claims· : Claims) where
       79
       (List._∷_
       117
-      (List._∷_ 116 (List._∷_ 99 (List._∷_ 111 (List._∷_ 109 (List._∷_ 101 List.[]))))))))))))))))
+      (List._∷_ 116 (List._∷_ 99 (List._∷_ 111 (List._∷_ 109 (List._∷_ 101 List.[])))))))))))))))
       (Syntax.tcons
       (Syntax.tyStruct
       (List._∷_
-      111
+      102
       (List._∷_
-      117
+      105
       (List._∷_
-      116
+      110
       (List._∷_
-      99
+      105
       (List._∷_
-      111
+      115
       (List._∷_
-      109
-      (List._∷_
-      101
+      104
       (List._∷_
       58
-      (List._∷_ 58 (List._∷_ 83 (List._∷_ 101 (List._∷_ 110 (List._∷_ 116 List.[])))))))))))))
+      (List._∷_ 58 (List._∷_ 83 (List._∷_ 101 (List._∷_ 110 (List._∷_ 116 List.[]))))))))))))
       (Syntax.tcons
       (Syntax.tyStruct
       (List._∷_
@@ -17592,22 +17674,20 @@ module _ (claims· : Claims) where
       (Syntax.tcons
       (Syntax.tyStruct
       (List._∷_
-      111
+      102
       (List._∷_
-      117
+      105
       (List._∷_
-      116
+      110
       (List._∷_
-      99
+      105
       (List._∷_
-      111
+      115
       (List._∷_
-      109
-      (List._∷_
-      101
+      104
       (List._∷_
       58
-      (List._∷_ 58 (List._∷_ 83 (List._∷_ 101 (List._∷_ 110 (List._∷_ 116 List.[])))))))))))))
+      (List._∷_ 58 (List._∷_ 83 (List._∷_ 101 (List._∷_ 110 (List._∷_ 116 List.[]))))))))))))
       (Syntax.tcons
       (Syntax.tyStruct
       (List._∷_
@@ -17937,11 +18017,19 @@ module _ (claims· : Claims) where
       List.[]
       (Syntax.tyStruct
       (List._∷_
+      116
+      (List._∷_
       97
       (List._∷_
       114
       (List._∷_
+      103
+      (List._∷_
+      101
+      (List._∷_
       116
+      (List._∷_
+      115
       (List._∷_
       58
       (List._∷_
@@ -17950,7 +18038,7 @@ module _ (claims· : Claims) where
       84
       (List._∷_
       97
-      (List._∷_ 114 (List._∷_ 103 (List._∷_ 101 (List._∷_ 116 (List._∷_ 115 List.[]))))))))))))
+      (List._∷_ 114 (List._∷_ 103 (List._∷_ 101 (List._∷_ 116 (List._∷_ 115 List.[]))))))))))))))))
       (Syntax.tcons
       Syntax.tyBool
       (Syntax.tcons
@@ -18019,11 +18107,19 @@ module _ (claims· : Claims) where
       (Syntax.tcons
       (Syntax.tyStruct
       (List._∷_
+      116
+      (List._∷_
       97
       (List._∷_
       114
       (List._∷_
+      103
+      (List._∷_
+      101
+      (List._∷_
       116
+      (List._∷_
+      115
       (List._∷_
       58
       (List._∷_
@@ -18032,7 +18128,7 @@ module _ (claims· : Claims) where
       84
       (List._∷_
       97
-      (List._∷_ 114 (List._∷_ 103 (List._∷_ 101 (List._∷_ 116 (List._∷_ 115 List.[]))))))))))))
+      (List._∷_ 114 (List._∷_ 103 (List._∷_ 101 (List._∷_ 116 (List._∷_ 115 List.[]))))))))))))))))
       (Syntax.tcons
       Syntax.tyBool
       (Syntax.tcons
@@ -18115,19 +18211,17 @@ module _ (claims· : Claims) where
       (List._∷_ 7 (List._∷_ 8 (List._∷_ 9 (List._∷_ 10 List.[]))))
       (Syntax.tyStruct
       (List._∷_
-      111
+      102
       (List._∷_
-      117
+      105
       (List._∷_
-      116
+      110
       (List._∷_
-      99
+      105
       (List._∷_
-      111
+      115
       (List._∷_
-      109
-      (List._∷_
-      101
+      104
       (List._∷_
       58
       (List._∷_
@@ -18136,26 +18230,24 @@ module _ (claims· : Claims) where
       79
       (List._∷_
       117
-      (List._∷_ 116 (List._∷_ 99 (List._∷_ 111 (List._∷_ 109 (List._∷_ 101 List.[]))))))))))))))))
+      (List._∷_ 116 (List._∷_ 99 (List._∷_ 111 (List._∷_ 109 (List._∷_ 101 List.[])))))))))))))))
       (Syntax.tcons
       (Syntax.tyStruct
       (List._∷_
-      111
+      102
       (List._∷_
-      117
+      105
       (List._∷_
-      116
+      110
       (List._∷_
-      99
+      105
       (List._∷_
-      111
+      115
       (List._∷_
-      109
-      (List._∷_
-      101
+      104
       (List._∷_
       58
-      (List._∷_ 58 (List._∷_ 83 (List._∷_ 101 (List._∷_ 110 (List._∷_ 116 List.[])))))))))))))
+      (List._∷_ 58 (List._∷_ 83 (List._∷_ 101 (List._∷_ 110 (List._∷_ 116 List.[]))))))))))))
       (Syntax.tcons
       (Syntax.tyStruct
       (List._∷_
@@ -18218,22 +18310,20 @@ module _ (claims· : Claims) where
       (Syntax.tcons
       (Syntax.tyStruct
       (List._∷_
-      111
+      102
       (List._∷_
-      117
+      105
       (List._∷_
-      116
+      110
       (List._∷_
-      99
+      105
       (List._∷_
-      111
+      115
       (List._∷_
-      109
-      (List._∷_
-      101
+      104
       (List._∷_
       58
-      (List._∷_ 58 (List._∷_ 83 (List._∷_ 101 (List._∷_ 110 (List._∷_ 116 List.[])))))))))))))
+      (List._∷_ 58 (List._∷_ 83 (List._∷_ 101 (List._∷_ 110 (List._∷_ 116 List.[]))))))))))))
       (Syntax.tcons
       (Syntax.tyStruct
       (List._∷_
@@ -18404,11 +18494,19 @@ module _ (claims· : Claims) where
       32
       (Syntax.tyStruct
       (List._∷_
+      116
+      (List._∷_
       97
       (List._∷_
       114
       (List._∷_
+      103
+      (List._∷_
+      101
+      (List._∷_
       116
+      (List._∷_
+      115
       (List._∷_
       58
       (List._∷_
@@ -18417,7 +18515,7 @@ module _ (claims· : Claims) where
       84
       (List._∷_
       97
-      (List._∷_ 114 (List._∷_ 103 (List._∷_ 101 (List._∷_ 116 (List._∷_ 115 List.[]))))))))))))
+      (List._∷_ 114 (List._∷_ 103 (List._∷_ 101 (List._∷_ 116 (List._∷_ 115 List.[]))))))))))))))))
       (Syntax.tcons
       Syntax.tyBool
       (Syntax.tcons
@@ -18552,7 +18650,7 @@ module _ (claims· : Claims) where
           𝓤 H) (known0 : Plain.Known 𝓤 H A W 𝓣 0 ps·0 r·0 (claims· .0) (claims· .1)
           "bad_call::is_bad") (known1 : Plain.Known 𝓤 H A W 𝓣 0 ps·1 r·1 (claims· .2) (claims· .3)
           "calls::bad_call") (known2 : Plain.Known 𝓤 H A W 𝓣 0 ps·2 r·2 (claims· .4) (claims· .5)
-          "outcome::refused") (known3 : Plain.Known 𝓤 H A W 𝓣 1 ps·3 r·3 (claims· .6) (claims· .7)
+          "finish::refused") (known3 : Plain.Known 𝓤 H A W 𝓣 1 ps·3 r·3 (claims· .6) (claims· .7)
           "gather::gather") (known4 : Plain.Known 𝓤 H A W 𝓣 0 ps·4 r·4 (claims· .8) (claims· .9)
           "calls::is_bad_start") (known5 : Plain.Known 𝓤 H A W 𝓣 2 ps·5 r·5 (claims· .10)
           (claims· .11) "node::is_wrong") (known6 : Plain.Known 𝓤 H A W 𝓣 0 ps·6 r·6 (claims· .12)
@@ -18884,7 +18982,7 @@ module _ (claims· : Claims) where
         Knowns =
             Plain.Known 𝓤 H A W 𝓣 0 ps·0 r·0 (claims· .0) (claims· .1) "bad_call::is_bad" ×
             Plain.Known 𝓤 H A W 𝓣 0 ps·1 r·1 (claims· .2) (claims· .3) "calls::bad_call" ×
-            Plain.Known 𝓤 H A W 𝓣 0 ps·2 r·2 (claims· .4) (claims· .5) "outcome::refused" ×
+            Plain.Known 𝓤 H A W 𝓣 0 ps·2 r·2 (claims· .4) (claims· .5) "finish::refused" ×
             Plain.Known 𝓤 H A W 𝓣 1 ps·3 r·3 (claims· .6) (claims· .7) "gather::gather" ×
             Plain.Known 𝓤 H A W 𝓣 0 ps·4 r·4 (claims· .8) (claims· .9) "calls::is_bad_start" ×
             Plain.Known 𝓤 H A W 𝓣 2 ps·5 r·5 (claims· .10) (claims· .11) "node::is_wrong" ×
@@ -18899,19 +18997,17 @@ module _ (claims· : Claims) where
           Rows.any-gone
               (Syntax.tyStruct
               (List._∷_
-              111
+              102
               (List._∷_
-              117
+              105
               (List._∷_
-              116
+              110
               (List._∷_
-              99
+              105
               (List._∷_
-              111
+              115
               (List._∷_
-              109
-              (List._∷_
-              101
+              104
               (List._∷_
               58
               (List._∷_
@@ -18922,28 +19018,26 @@ module _ (claims· : Claims) where
               117
               (List._∷_
               116
-              (List._∷_ 99 (List._∷_ 111 (List._∷_ 109 (List._∷_ 101 List.[]))))))))))))))))
+              (List._∷_ 99 (List._∷_ 111 (List._∷_ 109 (List._∷_ 101 List.[])))))))))))))))
               (Syntax.tcons
               (Syntax.tyStruct
               (List._∷_
-              111
+              102
               (List._∷_
-              117
+              105
               (List._∷_
-              116
+              110
               (List._∷_
-              99
+              105
               (List._∷_
-              111
+              115
               (List._∷_
-              109
-              (List._∷_
-              101
+              104
               (List._∷_
               58
               (List._∷_
               58
-              (List._∷_ 83 (List._∷_ 101 (List._∷_ 110 (List._∷_ 116 List.[])))))))))))))
+              (List._∷_ 83 (List._∷_ 101 (List._∷_ 110 (List._∷_ 116 List.[]))))))))))))
               (Syntax.tcons
               (Syntax.tyStruct
               (List._∷_
@@ -19006,24 +19100,22 @@ module _ (claims· : Claims) where
               (Syntax.tcons
               (Syntax.tyStruct
               (List._∷_
-              111
+              102
               (List._∷_
-              117
+              105
               (List._∷_
-              116
+              110
               (List._∷_
-              99
+              105
               (List._∷_
-              111
+              115
               (List._∷_
-              109
-              (List._∷_
-              101
+              104
               (List._∷_
               58
               (List._∷_
               58
-              (List._∷_ 83 (List._∷_ 101 (List._∷_ 110 (List._∷_ 116 List.[])))))))))))))
+              (List._∷_ 83 (List._∷_ 101 (List._∷_ 110 (List._∷_ 116 List.[]))))))))))))
               (Syntax.tcons
               (Syntax.tyStruct
               (List._∷_
@@ -19257,19 +19349,17 @@ module _ (claims· : Claims) where
           Rows.any-gone
               (Syntax.tyStruct
               (List._∷_
-              111
+              102
               (List._∷_
-              117
+              105
               (List._∷_
-              116
+              110
               (List._∷_
-              99
+              105
               (List._∷_
-              111
+              115
               (List._∷_
-              109
-              (List._∷_
-              101
+              104
               (List._∷_
               58
               (List._∷_
@@ -19280,28 +19370,26 @@ module _ (claims· : Claims) where
               117
               (List._∷_
               116
-              (List._∷_ 99 (List._∷_ 111 (List._∷_ 109 (List._∷_ 101 List.[]))))))))))))))))
+              (List._∷_ 99 (List._∷_ 111 (List._∷_ 109 (List._∷_ 101 List.[])))))))))))))))
               (Syntax.tcons
               (Syntax.tyStruct
               (List._∷_
-              111
+              102
               (List._∷_
-              117
+              105
               (List._∷_
-              116
+              110
               (List._∷_
-              99
+              105
               (List._∷_
-              111
+              115
               (List._∷_
-              109
-              (List._∷_
-              101
+              104
               (List._∷_
               58
               (List._∷_
               58
-              (List._∷_ 83 (List._∷_ 101 (List._∷_ 110 (List._∷_ 116 List.[])))))))))))))
+              (List._∷_ 83 (List._∷_ 101 (List._∷_ 110 (List._∷_ 116 List.[]))))))))))))
               (Syntax.tcons
               (Syntax.tyStruct
               (List._∷_
@@ -19364,24 +19452,22 @@ module _ (claims· : Claims) where
               (Syntax.tcons
               (Syntax.tyStruct
               (List._∷_
-              111
+              102
               (List._∷_
-              117
+              105
               (List._∷_
-              116
+              110
               (List._∷_
-              99
+              105
               (List._∷_
-              111
+              115
               (List._∷_
-              109
-              (List._∷_
-              101
+              104
               (List._∷_
               58
               (List._∷_
               58
-              (List._∷_ 83 (List._∷_ 101 (List._∷_ 110 (List._∷_ 116 List.[])))))))))))))
+              (List._∷_ 83 (List._∷_ 101 (List._∷_ 110 (List._∷_ 116 List.[]))))))))))))
               (Syntax.tcons
               (Syntax.tyStruct
               (List._∷_
@@ -19617,19 +19703,17 @@ module _ (claims· : Claims) where
           Rows.any-gone
               (Syntax.tyStruct
               (List._∷_
-              111
+              102
               (List._∷_
-              117
+              105
               (List._∷_
-              116
+              110
               (List._∷_
-              99
+              105
               (List._∷_
-              111
+              115
               (List._∷_
-              109
-              (List._∷_
-              101
+              104
               (List._∷_
               58
               (List._∷_
@@ -19640,28 +19724,26 @@ module _ (claims· : Claims) where
               117
               (List._∷_
               116
-              (List._∷_ 99 (List._∷_ 111 (List._∷_ 109 (List._∷_ 101 List.[]))))))))))))))))
+              (List._∷_ 99 (List._∷_ 111 (List._∷_ 109 (List._∷_ 101 List.[])))))))))))))))
               (Syntax.tcons
               (Syntax.tyStruct
               (List._∷_
-              111
+              102
               (List._∷_
-              117
+              105
               (List._∷_
-              116
+              110
               (List._∷_
-              99
+              105
               (List._∷_
-              111
+              115
               (List._∷_
-              109
-              (List._∷_
-              101
+              104
               (List._∷_
               58
               (List._∷_
               58
-              (List._∷_ 83 (List._∷_ 101 (List._∷_ 110 (List._∷_ 116 List.[])))))))))))))
+              (List._∷_ 83 (List._∷_ 101 (List._∷_ 110 (List._∷_ 116 List.[]))))))))))))
               (Syntax.tcons
               (Syntax.tyStruct
               (List._∷_
@@ -19724,24 +19806,22 @@ module _ (claims· : Claims) where
               (Syntax.tcons
               (Syntax.tyStruct
               (List._∷_
-              111
+              102
               (List._∷_
-              117
+              105
               (List._∷_
-              116
+              110
               (List._∷_
-              99
+              105
               (List._∷_
-              111
+              115
               (List._∷_
-              109
-              (List._∷_
-              101
+              104
               (List._∷_
               58
               (List._∷_
               58
-              (List._∷_ 83 (List._∷_ 101 (List._∷_ 110 (List._∷_ 116 List.[])))))))))))))
+              (List._∷_ 83 (List._∷_ 101 (List._∷_ 110 (List._∷_ 116 List.[]))))))))))))
               (Syntax.tcons
               (Syntax.tyStruct
               (List._∷_
@@ -19975,19 +20055,17 @@ module _ (claims· : Claims) where
           Rows.any-gone
               (Syntax.tyStruct
               (List._∷_
-              111
+              102
               (List._∷_
-              117
+              105
               (List._∷_
-              116
+              110
               (List._∷_
-              99
+              105
               (List._∷_
-              111
+              115
               (List._∷_
-              109
-              (List._∷_
-              101
+              104
               (List._∷_
               58
               (List._∷_
@@ -19998,28 +20076,26 @@ module _ (claims· : Claims) where
               117
               (List._∷_
               116
-              (List._∷_ 99 (List._∷_ 111 (List._∷_ 109 (List._∷_ 101 List.[]))))))))))))))))
+              (List._∷_ 99 (List._∷_ 111 (List._∷_ 109 (List._∷_ 101 List.[])))))))))))))))
               (Syntax.tcons
               (Syntax.tyStruct
               (List._∷_
-              111
+              102
               (List._∷_
-              117
+              105
               (List._∷_
-              116
+              110
               (List._∷_
-              99
+              105
               (List._∷_
-              111
+              115
               (List._∷_
-              109
-              (List._∷_
-              101
+              104
               (List._∷_
               58
               (List._∷_
               58
-              (List._∷_ 83 (List._∷_ 101 (List._∷_ 110 (List._∷_ 116 List.[])))))))))))))
+              (List._∷_ 83 (List._∷_ 101 (List._∷_ 110 (List._∷_ 116 List.[]))))))))))))
               (Syntax.tcons
               (Syntax.tyStruct
               (List._∷_
@@ -20082,24 +20158,22 @@ module _ (claims· : Claims) where
               (Syntax.tcons
               (Syntax.tyStruct
               (List._∷_
-              111
+              102
               (List._∷_
-              117
+              105
               (List._∷_
-              116
+              110
               (List._∷_
-              99
+              105
               (List._∷_
-              111
+              115
               (List._∷_
-              109
-              (List._∷_
-              101
+              104
               (List._∷_
               58
               (List._∷_
               58
-              (List._∷_ 83 (List._∷_ 101 (List._∷_ 110 (List._∷_ 116 List.[])))))))))))))
+              (List._∷_ 83 (List._∷_ 101 (List._∷_ 110 (List._∷_ 116 List.[]))))))))))))
               (Syntax.tcons
               (Syntax.tyStruct
               (List._∷_
@@ -20333,19 +20407,17 @@ module _ (claims· : Claims) where
           Rows.any-gone
               (Syntax.tyStruct
               (List._∷_
-              111
+              102
               (List._∷_
-              117
+              105
               (List._∷_
-              116
+              110
               (List._∷_
-              99
+              105
               (List._∷_
-              111
+              115
               (List._∷_
-              109
-              (List._∷_
-              101
+              104
               (List._∷_
               58
               (List._∷_
@@ -20356,28 +20428,26 @@ module _ (claims· : Claims) where
               117
               (List._∷_
               116
-              (List._∷_ 99 (List._∷_ 111 (List._∷_ 109 (List._∷_ 101 List.[]))))))))))))))))
+              (List._∷_ 99 (List._∷_ 111 (List._∷_ 109 (List._∷_ 101 List.[])))))))))))))))
               (Syntax.tcons
               (Syntax.tyStruct
               (List._∷_
-              111
+              102
               (List._∷_
-              117
+              105
               (List._∷_
-              116
+              110
               (List._∷_
-              99
+              105
               (List._∷_
-              111
+              115
               (List._∷_
-              109
-              (List._∷_
-              101
+              104
               (List._∷_
               58
               (List._∷_
               58
-              (List._∷_ 83 (List._∷_ 101 (List._∷_ 110 (List._∷_ 116 List.[])))))))))))))
+              (List._∷_ 83 (List._∷_ 101 (List._∷_ 110 (List._∷_ 116 List.[]))))))))))))
               (Syntax.tcons
               (Syntax.tyStruct
               (List._∷_
@@ -20440,24 +20510,22 @@ module _ (claims· : Claims) where
               (Syntax.tcons
               (Syntax.tyStruct
               (List._∷_
-              111
+              102
               (List._∷_
-              117
+              105
               (List._∷_
-              116
+              110
               (List._∷_
-              99
+              105
               (List._∷_
-              111
+              115
               (List._∷_
-              109
-              (List._∷_
-              101
+              104
               (List._∷_
               58
               (List._∷_
               58
-              (List._∷_ 83 (List._∷_ 101 (List._∷_ 110 (List._∷_ 116 List.[])))))))))))))
+              (List._∷_ 83 (List._∷_ 101 (List._∷_ 110 (List._∷_ 116 List.[]))))))))))))
               (Syntax.tcons
               (Syntax.tyStruct
               (List._∷_
@@ -20693,19 +20761,17 @@ module _ (claims· : Claims) where
           Rows.any-gone
               (Syntax.tyStruct
               (List._∷_
-              111
+              102
               (List._∷_
-              117
+              105
               (List._∷_
-              116
+              110
               (List._∷_
-              99
+              105
               (List._∷_
-              111
+              115
               (List._∷_
-              109
-              (List._∷_
-              101
+              104
               (List._∷_
               58
               (List._∷_
@@ -20716,28 +20782,26 @@ module _ (claims· : Claims) where
               117
               (List._∷_
               116
-              (List._∷_ 99 (List._∷_ 111 (List._∷_ 109 (List._∷_ 101 List.[]))))))))))))))))
+              (List._∷_ 99 (List._∷_ 111 (List._∷_ 109 (List._∷_ 101 List.[])))))))))))))))
               (Syntax.tcons
               (Syntax.tyStruct
               (List._∷_
-              111
+              102
               (List._∷_
-              117
+              105
               (List._∷_
-              116
+              110
               (List._∷_
-              99
+              105
               (List._∷_
-              111
+              115
               (List._∷_
-              109
-              (List._∷_
-              101
+              104
               (List._∷_
               58
               (List._∷_
               58
-              (List._∷_ 83 (List._∷_ 101 (List._∷_ 110 (List._∷_ 116 List.[])))))))))))))
+              (List._∷_ 83 (List._∷_ 101 (List._∷_ 110 (List._∷_ 116 List.[]))))))))))))
               (Syntax.tcons
               (Syntax.tyStruct
               (List._∷_
@@ -20800,24 +20864,22 @@ module _ (claims· : Claims) where
               (Syntax.tcons
               (Syntax.tyStruct
               (List._∷_
-              111
+              102
               (List._∷_
-              117
+              105
               (List._∷_
-              116
+              110
               (List._∷_
-              99
+              105
               (List._∷_
-              111
+              115
               (List._∷_
-              109
-              (List._∷_
-              101
+              104
               (List._∷_
               58
               (List._∷_
               58
-              (List._∷_ 83 (List._∷_ 101 (List._∷_ 110 (List._∷_ 116 List.[])))))))))))))
+              (List._∷_ 83 (List._∷_ 101 (List._∷_ 110 (List._∷_ 116 List.[]))))))))))))
               (Syntax.tcons
               (Syntax.tyStruct
               (List._∷_
@@ -21055,19 +21117,17 @@ module _ (claims· : Claims) where
           Rows.any-gone
               (Syntax.tyStruct
               (List._∷_
-              111
+              102
               (List._∷_
-              117
+              105
               (List._∷_
-              116
+              110
               (List._∷_
-              99
+              105
               (List._∷_
-              111
+              115
               (List._∷_
-              109
-              (List._∷_
-              101
+              104
               (List._∷_
               58
               (List._∷_
@@ -21078,28 +21138,26 @@ module _ (claims· : Claims) where
               117
               (List._∷_
               116
-              (List._∷_ 99 (List._∷_ 111 (List._∷_ 109 (List._∷_ 101 List.[]))))))))))))))))
+              (List._∷_ 99 (List._∷_ 111 (List._∷_ 109 (List._∷_ 101 List.[])))))))))))))))
               (Syntax.tcons
               (Syntax.tyStruct
               (List._∷_
-              111
+              102
               (List._∷_
-              117
+              105
               (List._∷_
-              116
+              110
               (List._∷_
-              99
+              105
               (List._∷_
-              111
+              115
               (List._∷_
-              109
-              (List._∷_
-              101
+              104
               (List._∷_
               58
               (List._∷_
               58
-              (List._∷_ 83 (List._∷_ 101 (List._∷_ 110 (List._∷_ 116 List.[])))))))))))))
+              (List._∷_ 83 (List._∷_ 101 (List._∷_ 110 (List._∷_ 116 List.[]))))))))))))
               (Syntax.tcons
               (Syntax.tyStruct
               (List._∷_
@@ -21162,24 +21220,22 @@ module _ (claims· : Claims) where
               (Syntax.tcons
               (Syntax.tyStruct
               (List._∷_
-              111
+              102
               (List._∷_
-              117
+              105
               (List._∷_
-              116
+              110
               (List._∷_
-              99
+              105
               (List._∷_
-              111
+              115
               (List._∷_
-              109
-              (List._∷_
-              101
+              104
               (List._∷_
               58
               (List._∷_
               58
-              (List._∷_ 83 (List._∷_ 101 (List._∷_ 110 (List._∷_ 116 List.[])))))))))))))
+              (List._∷_ 83 (List._∷_ 101 (List._∷_ 110 (List._∷_ 116 List.[]))))))))))))
               (Syntax.tcons
               (Syntax.tyStruct
               (List._∷_
@@ -21419,19 +21475,17 @@ module _ (claims· : Claims) where
           Rows.any-gone
               (Syntax.tyStruct
               (List._∷_
-              111
+              102
               (List._∷_
-              117
+              105
               (List._∷_
-              116
+              110
               (List._∷_
-              99
+              105
               (List._∷_
-              111
+              115
               (List._∷_
-              109
-              (List._∷_
-              101
+              104
               (List._∷_
               58
               (List._∷_
@@ -21442,28 +21496,26 @@ module _ (claims· : Claims) where
               117
               (List._∷_
               116
-              (List._∷_ 99 (List._∷_ 111 (List._∷_ 109 (List._∷_ 101 List.[]))))))))))))))))
+              (List._∷_ 99 (List._∷_ 111 (List._∷_ 109 (List._∷_ 101 List.[])))))))))))))))
               (Syntax.tcons
               (Syntax.tyStruct
               (List._∷_
-              111
+              102
               (List._∷_
-              117
+              105
               (List._∷_
-              116
+              110
               (List._∷_
-              99
+              105
               (List._∷_
-              111
+              115
               (List._∷_
-              109
-              (List._∷_
-              101
+              104
               (List._∷_
               58
               (List._∷_
               58
-              (List._∷_ 83 (List._∷_ 101 (List._∷_ 110 (List._∷_ 116 List.[])))))))))))))
+              (List._∷_ 83 (List._∷_ 101 (List._∷_ 110 (List._∷_ 116 List.[]))))))))))))
               (Syntax.tcons
               (Syntax.tyStruct
               (List._∷_
@@ -21526,24 +21578,22 @@ module _ (claims· : Claims) where
               (Syntax.tcons
               (Syntax.tyStruct
               (List._∷_
-              111
+              102
               (List._∷_
-              117
+              105
               (List._∷_
-              116
+              110
               (List._∷_
-              99
+              105
               (List._∷_
-              111
+              115
               (List._∷_
-              109
-              (List._∷_
-              101
+              104
               (List._∷_
               58
               (List._∷_
               58
-              (List._∷_ 83 (List._∷_ 101 (List._∷_ 110 (List._∷_ 116 List.[])))))))))))))
+              (List._∷_ 83 (List._∷_ 101 (List._∷_ 110 (List._∷_ 116 List.[]))))))))))))
               (Syntax.tcons
               (Syntax.tyStruct
               (List._∷_
@@ -21745,11 +21795,19 @@ module _ (claims· : Claims) where
               (Syntax.tcons
               (Syntax.tyStruct
               (List._∷_
+              116
+              (List._∷_
               97
               (List._∷_
               114
               (List._∷_
+              103
+              (List._∷_
+              101
+              (List._∷_
               116
+              (List._∷_
+              115
               (List._∷_
               58
               (List._∷_
@@ -21760,7 +21818,7 @@ module _ (claims· : Claims) where
               97
               (List._∷_
               114
-              (List._∷_ 103 (List._∷_ 101 (List._∷_ 116 (List._∷_ 115 List.[]))))))))))))
+              (List._∷_ 103 (List._∷_ 101 (List._∷_ 116 (List._∷_ 115 List.[]))))))))))))))))
               (Syntax.tcons
               Syntax.tyBool
               (Syntax.tcons
@@ -21946,11 +22004,19 @@ module _ (claims· : Claims) where
               (Syntax.tcons
               (Syntax.tyStruct
               (List._∷_
+              116
+              (List._∷_
               97
               (List._∷_
               114
               (List._∷_
+              103
+              (List._∷_
+              101
+              (List._∷_
               116
+              (List._∷_
+              115
               (List._∷_
               58
               (List._∷_
@@ -21961,7 +22027,7 @@ module _ (claims· : Claims) where
               97
               (List._∷_
               114
-              (List._∷_ 103 (List._∷_ 101 (List._∷_ 116 (List._∷_ 115 List.[]))))))))))))
+              (List._∷_ 103 (List._∷_ 101 (List._∷_ 116 (List._∷_ 115 List.[]))))))))))))))))
               (Syntax.tcons
               Syntax.tyBool
               (Syntax.tcons
@@ -22161,11 +22227,19 @@ module _ (claims· : Claims) where
               (Syntax.tcons
               (Syntax.tyStruct
               (List._∷_
+              116
+              (List._∷_
               97
               (List._∷_
               114
               (List._∷_
+              103
+              (List._∷_
+              101
+              (List._∷_
               116
+              (List._∷_
+              115
               (List._∷_
               58
               (List._∷_
@@ -22176,7 +22250,7 @@ module _ (claims· : Claims) where
               97
               (List._∷_
               114
-              (List._∷_ 103 (List._∷_ 101 (List._∷_ 116 (List._∷_ 115 List.[]))))))))))))
+              (List._∷_ 103 (List._∷_ 101 (List._∷_ 116 (List._∷_ 115 List.[]))))))))))))))))
               (Syntax.tcons
               Syntax.tyBool
               (Syntax.tcons
@@ -22405,11 +22479,19 @@ module _ (claims· : Claims) where
               (Syntax.tcons
               (Syntax.tyStruct
               (List._∷_
+              116
+              (List._∷_
               97
               (List._∷_
               114
               (List._∷_
+              103
+              (List._∷_
+              101
+              (List._∷_
               116
+              (List._∷_
+              115
               (List._∷_
               58
               (List._∷_
@@ -22420,7 +22502,7 @@ module _ (claims· : Claims) where
               97
               (List._∷_
               114
-              (List._∷_ 103 (List._∷_ 101 (List._∷_ 116 (List._∷_ 115 List.[]))))))))))))
+              (List._∷_ 103 (List._∷_ 101 (List._∷_ 116 (List._∷_ 115 List.[]))))))))))))))))
               (Syntax.tcons
               Syntax.tyBool
               (Syntax.tcons
@@ -22647,11 +22729,19 @@ module _ (claims· : Claims) where
               (Syntax.tcons
               (Syntax.tyStruct
               (List._∷_
+              116
+              (List._∷_
               97
               (List._∷_
               114
               (List._∷_
+              103
+              (List._∷_
+              101
+              (List._∷_
               116
+              (List._∷_
+              115
               (List._∷_
               58
               (List._∷_
@@ -22662,7 +22752,7 @@ module _ (claims· : Claims) where
               97
               (List._∷_
               114
-              (List._∷_ 103 (List._∷_ 101 (List._∷_ 116 (List._∷_ 115 List.[]))))))))))))
+              (List._∷_ 103 (List._∷_ 101 (List._∷_ 116 (List._∷_ 115 List.[]))))))))))))))))
               (Syntax.tcons
               Syntax.tyBool
               (Syntax.tcons
@@ -22887,11 +22977,19 @@ module _ (claims· : Claims) where
               (Syntax.tcons
               (Syntax.tyStruct
               (List._∷_
+              116
+              (List._∷_
               97
               (List._∷_
               114
               (List._∷_
+              103
+              (List._∷_
+              101
+              (List._∷_
               116
+              (List._∷_
+              115
               (List._∷_
               58
               (List._∷_
@@ -22902,7 +23000,7 @@ module _ (claims· : Claims) where
               97
               (List._∷_
               114
-              (List._∷_ 103 (List._∷_ 101 (List._∷_ 116 (List._∷_ 115 List.[]))))))))))))
+              (List._∷_ 103 (List._∷_ 101 (List._∷_ 116 (List._∷_ 115 List.[]))))))))))))))))
               (Syntax.tcons
               Syntax.tyBool
               (Syntax.tcons
@@ -23125,11 +23223,19 @@ module _ (claims· : Claims) where
               (Syntax.tcons
               (Syntax.tyStruct
               (List._∷_
+              116
+              (List._∷_
               97
               (List._∷_
               114
               (List._∷_
+              103
+              (List._∷_
+              101
+              (List._∷_
               116
+              (List._∷_
+              115
               (List._∷_
               58
               (List._∷_
@@ -23140,7 +23246,7 @@ module _ (claims· : Claims) where
               97
               (List._∷_
               114
-              (List._∷_ 103 (List._∷_ 101 (List._∷_ 116 (List._∷_ 115 List.[]))))))))))))
+              (List._∷_ 103 (List._∷_ 101 (List._∷_ 116 (List._∷_ 115 List.[]))))))))))))))))
               (Syntax.tcons
               Syntax.tyBool
               (Syntax.tcons
@@ -25621,7 +25727,7 @@ module _ (claims· : Claims) where
               r·2
               (claims· .4)
               (claims· .5)
-              "outcome::refused"
+              "finish::refused"
               (known .2)
               E
               (λ pos β. β)
@@ -25666,19 +25772,17 @@ module _ (claims· : Claims) where
               A
               (Syntax.tyStruct
               (List._∷_
-              111
+              102
               (List._∷_
-              117
+              105
               (List._∷_
-              116
+              110
               (List._∷_
-              99
+              105
               (List._∷_
-              111
+              115
               (List._∷_
-              109
-              (List._∷_
-              101
+              104
               (List._∷_
               58
               (List._∷_
@@ -25689,28 +25793,26 @@ module _ (claims· : Claims) where
               117
               (List._∷_
               116
-              (List._∷_ 99 (List._∷_ 111 (List._∷_ 109 (List._∷_ 101 List.[]))))))))))))))))
+              (List._∷_ 99 (List._∷_ 111 (List._∷_ 109 (List._∷_ 101 List.[])))))))))))))))
               (Syntax.tcons
               (Syntax.tyStruct
               (List._∷_
-              111
+              102
               (List._∷_
-              117
+              105
               (List._∷_
-              116
+              110
               (List._∷_
-              99
+              105
               (List._∷_
-              111
+              115
               (List._∷_
-              109
-              (List._∷_
-              101
+              104
               (List._∷_
               58
               (List._∷_
               58
-              (List._∷_ 83 (List._∷_ 101 (List._∷_ 110 (List._∷_ 116 List.[])))))))))))))
+              (List._∷_ 83 (List._∷_ 101 (List._∷_ 110 (List._∷_ 116 List.[]))))))))))))
               (Syntax.tcons
               (Syntax.tyStruct
               (List._∷_
@@ -25773,24 +25875,22 @@ module _ (claims· : Claims) where
               (Syntax.tcons
               (Syntax.tyStruct
               (List._∷_
-              111
+              102
               (List._∷_
-              117
+              105
               (List._∷_
-              116
+              110
               (List._∷_
-              99
+              105
               (List._∷_
-              111
+              115
               (List._∷_
-              109
-              (List._∷_
-              101
+              104
               (List._∷_
               58
               (List._∷_
               58
-              (List._∷_ 83 (List._∷_ 101 (List._∷_ 110 (List._∷_ 116 List.[])))))))))))))
+              (List._∷_ 83 (List._∷_ 101 (List._∷_ 110 (List._∷_ 116 List.[]))))))))))))
               (Syntax.tcons
               (Syntax.tyStruct
               (List._∷_
@@ -26523,7 +26623,7 @@ module _ (claims· : Claims) where
               r·2
               (claims· .4)
               (claims· .5)
-              "outcome::refused"
+              "finish::refused"
               (known .2)
               E
               (λ pos β. β)
@@ -26568,19 +26668,17 @@ module _ (claims· : Claims) where
               A
               (Syntax.tyStruct
               (List._∷_
-              111
+              102
               (List._∷_
-              117
+              105
               (List._∷_
-              116
+              110
               (List._∷_
-              99
+              105
               (List._∷_
-              111
+              115
               (List._∷_
-              109
-              (List._∷_
-              101
+              104
               (List._∷_
               58
               (List._∷_
@@ -26591,28 +26689,26 @@ module _ (claims· : Claims) where
               117
               (List._∷_
               116
-              (List._∷_ 99 (List._∷_ 111 (List._∷_ 109 (List._∷_ 101 List.[]))))))))))))))))
+              (List._∷_ 99 (List._∷_ 111 (List._∷_ 109 (List._∷_ 101 List.[])))))))))))))))
               (Syntax.tcons
               (Syntax.tyStruct
               (List._∷_
-              111
+              102
               (List._∷_
-              117
+              105
               (List._∷_
-              116
+              110
               (List._∷_
-              99
+              105
               (List._∷_
-              111
+              115
               (List._∷_
-              109
-              (List._∷_
-              101
+              104
               (List._∷_
               58
               (List._∷_
               58
-              (List._∷_ 83 (List._∷_ 101 (List._∷_ 110 (List._∷_ 116 List.[])))))))))))))
+              (List._∷_ 83 (List._∷_ 101 (List._∷_ 110 (List._∷_ 116 List.[]))))))))))))
               (Syntax.tcons
               (Syntax.tyStruct
               (List._∷_
@@ -26675,24 +26771,22 @@ module _ (claims· : Claims) where
               (Syntax.tcons
               (Syntax.tyStruct
               (List._∷_
-              111
+              102
               (List._∷_
-              117
+              105
               (List._∷_
-              116
+              110
               (List._∷_
-              99
+              105
               (List._∷_
-              111
+              115
               (List._∷_
-              109
-              (List._∷_
-              101
+              104
               (List._∷_
               58
               (List._∷_
               58
-              (List._∷_ 83 (List._∷_ 101 (List._∷_ 110 (List._∷_ 116 List.[])))))))))))))
+              (List._∷_ 83 (List._∷_ 101 (List._∷_ 110 (List._∷_ 116 List.[]))))))))))))
               (Syntax.tcons
               (Syntax.tyStruct
               (List._∷_
@@ -26985,11 +27079,19 @@ module _ (claims· : Claims) where
               (Syntax.tcons
               (Syntax.tyStruct
               (List._∷_
+              116
+              (List._∷_
               97
               (List._∷_
               114
               (List._∷_
+              103
+              (List._∷_
+              101
+              (List._∷_
               116
+              (List._∷_
+              115
               (List._∷_
               58
               (List._∷_
@@ -27000,7 +27102,7 @@ module _ (claims· : Claims) where
               97
               (List._∷_
               114
-              (List._∷_ 103 (List._∷_ 101 (List._∷_ 116 (List._∷_ 115 List.[]))))))))))))
+              (List._∷_ 103 (List._∷_ 101 (List._∷_ 116 (List._∷_ 115 List.[]))))))))))))))))
               (Syntax.tcons
               Syntax.tyBool
               (Syntax.tcons
@@ -27072,11 +27174,19 @@ module _ (claims· : Claims) where
               (Syntax.tcons
               (Syntax.tyStruct
               (List._∷_
+              116
+              (List._∷_
               97
               (List._∷_
               114
               (List._∷_
+              103
+              (List._∷_
+              101
+              (List._∷_
               116
+              (List._∷_
+              115
               (List._∷_
               58
               (List._∷_
@@ -27087,7 +27197,7 @@ module _ (claims· : Claims) where
               97
               (List._∷_
               114
-              (List._∷_ 103 (List._∷_ 101 (List._∷_ 116 (List._∷_ 115 List.[]))))))))))))
+              (List._∷_ 103 (List._∷_ 101 (List._∷_ 116 (List._∷_ 115 List.[]))))))))))))))))
               (Syntax.tcons
               Syntax.tyBool
               (Syntax.tcons
@@ -27565,7 +27675,7 @@ module _ (claims· : Claims) where
               r·2
               (claims· .4)
               (claims· .5)
-              "outcome::refused"
+              "finish::refused"
               (known .2)
               E
               (λ pos β. β)
@@ -27610,19 +27720,17 @@ module _ (claims· : Claims) where
               A
               (Syntax.tyStruct
               (List._∷_
-              111
+              102
               (List._∷_
-              117
+              105
               (List._∷_
-              116
+              110
               (List._∷_
-              99
+              105
               (List._∷_
-              111
+              115
               (List._∷_
-              109
-              (List._∷_
-              101
+              104
               (List._∷_
               58
               (List._∷_
@@ -27633,28 +27741,26 @@ module _ (claims· : Claims) where
               117
               (List._∷_
               116
-              (List._∷_ 99 (List._∷_ 111 (List._∷_ 109 (List._∷_ 101 List.[]))))))))))))))))
+              (List._∷_ 99 (List._∷_ 111 (List._∷_ 109 (List._∷_ 101 List.[])))))))))))))))
               (Syntax.tcons
               (Syntax.tyStruct
               (List._∷_
-              111
+              102
               (List._∷_
-              117
+              105
               (List._∷_
-              116
+              110
               (List._∷_
-              99
+              105
               (List._∷_
-              111
+              115
               (List._∷_
-              109
-              (List._∷_
-              101
+              104
               (List._∷_
               58
               (List._∷_
               58
-              (List._∷_ 83 (List._∷_ 101 (List._∷_ 110 (List._∷_ 116 List.[])))))))))))))
+              (List._∷_ 83 (List._∷_ 101 (List._∷_ 110 (List._∷_ 116 List.[]))))))))))))
               (Syntax.tcons
               (Syntax.tyStruct
               (List._∷_
@@ -27717,24 +27823,22 @@ module _ (claims· : Claims) where
               (Syntax.tcons
               (Syntax.tyStruct
               (List._∷_
-              111
+              102
               (List._∷_
-              117
+              105
               (List._∷_
-              116
+              110
               (List._∷_
-              99
+              105
               (List._∷_
-              111
+              115
               (List._∷_
-              109
-              (List._∷_
-              101
+              104
               (List._∷_
               58
               (List._∷_
               58
-              (List._∷_ 83 (List._∷_ 101 (List._∷_ 110 (List._∷_ 116 List.[])))))))))))))
+              (List._∷_ 83 (List._∷_ 101 (List._∷_ 110 (List._∷_ 116 List.[]))))))))))))
               (Syntax.tcons
               (Syntax.tyStruct
               (List._∷_
@@ -28027,11 +28131,19 @@ module _ (claims· : Claims) where
               (Syntax.tcons
               (Syntax.tyStruct
               (List._∷_
+              116
+              (List._∷_
               97
               (List._∷_
               114
               (List._∷_
+              103
+              (List._∷_
+              101
+              (List._∷_
               116
+              (List._∷_
+              115
               (List._∷_
               58
               (List._∷_
@@ -28042,7 +28154,7 @@ module _ (claims· : Claims) where
               97
               (List._∷_
               114
-              (List._∷_ 103 (List._∷_ 101 (List._∷_ 116 (List._∷_ 115 List.[]))))))))))))
+              (List._∷_ 103 (List._∷_ 101 (List._∷_ 116 (List._∷_ 115 List.[]))))))))))))))))
               (Syntax.tcons
               Syntax.tyBool
               (Syntax.tcons
@@ -28114,11 +28226,19 @@ module _ (claims· : Claims) where
               (Syntax.tcons
               (Syntax.tyStruct
               (List._∷_
+              116
+              (List._∷_
               97
               (List._∷_
               114
               (List._∷_
+              103
+              (List._∷_
+              101
+              (List._∷_
               116
+              (List._∷_
+              115
               (List._∷_
               58
               (List._∷_
@@ -28129,7 +28249,7 @@ module _ (claims· : Claims) where
               97
               (List._∷_
               114
-              (List._∷_ 103 (List._∷_ 101 (List._∷_ 116 (List._∷_ 115 List.[]))))))))))))
+              (List._∷_ 103 (List._∷_ 101 (List._∷_ 116 (List._∷_ 115 List.[]))))))))))))))))
               (Syntax.tcons
               Syntax.tyBool
               (Syntax.tcons
@@ -29167,11 +29287,19 @@ module _ (claims· : Claims) where
               32
               (Syntax.tyStruct
               (List._∷_
+              116
+              (List._∷_
               97
               (List._∷_
               114
               (List._∷_
+              103
+              (List._∷_
+              101
+              (List._∷_
               116
+              (List._∷_
+              115
               (List._∷_
               58
               (List._∷_
@@ -29182,7 +29310,7 @@ module _ (claims· : Claims) where
               97
               (List._∷_
               114
-              (List._∷_ 103 (List._∷_ 101 (List._∷_ 116 (List._∷_ 115 List.[]))))))))))))
+              (List._∷_ 103 (List._∷_ 101 (List._∷_ 116 (List._∷_ 115 List.[]))))))))))))))))
               (Syntax.tcons
               Syntax.tyBool
               (Syntax.tcons
@@ -29224,11 +29352,19 @@ module _ (claims· : Claims) where
               (Declared'.row Targets.the-type)
               (Syntax.tyStruct
               (List._∷_
+              116
+              (List._∷_
               97
               (List._∷_
               114
               (List._∷_
+              103
+              (List._∷_
+              101
+              (List._∷_
               116
+              (List._∷_
+              115
               (List._∷_
               58
               (List._∷_
@@ -29239,7 +29375,7 @@ module _ (claims· : Claims) where
               97
               (List._∷_
               114
-              (List._∷_ 103 (List._∷_ 101 (List._∷_ 116 (List._∷_ 115 List.[]))))))))))))
+              (List._∷_ 103 (List._∷_ 101 (List._∷_ 116 (List._∷_ 115 List.[]))))))))))))))))
               (Syntax.tcons
               Syntax.tyBool
               (Syntax.tcons
@@ -29599,8 +29735,8 @@ module _ (claims· : Claims) where
                               Path'.refl
                               (Copies.cStruct
                               Own.the-type
-                              Laws'4.the-laws
-                              Laws'4.the-copy .copy
+                              Laws'3.the-laws
+                              Laws'3.the-copy .copy
                               𝓤
                               H
                               A
@@ -29636,8 +29772,8 @@ module _ (claims· : Claims) where
                                       Path'.refl
                                       (Copies.cStruct
                                       Asking.the-type
-                                      Laws'5.the-laws
-                                      Laws'5.the-copy .copy
+                                      Laws'4.the-laws
+                                      Laws'4.the-copy .copy
                                       𝓤
                                       H
                                       A
@@ -29673,8 +29809,8 @@ module _ (claims· : Claims) where
                                         Path'.refl
                                         (Copies.cStruct
                                         Targets.the-type
-                                        Laws'.the-laws
-                                        Laws'.the-copy .copy
+                                        Laws'5.the-laws
+                                        Laws'5.the-copy .copy
                                         𝓤
                                         H
                                         A
@@ -29715,19 +29851,17 @@ module _ (claims· : Claims) where
               A
               (Syntax.tyStruct
               (List._∷_
-              111
+              102
               (List._∷_
-              117
+              105
               (List._∷_
-              116
+              110
               (List._∷_
-              99
+              105
               (List._∷_
-              111
+              115
               (List._∷_
-              109
-              (List._∷_
-              101
+              104
               (List._∷_
               58
               (List._∷_
@@ -29738,28 +29872,26 @@ module _ (claims· : Claims) where
               117
               (List._∷_
               116
-              (List._∷_ 99 (List._∷_ 111 (List._∷_ 109 (List._∷_ 101 List.[]))))))))))))))))
+              (List._∷_ 99 (List._∷_ 111 (List._∷_ 109 (List._∷_ 101 List.[])))))))))))))))
               (Syntax.tcons
               (Syntax.tyStruct
               (List._∷_
-              111
+              102
               (List._∷_
-              117
+              105
               (List._∷_
-              116
+              110
               (List._∷_
-              99
+              105
               (List._∷_
-              111
+              115
               (List._∷_
-              109
-              (List._∷_
-              101
+              104
               (List._∷_
               58
               (List._∷_
               58
-              (List._∷_ 83 (List._∷_ 101 (List._∷_ 110 (List._∷_ 116 List.[])))))))))))))
+              (List._∷_ 83 (List._∷_ 101 (List._∷_ 110 (List._∷_ 116 List.[]))))))))))))
               (Syntax.tcons
               (Syntax.tyStruct
               (List._∷_
@@ -29822,24 +29954,22 @@ module _ (claims· : Claims) where
               (Syntax.tcons
               (Syntax.tyStruct
               (List._∷_
-              111
+              102
               (List._∷_
-              117
+              105
               (List._∷_
-              116
+              110
               (List._∷_
-              99
+              105
               (List._∷_
-              111
+              115
               (List._∷_
-              109
-              (List._∷_
-              101
+              104
               (List._∷_
               58
               (List._∷_
               58
-              (List._∷_ 83 (List._∷_ 101 (List._∷_ 110 (List._∷_ 116 List.[])))))))))))))
+              (List._∷_ 83 (List._∷_ 101 (List._∷_ 110 (List._∷_ 116 List.[]))))))))))))
               (Syntax.tcons
               (Syntax.tyStruct
               (List._∷_
@@ -30012,11 +30142,19 @@ module _ (claims· : Claims) where
               (Syntax.tcons
               (Syntax.tyStruct
               (List._∷_
+              116
+              (List._∷_
               97
               (List._∷_
               114
               (List._∷_
+              103
+              (List._∷_
+              101
+              (List._∷_
               116
+              (List._∷_
+              115
               (List._∷_
               58
               (List._∷_
@@ -30027,7 +30165,7 @@ module _ (claims· : Claims) where
               97
               (List._∷_
               114
-              (List._∷_ 103 (List._∷_ 101 (List._∷_ 116 (List._∷_ 115 List.[]))))))))))))
+              (List._∷_ 103 (List._∷_ 101 (List._∷_ 116 (List._∷_ 115 List.[]))))))))))))))))
               (Syntax.tcons
               Syntax.tyBool
               (Syntax.tcons
@@ -30099,11 +30237,19 @@ module _ (claims· : Claims) where
               (Syntax.tcons
               (Syntax.tyStruct
               (List._∷_
+              116
+              (List._∷_
               97
               (List._∷_
               114
               (List._∷_
+              103
+              (List._∷_
+              101
+              (List._∷_
               116
+              (List._∷_
+              115
               (List._∷_
               58
               (List._∷_
@@ -30114,7 +30260,7 @@ module _ (claims· : Claims) where
               97
               (List._∷_
               114
-              (List._∷_ 103 (List._∷_ 101 (List._∷_ 116 (List._∷_ 115 List.[]))))))))))))
+              (List._∷_ 103 (List._∷_ 101 (List._∷_ 116 (List._∷_ 115 List.[]))))))))))))))))
               (Syntax.tcons
               Syntax.tyBool
               (Syntax.tcons
@@ -30226,11 +30372,19 @@ module _ (claims· : Claims) where
               A
               (Syntax.tyStruct
               (List._∷_
+              116
+              (List._∷_
               97
               (List._∷_
               114
               (List._∷_
+              103
+              (List._∷_
+              101
+              (List._∷_
               116
+              (List._∷_
+              115
               (List._∷_
               58
               (List._∷_
@@ -30241,7 +30395,7 @@ module _ (claims· : Claims) where
               97
               (List._∷_
               114
-              (List._∷_ 103 (List._∷_ 101 (List._∷_ 116 (List._∷_ 115 List.[]))))))))))))
+              (List._∷_ 103 (List._∷_ 101 (List._∷_ 116 (List._∷_ 115 List.[]))))))))))))))))
               (Syntax.tcons
               Syntax.tyBool
               (Syntax.tcons
@@ -31948,8 +32102,8 @@ module _ (claims· : Claims) where
                         Path'.refl
                         (Copies.cStruct
                         Asking.the-type
-                        Laws'5.the-laws
-                        Laws'5.the-copy .copy
+                        Laws'4.the-laws
+                        Laws'4.the-copy .copy
                         𝓤
                         H
                         A
@@ -32080,11 +32234,19 @@ module _ (claims· : Claims) where
               (Syntax.tcons
               (Syntax.tyStruct
               (List._∷_
+              116
+              (List._∷_
               97
               (List._∷_
               114
               (List._∷_
+              103
+              (List._∷_
+              101
+              (List._∷_
               116
+              (List._∷_
+              115
               (List._∷_
               58
               (List._∷_
@@ -32095,7 +32257,7 @@ module _ (claims· : Claims) where
               97
               (List._∷_
               114
-              (List._∷_ 103 (List._∷_ 101 (List._∷_ 116 (List._∷_ 115 List.[]))))))))))))
+              (List._∷_ 103 (List._∷_ 101 (List._∷_ 116 (List._∷_ 115 List.[]))))))))))))))))
               (Syntax.tcons
               Syntax.tyBool
               (Syntax.tcons
@@ -32187,7 +32349,7 @@ module _ (claims· : Claims) where
                       (λ ρ. Unit)
                       (Declared'.row Own.the-type)
                       Path'.refl
-                      (Copies.cStruct Own.the-type Laws'4.the-laws Laws'4.the-copy .copy 𝓤 H A W)
+                      (Copies.cStruct Own.the-type Laws'3.the-laws Laws'3.the-copy .copy 𝓤 H A W)
                       (Rows.whole (Declared'.row Own.the-type))
                       (λ x. x)
                       (λ x. x)
@@ -32442,16 +32604,16 @@ module _ (claims· : Claims) where
           pub o : Kinds.Den {n = 5} κs (Value.pVal record {
             ty = Declared'.row Own.the-type;
             one = Path'.refl;
-            val = Laws'7.val Own.the-type Laws'4.the-laws;
-            tells = Laws'7.tells Own.the-type Laws'4.the-laws;
-            still = Laws'7.still Own.the-type Laws'4.the-copy Exit.yes;
+            val = Laws'7.val Own.the-type Laws'3.the-laws;
+            tells = Laws'7.tells Own.the-type Laws'3.the-laws;
+            still = Laws'7.still Own.the-type Laws'3.the-copy Exit.yes;
             row = Rows.whole (Declared'.row Own.the-type);
             rd = λ x. x;
             mk = λ x. x;
           } λ M 𝓤 H A W. record {
-            copies = Laws'7.copy Own.the-type Laws'4.the-copy 𝓤 H A W;
-            lawful = Laws'7.lawful Own.the-type Laws'4.the-laws 𝓤 H A W;
-            makes = Laws'7.makes Own.the-type Laws'4.the-plain 𝓤 H A;
+            copies = Laws'7.copy Own.the-type Laws'3.the-copy 𝓤 H A W;
+            lawful = Laws'7.lawful Own.the-type Laws'3.the-laws 𝓤 H A W;
+            makes = Laws'7.makes Own.the-type Laws'3.the-plain 𝓤 H A;
             in-mem = Local.mem-whole 𝓤 H A W (Declared'.row Own.the-type);
             of-mem = Local.whole-mem 𝓤 H A W (Declared'.row Own.the-type);
           })
@@ -32461,16 +32623,16 @@ module _ (claims· : Claims) where
           pub s : Kinds.Den {n = 5} κs (Value.pVal record {
             ty = Declared'.row Asking.the-type;
             one = Path'.refl;
-            val = Laws'7.val Asking.the-type Laws'5.the-laws;
-            tells = Laws'7.tells Asking.the-type Laws'5.the-laws;
-            still = Laws'7.still Asking.the-type Laws'5.the-copy Exit.yes;
+            val = Laws'7.val Asking.the-type Laws'4.the-laws;
+            tells = Laws'7.tells Asking.the-type Laws'4.the-laws;
+            still = Laws'7.still Asking.the-type Laws'4.the-copy Exit.yes;
             row = Rows.whole (Declared'.row Asking.the-type);
             rd = λ x. x;
             mk = λ x. x;
           } λ M 𝓤 H A W. record {
-            copies = Laws'7.copy Asking.the-type Laws'5.the-copy 𝓤 H A W;
-            lawful = Laws'7.lawful Asking.the-type Laws'5.the-laws 𝓤 H A W;
-            makes = Laws'7.makes Asking.the-type Laws'5.the-plain 𝓤 H A;
+            copies = Laws'7.copy Asking.the-type Laws'4.the-copy 𝓤 H A W;
+            lawful = Laws'7.lawful Asking.the-type Laws'4.the-laws 𝓤 H A W;
+            makes = Laws'7.makes Asking.the-type Laws'4.the-plain 𝓤 H A;
             in-mem = Local.mem-whole 𝓤 H A W (Declared'.row Asking.the-type);
             of-mem = Local.whole-mem 𝓤 H A W (Declared'.row Asking.the-type);
           })
@@ -34563,18 +34725,7 @@ module _ (claims· : Claims) where
             (claims· .1)
             "bad_call::is_bad")
             (known1 : Plain.Known 𝓤 H A W 𝓣 0 ps·1 r·1 (claims· .2) (claims· .3) "calls::bad_call")
-            (known2 : Plain.Known
-            𝓤
-            H
-            A
-            W
-            𝓣
-            0
-            ps·2
-            r·2
-            (claims· .4)
-            (claims· .5)
-            "outcome::refused")
+            (known2 : Plain.Known 𝓤 H A W 𝓣 0 ps·2 r·2 (claims· .4) (claims· .5) "finish::refused")
             (known3 : Plain.Known 𝓤 H A W 𝓣 1 ps·3 r·3 (claims· .6) (claims· .7) "gather::gather")
             (known4 : Plain.Known
             𝓤

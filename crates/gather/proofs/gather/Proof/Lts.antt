@@ -1,10 +1,10 @@
 -- Made by tools/lend.py of the twin of `gather`: do not edit.
 use Rattle.plain.proofs.Elem.Target as KTarget
 use Prim.Native.Nat
-use Rattle.art.proofs.Count
-use Rattle.art.proofs.Count.Laws
 use Rattle.gather.proofs.Gathering
-use Rattle.gather.proofs.Gathering.Laws as Laws'
+use Rattle.gather.proofs.Gathering.Laws
+use Rattle.targets.proofs.Count
+use Rattle.targets.proofs.Count.Laws as Laws'
 use borrow.Author.Called
 use borrow.Author.Tests
 use borrow.Fn.Any
@@ -69,16 +69,16 @@ abbrev pub r : Kinds.RK 1
 r = Value.rVal record {
   ty = Declared.row Gathering.the-type;
   one = Path'.refl;
-  val = Laws''.val Gathering.the-type Laws'.the-laws;
-  tells = Laws''.tells Gathering.the-type Laws'.the-laws;
-  still = Laws''.still Gathering.the-type Laws'.the-copy Exit.yes;
+  val = Laws''.val Gathering.the-type Laws.the-laws;
+  tells = Laws''.tells Gathering.the-type Laws.the-laws;
+  still = Laws''.still Gathering.the-type Laws.the-copy Exit.yes;
   row = Rows'.whole (Declared.row Gathering.the-type);
   rd = λ x. x;
   mk = λ x. x;
 } λ M 𝓤 H A W. record {
-  copies = Laws''.copy Gathering.the-type Laws'.the-copy 𝓤 H A W;
-  lawful = Laws''.lawful Gathering.the-type Laws'.the-laws 𝓤 H A W;
-  makes = Laws''.makes Gathering.the-type Laws'.the-plain 𝓤 H A;
+  copies = Laws''.copy Gathering.the-type Laws.the-copy 𝓤 H A W;
+  lawful = Laws''.lawful Gathering.the-type Laws.the-laws 𝓤 H A W;
+  makes = Laws''.makes Gathering.the-type Laws.the-plain 𝓤 H A;
   in-mem = Local.mem-whole 𝓤 H A W (Declared.row Gathering.the-type);
   of-mem = Local.whole-mem 𝓤 H A W (Declared.row Gathering.the-type);
 }
@@ -90,16 +90,24 @@ xs =
     (List._∷_
     (Syntax.tyStruct
     (List._∷_
+    116
+    (List._∷_
     97
     (List._∷_
     114
     (List._∷_
+    103
+    (List._∷_
+    101
+    (List._∷_
     116
     (List._∷_
+    115
+    (List._∷_
     58
     (List._∷_
     58
-    (List._∷_ 67 (List._∷_ 111 (List._∷_ 117 (List._∷_ 110 (List._∷_ 116 List.[]))))))))))
+    (List._∷_ 67 (List._∷_ 111 (List._∷_ 117 (List._∷_ 110 (List._∷_ 116 List.[]))))))))))))))
     (Syntax.tcons Syntax.tyBool (Syntax.tcons (Syntax.tyInt Syntax.w64) Syntax.tnil)))
     (List._∷_
     Syntax.tyBool
@@ -150,16 +158,16 @@ abbrev pub r·1 : Kinds.RK 0
 r·1 = Value.rVal record {
   ty = Declared.row Count.the-type;
   one = Path'.refl;
-  val = Laws''.val Count.the-type Laws.the-laws;
-  tells = Laws''.tells Count.the-type Laws.the-laws;
-  still = Laws''.still Count.the-type Laws.the-copy Exit.yes;
+  val = Laws''.val Count.the-type Laws'.the-laws;
+  tells = Laws''.tells Count.the-type Laws'.the-laws;
+  still = Laws''.still Count.the-type Laws'.the-copy Exit.yes;
   row = Rows'.whole (Declared.row Count.the-type);
   rd = λ x. x;
   mk = λ x. x;
 } λ M 𝓤 H A W. record {
-  copies = Laws''.copy Count.the-type Laws.the-copy 𝓤 H A W;
-  lawful = Laws''.lawful Count.the-type Laws.the-laws 𝓤 H A W;
-  makes = Laws''.makes Count.the-type Laws.the-plain 𝓤 H A;
+  copies = Laws''.copy Count.the-type Laws'.the-copy 𝓤 H A W;
+  lawful = Laws''.lawful Count.the-type Laws'.the-laws 𝓤 H A W;
+  makes = Laws''.makes Count.the-type Laws'.the-plain 𝓤 H A;
   in-mem = Local.mem-whole 𝓤 H A W (Declared.row Count.the-type);
   of-mem = Local.whole-mem 𝓤 H A W (Declared.row Count.the-type);
 }
@@ -177,16 +185,16 @@ ps·3 =
     (List._∷_ (Value.pVal record {
       ty = Declared.row Count.the-type;
       one = Path'.refl;
-      val = Laws''.val Count.the-type Laws.the-laws;
-      tells = Laws''.tells Count.the-type Laws.the-laws;
-      still = Laws''.still Count.the-type Laws.the-copy Exit.yes;
+      val = Laws''.val Count.the-type Laws'.the-laws;
+      tells = Laws''.tells Count.the-type Laws'.the-laws;
+      still = Laws''.still Count.the-type Laws'.the-copy Exit.yes;
       row = Rows'.whole (Declared.row Count.the-type);
       rd = λ x. x;
       mk = λ x. x;
     } λ M 𝓤 H A W. record {
-      copies = Laws''.copy Count.the-type Laws.the-copy 𝓤 H A W;
-      lawful = Laws''.lawful Count.the-type Laws.the-laws 𝓤 H A W;
-      makes = Laws''.makes Count.the-type Laws.the-plain 𝓤 H A;
+      copies = Laws''.copy Count.the-type Laws'.the-copy 𝓤 H A W;
+      lawful = Laws''.lawful Count.the-type Laws'.the-laws 𝓤 H A W;
+      makes = Laws''.makes Count.the-type Laws'.the-plain 𝓤 H A;
       in-mem = Local.mem-whole 𝓤 H A W (Declared.row Count.the-type);
       of-mem = Local.whole-mem 𝓤 H A W (Declared.row Count.the-type);
     }) (List._∷_ (KTarget.pk) List.[]))
@@ -195,16 +203,16 @@ abbrev pub r·3 : Kinds.RK 1
 r·3 = Value.rVal record {
   ty = Declared.row Count.the-type;
   one = Path'.refl;
-  val = Laws''.val Count.the-type Laws.the-laws;
-  tells = Laws''.tells Count.the-type Laws.the-laws;
-  still = Laws''.still Count.the-type Laws.the-copy Exit.yes;
+  val = Laws''.val Count.the-type Laws'.the-laws;
+  tells = Laws''.tells Count.the-type Laws'.the-laws;
+  still = Laws''.still Count.the-type Laws'.the-copy Exit.yes;
   row = Rows'.whole (Declared.row Count.the-type);
   rd = λ x. x;
   mk = λ x. x;
 } λ M 𝓤 H A W. record {
-  copies = Laws''.copy Count.the-type Laws.the-copy 𝓤 H A W;
-  lawful = Laws''.lawful Count.the-type Laws.the-laws 𝓤 H A W;
-  makes = Laws''.makes Count.the-type Laws.the-plain 𝓤 H A;
+  copies = Laws''.copy Count.the-type Laws'.the-copy 𝓤 H A W;
+  lawful = Laws''.lawful Count.the-type Laws'.the-laws 𝓤 H A W;
+  makes = Laws''.makes Count.the-type Laws'.the-plain 𝓤 H A;
   in-mem = Local.mem-whole 𝓤 H A W (Declared.row Count.the-type);
   of-mem = Local.whole-mem 𝓤 H A W (Declared.row Count.the-type);
 }
@@ -228,16 +236,16 @@ ps·5 =
     (List._∷_ (Value.pVal record {
       ty = Declared.row Count.the-type;
       one = Path'.refl;
-      val = Laws''.val Count.the-type Laws.the-laws;
-      tells = Laws''.tells Count.the-type Laws.the-laws;
-      still = Laws''.still Count.the-type Laws.the-copy Exit.yes;
+      val = Laws''.val Count.the-type Laws'.the-laws;
+      tells = Laws''.tells Count.the-type Laws'.the-laws;
+      still = Laws''.still Count.the-type Laws'.the-copy Exit.yes;
       row = Rows'.whole (Declared.row Count.the-type);
       rd = λ x. x;
       mk = λ x. x;
     } λ M 𝓤 H A W. record {
-      copies = Laws''.copy Count.the-type Laws.the-copy 𝓤 H A W;
-      lawful = Laws''.lawful Count.the-type Laws.the-laws 𝓤 H A W;
-      makes = Laws''.makes Count.the-type Laws.the-plain 𝓤 H A;
+      copies = Laws''.copy Count.the-type Laws'.the-copy 𝓤 H A W;
+      lawful = Laws''.lawful Count.the-type Laws'.the-laws 𝓤 H A W;
+      makes = Laws''.makes Count.the-type Laws'.the-plain 𝓤 H A;
       in-mem = Local.mem-whole 𝓤 H A W (Declared.row Count.the-type);
       of-mem = Local.whole-mem 𝓤 H A W (Declared.row Count.the-type);
     }) (List._∷_ Bool.pBool List.[]))
@@ -246,16 +254,16 @@ abbrev pub r·5 : Kinds.RK 0
 r·5 = Value.rVal record {
   ty = Declared.row Gathering.the-type;
   one = Path'.refl;
-  val = Laws''.val Gathering.the-type Laws'.the-laws;
-  tells = Laws''.tells Gathering.the-type Laws'.the-laws;
-  still = Laws''.still Gathering.the-type Laws'.the-copy Exit.yes;
+  val = Laws''.val Gathering.the-type Laws.the-laws;
+  tells = Laws''.tells Gathering.the-type Laws.the-laws;
+  still = Laws''.still Gathering.the-type Laws.the-copy Exit.yes;
   row = Rows'.whole (Declared.row Gathering.the-type);
   rd = λ x. x;
   mk = λ x. x;
 } λ M 𝓤 H A W. record {
-  copies = Laws''.copy Gathering.the-type Laws'.the-copy 𝓤 H A W;
-  lawful = Laws''.lawful Gathering.the-type Laws'.the-laws 𝓤 H A W;
-  makes = Laws''.makes Gathering.the-type Laws'.the-plain 𝓤 H A;
+  copies = Laws''.copy Gathering.the-type Laws.the-copy 𝓤 H A W;
+  lawful = Laws''.lawful Gathering.the-type Laws.the-laws 𝓤 H A W;
+  makes = Laws''.makes Gathering.the-type Laws.the-plain 𝓤 H A;
   in-mem = Local.mem-whole 𝓤 H A W (Declared.row Gathering.the-type);
   of-mem = Local.whole-mem 𝓤 H A W (Declared.row Gathering.the-type);
 }
@@ -291,13 +299,13 @@ hs =
     (List._∷_ Syntax.valueLocal (List._∷_ Syntax.valueLocal List.[]))))))))))))))
 
 abbrev b0 : Syntax.Body
-b0 = Syntax.call "art::blank_list" List.[] (Syntax.place 6 List.[])
+b0 = Syntax.call "targets::blank_list" List.[] (Syntax.place 6 List.[])
 
 abbrev b1 : Syntax.Body
 b1 = Syntax.assign (Syntax.place 2 List.[]) (Syntax.rvOpd (Syntax.copy (Syntax.place 6 List.[])))
 
 abbrev b2 : Syntax.Body
-b2 = Syntax.call "art::none_yet" List.[] (Syntax.place 3 List.[])
+b2 = Syntax.call "targets::none_yet" List.[] (Syntax.place 3 List.[])
 
 abbrev b3 : Syntax.Body
 b3 = Syntax.assign (Syntax.place 4 List.[]) (Syntax.rvOpd Syntax.opdFalse)
@@ -377,7 +385,7 @@ b15 =
 abbrev b16 : Syntax.Body
 b16 =
     Syntax.call
-    "art::collect"
+    "collect::collect"
     (List._∷_
     (Syntax.copy (Syntax.place 10 List.[]))
     (List._∷_
@@ -573,11 +581,19 @@ t0 = List._∷_ (
       (Syntax.tcons
       (Syntax.tyStruct
       (List._∷_
+      116
+      (List._∷_
       97
       (List._∷_
       114
       (List._∷_
+      103
+      (List._∷_
+      101
+      (List._∷_
       116
+      (List._∷_
+      115
       (List._∷_
       58
       (List._∷_
@@ -586,7 +602,7 @@ t0 = List._∷_ (
       84
       (List._∷_
       97
-      (List._∷_ 114 (List._∷_ 103 (List._∷_ 101 (List._∷_ 116 (List._∷_ 115 List.[]))))))))))))
+      (List._∷_ 114 (List._∷_ 103 (List._∷_ 101 (List._∷_ 116 (List._∷_ 115 List.[]))))))))))))))))
       (Syntax.tcons
       Syntax.tyBool
       (Syntax.tcons
@@ -607,16 +623,26 @@ t0 = List._∷_ (
       Rows'.any-gone
           (Syntax.tyStruct
           (List._∷_
+          116
+          (List._∷_
           97
           (List._∷_
           114
           (List._∷_
+          103
+          (List._∷_
+          101
+          (List._∷_
           116
           (List._∷_
+          115
+          (List._∷_
           58
           (List._∷_
           58
-          (List._∷_ 67 (List._∷_ 111 (List._∷_ 117 (List._∷_ 110 (List._∷_ 116 List.[]))))))))))
+          (List._∷_
+          67
+          (List._∷_ 111 (List._∷_ 117 (List._∷_ 110 (List._∷_ 116 List.[]))))))))))))))
           (Syntax.tcons Syntax.tyBool (Syntax.tcons (Syntax.tyInt Syntax.w64) Syntax.tnil))),
     ) (List._∷_ (4, Rows'.any-gone Syntax.tyBool) (List._∷_ (
       5,
@@ -665,16 +691,26 @@ t1 = List._∷_ (0, Rows'.whole (Declared.row Gathering.the-type)) (List._∷_ (
       Rows'.any-gone
           (Syntax.tyStruct
           (List._∷_
+          116
+          (List._∷_
           97
           (List._∷_
           114
           (List._∷_
+          103
+          (List._∷_
+          101
+          (List._∷_
           116
           (List._∷_
+          115
+          (List._∷_
           58
           (List._∷_
           58
-          (List._∷_ 67 (List._∷_ 111 (List._∷_ 117 (List._∷_ 110 (List._∷_ 116 List.[]))))))))))
+          (List._∷_
+          67
+          (List._∷_ 111 (List._∷_ 117 (List._∷_ 110 (List._∷_ 116 List.[]))))))))))))))
           (Syntax.tcons Syntax.tyBool (Syntax.tcons (Syntax.tyInt Syntax.w64) Syntax.tnil))),
     ) (List._∷_ (4, Rows'.any-gone Syntax.tyBool) (List._∷_ (
       5,
@@ -743,11 +779,19 @@ t2 = List._∷_ (
       (Syntax.tcons
       (Syntax.tyStruct
       (List._∷_
+      116
+      (List._∷_
       97
       (List._∷_
       114
       (List._∷_
+      103
+      (List._∷_
+      101
+      (List._∷_
       116
+      (List._∷_
+      115
       (List._∷_
       58
       (List._∷_
@@ -756,7 +800,7 @@ t2 = List._∷_ (
       84
       (List._∷_
       97
-      (List._∷_ 114 (List._∷_ 103 (List._∷_ 101 (List._∷_ 116 (List._∷_ 115 List.[]))))))))))))
+      (List._∷_ 114 (List._∷_ 103 (List._∷_ 101 (List._∷_ 116 (List._∷_ 115 List.[]))))))))))))))))
       (Syntax.tcons
       Syntax.tyBool
       (Syntax.tcons
@@ -777,16 +821,26 @@ t2 = List._∷_ (
       Rows'.any-gone
           (Syntax.tyStruct
           (List._∷_
+          116
+          (List._∷_
           97
           (List._∷_
           114
           (List._∷_
+          103
+          (List._∷_
+          101
+          (List._∷_
           116
           (List._∷_
+          115
+          (List._∷_
           58
           (List._∷_
           58
-          (List._∷_ 67 (List._∷_ 111 (List._∷_ 117 (List._∷_ 110 (List._∷_ 116 List.[]))))))))))
+          (List._∷_
+          67
+          (List._∷_ 111 (List._∷_ 117 (List._∷_ 110 (List._∷_ 116 List.[]))))))))))))))
           (Syntax.tcons Syntax.tyBool (Syntax.tcons (Syntax.tyInt Syntax.w64) Syntax.tnil))),
     ) (List._∷_ (4, Rows'.any-gone Syntax.tyBool) (List._∷_ (
       5,
@@ -855,11 +909,19 @@ t3 = List._∷_ (
       (Syntax.tcons
       (Syntax.tyStruct
       (List._∷_
+      116
+      (List._∷_
       97
       (List._∷_
       114
       (List._∷_
+      103
+      (List._∷_
+      101
+      (List._∷_
       116
+      (List._∷_
+      115
       (List._∷_
       58
       (List._∷_
@@ -868,7 +930,7 @@ t3 = List._∷_ (
       84
       (List._∷_
       97
-      (List._∷_ 114 (List._∷_ 103 (List._∷_ 101 (List._∷_ 116 (List._∷_ 115 List.[]))))))))))))
+      (List._∷_ 114 (List._∷_ 103 (List._∷_ 101 (List._∷_ 116 (List._∷_ 115 List.[]))))))))))))))))
       (Syntax.tcons
       Syntax.tyBool
       (Syntax.tcons
@@ -889,16 +951,26 @@ t3 = List._∷_ (
       Rows'.any-gone
           (Syntax.tyStruct
           (List._∷_
+          116
+          (List._∷_
           97
           (List._∷_
           114
           (List._∷_
+          103
+          (List._∷_
+          101
+          (List._∷_
           116
           (List._∷_
+          115
+          (List._∷_
           58
           (List._∷_
           58
-          (List._∷_ 67 (List._∷_ 111 (List._∷_ 117 (List._∷_ 110 (List._∷_ 116 List.[]))))))))))
+          (List._∷_
+          67
+          (List._∷_ 111 (List._∷_ 117 (List._∷_ 110 (List._∷_ 116 List.[]))))))))))))))
           (Syntax.tcons Syntax.tyBool (Syntax.tcons (Syntax.tyInt Syntax.w64) Syntax.tnil))),
     ) (List._∷_ (4, Rows'.any-gone Syntax.tyBool) (List._∷_ (
       5,
@@ -967,11 +1039,19 @@ t4 = List._∷_ (
       (Syntax.tcons
       (Syntax.tyStruct
       (List._∷_
+      116
+      (List._∷_
       97
       (List._∷_
       114
       (List._∷_
+      103
+      (List._∷_
+      101
+      (List._∷_
       116
+      (List._∷_
+      115
       (List._∷_
       58
       (List._∷_
@@ -980,7 +1060,7 @@ t4 = List._∷_ (
       84
       (List._∷_
       97
-      (List._∷_ 114 (List._∷_ 103 (List._∷_ 101 (List._∷_ 116 (List._∷_ 115 List.[]))))))))))))
+      (List._∷_ 114 (List._∷_ 103 (List._∷_ 101 (List._∷_ 116 (List._∷_ 115 List.[]))))))))))))))))
       (Syntax.tcons
       Syntax.tyBool
       (Syntax.tcons
@@ -1001,16 +1081,26 @@ t4 = List._∷_ (
       Rows'.any-gone
           (Syntax.tyStruct
           (List._∷_
+          116
+          (List._∷_
           97
           (List._∷_
           114
           (List._∷_
+          103
+          (List._∷_
+          101
+          (List._∷_
           116
           (List._∷_
+          115
+          (List._∷_
           58
           (List._∷_
           58
-          (List._∷_ 67 (List._∷_ 111 (List._∷_ 117 (List._∷_ 110 (List._∷_ 116 List.[]))))))))))
+          (List._∷_
+          67
+          (List._∷_ 111 (List._∷_ 117 (List._∷_ 110 (List._∷_ 116 List.[]))))))))))))))
           (Syntax.tcons Syntax.tyBool (Syntax.tcons (Syntax.tyInt Syntax.w64) Syntax.tnil))),
     ) (List._∷_ (4, Rows'.any-gone Syntax.tyBool) (List._∷_ (
       5,
@@ -1079,11 +1169,19 @@ t5 = List._∷_ (
       (Syntax.tcons
       (Syntax.tyStruct
       (List._∷_
+      116
+      (List._∷_
       97
       (List._∷_
       114
       (List._∷_
+      103
+      (List._∷_
+      101
+      (List._∷_
       116
+      (List._∷_
+      115
       (List._∷_
       58
       (List._∷_
@@ -1092,7 +1190,7 @@ t5 = List._∷_ (
       84
       (List._∷_
       97
-      (List._∷_ 114 (List._∷_ 103 (List._∷_ 101 (List._∷_ 116 (List._∷_ 115 List.[]))))))))))))
+      (List._∷_ 114 (List._∷_ 103 (List._∷_ 101 (List._∷_ 116 (List._∷_ 115 List.[]))))))))))))))))
       (Syntax.tcons
       Syntax.tyBool
       (Syntax.tcons
@@ -1175,11 +1273,19 @@ t6 = List._∷_ (
       (Syntax.tcons
       (Syntax.tyStruct
       (List._∷_
+      116
+      (List._∷_
       97
       (List._∷_
       114
       (List._∷_
+      103
+      (List._∷_
+      101
+      (List._∷_
       116
+      (List._∷_
+      115
       (List._∷_
       58
       (List._∷_
@@ -1188,7 +1294,7 @@ t6 = List._∷_ (
       84
       (List._∷_
       97
-      (List._∷_ 114 (List._∷_ 103 (List._∷_ 101 (List._∷_ 116 (List._∷_ 115 List.[]))))))))))))
+      (List._∷_ 114 (List._∷_ 103 (List._∷_ 101 (List._∷_ 116 (List._∷_ 115 List.[]))))))))))))))))
       (Syntax.tcons
       Syntax.tyBool
       (Syntax.tcons
@@ -1271,11 +1377,19 @@ t7 = List._∷_ (
       (Syntax.tcons
       (Syntax.tyStruct
       (List._∷_
+      116
+      (List._∷_
       97
       (List._∷_
       114
       (List._∷_
+      103
+      (List._∷_
+      101
+      (List._∷_
       116
+      (List._∷_
+      115
       (List._∷_
       58
       (List._∷_
@@ -1284,7 +1398,7 @@ t7 = List._∷_ (
       84
       (List._∷_
       97
-      (List._∷_ 114 (List._∷_ 103 (List._∷_ 101 (List._∷_ 116 (List._∷_ 115 List.[]))))))))))))
+      (List._∷_ 114 (List._∷_ 103 (List._∷_ 101 (List._∷_ 116 (List._∷_ 115 List.[]))))))))))))))))
       (Syntax.tcons
       Syntax.tyBool
       (Syntax.tcons
@@ -1367,11 +1481,19 @@ t8 = List._∷_ (
       (Syntax.tcons
       (Syntax.tyStruct
       (List._∷_
+      116
+      (List._∷_
       97
       (List._∷_
       114
       (List._∷_
+      103
+      (List._∷_
+      101
+      (List._∷_
       116
+      (List._∷_
+      115
       (List._∷_
       58
       (List._∷_
@@ -1380,7 +1502,7 @@ t8 = List._∷_ (
       84
       (List._∷_
       97
-      (List._∷_ 114 (List._∷_ 103 (List._∷_ 101 (List._∷_ 116 (List._∷_ 115 List.[]))))))))))))
+      (List._∷_ 114 (List._∷_ 103 (List._∷_ 101 (List._∷_ 116 (List._∷_ 115 List.[]))))))))))))))))
       (Syntax.tcons
       Syntax.tyBool
       (Syntax.tcons
@@ -1463,11 +1585,19 @@ t9 = List._∷_ (
       (Syntax.tcons
       (Syntax.tyStruct
       (List._∷_
+      116
+      (List._∷_
       97
       (List._∷_
       114
       (List._∷_
+      103
+      (List._∷_
+      101
+      (List._∷_
       116
+      (List._∷_
+      115
       (List._∷_
       58
       (List._∷_
@@ -1476,7 +1606,7 @@ t9 = List._∷_ (
       84
       (List._∷_
       97
-      (List._∷_ 114 (List._∷_ 103 (List._∷_ 101 (List._∷_ 116 (List._∷_ 115 List.[]))))))))))))
+      (List._∷_ 114 (List._∷_ 103 (List._∷_ 101 (List._∷_ 116 (List._∷_ 115 List.[]))))))))))))))))
       (Syntax.tcons
       Syntax.tyBool
       (Syntax.tcons
@@ -1559,11 +1689,19 @@ t10 = List._∷_ (
       (Syntax.tcons
       (Syntax.tyStruct
       (List._∷_
+      116
+      (List._∷_
       97
       (List._∷_
       114
       (List._∷_
+      103
+      (List._∷_
+      101
+      (List._∷_
       116
+      (List._∷_
+      115
       (List._∷_
       58
       (List._∷_
@@ -1572,7 +1710,7 @@ t10 = List._∷_ (
       84
       (List._∷_
       97
-      (List._∷_ 114 (List._∷_ 103 (List._∷_ 101 (List._∷_ 116 (List._∷_ 115 List.[]))))))))))))
+      (List._∷_ 114 (List._∷_ 103 (List._∷_ 101 (List._∷_ 116 (List._∷_ 115 List.[]))))))))))))))))
       (Syntax.tcons
       Syntax.tyBool
       (Syntax.tcons
@@ -1655,11 +1793,19 @@ t11 = List._∷_ (
       (Syntax.tcons
       (Syntax.tyStruct
       (List._∷_
+      116
+      (List._∷_
       97
       (List._∷_
       114
       (List._∷_
+      103
+      (List._∷_
+      101
+      (List._∷_
       116
+      (List._∷_
+      115
       (List._∷_
       58
       (List._∷_
@@ -1668,7 +1814,7 @@ t11 = List._∷_ (
       84
       (List._∷_
       97
-      (List._∷_ 114 (List._∷_ 103 (List._∷_ 101 (List._∷_ 116 (List._∷_ 115 List.[]))))))))))))
+      (List._∷_ 114 (List._∷_ 103 (List._∷_ 101 (List._∷_ 116 (List._∷_ 115 List.[]))))))))))))))))
       (Syntax.tcons
       Syntax.tyBool
       (Syntax.tcons
@@ -1753,11 +1899,19 @@ t12 = List._∷_ (
       (Syntax.tcons
       (Syntax.tyStruct
       (List._∷_
+      116
+      (List._∷_
       97
       (List._∷_
       114
       (List._∷_
+      103
+      (List._∷_
+      101
+      (List._∷_
       116
+      (List._∷_
+      115
       (List._∷_
       58
       (List._∷_
@@ -1766,7 +1920,7 @@ t12 = List._∷_ (
       84
       (List._∷_
       97
-      (List._∷_ 114 (List._∷_ 103 (List._∷_ 101 (List._∷_ 116 (List._∷_ 115 List.[]))))))))))))
+      (List._∷_ 114 (List._∷_ 103 (List._∷_ 101 (List._∷_ 116 (List._∷_ 115 List.[]))))))))))))))))
       (Syntax.tcons
       Syntax.tyBool
       (Syntax.tcons
@@ -1847,11 +2001,19 @@ t13 = List._∷_ (
       (Syntax.tcons
       (Syntax.tyStruct
       (List._∷_
+      116
+      (List._∷_
       97
       (List._∷_
       114
       (List._∷_
+      103
+      (List._∷_
+      101
+      (List._∷_
       116
+      (List._∷_
+      115
       (List._∷_
       58
       (List._∷_
@@ -1860,7 +2022,7 @@ t13 = List._∷_ (
       84
       (List._∷_
       97
-      (List._∷_ 114 (List._∷_ 103 (List._∷_ 101 (List._∷_ 116 (List._∷_ 115 List.[]))))))))))))
+      (List._∷_ 114 (List._∷_ 103 (List._∷_ 101 (List._∷_ 116 (List._∷_ 115 List.[]))))))))))))))))
       (Syntax.tcons
       Syntax.tyBool
       (Syntax.tcons
@@ -1941,11 +2103,19 @@ t14 = List._∷_ (
       (Syntax.tcons
       (Syntax.tyStruct
       (List._∷_
+      116
+      (List._∷_
       97
       (List._∷_
       114
       (List._∷_
+      103
+      (List._∷_
+      101
+      (List._∷_
       116
+      (List._∷_
+      115
       (List._∷_
       58
       (List._∷_
@@ -1954,7 +2124,7 @@ t14 = List._∷_ (
       84
       (List._∷_
       97
-      (List._∷_ 114 (List._∷_ 103 (List._∷_ 101 (List._∷_ 116 (List._∷_ 115 List.[]))))))))))))
+      (List._∷_ 114 (List._∷_ 103 (List._∷_ 101 (List._∷_ 116 (List._∷_ 115 List.[]))))))))))))))))
       (Syntax.tcons
       Syntax.tyBool
       (Syntax.tcons
@@ -2035,11 +2205,19 @@ t15 = List._∷_ (
       (Syntax.tcons
       (Syntax.tyStruct
       (List._∷_
+      116
+      (List._∷_
       97
       (List._∷_
       114
       (List._∷_
+      103
+      (List._∷_
+      101
+      (List._∷_
       116
+      (List._∷_
+      115
       (List._∷_
       58
       (List._∷_
@@ -2048,7 +2226,7 @@ t15 = List._∷_ (
       84
       (List._∷_
       97
-      (List._∷_ 114 (List._∷_ 103 (List._∷_ 101 (List._∷_ 116 (List._∷_ 115 List.[]))))))))))))
+      (List._∷_ 114 (List._∷_ 103 (List._∷_ 101 (List._∷_ 116 (List._∷_ 115 List.[]))))))))))))))))
       (Syntax.tcons
       Syntax.tyBool
       (Syntax.tcons
@@ -2129,11 +2307,19 @@ t16 = List._∷_ (
       (Syntax.tcons
       (Syntax.tyStruct
       (List._∷_
+      116
+      (List._∷_
       97
       (List._∷_
       114
       (List._∷_
+      103
+      (List._∷_
+      101
+      (List._∷_
       116
+      (List._∷_
+      115
       (List._∷_
       58
       (List._∷_
@@ -2142,7 +2328,7 @@ t16 = List._∷_ (
       84
       (List._∷_
       97
-      (List._∷_ 114 (List._∷_ 103 (List._∷_ 101 (List._∷_ 116 (List._∷_ 115 List.[]))))))))))))
+      (List._∷_ 114 (List._∷_ 103 (List._∷_ 101 (List._∷_ 116 (List._∷_ 115 List.[]))))))))))))))))
       (Syntax.tcons
       Syntax.tyBool
       (Syntax.tcons
@@ -2223,11 +2409,19 @@ t17 = List._∷_ (
       (Syntax.tcons
       (Syntax.tyStruct
       (List._∷_
+      116
+      (List._∷_
       97
       (List._∷_
       114
       (List._∷_
+      103
+      (List._∷_
+      101
+      (List._∷_
       116
+      (List._∷_
+      115
       (List._∷_
       58
       (List._∷_
@@ -2236,7 +2430,7 @@ t17 = List._∷_ (
       84
       (List._∷_
       97
-      (List._∷_ 114 (List._∷_ 103 (List._∷_ 101 (List._∷_ 116 (List._∷_ 115 List.[]))))))))))))
+      (List._∷_ 114 (List._∷_ 103 (List._∷_ 101 (List._∷_ 116 (List._∷_ 115 List.[]))))))))))))))))
       (Syntax.tcons
       Syntax.tyBool
       (Syntax.tcons
@@ -2317,11 +2511,19 @@ t18 = List._∷_ (
       (Syntax.tcons
       (Syntax.tyStruct
       (List._∷_
+      116
+      (List._∷_
       97
       (List._∷_
       114
       (List._∷_
+      103
+      (List._∷_
+      101
+      (List._∷_
       116
+      (List._∷_
+      115
       (List._∷_
       58
       (List._∷_
@@ -2330,7 +2532,7 @@ t18 = List._∷_ (
       84
       (List._∷_
       97
-      (List._∷_ 114 (List._∷_ 103 (List._∷_ 101 (List._∷_ 116 (List._∷_ 115 List.[]))))))))))))
+      (List._∷_ 114 (List._∷_ 103 (List._∷_ 101 (List._∷_ 116 (List._∷_ 115 List.[]))))))))))))))))
       (Syntax.tcons
       Syntax.tyBool
       (Syntax.tcons
@@ -2411,11 +2613,19 @@ t19 = List._∷_ (
       (Syntax.tcons
       (Syntax.tyStruct
       (List._∷_
+      116
+      (List._∷_
       97
       (List._∷_
       114
       (List._∷_
+      103
+      (List._∷_
+      101
+      (List._∷_
       116
+      (List._∷_
+      115
       (List._∷_
       58
       (List._∷_
@@ -2424,7 +2634,7 @@ t19 = List._∷_ (
       84
       (List._∷_
       97
-      (List._∷_ 114 (List._∷_ 103 (List._∷_ 101 (List._∷_ 116 (List._∷_ 115 List.[]))))))))))))
+      (List._∷_ 114 (List._∷_ 103 (List._∷_ 101 (List._∷_ 116 (List._∷_ 115 List.[]))))))))))))))))
       (Syntax.tcons
       Syntax.tyBool
       (Syntax.tcons
@@ -2505,11 +2715,19 @@ t20 = List._∷_ (
       (Syntax.tcons
       (Syntax.tyStruct
       (List._∷_
+      116
+      (List._∷_
       97
       (List._∷_
       114
       (List._∷_
+      103
+      (List._∷_
+      101
+      (List._∷_
       116
+      (List._∷_
+      115
       (List._∷_
       58
       (List._∷_
@@ -2518,7 +2736,7 @@ t20 = List._∷_ (
       84
       (List._∷_
       97
-      (List._∷_ 114 (List._∷_ 103 (List._∷_ 101 (List._∷_ 116 (List._∷_ 115 List.[]))))))))))))
+      (List._∷_ 114 (List._∷_ 103 (List._∷_ 101 (List._∷_ 116 (List._∷_ 115 List.[]))))))))))))))))
       (Syntax.tcons
       Syntax.tyBool
       (Syntax.tcons
@@ -2598,11 +2816,19 @@ t21 = List._∷_ (
       (Syntax.tcons
       (Syntax.tyStruct
       (List._∷_
+      116
+      (List._∷_
       97
       (List._∷_
       114
       (List._∷_
+      103
+      (List._∷_
+      101
+      (List._∷_
       116
+      (List._∷_
+      115
       (List._∷_
       58
       (List._∷_
@@ -2611,7 +2837,7 @@ t21 = List._∷_ (
       84
       (List._∷_
       97
-      (List._∷_ 114 (List._∷_ 103 (List._∷_ 101 (List._∷_ 116 (List._∷_ 115 List.[]))))))))))))
+      (List._∷_ 114 (List._∷_ 103 (List._∷_ 101 (List._∷_ 116 (List._∷_ 115 List.[]))))))))))))))))
       (Syntax.tcons
       Syntax.tyBool
       (Syntax.tcons
@@ -2691,11 +2917,19 @@ t22 = List._∷_ (
       (Syntax.tcons
       (Syntax.tyStruct
       (List._∷_
+      116
+      (List._∷_
       97
       (List._∷_
       114
       (List._∷_
+      103
+      (List._∷_
+      101
+      (List._∷_
       116
+      (List._∷_
+      115
       (List._∷_
       58
       (List._∷_
@@ -2704,7 +2938,7 @@ t22 = List._∷_ (
       84
       (List._∷_
       97
-      (List._∷_ 114 (List._∷_ 103 (List._∷_ 101 (List._∷_ 116 (List._∷_ 115 List.[]))))))))))))
+      (List._∷_ 114 (List._∷_ 103 (List._∷_ 101 (List._∷_ 116 (List._∷_ 115 List.[]))))))))))))))))
       (Syntax.tcons
       Syntax.tyBool
       (Syntax.tcons
@@ -2787,11 +3021,19 @@ t23 = List._∷_ (
       (Syntax.tcons
       (Syntax.tyStruct
       (List._∷_
+      116
+      (List._∷_
       97
       (List._∷_
       114
       (List._∷_
+      103
+      (List._∷_
+      101
+      (List._∷_
       116
+      (List._∷_
+      115
       (List._∷_
       58
       (List._∷_
@@ -2800,7 +3042,7 @@ t23 = List._∷_ (
       84
       (List._∷_
       97
-      (List._∷_ 114 (List._∷_ 103 (List._∷_ 101 (List._∷_ 116 (List._∷_ 115 List.[]))))))))))))
+      (List._∷_ 114 (List._∷_ 103 (List._∷_ 101 (List._∷_ 116 (List._∷_ 115 List.[]))))))))))))))))
       (Syntax.tcons
       Syntax.tyBool
       (Syntax.tcons
@@ -2883,11 +3125,19 @@ t24 = List._∷_ (
       (Syntax.tcons
       (Syntax.tyStruct
       (List._∷_
+      116
+      (List._∷_
       97
       (List._∷_
       114
       (List._∷_
+      103
+      (List._∷_
+      101
+      (List._∷_
       116
+      (List._∷_
+      115
       (List._∷_
       58
       (List._∷_
@@ -2896,7 +3146,7 @@ t24 = List._∷_ (
       84
       (List._∷_
       97
-      (List._∷_ 114 (List._∷_ 103 (List._∷_ 101 (List._∷_ 116 (List._∷_ 115 List.[]))))))))))))
+      (List._∷_ 114 (List._∷_ 103 (List._∷_ 101 (List._∷_ 116 (List._∷_ 115 List.[]))))))))))))))))
       (Syntax.tcons
       Syntax.tyBool
       (Syntax.tcons
@@ -2979,11 +3229,19 @@ t25 = List._∷_ (
       (Syntax.tcons
       (Syntax.tyStruct
       (List._∷_
+      116
+      (List._∷_
       97
       (List._∷_
       114
       (List._∷_
+      103
+      (List._∷_
+      101
+      (List._∷_
       116
+      (List._∷_
+      115
       (List._∷_
       58
       (List._∷_
@@ -2992,7 +3250,7 @@ t25 = List._∷_ (
       84
       (List._∷_
       97
-      (List._∷_ 114 (List._∷_ 103 (List._∷_ 101 (List._∷_ 116 (List._∷_ 115 List.[]))))))))))))
+      (List._∷_ 114 (List._∷_ 103 (List._∷_ 101 (List._∷_ 116 (List._∷_ 115 List.[]))))))))))))))))
       (Syntax.tcons
       Syntax.tyBool
       (Syntax.tcons
@@ -3075,11 +3333,19 @@ t26 = List._∷_ (
       (Syntax.tcons
       (Syntax.tyStruct
       (List._∷_
+      116
+      (List._∷_
       97
       (List._∷_
       114
       (List._∷_
+      103
+      (List._∷_
+      101
+      (List._∷_
       116
+      (List._∷_
+      115
       (List._∷_
       58
       (List._∷_
@@ -3088,7 +3354,7 @@ t26 = List._∷_ (
       84
       (List._∷_
       97
-      (List._∷_ 114 (List._∷_ 103 (List._∷_ 101 (List._∷_ 116 (List._∷_ 115 List.[]))))))))))))
+      (List._∷_ 114 (List._∷_ 103 (List._∷_ 101 (List._∷_ 116 (List._∷_ 115 List.[]))))))))))))))))
       (Syntax.tcons
       Syntax.tyBool
       (Syntax.tcons
@@ -3171,11 +3437,19 @@ t27 = List._∷_ (
       (Syntax.tcons
       (Syntax.tyStruct
       (List._∷_
+      116
+      (List._∷_
       97
       (List._∷_
       114
       (List._∷_
+      103
+      (List._∷_
+      101
+      (List._∷_
       116
+      (List._∷_
+      115
       (List._∷_
       58
       (List._∷_
@@ -3184,7 +3458,7 @@ t27 = List._∷_ (
       84
       (List._∷_
       97
-      (List._∷_ 114 (List._∷_ 103 (List._∷_ 101 (List._∷_ 116 (List._∷_ 115 List.[]))))))))))))
+      (List._∷_ 114 (List._∷_ 103 (List._∷_ 101 (List._∷_ 116 (List._∷_ 115 List.[]))))))))))))))))
       (Syntax.tcons
       Syntax.tyBool
       (Syntax.tcons
@@ -3289,16 +3563,26 @@ t29 = List._∷_ (0, Rows'.whole (Declared.row Gathering.the-type)) (List._∷_ 
       Rows'.any-gone
           (Syntax.tyStruct
           (List._∷_
+          116
+          (List._∷_
           97
           (List._∷_
           114
           (List._∷_
+          103
+          (List._∷_
+          101
+          (List._∷_
           116
           (List._∷_
+          115
+          (List._∷_
           58
           (List._∷_
           58
-          (List._∷_ 67 (List._∷_ 111 (List._∷_ 117 (List._∷_ 110 (List._∷_ 116 List.[]))))))))))
+          (List._∷_
+          67
+          (List._∷_ 111 (List._∷_ 117 (List._∷_ 110 (List._∷_ 116 List.[]))))))))))))))
           (Syntax.tcons Syntax.tyBool (Syntax.tcons (Syntax.tyInt Syntax.w64) Syntax.tnil))),
     )
     (List._∷_
@@ -3347,16 +3631,26 @@ t30 = List._∷_ (0, Rows'.whole (Declared.row Gathering.the-type)) (List._∷_ 
       Rows'.any-gone
           (Syntax.tyStruct
           (List._∷_
+          116
+          (List._∷_
           97
           (List._∷_
           114
           (List._∷_
+          103
+          (List._∷_
+          101
+          (List._∷_
           116
           (List._∷_
+          115
+          (List._∷_
           58
           (List._∷_
           58
-          (List._∷_ 67 (List._∷_ 111 (List._∷_ 117 (List._∷_ 110 (List._∷_ 116 List.[]))))))))))
+          (List._∷_
+          67
+          (List._∷_ 111 (List._∷_ 117 (List._∷_ 110 (List._∷_ 116 List.[]))))))))))))))
           (Syntax.tcons Syntax.tyBool (Syntax.tcons (Syntax.tyInt Syntax.w64) Syntax.tnil))),
     ) (List._∷_ (4, Rows'.any-gone Syntax.tyBool) (List._∷_ (
       5,
@@ -3405,16 +3699,26 @@ t31 = List._∷_ (0, Rows'.whole (Declared.row Gathering.the-type)) (List._∷_ 
       Rows'.any-gone
           (Syntax.tyStruct
           (List._∷_
+          116
+          (List._∷_
           97
           (List._∷_
           114
           (List._∷_
+          103
+          (List._∷_
+          101
+          (List._∷_
           116
           (List._∷_
+          115
+          (List._∷_
           58
           (List._∷_
           58
-          (List._∷_ 67 (List._∷_ 111 (List._∷_ 117 (List._∷_ 110 (List._∷_ 116 List.[]))))))))))
+          (List._∷_
+          67
+          (List._∷_ 111 (List._∷_ 117 (List._∷_ 110 (List._∷_ 116 List.[]))))))))))))))
           (Syntax.tcons Syntax.tyBool (Syntax.tcons (Syntax.tyInt Syntax.w64) Syntax.tnil))),
     ) (List._∷_ (4, Rows'.any-gone Syntax.tyBool) (List._∷_ (
       5,
@@ -3658,16 +3962,24 @@ module _ (claims· : Claims) where
       List.[]
       (Syntax.tyStruct
       (List._∷_
+      116
+      (List._∷_
       97
       (List._∷_
       114
       (List._∷_
+      103
+      (List._∷_
+      101
+      (List._∷_
       116
       (List._∷_
+      115
+      (List._∷_
       58
       (List._∷_
       58
-      (List._∷_ 67 (List._∷_ 111 (List._∷_ 117 (List._∷_ 110 (List._∷_ 116 List.[]))))))))))
+      (List._∷_ 67 (List._∷_ 111 (List._∷_ 117 (List._∷_ 110 (List._∷_ 116 List.[]))))))))))))))
       (Syntax.tcons Syntax.tyBool (Syntax.tcons (Syntax.tyInt Syntax.w64) Syntax.tnil)))
 
   abbrev s4 : (bs : List.List Nat.ℕ) → Typed.Mo T5 → Typed.Mo T6
@@ -3822,16 +4134,24 @@ module _ (claims· : Claims) where
       (List._∷_ 1 List.[])
       (Syntax.tyStruct
       (List._∷_
+      116
+      (List._∷_
       97
       (List._∷_
       114
       (List._∷_
+      103
+      (List._∷_
+      101
+      (List._∷_
       116
       (List._∷_
+      115
+      (List._∷_
       58
       (List._∷_
       58
-      (List._∷_ 67 (List._∷_ 111 (List._∷_ 117 (List._∷_ 110 (List._∷_ 116 List.[]))))))))))
+      (List._∷_ 67 (List._∷_ 111 (List._∷_ 117 (List._∷_ 110 (List._∷_ 116 List.[]))))))))))))))
       (Syntax.tcons Syntax.tyBool (Syntax.tcons (Syntax.tyInt Syntax.w64) Syntax.tnil)))
 
   abbrev s22 : (bs : List.List Nat.ℕ) → Typed.Mo T25 → Typed.Mo T26
@@ -3977,11 +4297,19 @@ module _ (claims· : Claims) where
       (Syntax.tcons
       (Syntax.tyStruct
       (List._∷_
+      116
+      (List._∷_
       97
       (List._∷_
       114
       (List._∷_
+      103
+      (List._∷_
+      101
+      (List._∷_
       116
+      (List._∷_
+      115
       (List._∷_
       58
       (List._∷_
@@ -3990,7 +4318,7 @@ module _ (claims· : Claims) where
       84
       (List._∷_
       97
-      (List._∷_ 114 (List._∷_ 103 (List._∷_ 101 (List._∷_ 116 (List._∷_ 115 List.[]))))))))))))
+      (List._∷_ 114 (List._∷_ 103 (List._∷_ 101 (List._∷_ 116 (List._∷_ 115 List.[]))))))))))))))))
       (Syntax.tcons
       Syntax.tyBool
       (Syntax.tcons
@@ -4005,16 +4333,24 @@ module _ (claims· : Claims) where
       3
       (Syntax.tyStruct
       (List._∷_
+      116
+      (List._∷_
       97
       (List._∷_
       114
       (List._∷_
+      103
+      (List._∷_
+      101
+      (List._∷_
       116
       (List._∷_
+      115
+      (List._∷_
       58
       (List._∷_
       58
-      (List._∷_ 67 (List._∷_ 111 (List._∷_ 117 (List._∷_ 110 (List._∷_ 116 List.[]))))))))))
+      (List._∷_ 67 (List._∷_ 111 (List._∷_ 117 (List._∷_ 110 (List._∷_ 116 List.[]))))))))))))))
       (Syntax.tcons Syntax.tyBool (Syntax.tcons (Syntax.tyInt Syntax.w64) Syntax.tnil)))
 
   abbrev s38 : (bs : List.List Nat.ℕ) → Typed.Mo T41 → Typed.Mo T42
@@ -4052,13 +4388,13 @@ module _ (claims· : Claims) where
       Closed =
           (𝓤 : URA.URA M) (H : Wp.Heap 𝓤) (A : Atoms.Atoms 𝓤) (W : Kit.Given 𝓤 H A) (𝓣 : Wp.Tables
           𝓤 H) (known0 : Plain.Known 𝓤 H A W 𝓣 0 ps·0 r·0 (claims· .0) (claims· .1)
-          "art::blank_list") (known1 : Plain.Known 𝓤 H A W 𝓣 0 ps·1 r·1 (claims· .2) (claims· .3)
-          "art::none_yet") (known2 : Plain.Known 𝓤 H A W 𝓣 0 ps·2 r·2 (claims· .4) (claims· .5)
-          "matching::whole_bits") (known3 : Plain.Known 𝓤 H A W 𝓣 1 ps·3 r·3 (claims· .6)
-          (claims· .7) "art::collect") (known4 : Plain.Known 𝓤 H A W 𝓣 0 ps·4 r·4 (claims· .8)
-          (claims· .9) "gather::is_long") (known5 : Plain.Known 𝓤 H A W 𝓣 0 ps·5 r·5 (claims· .10)
-          (claims· .11) "gather::gathered") → Statement.Triple 𝓤 (Wp.WpFn 𝓤 H (𝓣 .C) (𝓣 .Λ)
-          (Function.fnOf 1 ps r xs m hs body)) (Function.plainOf 𝓤 H A 1 ps r Pre· Post·)
+          "targets::blank_list") (known1 : Plain.Known 𝓤 H A W 𝓣 0 ps·1 r·1 (claims· .2)
+          (claims· .3) "targets::none_yet") (known2 : Plain.Known 𝓤 H A W 𝓣 0 ps·2 r·2 (claims· .4)
+          (claims· .5) "matching::whole_bits") (known3 : Plain.Known 𝓤 H A W 𝓣 1 ps·3 r·3
+          (claims· .6) (claims· .7) "collect::collect") (known4 : Plain.Known 𝓤 H A W 𝓣 0 ps·4 r·4
+          (claims· .8) (claims· .9) "gather::is_long") (known5 : Plain.Known 𝓤 H A W 𝓣 0 ps·5 r·5
+          (claims· .10) (claims· .11) "gather::gathered") → Statement.Triple 𝓤 (Wp.WpFn 𝓤 H (𝓣 .C)
+          (𝓣 .Λ) (Function.fnOf 1 ps r xs m hs body)) (Function.plainOf 𝓤 H A 1 ps r Pre· Post·)
 
     module _ (Inv·0 : InvT-loop) (μ·0 : MeasureT-loop) where
       abbrev at0 : (bs : List.List Nat.ℕ) → Typed.TF T13 O4
@@ -4240,10 +4576,10 @@ module _ (claims· : Claims) where
           (W : Kit.Given 𝓤 H A) (𝓣 : Wp.Tables 𝓤 H) where
         abbrev Knowns : Type 1
         Knowns =
-            Plain.Known 𝓤 H A W 𝓣 0 ps·0 r·0 (claims· .0) (claims· .1) "art::blank_list" ×
-            Plain.Known 𝓤 H A W 𝓣 0 ps·1 r·1 (claims· .2) (claims· .3) "art::none_yet" ×
+            Plain.Known 𝓤 H A W 𝓣 0 ps·0 r·0 (claims· .0) (claims· .1) "targets::blank_list" ×
+            Plain.Known 𝓤 H A W 𝓣 0 ps·1 r·1 (claims· .2) (claims· .3) "targets::none_yet" ×
             Plain.Known 𝓤 H A W 𝓣 0 ps·2 r·2 (claims· .4) (claims· .5) "matching::whole_bits" ×
-            Plain.Known 𝓤 H A W 𝓣 1 ps·3 r·3 (claims· .6) (claims· .7) "art::collect" ×
+            Plain.Known 𝓤 H A W 𝓣 1 ps·3 r·3 (claims· .6) (claims· .7) "collect::collect" ×
             Plain.Known 𝓤 H A W 𝓣 0 ps·4 r·4 (claims· .8) (claims· .9) "gather::is_long" ×
             Plain.Known 𝓤 H A W 𝓣 0 ps·5 r·5 (claims· .10) (claims· .11) "gather::gathered"
 
@@ -5129,7 +5465,7 @@ module _ (claims· : Claims) where
               r·3
               (claims· .6)
               (claims· .7)
-              "art::collect"
+              "collect::collect"
               (known .3)
               E
               (λ pos β. β)
@@ -5183,7 +5519,7 @@ module _ (claims· : Claims) where
                         (λ ρ. Unit)
                         (Declared.row Count.the-type)
                         Path'.refl
-                        (Copies.cStruct Count.the-type Laws.the-laws Laws.the-copy .copy 𝓤 H A W)
+                        (Copies.cStruct Count.the-type Laws'.the-laws Laws'.the-copy .copy 𝓤 H A W)
                         (Rows'.whole (Declared.row Count.the-type))
                         (λ x. x)
                         (λ x. x)
@@ -5214,18 +5550,26 @@ module _ (claims· : Claims) where
               (Declared.row Count.the-type)
               (Syntax.tyStruct
               (List._∷_
+              116
+              (List._∷_
               97
               (List._∷_
               114
               (List._∷_
+              103
+              (List._∷_
+              101
+              (List._∷_
               116
+              (List._∷_
+              115
               (List._∷_
               58
               (List._∷_
               58
               (List._∷_
               67
-              (List._∷_ 111 (List._∷_ 117 (List._∷_ 110 (List._∷_ 116 List.[]))))))))))
+              (List._∷_ 111 (List._∷_ 117 (List._∷_ 110 (List._∷_ 116 List.[]))))))))))))))
               (Syntax.tcons Syntax.tyBool (Syntax.tcons (Syntax.tyInt Syntax.w64) Syntax.tnil)))
               Path'.refl)
               (tt, tt)
@@ -5948,18 +6292,26 @@ module _ (claims· : Claims) where
               3
               (Syntax.tyStruct
               (List._∷_
+              116
+              (List._∷_
               97
               (List._∷_
               114
               (List._∷_
+              103
+              (List._∷_
+              101
+              (List._∷_
               116
+              (List._∷_
+              115
               (List._∷_
               58
               (List._∷_
               58
               (List._∷_
               67
-              (List._∷_ 111 (List._∷_ 117 (List._∷_ 110 (List._∷_ 116 List.[]))))))))))
+              (List._∷_ 111 (List._∷_ 117 (List._∷_ 110 (List._∷_ 116 List.[]))))))))))))))
               (Syntax.tcons Syntax.tyBool (Syntax.tcons (Syntax.tyInt Syntax.w64) Syntax.tnil)))
               (Local.room-whole
               𝓤
@@ -5969,18 +6321,26 @@ module _ (claims· : Claims) where
               (Declared.row Count.the-type)
               (Syntax.tyStruct
               (List._∷_
+              116
+              (List._∷_
               97
               (List._∷_
               114
               (List._∷_
+              103
+              (List._∷_
+              101
+              (List._∷_
               116
+              (List._∷_
+              115
               (List._∷_
               58
               (List._∷_
               58
               (List._∷_
               67
-              (List._∷_ 111 (List._∷_ 117 (List._∷_ 110 (List._∷_ 116 List.[]))))))))))
+              (List._∷_ 111 (List._∷_ 117 (List._∷_ 110 (List._∷_ 116 List.[]))))))))))))))
               (Syntax.tcons Syntax.tyBool (Syntax.tcons (Syntax.tyInt Syntax.w64) Syntax.tnil)))
               Path'.refl))
               d37
@@ -6044,7 +6404,7 @@ module _ (claims· : Claims) where
                         (λ ρ. Unit)
                         (Declared.row Count.the-type)
                         Path'.refl
-                        (Copies.cStruct Count.the-type Laws.the-laws Laws.the-copy .copy 𝓤 H A W)
+                        (Copies.cStruct Count.the-type Laws'.the-laws Laws'.the-copy .copy 𝓤 H A W)
                         (Rows'.whole (Declared.row Count.the-type))
                         (λ x. x)
                         (λ x. x)
@@ -6096,11 +6456,19 @@ module _ (claims· : Claims) where
               (Syntax.tcons
               (Syntax.tyStruct
               (List._∷_
+              116
+              (List._∷_
               97
               (List._∷_
               114
               (List._∷_
+              103
+              (List._∷_
+              101
+              (List._∷_
               116
+              (List._∷_
+              115
               (List._∷_
               58
               (List._∷_
@@ -6111,7 +6479,7 @@ module _ (claims· : Claims) where
               97
               (List._∷_
               114
-              (List._∷_ 103 (List._∷_ 101 (List._∷_ 116 (List._∷_ 115 List.[]))))))))))))
+              (List._∷_ 103 (List._∷_ 101 (List._∷_ 116 (List._∷_ 115 List.[]))))))))))))))))
               (Syntax.tcons
               Syntax.tyBool
               (Syntax.tcons
@@ -6367,7 +6735,7 @@ module _ (claims· : Claims) where
               r·1
               (claims· .2)
               (claims· .3)
-              "art::none_yet"
+              "targets::none_yet"
               (known .1)
               E
               (λ pos β. β)
@@ -6383,18 +6751,26 @@ module _ (claims· : Claims) where
               A
               (Syntax.tyStruct
               (List._∷_
+              116
+              (List._∷_
               97
               (List._∷_
               114
               (List._∷_
+              103
+              (List._∷_
+              101
+              (List._∷_
               116
+              (List._∷_
+              115
               (List._∷_
               58
               (List._∷_
               58
               (List._∷_
               67
-              (List._∷_ 111 (List._∷_ 117 (List._∷_ 110 (List._∷_ 116 List.[]))))))))))
+              (List._∷_ 111 (List._∷_ 117 (List._∷_ 110 (List._∷_ 116 List.[]))))))))))))))
               (Syntax.tcons Syntax.tyBool (Syntax.tcons (Syntax.tyInt Syntax.w64) Syntax.tnil))))
               tt
               Path'.refl)
@@ -6564,7 +6940,7 @@ module _ (claims· : Claims) where
               r·0
               (claims· .0)
               (claims· .1)
-              "art::blank_list"
+              "targets::blank_list"
               (known .0)
               E
               (λ pos β. β)
@@ -8054,8 +8430,30 @@ module _ (claims· : Claims) where
 
         module _ {M : Type 1} (𝓤 : URA.URA M) (H : Wp.Heap 𝓤) (A : Atoms.Atoms 𝓤)
             (W : Kit.Given 𝓤 H A) (𝓣 : Wp.Tables 𝓤 H)
-            (known0 : Plain.Known 𝓤 H A W 𝓣 0 ps·0 r·0 (claims· .0) (claims· .1) "art::blank_list")
-            (known1 : Plain.Known 𝓤 H A W 𝓣 0 ps·1 r·1 (claims· .2) (claims· .3) "art::none_yet")
+            (known0 : Plain.Known
+            𝓤
+            H
+            A
+            W
+            𝓣
+            0
+            ps·0
+            r·0
+            (claims· .0)
+            (claims· .1)
+            "targets::blank_list")
+            (known1 : Plain.Known
+            𝓤
+            H
+            A
+            W
+            𝓣
+            0
+            ps·1
+            r·1
+            (claims· .2)
+            (claims· .3)
+            "targets::none_yet")
             (known2 : Plain.Known
             𝓤
             H
@@ -8068,7 +8466,18 @@ module _ (claims· : Claims) where
             (claims· .4)
             (claims· .5)
             "matching::whole_bits")
-            (known3 : Plain.Known 𝓤 H A W 𝓣 1 ps·3 r·3 (claims· .6) (claims· .7) "art::collect")
+            (known3 : Plain.Known
+            𝓤
+            H
+            A
+            W
+            𝓣
+            1
+            ps·3
+            r·3
+            (claims· .6)
+            (claims· .7)
+            "collect::collect")
             (known4 : Plain.Known 𝓤 H A W 𝓣 0 ps·4 r·4 (claims· .8) (claims· .9) "gather::is_long")
             (known5 : Plain.Known
             𝓤

@@ -1,8 +1,8 @@
 -- Made by tools/lend.py of the twin of `common`: do not edit.
 use Rattle.plain.proofs.Elem.Target as KTarget
 use Prim.Native.Nat
-use Rattle.art.proofs.Targets
-use Rattle.art.proofs.Targets.Laws
+use Rattle.targets.proofs.Targets
+use Rattle.targets.proofs.Targets.Laws
 use borrow.Author.Called
 use borrow.Author.Tests
 use borrow.Fn.Any
@@ -119,11 +119,19 @@ xs =
     (List._∷_
     (Syntax.tyStruct
     (List._∷_
+    116
+    (List._∷_
     97
     (List._∷_
     114
     (List._∷_
+    103
+    (List._∷_
+    101
+    (List._∷_
     116
+    (List._∷_
+    115
     (List._∷_
     58
     (List._∷_
@@ -132,7 +140,7 @@ xs =
     84
     (List._∷_
     97
-    (List._∷_ 114 (List._∷_ 103 (List._∷_ 101 (List._∷_ 116 (List._∷_ 115 List.[]))))))))))))
+    (List._∷_ 114 (List._∷_ 103 (List._∷_ 101 (List._∷_ 116 (List._∷_ 115 List.[]))))))))))))))))
     (Syntax.tcons
     Syntax.tyBool
     (Syntax.tcons
@@ -430,7 +438,7 @@ b18 =
 abbrev b19 : Syntax.Body
 b19 =
     Syntax.call
-    "art::is_listed"
+    "collect::is_listed"
     (List._∷_
     (Syntax.copy (Syntax.place 9 List.[]))
     (List._∷_
@@ -555,11 +563,19 @@ t0 = List._∷_ (
   Rows'.any-gone
       (Syntax.tyStruct
       (List._∷_
+      116
+      (List._∷_
       97
       (List._∷_
       114
       (List._∷_
+      103
+      (List._∷_
+      101
+      (List._∷_
       116
+      (List._∷_
+      115
       (List._∷_
       58
       (List._∷_
@@ -568,7 +584,7 @@ t0 = List._∷_ (
       84
       (List._∷_
       97
-      (List._∷_ 114 (List._∷_ 103 (List._∷_ 101 (List._∷_ 116 (List._∷_ 115 List.[]))))))))))))
+      (List._∷_ 114 (List._∷_ 103 (List._∷_ 101 (List._∷_ 116 (List._∷_ 115 List.[]))))))))))))))))
       (Syntax.tcons
       Syntax.tyBool
       (Syntax.tcons
@@ -588,11 +604,19 @@ t0 = List._∷_ (
   Rows'.any-gone
       (Syntax.tyStruct
       (List._∷_
+      116
+      (List._∷_
       97
       (List._∷_
       114
       (List._∷_
+      103
+      (List._∷_
+      101
+      (List._∷_
       116
+      (List._∷_
+      115
       (List._∷_
       58
       (List._∷_
@@ -601,7 +625,7 @@ t0 = List._∷_ (
       84
       (List._∷_
       97
-      (List._∷_ 114 (List._∷_ 103 (List._∷_ 101 (List._∷_ 116 (List._∷_ 115 List.[]))))))))))))
+      (List._∷_ 114 (List._∷_ 103 (List._∷_ 101 (List._∷_ 116 (List._∷_ 115 List.[]))))))))))))))))
       (Syntax.tcons
       Syntax.tyBool
       (Syntax.tcons
@@ -648,11 +672,19 @@ t2 = List._∷_ (0, Rows'.whole (Declared.row Targets.the-type)) (List._∷_ (
   Rows'.any-gone
       (Syntax.tyStruct
       (List._∷_
+      116
+      (List._∷_
       97
       (List._∷_
       114
       (List._∷_
+      103
+      (List._∷_
+      101
+      (List._∷_
       116
+      (List._∷_
+      115
       (List._∷_
       58
       (List._∷_
@@ -661,7 +693,7 @@ t2 = List._∷_ (0, Rows'.whole (Declared.row Targets.the-type)) (List._∷_ (
       84
       (List._∷_
       97
-      (List._∷_ 114 (List._∷_ 103 (List._∷_ 101 (List._∷_ 116 (List._∷_ 115 List.[]))))))))))))
+      (List._∷_ 114 (List._∷_ 103 (List._∷_ 101 (List._∷_ 116 (List._∷_ 115 List.[]))))))))))))))))
       (Syntax.tcons
       Syntax.tyBool
       (Syntax.tcons
@@ -672,11 +704,19 @@ t2 = List._∷_ (0, Rows'.whole (Declared.row Targets.the-type)) (List._∷_ (
   Rows'.any-gone
       (Syntax.tyStruct
       (List._∷_
+      116
+      (List._∷_
       97
       (List._∷_
       114
       (List._∷_
+      103
+      (List._∷_
+      101
+      (List._∷_
       116
+      (List._∷_
+      115
       (List._∷_
       58
       (List._∷_
@@ -685,7 +725,7 @@ t2 = List._∷_ (0, Rows'.whole (Declared.row Targets.the-type)) (List._∷_ (
       84
       (List._∷_
       97
-      (List._∷_ 114 (List._∷_ 103 (List._∷_ 101 (List._∷_ 116 (List._∷_ 115 List.[]))))))))))))
+      (List._∷_ 114 (List._∷_ 103 (List._∷_ 101 (List._∷_ 116 (List._∷_ 115 List.[]))))))))))))))))
       (Syntax.tcons
       Syntax.tyBool
       (Syntax.tcons
@@ -702,11 +742,19 @@ t2 = List._∷_ (0, Rows'.whole (Declared.row Targets.the-type)) (List._∷_ (
   Rows'.any-gone
       (Syntax.tyStruct
       (List._∷_
+      116
+      (List._∷_
       97
       (List._∷_
       114
       (List._∷_
+      103
+      (List._∷_
+      101
+      (List._∷_
       116
+      (List._∷_
+      115
       (List._∷_
       58
       (List._∷_
@@ -715,7 +763,7 @@ t2 = List._∷_ (0, Rows'.whole (Declared.row Targets.the-type)) (List._∷_ (
       84
       (List._∷_
       97
-      (List._∷_ 114 (List._∷_ 103 (List._∷_ 101 (List._∷_ 116 (List._∷_ 115 List.[]))))))))))))
+      (List._∷_ 114 (List._∷_ 103 (List._∷_ 101 (List._∷_ 116 (List._∷_ 115 List.[]))))))))))))))))
       (Syntax.tcons
       Syntax.tyBool
       (Syntax.tcons
@@ -744,11 +792,19 @@ t3 = List._∷_ (
   Rows'.any-gone
       (Syntax.tyStruct
       (List._∷_
+      116
+      (List._∷_
       97
       (List._∷_
       114
       (List._∷_
+      103
+      (List._∷_
+      101
+      (List._∷_
       116
+      (List._∷_
+      115
       (List._∷_
       58
       (List._∷_
@@ -757,7 +813,7 @@ t3 = List._∷_ (
       84
       (List._∷_
       97
-      (List._∷_ 114 (List._∷_ 103 (List._∷_ 101 (List._∷_ 116 (List._∷_ 115 List.[]))))))))))))
+      (List._∷_ 114 (List._∷_ 103 (List._∷_ 101 (List._∷_ 116 (List._∷_ 115 List.[]))))))))))))))))
       (Syntax.tcons
       Syntax.tyBool
       (Syntax.tcons
@@ -777,11 +833,19 @@ t3 = List._∷_ (
   Rows'.any-gone
       (Syntax.tyStruct
       (List._∷_
+      116
+      (List._∷_
       97
       (List._∷_
       114
       (List._∷_
+      103
+      (List._∷_
+      101
+      (List._∷_
       116
+      (List._∷_
+      115
       (List._∷_
       58
       (List._∷_
@@ -790,7 +854,7 @@ t3 = List._∷_ (
       84
       (List._∷_
       97
-      (List._∷_ 114 (List._∷_ 103 (List._∷_ 101 (List._∷_ 116 (List._∷_ 115 List.[]))))))))))))
+      (List._∷_ 114 (List._∷_ 103 (List._∷_ 101 (List._∷_ 116 (List._∷_ 115 List.[]))))))))))))))))
       (Syntax.tcons
       Syntax.tyBool
       (Syntax.tcons
@@ -819,11 +883,19 @@ t4 = List._∷_ (
   Rows'.any-gone
       (Syntax.tyStruct
       (List._∷_
+      116
+      (List._∷_
       97
       (List._∷_
       114
       (List._∷_
+      103
+      (List._∷_
+      101
+      (List._∷_
       116
+      (List._∷_
+      115
       (List._∷_
       58
       (List._∷_
@@ -832,7 +904,7 @@ t4 = List._∷_ (
       84
       (List._∷_
       97
-      (List._∷_ 114 (List._∷_ 103 (List._∷_ 101 (List._∷_ 116 (List._∷_ 115 List.[]))))))))))))
+      (List._∷_ 114 (List._∷_ 103 (List._∷_ 101 (List._∷_ 116 (List._∷_ 115 List.[]))))))))))))))))
       (Syntax.tcons
       Syntax.tyBool
       (Syntax.tcons
@@ -852,11 +924,19 @@ t4 = List._∷_ (
   Rows'.any-gone
       (Syntax.tyStruct
       (List._∷_
+      116
+      (List._∷_
       97
       (List._∷_
       114
       (List._∷_
+      103
+      (List._∷_
+      101
+      (List._∷_
       116
+      (List._∷_
+      115
       (List._∷_
       58
       (List._∷_
@@ -865,7 +945,7 @@ t4 = List._∷_ (
       84
       (List._∷_
       97
-      (List._∷_ 114 (List._∷_ 103 (List._∷_ 101 (List._∷_ 116 (List._∷_ 115 List.[]))))))))))))
+      (List._∷_ 114 (List._∷_ 103 (List._∷_ 101 (List._∷_ 116 (List._∷_ 115 List.[]))))))))))))))))
       (Syntax.tcons
       Syntax.tyBool
       (Syntax.tcons
@@ -894,11 +974,19 @@ t5 = List._∷_ (
   Rows'.any-gone
       (Syntax.tyStruct
       (List._∷_
+      116
+      (List._∷_
       97
       (List._∷_
       114
       (List._∷_
+      103
+      (List._∷_
+      101
+      (List._∷_
       116
+      (List._∷_
+      115
       (List._∷_
       58
       (List._∷_
@@ -907,7 +995,7 @@ t5 = List._∷_ (
       84
       (List._∷_
       97
-      (List._∷_ 114 (List._∷_ 103 (List._∷_ 101 (List._∷_ 116 (List._∷_ 115 List.[]))))))))))))
+      (List._∷_ 114 (List._∷_ 103 (List._∷_ 101 (List._∷_ 116 (List._∷_ 115 List.[]))))))))))))))))
       (Syntax.tcons
       Syntax.tyBool
       (Syntax.tcons
@@ -918,11 +1006,19 @@ t5 = List._∷_ (
   Rows'.any-gone
       (Syntax.tyStruct
       (List._∷_
+      116
+      (List._∷_
       97
       (List._∷_
       114
       (List._∷_
+      103
+      (List._∷_
+      101
+      (List._∷_
       116
+      (List._∷_
+      115
       (List._∷_
       58
       (List._∷_
@@ -931,7 +1027,7 @@ t5 = List._∷_ (
       84
       (List._∷_
       97
-      (List._∷_ 114 (List._∷_ 103 (List._∷_ 101 (List._∷_ 116 (List._∷_ 115 List.[]))))))))))))
+      (List._∷_ 114 (List._∷_ 103 (List._∷_ 101 (List._∷_ 116 (List._∷_ 115 List.[]))))))))))))))))
       (Syntax.tcons
       Syntax.tyBool
       (Syntax.tcons
@@ -951,11 +1047,19 @@ t5 = List._∷_ (
       Rows'.any-gone
           (Syntax.tyStruct
           (List._∷_
+          116
+          (List._∷_
           97
           (List._∷_
           114
           (List._∷_
+          103
+          (List._∷_
+          101
+          (List._∷_
           116
+          (List._∷_
+          115
           (List._∷_
           58
           (List._∷_
@@ -964,7 +1068,9 @@ t5 = List._∷_ (
           84
           (List._∷_
           97
-          (List._∷_ 114 (List._∷_ 103 (List._∷_ 101 (List._∷_ 116 (List._∷_ 115 List.[]))))))))))))
+          (List._∷_
+          114
+          (List._∷_ 103 (List._∷_ 101 (List._∷_ 116 (List._∷_ 115 List.[]))))))))))))))))
           (Syntax.tcons
           Syntax.tyBool
           (Syntax.tcons
@@ -995,11 +1101,19 @@ t6 = List._∷_ (
   Rows'.any-gone
       (Syntax.tyStruct
       (List._∷_
+      116
+      (List._∷_
       97
       (List._∷_
       114
       (List._∷_
+      103
+      (List._∷_
+      101
+      (List._∷_
       116
+      (List._∷_
+      115
       (List._∷_
       58
       (List._∷_
@@ -1008,7 +1122,7 @@ t6 = List._∷_ (
       84
       (List._∷_
       97
-      (List._∷_ 114 (List._∷_ 103 (List._∷_ 101 (List._∷_ 116 (List._∷_ 115 List.[]))))))))))))
+      (List._∷_ 114 (List._∷_ 103 (List._∷_ 101 (List._∷_ 116 (List._∷_ 115 List.[]))))))))))))))))
       (Syntax.tcons
       Syntax.tyBool
       (Syntax.tcons
@@ -1019,11 +1133,19 @@ t6 = List._∷_ (
   Rows'.any-gone
       (Syntax.tyStruct
       (List._∷_
+      116
+      (List._∷_
       97
       (List._∷_
       114
       (List._∷_
+      103
+      (List._∷_
+      101
+      (List._∷_
       116
+      (List._∷_
+      115
       (List._∷_
       58
       (List._∷_
@@ -1032,7 +1154,7 @@ t6 = List._∷_ (
       84
       (List._∷_
       97
-      (List._∷_ 114 (List._∷_ 103 (List._∷_ 101 (List._∷_ 116 (List._∷_ 115 List.[]))))))))))))
+      (List._∷_ 114 (List._∷_ 103 (List._∷_ 101 (List._∷_ 116 (List._∷_ 115 List.[]))))))))))))))))
       (Syntax.tcons
       Syntax.tyBool
       (Syntax.tcons
@@ -1052,11 +1174,19 @@ t6 = List._∷_ (
       Rows'.any-gone
           (Syntax.tyStruct
           (List._∷_
+          116
+          (List._∷_
           97
           (List._∷_
           114
           (List._∷_
+          103
+          (List._∷_
+          101
+          (List._∷_
           116
+          (List._∷_
+          115
           (List._∷_
           58
           (List._∷_
@@ -1065,7 +1195,9 @@ t6 = List._∷_ (
           84
           (List._∷_
           97
-          (List._∷_ 114 (List._∷_ 103 (List._∷_ 101 (List._∷_ 116 (List._∷_ 115 List.[]))))))))))))
+          (List._∷_
+          114
+          (List._∷_ 103 (List._∷_ 101 (List._∷_ 116 (List._∷_ 115 List.[]))))))))))))))))
           (Syntax.tcons
           Syntax.tyBool
           (Syntax.tcons
@@ -1096,11 +1228,19 @@ t7 = List._∷_ (
   Rows'.any-gone
       (Syntax.tyStruct
       (List._∷_
+      116
+      (List._∷_
       97
       (List._∷_
       114
       (List._∷_
+      103
+      (List._∷_
+      101
+      (List._∷_
       116
+      (List._∷_
+      115
       (List._∷_
       58
       (List._∷_
@@ -1109,7 +1249,7 @@ t7 = List._∷_ (
       84
       (List._∷_
       97
-      (List._∷_ 114 (List._∷_ 103 (List._∷_ 101 (List._∷_ 116 (List._∷_ 115 List.[]))))))))))))
+      (List._∷_ 114 (List._∷_ 103 (List._∷_ 101 (List._∷_ 116 (List._∷_ 115 List.[]))))))))))))))))
       (Syntax.tcons
       Syntax.tyBool
       (Syntax.tcons
@@ -1120,11 +1260,19 @@ t7 = List._∷_ (
   Rows'.any-gone
       (Syntax.tyStruct
       (List._∷_
+      116
+      (List._∷_
       97
       (List._∷_
       114
       (List._∷_
+      103
+      (List._∷_
+      101
+      (List._∷_
       116
+      (List._∷_
+      115
       (List._∷_
       58
       (List._∷_
@@ -1133,7 +1281,7 @@ t7 = List._∷_ (
       84
       (List._∷_
       97
-      (List._∷_ 114 (List._∷_ 103 (List._∷_ 101 (List._∷_ 116 (List._∷_ 115 List.[]))))))))))))
+      (List._∷_ 114 (List._∷_ 103 (List._∷_ 101 (List._∷_ 116 (List._∷_ 115 List.[]))))))))))))))))
       (Syntax.tcons
       Syntax.tyBool
       (Syntax.tcons
@@ -1153,11 +1301,19 @@ t7 = List._∷_ (
       Rows'.any-gone
           (Syntax.tyStruct
           (List._∷_
+          116
+          (List._∷_
           97
           (List._∷_
           114
           (List._∷_
+          103
+          (List._∷_
+          101
+          (List._∷_
           116
+          (List._∷_
+          115
           (List._∷_
           58
           (List._∷_
@@ -1166,7 +1322,9 @@ t7 = List._∷_ (
           84
           (List._∷_
           97
-          (List._∷_ 114 (List._∷_ 103 (List._∷_ 101 (List._∷_ 116 (List._∷_ 115 List.[]))))))))))))
+          (List._∷_
+          114
+          (List._∷_ 103 (List._∷_ 101 (List._∷_ 116 (List._∷_ 115 List.[]))))))))))))))))
           (Syntax.tcons
           Syntax.tyBool
           (Syntax.tcons
@@ -1197,11 +1355,19 @@ t8 = List._∷_ (
   Rows'.any-gone
       (Syntax.tyStruct
       (List._∷_
+      116
+      (List._∷_
       97
       (List._∷_
       114
       (List._∷_
+      103
+      (List._∷_
+      101
+      (List._∷_
       116
+      (List._∷_
+      115
       (List._∷_
       58
       (List._∷_
@@ -1210,7 +1376,7 @@ t8 = List._∷_ (
       84
       (List._∷_
       97
-      (List._∷_ 114 (List._∷_ 103 (List._∷_ 101 (List._∷_ 116 (List._∷_ 115 List.[]))))))))))))
+      (List._∷_ 114 (List._∷_ 103 (List._∷_ 101 (List._∷_ 116 (List._∷_ 115 List.[]))))))))))))))))
       (Syntax.tcons
       Syntax.tyBool
       (Syntax.tcons
@@ -1221,11 +1387,19 @@ t8 = List._∷_ (
   Rows'.any-gone
       (Syntax.tyStruct
       (List._∷_
+      116
+      (List._∷_
       97
       (List._∷_
       114
       (List._∷_
+      103
+      (List._∷_
+      101
+      (List._∷_
       116
+      (List._∷_
+      115
       (List._∷_
       58
       (List._∷_
@@ -1234,7 +1408,7 @@ t8 = List._∷_ (
       84
       (List._∷_
       97
-      (List._∷_ 114 (List._∷_ 103 (List._∷_ 101 (List._∷_ 116 (List._∷_ 115 List.[]))))))))))))
+      (List._∷_ 114 (List._∷_ 103 (List._∷_ 101 (List._∷_ 116 (List._∷_ 115 List.[]))))))))))))))))
       (Syntax.tcons
       Syntax.tyBool
       (Syntax.tcons
@@ -1254,11 +1428,19 @@ t8 = List._∷_ (
       Rows'.any-gone
           (Syntax.tyStruct
           (List._∷_
+          116
+          (List._∷_
           97
           (List._∷_
           114
           (List._∷_
+          103
+          (List._∷_
+          101
+          (List._∷_
           116
+          (List._∷_
+          115
           (List._∷_
           58
           (List._∷_
@@ -1267,7 +1449,9 @@ t8 = List._∷_ (
           84
           (List._∷_
           97
-          (List._∷_ 114 (List._∷_ 103 (List._∷_ 101 (List._∷_ 116 (List._∷_ 115 List.[]))))))))))))
+          (List._∷_
+          114
+          (List._∷_ 103 (List._∷_ 101 (List._∷_ 116 (List._∷_ 115 List.[]))))))))))))))))
           (Syntax.tcons
           Syntax.tyBool
           (Syntax.tcons
@@ -1298,11 +1482,19 @@ t9 = List._∷_ (
   Rows'.any-gone
       (Syntax.tyStruct
       (List._∷_
+      116
+      (List._∷_
       97
       (List._∷_
       114
       (List._∷_
+      103
+      (List._∷_
+      101
+      (List._∷_
       116
+      (List._∷_
+      115
       (List._∷_
       58
       (List._∷_
@@ -1311,7 +1503,7 @@ t9 = List._∷_ (
       84
       (List._∷_
       97
-      (List._∷_ 114 (List._∷_ 103 (List._∷_ 101 (List._∷_ 116 (List._∷_ 115 List.[]))))))))))))
+      (List._∷_ 114 (List._∷_ 103 (List._∷_ 101 (List._∷_ 116 (List._∷_ 115 List.[]))))))))))))))))
       (Syntax.tcons
       Syntax.tyBool
       (Syntax.tcons
@@ -1322,11 +1514,19 @@ t9 = List._∷_ (
   Rows'.any-gone
       (Syntax.tyStruct
       (List._∷_
+      116
+      (List._∷_
       97
       (List._∷_
       114
       (List._∷_
+      103
+      (List._∷_
+      101
+      (List._∷_
       116
+      (List._∷_
+      115
       (List._∷_
       58
       (List._∷_
@@ -1335,7 +1535,7 @@ t9 = List._∷_ (
       84
       (List._∷_
       97
-      (List._∷_ 114 (List._∷_ 103 (List._∷_ 101 (List._∷_ 116 (List._∷_ 115 List.[]))))))))))))
+      (List._∷_ 114 (List._∷_ 103 (List._∷_ 101 (List._∷_ 116 (List._∷_ 115 List.[]))))))))))))))))
       (Syntax.tcons
       Syntax.tyBool
       (Syntax.tcons
@@ -1355,11 +1555,19 @@ t9 = List._∷_ (
       Rows'.any-gone
           (Syntax.tyStruct
           (List._∷_
+          116
+          (List._∷_
           97
           (List._∷_
           114
           (List._∷_
+          103
+          (List._∷_
+          101
+          (List._∷_
           116
+          (List._∷_
+          115
           (List._∷_
           58
           (List._∷_
@@ -1368,7 +1576,9 @@ t9 = List._∷_ (
           84
           (List._∷_
           97
-          (List._∷_ 114 (List._∷_ 103 (List._∷_ 101 (List._∷_ 116 (List._∷_ 115 List.[]))))))))))))
+          (List._∷_
+          114
+          (List._∷_ 103 (List._∷_ 101 (List._∷_ 116 (List._∷_ 115 List.[]))))))))))))))))
           (Syntax.tcons
           Syntax.tyBool
           (Syntax.tcons
@@ -1399,11 +1609,19 @@ t10 = List._∷_ (
   Rows'.any-gone
       (Syntax.tyStruct
       (List._∷_
+      116
+      (List._∷_
       97
       (List._∷_
       114
       (List._∷_
+      103
+      (List._∷_
+      101
+      (List._∷_
       116
+      (List._∷_
+      115
       (List._∷_
       58
       (List._∷_
@@ -1412,7 +1630,7 @@ t10 = List._∷_ (
       84
       (List._∷_
       97
-      (List._∷_ 114 (List._∷_ 103 (List._∷_ 101 (List._∷_ 116 (List._∷_ 115 List.[]))))))))))))
+      (List._∷_ 114 (List._∷_ 103 (List._∷_ 101 (List._∷_ 116 (List._∷_ 115 List.[]))))))))))))))))
       (Syntax.tcons
       Syntax.tyBool
       (Syntax.tcons
@@ -1423,11 +1641,19 @@ t10 = List._∷_ (
   Rows'.any-gone
       (Syntax.tyStruct
       (List._∷_
+      116
+      (List._∷_
       97
       (List._∷_
       114
       (List._∷_
+      103
+      (List._∷_
+      101
+      (List._∷_
       116
+      (List._∷_
+      115
       (List._∷_
       58
       (List._∷_
@@ -1436,7 +1662,7 @@ t10 = List._∷_ (
       84
       (List._∷_
       97
-      (List._∷_ 114 (List._∷_ 103 (List._∷_ 101 (List._∷_ 116 (List._∷_ 115 List.[]))))))))))))
+      (List._∷_ 114 (List._∷_ 103 (List._∷_ 101 (List._∷_ 116 (List._∷_ 115 List.[]))))))))))))))))
       (Syntax.tcons
       Syntax.tyBool
       (Syntax.tcons
@@ -1447,11 +1673,19 @@ t10 = List._∷_ (
   Rows'.any-gone
       (Syntax.tyStruct
       (List._∷_
+      116
+      (List._∷_
       97
       (List._∷_
       114
       (List._∷_
+      103
+      (List._∷_
+      101
+      (List._∷_
       116
+      (List._∷_
+      115
       (List._∷_
       58
       (List._∷_
@@ -1460,7 +1694,7 @@ t10 = List._∷_ (
       84
       (List._∷_
       97
-      (List._∷_ 114 (List._∷_ 103 (List._∷_ 101 (List._∷_ 116 (List._∷_ 115 List.[]))))))))))))
+      (List._∷_ 114 (List._∷_ 103 (List._∷_ 101 (List._∷_ 116 (List._∷_ 115 List.[]))))))))))))))))
       (Syntax.tcons
       Syntax.tyBool
       (Syntax.tcons
@@ -1477,11 +1711,19 @@ t10 = List._∷_ (
   Rows'.any-gone
       (Syntax.tyStruct
       (List._∷_
+      116
+      (List._∷_
       97
       (List._∷_
       114
       (List._∷_
+      103
+      (List._∷_
+      101
+      (List._∷_
       116
+      (List._∷_
+      115
       (List._∷_
       58
       (List._∷_
@@ -1490,7 +1732,7 @@ t10 = List._∷_ (
       84
       (List._∷_
       97
-      (List._∷_ 114 (List._∷_ 103 (List._∷_ 101 (List._∷_ 116 (List._∷_ 115 List.[]))))))))))))
+      (List._∷_ 114 (List._∷_ 103 (List._∷_ 101 (List._∷_ 116 (List._∷_ 115 List.[]))))))))))))))))
       (Syntax.tcons
       Syntax.tyBool
       (Syntax.tcons
@@ -1519,11 +1761,19 @@ t11 = List._∷_ (
   Rows'.any-gone
       (Syntax.tyStruct
       (List._∷_
+      116
+      (List._∷_
       97
       (List._∷_
       114
       (List._∷_
+      103
+      (List._∷_
+      101
+      (List._∷_
       116
+      (List._∷_
+      115
       (List._∷_
       58
       (List._∷_
@@ -1532,7 +1782,7 @@ t11 = List._∷_ (
       84
       (List._∷_
       97
-      (List._∷_ 114 (List._∷_ 103 (List._∷_ 101 (List._∷_ 116 (List._∷_ 115 List.[]))))))))))))
+      (List._∷_ 114 (List._∷_ 103 (List._∷_ 101 (List._∷_ 116 (List._∷_ 115 List.[]))))))))))))))))
       (Syntax.tcons
       Syntax.tyBool
       (Syntax.tcons
@@ -1543,11 +1793,19 @@ t11 = List._∷_ (
   Rows'.any-gone
       (Syntax.tyStruct
       (List._∷_
+      116
+      (List._∷_
       97
       (List._∷_
       114
       (List._∷_
+      103
+      (List._∷_
+      101
+      (List._∷_
       116
+      (List._∷_
+      115
       (List._∷_
       58
       (List._∷_
@@ -1556,7 +1814,7 @@ t11 = List._∷_ (
       84
       (List._∷_
       97
-      (List._∷_ 114 (List._∷_ 103 (List._∷_ 101 (List._∷_ 116 (List._∷_ 115 List.[]))))))))))))
+      (List._∷_ 114 (List._∷_ 103 (List._∷_ 101 (List._∷_ 116 (List._∷_ 115 List.[]))))))))))))))))
       (Syntax.tcons
       Syntax.tyBool
       (Syntax.tcons
@@ -1567,11 +1825,19 @@ t11 = List._∷_ (
   Rows'.any-gone
       (Syntax.tyStruct
       (List._∷_
+      116
+      (List._∷_
       97
       (List._∷_
       114
       (List._∷_
+      103
+      (List._∷_
+      101
+      (List._∷_
       116
+      (List._∷_
+      115
       (List._∷_
       58
       (List._∷_
@@ -1580,7 +1846,7 @@ t11 = List._∷_ (
       84
       (List._∷_
       97
-      (List._∷_ 114 (List._∷_ 103 (List._∷_ 101 (List._∷_ 116 (List._∷_ 115 List.[]))))))))))))
+      (List._∷_ 114 (List._∷_ 103 (List._∷_ 101 (List._∷_ 116 (List._∷_ 115 List.[]))))))))))))))))
       (Syntax.tcons
       Syntax.tyBool
       (Syntax.tcons
@@ -1597,11 +1863,19 @@ t11 = List._∷_ (
   Rows'.any-gone
       (Syntax.tyStruct
       (List._∷_
+      116
+      (List._∷_
       97
       (List._∷_
       114
       (List._∷_
+      103
+      (List._∷_
+      101
+      (List._∷_
       116
+      (List._∷_
+      115
       (List._∷_
       58
       (List._∷_
@@ -1610,7 +1884,7 @@ t11 = List._∷_ (
       84
       (List._∷_
       97
-      (List._∷_ 114 (List._∷_ 103 (List._∷_ 101 (List._∷_ 116 (List._∷_ 115 List.[]))))))))))))
+      (List._∷_ 114 (List._∷_ 103 (List._∷_ 101 (List._∷_ 116 (List._∷_ 115 List.[]))))))))))))))))
       (Syntax.tcons
       Syntax.tyBool
       (Syntax.tcons
@@ -1639,11 +1913,19 @@ t12 = List._∷_ (
   Rows'.any-gone
       (Syntax.tyStruct
       (List._∷_
+      116
+      (List._∷_
       97
       (List._∷_
       114
       (List._∷_
+      103
+      (List._∷_
+      101
+      (List._∷_
       116
+      (List._∷_
+      115
       (List._∷_
       58
       (List._∷_
@@ -1652,7 +1934,7 @@ t12 = List._∷_ (
       84
       (List._∷_
       97
-      (List._∷_ 114 (List._∷_ 103 (List._∷_ 101 (List._∷_ 116 (List._∷_ 115 List.[]))))))))))))
+      (List._∷_ 114 (List._∷_ 103 (List._∷_ 101 (List._∷_ 116 (List._∷_ 115 List.[]))))))))))))))))
       (Syntax.tcons
       Syntax.tyBool
       (Syntax.tcons
@@ -1663,11 +1945,19 @@ t12 = List._∷_ (
   Rows'.any-gone
       (Syntax.tyStruct
       (List._∷_
+      116
+      (List._∷_
       97
       (List._∷_
       114
       (List._∷_
+      103
+      (List._∷_
+      101
+      (List._∷_
       116
+      (List._∷_
+      115
       (List._∷_
       58
       (List._∷_
@@ -1676,7 +1966,7 @@ t12 = List._∷_ (
       84
       (List._∷_
       97
-      (List._∷_ 114 (List._∷_ 103 (List._∷_ 101 (List._∷_ 116 (List._∷_ 115 List.[]))))))))))))
+      (List._∷_ 114 (List._∷_ 103 (List._∷_ 101 (List._∷_ 116 (List._∷_ 115 List.[]))))))))))))))))
       (Syntax.tcons
       Syntax.tyBool
       (Syntax.tcons
@@ -1687,11 +1977,19 @@ t12 = List._∷_ (
   Rows'.any-gone
       (Syntax.tyStruct
       (List._∷_
+      116
+      (List._∷_
       97
       (List._∷_
       114
       (List._∷_
+      103
+      (List._∷_
+      101
+      (List._∷_
       116
+      (List._∷_
+      115
       (List._∷_
       58
       (List._∷_
@@ -1700,7 +1998,7 @@ t12 = List._∷_ (
       84
       (List._∷_
       97
-      (List._∷_ 114 (List._∷_ 103 (List._∷_ 101 (List._∷_ 116 (List._∷_ 115 List.[]))))))))))))
+      (List._∷_ 114 (List._∷_ 103 (List._∷_ 101 (List._∷_ 116 (List._∷_ 115 List.[]))))))))))))))))
       (Syntax.tcons
       Syntax.tyBool
       (Syntax.tcons
@@ -1717,11 +2015,19 @@ t12 = List._∷_ (
   Rows'.any-gone
       (Syntax.tyStruct
       (List._∷_
+      116
+      (List._∷_
       97
       (List._∷_
       114
       (List._∷_
+      103
+      (List._∷_
+      101
+      (List._∷_
       116
+      (List._∷_
+      115
       (List._∷_
       58
       (List._∷_
@@ -1730,7 +2036,7 @@ t12 = List._∷_ (
       84
       (List._∷_
       97
-      (List._∷_ 114 (List._∷_ 103 (List._∷_ 101 (List._∷_ 116 (List._∷_ 115 List.[]))))))))))))
+      (List._∷_ 114 (List._∷_ 103 (List._∷_ 101 (List._∷_ 116 (List._∷_ 115 List.[]))))))))))))))))
       (Syntax.tcons
       Syntax.tyBool
       (Syntax.tcons
@@ -1759,11 +2065,19 @@ t13 = List._∷_ (
   Rows'.any-gone
       (Syntax.tyStruct
       (List._∷_
+      116
+      (List._∷_
       97
       (List._∷_
       114
       (List._∷_
+      103
+      (List._∷_
+      101
+      (List._∷_
       116
+      (List._∷_
+      115
       (List._∷_
       58
       (List._∷_
@@ -1772,7 +2086,7 @@ t13 = List._∷_ (
       84
       (List._∷_
       97
-      (List._∷_ 114 (List._∷_ 103 (List._∷_ 101 (List._∷_ 116 (List._∷_ 115 List.[]))))))))))))
+      (List._∷_ 114 (List._∷_ 103 (List._∷_ 101 (List._∷_ 116 (List._∷_ 115 List.[]))))))))))))))))
       (Syntax.tcons
       Syntax.tyBool
       (Syntax.tcons
@@ -1783,11 +2097,19 @@ t13 = List._∷_ (
   Rows'.any-gone
       (Syntax.tyStruct
       (List._∷_
+      116
+      (List._∷_
       97
       (List._∷_
       114
       (List._∷_
+      103
+      (List._∷_
+      101
+      (List._∷_
       116
+      (List._∷_
+      115
       (List._∷_
       58
       (List._∷_
@@ -1796,7 +2118,7 @@ t13 = List._∷_ (
       84
       (List._∷_
       97
-      (List._∷_ 114 (List._∷_ 103 (List._∷_ 101 (List._∷_ 116 (List._∷_ 115 List.[]))))))))))))
+      (List._∷_ 114 (List._∷_ 103 (List._∷_ 101 (List._∷_ 116 (List._∷_ 115 List.[]))))))))))))))))
       (Syntax.tcons
       Syntax.tyBool
       (Syntax.tcons
@@ -1807,11 +2129,19 @@ t13 = List._∷_ (
   Rows'.any-gone
       (Syntax.tyStruct
       (List._∷_
+      116
+      (List._∷_
       97
       (List._∷_
       114
       (List._∷_
+      103
+      (List._∷_
+      101
+      (List._∷_
       116
+      (List._∷_
+      115
       (List._∷_
       58
       (List._∷_
@@ -1820,7 +2150,7 @@ t13 = List._∷_ (
       84
       (List._∷_
       97
-      (List._∷_ 114 (List._∷_ 103 (List._∷_ 101 (List._∷_ 116 (List._∷_ 115 List.[]))))))))))))
+      (List._∷_ 114 (List._∷_ 103 (List._∷_ 101 (List._∷_ 116 (List._∷_ 115 List.[]))))))))))))))))
       (Syntax.tcons
       Syntax.tyBool
       (Syntax.tcons
@@ -1855,11 +2185,19 @@ t14 = List._∷_ (
   Rows'.any-gone
       (Syntax.tyStruct
       (List._∷_
+      116
+      (List._∷_
       97
       (List._∷_
       114
       (List._∷_
+      103
+      (List._∷_
+      101
+      (List._∷_
       116
+      (List._∷_
+      115
       (List._∷_
       58
       (List._∷_
@@ -1868,7 +2206,7 @@ t14 = List._∷_ (
       84
       (List._∷_
       97
-      (List._∷_ 114 (List._∷_ 103 (List._∷_ 101 (List._∷_ 116 (List._∷_ 115 List.[]))))))))))))
+      (List._∷_ 114 (List._∷_ 103 (List._∷_ 101 (List._∷_ 116 (List._∷_ 115 List.[]))))))))))))))))
       (Syntax.tcons
       Syntax.tyBool
       (Syntax.tcons
@@ -1879,11 +2217,19 @@ t14 = List._∷_ (
   Rows'.any-gone
       (Syntax.tyStruct
       (List._∷_
+      116
+      (List._∷_
       97
       (List._∷_
       114
       (List._∷_
+      103
+      (List._∷_
+      101
+      (List._∷_
       116
+      (List._∷_
+      115
       (List._∷_
       58
       (List._∷_
@@ -1892,7 +2238,7 @@ t14 = List._∷_ (
       84
       (List._∷_
       97
-      (List._∷_ 114 (List._∷_ 103 (List._∷_ 101 (List._∷_ 116 (List._∷_ 115 List.[]))))))))))))
+      (List._∷_ 114 (List._∷_ 103 (List._∷_ 101 (List._∷_ 116 (List._∷_ 115 List.[]))))))))))))))))
       (Syntax.tcons
       Syntax.tyBool
       (Syntax.tcons
@@ -1903,11 +2249,19 @@ t14 = List._∷_ (
   Rows'.any-gone
       (Syntax.tyStruct
       (List._∷_
+      116
+      (List._∷_
       97
       (List._∷_
       114
       (List._∷_
+      103
+      (List._∷_
+      101
+      (List._∷_
       116
+      (List._∷_
+      115
       (List._∷_
       58
       (List._∷_
@@ -1916,7 +2270,7 @@ t14 = List._∷_ (
       84
       (List._∷_
       97
-      (List._∷_ 114 (List._∷_ 103 (List._∷_ 101 (List._∷_ 116 (List._∷_ 115 List.[]))))))))))))
+      (List._∷_ 114 (List._∷_ 103 (List._∷_ 101 (List._∷_ 116 (List._∷_ 115 List.[]))))))))))))))))
       (Syntax.tcons
       Syntax.tyBool
       (Syntax.tcons
@@ -1951,11 +2305,19 @@ t15 = List._∷_ (
   Rows'.any-gone
       (Syntax.tyStruct
       (List._∷_
+      116
+      (List._∷_
       97
       (List._∷_
       114
       (List._∷_
+      103
+      (List._∷_
+      101
+      (List._∷_
       116
+      (List._∷_
+      115
       (List._∷_
       58
       (List._∷_
@@ -1964,7 +2326,7 @@ t15 = List._∷_ (
       84
       (List._∷_
       97
-      (List._∷_ 114 (List._∷_ 103 (List._∷_ 101 (List._∷_ 116 (List._∷_ 115 List.[]))))))))))))
+      (List._∷_ 114 (List._∷_ 103 (List._∷_ 101 (List._∷_ 116 (List._∷_ 115 List.[]))))))))))))))))
       (Syntax.tcons
       Syntax.tyBool
       (Syntax.tcons
@@ -1975,11 +2337,19 @@ t15 = List._∷_ (
   Rows'.any-gone
       (Syntax.tyStruct
       (List._∷_
+      116
+      (List._∷_
       97
       (List._∷_
       114
       (List._∷_
+      103
+      (List._∷_
+      101
+      (List._∷_
       116
+      (List._∷_
+      115
       (List._∷_
       58
       (List._∷_
@@ -1988,7 +2358,7 @@ t15 = List._∷_ (
       84
       (List._∷_
       97
-      (List._∷_ 114 (List._∷_ 103 (List._∷_ 101 (List._∷_ 116 (List._∷_ 115 List.[]))))))))))))
+      (List._∷_ 114 (List._∷_ 103 (List._∷_ 101 (List._∷_ 116 (List._∷_ 115 List.[]))))))))))))))))
       (Syntax.tcons
       Syntax.tyBool
       (Syntax.tcons
@@ -1999,11 +2369,19 @@ t15 = List._∷_ (
   Rows'.any-gone
       (Syntax.tyStruct
       (List._∷_
+      116
+      (List._∷_
       97
       (List._∷_
       114
       (List._∷_
+      103
+      (List._∷_
+      101
+      (List._∷_
       116
+      (List._∷_
+      115
       (List._∷_
       58
       (List._∷_
@@ -2012,7 +2390,7 @@ t15 = List._∷_ (
       84
       (List._∷_
       97
-      (List._∷_ 114 (List._∷_ 103 (List._∷_ 101 (List._∷_ 116 (List._∷_ 115 List.[]))))))))))))
+      (List._∷_ 114 (List._∷_ 103 (List._∷_ 101 (List._∷_ 116 (List._∷_ 115 List.[]))))))))))))))))
       (Syntax.tcons
       Syntax.tyBool
       (Syntax.tcons
@@ -2047,11 +2425,19 @@ t16 = List._∷_ (
   Rows'.any-gone
       (Syntax.tyStruct
       (List._∷_
+      116
+      (List._∷_
       97
       (List._∷_
       114
       (List._∷_
+      103
+      (List._∷_
+      101
+      (List._∷_
       116
+      (List._∷_
+      115
       (List._∷_
       58
       (List._∷_
@@ -2060,7 +2446,7 @@ t16 = List._∷_ (
       84
       (List._∷_
       97
-      (List._∷_ 114 (List._∷_ 103 (List._∷_ 101 (List._∷_ 116 (List._∷_ 115 List.[]))))))))))))
+      (List._∷_ 114 (List._∷_ 103 (List._∷_ 101 (List._∷_ 116 (List._∷_ 115 List.[]))))))))))))))))
       (Syntax.tcons
       Syntax.tyBool
       (Syntax.tcons
@@ -2071,11 +2457,19 @@ t16 = List._∷_ (
   Rows'.any-gone
       (Syntax.tyStruct
       (List._∷_
+      116
+      (List._∷_
       97
       (List._∷_
       114
       (List._∷_
+      103
+      (List._∷_
+      101
+      (List._∷_
       116
+      (List._∷_
+      115
       (List._∷_
       58
       (List._∷_
@@ -2084,7 +2478,7 @@ t16 = List._∷_ (
       84
       (List._∷_
       97
-      (List._∷_ 114 (List._∷_ 103 (List._∷_ 101 (List._∷_ 116 (List._∷_ 115 List.[]))))))))))))
+      (List._∷_ 114 (List._∷_ 103 (List._∷_ 101 (List._∷_ 116 (List._∷_ 115 List.[]))))))))))))))))
       (Syntax.tcons
       Syntax.tyBool
       (Syntax.tcons
@@ -2095,11 +2489,19 @@ t16 = List._∷_ (
   Rows'.any-gone
       (Syntax.tyStruct
       (List._∷_
+      116
+      (List._∷_
       97
       (List._∷_
       114
       (List._∷_
+      103
+      (List._∷_
+      101
+      (List._∷_
       116
+      (List._∷_
+      115
       (List._∷_
       58
       (List._∷_
@@ -2108,7 +2510,7 @@ t16 = List._∷_ (
       84
       (List._∷_
       97
-      (List._∷_ 114 (List._∷_ 103 (List._∷_ 101 (List._∷_ 116 (List._∷_ 115 List.[]))))))))))))
+      (List._∷_ 114 (List._∷_ 103 (List._∷_ 101 (List._∷_ 116 (List._∷_ 115 List.[]))))))))))))))))
       (Syntax.tcons
       Syntax.tyBool
       (Syntax.tcons
@@ -2143,11 +2545,19 @@ t17 = List._∷_ (
   Rows'.any-gone
       (Syntax.tyStruct
       (List._∷_
+      116
+      (List._∷_
       97
       (List._∷_
       114
       (List._∷_
+      103
+      (List._∷_
+      101
+      (List._∷_
       116
+      (List._∷_
+      115
       (List._∷_
       58
       (List._∷_
@@ -2156,7 +2566,7 @@ t17 = List._∷_ (
       84
       (List._∷_
       97
-      (List._∷_ 114 (List._∷_ 103 (List._∷_ 101 (List._∷_ 116 (List._∷_ 115 List.[]))))))))))))
+      (List._∷_ 114 (List._∷_ 103 (List._∷_ 101 (List._∷_ 116 (List._∷_ 115 List.[]))))))))))))))))
       (Syntax.tcons
       Syntax.tyBool
       (Syntax.tcons
@@ -2167,11 +2577,19 @@ t17 = List._∷_ (
   Rows'.any-gone
       (Syntax.tyStruct
       (List._∷_
+      116
+      (List._∷_
       97
       (List._∷_
       114
       (List._∷_
+      103
+      (List._∷_
+      101
+      (List._∷_
       116
+      (List._∷_
+      115
       (List._∷_
       58
       (List._∷_
@@ -2180,7 +2598,7 @@ t17 = List._∷_ (
       84
       (List._∷_
       97
-      (List._∷_ 114 (List._∷_ 103 (List._∷_ 101 (List._∷_ 116 (List._∷_ 115 List.[]))))))))))))
+      (List._∷_ 114 (List._∷_ 103 (List._∷_ 101 (List._∷_ 116 (List._∷_ 115 List.[]))))))))))))))))
       (Syntax.tcons
       Syntax.tyBool
       (Syntax.tcons
@@ -2191,11 +2609,19 @@ t17 = List._∷_ (
   Rows'.any-gone
       (Syntax.tyStruct
       (List._∷_
+      116
+      (List._∷_
       97
       (List._∷_
       114
       (List._∷_
+      103
+      (List._∷_
+      101
+      (List._∷_
       116
+      (List._∷_
+      115
       (List._∷_
       58
       (List._∷_
@@ -2204,7 +2630,7 @@ t17 = List._∷_ (
       84
       (List._∷_
       97
-      (List._∷_ 114 (List._∷_ 103 (List._∷_ 101 (List._∷_ 116 (List._∷_ 115 List.[]))))))))))))
+      (List._∷_ 114 (List._∷_ 103 (List._∷_ 101 (List._∷_ 116 (List._∷_ 115 List.[]))))))))))))))))
       (Syntax.tcons
       Syntax.tyBool
       (Syntax.tcons
@@ -2239,11 +2665,19 @@ t18 = List._∷_ (
   Rows'.any-gone
       (Syntax.tyStruct
       (List._∷_
+      116
+      (List._∷_
       97
       (List._∷_
       114
       (List._∷_
+      103
+      (List._∷_
+      101
+      (List._∷_
       116
+      (List._∷_
+      115
       (List._∷_
       58
       (List._∷_
@@ -2252,7 +2686,7 @@ t18 = List._∷_ (
       84
       (List._∷_
       97
-      (List._∷_ 114 (List._∷_ 103 (List._∷_ 101 (List._∷_ 116 (List._∷_ 115 List.[]))))))))))))
+      (List._∷_ 114 (List._∷_ 103 (List._∷_ 101 (List._∷_ 116 (List._∷_ 115 List.[]))))))))))))))))
       (Syntax.tcons
       Syntax.tyBool
       (Syntax.tcons
@@ -2263,11 +2697,19 @@ t18 = List._∷_ (
   Rows'.any-gone
       (Syntax.tyStruct
       (List._∷_
+      116
+      (List._∷_
       97
       (List._∷_
       114
       (List._∷_
+      103
+      (List._∷_
+      101
+      (List._∷_
       116
+      (List._∷_
+      115
       (List._∷_
       58
       (List._∷_
@@ -2276,7 +2718,7 @@ t18 = List._∷_ (
       84
       (List._∷_
       97
-      (List._∷_ 114 (List._∷_ 103 (List._∷_ 101 (List._∷_ 116 (List._∷_ 115 List.[]))))))))))))
+      (List._∷_ 114 (List._∷_ 103 (List._∷_ 101 (List._∷_ 116 (List._∷_ 115 List.[]))))))))))))))))
       (Syntax.tcons
       Syntax.tyBool
       (Syntax.tcons
@@ -2287,11 +2729,19 @@ t18 = List._∷_ (
   Rows'.any-gone
       (Syntax.tyStruct
       (List._∷_
+      116
+      (List._∷_
       97
       (List._∷_
       114
       (List._∷_
+      103
+      (List._∷_
+      101
+      (List._∷_
       116
+      (List._∷_
+      115
       (List._∷_
       58
       (List._∷_
@@ -2300,7 +2750,7 @@ t18 = List._∷_ (
       84
       (List._∷_
       97
-      (List._∷_ 114 (List._∷_ 103 (List._∷_ 101 (List._∷_ 116 (List._∷_ 115 List.[]))))))))))))
+      (List._∷_ 114 (List._∷_ 103 (List._∷_ 101 (List._∷_ 116 (List._∷_ 115 List.[]))))))))))))))))
       (Syntax.tcons
       Syntax.tyBool
       (Syntax.tcons
@@ -2335,11 +2785,19 @@ t19 = List._∷_ (
   Rows'.any-gone
       (Syntax.tyStruct
       (List._∷_
+      116
+      (List._∷_
       97
       (List._∷_
       114
       (List._∷_
+      103
+      (List._∷_
+      101
+      (List._∷_
       116
+      (List._∷_
+      115
       (List._∷_
       58
       (List._∷_
@@ -2348,7 +2806,7 @@ t19 = List._∷_ (
       84
       (List._∷_
       97
-      (List._∷_ 114 (List._∷_ 103 (List._∷_ 101 (List._∷_ 116 (List._∷_ 115 List.[]))))))))))))
+      (List._∷_ 114 (List._∷_ 103 (List._∷_ 101 (List._∷_ 116 (List._∷_ 115 List.[]))))))))))))))))
       (Syntax.tcons
       Syntax.tyBool
       (Syntax.tcons
@@ -2359,11 +2817,19 @@ t19 = List._∷_ (
   Rows'.any-gone
       (Syntax.tyStruct
       (List._∷_
+      116
+      (List._∷_
       97
       (List._∷_
       114
       (List._∷_
+      103
+      (List._∷_
+      101
+      (List._∷_
       116
+      (List._∷_
+      115
       (List._∷_
       58
       (List._∷_
@@ -2372,7 +2838,7 @@ t19 = List._∷_ (
       84
       (List._∷_
       97
-      (List._∷_ 114 (List._∷_ 103 (List._∷_ 101 (List._∷_ 116 (List._∷_ 115 List.[]))))))))))))
+      (List._∷_ 114 (List._∷_ 103 (List._∷_ 101 (List._∷_ 116 (List._∷_ 115 List.[]))))))))))))))))
       (Syntax.tcons
       Syntax.tyBool
       (Syntax.tcons
@@ -2383,11 +2849,19 @@ t19 = List._∷_ (
   Rows'.any-gone
       (Syntax.tyStruct
       (List._∷_
+      116
+      (List._∷_
       97
       (List._∷_
       114
       (List._∷_
+      103
+      (List._∷_
+      101
+      (List._∷_
       116
+      (List._∷_
+      115
       (List._∷_
       58
       (List._∷_
@@ -2396,7 +2870,7 @@ t19 = List._∷_ (
       84
       (List._∷_
       97
-      (List._∷_ 114 (List._∷_ 103 (List._∷_ 101 (List._∷_ 116 (List._∷_ 115 List.[]))))))))))))
+      (List._∷_ 114 (List._∷_ 103 (List._∷_ 101 (List._∷_ 116 (List._∷_ 115 List.[]))))))))))))))))
       (Syntax.tcons
       Syntax.tyBool
       (Syntax.tcons
@@ -2431,11 +2905,19 @@ t20 = List._∷_ (
   Rows'.any-gone
       (Syntax.tyStruct
       (List._∷_
+      116
+      (List._∷_
       97
       (List._∷_
       114
       (List._∷_
+      103
+      (List._∷_
+      101
+      (List._∷_
       116
+      (List._∷_
+      115
       (List._∷_
       58
       (List._∷_
@@ -2444,7 +2926,7 @@ t20 = List._∷_ (
       84
       (List._∷_
       97
-      (List._∷_ 114 (List._∷_ 103 (List._∷_ 101 (List._∷_ 116 (List._∷_ 115 List.[]))))))))))))
+      (List._∷_ 114 (List._∷_ 103 (List._∷_ 101 (List._∷_ 116 (List._∷_ 115 List.[]))))))))))))))))
       (Syntax.tcons
       Syntax.tyBool
       (Syntax.tcons
@@ -2455,11 +2937,19 @@ t20 = List._∷_ (
   Rows'.any-gone
       (Syntax.tyStruct
       (List._∷_
+      116
+      (List._∷_
       97
       (List._∷_
       114
       (List._∷_
+      103
+      (List._∷_
+      101
+      (List._∷_
       116
+      (List._∷_
+      115
       (List._∷_
       58
       (List._∷_
@@ -2468,7 +2958,7 @@ t20 = List._∷_ (
       84
       (List._∷_
       97
-      (List._∷_ 114 (List._∷_ 103 (List._∷_ 101 (List._∷_ 116 (List._∷_ 115 List.[]))))))))))))
+      (List._∷_ 114 (List._∷_ 103 (List._∷_ 101 (List._∷_ 116 (List._∷_ 115 List.[]))))))))))))))))
       (Syntax.tcons
       Syntax.tyBool
       (Syntax.tcons
@@ -2479,11 +2969,19 @@ t20 = List._∷_ (
   Rows'.any-gone
       (Syntax.tyStruct
       (List._∷_
+      116
+      (List._∷_
       97
       (List._∷_
       114
       (List._∷_
+      103
+      (List._∷_
+      101
+      (List._∷_
       116
+      (List._∷_
+      115
       (List._∷_
       58
       (List._∷_
@@ -2492,7 +2990,7 @@ t20 = List._∷_ (
       84
       (List._∷_
       97
-      (List._∷_ 114 (List._∷_ 103 (List._∷_ 101 (List._∷_ 116 (List._∷_ 115 List.[]))))))))))))
+      (List._∷_ 114 (List._∷_ 103 (List._∷_ 101 (List._∷_ 116 (List._∷_ 115 List.[]))))))))))))))))
       (Syntax.tcons
       Syntax.tyBool
       (Syntax.tcons
@@ -2524,11 +3022,19 @@ t21 = List._∷_ (
   Rows'.any-gone
       (Syntax.tyStruct
       (List._∷_
+      116
+      (List._∷_
       97
       (List._∷_
       114
       (List._∷_
+      103
+      (List._∷_
+      101
+      (List._∷_
       116
+      (List._∷_
+      115
       (List._∷_
       58
       (List._∷_
@@ -2537,7 +3043,7 @@ t21 = List._∷_ (
       84
       (List._∷_
       97
-      (List._∷_ 114 (List._∷_ 103 (List._∷_ 101 (List._∷_ 116 (List._∷_ 115 List.[]))))))))))))
+      (List._∷_ 114 (List._∷_ 103 (List._∷_ 101 (List._∷_ 116 (List._∷_ 115 List.[]))))))))))))))))
       (Syntax.tcons
       Syntax.tyBool
       (Syntax.tcons
@@ -2548,11 +3054,19 @@ t21 = List._∷_ (
   Rows'.any-gone
       (Syntax.tyStruct
       (List._∷_
+      116
+      (List._∷_
       97
       (List._∷_
       114
       (List._∷_
+      103
+      (List._∷_
+      101
+      (List._∷_
       116
+      (List._∷_
+      115
       (List._∷_
       58
       (List._∷_
@@ -2561,7 +3075,7 @@ t21 = List._∷_ (
       84
       (List._∷_
       97
-      (List._∷_ 114 (List._∷_ 103 (List._∷_ 101 (List._∷_ 116 (List._∷_ 115 List.[]))))))))))))
+      (List._∷_ 114 (List._∷_ 103 (List._∷_ 101 (List._∷_ 116 (List._∷_ 115 List.[]))))))))))))))))
       (Syntax.tcons
       Syntax.tyBool
       (Syntax.tcons
@@ -2572,11 +3086,19 @@ t21 = List._∷_ (
   Rows'.any-gone
       (Syntax.tyStruct
       (List._∷_
+      116
+      (List._∷_
       97
       (List._∷_
       114
       (List._∷_
+      103
+      (List._∷_
+      101
+      (List._∷_
       116
+      (List._∷_
+      115
       (List._∷_
       58
       (List._∷_
@@ -2585,7 +3107,7 @@ t21 = List._∷_ (
       84
       (List._∷_
       97
-      (List._∷_ 114 (List._∷_ 103 (List._∷_ 101 (List._∷_ 116 (List._∷_ 115 List.[]))))))))))))
+      (List._∷_ 114 (List._∷_ 103 (List._∷_ 101 (List._∷_ 116 (List._∷_ 115 List.[]))))))))))))))))
       (Syntax.tcons
       Syntax.tyBool
       (Syntax.tcons
@@ -2617,11 +3139,19 @@ t22 = List._∷_ (
   Rows'.any-gone
       (Syntax.tyStruct
       (List._∷_
+      116
+      (List._∷_
       97
       (List._∷_
       114
       (List._∷_
+      103
+      (List._∷_
+      101
+      (List._∷_
       116
+      (List._∷_
+      115
       (List._∷_
       58
       (List._∷_
@@ -2630,7 +3160,7 @@ t22 = List._∷_ (
       84
       (List._∷_
       97
-      (List._∷_ 114 (List._∷_ 103 (List._∷_ 101 (List._∷_ 116 (List._∷_ 115 List.[]))))))))))))
+      (List._∷_ 114 (List._∷_ 103 (List._∷_ 101 (List._∷_ 116 (List._∷_ 115 List.[]))))))))))))))))
       (Syntax.tcons
       Syntax.tyBool
       (Syntax.tcons
@@ -2641,11 +3171,19 @@ t22 = List._∷_ (
   Rows'.any-gone
       (Syntax.tyStruct
       (List._∷_
+      116
+      (List._∷_
       97
       (List._∷_
       114
       (List._∷_
+      103
+      (List._∷_
+      101
+      (List._∷_
       116
+      (List._∷_
+      115
       (List._∷_
       58
       (List._∷_
@@ -2654,7 +3192,7 @@ t22 = List._∷_ (
       84
       (List._∷_
       97
-      (List._∷_ 114 (List._∷_ 103 (List._∷_ 101 (List._∷_ 116 (List._∷_ 115 List.[]))))))))))))
+      (List._∷_ 114 (List._∷_ 103 (List._∷_ 101 (List._∷_ 116 (List._∷_ 115 List.[]))))))))))))))))
       (Syntax.tcons
       Syntax.tyBool
       (Syntax.tcons
@@ -2665,11 +3203,19 @@ t22 = List._∷_ (
   Rows'.any-gone
       (Syntax.tyStruct
       (List._∷_
+      116
+      (List._∷_
       97
       (List._∷_
       114
       (List._∷_
+      103
+      (List._∷_
+      101
+      (List._∷_
       116
+      (List._∷_
+      115
       (List._∷_
       58
       (List._∷_
@@ -2678,7 +3224,7 @@ t22 = List._∷_ (
       84
       (List._∷_
       97
-      (List._∷_ 114 (List._∷_ 103 (List._∷_ 101 (List._∷_ 116 (List._∷_ 115 List.[]))))))))))))
+      (List._∷_ 114 (List._∷_ 103 (List._∷_ 101 (List._∷_ 116 (List._∷_ 115 List.[]))))))))))))))))
       (Syntax.tcons
       Syntax.tyBool
       (Syntax.tcons
@@ -2710,11 +3256,19 @@ t23 = List._∷_ (
   Rows'.any-gone
       (Syntax.tyStruct
       (List._∷_
+      116
+      (List._∷_
       97
       (List._∷_
       114
       (List._∷_
+      103
+      (List._∷_
+      101
+      (List._∷_
       116
+      (List._∷_
+      115
       (List._∷_
       58
       (List._∷_
@@ -2723,7 +3277,7 @@ t23 = List._∷_ (
       84
       (List._∷_
       97
-      (List._∷_ 114 (List._∷_ 103 (List._∷_ 101 (List._∷_ 116 (List._∷_ 115 List.[]))))))))))))
+      (List._∷_ 114 (List._∷_ 103 (List._∷_ 101 (List._∷_ 116 (List._∷_ 115 List.[]))))))))))))))))
       (Syntax.tcons
       Syntax.tyBool
       (Syntax.tcons
@@ -2734,11 +3288,19 @@ t23 = List._∷_ (
   Rows'.any-gone
       (Syntax.tyStruct
       (List._∷_
+      116
+      (List._∷_
       97
       (List._∷_
       114
       (List._∷_
+      103
+      (List._∷_
+      101
+      (List._∷_
       116
+      (List._∷_
+      115
       (List._∷_
       58
       (List._∷_
@@ -2747,7 +3309,7 @@ t23 = List._∷_ (
       84
       (List._∷_
       97
-      (List._∷_ 114 (List._∷_ 103 (List._∷_ 101 (List._∷_ 116 (List._∷_ 115 List.[]))))))))))))
+      (List._∷_ 114 (List._∷_ 103 (List._∷_ 101 (List._∷_ 116 (List._∷_ 115 List.[]))))))))))))))))
       (Syntax.tcons
       Syntax.tyBool
       (Syntax.tcons
@@ -2758,11 +3320,19 @@ t23 = List._∷_ (
   Rows'.any-gone
       (Syntax.tyStruct
       (List._∷_
+      116
+      (List._∷_
       97
       (List._∷_
       114
       (List._∷_
+      103
+      (List._∷_
+      101
+      (List._∷_
       116
+      (List._∷_
+      115
       (List._∷_
       58
       (List._∷_
@@ -2771,7 +3341,7 @@ t23 = List._∷_ (
       84
       (List._∷_
       97
-      (List._∷_ 114 (List._∷_ 103 (List._∷_ 101 (List._∷_ 116 (List._∷_ 115 List.[]))))))))))))
+      (List._∷_ 114 (List._∷_ 103 (List._∷_ 101 (List._∷_ 116 (List._∷_ 115 List.[]))))))))))))))))
       (Syntax.tcons
       Syntax.tyBool
       (Syntax.tcons
@@ -2803,11 +3373,19 @@ t24 = List._∷_ (
   Rows'.any-gone
       (Syntax.tyStruct
       (List._∷_
+      116
+      (List._∷_
       97
       (List._∷_
       114
       (List._∷_
+      103
+      (List._∷_
+      101
+      (List._∷_
       116
+      (List._∷_
+      115
       (List._∷_
       58
       (List._∷_
@@ -2816,7 +3394,7 @@ t24 = List._∷_ (
       84
       (List._∷_
       97
-      (List._∷_ 114 (List._∷_ 103 (List._∷_ 101 (List._∷_ 116 (List._∷_ 115 List.[]))))))))))))
+      (List._∷_ 114 (List._∷_ 103 (List._∷_ 101 (List._∷_ 116 (List._∷_ 115 List.[]))))))))))))))))
       (Syntax.tcons
       Syntax.tyBool
       (Syntax.tcons
@@ -2827,11 +3405,19 @@ t24 = List._∷_ (
   Rows'.any-gone
       (Syntax.tyStruct
       (List._∷_
+      116
+      (List._∷_
       97
       (List._∷_
       114
       (List._∷_
+      103
+      (List._∷_
+      101
+      (List._∷_
       116
+      (List._∷_
+      115
       (List._∷_
       58
       (List._∷_
@@ -2840,7 +3426,7 @@ t24 = List._∷_ (
       84
       (List._∷_
       97
-      (List._∷_ 114 (List._∷_ 103 (List._∷_ 101 (List._∷_ 116 (List._∷_ 115 List.[]))))))))))))
+      (List._∷_ 114 (List._∷_ 103 (List._∷_ 101 (List._∷_ 116 (List._∷_ 115 List.[]))))))))))))))))
       (Syntax.tcons
       Syntax.tyBool
       (Syntax.tcons
@@ -2851,11 +3437,19 @@ t24 = List._∷_ (
   Rows'.any-gone
       (Syntax.tyStruct
       (List._∷_
+      116
+      (List._∷_
       97
       (List._∷_
       114
       (List._∷_
+      103
+      (List._∷_
+      101
+      (List._∷_
       116
+      (List._∷_
+      115
       (List._∷_
       58
       (List._∷_
@@ -2864,7 +3458,7 @@ t24 = List._∷_ (
       84
       (List._∷_
       97
-      (List._∷_ 114 (List._∷_ 103 (List._∷_ 101 (List._∷_ 116 (List._∷_ 115 List.[]))))))))))))
+      (List._∷_ 114 (List._∷_ 103 (List._∷_ 101 (List._∷_ 116 (List._∷_ 115 List.[]))))))))))))))))
       (Syntax.tcons
       Syntax.tyBool
       (Syntax.tcons
@@ -2896,11 +3490,19 @@ t25 = List._∷_ (
   Rows'.any-gone
       (Syntax.tyStruct
       (List._∷_
+      116
+      (List._∷_
       97
       (List._∷_
       114
       (List._∷_
+      103
+      (List._∷_
+      101
+      (List._∷_
       116
+      (List._∷_
+      115
       (List._∷_
       58
       (List._∷_
@@ -2909,7 +3511,7 @@ t25 = List._∷_ (
       84
       (List._∷_
       97
-      (List._∷_ 114 (List._∷_ 103 (List._∷_ 101 (List._∷_ 116 (List._∷_ 115 List.[]))))))))))))
+      (List._∷_ 114 (List._∷_ 103 (List._∷_ 101 (List._∷_ 116 (List._∷_ 115 List.[]))))))))))))))))
       (Syntax.tcons
       Syntax.tyBool
       (Syntax.tcons
@@ -2920,11 +3522,19 @@ t25 = List._∷_ (
   Rows'.any-gone
       (Syntax.tyStruct
       (List._∷_
+      116
+      (List._∷_
       97
       (List._∷_
       114
       (List._∷_
+      103
+      (List._∷_
+      101
+      (List._∷_
       116
+      (List._∷_
+      115
       (List._∷_
       58
       (List._∷_
@@ -2933,7 +3543,7 @@ t25 = List._∷_ (
       84
       (List._∷_
       97
-      (List._∷_ 114 (List._∷_ 103 (List._∷_ 101 (List._∷_ 116 (List._∷_ 115 List.[]))))))))))))
+      (List._∷_ 114 (List._∷_ 103 (List._∷_ 101 (List._∷_ 116 (List._∷_ 115 List.[]))))))))))))))))
       (Syntax.tcons
       Syntax.tyBool
       (Syntax.tcons
@@ -2944,11 +3554,19 @@ t25 = List._∷_ (
   Rows'.any-gone
       (Syntax.tyStruct
       (List._∷_
+      116
+      (List._∷_
       97
       (List._∷_
       114
       (List._∷_
+      103
+      (List._∷_
+      101
+      (List._∷_
       116
+      (List._∷_
+      115
       (List._∷_
       58
       (List._∷_
@@ -2957,7 +3575,7 @@ t25 = List._∷_ (
       84
       (List._∷_
       97
-      (List._∷_ 114 (List._∷_ 103 (List._∷_ 101 (List._∷_ 116 (List._∷_ 115 List.[]))))))))))))
+      (List._∷_ 114 (List._∷_ 103 (List._∷_ 101 (List._∷_ 116 (List._∷_ 115 List.[]))))))))))))))))
       (Syntax.tcons
       Syntax.tyBool
       (Syntax.tcons
@@ -2992,11 +3610,19 @@ t26 = List._∷_ (
   Rows'.any-gone
       (Syntax.tyStruct
       (List._∷_
+      116
+      (List._∷_
       97
       (List._∷_
       114
       (List._∷_
+      103
+      (List._∷_
+      101
+      (List._∷_
       116
+      (List._∷_
+      115
       (List._∷_
       58
       (List._∷_
@@ -3005,7 +3631,7 @@ t26 = List._∷_ (
       84
       (List._∷_
       97
-      (List._∷_ 114 (List._∷_ 103 (List._∷_ 101 (List._∷_ 116 (List._∷_ 115 List.[]))))))))))))
+      (List._∷_ 114 (List._∷_ 103 (List._∷_ 101 (List._∷_ 116 (List._∷_ 115 List.[]))))))))))))))))
       (Syntax.tcons
       Syntax.tyBool
       (Syntax.tcons
@@ -3016,11 +3642,19 @@ t26 = List._∷_ (
   Rows'.any-gone
       (Syntax.tyStruct
       (List._∷_
+      116
+      (List._∷_
       97
       (List._∷_
       114
       (List._∷_
+      103
+      (List._∷_
+      101
+      (List._∷_
       116
+      (List._∷_
+      115
       (List._∷_
       58
       (List._∷_
@@ -3029,7 +3663,7 @@ t26 = List._∷_ (
       84
       (List._∷_
       97
-      (List._∷_ 114 (List._∷_ 103 (List._∷_ 101 (List._∷_ 116 (List._∷_ 115 List.[]))))))))))))
+      (List._∷_ 114 (List._∷_ 103 (List._∷_ 101 (List._∷_ 116 (List._∷_ 115 List.[]))))))))))))))))
       (Syntax.tcons
       Syntax.tyBool
       (Syntax.tcons
@@ -3040,11 +3674,19 @@ t26 = List._∷_ (
   Rows'.any-gone
       (Syntax.tyStruct
       (List._∷_
+      116
+      (List._∷_
       97
       (List._∷_
       114
       (List._∷_
+      103
+      (List._∷_
+      101
+      (List._∷_
       116
+      (List._∷_
+      115
       (List._∷_
       58
       (List._∷_
@@ -3053,7 +3695,7 @@ t26 = List._∷_ (
       84
       (List._∷_
       97
-      (List._∷_ 114 (List._∷_ 103 (List._∷_ 101 (List._∷_ 116 (List._∷_ 115 List.[]))))))))))))
+      (List._∷_ 114 (List._∷_ 103 (List._∷_ 101 (List._∷_ 116 (List._∷_ 115 List.[]))))))))))))))))
       (Syntax.tcons
       Syntax.tyBool
       (Syntax.tcons
@@ -3088,11 +3730,19 @@ t27 = List._∷_ (
   Rows'.any-gone
       (Syntax.tyStruct
       (List._∷_
+      116
+      (List._∷_
       97
       (List._∷_
       114
       (List._∷_
+      103
+      (List._∷_
+      101
+      (List._∷_
       116
+      (List._∷_
+      115
       (List._∷_
       58
       (List._∷_
@@ -3101,7 +3751,7 @@ t27 = List._∷_ (
       84
       (List._∷_
       97
-      (List._∷_ 114 (List._∷_ 103 (List._∷_ 101 (List._∷_ 116 (List._∷_ 115 List.[]))))))))))))
+      (List._∷_ 114 (List._∷_ 103 (List._∷_ 101 (List._∷_ 116 (List._∷_ 115 List.[]))))))))))))))))
       (Syntax.tcons
       Syntax.tyBool
       (Syntax.tcons
@@ -3112,11 +3762,19 @@ t27 = List._∷_ (
   Rows'.any-gone
       (Syntax.tyStruct
       (List._∷_
+      116
+      (List._∷_
       97
       (List._∷_
       114
       (List._∷_
+      103
+      (List._∷_
+      101
+      (List._∷_
       116
+      (List._∷_
+      115
       (List._∷_
       58
       (List._∷_
@@ -3125,7 +3783,7 @@ t27 = List._∷_ (
       84
       (List._∷_
       97
-      (List._∷_ 114 (List._∷_ 103 (List._∷_ 101 (List._∷_ 116 (List._∷_ 115 List.[]))))))))))))
+      (List._∷_ 114 (List._∷_ 103 (List._∷_ 101 (List._∷_ 116 (List._∷_ 115 List.[]))))))))))))))))
       (Syntax.tcons
       Syntax.tyBool
       (Syntax.tcons
@@ -3136,11 +3794,19 @@ t27 = List._∷_ (
   Rows'.any-gone
       (Syntax.tyStruct
       (List._∷_
+      116
+      (List._∷_
       97
       (List._∷_
       114
       (List._∷_
+      103
+      (List._∷_
+      101
+      (List._∷_
       116
+      (List._∷_
+      115
       (List._∷_
       58
       (List._∷_
@@ -3149,7 +3815,7 @@ t27 = List._∷_ (
       84
       (List._∷_
       97
-      (List._∷_ 114 (List._∷_ 103 (List._∷_ 101 (List._∷_ 116 (List._∷_ 115 List.[]))))))))))))
+      (List._∷_ 114 (List._∷_ 103 (List._∷_ 101 (List._∷_ 116 (List._∷_ 115 List.[]))))))))))))))))
       (Syntax.tcons
       Syntax.tyBool
       (Syntax.tcons
@@ -3184,11 +3850,19 @@ t28 = List._∷_ (
   Rows'.any-gone
       (Syntax.tyStruct
       (List._∷_
+      116
+      (List._∷_
       97
       (List._∷_
       114
       (List._∷_
+      103
+      (List._∷_
+      101
+      (List._∷_
       116
+      (List._∷_
+      115
       (List._∷_
       58
       (List._∷_
@@ -3197,7 +3871,7 @@ t28 = List._∷_ (
       84
       (List._∷_
       97
-      (List._∷_ 114 (List._∷_ 103 (List._∷_ 101 (List._∷_ 116 (List._∷_ 115 List.[]))))))))))))
+      (List._∷_ 114 (List._∷_ 103 (List._∷_ 101 (List._∷_ 116 (List._∷_ 115 List.[]))))))))))))))))
       (Syntax.tcons
       Syntax.tyBool
       (Syntax.tcons
@@ -3208,11 +3882,19 @@ t28 = List._∷_ (
   Rows'.any-gone
       (Syntax.tyStruct
       (List._∷_
+      116
+      (List._∷_
       97
       (List._∷_
       114
       (List._∷_
+      103
+      (List._∷_
+      101
+      (List._∷_
       116
+      (List._∷_
+      115
       (List._∷_
       58
       (List._∷_
@@ -3221,7 +3903,7 @@ t28 = List._∷_ (
       84
       (List._∷_
       97
-      (List._∷_ 114 (List._∷_ 103 (List._∷_ 101 (List._∷_ 116 (List._∷_ 115 List.[]))))))))))))
+      (List._∷_ 114 (List._∷_ 103 (List._∷_ 101 (List._∷_ 116 (List._∷_ 115 List.[]))))))))))))))))
       (Syntax.tcons
       Syntax.tyBool
       (Syntax.tcons
@@ -3232,11 +3914,19 @@ t28 = List._∷_ (
   Rows'.any-gone
       (Syntax.tyStruct
       (List._∷_
+      116
+      (List._∷_
       97
       (List._∷_
       114
       (List._∷_
+      103
+      (List._∷_
+      101
+      (List._∷_
       116
+      (List._∷_
+      115
       (List._∷_
       58
       (List._∷_
@@ -3245,7 +3935,7 @@ t28 = List._∷_ (
       84
       (List._∷_
       97
-      (List._∷_ 114 (List._∷_ 103 (List._∷_ 101 (List._∷_ 116 (List._∷_ 115 List.[]))))))))))))
+      (List._∷_ 114 (List._∷_ 103 (List._∷_ 101 (List._∷_ 116 (List._∷_ 115 List.[]))))))))))))))))
       (Syntax.tcons
       Syntax.tyBool
       (Syntax.tcons
@@ -3316,11 +4006,19 @@ t31 = List._∷_ (
   Rows'.any-gone
       (Syntax.tyStruct
       (List._∷_
+      116
+      (List._∷_
       97
       (List._∷_
       114
       (List._∷_
+      103
+      (List._∷_
+      101
+      (List._∷_
       116
+      (List._∷_
+      115
       (List._∷_
       58
       (List._∷_
@@ -3329,7 +4027,7 @@ t31 = List._∷_ (
       84
       (List._∷_
       97
-      (List._∷_ 114 (List._∷_ 103 (List._∷_ 101 (List._∷_ 116 (List._∷_ 115 List.[]))))))))))))
+      (List._∷_ 114 (List._∷_ 103 (List._∷_ 101 (List._∷_ 116 (List._∷_ 115 List.[]))))))))))))))))
       (Syntax.tcons
       Syntax.tyBool
       (Syntax.tcons
@@ -3340,11 +4038,19 @@ t31 = List._∷_ (
   Rows'.any-gone
       (Syntax.tyStruct
       (List._∷_
+      116
+      (List._∷_
       97
       (List._∷_
       114
       (List._∷_
+      103
+      (List._∷_
+      101
+      (List._∷_
       116
+      (List._∷_
+      115
       (List._∷_
       58
       (List._∷_
@@ -3353,7 +4059,7 @@ t31 = List._∷_ (
       84
       (List._∷_
       97
-      (List._∷_ 114 (List._∷_ 103 (List._∷_ 101 (List._∷_ 116 (List._∷_ 115 List.[]))))))))))))
+      (List._∷_ 114 (List._∷_ 103 (List._∷_ 101 (List._∷_ 116 (List._∷_ 115 List.[]))))))))))))))))
       (Syntax.tcons
       Syntax.tyBool
       (Syntax.tcons
@@ -3364,11 +4070,19 @@ t31 = List._∷_ (
   Rows'.any-gone
       (Syntax.tyStruct
       (List._∷_
+      116
+      (List._∷_
       97
       (List._∷_
       114
       (List._∷_
+      103
+      (List._∷_
+      101
+      (List._∷_
       116
+      (List._∷_
+      115
       (List._∷_
       58
       (List._∷_
@@ -3377,7 +4091,7 @@ t31 = List._∷_ (
       84
       (List._∷_
       97
-      (List._∷_ 114 (List._∷_ 103 (List._∷_ 101 (List._∷_ 116 (List._∷_ 115 List.[]))))))))))))
+      (List._∷_ 114 (List._∷_ 103 (List._∷_ 101 (List._∷_ 116 (List._∷_ 115 List.[]))))))))))))))))
       (Syntax.tcons
       Syntax.tyBool
       (Syntax.tcons
@@ -3412,11 +4126,19 @@ t32 = List._∷_ (
   Rows'.any-gone
       (Syntax.tyStruct
       (List._∷_
+      116
+      (List._∷_
       97
       (List._∷_
       114
       (List._∷_
+      103
+      (List._∷_
+      101
+      (List._∷_
       116
+      (List._∷_
+      115
       (List._∷_
       58
       (List._∷_
@@ -3425,7 +4147,7 @@ t32 = List._∷_ (
       84
       (List._∷_
       97
-      (List._∷_ 114 (List._∷_ 103 (List._∷_ 101 (List._∷_ 116 (List._∷_ 115 List.[]))))))))))))
+      (List._∷_ 114 (List._∷_ 103 (List._∷_ 101 (List._∷_ 116 (List._∷_ 115 List.[]))))))))))))))))
       (Syntax.tcons
       Syntax.tyBool
       (Syntax.tcons
@@ -3436,11 +4158,19 @@ t32 = List._∷_ (
   Rows'.any-gone
       (Syntax.tyStruct
       (List._∷_
+      116
+      (List._∷_
       97
       (List._∷_
       114
       (List._∷_
+      103
+      (List._∷_
+      101
+      (List._∷_
       116
+      (List._∷_
+      115
       (List._∷_
       58
       (List._∷_
@@ -3449,7 +4179,7 @@ t32 = List._∷_ (
       84
       (List._∷_
       97
-      (List._∷_ 114 (List._∷_ 103 (List._∷_ 101 (List._∷_ 116 (List._∷_ 115 List.[]))))))))))))
+      (List._∷_ 114 (List._∷_ 103 (List._∷_ 101 (List._∷_ 116 (List._∷_ 115 List.[]))))))))))))))))
       (Syntax.tcons
       Syntax.tyBool
       (Syntax.tcons
@@ -3460,11 +4190,19 @@ t32 = List._∷_ (
   Rows'.any-gone
       (Syntax.tyStruct
       (List._∷_
+      116
+      (List._∷_
       97
       (List._∷_
       114
       (List._∷_
+      103
+      (List._∷_
+      101
+      (List._∷_
       116
+      (List._∷_
+      115
       (List._∷_
       58
       (List._∷_
@@ -3473,7 +4211,7 @@ t32 = List._∷_ (
       84
       (List._∷_
       97
-      (List._∷_ 114 (List._∷_ 103 (List._∷_ 101 (List._∷_ 116 (List._∷_ 115 List.[]))))))))))))
+      (List._∷_ 114 (List._∷_ 103 (List._∷_ 101 (List._∷_ 116 (List._∷_ 115 List.[]))))))))))))))))
       (Syntax.tcons
       Syntax.tyBool
       (Syntax.tcons
@@ -3508,11 +4246,19 @@ t33 = List._∷_ (0, Rows'.whole (Declared.row Targets.the-type)) (List._∷_ (
   Rows'.any-gone
       (Syntax.tyStruct
       (List._∷_
+      116
+      (List._∷_
       97
       (List._∷_
       114
       (List._∷_
+      103
+      (List._∷_
+      101
+      (List._∷_
       116
+      (List._∷_
+      115
       (List._∷_
       58
       (List._∷_
@@ -3521,7 +4267,7 @@ t33 = List._∷_ (0, Rows'.whole (Declared.row Targets.the-type)) (List._∷_ (
       84
       (List._∷_
       97
-      (List._∷_ 114 (List._∷_ 103 (List._∷_ 101 (List._∷_ 116 (List._∷_ 115 List.[]))))))))))))
+      (List._∷_ 114 (List._∷_ 103 (List._∷_ 101 (List._∷_ 116 (List._∷_ 115 List.[]))))))))))))))))
       (Syntax.tcons
       Syntax.tyBool
       (Syntax.tcons
@@ -3532,11 +4278,19 @@ t33 = List._∷_ (0, Rows'.whole (Declared.row Targets.the-type)) (List._∷_ (
   Rows'.any-gone
       (Syntax.tyStruct
       (List._∷_
+      116
+      (List._∷_
       97
       (List._∷_
       114
       (List._∷_
+      103
+      (List._∷_
+      101
+      (List._∷_
       116
+      (List._∷_
+      115
       (List._∷_
       58
       (List._∷_
@@ -3545,7 +4299,7 @@ t33 = List._∷_ (0, Rows'.whole (Declared.row Targets.the-type)) (List._∷_ (
       84
       (List._∷_
       97
-      (List._∷_ 114 (List._∷_ 103 (List._∷_ 101 (List._∷_ 116 (List._∷_ 115 List.[]))))))))))))
+      (List._∷_ 114 (List._∷_ 103 (List._∷_ 101 (List._∷_ 116 (List._∷_ 115 List.[]))))))))))))))))
       (Syntax.tcons
       Syntax.tyBool
       (Syntax.tcons
@@ -3580,11 +4334,19 @@ t34 = List._∷_ (0, Rows'.whole (Declared.row Targets.the-type)) (List._∷_ (
   Rows'.any-gone
       (Syntax.tyStruct
       (List._∷_
+      116
+      (List._∷_
       97
       (List._∷_
       114
       (List._∷_
+      103
+      (List._∷_
+      101
+      (List._∷_
       116
+      (List._∷_
+      115
       (List._∷_
       58
       (List._∷_
@@ -3593,7 +4355,7 @@ t34 = List._∷_ (0, Rows'.whole (Declared.row Targets.the-type)) (List._∷_ (
       84
       (List._∷_
       97
-      (List._∷_ 114 (List._∷_ 103 (List._∷_ 101 (List._∷_ 116 (List._∷_ 115 List.[]))))))))))))
+      (List._∷_ 114 (List._∷_ 103 (List._∷_ 101 (List._∷_ 116 (List._∷_ 115 List.[]))))))))))))))))
       (Syntax.tcons
       Syntax.tyBool
       (Syntax.tcons
@@ -3604,11 +4366,19 @@ t34 = List._∷_ (0, Rows'.whole (Declared.row Targets.the-type)) (List._∷_ (
   Rows'.any-gone
       (Syntax.tyStruct
       (List._∷_
+      116
+      (List._∷_
       97
       (List._∷_
       114
       (List._∷_
+      103
+      (List._∷_
+      101
+      (List._∷_
       116
+      (List._∷_
+      115
       (List._∷_
       58
       (List._∷_
@@ -3617,7 +4387,7 @@ t34 = List._∷_ (0, Rows'.whole (Declared.row Targets.the-type)) (List._∷_ (
       84
       (List._∷_
       97
-      (List._∷_ 114 (List._∷_ 103 (List._∷_ 101 (List._∷_ 116 (List._∷_ 115 List.[]))))))))))))
+      (List._∷_ 114 (List._∷_ 103 (List._∷_ 101 (List._∷_ 116 (List._∷_ 115 List.[]))))))))))))))))
       (Syntax.tcons
       Syntax.tyBool
       (Syntax.tcons
@@ -3652,11 +4422,19 @@ t35 = List._∷_ (0, Rows'.whole (Declared.row Targets.the-type)) (List._∷_ (
   Rows'.any-gone
       (Syntax.tyStruct
       (List._∷_
+      116
+      (List._∷_
       97
       (List._∷_
       114
       (List._∷_
+      103
+      (List._∷_
+      101
+      (List._∷_
       116
+      (List._∷_
+      115
       (List._∷_
       58
       (List._∷_
@@ -3665,7 +4443,7 @@ t35 = List._∷_ (0, Rows'.whole (Declared.row Targets.the-type)) (List._∷_ (
       84
       (List._∷_
       97
-      (List._∷_ 114 (List._∷_ 103 (List._∷_ 101 (List._∷_ 116 (List._∷_ 115 List.[]))))))))))))
+      (List._∷_ 114 (List._∷_ 103 (List._∷_ 101 (List._∷_ 116 (List._∷_ 115 List.[]))))))))))))))))
       (Syntax.tcons
       Syntax.tyBool
       (Syntax.tcons
@@ -3676,11 +4454,19 @@ t35 = List._∷_ (0, Rows'.whole (Declared.row Targets.the-type)) (List._∷_ (
   Rows'.any-gone
       (Syntax.tyStruct
       (List._∷_
+      116
+      (List._∷_
       97
       (List._∷_
       114
       (List._∷_
+      103
+      (List._∷_
+      101
+      (List._∷_
       116
+      (List._∷_
+      115
       (List._∷_
       58
       (List._∷_
@@ -3689,7 +4475,7 @@ t35 = List._∷_ (0, Rows'.whole (Declared.row Targets.the-type)) (List._∷_ (
       84
       (List._∷_
       97
-      (List._∷_ 114 (List._∷_ 103 (List._∷_ 101 (List._∷_ 116 (List._∷_ 115 List.[]))))))))))))
+      (List._∷_ 114 (List._∷_ 103 (List._∷_ 101 (List._∷_ 116 (List._∷_ 115 List.[]))))))))))))))))
       (Syntax.tcons
       Syntax.tyBool
       (Syntax.tcons
@@ -3724,11 +4510,19 @@ t36 = List._∷_ (0, Rows'.whole (Declared.row Targets.the-type)) (List._∷_ (
   Rows'.any-gone
       (Syntax.tyStruct
       (List._∷_
+      116
+      (List._∷_
       97
       (List._∷_
       114
       (List._∷_
+      103
+      (List._∷_
+      101
+      (List._∷_
       116
+      (List._∷_
+      115
       (List._∷_
       58
       (List._∷_
@@ -3737,7 +4531,7 @@ t36 = List._∷_ (0, Rows'.whole (Declared.row Targets.the-type)) (List._∷_ (
       84
       (List._∷_
       97
-      (List._∷_ 114 (List._∷_ 103 (List._∷_ 101 (List._∷_ 116 (List._∷_ 115 List.[]))))))))))))
+      (List._∷_ 114 (List._∷_ 103 (List._∷_ 101 (List._∷_ 116 (List._∷_ 115 List.[]))))))))))))))))
       (Syntax.tcons
       Syntax.tyBool
       (Syntax.tcons
@@ -3748,11 +4542,19 @@ t36 = List._∷_ (0, Rows'.whole (Declared.row Targets.the-type)) (List._∷_ (
   Rows'.any-gone
       (Syntax.tyStruct
       (List._∷_
+      116
+      (List._∷_
       97
       (List._∷_
       114
       (List._∷_
+      103
+      (List._∷_
+      101
+      (List._∷_
       116
+      (List._∷_
+      115
       (List._∷_
       58
       (List._∷_
@@ -3761,7 +4563,7 @@ t36 = List._∷_ (0, Rows'.whole (Declared.row Targets.the-type)) (List._∷_ (
       84
       (List._∷_
       97
-      (List._∷_ 114 (List._∷_ 103 (List._∷_ 101 (List._∷_ 116 (List._∷_ 115 List.[]))))))))))))
+      (List._∷_ 114 (List._∷_ 103 (List._∷_ 101 (List._∷_ 116 (List._∷_ 115 List.[]))))))))))))))))
       (Syntax.tcons
       Syntax.tyBool
       (Syntax.tcons
@@ -3778,11 +4580,19 @@ t36 = List._∷_ (0, Rows'.whole (Declared.row Targets.the-type)) (List._∷_ (
   Rows'.any-gone
       (Syntax.tyStruct
       (List._∷_
+      116
+      (List._∷_
       97
       (List._∷_
       114
       (List._∷_
+      103
+      (List._∷_
+      101
+      (List._∷_
       116
+      (List._∷_
+      115
       (List._∷_
       58
       (List._∷_
@@ -3791,7 +4601,7 @@ t36 = List._∷_ (0, Rows'.whole (Declared.row Targets.the-type)) (List._∷_ (
       84
       (List._∷_
       97
-      (List._∷_ 114 (List._∷_ 103 (List._∷_ 101 (List._∷_ 116 (List._∷_ 115 List.[]))))))))))))
+      (List._∷_ 114 (List._∷_ 103 (List._∷_ 101 (List._∷_ 116 (List._∷_ 115 List.[]))))))))))))))))
       (Syntax.tcons
       Syntax.tyBool
       (Syntax.tcons
@@ -4005,11 +4815,19 @@ module _ (claims· : Claims) where
       1
       (Syntax.tyStruct
       (List._∷_
+      116
+      (List._∷_
       97
       (List._∷_
       114
       (List._∷_
+      103
+      (List._∷_
+      101
+      (List._∷_
       116
+      (List._∷_
+      115
       (List._∷_
       58
       (List._∷_
@@ -4018,7 +4836,7 @@ module _ (claims· : Claims) where
       84
       (List._∷_
       97
-      (List._∷_ 114 (List._∷_ 103 (List._∷_ 101 (List._∷_ 116 (List._∷_ 115 List.[]))))))))))))
+      (List._∷_ 114 (List._∷_ 103 (List._∷_ 101 (List._∷_ 116 (List._∷_ 115 List.[]))))))))))))))))
       (Syntax.tcons
       Syntax.tyBool
       (Syntax.tcons
@@ -4060,11 +4878,19 @@ module _ (claims· : Claims) where
       2
       (Syntax.tyStruct
       (List._∷_
+      116
+      (List._∷_
       97
       (List._∷_
       114
       (List._∷_
+      103
+      (List._∷_
+      101
+      (List._∷_
       116
+      (List._∷_
+      115
       (List._∷_
       58
       (List._∷_
@@ -4073,7 +4899,7 @@ module _ (claims· : Claims) where
       84
       (List._∷_
       97
-      (List._∷_ 114 (List._∷_ 103 (List._∷_ 101 (List._∷_ 116 (List._∷_ 115 List.[]))))))))))))
+      (List._∷_ 114 (List._∷_ 103 (List._∷_ 101 (List._∷_ 116 (List._∷_ 115 List.[]))))))))))))))))
       (Syntax.tcons
       Syntax.tyBool
       (Syntax.tcons
@@ -4109,11 +4935,19 @@ module _ (claims· : Claims) where
       List.[]
       (Syntax.tyStruct
       (List._∷_
+      116
+      (List._∷_
       97
       (List._∷_
       114
       (List._∷_
+      103
+      (List._∷_
+      101
+      (List._∷_
       116
+      (List._∷_
+      115
       (List._∷_
       58
       (List._∷_
@@ -4122,7 +4956,7 @@ module _ (claims· : Claims) where
       84
       (List._∷_
       97
-      (List._∷_ 114 (List._∷_ 103 (List._∷_ 101 (List._∷_ 116 (List._∷_ 115 List.[]))))))))))))
+      (List._∷_ 114 (List._∷_ 103 (List._∷_ 101 (List._∷_ 116 (List._∷_ 115 List.[]))))))))))))))))
       (Syntax.tcons
       Syntax.tyBool
       (Syntax.tcons
@@ -4306,11 +5140,19 @@ module _ (claims· : Claims) where
       List.[]
       (Syntax.tyStruct
       (List._∷_
+      116
+      (List._∷_
       97
       (List._∷_
       114
       (List._∷_
+      103
+      (List._∷_
+      101
+      (List._∷_
       116
+      (List._∷_
+      115
       (List._∷_
       58
       (List._∷_
@@ -4319,7 +5161,7 @@ module _ (claims· : Claims) where
       84
       (List._∷_
       97
-      (List._∷_ 114 (List._∷_ 103 (List._∷_ 101 (List._∷_ 116 (List._∷_ 115 List.[]))))))))))))
+      (List._∷_ 114 (List._∷_ 103 (List._∷_ 101 (List._∷_ 116 (List._∷_ 115 List.[]))))))))))))))))
       (Syntax.tcons
       Syntax.tyBool
       (Syntax.tcons
@@ -4369,11 +5211,19 @@ module _ (claims· : Claims) where
       7
       (Syntax.tyStruct
       (List._∷_
+      116
+      (List._∷_
       97
       (List._∷_
       114
       (List._∷_
+      103
+      (List._∷_
+      101
+      (List._∷_
       116
+      (List._∷_
+      115
       (List._∷_
       58
       (List._∷_
@@ -4382,7 +5232,7 @@ module _ (claims· : Claims) where
       84
       (List._∷_
       97
-      (List._∷_ 114 (List._∷_ 103 (List._∷_ 101 (List._∷_ 116 (List._∷_ 115 List.[]))))))))))))
+      (List._∷_ 114 (List._∷_ 103 (List._∷_ 101 (List._∷_ 116 (List._∷_ 115 List.[]))))))))))))))))
       (Syntax.tcons
       Syntax.tyBool
       (Syntax.tcons
@@ -4413,9 +5263,9 @@ module _ (claims· : Claims) where
           "matching::count_of") (known1 : Plain.Known 𝓤 H A W 𝓣 0 ps·1 r·1 (claims· .2)
           (claims· .3) "matching::list_of") (known2 : Plain.Known 𝓤 H A W 𝓣 0 ps·2 r·2 (claims· .4)
           (claims· .5) "matching::nothing") (known3 : Plain.Known 𝓤 H A W 𝓣 1 ps·3 r·3 (claims· .6)
-          (claims· .7) "art::is_listed") (known4 : Plain.Known 𝓤 H A W 𝓣 0 ps·4 r·4 (claims· .8)
-          (claims· .9) "matching::keep_if") → Statement.Triple 𝓤 (Wp.WpFn 𝓤 H (𝓣 .C) (𝓣 .Λ)
-          (Function.fnOf 0 ps r xs m hs body)) (Function.plainOf 𝓤 H A 0 ps r Pre· Post·)
+          (claims· .7) "collect::is_listed") (known4 : Plain.Known 𝓤 H A W 𝓣 0 ps·4 r·4
+          (claims· .8) (claims· .9) "matching::keep_if") → Statement.Triple 𝓤 (Wp.WpFn 𝓤 H (𝓣 .C)
+          (𝓣 .Λ) (Function.fnOf 0 ps r xs m hs body)) (Function.plainOf 𝓤 H A 0 ps r Pre· Post·)
 
     module _ (Inv·0 : InvT-loop) (μ·0 : MeasureT-loop) where
       abbrev at0 : (bs : List.List Nat.ℕ) → Typed.TF T17 O4
@@ -4604,7 +5454,7 @@ module _ (claims· : Claims) where
             Plain.Known 𝓤 H A W 𝓣 0 ps·0 r·0 (claims· .0) (claims· .1) "matching::count_of" ×
             Plain.Known 𝓤 H A W 𝓣 0 ps·1 r·1 (claims· .2) (claims· .3) "matching::list_of" ×
             Plain.Known 𝓤 H A W 𝓣 0 ps·2 r·2 (claims· .4) (claims· .5) "matching::nothing" ×
-            Plain.Known 𝓤 H A W 𝓣 1 ps·3 r·3 (claims· .6) (claims· .7) "art::is_listed" ×
+            Plain.Known 𝓤 H A W 𝓣 1 ps·3 r·3 (claims· .6) (claims· .7) "collect::is_listed" ×
             Plain.Known 𝓤 H A W 𝓣 0 ps·4 r·4 (claims· .8) (claims· .9) "matching::keep_if"
 
       module _ (κs : Lifetimes.Lfts 0) (qs : Lifetimes.Shares 0) where
@@ -5066,11 +5916,19 @@ module _ (claims· : Claims) where
               (Declared.row Targets.the-type)
               (Syntax.tyStruct
               (List._∷_
+              116
+              (List._∷_
               97
               (List._∷_
               114
               (List._∷_
+              103
+              (List._∷_
+              101
+              (List._∷_
               116
+              (List._∷_
+              115
               (List._∷_
               58
               (List._∷_
@@ -5081,7 +5939,7 @@ module _ (claims· : Claims) where
               97
               (List._∷_
               114
-              (List._∷_ 103 (List._∷_ 101 (List._∷_ 116 (List._∷_ 115 List.[]))))))))))))
+              (List._∷_ 103 (List._∷_ 101 (List._∷_ 116 (List._∷_ 115 List.[]))))))))))))))))
               (Syntax.tcons
               Syntax.tyBool
               (Syntax.tcons
@@ -5230,7 +6088,7 @@ module _ (claims· : Claims) where
               r·3
               (claims· .6)
               (claims· .7)
-              "art::is_listed"
+              "collect::is_listed"
               (known .3)
               E
               (λ pos β. β)
@@ -5924,11 +6782,19 @@ module _ (claims· : Claims) where
               7
               (Syntax.tyStruct
               (List._∷_
+              116
+              (List._∷_
               97
               (List._∷_
               114
               (List._∷_
+              103
+              (List._∷_
+              101
+              (List._∷_
               116
+              (List._∷_
+              115
               (List._∷_
               58
               (List._∷_
@@ -5939,7 +6805,7 @@ module _ (claims· : Claims) where
               97
               (List._∷_
               114
-              (List._∷_ 103 (List._∷_ 101 (List._∷_ 116 (List._∷_ 115 List.[]))))))))))))
+              (List._∷_ 103 (List._∷_ 101 (List._∷_ 116 (List._∷_ 115 List.[]))))))))))))))))
               (Syntax.tcons
               Syntax.tyBool
               (Syntax.tcons
@@ -5955,11 +6821,19 @@ module _ (claims· : Claims) where
               (Declared.row Targets.the-type)
               (Syntax.tyStruct
               (List._∷_
+              116
+              (List._∷_
               97
               (List._∷_
               114
               (List._∷_
+              103
+              (List._∷_
+              101
+              (List._∷_
               116
+              (List._∷_
+              115
               (List._∷_
               58
               (List._∷_
@@ -5970,7 +6844,7 @@ module _ (claims· : Claims) where
               97
               (List._∷_
               114
-              (List._∷_ 103 (List._∷_ 101 (List._∷_ 116 (List._∷_ 115 List.[]))))))))))))
+              (List._∷_ 103 (List._∷_ 101 (List._∷_ 116 (List._∷_ 115 List.[]))))))))))))))))
               (Syntax.tcons
               Syntax.tyBool
               (Syntax.tcons
@@ -6065,11 +6939,19 @@ module _ (claims· : Claims) where
               (Declared.row Targets.the-type)
               (Syntax.tyStruct
               (List._∷_
+              116
+              (List._∷_
               97
               (List._∷_
               114
               (List._∷_
+              103
+              (List._∷_
+              101
+              (List._∷_
               116
+              (List._∷_
+              115
               (List._∷_
               58
               (List._∷_
@@ -6080,7 +6962,7 @@ module _ (claims· : Claims) where
               97
               (List._∷_
               114
-              (List._∷_ 103 (List._∷_ 101 (List._∷_ 116 (List._∷_ 115 List.[]))))))))))))
+              (List._∷_ 103 (List._∷_ 101 (List._∷_ 116 (List._∷_ 115 List.[]))))))))))))))))
               (Syntax.tcons
               Syntax.tyBool
               (Syntax.tcons
@@ -6090,11 +6972,19 @@ module _ (claims· : Claims) where
               Syntax.tnil))))
               (Syntax.tyStruct
               (List._∷_
+              116
+              (List._∷_
               97
               (List._∷_
               114
               (List._∷_
+              103
+              (List._∷_
+              101
+              (List._∷_
               116
+              (List._∷_
+              115
               (List._∷_
               58
               (List._∷_
@@ -6105,7 +6995,7 @@ module _ (claims· : Claims) where
               97
               (List._∷_
               114
-              (List._∷_ 103 (List._∷_ 101 (List._∷_ 116 (List._∷_ 115 List.[]))))))))))))
+              (List._∷_ 103 (List._∷_ 101 (List._∷_ 116 (List._∷_ 115 List.[]))))))))))))))))
               (Syntax.tcons
               Syntax.tyBool
               (Syntax.tcons
@@ -6146,11 +7036,19 @@ module _ (claims· : Claims) where
               A
               (Syntax.tyStruct
               (List._∷_
+              116
+              (List._∷_
               97
               (List._∷_
               114
               (List._∷_
+              103
+              (List._∷_
+              101
+              (List._∷_
               116
+              (List._∷_
+              115
               (List._∷_
               58
               (List._∷_
@@ -6161,7 +7059,7 @@ module _ (claims· : Claims) where
               97
               (List._∷_
               114
-              (List._∷_ 103 (List._∷_ 101 (List._∷_ 116 (List._∷_ 115 List.[]))))))))))))
+              (List._∷_ 103 (List._∷_ 101 (List._∷_ 116 (List._∷_ 115 List.[]))))))))))))))))
               (Syntax.tcons
               Syntax.tyBool
               (Syntax.tcons
@@ -6274,11 +7172,19 @@ module _ (claims· : Claims) where
               A
               (Syntax.tyStruct
               (List._∷_
+              116
+              (List._∷_
               97
               (List._∷_
               114
               (List._∷_
+              103
+              (List._∷_
+              101
+              (List._∷_
               116
+              (List._∷_
+              115
               (List._∷_
               58
               (List._∷_
@@ -6289,7 +7195,7 @@ module _ (claims· : Claims) where
               97
               (List._∷_
               114
-              (List._∷_ 103 (List._∷_ 101 (List._∷_ 116 (List._∷_ 115 List.[]))))))))))))
+              (List._∷_ 103 (List._∷_ 101 (List._∷_ 116 (List._∷_ 115 List.[]))))))))))))))))
               (Syntax.tcons
               Syntax.tyBool
               (Syntax.tcons
@@ -6463,11 +7369,19 @@ module _ (claims· : Claims) where
               2
               (Syntax.tyStruct
               (List._∷_
+              116
+              (List._∷_
               97
               (List._∷_
               114
               (List._∷_
+              103
+              (List._∷_
+              101
+              (List._∷_
               116
+              (List._∷_
+              115
               (List._∷_
               58
               (List._∷_
@@ -6478,7 +7392,7 @@ module _ (claims· : Claims) where
               97
               (List._∷_
               114
-              (List._∷_ 103 (List._∷_ 101 (List._∷_ 116 (List._∷_ 115 List.[]))))))))))))
+              (List._∷_ 103 (List._∷_ 101 (List._∷_ 116 (List._∷_ 115 List.[]))))))))))))))))
               (Syntax.tcons
               Syntax.tyBool
               (Syntax.tcons
@@ -6494,11 +7408,19 @@ module _ (claims· : Claims) where
               (Declared.row Targets.the-type)
               (Syntax.tyStruct
               (List._∷_
+              116
+              (List._∷_
               97
               (List._∷_
               114
               (List._∷_
+              103
+              (List._∷_
+              101
+              (List._∷_
               116
+              (List._∷_
+              115
               (List._∷_
               58
               (List._∷_
@@ -6509,7 +7431,7 @@ module _ (claims· : Claims) where
               97
               (List._∷_
               114
-              (List._∷_ 103 (List._∷_ 101 (List._∷_ 116 (List._∷_ 115 List.[]))))))))))))
+              (List._∷_ 103 (List._∷_ 101 (List._∷_ 116 (List._∷_ 115 List.[]))))))))))))))))
               (Syntax.tcons
               Syntax.tyBool
               (Syntax.tcons
@@ -6818,11 +7740,19 @@ module _ (claims· : Claims) where
               1
               (Syntax.tyStruct
               (List._∷_
+              116
+              (List._∷_
               97
               (List._∷_
               114
               (List._∷_
+              103
+              (List._∷_
+              101
+              (List._∷_
               116
+              (List._∷_
+              115
               (List._∷_
               58
               (List._∷_
@@ -6833,7 +7763,7 @@ module _ (claims· : Claims) where
               97
               (List._∷_
               114
-              (List._∷_ 103 (List._∷_ 101 (List._∷_ 116 (List._∷_ 115 List.[]))))))))))))
+              (List._∷_ 103 (List._∷_ 101 (List._∷_ 116 (List._∷_ 115 List.[]))))))))))))))))
               (Syntax.tcons
               Syntax.tyBool
               (Syntax.tcons
@@ -6849,11 +7779,19 @@ module _ (claims· : Claims) where
               (Declared.row Targets.the-type)
               (Syntax.tyStruct
               (List._∷_
+              116
+              (List._∷_
               97
               (List._∷_
               114
               (List._∷_
+              103
+              (List._∷_
+              101
+              (List._∷_
               116
+              (List._∷_
+              115
               (List._∷_
               58
               (List._∷_
@@ -6864,7 +7802,7 @@ module _ (claims· : Claims) where
               97
               (List._∷_
               114
-              (List._∷_ 103 (List._∷_ 101 (List._∷_ 116 (List._∷_ 115 List.[]))))))))))))
+              (List._∷_ 103 (List._∷_ 101 (List._∷_ 116 (List._∷_ 115 List.[]))))))))))))))))
               (Syntax.tcons
               Syntax.tyBool
               (Syntax.tcons
@@ -8394,7 +9332,18 @@ module _ (claims· : Claims) where
             (claims· .4)
             (claims· .5)
             "matching::nothing")
-            (known3 : Plain.Known 𝓤 H A W 𝓣 1 ps·3 r·3 (claims· .6) (claims· .7) "art::is_listed")
+            (known3 : Plain.Known
+            𝓤
+            H
+            A
+            W
+            𝓣
+            1
+            ps·3
+            r·3
+            (claims· .6)
+            (claims· .7)
+            "collect::is_listed")
             (known4 : Plain.Known
             𝓤
             H

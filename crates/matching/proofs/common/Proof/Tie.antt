@@ -1,7 +1,7 @@
 -- Made by tools/lend.py of the twin of `common`: do not edit.
-use Rattle.art.proofs.is_listed.Met
-use Rattle.art.proofs.Lent.is_listed.Reads
-use Rattle.art.proofs.is_listed.Symbol
+use Rattle.collect.proofs.is_listed.Met
+use Rattle.collect.proofs.Lent.is_listed.Reads
+use Rattle.collect.proofs.is_listed.Symbol
 use Rattle.matching.proofs.common.Code
 use Rattle.matching.proofs.common.Key
 use Rattle.matching.proofs.Lent.common.Kinds
@@ -552,7 +552,7 @@ module _ {M : Type 1} where
       Code.env
       Symbol.name
       Symbol.routine
-      Code.calls-art·is-listed
+      Code.calls-collect·is-listed
       (Met.met 𝓤 H 𝓜 𝓖 𝓡))
       (Reads'3.known
       record { M = M; 𝓤 = 𝓤; H = H; 𝓜 = 𝓜; 𝓖 = 𝓖; 𝓡 = 𝓡 }

@@ -382,11 +382,19 @@ xs =
     (Syntax.tcons
     (Syntax.tyStruct
     (List._∷_
+    116
+    (List._∷_
     97
     (List._∷_
     114
     (List._∷_
+    103
+    (List._∷_
+    101
+    (List._∷_
     116
+    (List._∷_
+    115
     (List._∷_
     58
     (List._∷_
@@ -395,7 +403,7 @@ xs =
     84
     (List._∷_
     97
-    (List._∷_ 114 (List._∷_ 103 (List._∷_ 101 (List._∷_ 116 (List._∷_ 115 List.[]))))))))))))
+    (List._∷_ 114 (List._∷_ 103 (List._∷_ 101 (List._∷_ 116 (List._∷_ 115 List.[]))))))))))))))))
     (Syntax.tcons
     Syntax.tyBool
     (Syntax.tcons
@@ -2491,11 +2499,19 @@ t1 = List._∷_ (
       (Syntax.tcons
       (Syntax.tyStruct
       (List._∷_
+      116
+      (List._∷_
       97
       (List._∷_
       114
       (List._∷_
+      103
+      (List._∷_
+      101
+      (List._∷_
       116
+      (List._∷_
+      115
       (List._∷_
       58
       (List._∷_
@@ -2504,7 +2520,7 @@ t1 = List._∷_ (
       84
       (List._∷_
       97
-      (List._∷_ 114 (List._∷_ 103 (List._∷_ 101 (List._∷_ 116 (List._∷_ 115 List.[]))))))))))))
+      (List._∷_ 114 (List._∷_ 103 (List._∷_ 101 (List._∷_ 116 (List._∷_ 115 List.[]))))))))))))))))
       (Syntax.tcons
       Syntax.tyBool
       (Syntax.tcons
@@ -3090,11 +3106,19 @@ t4 = List._∷_ (
       (Syntax.tcons
       (Syntax.tyStruct
       (List._∷_
+      116
+      (List._∷_
       97
       (List._∷_
       114
       (List._∷_
+      103
+      (List._∷_
+      101
+      (List._∷_
       116
+      (List._∷_
+      115
       (List._∷_
       58
       (List._∷_
@@ -3103,7 +3127,7 @@ t4 = List._∷_ (
       84
       (List._∷_
       97
-      (List._∷_ 114 (List._∷_ 103 (List._∷_ 101 (List._∷_ 116 (List._∷_ 115 List.[]))))))))))))
+      (List._∷_ 114 (List._∷_ 103 (List._∷_ 101 (List._∷_ 116 (List._∷_ 115 List.[]))))))))))))))))
       (Syntax.tcons
       Syntax.tyBool
       (Syntax.tcons
@@ -3503,11 +3527,19 @@ t5 = List._∷_ (
       (Syntax.tcons
       (Syntax.tyStruct
       (List._∷_
+      116
+      (List._∷_
       97
       (List._∷_
       114
       (List._∷_
+      103
+      (List._∷_
+      101
+      (List._∷_
       116
+      (List._∷_
+      115
       (List._∷_
       58
       (List._∷_
@@ -3516,7 +3548,7 @@ t5 = List._∷_ (
       84
       (List._∷_
       97
-      (List._∷_ 114 (List._∷_ 103 (List._∷_ 101 (List._∷_ 116 (List._∷_ 115 List.[]))))))))))))
+      (List._∷_ 114 (List._∷_ 103 (List._∷_ 101 (List._∷_ 116 (List._∷_ 115 List.[]))))))))))))))))
       (Syntax.tcons
       Syntax.tyBool
       (Syntax.tcons
@@ -5178,11 +5210,19 @@ t10 = List._∷_ (
       (Syntax.tcons
       (Syntax.tyStruct
       (List._∷_
+      116
+      (List._∷_
       97
       (List._∷_
       114
       (List._∷_
+      103
+      (List._∷_
+      101
+      (List._∷_
       116
+      (List._∷_
+      115
       (List._∷_
       58
       (List._∷_
@@ -5191,7 +5231,7 @@ t10 = List._∷_ (
       84
       (List._∷_
       97
-      (List._∷_ 114 (List._∷_ 103 (List._∷_ 101 (List._∷_ 116 (List._∷_ 115 List.[]))))))))))))
+      (List._∷_ 114 (List._∷_ 103 (List._∷_ 101 (List._∷_ 116 (List._∷_ 115 List.[]))))))))))))))))
       (Syntax.tcons
       Syntax.tyBool
       (Syntax.tcons
@@ -5593,11 +5633,19 @@ t11 = List._∷_ (
       (Syntax.tcons
       (Syntax.tyStruct
       (List._∷_
+      116
+      (List._∷_
       97
       (List._∷_
       114
       (List._∷_
+      103
+      (List._∷_
+      101
+      (List._∷_
       116
+      (List._∷_
+      115
       (List._∷_
       58
       (List._∷_
@@ -5606,7 +5654,7 @@ t11 = List._∷_ (
       84
       (List._∷_
       97
-      (List._∷_ 114 (List._∷_ 103 (List._∷_ 101 (List._∷_ 116 (List._∷_ 115 List.[]))))))))))))
+      (List._∷_ 114 (List._∷_ 103 (List._∷_ 101 (List._∷_ 116 (List._∷_ 115 List.[]))))))))))))))))
       (Syntax.tcons
       Syntax.tyBool
       (Syntax.tcons
@@ -6878,11 +6926,19 @@ t15 = List._∷_ (
       (Syntax.tcons
       (Syntax.tyStruct
       (List._∷_
+      116
+      (List._∷_
       97
       (List._∷_
       114
       (List._∷_
+      103
+      (List._∷_
+      101
+      (List._∷_
       116
+      (List._∷_
+      115
       (List._∷_
       58
       (List._∷_
@@ -6891,7 +6947,7 @@ t15 = List._∷_ (
       84
       (List._∷_
       97
-      (List._∷_ 114 (List._∷_ 103 (List._∷_ 101 (List._∷_ 116 (List._∷_ 115 List.[]))))))))))))
+      (List._∷_ 114 (List._∷_ 103 (List._∷_ 101 (List._∷_ 116 (List._∷_ 115 List.[]))))))))))))))))
       (Syntax.tcons
       Syntax.tyBool
       (Syntax.tcons
@@ -7293,11 +7349,19 @@ t16 = List._∷_ (
       (Syntax.tcons
       (Syntax.tyStruct
       (List._∷_
+      116
+      (List._∷_
       97
       (List._∷_
       114
       (List._∷_
+      103
+      (List._∷_
+      101
+      (List._∷_
       116
+      (List._∷_
+      115
       (List._∷_
       58
       (List._∷_
@@ -7306,7 +7370,7 @@ t16 = List._∷_ (
       84
       (List._∷_
       97
-      (List._∷_ 114 (List._∷_ 103 (List._∷_ 101 (List._∷_ 116 (List._∷_ 115 List.[]))))))))))))
+      (List._∷_ 114 (List._∷_ 103 (List._∷_ 101 (List._∷_ 116 (List._∷_ 115 List.[]))))))))))))))))
       (Syntax.tcons
       Syntax.tyBool
       (Syntax.tcons
@@ -7664,11 +7728,19 @@ t17 = List._∷_ (16, Rows'.whole (Declared'.row FoundRoute.the-type)) (List._�
       (Syntax.tcons
       (Syntax.tyStruct
       (List._∷_
+      116
+      (List._∷_
       97
       (List._∷_
       114
       (List._∷_
+      103
+      (List._∷_
+      101
+      (List._∷_
       116
+      (List._∷_
+      115
       (List._∷_
       58
       (List._∷_
@@ -7677,7 +7749,7 @@ t17 = List._∷_ (16, Rows'.whole (Declared'.row FoundRoute.the-type)) (List._�
       84
       (List._∷_
       97
-      (List._∷_ 114 (List._∷_ 103 (List._∷_ 101 (List._∷_ 116 (List._∷_ 115 List.[]))))))))))))
+      (List._∷_ 114 (List._∷_ 103 (List._∷_ 101 (List._∷_ 116 (List._∷_ 115 List.[]))))))))))))))))
       (Syntax.tcons
       Syntax.tyBool
       (Syntax.tcons
@@ -8035,11 +8107,19 @@ t18 = List._∷_ (16, Rows'.whole (Declared'.row FoundRoute.the-type)) (List._�
       (Syntax.tcons
       (Syntax.tyStruct
       (List._∷_
+      116
+      (List._∷_
       97
       (List._∷_
       114
       (List._∷_
+      103
+      (List._∷_
+      101
+      (List._∷_
       116
+      (List._∷_
+      115
       (List._∷_
       58
       (List._∷_
@@ -8048,7 +8128,7 @@ t18 = List._∷_ (16, Rows'.whole (Declared'.row FoundRoute.the-type)) (List._�
       84
       (List._∷_
       97
-      (List._∷_ 114 (List._∷_ 103 (List._∷_ 101 (List._∷_ 116 (List._∷_ 115 List.[]))))))))))))
+      (List._∷_ 114 (List._∷_ 103 (List._∷_ 101 (List._∷_ 116 (List._∷_ 115 List.[]))))))))))))))))
       (Syntax.tcons
       Syntax.tyBool
       (Syntax.tcons
@@ -9282,11 +9362,19 @@ t22 = List._∷_ (16, Rows'.whole (Declared'.row FoundRoute.the-type)) (List._�
       (Syntax.tcons
       (Syntax.tyStruct
       (List._∷_
+      116
+      (List._∷_
       97
       (List._∷_
       114
       (List._∷_
+      103
+      (List._∷_
+      101
+      (List._∷_
       116
+      (List._∷_
+      115
       (List._∷_
       58
       (List._∷_
@@ -9295,7 +9383,7 @@ t22 = List._∷_ (16, Rows'.whole (Declared'.row FoundRoute.the-type)) (List._�
       84
       (List._∷_
       97
-      (List._∷_ 114 (List._∷_ 103 (List._∷_ 101 (List._∷_ 116 (List._∷_ 115 List.[]))))))))))))
+      (List._∷_ 114 (List._∷_ 103 (List._∷_ 101 (List._∷_ 116 (List._∷_ 115 List.[]))))))))))))))))
       (Syntax.tcons
       Syntax.tyBool
       (Syntax.tcons
@@ -9657,11 +9745,19 @@ t23 = List._∷_ (16, Rows'.whole (Declared'.row FoundRoute.the-type)) (List._�
       (Syntax.tcons
       (Syntax.tyStruct
       (List._∷_
+      116
+      (List._∷_
       97
       (List._∷_
       114
       (List._∷_
+      103
+      (List._∷_
+      101
+      (List._∷_
       116
+      (List._∷_
+      115
       (List._∷_
       58
       (List._∷_
@@ -9670,7 +9766,7 @@ t23 = List._∷_ (16, Rows'.whole (Declared'.row FoundRoute.the-type)) (List._�
       84
       (List._∷_
       97
-      (List._∷_ 114 (List._∷_ 103 (List._∷_ 101 (List._∷_ 116 (List._∷_ 115 List.[]))))))))))))
+      (List._∷_ 114 (List._∷_ 103 (List._∷_ 101 (List._∷_ 116 (List._∷_ 115 List.[]))))))))))))))))
       (Syntax.tcons
       Syntax.tyBool
       (Syntax.tcons
@@ -9999,11 +10095,19 @@ t24 = List._∷_ (16, Rows'.whole (Declared'.row FoundRoute.the-type)) (List._�
       (Syntax.tcons
       (Syntax.tyStruct
       (List._∷_
+      116
+      (List._∷_
       97
       (List._∷_
       114
       (List._∷_
+      103
+      (List._∷_
+      101
+      (List._∷_
       116
+      (List._∷_
+      115
       (List._∷_
       58
       (List._∷_
@@ -10012,7 +10116,7 @@ t24 = List._∷_ (16, Rows'.whole (Declared'.row FoundRoute.the-type)) (List._�
       84
       (List._∷_
       97
-      (List._∷_ 114 (List._∷_ 103 (List._∷_ 101 (List._∷_ 116 (List._∷_ 115 List.[]))))))))))))
+      (List._∷_ 114 (List._∷_ 103 (List._∷_ 101 (List._∷_ 116 (List._∷_ 115 List.[]))))))))))))))))
       (Syntax.tcons
       Syntax.tyBool
       (Syntax.tcons
@@ -10341,11 +10445,19 @@ t25 = List._∷_ (16, Rows'.whole (Declared'.row FoundRoute.the-type)) (List._�
       (Syntax.tcons
       (Syntax.tyStruct
       (List._∷_
+      116
+      (List._∷_
       97
       (List._∷_
       114
       (List._∷_
+      103
+      (List._∷_
+      101
+      (List._∷_
       116
+      (List._∷_
+      115
       (List._∷_
       58
       (List._∷_
@@ -10354,7 +10466,7 @@ t25 = List._∷_ (16, Rows'.whole (Declared'.row FoundRoute.the-type)) (List._�
       84
       (List._∷_
       97
-      (List._∷_ 114 (List._∷_ 103 (List._∷_ 101 (List._∷_ 116 (List._∷_ 115 List.[]))))))))))))
+      (List._∷_ 114 (List._∷_ 103 (List._∷_ 101 (List._∷_ 116 (List._∷_ 115 List.[]))))))))))))))))
       (Syntax.tcons
       Syntax.tyBool
       (Syntax.tcons
@@ -11267,11 +11379,19 @@ t28 = List._∷_ (16, Rows'.whole (Declared'.row FoundRoute.the-type)) (List._�
       (Syntax.tcons
       (Syntax.tyStruct
       (List._∷_
+      116
+      (List._∷_
       97
       (List._∷_
       114
       (List._∷_
+      103
+      (List._∷_
+      101
+      (List._∷_
       116
+      (List._∷_
+      115
       (List._∷_
       58
       (List._∷_
@@ -11280,7 +11400,7 @@ t28 = List._∷_ (16, Rows'.whole (Declared'.row FoundRoute.the-type)) (List._�
       84
       (List._∷_
       97
-      (List._∷_ 114 (List._∷_ 103 (List._∷_ 101 (List._∷_ 116 (List._∷_ 115 List.[]))))))))))))
+      (List._∷_ 114 (List._∷_ 103 (List._∷_ 101 (List._∷_ 116 (List._∷_ 115 List.[]))))))))))))))))
       (Syntax.tcons
       Syntax.tyBool
       (Syntax.tcons
@@ -13664,11 +13784,19 @@ t41 = List._∷_ (
       (Syntax.tcons
       (Syntax.tyStruct
       (List._∷_
+      116
+      (List._∷_
       97
       (List._∷_
       114
       (List._∷_
+      103
+      (List._∷_
+      101
+      (List._∷_
       116
+      (List._∷_
+      115
       (List._∷_
       58
       (List._∷_
@@ -13677,7 +13805,7 @@ t41 = List._∷_ (
       84
       (List._∷_
       97
-      (List._∷_ 114 (List._∷_ 103 (List._∷_ 101 (List._∷_ 116 (List._∷_ 115 List.[]))))))))))))
+      (List._∷_ 114 (List._∷_ 103 (List._∷_ 101 (List._∷_ 116 (List._∷_ 115 List.[]))))))))))))))))
       (Syntax.tcons
       Syntax.tyBool
       (Syntax.tcons
@@ -15538,11 +15666,19 @@ t53 = List._∷_ (16, Rows'.whole (Declared'.row FoundRoute.the-type)) (List._�
       (Syntax.tcons
       (Syntax.tyStruct
       (List._∷_
+      116
+      (List._∷_
       97
       (List._∷_
       114
       (List._∷_
+      103
+      (List._∷_
+      101
+      (List._∷_
       116
+      (List._∷_
+      115
       (List._∷_
       58
       (List._∷_
@@ -15551,7 +15687,7 @@ t53 = List._∷_ (16, Rows'.whole (Declared'.row FoundRoute.the-type)) (List._�
       84
       (List._∷_
       97
-      (List._∷_ 114 (List._∷_ 103 (List._∷_ 101 (List._∷_ 116 (List._∷_ 115 List.[]))))))))))))
+      (List._∷_ 114 (List._∷_ 103 (List._∷_ 101 (List._∷_ 116 (List._∷_ 115 List.[]))))))))))))))))
       (Syntax.tcons
       Syntax.tyBool
       (Syntax.tcons
@@ -15911,11 +16047,19 @@ t54 = List._∷_ (16, Rows'.whole (Declared'.row FoundRoute.the-type)) (List._�
       (Syntax.tcons
       (Syntax.tyStruct
       (List._∷_
+      116
+      (List._∷_
       97
       (List._∷_
       114
       (List._∷_
+      103
+      (List._∷_
+      101
+      (List._∷_
       116
+      (List._∷_
+      115
       (List._∷_
       58
       (List._∷_
@@ -15924,7 +16068,7 @@ t54 = List._∷_ (16, Rows'.whole (Declared'.row FoundRoute.the-type)) (List._�
       84
       (List._∷_
       97
-      (List._∷_ 114 (List._∷_ 103 (List._∷_ 101 (List._∷_ 116 (List._∷_ 115 List.[]))))))))))))
+      (List._∷_ 114 (List._∷_ 103 (List._∷_ 101 (List._∷_ 116 (List._∷_ 115 List.[]))))))))))))))))
       (Syntax.tcons
       Syntax.tyBool
       (Syntax.tcons
@@ -16284,11 +16428,19 @@ t55 = List._∷_ (16, Rows'.whole (Declared'.row FoundRoute.the-type)) (List._�
       (Syntax.tcons
       (Syntax.tyStruct
       (List._∷_
+      116
+      (List._∷_
       97
       (List._∷_
       114
       (List._∷_
+      103
+      (List._∷_
+      101
+      (List._∷_
       116
+      (List._∷_
+      115
       (List._∷_
       58
       (List._∷_
@@ -16297,7 +16449,7 @@ t55 = List._∷_ (16, Rows'.whole (Declared'.row FoundRoute.the-type)) (List._�
       84
       (List._∷_
       97
-      (List._∷_ 114 (List._∷_ 103 (List._∷_ 101 (List._∷_ 116 (List._∷_ 115 List.[]))))))))))))
+      (List._∷_ 114 (List._∷_ 103 (List._∷_ 101 (List._∷_ 116 (List._∷_ 115 List.[]))))))))))))))))
       (Syntax.tcons
       Syntax.tyBool
       (Syntax.tcons
@@ -16657,11 +16809,19 @@ t56 = List._∷_ (16, Rows'.whole (Declared'.row FoundRoute.the-type)) (List._�
       (Syntax.tcons
       (Syntax.tyStruct
       (List._∷_
+      116
+      (List._∷_
       97
       (List._∷_
       114
       (List._∷_
+      103
+      (List._∷_
+      101
+      (List._∷_
       116
+      (List._∷_
+      115
       (List._∷_
       58
       (List._∷_
@@ -16670,7 +16830,7 @@ t56 = List._∷_ (16, Rows'.whole (Declared'.row FoundRoute.the-type)) (List._�
       84
       (List._∷_
       97
-      (List._∷_ 114 (List._∷_ 103 (List._∷_ 101 (List._∷_ 116 (List._∷_ 115 List.[]))))))))))))
+      (List._∷_ 114 (List._∷_ 103 (List._∷_ 101 (List._∷_ 116 (List._∷_ 115 List.[]))))))))))))))))
       (Syntax.tcons
       Syntax.tyBool
       (Syntax.tcons
@@ -17392,11 +17552,19 @@ t58 = List._∷_ (
       (Syntax.tcons
       (Syntax.tyStruct
       (List._∷_
+      116
+      (List._∷_
       97
       (List._∷_
       114
       (List._∷_
+      103
+      (List._∷_
+      101
+      (List._∷_
       116
+      (List._∷_
+      115
       (List._∷_
       58
       (List._∷_
@@ -17405,7 +17573,7 @@ t58 = List._∷_ (
       84
       (List._∷_
       97
-      (List._∷_ 114 (List._∷_ 103 (List._∷_ 101 (List._∷_ 116 (List._∷_ 115 List.[]))))))))))))
+      (List._∷_ 114 (List._∷_ 103 (List._∷_ 101 (List._∷_ 116 (List._∷_ 115 List.[]))))))))))))))))
       (Syntax.tcons
       Syntax.tyBool
       (Syntax.tcons
@@ -19698,11 +19866,19 @@ t71 = List._∷_ (
       (Syntax.tcons
       (Syntax.tyStruct
       (List._∷_
+      116
+      (List._∷_
       97
       (List._∷_
       114
       (List._∷_
+      103
+      (List._∷_
+      101
+      (List._∷_
       116
+      (List._∷_
+      115
       (List._∷_
       58
       (List._∷_
@@ -19711,7 +19887,7 @@ t71 = List._∷_ (
       84
       (List._∷_
       97
-      (List._∷_ 114 (List._∷_ 103 (List._∷_ 101 (List._∷_ 116 (List._∷_ 115 List.[]))))))))))))
+      (List._∷_ 114 (List._∷_ 103 (List._∷_ 101 (List._∷_ 116 (List._∷_ 115 List.[]))))))))))))))))
       (Syntax.tcons
       Syntax.tyBool
       (Syntax.tcons
@@ -20156,11 +20332,19 @@ t73 = List._∷_ (
       (Syntax.tcons
       (Syntax.tyStruct
       (List._∷_
+      116
+      (List._∷_
       97
       (List._∷_
       114
       (List._∷_
+      103
+      (List._∷_
+      101
+      (List._∷_
       116
+      (List._∷_
+      115
       (List._∷_
       58
       (List._∷_
@@ -20169,7 +20353,7 @@ t73 = List._∷_ (
       84
       (List._∷_
       97
-      (List._∷_ 114 (List._∷_ 103 (List._∷_ 101 (List._∷_ 116 (List._∷_ 115 List.[]))))))))))))
+      (List._∷_ 114 (List._∷_ 103 (List._∷_ 101 (List._∷_ 116 (List._∷_ 115 List.[]))))))))))))))))
       (Syntax.tcons
       Syntax.tyBool
       (Syntax.tcons
@@ -20623,11 +20807,19 @@ t75 = List._∷_ (
       (Syntax.tcons
       (Syntax.tyStruct
       (List._∷_
+      116
+      (List._∷_
       97
       (List._∷_
       114
       (List._∷_
+      103
+      (List._∷_
+      101
+      (List._∷_
       116
+      (List._∷_
+      115
       (List._∷_
       58
       (List._∷_
@@ -20636,7 +20828,7 @@ t75 = List._∷_ (
       84
       (List._∷_
       97
-      (List._∷_ 114 (List._∷_ 103 (List._∷_ 101 (List._∷_ 116 (List._∷_ 115 List.[]))))))))))))
+      (List._∷_ 114 (List._∷_ 103 (List._∷_ 101 (List._∷_ 116 (List._∷_ 115 List.[]))))))))))))))))
       (Syntax.tcons
       Syntax.tyBool
       (Syntax.tcons
@@ -21699,11 +21891,19 @@ t84 = List._∷_ (
       (Syntax.tcons
       (Syntax.tyStruct
       (List._∷_
+      116
+      (List._∷_
       97
       (List._∷_
       114
       (List._∷_
+      103
+      (List._∷_
+      101
+      (List._∷_
       116
+      (List._∷_
+      115
       (List._∷_
       58
       (List._∷_
@@ -21712,7 +21912,7 @@ t84 = List._∷_ (
       84
       (List._∷_
       97
-      (List._∷_ 114 (List._∷_ 103 (List._∷_ 101 (List._∷_ 116 (List._∷_ 115 List.[]))))))))))))
+      (List._∷_ 114 (List._∷_ 103 (List._∷_ 101 (List._∷_ 116 (List._∷_ 115 List.[]))))))))))))))))
       (Syntax.tcons
       Syntax.tyBool
       (Syntax.tcons
@@ -22800,11 +23000,19 @@ t92 = List._∷_ (
       (Syntax.tcons
       (Syntax.tyStruct
       (List._∷_
+      116
+      (List._∷_
       97
       (List._∷_
       114
       (List._∷_
+      103
+      (List._∷_
+      101
+      (List._∷_
       116
+      (List._∷_
+      115
       (List._∷_
       58
       (List._∷_
@@ -22813,7 +23021,7 @@ t92 = List._∷_ (
       84
       (List._∷_
       97
-      (List._∷_ 114 (List._∷_ 103 (List._∷_ 101 (List._∷_ 116 (List._∷_ 115 List.[]))))))))))))
+      (List._∷_ 114 (List._∷_ 103 (List._∷_ 101 (List._∷_ 116 (List._∷_ 115 List.[]))))))))))))))))
       (Syntax.tcons
       Syntax.tyBool
       (Syntax.tcons
@@ -23224,11 +23432,19 @@ t93 = List._∷_ (
       (Syntax.tcons
       (Syntax.tyStruct
       (List._∷_
+      116
+      (List._∷_
       97
       (List._∷_
       114
       (List._∷_
+      103
+      (List._∷_
+      101
+      (List._∷_
       116
+      (List._∷_
+      115
       (List._∷_
       58
       (List._∷_
@@ -23237,7 +23453,7 @@ t93 = List._∷_ (
       84
       (List._∷_
       97
-      (List._∷_ 114 (List._∷_ 103 (List._∷_ 101 (List._∷_ 116 (List._∷_ 115 List.[]))))))))))))
+      (List._∷_ 114 (List._∷_ 103 (List._∷_ 101 (List._∷_ 116 (List._∷_ 115 List.[]))))))))))))))))
       (Syntax.tcons
       Syntax.tyBool
       (Syntax.tcons
@@ -23648,11 +23864,19 @@ t94 = List._∷_ (
       (Syntax.tcons
       (Syntax.tyStruct
       (List._∷_
+      116
+      (List._∷_
       97
       (List._∷_
       114
       (List._∷_
+      103
+      (List._∷_
+      101
+      (List._∷_
       116
+      (List._∷_
+      115
       (List._∷_
       58
       (List._∷_
@@ -23661,7 +23885,7 @@ t94 = List._∷_ (
       84
       (List._∷_
       97
-      (List._∷_ 114 (List._∷_ 103 (List._∷_ 101 (List._∷_ 116 (List._∷_ 115 List.[]))))))))))))
+      (List._∷_ 114 (List._∷_ 103 (List._∷_ 101 (List._∷_ 116 (List._∷_ 115 List.[]))))))))))))))))
       (Syntax.tcons
       Syntax.tyBool
       (Syntax.tcons
@@ -24068,11 +24292,19 @@ t95 = List._∷_ (
       (Syntax.tcons
       (Syntax.tyStruct
       (List._∷_
+      116
+      (List._∷_
       97
       (List._∷_
       114
       (List._∷_
+      103
+      (List._∷_
+      101
+      (List._∷_
       116
+      (List._∷_
+      115
       (List._∷_
       58
       (List._∷_
@@ -24081,7 +24313,7 @@ t95 = List._∷_ (
       84
       (List._∷_
       97
-      (List._∷_ 114 (List._∷_ 103 (List._∷_ 101 (List._∷_ 116 (List._∷_ 115 List.[]))))))))))))
+      (List._∷_ 114 (List._∷_ 103 (List._∷_ 101 (List._∷_ 116 (List._∷_ 115 List.[]))))))))))))))))
       (Syntax.tcons
       Syntax.tyBool
       (Syntax.tcons
@@ -24488,11 +24720,19 @@ t96 = List._∷_ (
       (Syntax.tcons
       (Syntax.tyStruct
       (List._∷_
+      116
+      (List._∷_
       97
       (List._∷_
       114
       (List._∷_
+      103
+      (List._∷_
+      101
+      (List._∷_
       116
+      (List._∷_
+      115
       (List._∷_
       58
       (List._∷_
@@ -24501,7 +24741,7 @@ t96 = List._∷_ (
       84
       (List._∷_
       97
-      (List._∷_ 114 (List._∷_ 103 (List._∷_ 101 (List._∷_ 116 (List._∷_ 115 List.[]))))))))))))
+      (List._∷_ 114 (List._∷_ 103 (List._∷_ 101 (List._∷_ 116 (List._∷_ 115 List.[]))))))))))))))))
       (Syntax.tcons
       Syntax.tyBool
       (Syntax.tcons
@@ -25848,11 +26088,19 @@ module _ (claims· : Claims) where
       (Syntax.tcons
       (Syntax.tyStruct
       (List._∷_
+      116
+      (List._∷_
       97
       (List._∷_
       114
       (List._∷_
+      103
+      (List._∷_
+      101
+      (List._∷_
       116
+      (List._∷_
+      115
       (List._∷_
       58
       (List._∷_
@@ -25861,7 +26109,7 @@ module _ (claims· : Claims) where
       84
       (List._∷_
       97
-      (List._∷_ 114 (List._∷_ 103 (List._∷_ 101 (List._∷_ 116 (List._∷_ 115 List.[]))))))))))))
+      (List._∷_ 114 (List._∷_ 103 (List._∷_ 101 (List._∷_ 116 (List._∷_ 115 List.[]))))))))))))))))
       (Syntax.tcons
       Syntax.tyBool
       (Syntax.tcons
@@ -26346,11 +26594,19 @@ module _ (claims· : Claims) where
       (Syntax.tcons
       (Syntax.tyStruct
       (List._∷_
+      116
+      (List._∷_
       97
       (List._∷_
       114
       (List._∷_
+      103
+      (List._∷_
+      101
+      (List._∷_
       116
+      (List._∷_
+      115
       (List._∷_
       58
       (List._∷_
@@ -26359,7 +26615,7 @@ module _ (claims· : Claims) where
       84
       (List._∷_
       97
-      (List._∷_ 114 (List._∷_ 103 (List._∷_ 101 (List._∷_ 116 (List._∷_ 115 List.[]))))))))))))
+      (List._∷_ 114 (List._∷_ 103 (List._∷_ 101 (List._∷_ 116 (List._∷_ 115 List.[]))))))))))))))))
       (Syntax.tcons
       Syntax.tyBool
       (Syntax.tcons
@@ -27107,11 +27363,19 @@ module _ (claims· : Claims) where
       (Syntax.tcons
       (Syntax.tyStruct
       (List._∷_
+      116
+      (List._∷_
       97
       (List._∷_
       114
       (List._∷_
+      103
+      (List._∷_
+      101
+      (List._∷_
       116
+      (List._∷_
+      115
       (List._∷_
       58
       (List._∷_
@@ -27120,7 +27384,7 @@ module _ (claims· : Claims) where
       84
       (List._∷_
       97
-      (List._∷_ 114 (List._∷_ 103 (List._∷_ 101 (List._∷_ 116 (List._∷_ 115 List.[]))))))))))))
+      (List._∷_ 114 (List._∷_ 103 (List._∷_ 101 (List._∷_ 116 (List._∷_ 115 List.[]))))))))))))))))
       (Syntax.tcons
       Syntax.tyBool
       (Syntax.tcons
@@ -37831,11 +38095,19 @@ module _ (claims· : Claims) where
               (Syntax.tcons
               (Syntax.tyStruct
               (List._∷_
+              116
+              (List._∷_
               97
               (List._∷_
               114
               (List._∷_
+              103
+              (List._∷_
+              101
+              (List._∷_
               116
+              (List._∷_
+              115
               (List._∷_
               58
               (List._∷_
@@ -37846,7 +38118,7 @@ module _ (claims· : Claims) where
               97
               (List._∷_
               114
-              (List._∷_ 103 (List._∷_ 101 (List._∷_ 116 (List._∷_ 115 List.[]))))))))))))
+              (List._∷_ 103 (List._∷_ 101 (List._∷_ 116 (List._∷_ 115 List.[]))))))))))))))))
               (Syntax.tcons
               Syntax.tyBool
               (Syntax.tcons
@@ -38060,11 +38332,19 @@ module _ (claims· : Claims) where
               (Syntax.tcons
               (Syntax.tyStruct
               (List._∷_
+              116
+              (List._∷_
               97
               (List._∷_
               114
               (List._∷_
+              103
+              (List._∷_
+              101
+              (List._∷_
               116
+              (List._∷_
+              115
               (List._∷_
               58
               (List._∷_
@@ -38075,7 +38355,7 @@ module _ (claims· : Claims) where
               97
               (List._∷_
               114
-              (List._∷_ 103 (List._∷_ 101 (List._∷_ 116 (List._∷_ 115 List.[]))))))))))))
+              (List._∷_ 103 (List._∷_ 101 (List._∷_ 116 (List._∷_ 115 List.[]))))))))))))))))
               (Syntax.tcons
               Syntax.tyBool
               (Syntax.tcons
@@ -42885,11 +43165,19 @@ module _ (claims· : Claims) where
               (Syntax.tcons
               (Syntax.tyStruct
               (List._∷_
+              116
+              (List._∷_
               97
               (List._∷_
               114
               (List._∷_
+              103
+              (List._∷_
+              101
+              (List._∷_
               116
+              (List._∷_
+              115
               (List._∷_
               58
               (List._∷_
@@ -42900,7 +43188,7 @@ module _ (claims· : Claims) where
               97
               (List._∷_
               114
-              (List._∷_ 103 (List._∷_ 101 (List._∷_ 116 (List._∷_ 115 List.[]))))))))))))
+              (List._∷_ 103 (List._∷_ 101 (List._∷_ 116 (List._∷_ 115 List.[]))))))))))))))))
               (Syntax.tcons
               Syntax.tyBool
               (Syntax.tcons
@@ -43114,11 +43402,19 @@ module _ (claims· : Claims) where
               (Syntax.tcons
               (Syntax.tyStruct
               (List._∷_
+              116
+              (List._∷_
               97
               (List._∷_
               114
               (List._∷_
+              103
+              (List._∷_
+              101
+              (List._∷_
               116
+              (List._∷_
+              115
               (List._∷_
               58
               (List._∷_
@@ -43129,7 +43425,7 @@ module _ (claims· : Claims) where
               97
               (List._∷_
               114
-              (List._∷_ 103 (List._∷_ 101 (List._∷_ 116 (List._∷_ 115 List.[]))))))))))))
+              (List._∷_ 103 (List._∷_ 101 (List._∷_ 116 (List._∷_ 115 List.[]))))))))))))))))
               (Syntax.tcons
               Syntax.tyBool
               (Syntax.tcons
@@ -45202,11 +45498,19 @@ module _ (claims· : Claims) where
               (Syntax.tcons
               (Syntax.tyStruct
               (List._∷_
+              116
+              (List._∷_
               97
               (List._∷_
               114
               (List._∷_
+              103
+              (List._∷_
+              101
+              (List._∷_
               116
+              (List._∷_
+              115
               (List._∷_
               58
               (List._∷_
@@ -45217,7 +45521,7 @@ module _ (claims· : Claims) where
               97
               (List._∷_
               114
-              (List._∷_ 103 (List._∷_ 101 (List._∷_ 116 (List._∷_ 115 List.[]))))))))))))
+              (List._∷_ 103 (List._∷_ 101 (List._∷_ 116 (List._∷_ 115 List.[]))))))))))))))))
               (Syntax.tcons
               Syntax.tyBool
               (Syntax.tcons

@@ -7,18 +7,18 @@ use Rattle.decision.proofs.Elem.Post as KPost
 use Prim.Native.Nat
 use Rattle.answer.proofs.Answer
 use Rattle.answer.proofs.Answer.Laws
-use Rattle.art.proofs.Targets
-use Rattle.art.proofs.Targets.Laws as Laws'
 use Rattle.finish.proofs.Live
-use Rattle.finish.proofs.Live.Laws as Laws''
+use Rattle.finish.proofs.Live.Laws as Laws'
 use Rattle.finish.proofs.Outcome
-use Rattle.finish.proofs.Outcome.Laws as Laws'3
+use Rattle.finish.proofs.Outcome.Laws as Laws''
 use Rattle.message.proofs.Found
-use Rattle.message.proofs.Found.Laws as Laws'4
+use Rattle.message.proofs.Found.Laws as Laws'3
 use Rattle.own.proofs.Own
-use Rattle.own.proofs.Own.Laws as Laws'5
+use Rattle.own.proofs.Own.Laws as Laws'4
 use Rattle.start.proofs.Asking
-use Rattle.start.proofs.Asking.Laws as Laws'6
+use Rattle.start.proofs.Asking.Laws as Laws'5
+use Rattle.targets.proofs.Targets
+use Rattle.targets.proofs.Targets.Laws as Laws'6
 use borrow.Author.Called
 use borrow.Author.Tests
 use borrow.Fn.Any
@@ -88,16 +88,16 @@ ps =
     (List._∷_ (Value.pVal record {
       ty = Declared'.row Own.the-type;
       one = Path'.refl;
-      val = Laws'8.val Own.the-type Laws'5.the-laws;
-      tells = Laws'8.tells Own.the-type Laws'5.the-laws;
-      still = Laws'8.still Own.the-type Laws'5.the-copy Exit.yes;
+      val = Laws'8.val Own.the-type Laws'4.the-laws;
+      tells = Laws'8.tells Own.the-type Laws'4.the-laws;
+      still = Laws'8.still Own.the-type Laws'4.the-copy Exit.yes;
       row = Rows'.whole (Declared'.row Own.the-type);
       rd = λ x. x;
       mk = λ x. x;
     } λ M 𝓤 H A W. record {
-      copies = Laws'8.copy Own.the-type Laws'5.the-copy 𝓤 H A W;
-      lawful = Laws'8.lawful Own.the-type Laws'5.the-laws 𝓤 H A W;
-      makes = Laws'8.makes Own.the-type Laws'5.the-plain 𝓤 H A;
+      copies = Laws'8.copy Own.the-type Laws'4.the-copy 𝓤 H A W;
+      lawful = Laws'8.lawful Own.the-type Laws'4.the-laws 𝓤 H A W;
+      makes = Laws'8.makes Own.the-type Laws'4.the-plain 𝓤 H A;
       in-mem = Local.mem-whole 𝓤 H A W (Declared'.row Own.the-type);
       of-mem = Local.whole-mem 𝓤 H A W (Declared'.row Own.the-type);
     })
@@ -106,31 +106,31 @@ ps =
     (List._∷_ (Num.pNum Syntax.w8) (List._∷_ (Num.pNum Syntax.w64) (List._∷_ (Value.pVal record {
       ty = Declared'.row Asking.the-type;
       one = Path'.refl;
-      val = Laws'8.val Asking.the-type Laws'6.the-laws;
-      tells = Laws'8.tells Asking.the-type Laws'6.the-laws;
-      still = Laws'8.still Asking.the-type Laws'6.the-copy Exit.yes;
+      val = Laws'8.val Asking.the-type Laws'5.the-laws;
+      tells = Laws'8.tells Asking.the-type Laws'5.the-laws;
+      still = Laws'8.still Asking.the-type Laws'5.the-copy Exit.yes;
       row = Rows'.whole (Declared'.row Asking.the-type);
       rd = λ x. x;
       mk = λ x. x;
     } λ M 𝓤 H A W. record {
-      copies = Laws'8.copy Asking.the-type Laws'6.the-copy 𝓤 H A W;
-      lawful = Laws'8.lawful Asking.the-type Laws'6.the-laws 𝓤 H A W;
-      makes = Laws'8.makes Asking.the-type Laws'6.the-plain 𝓤 H A;
+      copies = Laws'8.copy Asking.the-type Laws'5.the-copy 𝓤 H A W;
+      lawful = Laws'8.lawful Asking.the-type Laws'5.the-laws 𝓤 H A W;
+      makes = Laws'8.makes Asking.the-type Laws'5.the-plain 𝓤 H A;
       in-mem = Local.mem-whole 𝓤 H A W (Declared'.row Asking.the-type);
       of-mem = Local.whole-mem 𝓤 H A W (Declared'.row Asking.the-type);
     }) (List._∷_ (Value.pVal record {
       ty = Declared'.row Targets.the-type;
       one = Path'.refl;
-      val = Laws'8.val Targets.the-type Laws'.the-laws;
-      tells = Laws'8.tells Targets.the-type Laws'.the-laws;
-      still = Laws'8.still Targets.the-type Laws'.the-copy Exit.yes;
+      val = Laws'8.val Targets.the-type Laws'6.the-laws;
+      tells = Laws'8.tells Targets.the-type Laws'6.the-laws;
+      still = Laws'8.still Targets.the-type Laws'6.the-copy Exit.yes;
       row = Rows'.whole (Declared'.row Targets.the-type);
       rd = λ x. x;
       mk = λ x. x;
     } λ M 𝓤 H A W. record {
-      copies = Laws'8.copy Targets.the-type Laws'.the-copy 𝓤 H A W;
-      lawful = Laws'8.lawful Targets.the-type Laws'.the-laws 𝓤 H A W;
-      makes = Laws'8.makes Targets.the-type Laws'.the-plain 𝓤 H A;
+      copies = Laws'8.copy Targets.the-type Laws'6.the-copy 𝓤 H A W;
+      lawful = Laws'8.lawful Targets.the-type Laws'6.the-laws 𝓤 H A W;
+      makes = Laws'8.makes Targets.the-type Laws'6.the-plain 𝓤 H A;
       in-mem = Local.mem-whole 𝓤 H A W (Declared'.row Targets.the-type);
       of-mem = Local.whole-mem 𝓤 H A W (Declared'.row Targets.the-type);
     }) List.[])))))))))
@@ -139,16 +139,16 @@ abbrev pub r : Kinds.RK 4
 r = Value.rVal record {
   ty = Declared'.row Outcome.the-type;
   one = Path'.refl;
-  val = Laws'8.val Outcome.the-type Laws'3.the-laws;
-  tells = Laws'8.tells Outcome.the-type Laws'3.the-laws;
-  still = Laws'8.still Outcome.the-type Laws'3.the-copy Exit.yes;
+  val = Laws'8.val Outcome.the-type Laws''.the-laws;
+  tells = Laws'8.tells Outcome.the-type Laws''.the-laws;
+  still = Laws'8.still Outcome.the-type Laws''.the-copy Exit.yes;
   row = Rows'.whole (Declared'.row Outcome.the-type);
   rd = λ x. x;
   mk = λ x. x;
 } λ M 𝓤 H A W. record {
-  copies = Laws'8.copy Outcome.the-type Laws'3.the-copy 𝓤 H A W;
-  lawful = Laws'8.lawful Outcome.the-type Laws'3.the-laws 𝓤 H A W;
-  makes = Laws'8.makes Outcome.the-type Laws'3.the-plain 𝓤 H A;
+  copies = Laws'8.copy Outcome.the-type Laws''.the-copy 𝓤 H A W;
+  lawful = Laws'8.lawful Outcome.the-type Laws''.the-laws 𝓤 H A W;
+  makes = Laws'8.makes Outcome.the-type Laws''.the-plain 𝓤 H A;
   in-mem = Local.mem-whole 𝓤 H A W (Declared'.row Outcome.the-type);
   of-mem = Local.whole-mem 𝓤 H A W (Declared'.row Outcome.the-type);
 }
@@ -337,16 +337,16 @@ abbrev pub ps·0 : List.List (Kinds.PK 0)
 ps·0 = List._∷_ (Value.pVal record {
   ty = Declared'.row Own.the-type;
   one = Path'.refl;
-  val = Laws'8.val Own.the-type Laws'5.the-laws;
-  tells = Laws'8.tells Own.the-type Laws'5.the-laws;
-  still = Laws'8.still Own.the-type Laws'5.the-copy Exit.yes;
+  val = Laws'8.val Own.the-type Laws'4.the-laws;
+  tells = Laws'8.tells Own.the-type Laws'4.the-laws;
+  still = Laws'8.still Own.the-type Laws'4.the-copy Exit.yes;
   row = Rows'.whole (Declared'.row Own.the-type);
   rd = λ x. x;
   mk = λ x. x;
 } λ M 𝓤 H A W. record {
-  copies = Laws'8.copy Own.the-type Laws'5.the-copy 𝓤 H A W;
-  lawful = Laws'8.lawful Own.the-type Laws'5.the-laws 𝓤 H A W;
-  makes = Laws'8.makes Own.the-type Laws'5.the-plain 𝓤 H A;
+  copies = Laws'8.copy Own.the-type Laws'4.the-copy 𝓤 H A W;
+  lawful = Laws'8.lawful Own.the-type Laws'4.the-laws 𝓤 H A W;
+  makes = Laws'8.makes Own.the-type Laws'4.the-plain 𝓤 H A;
   in-mem = Local.mem-whole 𝓤 H A W (Declared'.row Own.the-type);
   of-mem = Local.whole-mem 𝓤 H A W (Declared'.row Own.the-type);
 }) List.[]
@@ -358,16 +358,16 @@ abbrev pub ps·1 : List.List (Kinds.PK 0)
 ps·1 = List._∷_ (Value.pVal record {
   ty = Declared'.row Asking.the-type;
   one = Path'.refl;
-  val = Laws'8.val Asking.the-type Laws'6.the-laws;
-  tells = Laws'8.tells Asking.the-type Laws'6.the-laws;
-  still = Laws'8.still Asking.the-type Laws'6.the-copy Exit.yes;
+  val = Laws'8.val Asking.the-type Laws'5.the-laws;
+  tells = Laws'8.tells Asking.the-type Laws'5.the-laws;
+  still = Laws'8.still Asking.the-type Laws'5.the-copy Exit.yes;
   row = Rows'.whole (Declared'.row Asking.the-type);
   rd = λ x. x;
   mk = λ x. x;
 } λ M 𝓤 H A W. record {
-  copies = Laws'8.copy Asking.the-type Laws'6.the-copy 𝓤 H A W;
-  lawful = Laws'8.lawful Asking.the-type Laws'6.the-laws 𝓤 H A W;
-  makes = Laws'8.makes Asking.the-type Laws'6.the-plain 𝓤 H A;
+  copies = Laws'8.copy Asking.the-type Laws'5.the-copy 𝓤 H A W;
+  lawful = Laws'8.lawful Asking.the-type Laws'5.the-laws 𝓤 H A W;
+  makes = Laws'8.makes Asking.the-type Laws'5.the-plain 𝓤 H A;
   in-mem = Local.mem-whole 𝓤 H A W (Declared'.row Asking.the-type);
   of-mem = Local.whole-mem 𝓤 H A W (Declared'.row Asking.the-type);
 }) List.[]
@@ -389,16 +389,16 @@ abbrev pub r·2 : Kinds.RK 1
 r·2 = Value.rVal record {
   ty = Declared'.row Found.the-type;
   one = Path'.refl;
-  val = Laws'8.val Found.the-type Laws'4.the-laws;
-  tells = Laws'8.tells Found.the-type Laws'4.the-laws;
-  still = Laws'8.still Found.the-type Laws'4.the-copy Exit.yes;
+  val = Laws'8.val Found.the-type Laws'3.the-laws;
+  tells = Laws'8.tells Found.the-type Laws'3.the-laws;
+  still = Laws'8.still Found.the-type Laws'3.the-copy Exit.yes;
   row = Rows'.whole (Declared'.row Found.the-type);
   rd = λ x. x;
   mk = λ x. x;
 } λ M 𝓤 H A W. record {
-  copies = Laws'8.copy Found.the-type Laws'4.the-copy 𝓤 H A W;
-  lawful = Laws'8.lawful Found.the-type Laws'4.the-laws 𝓤 H A W;
-  makes = Laws'8.makes Found.the-type Laws'4.the-plain 𝓤 H A;
+  copies = Laws'8.copy Found.the-type Laws'3.the-copy 𝓤 H A W;
+  lawful = Laws'8.lawful Found.the-type Laws'3.the-laws 𝓤 H A W;
+  makes = Laws'8.makes Found.the-type Laws'3.the-plain 𝓤 H A;
   in-mem = Local.mem-whole 𝓤 H A W (Declared'.row Found.the-type);
   of-mem = Local.whole-mem 𝓤 H A W (Declared'.row Found.the-type);
 }
@@ -407,16 +407,16 @@ abbrev pub ps·3 : List.List (Kinds.PK 0)
 ps·3 = List._∷_ (Value.pVal record {
   ty = Declared'.row Found.the-type;
   one = Path'.refl;
-  val = Laws'8.val Found.the-type Laws'4.the-laws;
-  tells = Laws'8.tells Found.the-type Laws'4.the-laws;
-  still = Laws'8.still Found.the-type Laws'4.the-copy Exit.yes;
+  val = Laws'8.val Found.the-type Laws'3.the-laws;
+  tells = Laws'8.tells Found.the-type Laws'3.the-laws;
+  still = Laws'8.still Found.the-type Laws'3.the-copy Exit.yes;
   row = Rows'.whole (Declared'.row Found.the-type);
   rd = λ x. x;
   mk = λ x. x;
 } λ M 𝓤 H A W. record {
-  copies = Laws'8.copy Found.the-type Laws'4.the-copy 𝓤 H A W;
-  lawful = Laws'8.lawful Found.the-type Laws'4.the-laws 𝓤 H A W;
-  makes = Laws'8.makes Found.the-type Laws'4.the-plain 𝓤 H A;
+  copies = Laws'8.copy Found.the-type Laws'3.the-copy 𝓤 H A W;
+  lawful = Laws'8.lawful Found.the-type Laws'3.the-laws 𝓤 H A W;
+  makes = Laws'8.makes Found.the-type Laws'3.the-plain 𝓤 H A;
   in-mem = Local.mem-whole 𝓤 H A W (Declared'.row Found.the-type);
   of-mem = Local.whole-mem 𝓤 H A W (Declared'.row Found.the-type);
 }) List.[]
@@ -428,31 +428,31 @@ abbrev pub ps·4 : List.List (Kinds.PK 0)
 ps·4 = List._∷_ (Value.pVal record {
   ty = Declared'.row Own.the-type;
   one = Path'.refl;
-  val = Laws'8.val Own.the-type Laws'5.the-laws;
-  tells = Laws'8.tells Own.the-type Laws'5.the-laws;
-  still = Laws'8.still Own.the-type Laws'5.the-copy Exit.yes;
+  val = Laws'8.val Own.the-type Laws'4.the-laws;
+  tells = Laws'8.tells Own.the-type Laws'4.the-laws;
+  still = Laws'8.still Own.the-type Laws'4.the-copy Exit.yes;
   row = Rows'.whole (Declared'.row Own.the-type);
   rd = λ x. x;
   mk = λ x. x;
 } λ M 𝓤 H A W. record {
-  copies = Laws'8.copy Own.the-type Laws'5.the-copy 𝓤 H A W;
-  lawful = Laws'8.lawful Own.the-type Laws'5.the-laws 𝓤 H A W;
-  makes = Laws'8.makes Own.the-type Laws'5.the-plain 𝓤 H A;
+  copies = Laws'8.copy Own.the-type Laws'4.the-copy 𝓤 H A W;
+  lawful = Laws'8.lawful Own.the-type Laws'4.the-laws 𝓤 H A W;
+  makes = Laws'8.makes Own.the-type Laws'4.the-plain 𝓤 H A;
   in-mem = Local.mem-whole 𝓤 H A W (Declared'.row Own.the-type);
   of-mem = Local.whole-mem 𝓤 H A W (Declared'.row Own.the-type);
 }) (List._∷_ (Value.pVal record {
   ty = Declared'.row Asking.the-type;
   one = Path'.refl;
-  val = Laws'8.val Asking.the-type Laws'6.the-laws;
-  tells = Laws'8.tells Asking.the-type Laws'6.the-laws;
-  still = Laws'8.still Asking.the-type Laws'6.the-copy Exit.yes;
+  val = Laws'8.val Asking.the-type Laws'5.the-laws;
+  tells = Laws'8.tells Asking.the-type Laws'5.the-laws;
+  still = Laws'8.still Asking.the-type Laws'5.the-copy Exit.yes;
   row = Rows'.whole (Declared'.row Asking.the-type);
   rd = λ x. x;
   mk = λ x. x;
 } λ M 𝓤 H A W. record {
-  copies = Laws'8.copy Asking.the-type Laws'6.the-copy 𝓤 H A W;
-  lawful = Laws'8.lawful Asking.the-type Laws'6.the-laws 𝓤 H A W;
-  makes = Laws'8.makes Asking.the-type Laws'6.the-plain 𝓤 H A;
+  copies = Laws'8.copy Asking.the-type Laws'5.the-copy 𝓤 H A W;
+  lawful = Laws'8.lawful Asking.the-type Laws'5.the-laws 𝓤 H A W;
+  makes = Laws'8.makes Asking.the-type Laws'5.the-plain 𝓤 H A;
   in-mem = Local.mem-whole 𝓤 H A W (Declared'.row Asking.the-type);
   of-mem = Local.whole-mem 𝓤 H A W (Declared'.row Asking.the-type);
 }) (List._∷_ Bool.pBool List.[]))
@@ -518,16 +518,16 @@ abbrev pub r·6 : Kinds.RK 0
 r·6 = Value.rVal record {
   ty = Declared'.row Outcome.the-type;
   one = Path'.refl;
-  val = Laws'8.val Outcome.the-type Laws'3.the-laws;
-  tells = Laws'8.tells Outcome.the-type Laws'3.the-laws;
-  still = Laws'8.still Outcome.the-type Laws'3.the-copy Exit.yes;
+  val = Laws'8.val Outcome.the-type Laws''.the-laws;
+  tells = Laws'8.tells Outcome.the-type Laws''.the-laws;
+  still = Laws'8.still Outcome.the-type Laws''.the-copy Exit.yes;
   row = Rows'.whole (Declared'.row Outcome.the-type);
   rd = λ x. x;
   mk = λ x. x;
 } λ M 𝓤 H A W. record {
-  copies = Laws'8.copy Outcome.the-type Laws'3.the-copy 𝓤 H A W;
-  lawful = Laws'8.lawful Outcome.the-type Laws'3.the-laws 𝓤 H A W;
-  makes = Laws'8.makes Outcome.the-type Laws'3.the-plain 𝓤 H A;
+  copies = Laws'8.copy Outcome.the-type Laws''.the-copy 𝓤 H A W;
+  lawful = Laws'8.lawful Outcome.the-type Laws''.the-laws 𝓤 H A W;
+  makes = Laws'8.makes Outcome.the-type Laws''.the-plain 𝓤 H A;
   in-mem = Local.mem-whole 𝓤 H A W (Declared'.row Outcome.the-type);
   of-mem = Local.whole-mem 𝓤 H A W (Declared'.row Outcome.the-type);
 }
@@ -536,46 +536,46 @@ abbrev pub ps·7 : List.List (Kinds.PK 0)
 ps·7 = List._∷_ (Value.pVal record {
   ty = Declared'.row Own.the-type;
   one = Path'.refl;
-  val = Laws'8.val Own.the-type Laws'5.the-laws;
-  tells = Laws'8.tells Own.the-type Laws'5.the-laws;
-  still = Laws'8.still Own.the-type Laws'5.the-copy Exit.yes;
+  val = Laws'8.val Own.the-type Laws'4.the-laws;
+  tells = Laws'8.tells Own.the-type Laws'4.the-laws;
+  still = Laws'8.still Own.the-type Laws'4.the-copy Exit.yes;
   row = Rows'.whole (Declared'.row Own.the-type);
   rd = λ x. x;
   mk = λ x. x;
 } λ M 𝓤 H A W. record {
-  copies = Laws'8.copy Own.the-type Laws'5.the-copy 𝓤 H A W;
-  lawful = Laws'8.lawful Own.the-type Laws'5.the-laws 𝓤 H A W;
-  makes = Laws'8.makes Own.the-type Laws'5.the-plain 𝓤 H A;
+  copies = Laws'8.copy Own.the-type Laws'4.the-copy 𝓤 H A W;
+  lawful = Laws'8.lawful Own.the-type Laws'4.the-laws 𝓤 H A W;
+  makes = Laws'8.makes Own.the-type Laws'4.the-plain 𝓤 H A;
   in-mem = Local.mem-whole 𝓤 H A W (Declared'.row Own.the-type);
   of-mem = Local.whole-mem 𝓤 H A W (Declared'.row Own.the-type);
 }) (List._∷_ (Num.pNum Syntax.w8) (List._∷_ (Num.pNum Syntax.w64) (List._∷_ (Value.pVal record {
   ty = Declared'.row Asking.the-type;
   one = Path'.refl;
-  val = Laws'8.val Asking.the-type Laws'6.the-laws;
-  tells = Laws'8.tells Asking.the-type Laws'6.the-laws;
-  still = Laws'8.still Asking.the-type Laws'6.the-copy Exit.yes;
+  val = Laws'8.val Asking.the-type Laws'5.the-laws;
+  tells = Laws'8.tells Asking.the-type Laws'5.the-laws;
+  still = Laws'8.still Asking.the-type Laws'5.the-copy Exit.yes;
   row = Rows'.whole (Declared'.row Asking.the-type);
   rd = λ x. x;
   mk = λ x. x;
 } λ M 𝓤 H A W. record {
-  copies = Laws'8.copy Asking.the-type Laws'6.the-copy 𝓤 H A W;
-  lawful = Laws'8.lawful Asking.the-type Laws'6.the-laws 𝓤 H A W;
-  makes = Laws'8.makes Asking.the-type Laws'6.the-plain 𝓤 H A;
+  copies = Laws'8.copy Asking.the-type Laws'5.the-copy 𝓤 H A W;
+  lawful = Laws'8.lawful Asking.the-type Laws'5.the-laws 𝓤 H A W;
+  makes = Laws'8.makes Asking.the-type Laws'5.the-plain 𝓤 H A;
   in-mem = Local.mem-whole 𝓤 H A W (Declared'.row Asking.the-type);
   of-mem = Local.whole-mem 𝓤 H A W (Declared'.row Asking.the-type);
 }) (List._∷_ (Value.pVal record {
   ty = Declared'.row Targets.the-type;
   one = Path'.refl;
-  val = Laws'8.val Targets.the-type Laws'.the-laws;
-  tells = Laws'8.tells Targets.the-type Laws'.the-laws;
-  still = Laws'8.still Targets.the-type Laws'.the-copy Exit.yes;
+  val = Laws'8.val Targets.the-type Laws'6.the-laws;
+  tells = Laws'8.tells Targets.the-type Laws'6.the-laws;
+  still = Laws'8.still Targets.the-type Laws'6.the-copy Exit.yes;
   row = Rows'.whole (Declared'.row Targets.the-type);
   rd = λ x. x;
   mk = λ x. x;
 } λ M 𝓤 H A W. record {
-  copies = Laws'8.copy Targets.the-type Laws'.the-copy 𝓤 H A W;
-  lawful = Laws'8.lawful Targets.the-type Laws'.the-laws 𝓤 H A W;
-  makes = Laws'8.makes Targets.the-type Laws'.the-plain 𝓤 H A;
+  copies = Laws'8.copy Targets.the-type Laws'6.the-copy 𝓤 H A W;
+  lawful = Laws'8.lawful Targets.the-type Laws'6.the-laws 𝓤 H A W;
+  makes = Laws'8.makes Targets.the-type Laws'6.the-plain 𝓤 H A;
   in-mem = Local.mem-whole 𝓤 H A W (Declared'.row Targets.the-type);
   of-mem = Local.whole-mem 𝓤 H A W (Declared'.row Targets.the-type);
 }) List.[]))))
@@ -587,46 +587,46 @@ abbrev pub ps·8 : List.List (Kinds.PK 0)
 ps·8 = List._∷_ (Value.pVal record {
   ty = Declared'.row Own.the-type;
   one = Path'.refl;
-  val = Laws'8.val Own.the-type Laws'5.the-laws;
-  tells = Laws'8.tells Own.the-type Laws'5.the-laws;
-  still = Laws'8.still Own.the-type Laws'5.the-copy Exit.yes;
+  val = Laws'8.val Own.the-type Laws'4.the-laws;
+  tells = Laws'8.tells Own.the-type Laws'4.the-laws;
+  still = Laws'8.still Own.the-type Laws'4.the-copy Exit.yes;
   row = Rows'.whole (Declared'.row Own.the-type);
   rd = λ x. x;
   mk = λ x. x;
 } λ M 𝓤 H A W. record {
-  copies = Laws'8.copy Own.the-type Laws'5.the-copy 𝓤 H A W;
-  lawful = Laws'8.lawful Own.the-type Laws'5.the-laws 𝓤 H A W;
-  makes = Laws'8.makes Own.the-type Laws'5.the-plain 𝓤 H A;
+  copies = Laws'8.copy Own.the-type Laws'4.the-copy 𝓤 H A W;
+  lawful = Laws'8.lawful Own.the-type Laws'4.the-laws 𝓤 H A W;
+  makes = Laws'8.makes Own.the-type Laws'4.the-plain 𝓤 H A;
   in-mem = Local.mem-whole 𝓤 H A W (Declared'.row Own.the-type);
   of-mem = Local.whole-mem 𝓤 H A W (Declared'.row Own.the-type);
 }) (List._∷_ (Num.pNum Syntax.w8) (List._∷_ (Value.pVal record {
   ty = Declared'.row Asking.the-type;
   one = Path'.refl;
-  val = Laws'8.val Asking.the-type Laws'6.the-laws;
-  tells = Laws'8.tells Asking.the-type Laws'6.the-laws;
-  still = Laws'8.still Asking.the-type Laws'6.the-copy Exit.yes;
+  val = Laws'8.val Asking.the-type Laws'5.the-laws;
+  tells = Laws'8.tells Asking.the-type Laws'5.the-laws;
+  still = Laws'8.still Asking.the-type Laws'5.the-copy Exit.yes;
   row = Rows'.whole (Declared'.row Asking.the-type);
   rd = λ x. x;
   mk = λ x. x;
 } λ M 𝓤 H A W. record {
-  copies = Laws'8.copy Asking.the-type Laws'6.the-copy 𝓤 H A W;
-  lawful = Laws'8.lawful Asking.the-type Laws'6.the-laws 𝓤 H A W;
-  makes = Laws'8.makes Asking.the-type Laws'6.the-plain 𝓤 H A;
+  copies = Laws'8.copy Asking.the-type Laws'5.the-copy 𝓤 H A W;
+  lawful = Laws'8.lawful Asking.the-type Laws'5.the-laws 𝓤 H A W;
+  makes = Laws'8.makes Asking.the-type Laws'5.the-plain 𝓤 H A;
   in-mem = Local.mem-whole 𝓤 H A W (Declared'.row Asking.the-type);
   of-mem = Local.whole-mem 𝓤 H A W (Declared'.row Asking.the-type);
 }) (List._∷_ (Value.pVal record {
   ty = Declared'.row Targets.the-type;
   one = Path'.refl;
-  val = Laws'8.val Targets.the-type Laws'.the-laws;
-  tells = Laws'8.tells Targets.the-type Laws'.the-laws;
-  still = Laws'8.still Targets.the-type Laws'.the-copy Exit.yes;
+  val = Laws'8.val Targets.the-type Laws'6.the-laws;
+  tells = Laws'8.tells Targets.the-type Laws'6.the-laws;
+  still = Laws'8.still Targets.the-type Laws'6.the-copy Exit.yes;
   row = Rows'.whole (Declared'.row Targets.the-type);
   rd = λ x. x;
   mk = λ x. x;
 } λ M 𝓤 H A W. record {
-  copies = Laws'8.copy Targets.the-type Laws'.the-copy 𝓤 H A W;
-  lawful = Laws'8.lawful Targets.the-type Laws'.the-laws 𝓤 H A W;
-  makes = Laws'8.makes Targets.the-type Laws'.the-plain 𝓤 H A;
+  copies = Laws'8.copy Targets.the-type Laws'6.the-copy 𝓤 H A W;
+  lawful = Laws'8.lawful Targets.the-type Laws'6.the-laws 𝓤 H A W;
+  makes = Laws'8.makes Targets.the-type Laws'6.the-plain 𝓤 H A;
   in-mem = Local.mem-whole 𝓤 H A W (Declared'.row Targets.the-type);
   of-mem = Local.whole-mem 𝓤 H A W (Declared'.row Targets.the-type);
 }) List.[])))
@@ -657,16 +657,16 @@ abbrev pub r·11 : Kinds.RK 0
 r·11 = Value.rVal record {
   ty = Declared'.row Live.the-type;
   one = Path'.refl;
-  val = Laws'8.val Live.the-type Laws''.the-laws;
-  tells = Laws'8.tells Live.the-type Laws''.the-laws;
-  still = Laws'8.still Live.the-type Laws''.the-copy Exit.yes;
+  val = Laws'8.val Live.the-type Laws'.the-laws;
+  tells = Laws'8.tells Live.the-type Laws'.the-laws;
+  still = Laws'8.still Live.the-type Laws'.the-copy Exit.yes;
   row = Rows'.whole (Declared'.row Live.the-type);
   rd = λ x. x;
   mk = λ x. x;
 } λ M 𝓤 H A W. record {
-  copies = Laws'8.copy Live.the-type Laws''.the-copy 𝓤 H A W;
-  lawful = Laws'8.lawful Live.the-type Laws''.the-laws 𝓤 H A W;
-  makes = Laws'8.makes Live.the-type Laws''.the-plain 𝓤 H A;
+  copies = Laws'8.copy Live.the-type Laws'.the-copy 𝓤 H A W;
+  lawful = Laws'8.lawful Live.the-type Laws'.the-laws 𝓤 H A W;
+  makes = Laws'8.makes Live.the-type Laws'.the-plain 𝓤 H A;
   in-mem = Local.mem-whole 𝓤 H A W (Declared'.row Live.the-type);
   of-mem = Local.whole-mem 𝓤 H A W (Declared'.row Live.the-type);
 }
@@ -684,16 +684,16 @@ ps·12 =
     (List._∷_ (Value.pVal record {
       ty = Declared'.row Own.the-type;
       one = Path'.refl;
-      val = Laws'8.val Own.the-type Laws'5.the-laws;
-      tells = Laws'8.tells Own.the-type Laws'5.the-laws;
-      still = Laws'8.still Own.the-type Laws'5.the-copy Exit.yes;
+      val = Laws'8.val Own.the-type Laws'4.the-laws;
+      tells = Laws'8.tells Own.the-type Laws'4.the-laws;
+      still = Laws'8.still Own.the-type Laws'4.the-copy Exit.yes;
       row = Rows'.whole (Declared'.row Own.the-type);
       rd = λ x. x;
       mk = λ x. x;
     } λ M 𝓤 H A W. record {
-      copies = Laws'8.copy Own.the-type Laws'5.the-copy 𝓤 H A W;
-      lawful = Laws'8.lawful Own.the-type Laws'5.the-laws 𝓤 H A W;
-      makes = Laws'8.makes Own.the-type Laws'5.the-plain 𝓤 H A;
+      copies = Laws'8.copy Own.the-type Laws'4.the-copy 𝓤 H A W;
+      lawful = Laws'8.lawful Own.the-type Laws'4.the-laws 𝓤 H A W;
+      makes = Laws'8.makes Own.the-type Laws'4.the-plain 𝓤 H A;
       in-mem = Local.mem-whole 𝓤 H A W (Declared'.row Own.the-type);
       of-mem = Local.whole-mem 𝓤 H A W (Declared'.row Own.the-type);
     })
@@ -714,16 +714,16 @@ ps·12 =
     (List._∷_ (Value.pVal record {
       ty = Declared'.row Live.the-type;
       one = Path'.refl;
-      val = Laws'8.val Live.the-type Laws''.the-laws;
-      tells = Laws'8.tells Live.the-type Laws''.the-laws;
-      still = Laws'8.still Live.the-type Laws''.the-copy Exit.yes;
+      val = Laws'8.val Live.the-type Laws'.the-laws;
+      tells = Laws'8.tells Live.the-type Laws'.the-laws;
+      still = Laws'8.still Live.the-type Laws'.the-copy Exit.yes;
       row = Rows'.whole (Declared'.row Live.the-type);
       rd = λ x. x;
       mk = λ x. x;
     } λ M 𝓤 H A W. record {
-      copies = Laws'8.copy Live.the-type Laws''.the-copy 𝓤 H A W;
-      lawful = Laws'8.lawful Live.the-type Laws''.the-laws 𝓤 H A W;
-      makes = Laws'8.makes Live.the-type Laws''.the-plain 𝓤 H A;
+      copies = Laws'8.copy Live.the-type Laws'.the-copy 𝓤 H A W;
+      lawful = Laws'8.lawful Live.the-type Laws'.the-laws 𝓤 H A W;
+      makes = Laws'8.makes Live.the-type Laws'.the-plain 𝓤 H A;
       in-mem = Local.mem-whole 𝓤 H A W (Declared'.row Live.the-type);
       of-mem = Local.whole-mem 𝓤 H A W (Declared'.row Live.the-type);
     }) List.[]))))))))))))
@@ -732,16 +732,16 @@ abbrev pub r·12 : Kinds.RK 8
 r·12 = Value.rVal record {
   ty = Declared'.row Outcome.the-type;
   one = Path'.refl;
-  val = Laws'8.val Outcome.the-type Laws'3.the-laws;
-  tells = Laws'8.tells Outcome.the-type Laws'3.the-laws;
-  still = Laws'8.still Outcome.the-type Laws'3.the-copy Exit.yes;
+  val = Laws'8.val Outcome.the-type Laws''.the-laws;
+  tells = Laws'8.tells Outcome.the-type Laws''.the-laws;
+  still = Laws'8.still Outcome.the-type Laws''.the-copy Exit.yes;
   row = Rows'.whole (Declared'.row Outcome.the-type);
   rd = λ x. x;
   mk = λ x. x;
 } λ M 𝓤 H A W. record {
-  copies = Laws'8.copy Outcome.the-type Laws'3.the-copy 𝓤 H A W;
-  lawful = Laws'8.lawful Outcome.the-type Laws'3.the-laws 𝓤 H A W;
-  makes = Laws'8.makes Outcome.the-type Laws'3.the-plain 𝓤 H A;
+  copies = Laws'8.copy Outcome.the-type Laws''.the-copy 𝓤 H A W;
+  lawful = Laws'8.lawful Outcome.the-type Laws''.the-laws 𝓤 H A W;
+  makes = Laws'8.makes Outcome.the-type Laws''.the-plain 𝓤 H A;
   in-mem = Local.mem-whole 𝓤 H A W (Declared'.row Outcome.the-type);
   of-mem = Local.whole-mem 𝓤 H A W (Declared'.row Outcome.the-type);
 }
@@ -1778,11 +1778,19 @@ t3 = List._∷_ (0, Rows'.whole (Declared'.row Outcome.the-type)) (List._∷_ (
   Rows'.any-gone
       (Syntax.tyStruct
       (List._∷_
+      116
+      (List._∷_
       97
       (List._∷_
       114
       (List._∷_
+      103
+      (List._∷_
+      101
+      (List._∷_
       116
+      (List._∷_
+      115
       (List._∷_
       58
       (List._∷_
@@ -1791,7 +1799,7 @@ t3 = List._∷_ (0, Rows'.whole (Declared'.row Outcome.the-type)) (List._∷_ (
       84
       (List._∷_
       97
-      (List._∷_ 114 (List._∷_ 103 (List._∷_ 101 (List._∷_ 116 (List._∷_ 115 List.[]))))))))))))
+      (List._∷_ 114 (List._∷_ 103 (List._∷_ 101 (List._∷_ 116 (List._∷_ 115 List.[]))))))))))))))))
       (Syntax.tcons
       Syntax.tyBool
       (Syntax.tcons
@@ -5263,11 +5271,19 @@ t18 = List._∷_ (
   Rows'.any-gone
       (Syntax.tyStruct
       (List._∷_
+      116
+      (List._∷_
       97
       (List._∷_
       114
       (List._∷_
+      103
+      (List._∷_
+      101
+      (List._∷_
       116
+      (List._∷_
+      115
       (List._∷_
       58
       (List._∷_
@@ -5276,7 +5292,7 @@ t18 = List._∷_ (
       84
       (List._∷_
       97
-      (List._∷_ 114 (List._∷_ 103 (List._∷_ 101 (List._∷_ 116 (List._∷_ 115 List.[]))))))))))))
+      (List._∷_ 114 (List._∷_ 103 (List._∷_ 101 (List._∷_ 116 (List._∷_ 115 List.[]))))))))))))))))
       (Syntax.tcons
       Syntax.tyBool
       (Syntax.tcons
@@ -5421,11 +5437,19 @@ t19 = List._∷_ (0, Rows'.whole (Declared'.row Outcome.the-type)) (List._∷_ (
   Rows'.any-gone
       (Syntax.tyStruct
       (List._∷_
+      116
+      (List._∷_
       97
       (List._∷_
       114
       (List._∷_
+      103
+      (List._∷_
+      101
+      (List._∷_
       116
+      (List._∷_
+      115
       (List._∷_
       58
       (List._∷_
@@ -5434,7 +5458,7 @@ t19 = List._∷_ (0, Rows'.whole (Declared'.row Outcome.the-type)) (List._∷_ (
       84
       (List._∷_
       97
-      (List._∷_ 114 (List._∷_ 103 (List._∷_ 101 (List._∷_ 116 (List._∷_ 115 List.[]))))))))))))
+      (List._∷_ 114 (List._∷_ 103 (List._∷_ 101 (List._∷_ 116 (List._∷_ 115 List.[]))))))))))))))))
       (Syntax.tcons
       Syntax.tyBool
       (Syntax.tcons
@@ -5579,11 +5603,19 @@ t20 = List._∷_ (0, Rows'.whole (Declared'.row Outcome.the-type)) (List._∷_ (
   Rows'.any-gone
       (Syntax.tyStruct
       (List._∷_
+      116
+      (List._∷_
       97
       (List._∷_
       114
       (List._∷_
+      103
+      (List._∷_
+      101
+      (List._∷_
       116
+      (List._∷_
+      115
       (List._∷_
       58
       (List._∷_
@@ -5592,7 +5624,7 @@ t20 = List._∷_ (0, Rows'.whole (Declared'.row Outcome.the-type)) (List._∷_ (
       84
       (List._∷_
       97
-      (List._∷_ 114 (List._∷_ 103 (List._∷_ 101 (List._∷_ 116 (List._∷_ 115 List.[]))))))))))))
+      (List._∷_ 114 (List._∷_ 103 (List._∷_ 101 (List._∷_ 116 (List._∷_ 115 List.[]))))))))))))))))
       (Syntax.tcons
       Syntax.tyBool
       (Syntax.tcons
@@ -5790,11 +5822,19 @@ t21 = List._∷_ (0, Rows'.whole (Declared'.row Outcome.the-type)) (List._∷_ (
   Rows'.any-gone
       (Syntax.tyStruct
       (List._∷_
+      116
+      (List._∷_
       97
       (List._∷_
       114
       (List._∷_
+      103
+      (List._∷_
+      101
+      (List._∷_
       116
+      (List._∷_
+      115
       (List._∷_
       58
       (List._∷_
@@ -5803,7 +5843,7 @@ t21 = List._∷_ (0, Rows'.whole (Declared'.row Outcome.the-type)) (List._∷_ (
       84
       (List._∷_
       97
-      (List._∷_ 114 (List._∷_ 103 (List._∷_ 101 (List._∷_ 116 (List._∷_ 115 List.[]))))))))))))
+      (List._∷_ 114 (List._∷_ 103 (List._∷_ 101 (List._∷_ 116 (List._∷_ 115 List.[]))))))))))))))))
       (Syntax.tcons
       Syntax.tyBool
       (Syntax.tcons
@@ -6001,11 +6041,19 @@ t22 = List._∷_ (0, Rows'.whole (Declared'.row Outcome.the-type)) (List._∷_ (
   Rows'.any-gone
       (Syntax.tyStruct
       (List._∷_
+      116
+      (List._∷_
       97
       (List._∷_
       114
       (List._∷_
+      103
+      (List._∷_
+      101
+      (List._∷_
       116
+      (List._∷_
+      115
       (List._∷_
       58
       (List._∷_
@@ -6014,7 +6062,7 @@ t22 = List._∷_ (0, Rows'.whole (Declared'.row Outcome.the-type)) (List._∷_ (
       84
       (List._∷_
       97
-      (List._∷_ 114 (List._∷_ 103 (List._∷_ 101 (List._∷_ 116 (List._∷_ 115 List.[]))))))))))))
+      (List._∷_ 114 (List._∷_ 103 (List._∷_ 101 (List._∷_ 116 (List._∷_ 115 List.[]))))))))))))))))
       (Syntax.tcons
       Syntax.tyBool
       (Syntax.tcons
@@ -7299,11 +7347,19 @@ t27 = List._∷_ (
   Rows'.any-gone
       (Syntax.tyStruct
       (List._∷_
+      116
+      (List._∷_
       97
       (List._∷_
       114
       (List._∷_
+      103
+      (List._∷_
+      101
+      (List._∷_
       116
+      (List._∷_
+      115
       (List._∷_
       58
       (List._∷_
@@ -7312,7 +7368,7 @@ t27 = List._∷_ (
       84
       (List._∷_
       97
-      (List._∷_ 114 (List._∷_ 103 (List._∷_ 101 (List._∷_ 116 (List._∷_ 115 List.[]))))))))))))
+      (List._∷_ 114 (List._∷_ 103 (List._∷_ 101 (List._∷_ 116 (List._∷_ 115 List.[]))))))))))))))))
       (Syntax.tcons
       Syntax.tyBool
       (Syntax.tcons
@@ -7729,11 +7785,19 @@ t28 = List._∷_ (
   Rows'.any-gone
       (Syntax.tyStruct
       (List._∷_
+      116
+      (List._∷_
       97
       (List._∷_
       114
       (List._∷_
+      103
+      (List._∷_
+      101
+      (List._∷_
       116
+      (List._∷_
+      115
       (List._∷_
       58
       (List._∷_
@@ -7742,7 +7806,7 @@ t28 = List._∷_ (
       84
       (List._∷_
       97
-      (List._∷_ 114 (List._∷_ 103 (List._∷_ 101 (List._∷_ 116 (List._∷_ 115 List.[]))))))))))))
+      (List._∷_ 114 (List._∷_ 103 (List._∷_ 101 (List._∷_ 116 (List._∷_ 115 List.[]))))))))))))))))
       (Syntax.tcons
       Syntax.tyBool
       (Syntax.tcons
@@ -8489,11 +8553,19 @@ t34 = List._∷_ (
   Rows'.any-gone
       (Syntax.tyStruct
       (List._∷_
+      116
+      (List._∷_
       97
       (List._∷_
       114
       (List._∷_
+      103
+      (List._∷_
+      101
+      (List._∷_
       116
+      (List._∷_
+      115
       (List._∷_
       58
       (List._∷_
@@ -8502,7 +8574,7 @@ t34 = List._∷_ (
       84
       (List._∷_
       97
-      (List._∷_ 114 (List._∷_ 103 (List._∷_ 101 (List._∷_ 116 (List._∷_ 115 List.[]))))))))))))
+      (List._∷_ 114 (List._∷_ 103 (List._∷_ 101 (List._∷_ 116 (List._∷_ 115 List.[]))))))))))))))))
       (Syntax.tcons
       Syntax.tyBool
       (Syntax.tcons
@@ -9055,11 +9127,19 @@ t37 = List._∷_ (
   Rows'.any-gone
       (Syntax.tyStruct
       (List._∷_
+      116
+      (List._∷_
       97
       (List._∷_
       114
       (List._∷_
+      103
+      (List._∷_
+      101
+      (List._∷_
       116
+      (List._∷_
+      115
       (List._∷_
       58
       (List._∷_
@@ -9068,7 +9148,7 @@ t37 = List._∷_ (
       84
       (List._∷_
       97
-      (List._∷_ 114 (List._∷_ 103 (List._∷_ 101 (List._∷_ 116 (List._∷_ 115 List.[]))))))))))))
+      (List._∷_ 114 (List._∷_ 103 (List._∷_ 101 (List._∷_ 116 (List._∷_ 115 List.[]))))))))))))))))
       (Syntax.tcons
       Syntax.tyBool
       (Syntax.tcons
@@ -9619,11 +9699,19 @@ t40 = List._∷_ (
   Rows'.any-gone
       (Syntax.tyStruct
       (List._∷_
+      116
+      (List._∷_
       97
       (List._∷_
       114
       (List._∷_
+      103
+      (List._∷_
+      101
+      (List._∷_
       116
+      (List._∷_
+      115
       (List._∷_
       58
       (List._∷_
@@ -9632,7 +9720,7 @@ t40 = List._∷_ (
       84
       (List._∷_
       97
-      (List._∷_ 114 (List._∷_ 103 (List._∷_ 101 (List._∷_ 116 (List._∷_ 115 List.[]))))))))))))
+      (List._∷_ 114 (List._∷_ 103 (List._∷_ 101 (List._∷_ 116 (List._∷_ 115 List.[]))))))))))))))))
       (Syntax.tcons
       Syntax.tyBool
       (Syntax.tcons
@@ -10182,11 +10270,19 @@ t43 = List._∷_ (
   Rows'.any-gone
       (Syntax.tyStruct
       (List._∷_
+      116
+      (List._∷_
       97
       (List._∷_
       114
       (List._∷_
+      103
+      (List._∷_
+      101
+      (List._∷_
       116
+      (List._∷_
+      115
       (List._∷_
       58
       (List._∷_
@@ -10195,7 +10291,7 @@ t43 = List._∷_ (
       84
       (List._∷_
       97
-      (List._∷_ 114 (List._∷_ 103 (List._∷_ 101 (List._∷_ 116 (List._∷_ 115 List.[]))))))))))))
+      (List._∷_ 114 (List._∷_ 103 (List._∷_ 101 (List._∷_ 116 (List._∷_ 115 List.[]))))))))))))))))
       (Syntax.tcons
       Syntax.tyBool
       (Syntax.tcons
@@ -10853,11 +10949,19 @@ t48 = List._∷_ (
   Rows'.any-gone
       (Syntax.tyStruct
       (List._∷_
+      116
+      (List._∷_
       97
       (List._∷_
       114
       (List._∷_
+      103
+      (List._∷_
+      101
+      (List._∷_
       116
+      (List._∷_
+      115
       (List._∷_
       58
       (List._∷_
@@ -10866,7 +10970,7 @@ t48 = List._∷_ (
       84
       (List._∷_
       97
-      (List._∷_ 114 (List._∷_ 103 (List._∷_ 101 (List._∷_ 116 (List._∷_ 115 List.[]))))))))))))
+      (List._∷_ 114 (List._∷_ 103 (List._∷_ 101 (List._∷_ 116 (List._∷_ 115 List.[]))))))))))))))))
       (Syntax.tcons
       Syntax.tyBool
       (Syntax.tcons
@@ -11351,11 +11455,19 @@ t50 = List._∷_ (
   Rows'.any-gone
       (Syntax.tyStruct
       (List._∷_
+      116
+      (List._∷_
       97
       (List._∷_
       114
       (List._∷_
+      103
+      (List._∷_
+      101
+      (List._∷_
       116
+      (List._∷_
+      115
       (List._∷_
       58
       (List._∷_
@@ -11364,7 +11476,7 @@ t50 = List._∷_ (
       84
       (List._∷_
       97
-      (List._∷_ 114 (List._∷_ 103 (List._∷_ 101 (List._∷_ 116 (List._∷_ 115 List.[]))))))))))))
+      (List._∷_ 114 (List._∷_ 103 (List._∷_ 101 (List._∷_ 116 (List._∷_ 115 List.[]))))))))))))))))
       (Syntax.tcons
       Syntax.tyBool
       (Syntax.tcons
@@ -11795,11 +11907,19 @@ t55 = List._∷_ (0, Rows'.whole (Declared'.row Outcome.the-type)) (List._∷_ (
   Rows'.any-gone
       (Syntax.tyStruct
       (List._∷_
+      116
+      (List._∷_
       97
       (List._∷_
       114
       (List._∷_
+      103
+      (List._∷_
+      101
+      (List._∷_
       116
+      (List._∷_
+      115
       (List._∷_
       58
       (List._∷_
@@ -11808,7 +11928,7 @@ t55 = List._∷_ (0, Rows'.whole (Declared'.row Outcome.the-type)) (List._∷_ (
       84
       (List._∷_
       97
-      (List._∷_ 114 (List._∷_ 103 (List._∷_ 101 (List._∷_ 116 (List._∷_ 115 List.[]))))))))))))
+      (List._∷_ 114 (List._∷_ 103 (List._∷_ 101 (List._∷_ 116 (List._∷_ 115 List.[]))))))))))))))))
       (Syntax.tcons
       Syntax.tyBool
       (Syntax.tcons
@@ -12248,11 +12368,19 @@ t62 = List._∷_ (0, Rows'.whole (Declared'.row Outcome.the-type)) (List._∷_ (
   Rows'.any-gone
       (Syntax.tyStruct
       (List._∷_
+      116
+      (List._∷_
       97
       (List._∷_
       114
       (List._∷_
+      103
+      (List._∷_
+      101
+      (List._∷_
       116
+      (List._∷_
+      115
       (List._∷_
       58
       (List._∷_
@@ -12261,7 +12389,7 @@ t62 = List._∷_ (0, Rows'.whole (Declared'.row Outcome.the-type)) (List._∷_ (
       84
       (List._∷_
       97
-      (List._∷_ 114 (List._∷_ 103 (List._∷_ 101 (List._∷_ 116 (List._∷_ 115 List.[]))))))))))))
+      (List._∷_ 114 (List._∷_ 103 (List._∷_ 101 (List._∷_ 116 (List._∷_ 115 List.[]))))))))))))))))
       (Syntax.tcons
       Syntax.tyBool
       (Syntax.tcons
@@ -12527,11 +12655,19 @@ t64 = List._∷_ (0, Rows'.whole (Declared'.row Outcome.the-type)) (List._∷_ (
   Rows'.any-gone
       (Syntax.tyStruct
       (List._∷_
+      116
+      (List._∷_
       97
       (List._∷_
       114
       (List._∷_
+      103
+      (List._∷_
+      101
+      (List._∷_
       116
+      (List._∷_
+      115
       (List._∷_
       58
       (List._∷_
@@ -12540,7 +12676,7 @@ t64 = List._∷_ (0, Rows'.whole (Declared'.row Outcome.the-type)) (List._∷_ (
       84
       (List._∷_
       97
-      (List._∷_ 114 (List._∷_ 103 (List._∷_ 101 (List._∷_ 116 (List._∷_ 115 List.[]))))))))))))
+      (List._∷_ 114 (List._∷_ 103 (List._∷_ 101 (List._∷_ 116 (List._∷_ 115 List.[]))))))))))))))))
       (Syntax.tcons
       Syntax.tyBool
       (Syntax.tcons
@@ -12824,11 +12960,19 @@ t66 = List._∷_ (0, Rows'.whole (Declared'.row Outcome.the-type)) (List._∷_ (
   Rows'.any-gone
       (Syntax.tyStruct
       (List._∷_
+      116
+      (List._∷_
       97
       (List._∷_
       114
       (List._∷_
+      103
+      (List._∷_
+      101
+      (List._∷_
       116
+      (List._∷_
+      115
       (List._∷_
       58
       (List._∷_
@@ -12837,7 +12981,7 @@ t66 = List._∷_ (0, Rows'.whole (Declared'.row Outcome.the-type)) (List._∷_ (
       84
       (List._∷_
       97
-      (List._∷_ 114 (List._∷_ 103 (List._∷_ 101 (List._∷_ 116 (List._∷_ 115 List.[]))))))))))))
+      (List._∷_ 114 (List._∷_ 103 (List._∷_ 101 (List._∷_ 116 (List._∷_ 115 List.[]))))))))))))))))
       (Syntax.tcons
       Syntax.tyBool
       (Syntax.tcons
@@ -13122,11 +13266,19 @@ t68 = List._∷_ (0, Rows'.whole (Declared'.row Outcome.the-type)) (List._∷_ (
   Rows'.any-gone
       (Syntax.tyStruct
       (List._∷_
+      116
+      (List._∷_
       97
       (List._∷_
       114
       (List._∷_
+      103
+      (List._∷_
+      101
+      (List._∷_
       116
+      (List._∷_
+      115
       (List._∷_
       58
       (List._∷_
@@ -13135,7 +13287,7 @@ t68 = List._∷_ (0, Rows'.whole (Declared'.row Outcome.the-type)) (List._∷_ (
       84
       (List._∷_
       97
-      (List._∷_ 114 (List._∷_ 103 (List._∷_ 101 (List._∷_ 116 (List._∷_ 115 List.[]))))))))))))
+      (List._∷_ 114 (List._∷_ 103 (List._∷_ 101 (List._∷_ 116 (List._∷_ 115 List.[]))))))))))))))))
       (Syntax.tcons
       Syntax.tyBool
       (Syntax.tcons
@@ -13421,11 +13573,19 @@ t70 = List._∷_ (0, Rows'.whole (Declared'.row Outcome.the-type)) (List._∷_ (
   Rows'.any-gone
       (Syntax.tyStruct
       (List._∷_
+      116
+      (List._∷_
       97
       (List._∷_
       114
       (List._∷_
+      103
+      (List._∷_
+      101
+      (List._∷_
       116
+      (List._∷_
+      115
       (List._∷_
       58
       (List._∷_
@@ -13434,7 +13594,7 @@ t70 = List._∷_ (0, Rows'.whole (Declared'.row Outcome.the-type)) (List._∷_ (
       84
       (List._∷_
       97
-      (List._∷_ 114 (List._∷_ 103 (List._∷_ 101 (List._∷_ 116 (List._∷_ 115 List.[]))))))))))))
+      (List._∷_ 114 (List._∷_ 103 (List._∷_ 101 (List._∷_ 116 (List._∷_ 115 List.[]))))))))))))))))
       (Syntax.tcons
       Syntax.tyBool
       (Syntax.tcons
@@ -13788,11 +13948,19 @@ t73 = List._∷_ (0, Rows'.whole (Declared'.row Outcome.the-type)) (List._∷_ (
   Rows'.any-gone
       (Syntax.tyStruct
       (List._∷_
+      116
+      (List._∷_
       97
       (List._∷_
       114
       (List._∷_
+      103
+      (List._∷_
+      101
+      (List._∷_
       116
+      (List._∷_
+      115
       (List._∷_
       58
       (List._∷_
@@ -13801,7 +13969,7 @@ t73 = List._∷_ (0, Rows'.whole (Declared'.row Outcome.the-type)) (List._∷_ (
       84
       (List._∷_
       97
-      (List._∷_ 114 (List._∷_ 103 (List._∷_ 101 (List._∷_ 116 (List._∷_ 115 List.[]))))))))))))
+      (List._∷_ 114 (List._∷_ 103 (List._∷_ 101 (List._∷_ 116 (List._∷_ 115 List.[]))))))))))))))))
       (Syntax.tcons
       Syntax.tyBool
       (Syntax.tcons
@@ -14003,11 +14171,19 @@ t74 = List._∷_ (0, Rows'.whole (Declared'.row Outcome.the-type)) (List._∷_ (
   Rows'.any-gone
       (Syntax.tyStruct
       (List._∷_
+      116
+      (List._∷_
       97
       (List._∷_
       114
       (List._∷_
+      103
+      (List._∷_
+      101
+      (List._∷_
       116
+      (List._∷_
+      115
       (List._∷_
       58
       (List._∷_
@@ -14016,7 +14192,7 @@ t74 = List._∷_ (0, Rows'.whole (Declared'.row Outcome.the-type)) (List._∷_ (
       84
       (List._∷_
       97
-      (List._∷_ 114 (List._∷_ 103 (List._∷_ 101 (List._∷_ 116 (List._∷_ 115 List.[]))))))))))))
+      (List._∷_ 114 (List._∷_ 103 (List._∷_ 101 (List._∷_ 116 (List._∷_ 115 List.[]))))))))))))))))
       (Syntax.tcons
       Syntax.tyBool
       (Syntax.tcons
@@ -14218,11 +14394,19 @@ t75 = List._∷_ (0, Rows'.whole (Declared'.row Outcome.the-type)) (List._∷_ (
   Rows'.any-gone
       (Syntax.tyStruct
       (List._∷_
+      116
+      (List._∷_
       97
       (List._∷_
       114
       (List._∷_
+      103
+      (List._∷_
+      101
+      (List._∷_
       116
+      (List._∷_
+      115
       (List._∷_
       58
       (List._∷_
@@ -14231,7 +14415,7 @@ t75 = List._∷_ (0, Rows'.whole (Declared'.row Outcome.the-type)) (List._∷_ (
       84
       (List._∷_
       97
-      (List._∷_ 114 (List._∷_ 103 (List._∷_ 101 (List._∷_ 116 (List._∷_ 115 List.[]))))))))))))
+      (List._∷_ 114 (List._∷_ 103 (List._∷_ 101 (List._∷_ 116 (List._∷_ 115 List.[]))))))))))))))))
       (Syntax.tcons
       Syntax.tyBool
       (Syntax.tcons
@@ -14925,11 +15109,19 @@ module _ (claims· : Claims) where
       10
       (Syntax.tyStruct
       (List._∷_
+      116
+      (List._∷_
       97
       (List._∷_
       114
       (List._∷_
+      103
+      (List._∷_
+      101
+      (List._∷_
       116
+      (List._∷_
+      115
       (List._∷_
       58
       (List._∷_
@@ -14938,7 +15130,7 @@ module _ (claims· : Claims) where
       84
       (List._∷_
       97
-      (List._∷_ 114 (List._∷_ 103 (List._∷_ 101 (List._∷_ 116 (List._∷_ 115 List.[]))))))))))))
+      (List._∷_ 114 (List._∷_ 103 (List._∷_ 101 (List._∷_ 116 (List._∷_ 115 List.[]))))))))))))))))
       (Syntax.tcons
       Syntax.tyBool
       (Syntax.tcons
@@ -15422,11 +15614,19 @@ module _ (claims· : Claims) where
       10
       (Syntax.tyStruct
       (List._∷_
+      116
+      (List._∷_
       97
       (List._∷_
       114
       (List._∷_
+      103
+      (List._∷_
+      101
+      (List._∷_
       116
+      (List._∷_
+      115
       (List._∷_
       58
       (List._∷_
@@ -15435,7 +15635,7 @@ module _ (claims· : Claims) where
       84
       (List._∷_
       97
-      (List._∷_ 114 (List._∷_ 103 (List._∷_ 101 (List._∷_ 116 (List._∷_ 115 List.[]))))))))))))
+      (List._∷_ 114 (List._∷_ 103 (List._∷_ 101 (List._∷_ 116 (List._∷_ 115 List.[]))))))))))))))))
       (Syntax.tcons
       Syntax.tyBool
       (Syntax.tcons
@@ -18036,11 +18236,19 @@ module _ (claims· : Claims) where
           Rows'.any-gone
               (Syntax.tyStruct
               (List._∷_
+              116
+              (List._∷_
               97
               (List._∷_
               114
               (List._∷_
+              103
+              (List._∷_
+              101
+              (List._∷_
               116
+              (List._∷_
+              115
               (List._∷_
               58
               (List._∷_
@@ -18051,7 +18259,7 @@ module _ (claims· : Claims) where
               97
               (List._∷_
               114
-              (List._∷_ 103 (List._∷_ 101 (List._∷_ 116 (List._∷_ 115 List.[]))))))))))))
+              (List._∷_ 103 (List._∷_ 101 (List._∷_ 116 (List._∷_ 115 List.[]))))))))))))))))
               (Syntax.tcons
               Syntax.tyBool
               (Syntax.tcons
@@ -18494,11 +18702,19 @@ module _ (claims· : Claims) where
           Rows'.any-gone
               (Syntax.tyStruct
               (List._∷_
+              116
+              (List._∷_
               97
               (List._∷_
               114
               (List._∷_
+              103
+              (List._∷_
+              101
+              (List._∷_
               116
+              (List._∷_
+              115
               (List._∷_
               58
               (List._∷_
@@ -18509,7 +18725,7 @@ module _ (claims· : Claims) where
               97
               (List._∷_
               114
-              (List._∷_ 103 (List._∷_ 101 (List._∷_ 116 (List._∷_ 115 List.[]))))))))))))
+              (List._∷_ 103 (List._∷_ 101 (List._∷_ 116 (List._∷_ 115 List.[]))))))))))))))))
               (Syntax.tcons
               Syntax.tyBool
               (Syntax.tcons
@@ -18954,11 +19170,19 @@ module _ (claims· : Claims) where
           Rows'.any-gone
               (Syntax.tyStruct
               (List._∷_
+              116
+              (List._∷_
               97
               (List._∷_
               114
               (List._∷_
+              103
+              (List._∷_
+              101
+              (List._∷_
               116
+              (List._∷_
+              115
               (List._∷_
               58
               (List._∷_
@@ -18969,7 +19193,7 @@ module _ (claims· : Claims) where
               97
               (List._∷_
               114
-              (List._∷_ 103 (List._∷_ 101 (List._∷_ 116 (List._∷_ 115 List.[]))))))))))))
+              (List._∷_ 103 (List._∷_ 101 (List._∷_ 116 (List._∷_ 115 List.[]))))))))))))))))
               (Syntax.tcons
               Syntax.tyBool
               (Syntax.tcons
@@ -19416,11 +19640,19 @@ module _ (claims· : Claims) where
           Rows'.any-gone
               (Syntax.tyStruct
               (List._∷_
+              116
+              (List._∷_
               97
               (List._∷_
               114
               (List._∷_
+              103
+              (List._∷_
+              101
+              (List._∷_
               116
+              (List._∷_
+              115
               (List._∷_
               58
               (List._∷_
@@ -19431,7 +19663,7 @@ module _ (claims· : Claims) where
               97
               (List._∷_
               114
-              (List._∷_ 103 (List._∷_ 101 (List._∷_ 116 (List._∷_ 115 List.[]))))))))))))
+              (List._∷_ 103 (List._∷_ 101 (List._∷_ 116 (List._∷_ 115 List.[]))))))))))))))))
               (Syntax.tcons
               Syntax.tyBool
               (Syntax.tcons
@@ -19878,11 +20110,19 @@ module _ (claims· : Claims) where
           Rows'.any-gone
               (Syntax.tyStruct
               (List._∷_
+              116
+              (List._∷_
               97
               (List._∷_
               114
               (List._∷_
+              103
+              (List._∷_
+              101
+              (List._∷_
               116
+              (List._∷_
+              115
               (List._∷_
               58
               (List._∷_
@@ -19893,7 +20133,7 @@ module _ (claims· : Claims) where
               97
               (List._∷_
               114
-              (List._∷_ 103 (List._∷_ 101 (List._∷_ 116 (List._∷_ 115 List.[]))))))))))))
+              (List._∷_ 103 (List._∷_ 101 (List._∷_ 116 (List._∷_ 115 List.[]))))))))))))))))
               (Syntax.tcons
               Syntax.tyBool
               (Syntax.tcons
@@ -20347,11 +20587,19 @@ module _ (claims· : Claims) where
           Rows'.any-gone
               (Syntax.tyStruct
               (List._∷_
+              116
+              (List._∷_
               97
               (List._∷_
               114
               (List._∷_
+              103
+              (List._∷_
+              101
+              (List._∷_
               116
+              (List._∷_
+              115
               (List._∷_
               58
               (List._∷_
@@ -20362,7 +20610,7 @@ module _ (claims· : Claims) where
               97
               (List._∷_
               114
-              (List._∷_ 103 (List._∷_ 101 (List._∷_ 116 (List._∷_ 115 List.[]))))))))))))
+              (List._∷_ 103 (List._∷_ 101 (List._∷_ 116 (List._∷_ 115 List.[]))))))))))))))))
               (Syntax.tcons
               Syntax.tyBool
               (Syntax.tcons
@@ -20582,11 +20830,19 @@ module _ (claims· : Claims) where
           Rows'.any-gone
               (Syntax.tyStruct
               (List._∷_
+              116
+              (List._∷_
               97
               (List._∷_
               114
               (List._∷_
+              103
+              (List._∷_
+              101
+              (List._∷_
               116
+              (List._∷_
+              115
               (List._∷_
               58
               (List._∷_
@@ -20597,7 +20853,7 @@ module _ (claims· : Claims) where
               97
               (List._∷_
               114
-              (List._∷_ 103 (List._∷_ 101 (List._∷_ 116 (List._∷_ 115 List.[]))))))))))))
+              (List._∷_ 103 (List._∷_ 101 (List._∷_ 116 (List._∷_ 115 List.[]))))))))))))))))
               (Syntax.tcons
               Syntax.tyBool
               (Syntax.tcons
@@ -20828,11 +21084,19 @@ module _ (claims· : Claims) where
           Rows'.any-gone
               (Syntax.tyStruct
               (List._∷_
+              116
+              (List._∷_
               97
               (List._∷_
               114
               (List._∷_
+              103
+              (List._∷_
+              101
+              (List._∷_
               116
+              (List._∷_
+              115
               (List._∷_
               58
               (List._∷_
@@ -20843,7 +21107,7 @@ module _ (claims· : Claims) where
               97
               (List._∷_
               114
-              (List._∷_ 103 (List._∷_ 101 (List._∷_ 116 (List._∷_ 115 List.[]))))))))))))
+              (List._∷_ 103 (List._∷_ 101 (List._∷_ 116 (List._∷_ 115 List.[]))))))))))))))))
               (Syntax.tcons
               Syntax.tyBool
               (Syntax.tcons
@@ -21072,11 +21336,19 @@ module _ (claims· : Claims) where
           Rows'.any-gone
               (Syntax.tyStruct
               (List._∷_
+              116
+              (List._∷_
               97
               (List._∷_
               114
               (List._∷_
+              103
+              (List._∷_
+              101
+              (List._∷_
               116
+              (List._∷_
+              115
               (List._∷_
               58
               (List._∷_
@@ -21087,7 +21359,7 @@ module _ (claims· : Claims) where
               97
               (List._∷_
               114
-              (List._∷_ 103 (List._∷_ 101 (List._∷_ 116 (List._∷_ 115 List.[]))))))))))))
+              (List._∷_ 103 (List._∷_ 101 (List._∷_ 116 (List._∷_ 115 List.[]))))))))))))))))
               (Syntax.tcons
               Syntax.tyBool
               (Syntax.tcons
@@ -21314,11 +21586,19 @@ module _ (claims· : Claims) where
           Rows'.any-gone
               (Syntax.tyStruct
               (List._∷_
+              116
+              (List._∷_
               97
               (List._∷_
               114
               (List._∷_
+              103
+              (List._∷_
+              101
+              (List._∷_
               116
+              (List._∷_
+              115
               (List._∷_
               58
               (List._∷_
@@ -21329,7 +21609,7 @@ module _ (claims· : Claims) where
               97
               (List._∷_
               114
-              (List._∷_ 103 (List._∷_ 101 (List._∷_ 116 (List._∷_ 115 List.[]))))))))))))
+              (List._∷_ 103 (List._∷_ 101 (List._∷_ 116 (List._∷_ 115 List.[]))))))))))))))))
               (Syntax.tcons
               Syntax.tyBool
               (Syntax.tcons
@@ -21554,11 +21834,19 @@ module _ (claims· : Claims) where
           Rows'.any-gone
               (Syntax.tyStruct
               (List._∷_
+              116
+              (List._∷_
               97
               (List._∷_
               114
               (List._∷_
+              103
+              (List._∷_
+              101
+              (List._∷_
               116
+              (List._∷_
+              115
               (List._∷_
               58
               (List._∷_
@@ -21569,7 +21857,7 @@ module _ (claims· : Claims) where
               97
               (List._∷_
               114
-              (List._∷_ 103 (List._∷_ 101 (List._∷_ 116 (List._∷_ 115 List.[]))))))))))))
+              (List._∷_ 103 (List._∷_ 101 (List._∷_ 116 (List._∷_ 115 List.[]))))))))))))))))
               (Syntax.tcons
               Syntax.tyBool
               (Syntax.tcons
@@ -25157,11 +25445,19 @@ module _ (claims· : Claims) where
               10
               (Syntax.tyStruct
               (List._∷_
+              116
+              (List._∷_
               97
               (List._∷_
               114
               (List._∷_
+              103
+              (List._∷_
+              101
+              (List._∷_
               116
+              (List._∷_
+              115
               (List._∷_
               58
               (List._∷_
@@ -25172,7 +25468,7 @@ module _ (claims· : Claims) where
               97
               (List._∷_
               114
-              (List._∷_ 103 (List._∷_ 101 (List._∷_ 116 (List._∷_ 115 List.[]))))))))))))
+              (List._∷_ 103 (List._∷_ 101 (List._∷_ 116 (List._∷_ 115 List.[]))))))))))))))))
               (Syntax.tcons
               Syntax.tyBool
               (Syntax.tcons
@@ -25214,11 +25510,19 @@ module _ (claims· : Claims) where
               (Declared'.row Targets.the-type)
               (Syntax.tyStruct
               (List._∷_
+              116
+              (List._∷_
               97
               (List._∷_
               114
               (List._∷_
+              103
+              (List._∷_
+              101
+              (List._∷_
               116
+              (List._∷_
+              115
               (List._∷_
               58
               (List._∷_
@@ -25229,7 +25533,7 @@ module _ (claims· : Claims) where
               97
               (List._∷_
               114
-              (List._∷_ 103 (List._∷_ 101 (List._∷_ 116 (List._∷_ 115 List.[]))))))))))))
+              (List._∷_ 103 (List._∷_ 101 (List._∷_ 116 (List._∷_ 115 List.[]))))))))))))))))
               (Syntax.tcons
               Syntax.tyBool
               (Syntax.tcons
@@ -27142,8 +27446,8 @@ module _ (claims· : Claims) where
                               Path'.refl
                               (Copies.cStruct
                               Own.the-type
-                              Laws'5.the-laws
-                              Laws'5.the-copy .copy
+                              Laws'4.the-laws
+                              Laws'4.the-copy .copy
                               𝓤
                               H
                               A
@@ -27283,8 +27587,8 @@ module _ (claims· : Claims) where
                                               Path'.refl
                                               (Copies.cStruct
                                               Live.the-type
-                                              Laws''.the-laws
-                                              Laws''.the-copy .copy
+                                              Laws'.the-laws
+                                              Laws'.the-copy .copy
                                               𝓤
                                               H
                                               A
@@ -29834,11 +30138,19 @@ module _ (claims· : Claims) where
               10
               (Syntax.tyStruct
               (List._∷_
+              116
+              (List._∷_
               97
               (List._∷_
               114
               (List._∷_
+              103
+              (List._∷_
+              101
+              (List._∷_
               116
+              (List._∷_
+              115
               (List._∷_
               58
               (List._∷_
@@ -29849,7 +30161,7 @@ module _ (claims· : Claims) where
               97
               (List._∷_
               114
-              (List._∷_ 103 (List._∷_ 101 (List._∷_ 116 (List._∷_ 115 List.[]))))))))))))
+              (List._∷_ 103 (List._∷_ 101 (List._∷_ 116 (List._∷_ 115 List.[]))))))))))))))))
               (Syntax.tcons
               Syntax.tyBool
               (Syntax.tcons
@@ -29891,11 +30203,19 @@ module _ (claims· : Claims) where
               (Declared'.row Targets.the-type)
               (Syntax.tyStruct
               (List._∷_
+              116
+              (List._∷_
               97
               (List._∷_
               114
               (List._∷_
+              103
+              (List._∷_
+              101
+              (List._∷_
               116
+              (List._∷_
+              115
               (List._∷_
               58
               (List._∷_
@@ -29906,7 +30226,7 @@ module _ (claims· : Claims) where
               97
               (List._∷_
               114
-              (List._∷_ 103 (List._∷_ 101 (List._∷_ 116 (List._∷_ 115 List.[]))))))))))))
+              (List._∷_ 103 (List._∷_ 101 (List._∷_ 116 (List._∷_ 115 List.[]))))))))))))))))
               (Syntax.tcons
               Syntax.tyBool
               (Syntax.tcons
@@ -30086,7 +30406,7 @@ module _ (claims· : Claims) where
                       (λ ρ. Unit)
                       (Declared'.row Own.the-type)
                       Path'.refl
-                      (Copies.cStruct Own.the-type Laws'5.the-laws Laws'5.the-copy .copy 𝓤 H A W)
+                      (Copies.cStruct Own.the-type Laws'4.the-laws Laws'4.the-copy .copy 𝓤 H A W)
                       (Rows'.whole (Declared'.row Own.the-type))
                       (λ x. x)
                       (λ x. x)
@@ -30114,8 +30434,8 @@ module _ (claims· : Claims) where
                           Path'.refl
                           (Copies.cStruct
                           Asking.the-type
-                          Laws'6.the-laws
-                          Laws'6.the-copy .copy
+                          Laws'5.the-laws
+                          Laws'5.the-copy .copy
                           𝓤
                           H
                           A
@@ -30145,8 +30465,8 @@ module _ (claims· : Claims) where
                             Path'.refl
                             (Copies.cStruct
                             Targets.the-type
-                            Laws'.the-laws
-                            Laws'.the-copy .copy
+                            Laws'6.the-laws
+                            Laws'6.the-copy .copy
                             𝓤
                             H
                             A
@@ -30330,7 +30650,7 @@ module _ (claims· : Claims) where
                       (λ ρ. Unit)
                       (Declared'.row Own.the-type)
                       Path'.refl
-                      (Copies.cStruct Own.the-type Laws'5.the-laws Laws'5.the-copy .copy 𝓤 H A W)
+                      (Copies.cStruct Own.the-type Laws'4.the-laws Laws'4.the-copy .copy 𝓤 H A W)
                       (Rows'.whole (Declared'.row Own.the-type))
                       (λ x. x)
                       (λ x. x)
@@ -30360,8 +30680,8 @@ module _ (claims· : Claims) where
                             Path'.refl
                             (Copies.cStruct
                             Asking.the-type
-                            Laws'6.the-laws
-                            Laws'6.the-copy .copy
+                            Laws'5.the-laws
+                            Laws'5.the-copy .copy
                             𝓤
                             H
                             A
@@ -30391,8 +30711,8 @@ module _ (claims· : Claims) where
                               Path'.refl
                               (Copies.cStruct
                               Targets.the-type
-                              Laws'.the-laws
-                              Laws'.the-copy .copy
+                              Laws'6.the-laws
+                              Laws'6.the-copy .copy
                               𝓤
                               H
                               A
@@ -30602,7 +30922,7 @@ module _ (claims· : Claims) where
                       (λ ρ. Unit)
                       (Declared'.row Own.the-type)
                       Path'.refl
-                      (Copies.cStruct Own.the-type Laws'5.the-laws Laws'5.the-copy .copy 𝓤 H A W)
+                      (Copies.cStruct Own.the-type Laws'4.the-laws Laws'4.the-copy .copy 𝓤 H A W)
                       (Rows'.whole (Declared'.row Own.the-type))
                       (λ x. x)
                       (λ x. x)
@@ -30628,8 +30948,8 @@ module _ (claims· : Claims) where
                         Path'.refl
                         (Copies.cStruct
                         Asking.the-type
-                        Laws'6.the-laws
-                        Laws'6.the-copy .copy
+                        Laws'5.the-laws
+                        Laws'5.the-copy .copy
                         𝓤
                         H
                         A
@@ -30846,7 +31166,7 @@ module _ (claims· : Claims) where
                       (λ ρ. Unit)
                       (Declared'.row Found.the-type)
                       Path'.refl
-                      (Copies.cStruct Found.the-type Laws'4.the-laws Laws'4.the-copy .copy 𝓤 H A W)
+                      (Copies.cStruct Found.the-type Laws'3.the-laws Laws'3.the-copy .copy 𝓤 H A W)
                       (Rows'.whole (Declared'.row Found.the-type))
                       (λ x. x)
                       (λ x. x)
@@ -31221,8 +31541,8 @@ module _ (claims· : Claims) where
                       Path'.refl
                       (Copies.cStruct
                       Asking.the-type
-                      Laws'6.the-laws
-                      Laws'6.the-copy .copy
+                      Laws'5.the-laws
+                      Laws'5.the-copy .copy
                       𝓤
                       H
                       A
@@ -31549,7 +31869,7 @@ module _ (claims· : Claims) where
                       (λ ρ. Unit)
                       (Declared'.row Own.the-type)
                       Path'.refl
-                      (Copies.cStruct Own.the-type Laws'5.the-laws Laws'5.the-copy .copy 𝓤 H A W)
+                      (Copies.cStruct Own.the-type Laws'4.the-laws Laws'4.the-copy .copy 𝓤 H A W)
                       (Rows'.whole (Declared'.row Own.the-type))
                       (λ x. x)
                       (λ x. x)
@@ -31684,16 +32004,16 @@ module _ (claims· : Claims) where
           pub o : Kinds.Den {n = 4} κs (Value.pVal record {
             ty = Declared'.row Own.the-type;
             one = Path'.refl;
-            val = Laws'8.val Own.the-type Laws'5.the-laws;
-            tells = Laws'8.tells Own.the-type Laws'5.the-laws;
-            still = Laws'8.still Own.the-type Laws'5.the-copy Exit.yes;
+            val = Laws'8.val Own.the-type Laws'4.the-laws;
+            tells = Laws'8.tells Own.the-type Laws'4.the-laws;
+            still = Laws'8.still Own.the-type Laws'4.the-copy Exit.yes;
             row = Rows'.whole (Declared'.row Own.the-type);
             rd = λ x. x;
             mk = λ x. x;
           } λ M 𝓤 H A W. record {
-            copies = Laws'8.copy Own.the-type Laws'5.the-copy 𝓤 H A W;
-            lawful = Laws'8.lawful Own.the-type Laws'5.the-laws 𝓤 H A W;
-            makes = Laws'8.makes Own.the-type Laws'5.the-plain 𝓤 H A;
+            copies = Laws'8.copy Own.the-type Laws'4.the-copy 𝓤 H A W;
+            lawful = Laws'8.lawful Own.the-type Laws'4.the-laws 𝓤 H A W;
+            makes = Laws'8.makes Own.the-type Laws'4.the-plain 𝓤 H A;
             in-mem = Local.mem-whole 𝓤 H A W (Declared'.row Own.the-type);
             of-mem = Local.whole-mem 𝓤 H A W (Declared'.row Own.the-type);
           })
@@ -31703,32 +32023,32 @@ module _ (claims· : Claims) where
           pub s : Kinds.Den {n = 4} κs (Value.pVal record {
             ty = Declared'.row Asking.the-type;
             one = Path'.refl;
-            val = Laws'8.val Asking.the-type Laws'6.the-laws;
-            tells = Laws'8.tells Asking.the-type Laws'6.the-laws;
-            still = Laws'8.still Asking.the-type Laws'6.the-copy Exit.yes;
+            val = Laws'8.val Asking.the-type Laws'5.the-laws;
+            tells = Laws'8.tells Asking.the-type Laws'5.the-laws;
+            still = Laws'8.still Asking.the-type Laws'5.the-copy Exit.yes;
             row = Rows'.whole (Declared'.row Asking.the-type);
             rd = λ x. x;
             mk = λ x. x;
           } λ M 𝓤 H A W. record {
-            copies = Laws'8.copy Asking.the-type Laws'6.the-copy 𝓤 H A W;
-            lawful = Laws'8.lawful Asking.the-type Laws'6.the-laws 𝓤 H A W;
-            makes = Laws'8.makes Asking.the-type Laws'6.the-plain 𝓤 H A;
+            copies = Laws'8.copy Asking.the-type Laws'5.the-copy 𝓤 H A W;
+            lawful = Laws'8.lawful Asking.the-type Laws'5.the-laws 𝓤 H A W;
+            makes = Laws'8.makes Asking.the-type Laws'5.the-plain 𝓤 H A;
             in-mem = Local.mem-whole 𝓤 H A W (Declared'.row Asking.the-type);
             of-mem = Local.whole-mem 𝓤 H A W (Declared'.row Asking.the-type);
           })
           pub ts : Kinds.Den {n = 4} κs (Value.pVal record {
             ty = Declared'.row Targets.the-type;
             one = Path'.refl;
-            val = Laws'8.val Targets.the-type Laws'.the-laws;
-            tells = Laws'8.tells Targets.the-type Laws'.the-laws;
-            still = Laws'8.still Targets.the-type Laws'.the-copy Exit.yes;
+            val = Laws'8.val Targets.the-type Laws'6.the-laws;
+            tells = Laws'8.tells Targets.the-type Laws'6.the-laws;
+            still = Laws'8.still Targets.the-type Laws'6.the-copy Exit.yes;
             row = Rows'.whole (Declared'.row Targets.the-type);
             rd = λ x. x;
             mk = λ x. x;
           } λ M 𝓤 H A W. record {
-            copies = Laws'8.copy Targets.the-type Laws'.the-copy 𝓤 H A W;
-            lawful = Laws'8.lawful Targets.the-type Laws'.the-laws 𝓤 H A W;
-            makes = Laws'8.makes Targets.the-type Laws'.the-plain 𝓤 H A;
+            copies = Laws'8.copy Targets.the-type Laws'6.the-copy 𝓤 H A W;
+            lawful = Laws'8.lawful Targets.the-type Laws'6.the-laws 𝓤 H A W;
+            makes = Laws'8.makes Targets.the-type Laws'6.the-plain 𝓤 H A;
             in-mem = Local.mem-whole 𝓤 H A W (Declared'.row Targets.the-type);
             of-mem = Local.whole-mem 𝓤 H A W (Declared'.row Targets.the-type);
           })

@@ -1,12 +1,12 @@
 -- Made by tools/lend.py of the twin of `read_targets`: do not edit.
 use Rattle.plain.proofs.Elem.Target as KTarget
 use Prim.Native.Nat
-use Rattle.art.proofs.Count
-use Rattle.art.proofs.Count.Laws
-use Rattle.art.proofs.Targets
-use Rattle.art.proofs.Targets.Laws as Laws'
 use Rattle.option.proofs.Next
-use Rattle.option.proofs.Next.Laws as Laws''
+use Rattle.option.proofs.Next.Laws
+use Rattle.targets.proofs.Count
+use Rattle.targets.proofs.Count.Laws as Laws'
+use Rattle.targets.proofs.Targets
+use Rattle.targets.proofs.Targets.Laws as Laws''
 use borrow.Author.Called
 use borrow.Author.Tests
 use borrow.Enum.Known
@@ -75,16 +75,16 @@ abbrev pub r : Kinds.RK 1
 r = Value.rVal record {
   ty = Declared'.row Targets.the-type;
   one = Path'.refl;
-  val = Laws'4.val Targets.the-type Laws'.the-laws;
-  tells = Laws'4.tells Targets.the-type Laws'.the-laws;
-  still = Laws'4.still Targets.the-type Laws'.the-copy Exit.yes;
+  val = Laws'4.val Targets.the-type Laws''.the-laws;
+  tells = Laws'4.tells Targets.the-type Laws''.the-laws;
+  still = Laws'4.still Targets.the-type Laws''.the-copy Exit.yes;
   row = Rows'.whole (Declared'.row Targets.the-type);
   rd = λ x. x;
   mk = λ x. x;
 } λ M 𝓤 H A W. record {
-  copies = Laws'4.copy Targets.the-type Laws'.the-copy 𝓤 H A W;
-  lawful = Laws'4.lawful Targets.the-type Laws'.the-laws 𝓤 H A W;
-  makes = Laws'4.makes Targets.the-type Laws'.the-plain 𝓤 H A;
+  copies = Laws'4.copy Targets.the-type Laws''.the-copy 𝓤 H A W;
+  lawful = Laws'4.lawful Targets.the-type Laws''.the-laws 𝓤 H A W;
+  makes = Laws'4.makes Targets.the-type Laws''.the-plain 𝓤 H A;
   in-mem = Local.mem-whole 𝓤 H A W (Declared'.row Targets.the-type);
   of-mem = Local.whole-mem 𝓤 H A W (Declared'.row Targets.the-type);
 }
@@ -96,16 +96,24 @@ xs =
     (List._∷_
     (Syntax.tyStruct
     (List._∷_
+    116
+    (List._∷_
     97
     (List._∷_
     114
     (List._∷_
+    103
+    (List._∷_
+    101
+    (List._∷_
     116
     (List._∷_
+    115
+    (List._∷_
     58
     (List._∷_
     58
-    (List._∷_ 67 (List._∷_ 111 (List._∷_ 117 (List._∷_ 110 (List._∷_ 116 List.[]))))))))))
+    (List._∷_ 67 (List._∷_ 111 (List._∷_ 117 (List._∷_ 110 (List._∷_ 116 List.[]))))))))))))))
     (Syntax.tcons Syntax.tyBool (Syntax.tcons (Syntax.tyInt Syntax.w64) Syntax.tnil)))
     (List._∷_
     (Syntax.tyInt Syntax.w64)
@@ -198,16 +206,16 @@ abbrev pub r·1 : Kinds.RK 0
 r·1 = Value.rVal record {
   ty = Declared'.row Count.the-type;
   one = Path'.refl;
-  val = Laws'4.val Count.the-type Laws.the-laws;
-  tells = Laws'4.tells Count.the-type Laws.the-laws;
-  still = Laws'4.still Count.the-type Laws.the-copy Exit.yes;
+  val = Laws'4.val Count.the-type Laws'.the-laws;
+  tells = Laws'4.tells Count.the-type Laws'.the-laws;
+  still = Laws'4.still Count.the-type Laws'.the-copy Exit.yes;
   row = Rows'.whole (Declared'.row Count.the-type);
   rd = λ x. x;
   mk = λ x. x;
 } λ M 𝓤 H A W. record {
-  copies = Laws'4.copy Count.the-type Laws.the-copy 𝓤 H A W;
-  lawful = Laws'4.lawful Count.the-type Laws.the-laws 𝓤 H A W;
-  makes = Laws'4.makes Count.the-type Laws.the-plain 𝓤 H A;
+  copies = Laws'4.copy Count.the-type Laws'.the-copy 𝓤 H A W;
+  lawful = Laws'4.lawful Count.the-type Laws'.the-laws 𝓤 H A W;
+  makes = Laws'4.makes Count.the-type Laws'.the-plain 𝓤 H A;
   in-mem = Local.mem-whole 𝓤 H A W (Declared'.row Count.the-type);
   of-mem = Local.whole-mem 𝓤 H A W (Declared'.row Count.the-type);
 }
@@ -222,16 +230,16 @@ abbrev pub r·2 : Kinds.RK 1
 r·2 = Value.rVal record {
   ty = Declared.row Next.the-type;
   one = Path'.refl;
-  val = Laws'3.val Next.the-type Laws''.the-laws;
-  tells = Laws'3.tells Next.the-type Laws''.the-laws;
-  still = Laws'3.still Next.the-type Laws''.the-copy Exit.yes;
+  val = Laws'3.val Next.the-type Laws.the-laws;
+  tells = Laws'3.tells Next.the-type Laws.the-laws;
+  still = Laws'3.still Next.the-type Laws.the-copy Exit.yes;
   row = Rows'.whole (Declared.row Next.the-type);
   rd = λ x. x;
   mk = λ x. x;
 } λ M 𝓤 H A W. record {
-  copies = Laws'3.copy Next.the-type Laws''.the-copy 𝓤 H A W;
-  lawful = Laws'3.lawful Next.the-type Laws''.the-laws 𝓤 H A W tt;
-  makes = Laws'3.makes Next.the-type Laws''.the-plain 𝓤 H A;
+  copies = Laws'3.copy Next.the-type Laws.the-copy 𝓤 H A W;
+  lawful = Laws'3.lawful Next.the-type Laws.the-laws 𝓤 H A W tt;
+  makes = Laws'3.makes Next.the-type Laws.the-plain 𝓤 H A;
   in-mem = Local.mem-whole 𝓤 H A W (Declared.row Next.the-type);
   of-mem = Local.whole-mem 𝓤 H A W (Declared.row Next.the-type);
 }
@@ -249,16 +257,16 @@ ps·4 =
     (List._∷_ (Value.pVal record {
       ty = Declared'.row Count.the-type;
       one = Path'.refl;
-      val = Laws'4.val Count.the-type Laws.the-laws;
-      tells = Laws'4.tells Count.the-type Laws.the-laws;
-      still = Laws'4.still Count.the-type Laws.the-copy Exit.yes;
+      val = Laws'4.val Count.the-type Laws'.the-laws;
+      tells = Laws'4.tells Count.the-type Laws'.the-laws;
+      still = Laws'4.still Count.the-type Laws'.the-copy Exit.yes;
       row = Rows'.whole (Declared'.row Count.the-type);
       rd = λ x. x;
       mk = λ x. x;
     } λ M 𝓤 H A W. record {
-      copies = Laws'4.copy Count.the-type Laws.the-copy 𝓤 H A W;
-      lawful = Laws'4.lawful Count.the-type Laws.the-laws 𝓤 H A W;
-      makes = Laws'4.makes Count.the-type Laws.the-plain 𝓤 H A;
+      copies = Laws'4.copy Count.the-type Laws'.the-copy 𝓤 H A W;
+      lawful = Laws'4.lawful Count.the-type Laws'.the-laws 𝓤 H A W;
+      makes = Laws'4.makes Count.the-type Laws'.the-plain 𝓤 H A;
       in-mem = Local.mem-whole 𝓤 H A W (Declared'.row Count.the-type);
       of-mem = Local.whole-mem 𝓤 H A W (Declared'.row Count.the-type);
     }) (List._∷_ (KTarget.pk) List.[]))
@@ -267,16 +275,16 @@ abbrev pub r·4 : Kinds.RK 1
 r·4 = Value.rVal record {
   ty = Declared'.row Count.the-type;
   one = Path'.refl;
-  val = Laws'4.val Count.the-type Laws.the-laws;
-  tells = Laws'4.tells Count.the-type Laws.the-laws;
-  still = Laws'4.still Count.the-type Laws.the-copy Exit.yes;
+  val = Laws'4.val Count.the-type Laws'.the-laws;
+  tells = Laws'4.tells Count.the-type Laws'.the-laws;
+  still = Laws'4.still Count.the-type Laws'.the-copy Exit.yes;
   row = Rows'.whole (Declared'.row Count.the-type);
   rd = λ x. x;
   mk = λ x. x;
 } λ M 𝓤 H A W. record {
-  copies = Laws'4.copy Count.the-type Laws.the-copy 𝓤 H A W;
-  lawful = Laws'4.lawful Count.the-type Laws.the-laws 𝓤 H A W;
-  makes = Laws'4.makes Count.the-type Laws.the-plain 𝓤 H A;
+  copies = Laws'4.copy Count.the-type Laws'.the-copy 𝓤 H A W;
+  lawful = Laws'4.lawful Count.the-type Laws'.the-laws 𝓤 H A W;
+  makes = Laws'4.makes Count.the-type Laws'.the-plain 𝓤 H A;
   in-mem = Local.mem-whole 𝓤 H A W (Declared'.row Count.the-type);
   of-mem = Local.whole-mem 𝓤 H A W (Declared'.row Count.the-type);
 }
@@ -291,16 +299,16 @@ ps·5 =
     (List._∷_ (Value.pVal record {
       ty = Declared'.row Count.the-type;
       one = Path'.refl;
-      val = Laws'4.val Count.the-type Laws.the-laws;
-      tells = Laws'4.tells Count.the-type Laws.the-laws;
-      still = Laws'4.still Count.the-type Laws.the-copy Exit.yes;
+      val = Laws'4.val Count.the-type Laws'.the-laws;
+      tells = Laws'4.tells Count.the-type Laws'.the-laws;
+      still = Laws'4.still Count.the-type Laws'.the-copy Exit.yes;
       row = Rows'.whole (Declared'.row Count.the-type);
       rd = λ x. x;
       mk = λ x. x;
     } λ M 𝓤 H A W. record {
-      copies = Laws'4.copy Count.the-type Laws.the-copy 𝓤 H A W;
-      lawful = Laws'4.lawful Count.the-type Laws.the-laws 𝓤 H A W;
-      makes = Laws'4.makes Count.the-type Laws.the-plain 𝓤 H A;
+      copies = Laws'4.copy Count.the-type Laws'.the-copy 𝓤 H A W;
+      lawful = Laws'4.lawful Count.the-type Laws'.the-laws 𝓤 H A W;
+      makes = Laws'4.makes Count.the-type Laws'.the-plain 𝓤 H A;
       in-mem = Local.mem-whole 𝓤 H A W (Declared'.row Count.the-type);
       of-mem = Local.whole-mem 𝓤 H A W (Declared'.row Count.the-type);
     }) List.[])
@@ -309,16 +317,16 @@ abbrev pub r·5 : Kinds.RK 0
 r·5 = Value.rVal record {
   ty = Declared'.row Targets.the-type;
   one = Path'.refl;
-  val = Laws'4.val Targets.the-type Laws'.the-laws;
-  tells = Laws'4.tells Targets.the-type Laws'.the-laws;
-  still = Laws'4.still Targets.the-type Laws'.the-copy Exit.yes;
+  val = Laws'4.val Targets.the-type Laws''.the-laws;
+  tells = Laws'4.tells Targets.the-type Laws''.the-laws;
+  still = Laws'4.still Targets.the-type Laws''.the-copy Exit.yes;
   row = Rows'.whole (Declared'.row Targets.the-type);
   rd = λ x. x;
   mk = λ x. x;
 } λ M 𝓤 H A W. record {
-  copies = Laws'4.copy Targets.the-type Laws'.the-copy 𝓤 H A W;
-  lawful = Laws'4.lawful Targets.the-type Laws'.the-laws 𝓤 H A W;
-  makes = Laws'4.makes Targets.the-type Laws'.the-plain 𝓤 H A;
+  copies = Laws'4.copy Targets.the-type Laws''.the-copy 𝓤 H A W;
+  lawful = Laws'4.lawful Targets.the-type Laws''.the-laws 𝓤 H A W;
+  makes = Laws'4.makes Targets.the-type Laws''.the-plain 𝓤 H A;
   in-mem = Local.mem-whole 𝓤 H A W (Declared'.row Targets.the-type);
   of-mem = Local.whole-mem 𝓤 H A W (Declared'.row Targets.the-type);
 }
@@ -368,13 +376,13 @@ hs =
     (List._∷_ Syntax.valueLocal (List._∷_ Syntax.valueLocal List.[])))))))))))))))))))))
 
 abbrev b0 : Syntax.Body
-b0 = Syntax.call "art::blank_list" List.[] (Syntax.place 9 List.[])
+b0 = Syntax.call "targets::blank_list" List.[] (Syntax.place 9 List.[])
 
 abbrev b1 : Syntax.Body
 b1 = Syntax.assign (Syntax.place 2 List.[]) (Syntax.rvOpd (Syntax.copy (Syntax.place 9 List.[])))
 
 abbrev b2 : Syntax.Body
-b2 = Syntax.call "art::none_yet" List.[] (Syntax.place 3 List.[])
+b2 = Syntax.call "targets::none_yet" List.[] (Syntax.place 3 List.[])
 
 abbrev b3 : Syntax.Body
 b3 = Syntax.assign (Syntax.place 4 List.[]) (Syntax.rvOpd (Syntax.int Syntax.w64 24))
@@ -518,7 +526,7 @@ b23 =
 abbrev b24 : Syntax.Body
 b24 =
     Syntax.call
-    "art::collect"
+    "collect::collect"
     (List._∷_
     (Syntax.copy (Syntax.place 14 List.[]))
     (List._∷_
@@ -704,11 +712,19 @@ t0 = List._∷_ (
   Rows'.any-gone
       (Syntax.tyStruct
       (List._∷_
+      116
+      (List._∷_
       97
       (List._∷_
       114
       (List._∷_
+      103
+      (List._∷_
+      101
+      (List._∷_
       116
+      (List._∷_
+      115
       (List._∷_
       58
       (List._∷_
@@ -717,7 +733,7 @@ t0 = List._∷_ (
       84
       (List._∷_
       97
-      (List._∷_ 114 (List._∷_ 103 (List._∷_ 101 (List._∷_ 116 (List._∷_ 115 List.[]))))))))))))
+      (List._∷_ 114 (List._∷_ 103 (List._∷_ 101 (List._∷_ 116 (List._∷_ 115 List.[]))))))))))))))))
       (Syntax.tcons
       Syntax.tyBool
       (Syntax.tcons
@@ -737,16 +753,26 @@ t0 = List._∷_ (
       Rows'.any-gone
           (Syntax.tyStruct
           (List._∷_
+          116
+          (List._∷_
           97
           (List._∷_
           114
           (List._∷_
+          103
+          (List._∷_
+          101
+          (List._∷_
           116
           (List._∷_
+          115
+          (List._∷_
           58
           (List._∷_
           58
-          (List._∷_ 67 (List._∷_ 111 (List._∷_ 117 (List._∷_ 110 (List._∷_ 116 List.[]))))))))))
+          (List._∷_
+          67
+          (List._∷_ 111 (List._∷_ 117 (List._∷_ 110 (List._∷_ 116 List.[]))))))))))))))
           (Syntax.tcons Syntax.tyBool (Syntax.tcons (Syntax.tyInt Syntax.w64) Syntax.tnil))),
     ) (List._∷_ (4, Rows'.any-gone (Syntax.tyInt Syntax.w64)) (List._∷_ (
       5,
@@ -844,16 +870,26 @@ t2 = List._∷_ (0, Rows'.whole (Declared'.row Targets.the-type)) (List._∷_ (
       Rows'.any-gone
           (Syntax.tyStruct
           (List._∷_
+          116
+          (List._∷_
           97
           (List._∷_
           114
           (List._∷_
+          103
+          (List._∷_
+          101
+          (List._∷_
           116
           (List._∷_
+          115
+          (List._∷_
           58
           (List._∷_
           58
-          (List._∷_ 67 (List._∷_ 111 (List._∷_ 117 (List._∷_ 110 (List._∷_ 116 List.[]))))))))))
+          (List._∷_
+          67
+          (List._∷_ 111 (List._∷_ 117 (List._∷_ 110 (List._∷_ 116 List.[]))))))))))))))
           (Syntax.tcons Syntax.tyBool (Syntax.tcons (Syntax.tyInt Syntax.w64) Syntax.tnil))),
     ) (List._∷_ (4, Rows'.any-gone (Syntax.tyInt Syntax.w64)) (List._∷_ (
       5,
@@ -918,11 +954,19 @@ t3 = List._∷_ (
   Rows'.any-gone
       (Syntax.tyStruct
       (List._∷_
+      116
+      (List._∷_
       97
       (List._∷_
       114
       (List._∷_
+      103
+      (List._∷_
+      101
+      (List._∷_
       116
+      (List._∷_
+      115
       (List._∷_
       58
       (List._∷_
@@ -931,7 +975,7 @@ t3 = List._∷_ (
       84
       (List._∷_
       97
-      (List._∷_ 114 (List._∷_ 103 (List._∷_ 101 (List._∷_ 116 (List._∷_ 115 List.[]))))))))))))
+      (List._∷_ 114 (List._∷_ 103 (List._∷_ 101 (List._∷_ 116 (List._∷_ 115 List.[]))))))))))))))))
       (Syntax.tcons
       Syntax.tyBool
       (Syntax.tcons
@@ -951,16 +995,26 @@ t3 = List._∷_ (
       Rows'.any-gone
           (Syntax.tyStruct
           (List._∷_
+          116
+          (List._∷_
           97
           (List._∷_
           114
           (List._∷_
+          103
+          (List._∷_
+          101
+          (List._∷_
           116
           (List._∷_
+          115
+          (List._∷_
           58
           (List._∷_
           58
-          (List._∷_ 67 (List._∷_ 111 (List._∷_ 117 (List._∷_ 110 (List._∷_ 116 List.[]))))))))))
+          (List._∷_
+          67
+          (List._∷_ 111 (List._∷_ 117 (List._∷_ 110 (List._∷_ 116 List.[]))))))))))))))
           (Syntax.tcons Syntax.tyBool (Syntax.tcons (Syntax.tyInt Syntax.w64) Syntax.tnil))),
     ) (List._∷_ (4, Rows'.any-gone (Syntax.tyInt Syntax.w64)) (List._∷_ (
       5,
@@ -1025,11 +1079,19 @@ t4 = List._∷_ (
   Rows'.any-gone
       (Syntax.tyStruct
       (List._∷_
+      116
+      (List._∷_
       97
       (List._∷_
       114
       (List._∷_
+      103
+      (List._∷_
+      101
+      (List._∷_
       116
+      (List._∷_
+      115
       (List._∷_
       58
       (List._∷_
@@ -1038,7 +1100,7 @@ t4 = List._∷_ (
       84
       (List._∷_
       97
-      (List._∷_ 114 (List._∷_ 103 (List._∷_ 101 (List._∷_ 116 (List._∷_ 115 List.[]))))))))))))
+      (List._∷_ 114 (List._∷_ 103 (List._∷_ 101 (List._∷_ 116 (List._∷_ 115 List.[]))))))))))))))))
       (Syntax.tcons
       Syntax.tyBool
       (Syntax.tcons
@@ -1058,16 +1120,26 @@ t4 = List._∷_ (
       Rows'.any-gone
           (Syntax.tyStruct
           (List._∷_
+          116
+          (List._∷_
           97
           (List._∷_
           114
           (List._∷_
+          103
+          (List._∷_
+          101
+          (List._∷_
           116
           (List._∷_
+          115
+          (List._∷_
           58
           (List._∷_
           58
-          (List._∷_ 67 (List._∷_ 111 (List._∷_ 117 (List._∷_ 110 (List._∷_ 116 List.[]))))))))))
+          (List._∷_
+          67
+          (List._∷_ 111 (List._∷_ 117 (List._∷_ 110 (List._∷_ 116 List.[]))))))))))))))
           (Syntax.tcons Syntax.tyBool (Syntax.tcons (Syntax.tyInt Syntax.w64) Syntax.tnil))),
     ) (List._∷_ (4, Rows'.any-gone (Syntax.tyInt Syntax.w64)) (List._∷_ (
       5,
@@ -1132,11 +1204,19 @@ t5 = List._∷_ (
   Rows'.any-gone
       (Syntax.tyStruct
       (List._∷_
+      116
+      (List._∷_
       97
       (List._∷_
       114
       (List._∷_
+      103
+      (List._∷_
+      101
+      (List._∷_
       116
+      (List._∷_
+      115
       (List._∷_
       58
       (List._∷_
@@ -1145,7 +1225,7 @@ t5 = List._∷_ (
       84
       (List._∷_
       97
-      (List._∷_ 114 (List._∷_ 103 (List._∷_ 101 (List._∷_ 116 (List._∷_ 115 List.[]))))))))))))
+      (List._∷_ 114 (List._∷_ 103 (List._∷_ 101 (List._∷_ 116 (List._∷_ 115 List.[]))))))))))))))))
       (Syntax.tcons
       Syntax.tyBool
       (Syntax.tcons
@@ -1165,16 +1245,26 @@ t5 = List._∷_ (
       Rows'.any-gone
           (Syntax.tyStruct
           (List._∷_
+          116
+          (List._∷_
           97
           (List._∷_
           114
           (List._∷_
+          103
+          (List._∷_
+          101
+          (List._∷_
           116
           (List._∷_
+          115
+          (List._∷_
           58
           (List._∷_
           58
-          (List._∷_ 67 (List._∷_ 111 (List._∷_ 117 (List._∷_ 110 (List._∷_ 116 List.[]))))))))))
+          (List._∷_
+          67
+          (List._∷_ 111 (List._∷_ 117 (List._∷_ 110 (List._∷_ 116 List.[]))))))))))))))
           (Syntax.tcons Syntax.tyBool (Syntax.tcons (Syntax.tyInt Syntax.w64) Syntax.tnil))),
     ) (List._∷_ (4, Rows'.any-gone (Syntax.tyInt Syntax.w64)) (List._∷_ (
       5,
@@ -1239,11 +1329,19 @@ t6 = List._∷_ (
   Rows'.any-gone
       (Syntax.tyStruct
       (List._∷_
+      116
+      (List._∷_
       97
       (List._∷_
       114
       (List._∷_
+      103
+      (List._∷_
+      101
+      (List._∷_
       116
+      (List._∷_
+      115
       (List._∷_
       58
       (List._∷_
@@ -1252,7 +1350,7 @@ t6 = List._∷_ (
       84
       (List._∷_
       97
-      (List._∷_ 114 (List._∷_ 103 (List._∷_ 101 (List._∷_ 116 (List._∷_ 115 List.[]))))))))))))
+      (List._∷_ 114 (List._∷_ 103 (List._∷_ 101 (List._∷_ 116 (List._∷_ 115 List.[]))))))))))))))))
       (Syntax.tcons
       Syntax.tyBool
       (Syntax.tcons
@@ -1333,11 +1431,19 @@ t7 = List._∷_ (
   Rows'.any-gone
       (Syntax.tyStruct
       (List._∷_
+      116
+      (List._∷_
       97
       (List._∷_
       114
       (List._∷_
+      103
+      (List._∷_
+      101
+      (List._∷_
       116
+      (List._∷_
+      115
       (List._∷_
       58
       (List._∷_
@@ -1346,7 +1452,7 @@ t7 = List._∷_ (
       84
       (List._∷_
       97
-      (List._∷_ 114 (List._∷_ 103 (List._∷_ 101 (List._∷_ 116 (List._∷_ 115 List.[]))))))))))))
+      (List._∷_ 114 (List._∷_ 103 (List._∷_ 101 (List._∷_ 116 (List._∷_ 115 List.[]))))))))))))))))
       (Syntax.tcons
       Syntax.tyBool
       (Syntax.tcons
@@ -1427,11 +1533,19 @@ t8 = List._∷_ (
   Rows'.any-gone
       (Syntax.tyStruct
       (List._∷_
+      116
+      (List._∷_
       97
       (List._∷_
       114
       (List._∷_
+      103
+      (List._∷_
+      101
+      (List._∷_
       116
+      (List._∷_
+      115
       (List._∷_
       58
       (List._∷_
@@ -1440,7 +1554,7 @@ t8 = List._∷_ (
       84
       (List._∷_
       97
-      (List._∷_ 114 (List._∷_ 103 (List._∷_ 101 (List._∷_ 116 (List._∷_ 115 List.[]))))))))))))
+      (List._∷_ 114 (List._∷_ 103 (List._∷_ 101 (List._∷_ 116 (List._∷_ 115 List.[]))))))))))))))))
       (Syntax.tcons
       Syntax.tyBool
       (Syntax.tcons
@@ -1521,11 +1635,19 @@ t9 = List._∷_ (
   Rows'.any-gone
       (Syntax.tyStruct
       (List._∷_
+      116
+      (List._∷_
       97
       (List._∷_
       114
       (List._∷_
+      103
+      (List._∷_
+      101
+      (List._∷_
       116
+      (List._∷_
+      115
       (List._∷_
       58
       (List._∷_
@@ -1534,7 +1656,7 @@ t9 = List._∷_ (
       84
       (List._∷_
       97
-      (List._∷_ 114 (List._∷_ 103 (List._∷_ 101 (List._∷_ 116 (List._∷_ 115 List.[]))))))))))))
+      (List._∷_ 114 (List._∷_ 103 (List._∷_ 101 (List._∷_ 116 (List._∷_ 115 List.[]))))))))))))))))
       (Syntax.tcons
       Syntax.tyBool
       (Syntax.tcons
@@ -1615,11 +1737,19 @@ t10 = List._∷_ (
   Rows'.any-gone
       (Syntax.tyStruct
       (List._∷_
+      116
+      (List._∷_
       97
       (List._∷_
       114
       (List._∷_
+      103
+      (List._∷_
+      101
+      (List._∷_
       116
+      (List._∷_
+      115
       (List._∷_
       58
       (List._∷_
@@ -1628,7 +1758,7 @@ t10 = List._∷_ (
       84
       (List._∷_
       97
-      (List._∷_ 114 (List._∷_ 103 (List._∷_ 101 (List._∷_ 116 (List._∷_ 115 List.[]))))))))))))
+      (List._∷_ 114 (List._∷_ 103 (List._∷_ 101 (List._∷_ 116 (List._∷_ 115 List.[]))))))))))))))))
       (Syntax.tcons
       Syntax.tyBool
       (Syntax.tcons
@@ -1684,11 +1814,19 @@ t11 = List._∷_ (
   Rows'.any-gone
       (Syntax.tyStruct
       (List._∷_
+      116
+      (List._∷_
       97
       (List._∷_
       114
       (List._∷_
+      103
+      (List._∷_
+      101
+      (List._∷_
       116
+      (List._∷_
+      115
       (List._∷_
       58
       (List._∷_
@@ -1697,7 +1835,7 @@ t11 = List._∷_ (
       84
       (List._∷_
       97
-      (List._∷_ 114 (List._∷_ 103 (List._∷_ 101 (List._∷_ 116 (List._∷_ 115 List.[]))))))))))))
+      (List._∷_ 114 (List._∷_ 103 (List._∷_ 101 (List._∷_ 116 (List._∷_ 115 List.[]))))))))))))))))
       (Syntax.tcons
       Syntax.tyBool
       (Syntax.tcons
@@ -1753,11 +1891,19 @@ t12 = List._∷_ (
   Rows'.any-gone
       (Syntax.tyStruct
       (List._∷_
+      116
+      (List._∷_
       97
       (List._∷_
       114
       (List._∷_
+      103
+      (List._∷_
+      101
+      (List._∷_
       116
+      (List._∷_
+      115
       (List._∷_
       58
       (List._∷_
@@ -1766,7 +1912,7 @@ t12 = List._∷_ (
       84
       (List._∷_
       97
-      (List._∷_ 114 (List._∷_ 103 (List._∷_ 101 (List._∷_ 116 (List._∷_ 115 List.[]))))))))))))
+      (List._∷_ 114 (List._∷_ 103 (List._∷_ 101 (List._∷_ 116 (List._∷_ 115 List.[]))))))))))))))))
       (Syntax.tcons
       Syntax.tyBool
       (Syntax.tcons
@@ -1822,11 +1968,19 @@ t13 = List._∷_ (
   Rows'.any-gone
       (Syntax.tyStruct
       (List._∷_
+      116
+      (List._∷_
       97
       (List._∷_
       114
       (List._∷_
+      103
+      (List._∷_
+      101
+      (List._∷_
       116
+      (List._∷_
+      115
       (List._∷_
       58
       (List._∷_
@@ -1835,7 +1989,7 @@ t13 = List._∷_ (
       84
       (List._∷_
       97
-      (List._∷_ 114 (List._∷_ 103 (List._∷_ 101 (List._∷_ 116 (List._∷_ 115 List.[]))))))))))))
+      (List._∷_ 114 (List._∷_ 103 (List._∷_ 101 (List._∷_ 116 (List._∷_ 115 List.[]))))))))))))))))
       (Syntax.tcons
       Syntax.tyBool
       (Syntax.tcons
@@ -1891,11 +2045,19 @@ t14 = List._∷_ (
   Rows'.any-gone
       (Syntax.tyStruct
       (List._∷_
+      116
+      (List._∷_
       97
       (List._∷_
       114
       (List._∷_
+      103
+      (List._∷_
+      101
+      (List._∷_
       116
+      (List._∷_
+      115
       (List._∷_
       58
       (List._∷_
@@ -1904,7 +2066,7 @@ t14 = List._∷_ (
       84
       (List._∷_
       97
-      (List._∷_ 114 (List._∷_ 103 (List._∷_ 101 (List._∷_ 116 (List._∷_ 115 List.[]))))))))))))
+      (List._∷_ 114 (List._∷_ 103 (List._∷_ 101 (List._∷_ 116 (List._∷_ 115 List.[]))))))))))))))))
       (Syntax.tcons
       Syntax.tyBool
       (Syntax.tcons
@@ -1960,11 +2122,19 @@ t15 = List._∷_ (
   Rows'.any-gone
       (Syntax.tyStruct
       (List._∷_
+      116
+      (List._∷_
       97
       (List._∷_
       114
       (List._∷_
+      103
+      (List._∷_
+      101
+      (List._∷_
       116
+      (List._∷_
+      115
       (List._∷_
       58
       (List._∷_
@@ -1973,7 +2143,7 @@ t15 = List._∷_ (
       84
       (List._∷_
       97
-      (List._∷_ 114 (List._∷_ 103 (List._∷_ 101 (List._∷_ 116 (List._∷_ 115 List.[]))))))))))))
+      (List._∷_ 114 (List._∷_ 103 (List._∷_ 101 (List._∷_ 116 (List._∷_ 115 List.[]))))))))))))))))
       (Syntax.tcons
       Syntax.tyBool
       (Syntax.tcons
@@ -2029,11 +2199,19 @@ t16 = List._∷_ (
   Rows'.any-gone
       (Syntax.tyStruct
       (List._∷_
+      116
+      (List._∷_
       97
       (List._∷_
       114
       (List._∷_
+      103
+      (List._∷_
+      101
+      (List._∷_
       116
+      (List._∷_
+      115
       (List._∷_
       58
       (List._∷_
@@ -2042,7 +2220,7 @@ t16 = List._∷_ (
       84
       (List._∷_
       97
-      (List._∷_ 114 (List._∷_ 103 (List._∷_ 101 (List._∷_ 116 (List._∷_ 115 List.[]))))))))))))
+      (List._∷_ 114 (List._∷_ 103 (List._∷_ 101 (List._∷_ 116 (List._∷_ 115 List.[]))))))))))))))))
       (Syntax.tcons
       Syntax.tyBool
       (Syntax.tcons
@@ -2123,11 +2301,19 @@ t17 = List._∷_ (
   Rows'.any-gone
       (Syntax.tyStruct
       (List._∷_
+      116
+      (List._∷_
       97
       (List._∷_
       114
       (List._∷_
+      103
+      (List._∷_
+      101
+      (List._∷_
       116
+      (List._∷_
+      115
       (List._∷_
       58
       (List._∷_
@@ -2136,7 +2322,7 @@ t17 = List._∷_ (
       84
       (List._∷_
       97
-      (List._∷_ 114 (List._∷_ 103 (List._∷_ 101 (List._∷_ 116 (List._∷_ 115 List.[]))))))))))))
+      (List._∷_ 114 (List._∷_ 103 (List._∷_ 101 (List._∷_ 116 (List._∷_ 115 List.[]))))))))))))))))
       (Syntax.tcons
       Syntax.tyBool
       (Syntax.tcons
@@ -2217,11 +2403,19 @@ t18 = List._∷_ (
   Rows'.any-gone
       (Syntax.tyStruct
       (List._∷_
+      116
+      (List._∷_
       97
       (List._∷_
       114
       (List._∷_
+      103
+      (List._∷_
+      101
+      (List._∷_
       116
+      (List._∷_
+      115
       (List._∷_
       58
       (List._∷_
@@ -2230,7 +2424,7 @@ t18 = List._∷_ (
       84
       (List._∷_
       97
-      (List._∷_ 114 (List._∷_ 103 (List._∷_ 101 (List._∷_ 116 (List._∷_ 115 List.[]))))))))))))
+      (List._∷_ 114 (List._∷_ 103 (List._∷_ 101 (List._∷_ 116 (List._∷_ 115 List.[]))))))))))))))))
       (Syntax.tcons
       Syntax.tyBool
       (Syntax.tcons
@@ -2311,11 +2505,19 @@ t19 = List._∷_ (
   Rows'.any-gone
       (Syntax.tyStruct
       (List._∷_
+      116
+      (List._∷_
       97
       (List._∷_
       114
       (List._∷_
+      103
+      (List._∷_
+      101
+      (List._∷_
       116
+      (List._∷_
+      115
       (List._∷_
       58
       (List._∷_
@@ -2324,7 +2526,7 @@ t19 = List._∷_ (
       84
       (List._∷_
       97
-      (List._∷_ 114 (List._∷_ 103 (List._∷_ 101 (List._∷_ 116 (List._∷_ 115 List.[]))))))))))))
+      (List._∷_ 114 (List._∷_ 103 (List._∷_ 101 (List._∷_ 116 (List._∷_ 115 List.[]))))))))))))))))
       (Syntax.tcons
       Syntax.tyBool
       (Syntax.tcons
@@ -2407,11 +2609,19 @@ t20 = List._∷_ (
   Rows'.any-gone
       (Syntax.tyStruct
       (List._∷_
+      116
+      (List._∷_
       97
       (List._∷_
       114
       (List._∷_
+      103
+      (List._∷_
+      101
+      (List._∷_
       116
+      (List._∷_
+      115
       (List._∷_
       58
       (List._∷_
@@ -2420,7 +2630,7 @@ t20 = List._∷_ (
       84
       (List._∷_
       97
-      (List._∷_ 114 (List._∷_ 103 (List._∷_ 101 (List._∷_ 116 (List._∷_ 115 List.[]))))))))))))
+      (List._∷_ 114 (List._∷_ 103 (List._∷_ 101 (List._∷_ 116 (List._∷_ 115 List.[]))))))))))))))))
       (Syntax.tcons
       Syntax.tyBool
       (Syntax.tcons
@@ -2641,11 +2851,19 @@ t27 = List._∷_ (
   Rows'.any-gone
       (Syntax.tyStruct
       (List._∷_
+      116
+      (List._∷_
       97
       (List._∷_
       114
       (List._∷_
+      103
+      (List._∷_
+      101
+      (List._∷_
       116
+      (List._∷_
+      115
       (List._∷_
       58
       (List._∷_
@@ -2654,7 +2872,7 @@ t27 = List._∷_ (
       84
       (List._∷_
       97
-      (List._∷_ 114 (List._∷_ 103 (List._∷_ 101 (List._∷_ 116 (List._∷_ 115 List.[]))))))))))))
+      (List._∷_ 114 (List._∷_ 103 (List._∷_ 101 (List._∷_ 116 (List._∷_ 115 List.[]))))))))))))))))
       (Syntax.tcons
       Syntax.tyBool
       (Syntax.tcons
@@ -2731,11 +2949,19 @@ t28 = List._∷_ (
   Rows'.any-gone
       (Syntax.tyStruct
       (List._∷_
+      116
+      (List._∷_
       97
       (List._∷_
       114
       (List._∷_
+      103
+      (List._∷_
+      101
+      (List._∷_
       116
+      (List._∷_
+      115
       (List._∷_
       58
       (List._∷_
@@ -2744,7 +2970,7 @@ t28 = List._∷_ (
       84
       (List._∷_
       97
-      (List._∷_ 114 (List._∷_ 103 (List._∷_ 101 (List._∷_ 116 (List._∷_ 115 List.[]))))))))))))
+      (List._∷_ 114 (List._∷_ 103 (List._∷_ 101 (List._∷_ 116 (List._∷_ 115 List.[]))))))))))))))))
       (Syntax.tcons
       Syntax.tyBool
       (Syntax.tcons
@@ -2820,11 +3046,19 @@ t29 = List._∷_ (
   Rows'.any-gone
       (Syntax.tyStruct
       (List._∷_
+      116
+      (List._∷_
       97
       (List._∷_
       114
       (List._∷_
+      103
+      (List._∷_
+      101
+      (List._∷_
       116
+      (List._∷_
+      115
       (List._∷_
       58
       (List._∷_
@@ -2833,7 +3067,7 @@ t29 = List._∷_ (
       84
       (List._∷_
       97
-      (List._∷_ 114 (List._∷_ 103 (List._∷_ 101 (List._∷_ 116 (List._∷_ 115 List.[]))))))))))))
+      (List._∷_ 114 (List._∷_ 103 (List._∷_ 101 (List._∷_ 116 (List._∷_ 115 List.[]))))))))))))))))
       (Syntax.tcons
       Syntax.tyBool
       (Syntax.tcons
@@ -2909,11 +3143,19 @@ t30 = List._∷_ (
   Rows'.any-gone
       (Syntax.tyStruct
       (List._∷_
+      116
+      (List._∷_
       97
       (List._∷_
       114
       (List._∷_
+      103
+      (List._∷_
+      101
+      (List._∷_
       116
+      (List._∷_
+      115
       (List._∷_
       58
       (List._∷_
@@ -2922,7 +3164,7 @@ t30 = List._∷_ (
       84
       (List._∷_
       97
-      (List._∷_ 114 (List._∷_ 103 (List._∷_ 101 (List._∷_ 116 (List._∷_ 115 List.[]))))))))))))
+      (List._∷_ 114 (List._∷_ 103 (List._∷_ 101 (List._∷_ 116 (List._∷_ 115 List.[]))))))))))))))))
       (Syntax.tcons
       Syntax.tyBool
       (Syntax.tcons
@@ -2998,11 +3240,19 @@ t31 = List._∷_ (
   Rows'.any-gone
       (Syntax.tyStruct
       (List._∷_
+      116
+      (List._∷_
       97
       (List._∷_
       114
       (List._∷_
+      103
+      (List._∷_
+      101
+      (List._∷_
       116
+      (List._∷_
+      115
       (List._∷_
       58
       (List._∷_
@@ -3011,7 +3261,7 @@ t31 = List._∷_ (
       84
       (List._∷_
       97
-      (List._∷_ 114 (List._∷_ 103 (List._∷_ 101 (List._∷_ 116 (List._∷_ 115 List.[]))))))))))))
+      (List._∷_ 114 (List._∷_ 103 (List._∷_ 101 (List._∷_ 116 (List._∷_ 115 List.[]))))))))))))))))
       (Syntax.tcons
       Syntax.tyBool
       (Syntax.tcons
@@ -3087,11 +3337,19 @@ t32 = List._∷_ (
   Rows'.any-gone
       (Syntax.tyStruct
       (List._∷_
+      116
+      (List._∷_
       97
       (List._∷_
       114
       (List._∷_
+      103
+      (List._∷_
+      101
+      (List._∷_
       116
+      (List._∷_
+      115
       (List._∷_
       58
       (List._∷_
@@ -3100,7 +3358,7 @@ t32 = List._∷_ (
       84
       (List._∷_
       97
-      (List._∷_ 114 (List._∷_ 103 (List._∷_ 101 (List._∷_ 116 (List._∷_ 115 List.[]))))))))))))
+      (List._∷_ 114 (List._∷_ 103 (List._∷_ 101 (List._∷_ 116 (List._∷_ 115 List.[]))))))))))))))))
       (Syntax.tcons
       Syntax.tyBool
       (Syntax.tcons
@@ -3178,11 +3436,19 @@ t33 = List._∷_ (
   Rows'.any-gone
       (Syntax.tyStruct
       (List._∷_
+      116
+      (List._∷_
       97
       (List._∷_
       114
       (List._∷_
+      103
+      (List._∷_
+      101
+      (List._∷_
       116
+      (List._∷_
+      115
       (List._∷_
       58
       (List._∷_
@@ -3191,7 +3457,7 @@ t33 = List._∷_ (
       84
       (List._∷_
       97
-      (List._∷_ 114 (List._∷_ 103 (List._∷_ 101 (List._∷_ 116 (List._∷_ 115 List.[]))))))))))))
+      (List._∷_ 114 (List._∷_ 103 (List._∷_ 101 (List._∷_ 116 (List._∷_ 115 List.[]))))))))))))))))
       (Syntax.tcons
       Syntax.tyBool
       (Syntax.tcons
@@ -3272,11 +3538,19 @@ t34 = List._∷_ (
   Rows'.any-gone
       (Syntax.tyStruct
       (List._∷_
+      116
+      (List._∷_
       97
       (List._∷_
       114
       (List._∷_
+      103
+      (List._∷_
+      101
+      (List._∷_
       116
+      (List._∷_
+      115
       (List._∷_
       58
       (List._∷_
@@ -3285,7 +3559,7 @@ t34 = List._∷_ (
       84
       (List._∷_
       97
-      (List._∷_ 114 (List._∷_ 103 (List._∷_ 101 (List._∷_ 116 (List._∷_ 115 List.[]))))))))))))
+      (List._∷_ 114 (List._∷_ 103 (List._∷_ 101 (List._∷_ 116 (List._∷_ 115 List.[]))))))))))))))))
       (Syntax.tcons
       Syntax.tyBool
       (Syntax.tcons
@@ -3366,11 +3640,19 @@ t35 = List._∷_ (
   Rows'.any-gone
       (Syntax.tyStruct
       (List._∷_
+      116
+      (List._∷_
       97
       (List._∷_
       114
       (List._∷_
+      103
+      (List._∷_
+      101
+      (List._∷_
       116
+      (List._∷_
+      115
       (List._∷_
       58
       (List._∷_
@@ -3379,7 +3661,7 @@ t35 = List._∷_ (
       84
       (List._∷_
       97
-      (List._∷_ 114 (List._∷_ 103 (List._∷_ 101 (List._∷_ 116 (List._∷_ 115 List.[]))))))))))))
+      (List._∷_ 114 (List._∷_ 103 (List._∷_ 101 (List._∷_ 116 (List._∷_ 115 List.[]))))))))))))))))
       (Syntax.tcons
       Syntax.tyBool
       (Syntax.tcons
@@ -3483,11 +3765,19 @@ t37 = List._∷_ (
   Rows'.any-gone
       (Syntax.tyStruct
       (List._∷_
+      116
+      (List._∷_
       97
       (List._∷_
       114
       (List._∷_
+      103
+      (List._∷_
+      101
+      (List._∷_
       116
+      (List._∷_
+      115
       (List._∷_
       58
       (List._∷_
@@ -3496,7 +3786,7 @@ t37 = List._∷_ (
       84
       (List._∷_
       97
-      (List._∷_ 114 (List._∷_ 103 (List._∷_ 101 (List._∷_ 116 (List._∷_ 115 List.[]))))))))))))
+      (List._∷_ 114 (List._∷_ 103 (List._∷_ 101 (List._∷_ 116 (List._∷_ 115 List.[]))))))))))))))))
       (Syntax.tcons
       Syntax.tyBool
       (Syntax.tcons
@@ -3656,16 +3946,26 @@ t39 = List._∷_ (0, Rows'.whole (Declared'.row Targets.the-type)) (List._∷_ (
       Rows'.any-gone
           (Syntax.tyStruct
           (List._∷_
+          116
+          (List._∷_
           97
           (List._∷_
           114
           (List._∷_
+          103
+          (List._∷_
+          101
+          (List._∷_
           116
           (List._∷_
+          115
+          (List._∷_
           58
           (List._∷_
           58
-          (List._∷_ 67 (List._∷_ 111 (List._∷_ 117 (List._∷_ 110 (List._∷_ 116 List.[]))))))))))
+          (List._∷_
+          67
+          (List._∷_ 111 (List._∷_ 117 (List._∷_ 110 (List._∷_ 116 List.[]))))))))))))))
           (Syntax.tcons Syntax.tyBool (Syntax.tcons (Syntax.tyInt Syntax.w64) Syntax.tnil))),
     ) (List._∷_ (4, Rows'.sc-here (Row.sInt Syntax.w64)) (List._∷_ (
       5,
@@ -3739,16 +4039,26 @@ t40 = List._∷_ (0, Rows'.whole (Declared'.row Targets.the-type)) (List._∷_ (
       Rows'.any-gone
           (Syntax.tyStruct
           (List._∷_
+          116
+          (List._∷_
           97
           (List._∷_
           114
           (List._∷_
+          103
+          (List._∷_
+          101
+          (List._∷_
           116
           (List._∷_
+          115
+          (List._∷_
           58
           (List._∷_
           58
-          (List._∷_ 67 (List._∷_ 111 (List._∷_ 117 (List._∷_ 110 (List._∷_ 116 List.[]))))))))))
+          (List._∷_
+          67
+          (List._∷_ 111 (List._∷_ 117 (List._∷_ 110 (List._∷_ 116 List.[]))))))))))))))
           (Syntax.tcons Syntax.tyBool (Syntax.tcons (Syntax.tyInt Syntax.w64) Syntax.tnil))),
     ) (List._∷_ (4, Rows'.any-gone (Syntax.tyInt Syntax.w64)) (List._∷_ (
       5,
@@ -3837,11 +4147,19 @@ t42 = List._∷_ (
   Rows'.any-gone
       (Syntax.tyStruct
       (List._∷_
+      116
+      (List._∷_
       97
       (List._∷_
       114
       (List._∷_
+      103
+      (List._∷_
+      101
+      (List._∷_
       116
+      (List._∷_
+      115
       (List._∷_
       58
       (List._∷_
@@ -3850,7 +4168,7 @@ t42 = List._∷_ (
       84
       (List._∷_
       97
-      (List._∷_ 114 (List._∷_ 103 (List._∷_ 101 (List._∷_ 116 (List._∷_ 115 List.[]))))))))))))
+      (List._∷_ 114 (List._∷_ 103 (List._∷_ 101 (List._∷_ 116 (List._∷_ 115 List.[]))))))))))))))))
       (Syntax.tcons
       Syntax.tyBool
       (Syntax.tcons
@@ -3931,11 +4249,19 @@ t43 = List._∷_ (
   Rows'.any-gone
       (Syntax.tyStruct
       (List._∷_
+      116
+      (List._∷_
       97
       (List._∷_
       114
       (List._∷_
+      103
+      (List._∷_
+      101
+      (List._∷_
       116
+      (List._∷_
+      115
       (List._∷_
       58
       (List._∷_
@@ -3944,7 +4270,7 @@ t43 = List._∷_ (
       84
       (List._∷_
       97
-      (List._∷_ 114 (List._∷_ 103 (List._∷_ 101 (List._∷_ 116 (List._∷_ 115 List.[]))))))))))))
+      (List._∷_ 114 (List._∷_ 103 (List._∷_ 101 (List._∷_ 116 (List._∷_ 115 List.[]))))))))))))))))
       (Syntax.tcons
       Syntax.tyBool
       (Syntax.tcons
@@ -4104,16 +4430,26 @@ t45 = List._∷_ (0, Rows'.whole (Declared'.row Targets.the-type)) (List._∷_ (
       Rows'.any-gone
           (Syntax.tyStruct
           (List._∷_
+          116
+          (List._∷_
           97
           (List._∷_
           114
           (List._∷_
+          103
+          (List._∷_
+          101
+          (List._∷_
           116
           (List._∷_
+          115
+          (List._∷_
           58
           (List._∷_
           58
-          (List._∷_ 67 (List._∷_ 111 (List._∷_ 117 (List._∷_ 110 (List._∷_ 116 List.[]))))))))))
+          (List._∷_
+          67
+          (List._∷_ 111 (List._∷_ 117 (List._∷_ 110 (List._∷_ 116 List.[]))))))))))))))
           (Syntax.tcons Syntax.tyBool (Syntax.tcons (Syntax.tyInt Syntax.w64) Syntax.tnil))),
     ) (List._∷_ (4, Rows'.sc-here (Row.sInt Syntax.w64)) (List._∷_ (
       5,
@@ -4187,16 +4523,26 @@ t46 = List._∷_ (0, Rows'.whole (Declared'.row Targets.the-type)) (List._∷_ (
       Rows'.any-gone
           (Syntax.tyStruct
           (List._∷_
+          116
+          (List._∷_
           97
           (List._∷_
           114
           (List._∷_
+          103
+          (List._∷_
+          101
+          (List._∷_
           116
           (List._∷_
+          115
+          (List._∷_
           58
           (List._∷_
           58
-          (List._∷_ 67 (List._∷_ 111 (List._∷_ 117 (List._∷_ 110 (List._∷_ 116 List.[]))))))))))
+          (List._∷_
+          67
+          (List._∷_ 111 (List._∷_ 117 (List._∷_ 110 (List._∷_ 116 List.[]))))))))))))))
           (Syntax.tcons Syntax.tyBool (Syntax.tcons (Syntax.tyInt Syntax.w64) Syntax.tnil))),
     ) (List._∷_ (4, Rows'.any-gone (Syntax.tyInt Syntax.w64)) (List._∷_ (
       5,
@@ -4270,16 +4616,26 @@ t47 = List._∷_ (0, Rows'.whole (Declared'.row Targets.the-type)) (List._∷_ (
       Rows'.any-gone
           (Syntax.tyStruct
           (List._∷_
+          116
+          (List._∷_
           97
           (List._∷_
           114
           (List._∷_
+          103
+          (List._∷_
+          101
+          (List._∷_
           116
           (List._∷_
+          115
+          (List._∷_
           58
           (List._∷_
           58
-          (List._∷_ 67 (List._∷_ 111 (List._∷_ 117 (List._∷_ 110 (List._∷_ 116 List.[]))))))))))
+          (List._∷_
+          67
+          (List._∷_ 111 (List._∷_ 117 (List._∷_ 110 (List._∷_ 116 List.[]))))))))))))))
           (Syntax.tcons Syntax.tyBool (Syntax.tcons (Syntax.tyInt Syntax.w64) Syntax.tnil))),
     ) (List._∷_ (4, Rows'.any-gone (Syntax.tyInt Syntax.w64)) (List._∷_ (
       5,
@@ -4656,16 +5012,24 @@ module _ (claims· : Claims) where
       List.[]
       (Syntax.tyStruct
       (List._∷_
+      116
+      (List._∷_
       97
       (List._∷_
       114
       (List._∷_
+      103
+      (List._∷_
+      101
+      (List._∷_
       116
       (List._∷_
+      115
+      (List._∷_
       58
       (List._∷_
       58
-      (List._∷_ 67 (List._∷_ 111 (List._∷_ 117 (List._∷_ 110 (List._∷_ 116 List.[]))))))))))
+      (List._∷_ 67 (List._∷_ 111 (List._∷_ 117 (List._∷_ 110 (List._∷_ 116 List.[]))))))))))))))
       (Syntax.tcons Syntax.tyBool (Syntax.tcons (Syntax.tyInt Syntax.w64) Syntax.tnil)))
 
   abbrev s5 : (bs : List.List Nat.ℕ) → Typed.Mo T6 → Typed.Mo T7
@@ -4800,7 +5164,7 @@ module _ (claims· : Claims) where
   s15 = λ bs. Known.k-enum-known Next.enum 1 T15 11 λ x. x
 
   abbrev s16 : (bs : List.List Nat.ℕ) → Typed.Gives T19 T20
-  s16 = λ bs. Known.k-known-told Next.enum Laws''.the-laws 1 T19 11 λ x. x
+  s16 = λ bs. Known.k-known-told Next.enum Laws.the-laws 1 T19 11 λ x. x
 
   abbrev s17 : (bs : List.List Nat.ℕ) → Typed.Mo T20 → Typed.Mo T21
   s17 = λ bs. Scalar.n-room T20 4 (Syntax.tyInt Syntax.w64)
@@ -4814,7 +5178,7 @@ module _ (claims· : Claims) where
       (List._∷_ (Syntax.variant 1) (List._∷_ (Syntax.field 1) List.[]))
       (Syntax.tyInt Syntax.w8)
       1
-      λ v. Laws''.the-laws .1 .0 .0 .val
+      λ v. Laws.the-laws .1 .0 .0 .val
       (v .0))
       6
       (Rows'.sc-here (Row.sInt Syntax.w8))
@@ -4829,7 +5193,7 @@ module _ (claims· : Claims) where
       (List._∷_ (Syntax.variant 1) (List._∷_ (Syntax.field 2) List.[]))
       (Syntax.tyInt Syntax.w64)
       8
-      λ v. Laws''.the-laws .1 .0 .1 .0 .val
+      λ v. Laws.the-laws .1 .0 .1 .0 .val
       (v .1 .0))
       7
       (Rows'.sc-here (Row.sInt Syntax.w64))
@@ -4844,7 +5208,7 @@ module _ (claims· : Claims) where
       (List._∷_ (Syntax.variant 1) (List._∷_ (Syntax.field 3) List.[]))
       (Syntax.tyInt Syntax.w64)
       16
-      λ v. Laws''.the-laws .1 .0 .1 .1 .0 .val
+      λ v. Laws.the-laws .1 .0 .1 .1 .0 .val
       (v .1 .1 .0))
       8
       (Rows'.sc-here (Row.sInt Syntax.w64))
@@ -5039,16 +5403,24 @@ module _ (claims· : Claims) where
       (List._∷_ 1 List.[])
       (Syntax.tyStruct
       (List._∷_
+      116
+      (List._∷_
       97
       (List._∷_
       114
       (List._∷_
+      103
+      (List._∷_
+      101
+      (List._∷_
       116
       (List._∷_
+      115
+      (List._∷_
       58
       (List._∷_
       58
-      (List._∷_ 67 (List._∷_ 111 (List._∷_ 117 (List._∷_ 110 (List._∷_ 116 List.[]))))))))))
+      (List._∷_ 67 (List._∷_ 111 (List._∷_ 117 (List._∷_ 110 (List._∷_ 116 List.[]))))))))))))))
       (Syntax.tcons Syntax.tyBool (Syntax.tcons (Syntax.tyInt Syntax.w64) Syntax.tnil)))
 
   abbrev s37 : (bs : List.List Nat.ℕ) → Typed.Mo T40 → Typed.Mo T41
@@ -5147,11 +5519,19 @@ module _ (claims· : Claims) where
       List.[]
       (Syntax.tyStruct
       (List._∷_
+      116
+      (List._∷_
       97
       (List._∷_
       114
       (List._∷_
+      103
+      (List._∷_
+      101
+      (List._∷_
       116
+      (List._∷_
+      115
       (List._∷_
       58
       (List._∷_
@@ -5160,7 +5540,7 @@ module _ (claims· : Claims) where
       84
       (List._∷_
       97
-      (List._∷_ 114 (List._∷_ 103 (List._∷_ 101 (List._∷_ 116 (List._∷_ 115 List.[]))))))))))))
+      (List._∷_ 114 (List._∷_ 103 (List._∷_ 101 (List._∷_ 116 (List._∷_ 115 List.[]))))))))))))))))
       (Syntax.tcons
       Syntax.tyBool
       (Syntax.tcons
@@ -5174,16 +5554,24 @@ module _ (claims· : Claims) where
       3
       (Syntax.tyStruct
       (List._∷_
+      116
+      (List._∷_
       97
       (List._∷_
       114
       (List._∷_
+      103
+      (List._∷_
+      101
+      (List._∷_
       116
       (List._∷_
+      115
+      (List._∷_
       58
       (List._∷_
       58
-      (List._∷_ 67 (List._∷_ 111 (List._∷_ 117 (List._∷_ 110 (List._∷_ 116 List.[]))))))))))
+      (List._∷_ 67 (List._∷_ 111 (List._∷_ 117 (List._∷_ 110 (List._∷_ 116 List.[]))))))))))))))
       (Syntax.tcons Syntax.tyBool (Syntax.tcons (Syntax.tyInt Syntax.w64) Syntax.tnil)))
 
   abbrev s54 : (bs : List.List Nat.ℕ) → Typed.Mo T57 → Typed.Mo T58
@@ -5254,11 +5642,19 @@ module _ (claims· : Claims) where
       List.[]
       (Syntax.tyStruct
       (List._∷_
+      116
+      (List._∷_
       97
       (List._∷_
       114
       (List._∷_
+      103
+      (List._∷_
+      101
+      (List._∷_
       116
+      (List._∷_
+      115
       (List._∷_
       58
       (List._∷_
@@ -5267,7 +5663,7 @@ module _ (claims· : Claims) where
       84
       (List._∷_
       97
-      (List._∷_ 114 (List._∷_ 103 (List._∷_ 101 (List._∷_ 116 (List._∷_ 115 List.[]))))))))))))
+      (List._∷_ 114 (List._∷_ 103 (List._∷_ 101 (List._∷_ 116 (List._∷_ 115 List.[]))))))))))))))))
       (Syntax.tcons
       Syntax.tyBool
       (Syntax.tcons
@@ -5281,16 +5677,24 @@ module _ (claims· : Claims) where
       3
       (Syntax.tyStruct
       (List._∷_
+      116
+      (List._∷_
       97
       (List._∷_
       114
       (List._∷_
+      103
+      (List._∷_
+      101
+      (List._∷_
       116
       (List._∷_
+      115
+      (List._∷_
       58
       (List._∷_
       58
-      (List._∷_ 67 (List._∷_ 111 (List._∷_ 117 (List._∷_ 110 (List._∷_ 116 List.[]))))))))))
+      (List._∷_ 67 (List._∷_ 111 (List._∷_ 117 (List._∷_ 110 (List._∷_ 116 List.[]))))))))))))))
       (Syntax.tcons Syntax.tyBool (Syntax.tcons (Syntax.tyInt Syntax.w64) Syntax.tnil)))
 
   abbrev s63 : (bs : List.List Nat.ℕ) → Typed.Mo T66 → Typed.Mo T67
@@ -5327,11 +5731,19 @@ module _ (claims· : Claims) where
       List.[]
       (Syntax.tyStruct
       (List._∷_
+      116
+      (List._∷_
       97
       (List._∷_
       114
       (List._∷_
+      103
+      (List._∷_
+      101
+      (List._∷_
       116
+      (List._∷_
+      115
       (List._∷_
       58
       (List._∷_
@@ -5340,7 +5752,7 @@ module _ (claims· : Claims) where
       84
       (List._∷_
       97
-      (List._∷_ 114 (List._∷_ 103 (List._∷_ 101 (List._∷_ 116 (List._∷_ 115 List.[]))))))))))))
+      (List._∷_ 114 (List._∷_ 103 (List._∷_ 101 (List._∷_ 116 (List._∷_ 115 List.[]))))))))))))))))
       (Syntax.tcons
       Syntax.tyBool
       (Syntax.tcons
@@ -5354,16 +5766,24 @@ module _ (claims· : Claims) where
       3
       (Syntax.tyStruct
       (List._∷_
+      116
+      (List._∷_
       97
       (List._∷_
       114
       (List._∷_
+      103
+      (List._∷_
+      101
+      (List._∷_
       116
       (List._∷_
+      115
+      (List._∷_
       58
       (List._∷_
       58
-      (List._∷_ 67 (List._∷_ 111 (List._∷_ 117 (List._∷_ 110 (List._∷_ 116 List.[]))))))))))
+      (List._∷_ 67 (List._∷_ 111 (List._∷_ 117 (List._∷_ 110 (List._∷_ 116 List.[]))))))))))))))
       (Syntax.tcons Syntax.tyBool (Syntax.tcons (Syntax.tyInt Syntax.w64) Syntax.tnil)))
 
   abbrev s70 : (bs : List.List Nat.ℕ) → Typed.Mo T73 → Typed.Mo T74
@@ -5401,13 +5821,13 @@ module _ (claims· : Claims) where
       Closed =
           (𝓤 : URA.URA M) (H : Wp.Heap 𝓤) (A : Atoms.Atoms 𝓤) (W : Kit.Given 𝓤 H A) (𝓣 : Wp.Tables
           𝓤 H) (known0 : Plain.Known 𝓤 H A W 𝓣 0 ps·0 r·0 (claims· .0) (claims· .1)
-          "art::blank_list") (known1 : Plain.Known 𝓤 H A W 𝓣 0 ps·1 r·1 (claims· .2) (claims· .3)
-          "art::none_yet") (known2 : Plain.Known 𝓤 H A W 𝓣 1 ps·2 r·2 (claims· .4) (claims· .5)
-          "option::next_option") (known3 : Plain.Known 𝓤 H A W 𝓣 1 ps·3 r·3 (claims· .6)
-          (claims· .7) "art::read_target") (known4 : Plain.Known 𝓤 H A W 𝓣 1 ps·4 r·4 (claims· .8)
-          (claims· .9) "art::collect") (known5 : Plain.Known 𝓤 H A W 𝓣 0 ps·5 r·5 (claims· .10)
-          (claims· .11) "scan::targets_in") → Statement.Triple 𝓤 (Wp.WpFn 𝓤 H (𝓣 .C) (𝓣 .Λ)
-          (Function.fnOf 1 ps r xs m hs body)) (Function.plainOf 𝓤 H A 1 ps r Pre· Post·)
+          "targets::blank_list") (known1 : Plain.Known 𝓤 H A W 𝓣 0 ps·1 r·1 (claims· .2)
+          (claims· .3) "targets::none_yet") (known2 : Plain.Known 𝓤 H A W 𝓣 1 ps·2 r·2 (claims· .4)
+          (claims· .5) "option::next_option") (known3 : Plain.Known 𝓤 H A W 𝓣 1 ps·3 r·3
+          (claims· .6) (claims· .7) "art::read_target") (known4 : Plain.Known 𝓤 H A W 𝓣 1 ps·4 r·4
+          (claims· .8) (claims· .9) "collect::collect") (known5 : Plain.Known 𝓤 H A W 𝓣 0 ps·5 r·5
+          (claims· .10) (claims· .11) "scan::targets_in") → Statement.Triple 𝓤 (Wp.WpFn 𝓤 H (𝓣 .C)
+          (𝓣 .Λ) (Function.fnOf 1 ps r xs m hs body)) (Function.plainOf 𝓤 H A 1 ps r Pre· Post·)
 
     module _ (Inv·0 : InvT-loop) (μ·0 : MeasureT-loop) where
       abbrev at0 : (bs : List.List Nat.ℕ) → Typed.TF T12 O4
@@ -5710,11 +6130,11 @@ module _ (claims· : Claims) where
           (W : Kit.Given 𝓤 H A) (𝓣 : Wp.Tables 𝓤 H) where
         abbrev Knowns : Type 1
         Knowns =
-            Plain.Known 𝓤 H A W 𝓣 0 ps·0 r·0 (claims· .0) (claims· .1) "art::blank_list" ×
-            Plain.Known 𝓤 H A W 𝓣 0 ps·1 r·1 (claims· .2) (claims· .3) "art::none_yet" ×
+            Plain.Known 𝓤 H A W 𝓣 0 ps·0 r·0 (claims· .0) (claims· .1) "targets::blank_list" ×
+            Plain.Known 𝓤 H A W 𝓣 0 ps·1 r·1 (claims· .2) (claims· .3) "targets::none_yet" ×
             Plain.Known 𝓤 H A W 𝓣 1 ps·2 r·2 (claims· .4) (claims· .5) "option::next_option" ×
             Plain.Known 𝓤 H A W 𝓣 1 ps·3 r·3 (claims· .6) (claims· .7) "art::read_target" ×
-            Plain.Known 𝓤 H A W 𝓣 1 ps·4 r·4 (claims· .8) (claims· .9) "art::collect" ×
+            Plain.Known 𝓤 H A W 𝓣 1 ps·4 r·4 (claims· .8) (claims· .9) "collect::collect" ×
             Plain.Known 𝓤 H A W 𝓣 0 ps·5 r·5 (claims· .10) (claims· .11) "scan::targets_in"
 
       module _ (κs : Lifetimes.Lfts 1) (qs : Lifetimes.Shares 1) where
@@ -6579,7 +6999,7 @@ module _ (claims· : Claims) where
               r·4
               (claims· .8)
               (claims· .9)
-              "art::collect"
+              "collect::collect"
               (known .4)
               E
               (λ pos β. β)
@@ -6633,7 +7053,7 @@ module _ (claims· : Claims) where
                         (λ ρ. Unit)
                         (Declared'.row Count.the-type)
                         Path'.refl
-                        (Copies.cStruct Count.the-type Laws.the-laws Laws.the-copy .copy 𝓤 H A W)
+                        (Copies.cStruct Count.the-type Laws'.the-laws Laws'.the-copy .copy 𝓤 H A W)
                         (Rows'.whole (Declared'.row Count.the-type))
                         (λ x. x)
                         (λ x. x)
@@ -6664,18 +7084,26 @@ module _ (claims· : Claims) where
               (Declared'.row Count.the-type)
               (Syntax.tyStruct
               (List._∷_
+              116
+              (List._∷_
               97
               (List._∷_
               114
               (List._∷_
+              103
+              (List._∷_
+              101
+              (List._∷_
               116
+              (List._∷_
+              115
               (List._∷_
               58
               (List._∷_
               58
               (List._∷_
               67
-              (List._∷_ 111 (List._∷_ 117 (List._∷_ 110 (List._∷_ 116 List.[]))))))))))
+              (List._∷_ 111 (List._∷_ 117 (List._∷_ 110 (List._∷_ 116 List.[]))))))))))))))
               (Syntax.tcons Syntax.tyBool (Syntax.tcons (Syntax.tyInt Syntax.w64) Syntax.tnil)))
               Path'.refl)
               (tt, tt)
@@ -7631,7 +8059,7 @@ module _ (claims· : Claims) where
               (List._∷_ (Syntax.variant 1) (List._∷_ (Syntax.field 3) List.[]))
               (Syntax.tyInt Syntax.w64)
               16
-              λ v. Laws''.the-laws .1 .0 .1 .1 .0 .val
+              λ v. Laws.the-laws .1 .0 .1 .1 .0 .val
               (v .1 .1 .0))
               8
               (Rows'.sc-here (Row.sInt Syntax.w64))
@@ -7644,15 +8072,15 @@ module _ (claims· : Claims) where
                     A
                     W
                     Next.enum
-                    Laws''.the-laws
+                    Laws.the-laws
                     1
                     Path'.refl
                     Path'.refl
                     (λ v. Val.vcons
-                    (Laws''.the-laws .1 .0 .0 .val (v .0))
+                    (Laws.the-laws .1 .0 .0 .val (v .0))
                     (Val.vcons
-                    (Laws''.the-laws .1 .0 .1 .0 .val (v .1 .0))
-                    (Val.vcons (Laws''.the-laws .1 .0 .1 .1 .0 .val (v .1 .1 .0)) Val.vnil)))
+                    (Laws.the-laws .1 .0 .1 .0 .val (v .1 .0))
+                    (Val.vcons (Laws.the-laws .1 .0 .1 .1 .0 .val (v .1 .1 .0)) Val.vnil)))
                     (λ v. Path'.refl)
                     2
                     (Syntax.tyInt Syntax.w64)
@@ -7696,7 +8124,7 @@ module _ (claims· : Claims) where
               (List._∷_ (Syntax.variant 1) (List._∷_ (Syntax.field 2) List.[]))
               (Syntax.tyInt Syntax.w64)
               8
-              λ v. Laws''.the-laws .1 .0 .1 .0 .val
+              λ v. Laws.the-laws .1 .0 .1 .0 .val
               (v .1 .0))
               7
               (Rows'.sc-here (Row.sInt Syntax.w64))
@@ -7709,15 +8137,15 @@ module _ (claims· : Claims) where
                     A
                     W
                     Next.enum
-                    Laws''.the-laws
+                    Laws.the-laws
                     1
                     Path'.refl
                     Path'.refl
                     (λ v. Val.vcons
-                    (Laws''.the-laws .1 .0 .0 .val (v .0))
+                    (Laws.the-laws .1 .0 .0 .val (v .0))
                     (Val.vcons
-                    (Laws''.the-laws .1 .0 .1 .0 .val (v .1 .0))
-                    (Val.vcons (Laws''.the-laws .1 .0 .1 .1 .0 .val (v .1 .1 .0)) Val.vnil)))
+                    (Laws.the-laws .1 .0 .1 .0 .val (v .1 .0))
+                    (Val.vcons (Laws.the-laws .1 .0 .1 .1 .0 .val (v .1 .1 .0)) Val.vnil)))
                     (λ v. Path'.refl)
                     1
                     (Syntax.tyInt Syntax.w64)
@@ -7761,7 +8189,7 @@ module _ (claims· : Claims) where
               (List._∷_ (Syntax.variant 1) (List._∷_ (Syntax.field 1) List.[]))
               (Syntax.tyInt Syntax.w8)
               1
-              λ v. Laws''.the-laws .1 .0 .0 .val
+              λ v. Laws.the-laws .1 .0 .0 .val
               (v .0))
               6
               (Rows'.sc-here (Row.sInt Syntax.w8))
@@ -7774,15 +8202,15 @@ module _ (claims· : Claims) where
                     A
                     W
                     Next.enum
-                    Laws''.the-laws
+                    Laws.the-laws
                     1
                     Path'.refl
                     Path'.refl
                     (λ v. Val.vcons
-                    (Laws''.the-laws .1 .0 .0 .val (v .0))
+                    (Laws.the-laws .1 .0 .0 .val (v .0))
                     (Val.vcons
-                    (Laws''.the-laws .1 .0 .1 .0 .val (v .1 .0))
-                    (Val.vcons (Laws''.the-laws .1 .0 .1 .1 .0 .val (v .1 .1 .0)) Val.vnil)))
+                    (Laws.the-laws .1 .0 .1 .0 .val (v .1 .0))
+                    (Val.vcons (Laws.the-laws .1 .0 .1 .1 .0 .val (v .1 .1 .0)) Val.vnil)))
                     (λ v. Path'.refl)
                     0
                     (Syntax.tyInt Syntax.w8)
@@ -7849,7 +8277,7 @@ module _ (claims· : Claims) where
               1
               G19
               11
-              Laws''.the-laws
+              Laws.the-laws
               (λ x. x)
               (Reads.as-is 𝓤 H A (Rows'.whole (Known.Known Next.enum 1))))
               d33
@@ -8001,18 +8429,26 @@ module _ (claims· : Claims) where
               3
               (Syntax.tyStruct
               (List._∷_
+              116
+              (List._∷_
               97
               (List._∷_
               114
               (List._∷_
+              103
+              (List._∷_
+              101
+              (List._∷_
               116
+              (List._∷_
+              115
               (List._∷_
               58
               (List._∷_
               58
               (List._∷_
               67
-              (List._∷_ 111 (List._∷_ 117 (List._∷_ 110 (List._∷_ 116 List.[]))))))))))
+              (List._∷_ 111 (List._∷_ 117 (List._∷_ 110 (List._∷_ 116 List.[]))))))))))))))
               (Syntax.tcons Syntax.tyBool (Syntax.tcons (Syntax.tyInt Syntax.w64) Syntax.tnil)))
               (Local.room-whole
               𝓤
@@ -8022,18 +8458,26 @@ module _ (claims· : Claims) where
               (Declared'.row Count.the-type)
               (Syntax.tyStruct
               (List._∷_
+              116
+              (List._∷_
               97
               (List._∷_
               114
               (List._∷_
+              103
+              (List._∷_
+              101
+              (List._∷_
               116
+              (List._∷_
+              115
               (List._∷_
               58
               (List._∷_
               58
               (List._∷_
               67
-              (List._∷_ 111 (List._∷_ 117 (List._∷_ 110 (List._∷_ 116 List.[]))))))))))
+              (List._∷_ 111 (List._∷_ 117 (List._∷_ 110 (List._∷_ 116 List.[]))))))))))))))
               (Syntax.tcons Syntax.tyBool (Syntax.tcons (Syntax.tyInt Syntax.w64) Syntax.tnil)))
               Path'.refl))
               d39
@@ -8097,7 +8541,7 @@ module _ (claims· : Claims) where
                         (λ ρ. Unit)
                         (Declared'.row Count.the-type)
                         Path'.refl
-                        (Copies.cStruct Count.the-type Laws.the-laws Laws.the-copy .copy 𝓤 H A W)
+                        (Copies.cStruct Count.the-type Laws'.the-laws Laws'.the-copy .copy 𝓤 H A W)
                         (Rows'.whole (Declared'.row Count.the-type))
                         (λ x. x)
                         (λ x. x)
@@ -8120,11 +8564,19 @@ module _ (claims· : Claims) where
               A
               (Syntax.tyStruct
               (List._∷_
+              116
+              (List._∷_
               97
               (List._∷_
               114
               (List._∷_
+              103
+              (List._∷_
+              101
+              (List._∷_
               116
+              (List._∷_
+              115
               (List._∷_
               58
               (List._∷_
@@ -8135,7 +8587,7 @@ module _ (claims· : Claims) where
               97
               (List._∷_
               114
-              (List._∷_ 103 (List._∷_ 101 (List._∷_ 116 (List._∷_ 115 List.[]))))))))))))
+              (List._∷_ 103 (List._∷_ 101 (List._∷_ 116 (List._∷_ 115 List.[]))))))))))))))))
               (Syntax.tcons
               Syntax.tyBool
               (Syntax.tcons
@@ -8506,18 +8958,26 @@ module _ (claims· : Claims) where
               3
               (Syntax.tyStruct
               (List._∷_
+              116
+              (List._∷_
               97
               (List._∷_
               114
               (List._∷_
+              103
+              (List._∷_
+              101
+              (List._∷_
               116
+              (List._∷_
+              115
               (List._∷_
               58
               (List._∷_
               58
               (List._∷_
               67
-              (List._∷_ 111 (List._∷_ 117 (List._∷_ 110 (List._∷_ 116 List.[]))))))))))
+              (List._∷_ 111 (List._∷_ 117 (List._∷_ 110 (List._∷_ 116 List.[]))))))))))))))
               (Syntax.tcons Syntax.tyBool (Syntax.tcons (Syntax.tyInt Syntax.w64) Syntax.tnil)))
               (Local.room-whole
               𝓤
@@ -8527,18 +8987,26 @@ module _ (claims· : Claims) where
               (Declared'.row Count.the-type)
               (Syntax.tyStruct
               (List._∷_
+              116
+              (List._∷_
               97
               (List._∷_
               114
               (List._∷_
+              103
+              (List._∷_
+              101
+              (List._∷_
               116
+              (List._∷_
+              115
               (List._∷_
               58
               (List._∷_
               58
               (List._∷_
               67
-              (List._∷_ 111 (List._∷_ 117 (List._∷_ 110 (List._∷_ 116 List.[]))))))))))
+              (List._∷_ 111 (List._∷_ 117 (List._∷_ 110 (List._∷_ 116 List.[]))))))))))))))
               (Syntax.tcons Syntax.tyBool (Syntax.tcons (Syntax.tyInt Syntax.w64) Syntax.tnil)))
               Path'.refl))
               d49
@@ -8602,7 +9070,7 @@ module _ (claims· : Claims) where
                         (λ ρ. Unit)
                         (Declared'.row Count.the-type)
                         Path'.refl
-                        (Copies.cStruct Count.the-type Laws.the-laws Laws.the-copy .copy 𝓤 H A W)
+                        (Copies.cStruct Count.the-type Laws'.the-laws Laws'.the-copy .copy 𝓤 H A W)
                         (Rows'.whole (Declared'.row Count.the-type))
                         (λ x. x)
                         (λ x. x)
@@ -8625,11 +9093,19 @@ module _ (claims· : Claims) where
               A
               (Syntax.tyStruct
               (List._∷_
+              116
+              (List._∷_
               97
               (List._∷_
               114
               (List._∷_
+              103
+              (List._∷_
+              101
+              (List._∷_
               116
+              (List._∷_
+              115
               (List._∷_
               58
               (List._∷_
@@ -8640,7 +9116,7 @@ module _ (claims· : Claims) where
               97
               (List._∷_
               114
-              (List._∷_ 103 (List._∷_ 101 (List._∷_ 116 (List._∷_ 115 List.[]))))))))))))
+              (List._∷_ 103 (List._∷_ 101 (List._∷_ 116 (List._∷_ 115 List.[]))))))))))))))))
               (Syntax.tcons
               Syntax.tyBool
               (Syntax.tcons
@@ -8931,11 +9407,11 @@ module _ (claims· : Claims) where
                     A
                     W
                     Next.the-type
-                    Laws''.the-laws
+                    Laws.the-laws
                     (Rows'.whole (Declared.row Next.the-type))
                     0
                     (λ x. x)
-                    (Whole.reads-enum 𝓤 H A W Next.the-type Laws''.the-laws),
+                    (Whole.reads-enum 𝓤 H A W Next.the-type Laws.the-laws),
                 Path'.refl,
               )
               (λ u. Path'.refl)
@@ -9279,18 +9755,26 @@ module _ (claims· : Claims) where
               3
               (Syntax.tyStruct
               (List._∷_
+              116
+              (List._∷_
               97
               (List._∷_
               114
               (List._∷_
+              103
+              (List._∷_
+              101
+              (List._∷_
               116
+              (List._∷_
+              115
               (List._∷_
               58
               (List._∷_
               58
               (List._∷_
               67
-              (List._∷_ 111 (List._∷_ 117 (List._∷_ 110 (List._∷_ 116 List.[]))))))))))
+              (List._∷_ 111 (List._∷_ 117 (List._∷_ 110 (List._∷_ 116 List.[]))))))))))))))
               (Syntax.tcons Syntax.tyBool (Syntax.tcons (Syntax.tyInt Syntax.w64) Syntax.tnil)))
               (Local.room-whole
               𝓤
@@ -9300,18 +9784,26 @@ module _ (claims· : Claims) where
               (Declared'.row Count.the-type)
               (Syntax.tyStruct
               (List._∷_
+              116
+              (List._∷_
               97
               (List._∷_
               114
               (List._∷_
+              103
+              (List._∷_
+              101
+              (List._∷_
               116
+              (List._∷_
+              115
               (List._∷_
               58
               (List._∷_
               58
               (List._∷_
               67
-              (List._∷_ 111 (List._∷_ 117 (List._∷_ 110 (List._∷_ 116 List.[]))))))))))
+              (List._∷_ 111 (List._∷_ 117 (List._∷_ 110 (List._∷_ 116 List.[]))))))))))))))
               (Syntax.tcons Syntax.tyBool (Syntax.tcons (Syntax.tyInt Syntax.w64) Syntax.tnil)))
               Path'.refl))
               d66
@@ -9375,7 +9867,7 @@ module _ (claims· : Claims) where
                         (λ ρ. Unit)
                         (Declared'.row Count.the-type)
                         Path'.refl
-                        (Copies.cStruct Count.the-type Laws.the-laws Laws.the-copy .copy 𝓤 H A W)
+                        (Copies.cStruct Count.the-type Laws'.the-laws Laws'.the-copy .copy 𝓤 H A W)
                         (Rows'.whole (Declared'.row Count.the-type))
                         (λ x. x)
                         (λ x. x)
@@ -9398,11 +9890,19 @@ module _ (claims· : Claims) where
               A
               (Syntax.tyStruct
               (List._∷_
+              116
+              (List._∷_
               97
               (List._∷_
               114
               (List._∷_
+              103
+              (List._∷_
+              101
+              (List._∷_
               116
+              (List._∷_
+              115
               (List._∷_
               58
               (List._∷_
@@ -9413,7 +9913,7 @@ module _ (claims· : Claims) where
               97
               (List._∷_
               114
-              (List._∷_ 103 (List._∷_ 101 (List._∷_ 116 (List._∷_ 115 List.[]))))))))))))
+              (List._∷_ 103 (List._∷_ 101 (List._∷_ 116 (List._∷_ 115 List.[]))))))))))))))))
               (Syntax.tcons
               Syntax.tyBool
               (Syntax.tcons
@@ -9684,7 +10184,7 @@ module _ (claims· : Claims) where
               r·1
               (claims· .2)
               (claims· .3)
-              "art::none_yet"
+              "targets::none_yet"
               (known .1)
               E
               (λ pos β. β)
@@ -9700,18 +10200,26 @@ module _ (claims· : Claims) where
               A
               (Syntax.tyStruct
               (List._∷_
+              116
+              (List._∷_
               97
               (List._∷_
               114
               (List._∷_
+              103
+              (List._∷_
+              101
+              (List._∷_
               116
+              (List._∷_
+              115
               (List._∷_
               58
               (List._∷_
               58
               (List._∷_
               67
-              (List._∷_ 111 (List._∷_ 117 (List._∷_ 110 (List._∷_ 116 List.[]))))))))))
+              (List._∷_ 111 (List._∷_ 117 (List._∷_ 110 (List._∷_ 116 List.[]))))))))))))))
               (Syntax.tcons Syntax.tyBool (Syntax.tcons (Syntax.tyInt Syntax.w64) Syntax.tnil))))
               tt
               Path'.refl)
@@ -9881,7 +10389,7 @@ module _ (claims· : Claims) where
               r·0
               (claims· .0)
               (claims· .1)
-              "art::blank_list"
+              "targets::blank_list"
               (known .0)
               E
               (λ pos β. β)
@@ -12791,8 +13299,30 @@ module _ (claims· : Claims) where
 
         module _ {M : Type 1} (𝓤 : URA.URA M) (H : Wp.Heap 𝓤) (A : Atoms.Atoms 𝓤)
             (W : Kit.Given 𝓤 H A) (𝓣 : Wp.Tables 𝓤 H)
-            (known0 : Plain.Known 𝓤 H A W 𝓣 0 ps·0 r·0 (claims· .0) (claims· .1) "art::blank_list")
-            (known1 : Plain.Known 𝓤 H A W 𝓣 0 ps·1 r·1 (claims· .2) (claims· .3) "art::none_yet")
+            (known0 : Plain.Known
+            𝓤
+            H
+            A
+            W
+            𝓣
+            0
+            ps·0
+            r·0
+            (claims· .0)
+            (claims· .1)
+            "targets::blank_list")
+            (known1 : Plain.Known
+            𝓤
+            H
+            A
+            W
+            𝓣
+            0
+            ps·1
+            r·1
+            (claims· .2)
+            (claims· .3)
+            "targets::none_yet")
             (known2 : Plain.Known
             𝓤
             H
@@ -12817,7 +13347,18 @@ module _ (claims· : Claims) where
             (claims· .6)
             (claims· .7)
             "art::read_target")
-            (known4 : Plain.Known 𝓤 H A W 𝓣 1 ps·4 r·4 (claims· .8) (claims· .9) "art::collect")
+            (known4 : Plain.Known
+            𝓤
+            H
+            A
+            W
+            𝓣
+            1
+            ps·4
+            r·4
+            (claims· .8)
+            (claims· .9)
+            "collect::collect")
             (known5 : Plain.Known
             𝓤
             H
