@@ -39,7 +39,7 @@ use Rattle.bad_call.specs.Lent.{lentBy}
 use Rattle.node.specs.Taken.{Taken, TakenStart, requestDecision, replyDecision, startDecision}
 use Rattle.plain.specs.declared.Target.{Target}
 use Rattle.targets.specs.declared.Targets.{Targets}
-use Rattle.matching.specs.Kept.{listOf}
+use Rattle.kept.specs.Kept.{listOf}
 use Rattle.gather.specs.Gathers.{Gathers, Judged}
 use Rattle.gather.specs.declared.Gathering.{Gathering}
 use Rattle.gather.proofs.Judge.{fit}

@@ -13,7 +13,7 @@ use Rattle.lemmas.proofs.Walk.{left-at}
 use Rattle.targets.specs.declared.Count.{Count}
 use Rattle.targets.specs.Collected.{noneYet, targetsIn, Collected, Joined}
 use Rattle.targets.proofs.Laws.{none-collected, gathered}
-use Rattle.matching.proofs.Whole.{once-whole}
+use Rattle.spare.proofs.Whole.{once-whole}
 use Rattle.gather.specs.declared.Gathering.{Gathering}
 use Rattle.gather.specs.Gathers.{isLong, Gathers}
 

@@ -42,7 +42,7 @@ pub fn gather(given: &[Target]) -> Gathering
     let mut long = false;
     let mut i: usize = 0;
     while i < given.len() {
-        c = collect::collect(&mut list, c, matching::whole_bits(given[i]));
+        c = collect::collect(&mut list, c, spare::whole_bits(given[i]));
         long = is_long(long, given[i]);
         i += 1;
     }

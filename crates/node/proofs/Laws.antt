@@ -41,7 +41,7 @@ use Rattle.place.specs.Places.{rowChange, hopChange}
 use Rattle.finish.specs.Gives.{stateOf, decisionOf, Ready, Settled}
 use Rattle.finish.specs.declared.Live.{Live}
 use Rattle.targets.specs.declared.Targets.{Targets}
-use Rattle.matching.specs.Kept.{listOf}
+use Rattle.kept.specs.Kept.{listOf}
 use Rattle.start.specs.Start.{startOf, startAnswer}
 use Rattle.start.specs.declared.Asking.{Asking}
 use Rattle.start.proofs.Lines.{lines-of}

@@ -10,7 +10,7 @@ ghost use Rattle.plain.specs.Plain.{enact};
 ghost use Rattle.answer.specs.declared.Answer.the-variants.{NoPartner};
 ghost use Rattle.plain.specs.declared.Target as plain;
 ghost use Rattle.own.specs.Settings.{settingsOf};
-ghost use Rattle.matching.specs.Kept.{listOf};
+ghost use Rattle.kept.specs.Kept.{listOf};
 ghost use Rattle.start.specs.Start.{startOf};
 ghost use Rattle.finish.specs.Gives.{stateOf, Gives};
 ghost use Rattle.node.specs.Taken.{Taken, TakenStart, requestDecision, replyDecision, startDecision};

@@ -10,7 +10,7 @@ use Rattle.plain.specs.Request.{matchesUs, notOurs, common, isUpdate, rowTarget
 use Rattle.plain.specs.declared.Standing.{Standing}
 use Rattle.plain.specs.declared.Target.{Target}
 use Rattle.targets.specs.declared.Targets.{Targets}
-use Rattle.matching.specs.Kept.{listOf, Kept}
+use Rattle.kept.specs.Kept.{listOf, Kept}
 use Rattle.lemmas.proofs.Choice.{cond-case, and-left, and-right, and-both, or-left, or-right}
 
 -- what holds of each holds of each of those

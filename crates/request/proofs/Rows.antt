@@ -21,7 +21,7 @@ use Rattle.plain.specs.Request.{rowTargets, deltaOr0, matchesUs, areTargNode, r
 use Rattle.row.specs.Meaning.{requestOf}
 use Rattle.row.proofs.Laws.{targets-within}
 use Rattle.writer_option.specs.Sendable.{shortPrefix, shortPrefixes}
-use Rattle.matching.specs.Kept.{listOf, Kept}
+use Rattle.kept.specs.Kept.{listOf, Kept}
 use Rattle.message.specs.Message.{messageIn, receivedBy, requestFound, routeFound, deltaFound}
 use Rattle.row.specs.declared.InstanceRow.{InstanceRow}
 use Rattle.targets.specs.declared.Targets.{Targets}

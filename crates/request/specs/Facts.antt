@@ -5,7 +5,7 @@ use mathlib.Core.Bool.{true}
 use Rattle.plain.specs.Blank.{Padded}
 use Rattle.plain.specs.Request.{Asked}
 use Rattle.writer_option.specs.Sendable.{shortPrefixes}
-use Rattle.matching.specs.Kept.{listOf}
+use Rattle.kept.specs.Kept.{listOf}
 use Rattle.message.specs.Message.{requestFound, routeFound, deltaFound}
 use Rattle.request.specs.declared.RequestFacts.{RequestFacts}
 

@@ -20,7 +20,7 @@ ghost use Rattle.plain.specs.Answers.{answerOf};
 ghost use Rattle.plain.specs.Rank.{minHop, integerPart, ownRank, rankRefused};
 ghost use Rattle.plain.specs.Request.{matchesUs, areTargNode, grown, cannotGrow, requestStanding, isStale, routeStale, rowTargets, targetsKept, askedWith, forwards, repliesNow, requestLines};
 ghost use Rattle.answer.specs.Answer.{answerNumber};
-ghost use Rattle.matching.specs.Kept.{listOf, Held, Kept};
+ghost use Rattle.kept.specs.Kept.{listOf, Held, Kept};
 ghost use Rattle.own.specs.Settings.{settingsOf, Whole};
 ghost use Rattle.message.specs.Message.{configurationIn, messageIn, receivedBy, requestFound, routeFound, deltaFound};
 ghost use Rattle.request.specs.Facts.{askedOf, Gathered};
@@ -90,7 +90,7 @@ fn targets_kept(o: Own, s: Standing, f: Found, ts: Targets, targ: bool) -> Targe
     let receiving = o.receiving;
     let sending = o.sending;
     if standing::is_update(s) {
-        let both = matching::common(ts, row_targets(f));
+        let both = kept::common(ts, row_targets(f));
         return matching::not_ours(both, receiving, sending);
     }
     if targ {

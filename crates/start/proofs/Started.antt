@@ -20,7 +20,7 @@ use Rattle.deadline.specs.declared.Deadline.{Deadline}
 use Rattle.row.specs.Record.{requestRecord}
 use Rattle.writer_option.specs.Sendable.{Sendable, shortPrefixes}
 use Rattle.targets.specs.declared.Targets.{Targets}
-use Rattle.matching.specs.Kept.{listOf}
+use Rattle.kept.specs.Kept.{listOf}
 use Rattle.message.specs.Message.{messageIn}
 use Rattle.message.specs.declared.Parsed.{Parsed}
 use Rattle.decision.specs.Decision.{Posts, Stores, instancesBy, routesBy}

@@ -8,7 +8,7 @@ use Rattle.plain.specs.Request.{cannotElide}
 use Rattle.plain.specs.declared.Target.{Target}
 use Rattle.writer_option.specs.Sendable.{shortPrefixes}
 use Rattle.targets.specs.declared.Targets.{Targets}
-use Rattle.matching.specs.Kept.{listOf}
+use Rattle.kept.specs.Kept.{listOf}
 use Rattle.start.specs.declared.Asking.{Asking}
 
 -- "A start brings RPLInstanceID, H, Compr, L, RankLimit and targets": `targets` are those that it brings, repeats and all

@@ -21,7 +21,7 @@ ghost use Rattle.plain.specs.Request.{startRow, startMessage, acceptStart};
 ghost use Rattle.plain.specs.declared.Target as plain;
 ghost use Rattle.answer.specs.Answer.{answerNumber};
 ghost use Rattle.row.specs.Record.{requestRecord};
-ghost use Rattle.matching.specs.Kept.{listOf};
+ghost use Rattle.kept.specs.Kept.{listOf};
 ghost use Rattle.own.specs.Settings.{settingsOf};
 ghost use Rattle.message.specs.Message.{messageIn};
 ghost use Rattle.decision.specs.Decision.{Posts, Stores};

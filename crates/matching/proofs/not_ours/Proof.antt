@@ -5,9 +5,9 @@ use lib.ListN.{length, length-map}
 use borrow.Author.Needs.{needs}
 use Rattle.plain.specs.Blank.{Padded}
 use Rattle.plain.specs.declared.Target.{Target}
-use Rattle.matching.specs.Kept.{listOf}
+use Rattle.kept.specs.Kept.{listOf}
 use Rattle.ours.specs.Ours.{settings}
-use Rattle.matching.proofs.Sifted.{Sifted, sift-more, sift-end}
+use Rattle.kept.proofs.Sifted.{Sifted, sift-more, sift-end}
 use mathlib.Core.Bool.{false, not}
 use Rattle.plain.specs.Request.{matchesUs}
 use Rattle.matching.proofs.not_ours.Statement.{statement}

@@ -378,7 +378,7 @@ b14 =
 abbrev b15 : Syntax.Body
 b15 =
     Syntax.call
-    "matching::whole_bits"
+    "spare::whole_bits"
     (List._∷_ (Syntax.copy (Syntax.place 13 List.[])) List.[])
     (Syntax.place 11 List.[])
 
@@ -4390,11 +4390,11 @@ module _ (claims· : Claims) where
           𝓤 H) (known0 : Plain.Known 𝓤 H A W 𝓣 0 ps·0 r·0 (claims· .0) (claims· .1)
           "targets::blank_list") (known1 : Plain.Known 𝓤 H A W 𝓣 0 ps·1 r·1 (claims· .2)
           (claims· .3) "targets::none_yet") (known2 : Plain.Known 𝓤 H A W 𝓣 0 ps·2 r·2 (claims· .4)
-          (claims· .5) "matching::whole_bits") (known3 : Plain.Known 𝓤 H A W 𝓣 1 ps·3 r·3
-          (claims· .6) (claims· .7) "collect::collect") (known4 : Plain.Known 𝓤 H A W 𝓣 0 ps·4 r·4
-          (claims· .8) (claims· .9) "gather::is_long") (known5 : Plain.Known 𝓤 H A W 𝓣 0 ps·5 r·5
-          (claims· .10) (claims· .11) "gather::gathered") → Statement.Triple 𝓤 (Wp.WpFn 𝓤 H (𝓣 .C)
-          (𝓣 .Λ) (Function.fnOf 1 ps r xs m hs body)) (Function.plainOf 𝓤 H A 1 ps r Pre· Post·)
+          (claims· .5) "spare::whole_bits") (known3 : Plain.Known 𝓤 H A W 𝓣 1 ps·3 r·3 (claims· .6)
+          (claims· .7) "collect::collect") (known4 : Plain.Known 𝓤 H A W 𝓣 0 ps·4 r·4 (claims· .8)
+          (claims· .9) "gather::is_long") (known5 : Plain.Known 𝓤 H A W 𝓣 0 ps·5 r·5 (claims· .10)
+          (claims· .11) "gather::gathered") → Statement.Triple 𝓤 (Wp.WpFn 𝓤 H (𝓣 .C) (𝓣 .Λ)
+          (Function.fnOf 1 ps r xs m hs body)) (Function.plainOf 𝓤 H A 1 ps r Pre· Post·)
 
     module _ (Inv·0 : InvT-loop) (μ·0 : MeasureT-loop) where
       abbrev at0 : (bs : List.List Nat.ℕ) → Typed.TF T13 O4
@@ -4578,7 +4578,7 @@ module _ (claims· : Claims) where
         Knowns =
             Plain.Known 𝓤 H A W 𝓣 0 ps·0 r·0 (claims· .0) (claims· .1) "targets::blank_list" ×
             Plain.Known 𝓤 H A W 𝓣 0 ps·1 r·1 (claims· .2) (claims· .3) "targets::none_yet" ×
-            Plain.Known 𝓤 H A W 𝓣 0 ps·2 r·2 (claims· .4) (claims· .5) "matching::whole_bits" ×
+            Plain.Known 𝓤 H A W 𝓣 0 ps·2 r·2 (claims· .4) (claims· .5) "spare::whole_bits" ×
             Plain.Known 𝓤 H A W 𝓣 1 ps·3 r·3 (claims· .6) (claims· .7) "collect::collect" ×
             Plain.Known 𝓤 H A W 𝓣 0 ps·4 r·4 (claims· .8) (claims· .9) "gather::is_long" ×
             Plain.Known 𝓤 H A W 𝓣 0 ps·5 r·5 (claims· .10) (claims· .11) "gather::gathered"
@@ -5630,7 +5630,7 @@ module _ (claims· : Claims) where
               r·2
               (claims· .4)
               (claims· .5)
-              "matching::whole_bits"
+              "spare::whole_bits"
               (known .2)
               E
               (λ pos β. β)
@@ -8465,7 +8465,7 @@ module _ (claims· : Claims) where
             r·2
             (claims· .4)
             (claims· .5)
-            "matching::whole_bits")
+            "spare::whole_bits")
             (known3 : Plain.Known
             𝓤
             H

@@ -14,9 +14,9 @@ use Rattle.gather.proofs.gathered.Symbol as Symbol'
 use Rattle.gather.proofs.is_long.Met as Met''
 use Rattle.gather.proofs.is_long.Reads as Reads'3
 use Rattle.gather.proofs.is_long.Symbol as Symbol''
-use Rattle.matching.proofs.whole_bits.Met as Met'3
-use Rattle.matching.proofs.whole_bits.Reads as Reads'4
-use Rattle.matching.proofs.whole_bits.Symbol as Symbol'3
+use Rattle.spare.proofs.whole_bits.Met as Met'3
+use Rattle.spare.proofs.whole_bits.Reads as Reads'4
+use Rattle.spare.proofs.whole_bits.Symbol as Symbol'3
 use Rattle.targets.proofs.blank_list.Met as Met'4
 use Rattle.targets.proofs.blank_list.Reads as Reads'5
 use Rattle.targets.proofs.blank_list.Symbol as Symbol'4
@@ -644,7 +644,7 @@ module _ {M : Type 1} where
       Code.env
       Symbol'3.name
       Symbol'3.routine
-      Code.calls-matching·whole-bits
+      Code.calls-spare·whole-bits
       (Met'3.met 𝓤 H 𝓜 𝓖 𝓡))
       (Reads.known
       record { M = M; 𝓤 = 𝓤; H = H; 𝓜 = 𝓜; 𝓖 = 𝓖; 𝓡 = 𝓡 }

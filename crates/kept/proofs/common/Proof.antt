@@ -11,10 +11,10 @@ use Rattle.plain.specs.Octets.{sameTarget}
 use Rattle.plain.specs.Request.{common}
 use Rattle.plain.specs.Blank.{Padded}
 use Rattle.plain.specs.declared.Target.{Target}
-use Rattle.matching.specs.Kept.{listOf}
-use Rattle.matching.proofs.Sifted.{Sifted, sift-more, sift-end}
-use Rattle.matching.proofs.common.Statement.{statement}
-use Rattle.matching.proofs.common.Proof.Tie as tie
+use Rattle.kept.specs.Kept.{listOf}
+use Rattle.kept.proofs.Sifted.{Sifted, sift-more, sift-end}
+use Rattle.kept.proofs.common.Statement.{statement}
+use Rattle.kept.proofs.common.Proof.Tie as tie
 
 abbrev Inv-loop : tie.InvT-loop
 Inv-loop n list m held kept₀ i₀ kept i =

@@ -5,8 +5,8 @@ use lib.ListN.{length, length-map}
 use lib.Seq.{take-suc-set}
 use borrow.Author.Needs.{needs}
 use Rattle.targets.proofs.Laws.{padded-more}
-use Rattle.matching.proofs.keep_if.Statement.{statement}
-use Rattle.matching.proofs.keep_if.Tie as tie
+use Rattle.kept.proofs.keep_if.Statement.{statement}
+use Rattle.kept.proofs.keep_if.Tie as tie
 
 mul-list : tie.Need-mul-list
 mul-list c = search needs

@@ -334,14 +334,14 @@ hs =
 abbrev b0 : Syntax.Body
 b0 =
     Syntax.call
-    "matching::count_of"
+    "kept::count_of"
     (List._∷_ (Syntax.copy (Syntax.place 1 List.[])) List.[])
     (Syntax.place 3 List.[])
 
 abbrev b1 : Syntax.Body
 b1 =
     Syntax.call
-    "matching::list_of"
+    "kept::list_of"
     (List._∷_ (Syntax.copy (Syntax.place 1 List.[])) List.[])
     (Syntax.place 10 List.[])
 
@@ -351,14 +351,14 @@ b2 = Syntax.assign (Syntax.place 4 List.[]) (Syntax.rvOpd (Syntax.copy (Syntax.p
 abbrev b3 : Syntax.Body
 b3 =
     Syntax.call
-    "matching::count_of"
+    "kept::count_of"
     (List._∷_ (Syntax.copy (Syntax.place 2 List.[])) List.[])
     (Syntax.place 5 List.[])
 
 abbrev b4 : Syntax.Body
 b4 =
     Syntax.call
-    "matching::list_of"
+    "kept::list_of"
     (List._∷_ (Syntax.copy (Syntax.place 2 List.[])) List.[])
     (Syntax.place 10 List.[])
 
@@ -366,7 +366,7 @@ abbrev b5 : Syntax.Body
 b5 = Syntax.assign (Syntax.place 6 List.[]) (Syntax.rvOpd (Syntax.copy (Syntax.place 10 List.[])))
 
 abbrev b6 : Syntax.Body
-b6 = Syntax.call "matching::nothing" List.[] (Syntax.place 7 List.[])
+b6 = Syntax.call "kept::nothing" List.[] (Syntax.place 7 List.[])
 
 abbrev b7 : Syntax.Body
 b7 = Syntax.assign (Syntax.place 8 List.[]) (Syntax.rvOpd (Syntax.int Syntax.w64 0))
@@ -449,7 +449,7 @@ b19 =
 abbrev b20 : Syntax.Body
 b20 =
     Syntax.call
-    "matching::keep_if"
+    "kept::keep_if"
     (List._∷_
     (Syntax.copy (Syntax.place 7 List.[]))
     (List._∷_
@@ -5260,12 +5260,12 @@ module _ (claims· : Claims) where
       Closed =
           (𝓤 : URA.URA M) (H : Wp.Heap 𝓤) (A : Atoms.Atoms 𝓤) (W : Kit.Given 𝓤 H A) (𝓣 : Wp.Tables
           𝓤 H) (known0 : Plain.Known 𝓤 H A W 𝓣 0 ps·0 r·0 (claims· .0) (claims· .1)
-          "matching::count_of") (known1 : Plain.Known 𝓤 H A W 𝓣 0 ps·1 r·1 (claims· .2)
-          (claims· .3) "matching::list_of") (known2 : Plain.Known 𝓤 H A W 𝓣 0 ps·2 r·2 (claims· .4)
-          (claims· .5) "matching::nothing") (known3 : Plain.Known 𝓤 H A W 𝓣 1 ps·3 r·3 (claims· .6)
-          (claims· .7) "collect::is_listed") (known4 : Plain.Known 𝓤 H A W 𝓣 0 ps·4 r·4
-          (claims· .8) (claims· .9) "matching::keep_if") → Statement.Triple 𝓤 (Wp.WpFn 𝓤 H (𝓣 .C)
-          (𝓣 .Λ) (Function.fnOf 0 ps r xs m hs body)) (Function.plainOf 𝓤 H A 0 ps r Pre· Post·)
+          "kept::count_of") (known1 : Plain.Known 𝓤 H A W 𝓣 0 ps·1 r·1 (claims· .2) (claims· .3)
+          "kept::list_of") (known2 : Plain.Known 𝓤 H A W 𝓣 0 ps·2 r·2 (claims· .4) (claims· .5)
+          "kept::nothing") (known3 : Plain.Known 𝓤 H A W 𝓣 1 ps·3 r·3 (claims· .6) (claims· .7)
+          "collect::is_listed") (known4 : Plain.Known 𝓤 H A W 𝓣 0 ps·4 r·4 (claims· .8)
+          (claims· .9) "kept::keep_if") → Statement.Triple 𝓤 (Wp.WpFn 𝓤 H (𝓣 .C) (𝓣 .Λ)
+          (Function.fnOf 0 ps r xs m hs body)) (Function.plainOf 𝓤 H A 0 ps r Pre· Post·)
 
     module _ (Inv·0 : InvT-loop) (μ·0 : MeasureT-loop) where
       abbrev at0 : (bs : List.List Nat.ℕ) → Typed.TF T17 O4
@@ -5451,11 +5451,11 @@ module _ (claims· : Claims) where
           (W : Kit.Given 𝓤 H A) (𝓣 : Wp.Tables 𝓤 H) where
         abbrev Knowns : Type 1
         Knowns =
-            Plain.Known 𝓤 H A W 𝓣 0 ps·0 r·0 (claims· .0) (claims· .1) "matching::count_of" ×
-            Plain.Known 𝓤 H A W 𝓣 0 ps·1 r·1 (claims· .2) (claims· .3) "matching::list_of" ×
-            Plain.Known 𝓤 H A W 𝓣 0 ps·2 r·2 (claims· .4) (claims· .5) "matching::nothing" ×
+            Plain.Known 𝓤 H A W 𝓣 0 ps·0 r·0 (claims· .0) (claims· .1) "kept::count_of" ×
+            Plain.Known 𝓤 H A W 𝓣 0 ps·1 r·1 (claims· .2) (claims· .3) "kept::list_of" ×
+            Plain.Known 𝓤 H A W 𝓣 0 ps·2 r·2 (claims· .4) (claims· .5) "kept::nothing" ×
             Plain.Known 𝓤 H A W 𝓣 1 ps·3 r·3 (claims· .6) (claims· .7) "collect::is_listed" ×
-            Plain.Known 𝓤 H A W 𝓣 0 ps·4 r·4 (claims· .8) (claims· .9) "matching::keep_if"
+            Plain.Known 𝓤 H A W 𝓣 0 ps·4 r·4 (claims· .8) (claims· .9) "kept::keep_if"
 
       module _ (κs : Lifetimes.Lfts 0) (qs : Lifetimes.Shares 0) where
         abbrev G0 : Row.Cx
@@ -5866,7 +5866,7 @@ module _ (claims· : Claims) where
               r·4
               (claims· .8)
               (claims· .9)
-              "matching::keep_if"
+              "kept::keep_if"
               (known .4)
               E
               (λ pos β. β)
@@ -7156,7 +7156,7 @@ module _ (claims· : Claims) where
               r·2
               (claims· .4)
               (claims· .5)
-              "matching::nothing"
+              "kept::nothing"
               (known .2)
               E
               (λ pos β. β)
@@ -7469,7 +7469,7 @@ module _ (claims· : Claims) where
               r·1
               (claims· .2)
               (claims· .3)
-              "matching::list_of"
+              "kept::list_of"
               (known .1)
               E
               (λ pos β. β)
@@ -7539,7 +7539,7 @@ module _ (claims· : Claims) where
               r·0
               (claims· .0)
               (claims· .1)
-              "matching::count_of"
+              "kept::count_of"
               (known .0)
               E
               (λ pos β. β)
@@ -7840,7 +7840,7 @@ module _ (claims· : Claims) where
               r·1
               (claims· .2)
               (claims· .3)
-              "matching::list_of"
+              "kept::list_of"
               (known .1)
               E
               (λ pos β. β)
@@ -7910,7 +7910,7 @@ module _ (claims· : Claims) where
               r·0
               (claims· .0)
               (claims· .1)
-              "matching::count_of"
+              "kept::count_of"
               (known .0)
               E
               (λ pos β. β)
@@ -9296,42 +9296,9 @@ module _ (claims· : Claims) where
 
         module _ {M : Type 1} (𝓤 : URA.URA M) (H : Wp.Heap 𝓤) (A : Atoms.Atoms 𝓤)
             (W : Kit.Given 𝓤 H A) (𝓣 : Wp.Tables 𝓤 H)
-            (known0 : Plain.Known
-            𝓤
-            H
-            A
-            W
-            𝓣
-            0
-            ps·0
-            r·0
-            (claims· .0)
-            (claims· .1)
-            "matching::count_of")
-            (known1 : Plain.Known
-            𝓤
-            H
-            A
-            W
-            𝓣
-            0
-            ps·1
-            r·1
-            (claims· .2)
-            (claims· .3)
-            "matching::list_of")
-            (known2 : Plain.Known
-            𝓤
-            H
-            A
-            W
-            𝓣
-            0
-            ps·2
-            r·2
-            (claims· .4)
-            (claims· .5)
-            "matching::nothing")
+            (known0 : Plain.Known 𝓤 H A W 𝓣 0 ps·0 r·0 (claims· .0) (claims· .1) "kept::count_of")
+            (known1 : Plain.Known 𝓤 H A W 𝓣 0 ps·1 r·1 (claims· .2) (claims· .3) "kept::list_of")
+            (known2 : Plain.Known 𝓤 H A W 𝓣 0 ps·2 r·2 (claims· .4) (claims· .5) "kept::nothing")
             (known3 : Plain.Known
             𝓤
             H
@@ -9355,7 +9322,7 @@ module _ (claims· : Claims) where
             r·4
             (claims· .8)
             (claims· .9)
-            "matching::keep_if") where
+            "kept::keep_if") where
           pub spec :
               Statement.Triple
               𝓤

@@ -2,24 +2,24 @@
 use Rattle.collect.proofs.is_listed.Met
 use Rattle.collect.proofs.Lent.is_listed.Reads
 use Rattle.collect.proofs.is_listed.Symbol
-use Rattle.matching.proofs.common.Code
-use Rattle.matching.proofs.common.Key
-use Rattle.matching.proofs.Lent.common.Kinds
-use Rattle.matching.proofs.common.Proof.Lts
-use Rattle.matching.proofs.Lent.common.Reads as Reads'
-use Rattle.matching.proofs.common.Statement
-use Rattle.matching.proofs.count_of.Met as Met'
-use Rattle.matching.proofs.count_of.Reads as Reads''
-use Rattle.matching.proofs.count_of.Symbol as Symbol'
-use Rattle.matching.proofs.keep_if.Met as Met''
-use Rattle.matching.proofs.keep_if.Reads as Reads'3
-use Rattle.matching.proofs.keep_if.Symbol as Symbol''
-use Rattle.matching.proofs.list_of.Met as Met'3
-use Rattle.matching.proofs.list_of.Reads as Reads'4
-use Rattle.matching.proofs.list_of.Symbol as Symbol'3
-use Rattle.matching.proofs.nothing.Met as Met'4
-use Rattle.matching.proofs.nothing.Reads as Reads'5
-use Rattle.matching.proofs.nothing.Symbol as Symbol'4
+use Rattle.kept.proofs.common.Code
+use Rattle.kept.proofs.common.Key
+use Rattle.kept.proofs.Lent.common.Kinds
+use Rattle.kept.proofs.common.Proof.Lts
+use Rattle.kept.proofs.Lent.common.Reads as Reads'
+use Rattle.kept.proofs.common.Statement
+use Rattle.kept.proofs.count_of.Met as Met'
+use Rattle.kept.proofs.count_of.Reads as Reads''
+use Rattle.kept.proofs.count_of.Symbol as Symbol'
+use Rattle.kept.proofs.keep_if.Met as Met''
+use Rattle.kept.proofs.keep_if.Reads as Reads'3
+use Rattle.kept.proofs.keep_if.Symbol as Symbol''
+use Rattle.kept.proofs.list_of.Met as Met'3
+use Rattle.kept.proofs.list_of.Reads as Reads'4
+use Rattle.kept.proofs.list_of.Symbol as Symbol'3
+use Rattle.kept.proofs.nothing.Met as Met'4
+use Rattle.kept.proofs.nothing.Reads as Reads'5
+use Rattle.kept.proofs.nothing.Symbol as Symbol'4
 use borrow.Fn.Run
 use borrow.Fn.Written
 use contract.Running
@@ -531,21 +531,21 @@ module _ {M : Type 1} where
       Code.env
       Symbol'.name
       Symbol'.routine
-      Code.calls-matching·count-of
+      Code.calls-kept·count-of
       (Met'.met 𝓤 H 𝓜 𝓖 𝓡))
       (Reads'4.known
       record { M = M; 𝓤 = 𝓤; H = H; 𝓜 = 𝓜; 𝓖 = 𝓖; 𝓡 = 𝓡 }
       Code.env
       Symbol'3.name
       Symbol'3.routine
-      Code.calls-matching·list-of
+      Code.calls-kept·list-of
       (Met'3.met 𝓤 H 𝓜 𝓖 𝓡))
       (Reads'5.known
       record { M = M; 𝓤 = 𝓤; H = H; 𝓜 = 𝓜; 𝓖 = 𝓖; 𝓡 = 𝓡 }
       Code.env
       Symbol'4.name
       Symbol'4.routine
-      Code.calls-matching·nothing
+      Code.calls-kept·nothing
       (Met'4.met 𝓤 H 𝓜 𝓖 𝓡))
       (Reads.known
       record { M = M; 𝓤 = 𝓤; H = H; 𝓜 = 𝓜; 𝓖 = 𝓖; 𝓡 = 𝓡 }
@@ -559,5 +559,5 @@ module _ {M : Type 1} where
       Code.env
       Symbol''.name
       Symbol''.routine
-      Code.calls-matching·keep-if
+      Code.calls-kept·keep-if
       (Met''.met 𝓤 H 𝓜 𝓖 𝓡))

@@ -1,7 +1,7 @@
 use mathlib.Core.Path.{refl}
 use borrow.Author.Needs.{needs}
-use Rattle.matching.proofs.nothing.Statement.{statement}
-use Rattle.matching.proofs.nothing.Tie as tie
+use Rattle.kept.proofs.nothing.Statement.{statement}
+use Rattle.kept.proofs.nothing.Tie as tie
 
 blank-list-requires : tie.Need-blank-list-requires
 blank-list-requires c κs = search needs

@@ -1,6 +1,6 @@
 use borrow.Author.Needs.{needs}
-use Rattle.matching.proofs.whole_bits.Statement.{statement}
-use Rattle.matching.proofs.whole_bits.Tie as tie
+use Rattle.spare.proofs.whole_bits.Statement.{statement}
+use Rattle.spare.proofs.whole_bits.Tie as tie
 use Rattle.lemmas.proofs.Cases.{cases}
 use Rattle.plain.specs.Request.{wholeBits}
 

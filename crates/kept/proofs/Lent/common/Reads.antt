@@ -1,6 +1,6 @@
 -- Made by tools/lend.py of the twin of `common`: do not edit.
-use Rattle.matching.proofs.common
-use Rattle.matching.proofs.Lent.common.Kinds
+use Rattle.kept.proofs.common
+use Rattle.kept.proofs.Lent.common.Kinds
 use base.Logic
 use borrow.Fn.Kinds as Kinds'
 use borrow.Fn.Learn
