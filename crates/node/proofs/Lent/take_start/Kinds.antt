@@ -4,8 +4,8 @@ use Rattle.row.proofs.Elem.RouteRow as KRouteRow
 use Rattle.message.proofs.Elem.Parsed as KParsed
 use Rattle.decision.proofs.Elem.Decided as KDecided
 use Rattle.decision.proofs.Elem.Post as KPost
-use Rattle.finish.proofs.Outcome
-use Rattle.finish.proofs.Outcome.Laws
+use Rattle.outcome.proofs.Outcome
+use Rattle.outcome.proofs.Outcome.Laws
 use Rattle.own.proofs.Own
 use Rattle.own.proofs.Own.Laws as Laws'
 use Rattle.start.proofs.Asking
