@@ -96,22 +96,6 @@ module _ {A : Type 0} (p : A → A → Bool) where
   pub two-end : (xs : List A) (j : ℕ) → length xs ≤ j → anyTwo p (take j xs) ≡ false → anyTwo p xs ≡ false
   two-end xs j h e = rw (take-all j xs h) at e
 
-  -- from row j on: two of all are so if two of these are
-
-  pub behind-hit : {b : Bool} (xs : List A) (j : ℕ) (d : A) → b ≡ anyTwo p (drop j xs) → j < length xs
-      → any (p (getD xs j d)) (drop (j + 1) xs) ≡ true → b ≡ true
-  unfolding anyTwo
-  behind-hit xs j d v h e = v ∙ rw (left-at xs j d h, e)
-
-  pub behind-miss : {b : Bool} (xs : List A) (j : ℕ) (d : A) → b ≡ anyTwo p (drop j xs) → j < length xs
-      → any (p (getD xs j d)) (drop (j + 1) xs) ≡ false → b ≡ anyTwo p (drop (j + 1) xs)
-  unfolding anyTwo
-  behind-miss xs j d v h e = v ∙ rw (left-at xs j d h, e)
-
-  pub behind-end : {b : Bool} (xs : List A) (j : ℕ) → b ≡ anyTwo p (drop j xs) → length xs ≤ j → b ≡ false
-  unfolding anyTwo
-  behind-end xs j v h = v ∙ rw (drop-of-length-le xs {i = j} h)
-
 module _ {A : Type 0} (p q : A → A → Bool) where
   pub two-same : ((x y : A) → p x y ≡ q x y) → (xs : List A) → anyTwo p xs ≡ anyTwo q xs
   unfolding anyTwo
@@ -136,6 +120,15 @@ module _ {A : Type 0} (p q : A → A → Bool) where
   any-less f x (y ∷ ys) e =
       or-neither (p x y) (any (p x) ys) (not-so (p x y) (λ t. true-false (sym (f x y t) ∙ or-left (q x y) (any (q x) ys) e)))
       (any-less f x ys (or-right (q x y) (any (q x) ys) e))
+
+  -- none is so before y in the narrower sense, where none is in the wider
+  pub any-before : ((x y : A) → p x y ≡ true → q x y ≡ true) → (y : A) (xs : List A) → any (λ (x : A). q x y) xs ≡ false
+      → any (λ (x : A). p x y) xs ≡ false
+  unfolding any
+  any-before f y [] e = refl
+  any-before f y (x ∷ xs) e =
+      or-neither (p x y) (any (λ (z : A). p z y) xs) (not-so (p x y) (λ t. true-false (sym (f x y t) ∙ or-left (q x y) (any (λ (z : A). q z y) xs) e)))
+      (any-before f y xs (or-right (q x y) (any (λ (z : A). q z y) xs) e))
 
   -- what two are not so in the wider sense they are not in the narrower
   pub two-less : ((x y : A) → p x y ≡ true → q x y ≡ true) → (xs : List A) → anyTwo q xs ≡ false → anyTwo p xs ≡ false

@@ -1,24 +1,25 @@
 -- Twins among records are twins among the live rows of the plain node's tables.
 use Prim.Native.Nat.{ℕ, suc, _+_}
-use mathlib.Core.Path.{_≡_, refl, sym, _∙_}
+use mathlib.Core.Path.{_≡_, refl, sym, ap, _∙_}
 use mathlib.Core.Bool.{Bool, true, false, cond, _&&_, _||_}
 use mathlib.Core.List.{List, [], _∷_, _++_, map}
 use mathlib.Core.Option.{Option, some, none}
 use mathlib.Core.Logic.{_⊎_, inl, inr}
 use lib.Dec.{eqb}
-use borrow.Author.Tests.{eqb-true}
+use borrow.Author.Tests.{eqb-true, eq-eqb}
 use Rattle.plain.specs.Lists.{any, anyTwo, same}
 use Rattle.plain.specs.Given.{RequestRow, ReplyRow, Instance, Route}
 use Rattle.plain.specs.Table.{Numbered, live, liveFrom, liveRows, instanceDeadline, routeDeadline}
 use Rattle.plain.specs.Answers.{requests, replies, requestTwins, replyTwins, routeTwins}
-use Rattle.lemmas.proofs.Choice.{true-false}
+use Rattle.lemmas.proofs.Choice.{true-false, and-left, and-right}
+use Rattle.lemmas.proofs.Same.{same-equal}
 use Rattle.row.specs.Meaning.{instanceOf, routeOf, requestOf, replyOf, routeIn}
 use Rattle.live.specs.Look.{partOf, held, asRequest, asReply}
 use Rattle.live.proofs.Laws.{request-part, reply-part, route-part}
 use Rattle.row.specs.declared.InstanceRow.{InstanceRow}
 use Rattle.row.specs.declared.RouteRow.{RouteRow}
-use Rattle.first.proofs.Found.{asPart, parts, seen, parts-cons, requests-are, replies-are, routes-are}
-use Rattle.key.specs.Pair.{sameKey, rowTwins, sameThree, routePair}
+use Rattle.first.proofs.Found.{cond-true, asPart, parts, seen, parts-cons, requests-are, replies-are, routes-are}
+use Rattle.key.specs.Pair.{sameKey, rowTwins, sameThree, routePair, endingOf}
 use Rattle.key.proofs.Any.{or-none, two-same, two-either}
 
 -- ---- keys compared by their addresses first
@@ -48,6 +49,39 @@ three-far a b e = rw e (go (same (a .source) (b .source)))
     go : (s : Bool) → s && false && eqb (a .instance) (b .instance) ≡ false
     go true = refl
     go false = refl
+
+-- ---- what rows of one key have in common
+
+pub key-parts : (a b : InstanceRow) → sameKey a b ≡ true → (a .kind ≡ b .kind) × (a .instance ≡ b .instance) × (a .dodagid ≡ b .dodagid)
+unfolding sameKey
+key-parts a b e =
+    let rest = eqb (a .instance) (b .instance) && same (a .dodagid) (b .dodagid) in
+    let r = and-right (eqb (a .kind) (b .kind)) rest e in (
+      eqb-true (a .kind) (b .kind) (and-left (eqb (a .kind) (b .kind)) rest e),
+      eqb-true (a .instance) (b .instance) (and-left (eqb (a .instance) (b .instance)) (same (a .dodagid) (b .dodagid)) r),
+      same-equal (a .dodagid) (b .dodagid) (and-right (eqb (a .instance) (b .instance)) (same (a .dodagid) (b .dodagid)) r),
+    )
+
+pub three-parts : (a b : RouteRow) → sameThree a b ≡ true
+    → (a .source ≡ b .source) × (a .destination ≡ b .destination) × (a .instance ≡ b .instance)
+unfolding sameThree
+three-parts a b e =
+    let two = same (a .source) (b .source) && same (a .destination) (b .destination) in
+    let r = and-left two (eqb (a .instance) (b .instance)) e in (
+      same-equal (a .source) (b .source) (and-left (same (a .source) (b .source)) (same (a .destination) (b .destination)) r),
+      same-equal (a .destination) (b .destination) (and-right (same (a .source) (b .source)) (same (a .destination) (b .destination)) r),
+      eqb-true (a .instance) (b .instance) (and-right two (eqb (a .instance) (b .instance)) e),
+    )
+
+-- twins have one ending
+
+pub row-ends : (t : ℕ) (a b : InstanceRow) → rowTwins t a b ≡ true → eqb (endingOf (a .dodagid)) (endingOf (b .dodagid)) ≡ true
+unfolding rowTwins
+row-ends t a b e = eq-eqb _ _ (ap endingOf (key-parts a b (cond-true (sameKey a b) _ e .0) .2))
+
+pub route-ends : (t : ℕ) (a b : RouteRow) → routePair t a b ≡ true → eqb (endingOf (a .destination)) (endingOf (b .destination)) ≡ true
+unfolding routePair
+route-ends t a b e = eq-eqb _ _ (ap endingOf (three-parts a b (cond-true (sameThree a b) _ e .0) .1))
 
 -- ---- what is said of the live rows of a kind is said of the records
 

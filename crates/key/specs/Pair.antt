@@ -2,7 +2,9 @@
 use Prim.Native.Nat.{ℕ}
 use mathlib.Core.Bool.{Bool, false, cond, _&&_}
 use lib.Dec.{eqb}
+use lib.ListN.{getD}
 use Rattle.plain.specs.Lists.{same}
+use Rattle.plain.specs.Address.{Address}
 use Rattle.plain.specs.Table.{live, instanceDeadline, routeDeadline}
 use Rattle.row.specs.Meaning.{instanceOf, routeOf}
 use Rattle.row.specs.declared.InstanceRow.{InstanceRow}
@@ -22,3 +24,7 @@ sameThree a b = same (a .source) (b .source) && same (a .destination) (b .destin
 
 unfoldable pub routePair : ℕ → RouteRow → RouteRow → Bool
 routePair t a b = cond (sameThree a b) (cond (live routeDeadline t (routeOf a)) (live routeDeadline t (routeOf b)) false) false
+
+-- the last octet of an address, in which addresses differ most: rows of one key have one
+abbrev pub endingOf : Address → ℕ
+endingOf a = getD a 15 0

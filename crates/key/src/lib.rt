@@ -1,6 +1,7 @@
 // Two rows of a table, by value: whether they have one key, and are twins (01, answer 2).
 ghost use mathlib.Core.Path.{_≡_};
-ghost use Rattle.key.specs.Pair.{sameKey, sameThree, rowTwins, routePair};
+ghost use lib.Dec.{eqb};
+ghost use Rattle.key.specs.Pair.{sameKey, sameThree, rowTwins, routePair, endingOf};
 use row::InstanceRow;
 use row::RouteRow;
 
@@ -58,4 +59,34 @@ pub fn are_twin_routes(a: RouteRow, b: RouteRow, t: u64) -> bool
         return false;
     }
     false
+}
+
+// ---- the last octet of a key's address
+
+pub fn ending(r: InstanceRow) -> u8
+    ensures { λ e. ⌜ e ≡ endingOf (r .dodagid) ⌝ }
+{
+    let d = r.dodagid;
+    d[15]
+}
+
+pub fn does_end(r: InstanceRow, e: u8) -> bool
+    ensures { λ b. ⌜ b ≡ eqb (endingOf (r .dodagid)) e ⌝ }
+{
+    let d = r.dodagid;
+    d[15] == e
+}
+
+pub fn route_ending(r: RouteRow) -> u8
+    ensures { λ e. ⌜ e ≡ endingOf (r .destination) ⌝ }
+{
+    let d = r.destination;
+    d[15]
+}
+
+pub fn does_route_end(r: RouteRow, e: u8) -> bool
+    ensures { λ b. ⌜ b ≡ eqb (endingOf (r .destination)) e ⌝ }
+{
+    let d = r.destination;
+    d[15] == e
 }

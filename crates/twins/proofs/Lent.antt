@@ -2,10 +2,10 @@ pub mod every_pair
 pub mod every_pair_of_routes
 pub mod few
 pub mod few_routes
+pub mod has_ending
+pub mod has_route_ending
 pub mod has_twins
 pub mod has_twins_route
-pub mod is_repeated
-pub mod is_route_repeated
 pub mod pass
 pub mod pass_routes
 pub mod passes

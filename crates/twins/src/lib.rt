@@ -1,24 +1,26 @@
-// Whether two live rows of a table have one key (answer 2). Up to 16 rows every pair is compared. Above, a filter on the stack tells most
-// rows that no earlier row has their key; only where it does not are the earlier rows gone through. Up to 128 rows the filter has 512
-// octets, above 12 KiB, and one pass takes the rows of one class of hashes, so that the filter does not fill up in a long table.
+// Whether two live rows of a table have one key (answer 2). Up to 16 rows every pair is compared, by the last octet of its addresses first.
+// Above, a filter on the stack tells most rows that no earlier row has their key; only where it does not are the earlier rows gone through.
+// Up to 128 rows the filter has 512 octets, above 12 KiB, and one pass takes the rows of one class of hashes, so that the filter does not
+// fill up in a long table.
 ghost use mathlib.Core.Path.{_≡_};
 ghost use mathlib.Core.Bool.{cond, false, _||_};
 ghost use mathlib.Core.List.{map};
-ghost use Prim.Native.Nat.{_+_, _<_};
-ghost use lib.ListN.{length, getD, take, drop};
+ghost use Prim.Native.Nat.{_<_};
+ghost use lib.Dec.{eqb};
+ghost use lib.ListN.{length, getD, take};
 ghost use Rattle.plain.specs.Lists.{any, anyTwo};
 ghost use Rattle.plain.specs.Table.{liveRows, instanceDeadline, routeDeadline};
 ghost use Rattle.plain.specs.Answers.{requests, replies, requestTwins, replyTwins, routeTwins};
 ghost use Rattle.row.specs.Meaning.{instanceOf, routeOf, noRow, noRoute};
-ghost use Rattle.key.specs.Pair.{rowTwins, routePair};
+ghost use Rattle.key.specs.Pair.{rowTwins, routePair, endingOf};
 ghost use Rattle.filter.specs.Filter.{hashRow, hashRoute, inClass};
 use row::InstanceRow;
 use row::RouteRow;
 
 // ---- instance rows
 
-// Whether the row at j has a twin before it. It is called for only where the filter does not tell, and from two places, so that it is not compiled
-// into either.
+// Whether the row at j has a twin before it. It is called for only where it is not clear that it has none, and from several places, so that
+// it is not compiled into any.
 fn scan(rows: &[InstanceRow], j: usize, t: u64) -> bool
     requires { ⌜ j < length (now rows) ⌝ }
     ensures { λ b. ⌜ b ≡ any (λ a. rowTwins t a (getD (now (rows .entry)) j noRow)) (take j (now (rows .entry))) ⌝ }
@@ -33,15 +35,16 @@ fn scan(rows: &[InstanceRow], j: usize, t: u64) -> bool
     false
 }
 
-// Whether the row at j has a twin behind it. `every_pair` asks this, and not `scan`, so that it is compiled into it: in a short table a call
-// for each row costs more than the comparisons.
-fn is_repeated(rows: &[InstanceRow], j: usize, t: u64) -> bool
+// Whether a row before row j has its ending: else none is its twin. It is compiled into `every_pair`, and of a row it needs one octet: in a
+// short table that costs less than comparing keys.
+fn has_ending(rows: &[InstanceRow], j: usize) -> bool
     requires { ⌜ j < length (now rows) ⌝ }
-    ensures { λ b. ⌜ b ≡ any (λ a. rowTwins t (getD (now (rows .entry)) j noRow) a) (drop (j + 1) (now (rows .entry))) ⌝ }
+    ensures { λ b. ⌜ b ≡ any (λ a. eqb (endingOf (a .dodagid)) (endingOf (getD (now (rows .entry)) j noRow .dodagid))) (take j (now (rows .entry))) ⌝ }
 {
-    let mut i: usize = j + 1;
-    while i < rows.len() {
-        if key::are_twins(rows[j], rows[i], t) {
+    let e = key::ending(rows[j]);
+    let mut i: usize = 0;
+    while i < j {
+        if key::does_end(rows[i], e) {
             return true;
         }
         i += 1;
@@ -54,8 +57,10 @@ fn every_pair(rows: &[InstanceRow], t: u64) -> bool
 {
     let mut j: usize = 0;
     while j < rows.len() {
-        if is_repeated(rows, j, t) {
-            return true;
+        if has_ending(rows, j) {
+            if scan(rows, j, t) {
+                return true;
+            }
         }
         j += 1;
     }
@@ -154,13 +159,14 @@ fn scan_routes(routes: &[RouteRow], j: usize, t: u64) -> bool
     false
 }
 
-fn is_route_repeated(routes: &[RouteRow], j: usize, t: u64) -> bool
+fn has_route_ending(routes: &[RouteRow], j: usize) -> bool
     requires { ⌜ j < length (now routes) ⌝ }
-    ensures { λ b. ⌜ b ≡ any (λ a. routePair t (getD (now (routes .entry)) j noRoute) a) (drop (j + 1) (now (routes .entry))) ⌝ }
+    ensures { λ b. ⌜ b ≡ any (λ a. eqb (endingOf (a .destination)) (endingOf (getD (now (routes .entry)) j noRoute .destination))) (take j (now (routes .entry))) ⌝ }
 {
-    let mut i: usize = j + 1;
-    while i < routes.len() {
-        if key::are_twin_routes(routes[j], routes[i], t) {
+    let e = key::route_ending(routes[j]);
+    let mut i: usize = 0;
+    while i < j {
+        if key::does_route_end(routes[i], e) {
             return true;
         }
         i += 1;
@@ -173,8 +179,10 @@ fn every_pair_of_routes(routes: &[RouteRow], t: u64) -> bool
 {
     let mut j: usize = 0;
     while j < routes.len() {
-        if is_route_repeated(routes, j, t) {
-            return true;
+        if has_route_ending(routes, j) {
+            if scan_routes(routes, j, t) {
+                return true;
+            }
         }
         j += 1;
     }

@@ -1,34 +1,42 @@
 pub mod Lts
 pub mod Tie
-use Prim.Native.Nat.{_-_}
-use mathlib.Core.Path.{_≡_, refl, sym, _∙_}
+use Prim.Native.Nat.{_-_, _≤_}
+use mathlib.Core.Path.{_≡_, sym, _∙_}
+use mathlib.Core.Logic.{⊎-elim}
+use mathlib.Core.Bool.{false}
 use denote.Ref.{now}
-use lib.ListN.{length, drop}
+use lib.Dec.{eqb}
+use lib.ListN.{length, getD, take}
 use Rattle.plain.specs.Lists.{anyTwo}
+use Rattle.row.specs.declared.InstanceRow.{InstanceRow}
 use Rattle.row.specs.Meaning.{noRow}
-use Rattle.key.specs.Pair.{rowTwins}
-use Rattle.key.proofs.Any.{behind-hit, behind-miss, behind-end}
+use Rattle.key.specs.Pair.{rowTwins, endingOf}
+use Rattle.key.proofs.Any.{two-start, two-hit, two-more, two-end, any-before}
+use Rattle.key.proofs.Plain.{row-ends}
 use borrow.Author.Needs.{needs}
 use Rattle.twins.proofs.every_pair.Statement.{statement}
 use Rattle.twins.proofs.every_pair.Proof.Tie as tie
 
--- Two rows are twins if two of those from j on are.
+-- No two of the first j are twins.
 abbrev Inv-loop : tie.InvT-loop
-Inv-loop rows t j₀ j = anyTwo (rowTwins t) rows ≡ anyTwo (rowTwins t) (drop j rows)
+Inv-loop rows t j₀ j = (j ≤ length rows) × (anyTwo (rowTwins t) (take j rows) ≡ false)
 
 abbrev μ-loop : tie.MeasureT-loop
 μ-loop rows t j₀ j = length rows - j
 
 loop-holds : tie.Need-loop-holds Inv-loop μ-loop
-loop-holds c = refl
+loop-holds c = (search needs, two-start (rowTwins (c .args .t)) (now (c .args .rows)))
 
-is-repeated-requires : tie.Need-is-repeated-requires Inv-loop μ-loop
-is-repeated-requires c = search needs
+has-ending-requires : tie.Need-has-ending-requires Inv-loop μ-loop
+has-ending-requires c = search needs
+
+scan-requires : tie.Need-scan-requires Inv-loop μ-loop
+scan-requires c = search needs
 
 returns : tie.Need-returns Inv-loop μ-loop
-returns c = let a = c .before .before .before .before .args in
-    let l = c .before .before .before .loop in
-    sym (behind-hit (rowTwins (a .t)) (now (a .rows)) (l .j) noRow (l .inv) (search needs) (sym (c .before .is-repeated .ensures) ∙ c .if1 .taken))
+returns c = let a = c .before .before .before .before .before .before .args in
+    let l = c .before .before .before .before .before .loop in
+    sym (two-hit (rowTwins (a .t)) (now (a .rows)) (l .j) noRow (search needs) (sym (c .before .scan .ensures) ∙ c .if2 .taken))
 
 add-j : tie.Need-add-j Inv-loop μ-loop
 add-j c = search needs
@@ -39,12 +47,16 @@ loop-less c = search needs
 loop-again : tie.Need-loop-again Inv-loop μ-loop
 loop-again c = let a = c .before .before .before .before .args in
     let l = c .before .before .before .loop in
-    behind-miss (rowTwins (a .t)) (now (a .rows)) (l .j) noRow (l .inv) (search needs) (sym (c .before .is-repeated .ensures) ∙ c .if1 .left)
+    let row = getD (now (a .rows)) (l .j) noRow in
+    let none = ⊎-elim (λ w. sym (w .1 .ensures) ∙ w .2 .left)
+    (λ w. any-before (rowTwins (a .t)) (λ (x y : InstanceRow). eqb (endingOf (x .dodagid)) (endingOf (y .dodagid))) (row-ends (a .t)) row
+    (take (l .j) (now (a .rows))) (sym (c .before .has-ending .ensures) ∙ w .left)) (c .if1 .came) in
+    (search needs, two-more (rowTwins (a .t)) (now (a .rows)) (l .j) noRow (search needs) (l .inv .1) none)
 
 returns-2 : tie.Need-returns-2 Inv-loop μ-loop
 returns-2 c = let a = c .before .before .args in
     let l = c .before .loop in
-    sym (behind-end (rowTwins (a .t)) (now (a .rows)) (l .j) (l .inv) (c .loop-test .left))
+    sym (two-end (rowTwins (a .t)) (now (a .rows)) (l .j) (c .loop-test .left) (l .inv .1))
 
 pub every-pair-spec : {M : Type 1} → statement M
-every-pair-spec = tie.close (tie.spec Inv-loop μ-loop loop-holds is-repeated-requires returns add-j loop-less loop-again returns-2)
+every-pair-spec = tie.close (tie.spec Inv-loop μ-loop loop-holds has-ending-requires scan-requires returns add-j loop-less loop-again returns-2)

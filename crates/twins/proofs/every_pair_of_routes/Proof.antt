@@ -1,34 +1,42 @@
 pub mod Lts
 pub mod Tie
-use Prim.Native.Nat.{_-_}
-use mathlib.Core.Path.{_≡_, refl, sym, _∙_}
+use Prim.Native.Nat.{_-_, _≤_}
+use mathlib.Core.Path.{_≡_, sym, _∙_}
+use mathlib.Core.Logic.{⊎-elim}
+use mathlib.Core.Bool.{false}
 use denote.Ref.{now}
-use lib.ListN.{length, drop}
+use lib.Dec.{eqb}
+use lib.ListN.{length, getD, take}
 use Rattle.plain.specs.Lists.{anyTwo}
+use Rattle.row.specs.declared.RouteRow.{RouteRow}
 use Rattle.row.specs.Meaning.{noRoute}
-use Rattle.key.specs.Pair.{routePair}
-use Rattle.key.proofs.Any.{behind-hit, behind-miss, behind-end}
+use Rattle.key.specs.Pair.{routePair, endingOf}
+use Rattle.key.proofs.Any.{two-start, two-hit, two-more, two-end, any-before}
+use Rattle.key.proofs.Plain.{route-ends}
 use borrow.Author.Needs.{needs}
 use Rattle.twins.proofs.every_pair_of_routes.Statement.{statement}
 use Rattle.twins.proofs.every_pair_of_routes.Proof.Tie as tie
 
--- Two rows are twins if two of those from j on are.
+-- No two of the first j are twins.
 abbrev Inv-loop : tie.InvT-loop
-Inv-loop routes t j₀ j = anyTwo (routePair t) routes ≡ anyTwo (routePair t) (drop j routes)
+Inv-loop routes t j₀ j = (j ≤ length routes) × (anyTwo (routePair t) (take j routes) ≡ false)
 
 abbrev μ-loop : tie.MeasureT-loop
 μ-loop routes t j₀ j = length routes - j
 
 loop-holds : tie.Need-loop-holds Inv-loop μ-loop
-loop-holds c = refl
+loop-holds c = (search needs, two-start (routePair (c .args .t)) (now (c .args .routes)))
 
-is-route-repeated-requires : tie.Need-is-route-repeated-requires Inv-loop μ-loop
-is-route-repeated-requires c = search needs
+has-route-ending-requires : tie.Need-has-route-ending-requires Inv-loop μ-loop
+has-route-ending-requires c = search needs
+
+scan-routes-requires : tie.Need-scan-routes-requires Inv-loop μ-loop
+scan-routes-requires c = search needs
 
 returns : tie.Need-returns Inv-loop μ-loop
-returns c = let a = c .before .before .before .before .args in
-    let l = c .before .before .before .loop in
-    sym (behind-hit (routePair (a .t)) (now (a .routes)) (l .j) noRoute (l .inv) (search needs) (sym (c .before .is-route-repeated .ensures) ∙ c .if1 .taken))
+returns c = let a = c .before .before .before .before .before .before .args in
+    let l = c .before .before .before .before .before .loop in
+    sym (two-hit (routePair (a .t)) (now (a .routes)) (l .j) noRoute (search needs) (sym (c .before .scan-routes .ensures) ∙ c .if2 .taken))
 
 add-j : tie.Need-add-j Inv-loop μ-loop
 add-j c = search needs
@@ -39,12 +47,16 @@ loop-less c = search needs
 loop-again : tie.Need-loop-again Inv-loop μ-loop
 loop-again c = let a = c .before .before .before .before .args in
     let l = c .before .before .before .loop in
-    behind-miss (routePair (a .t)) (now (a .routes)) (l .j) noRoute (l .inv) (search needs) (sym (c .before .is-route-repeated .ensures) ∙ c .if1 .left)
+    let row = getD (now (a .routes)) (l .j) noRoute in
+    let none = ⊎-elim (λ w. sym (w .1 .ensures) ∙ w .2 .left)
+    (λ w. any-before (routePair (a .t)) (λ (x y : RouteRow). eqb (endingOf (x .destination)) (endingOf (y .destination))) (route-ends (a .t)) row
+    (take (l .j) (now (a .routes))) (sym (c .before .has-route-ending .ensures) ∙ w .left)) (c .if1 .came) in
+    (search needs, two-more (routePair (a .t)) (now (a .routes)) (l .j) noRoute (search needs) (l .inv .1) none)
 
 returns-2 : tie.Need-returns-2 Inv-loop μ-loop
 returns-2 c = let a = c .before .before .args in
     let l = c .before .loop in
-    sym (behind-end (routePair (a .t)) (now (a .routes)) (l .j) (l .inv) (c .loop-test .left))
+    sym (two-end (routePair (a .t)) (now (a .routes)) (l .j) (c .loop-test .left) (l .inv .1))
 
 pub every-pair-of-routes-spec : {M : Type 1} → statement M
-every-pair-of-routes-spec = tie.close (tie.spec Inv-loop μ-loop loop-holds is-route-repeated-requires returns add-j loop-less loop-again returns-2)
+every-pair-of-routes-spec = tie.close (tie.spec Inv-loop μ-loop loop-holds has-route-ending-requires scan-routes-requires returns add-j loop-less loop-again returns-2)
