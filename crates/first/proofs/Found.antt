@@ -1,30 +1,24 @@
 -- A search over all rows of a table finds what the rules find among the live rows of a kind.
 --     found, missing      the first live row of a kind that is so, and that there is none
 --     any-found           whether there is one
--- and, for each kind, the same as the rules ask it of a view: request-found, reply-found, route-found and so on.
+-- and the same of the records of a table: sort-found, sort-missing, sort-any.
 use Prim.Native.Nat.{ℕ, zero, suc, _+_, _<_, _≤_}
 use mathlib.Core.Path.{_≡_, refl, sym, ap, _∙_}
-use mathlib.Core.Bool.{Bool, true, false, cond, _&&_}
+use mathlib.Core.Bool.{Bool, true, false, cond}
 use mathlib.Core.List.{List, [], _∷_, _++_, map}
 use mathlib.Core.Option.{Option, some, none}
 use native.Mathlib.Omega.{arith}
-use lib.Dec.{eqb, ltb, leb·suc-suc}
+use lib.Dec.{ltb, leb·suc-suc}
 use lib.ListN.{length, getD, length-map}
-use borrow.Author.Tests.{ltb-true, lt-ltb, eqb-true}
-use Rattle.plain.specs.Lists.{any, firstOf, same}
-use Rattle.plain.specs.Address.{Address}
-use Rattle.plain.specs.Given.{RequestRow, ReplyRow, Instance, Route}
-use Rattle.plain.specs.Table.{Numbered, lasts, live, liveFrom, liveRows, instanceDeadline, routeDeadline}
+use borrow.Author.Tests.{ltb-true, lt-ltb}
+use Rattle.plain.specs.Lists.{any, firstOf}
+use Rattle.plain.specs.Given.{Instance, Route}
+use Rattle.plain.specs.Table.{Numbered, lasts, live, liveFrom, liveRows}
 use Rattle.plain.specs.Answers as A
-use Rattle.plain.specs.Answers.{View, requests, replies, requestFor, replyFor, routeFor, liveRequest, liveReply, liveRoute}
-use Rattle.plain.specs.Rank.{plusDelta}
-use Rattle.plain.specs.Request.{deltaTaken}
-use Rattle.lemmas.proofs.Choice.{true-false, and-right}
-use Rattle.row.specs.Meaning.{instanceOf, routeOf, requestOf, replyOf, routeIn, noRow, noRoute}
-use Rattle.live.specs.Look.{partOf, held, here, asRequest, asReply, requestHere, replyHere, routeHere}
-use Rattle.live.proofs.Laws.{request-here, reply-here, route-here}
-use Rattle.row.specs.declared.InstanceRow.{InstanceRow}
-use Rattle.row.specs.declared.RouteRow.{RouteRow}
+use Rattle.plain.specs.Answers.{requests, replies}
+use Rattle.lemmas.proofs.Choice.{true-false}
+use Rattle.live.specs.Look.{partOf, held, here, asRequest, asReply}
+use Rattle.live.proofs.Laws.{Sort, sort-here}
 use Rattle.first.specs.First.{first}
 
 -- ---- the rows of a kind among numbered rows
@@ -222,158 +216,49 @@ pub lasts-before : (c t : ℕ) (d : Option ℕ) → c ≤ t → lasts t d ≡ tr
 lasts-before c t none h e = refl
 lasts-before c t (some d) h e = lt-ltb c d (omega (arith, ltb-true t d e))
 
-request-lasts : (t instance : ℕ) (dodagid : Address) (r : RequestRow) → requestFor t instance dodagid r ≡ true → lasts t (r .deadline) ≡ true
-request-lasts t instance dodagid r e = and-right (eqb (r .instance) instance && same (r .dodagid) dodagid) (lasts t (r .deadline)) e
-
-reply-lasts : (t instance : ℕ) (dodagid : Address) (r : ReplyRow) → replyFor t instance dodagid r ≡ true → lasts t (r .deadline) ≡ true
-reply-lasts t instance dodagid r e = and-right (eqb (r .instance) instance && same (r .dodagid) dodagid) (lasts t (r .deadline)) e
-
-route-lasts : (t : ℕ) (source destination : Address) (instance : ℕ) (r : Route) → routeFor t source destination instance r ≡ true
-    → lasts t (r .deadline) ≡ true
-route-lasts t source destination instance r e =
-    and-right (same (r .source) source && same (r .destination) destination && eqb (r .instance) instance) (lasts t (r .deadline)) e
-
-request-keeps : (c t instance : ℕ) (dodagid : Address) → c ≤ t → (a : Instance) (b : RequestRow) → asRequest a ≡ some b
-    → requestFor t instance dodagid b ≡ true → lasts c (instanceDeadline a) ≡ true
-request-keeps c t instance dodagid h (Instance.request r) b e f =
-    let g : r ≡ b = cc in
-    rw g (lasts-before c t (b .deadline) h (request-lasts t instance dodagid b f))
-request-keeps c t instance dodagid h (Instance.reply r) b e f = let z : _≡_ {A = ℕ} 0 1 = cc in absurd (omega arith)
-
-reply-keeps : (c t instance : ℕ) (dodagid : Address) → c ≤ t → (a : Instance) (b : ReplyRow) → asReply a ≡ some b
-    → replyFor t instance dodagid b ≡ true → lasts c (instanceDeadline a) ≡ true
-reply-keeps c t instance dodagid h (Instance.request r) b e f = let z : _≡_ {A = ℕ} 0 1 = cc in absurd (omega arith)
-reply-keeps c t instance dodagid h (Instance.reply r) b e f =
-    let g : r ≡ b = cc in
-    rw g (lasts-before c t (b .deadline) h (reply-lasts t instance dodagid b f))
-
-route-keeps : (c t : ℕ) (source destination : Address) (instance : ℕ) → c ≤ t → (a b : Route) → _≡_ {A = Option Route} (some a) (some b)
-    → routeFor t source destination instance b ≡ true → lasts c (routeDeadline a) ≡ true
-route-keeps c t source destination instance h a b e f =
-    let g : a ≡ b = cc in
-    rw g (lasts-before c t (b .deadline) h (route-lasts t source destination instance b f))
-
--- ---- requests
+-- ---- the three kinds of rows
 
 pub cond-true : (k x : Bool) → cond k x false ≡ true → (k ≡ true) × (x ≡ true)
 cond-true true x e = (refl, e)
 cond-true false x e = true-false (sym e)
 
-module _ (rows : List InstanceRow) (t instance : ℕ) (dodagid : Address) (k : ℕ) where
-  module _ (e : k ≡ first (requestHere t instance dodagid) (map instanceOf rows)) (h : k < length rows) where
-    request-both : (eqb (getD rows k noRow .kind) 1 ≡ true) × (requestFor t instance dodagid (requestOf (getD rows k noRow)) ≡ true)
-    request-both =
-        cond-true (eqb (getD rows k noRow .kind) 1) (requestFor t instance dodagid (requestOf (getD rows k noRow)))
-        (sym (request-here (requestFor t instance dodagid) (getD rows k noRow)) ∙ found-true instanceOf
-        (requestHere t instance dodagid) rows k noRow e h)
+-- a row of a kind that is so, and what is so is live at t
+module _ (S : Sort) (p : S .Row → Bool) (t : ℕ) (lives : (b : S .Row) → p b ≡ true → lasts t (S .ends b) ≡ true) where
+  keeps : (c : ℕ) → c ≤ t → (a : S .Meaning) (b : S .Row) → S .part a ≡ some b → p b ≡ true → lasts c (S .deadline a) ≡ true
+  keeps c h a b e f = rw (S .ended a b e) (lasts-before c t (S .ends b) h (lives b f))
 
-    -- the record that was found is a request row
-    pub request-is : instanceOf (getD rows k noRow) ≡ some (Instance.request (requestOf (getD rows k noRow)))
-    unfolding instanceOf
-    request-is = rw (request-both .0)
+  part-live : (o : Option (S .Meaning)) (b : S .Row) → partOf (S .part) o ≡ some b → p b ≡ true → live (S .deadline) t o ≡ true
+  part-live none b e f = let z : _≡_ {A = ℕ} 0 1 = cc in absurd (omega arith)
+  part-live (some a) b e f = keeps t (omega arith) a b e f
 
-    -- of that key, and live at t
-    pub request-for : requestFor t instance dodagid (requestOf (getD rows k noRow)) ≡ true
-    request-for = request-both .1
+  -- k is what a search of the records answers
+  module _ (rows : List (S .Record)) (k : ℕ) (e : k ≡ first (here (S .part) p) (map (S .read) rows)) where
+    module _ (h : k < length rows) where
+      -- the record that was found is of the kind, and so
+      pub sort-is : (S .is (getD rows k (S .blank)) ≡ true) × (p (S .row (getD rows k (S .blank))) ≡ true)
+      sort-is =
+          cond-true (S .is (getD rows k (S .blank))) (p (S .row (getD rows k (S .blank))))
+          (sym (sort-here S p (getD rows k (S .blank))) ∙ found-true (S .read) (here (S .part) p) rows k (S .blank) e h)
 
-    pub request-live : live instanceDeadline t (instanceOf (getD rows k noRow)) ≡ true
-    request-live = rw request-is (request-lasts t instance dodagid (requestOf (getD rows k noRow)) request-for)
+      sort-part : partOf (S .part) (S .read (getD rows k (S .blank))) ≡ some (S .row (getD rows k (S .blank)))
+      sort-part = S .parted (getD rows k (S .blank)) ∙ rw (sort-is .0)
 
-  module _ (e : k ≡ first (replyHere t instance dodagid) (map instanceOf rows)) (h : k < length rows) where
-    reply-both : (eqb (getD rows k noRow .kind) 2 ≡ true) × (replyFor t instance dodagid (replyOf (getD rows k noRow)) ≡ true)
-    reply-both =
-        cond-true (eqb (getD rows k noRow .kind) 2) (replyFor t instance dodagid (replyOf (getD rows k noRow)))
-        (sym (reply-here (replyFor t instance dodagid) (getD rows k noRow)) ∙ found-true instanceOf (replyHere t instance dodagid) rows k noRow e h)
+      pub sort-live : live (S .deadline) t (S .read (getD rows k (S .blank))) ≡ true
+      sort-live = part-live (S .read (getD rows k (S .blank))) (S .row (getD rows k (S .blank))) sort-part (sort-is .1)
 
-    pub reply-is : instanceOf (getD rows k noRow) ≡ some (Instance.reply (replyOf (getD rows k noRow)))
-    unfolding instanceOf
-    reply-is = let two : getD rows k noRow .kind ≡ 2 = eqb-true (getD rows k noRow .kind) 2 (reply-both .0) in rw two
+      -- the rules find it among what is live at the clock
+      pub sort-found : (clock : ℕ) → clock ≤ t → firstOf (λ (n : Numbered (S .Row)). p (n .row))
+          (parts (S .part) (liveRows (S .deadline) clock (map (S .read) rows))) ≡ some (record { number = k; row = S .row (getD rows k (S .blank)) })
+      sort-found clock later =
+          found (S .deadline) (S .part) p clock (keeps clock later) (map (S .read) rows) k (S .row (getD rows k (S .blank))) e
+          (rw (length-map rows (S .read)) h) (rw (read-at (S .read) rows k (S .blank) none h) sort-part)
 
-    pub reply-for : replyFor t instance dodagid (replyOf (getD rows k noRow)) ≡ true
-    reply-for = reply-both .1
+    pub sort-missing : length rows ≤ k → (clock : ℕ) → clock ≤ t → firstOf (λ (n : Numbered (S .Row)). p (n .row))
+        (parts (S .part) (liveRows (S .deadline) clock (map (S .read) rows))) ≡ none
+    sort-missing h clock later =
+        missing (S .deadline) (S .part) p clock (keeps clock later) (map (S .read) rows) k e (rw (length-map rows (S .read)) h)
 
-    pub reply-live : live instanceDeadline t (instanceOf (getD rows k noRow)) ≡ true
-    reply-live = rw reply-is (reply-lasts t instance dodagid (replyOf (getD rows k noRow)) reply-for)
-
-module _ (routes : List RouteRow) (t : ℕ) (source destination : Address) (instance k : ℕ)
-    (e : k ≡ first (routeHere t source destination instance) (map routeOf routes)) (h : k < length routes) where
-  route-both : (eqb (getD routes k noRoute .kind) 1 ≡ true) × (routeFor t source destination instance (routeIn (getD routes k noRoute)) ≡ true)
-  route-both =
-      cond-true (eqb (getD routes k noRoute .kind) 1) (routeFor t source destination instance (routeIn (getD routes k noRoute)))
-      (sym (route-here (routeFor t source destination instance) (getD routes k noRoute))
-      ∙ found-true routeOf (routeHere t source destination instance) routes k noRoute e h)
-
-  pub route-is : routeOf (getD routes k noRoute) ≡ some (routeIn (getD routes k noRoute))
-  unfolding routeOf
-  route-is = rw (route-both .0)
-
-  pub route-for : routeFor t source destination instance (routeIn (getD routes k noRoute)) ≡ true
-  route-for = route-both .1
-
-  pub route-live : live routeDeadline t (routeOf (getD routes k noRoute)) ≡ true
-  route-live = rw route-is (route-lasts t source destination instance (routeIn (getD routes k noRoute)) route-for)
-
--- ---- what the rules find, in terms of what a search answers: v is what they see at the clock, t the call's time
-
-module _ (v : View) (clock t : ℕ) (later : clock ≤ t) where
-  module _ (rows : List InstanceRow) (sees : v .instances ≡ liveRows instanceDeadline clock (map instanceOf rows)) (instance : ℕ)
-      (dodagid : Address) where
-    pub request-found : (k : ℕ) → k ≡ first (requestHere t instance dodagid) (map instanceOf rows) → k < length rows
-        → liveRequest v t instance dodagid ≡ some (record { number = k; row = requestOf (getD rows k noRow) })
-    request-found k e h =
-        rw (sees, requests-are (liveRows instanceDeadline clock (map instanceOf rows)))
-        (found instanceDeadline asRequest (requestFor t instance dodagid) clock (request-keeps clock t instance dodagid later) (map instanceOf rows) k
-        (requestOf (getD rows k noRow)) e (rw (length-map rows instanceOf) h)
-        (rw (read-at instanceOf rows k noRow none h, request-is rows t instance dodagid k e h)))
-
-    pub request-missing : (k : ℕ) → k ≡ first (requestHere t instance dodagid) (map instanceOf rows) → length rows ≤ k
-        → liveRequest v t instance dodagid ≡ none
-    request-missing k e h =
-        rw (sees, requests-are (liveRows instanceDeadline clock (map instanceOf rows)))
-        (missing instanceDeadline asRequest (requestFor t instance dodagid) clock (request-keeps clock t instance dodagid later)
-        (map instanceOf rows) k e
-        (rw (length-map rows instanceOf) h))
-
-    pub reply-found : (k : ℕ) → k ≡ first (replyHere t instance dodagid) (map instanceOf rows) → k < length rows
-        → liveReply v t instance dodagid ≡ some (record { number = k; row = replyOf (getD rows k noRow) })
-    reply-found k e h =
-        rw (sees, replies-are (liveRows instanceDeadline clock (map instanceOf rows)))
-        (found instanceDeadline asReply (replyFor t instance dodagid) clock (reply-keeps clock t instance dodagid later) (map instanceOf rows) k
-        (replyOf (getD rows k noRow)) e (rw (length-map rows instanceOf) h)
-        (rw (read-at instanceOf rows k noRow none h, reply-is rows t instance dodagid k e h)))
-
-    pub reply-missing : (k : ℕ) → k ≡ first (replyHere t instance dodagid) (map instanceOf rows) → length rows ≤ k
-        → liveReply v t instance dodagid ≡ none
-    reply-missing k e h =
-        rw (sees, replies-are (liveRows instanceDeadline clock (map instanceOf rows)))
-        (missing instanceDeadline asReply (replyFor t instance dodagid) clock (reply-keeps clock t instance dodagid later) (map instanceOf rows) k e
-        (rw (length-map rows instanceOf) h))
-
-    -- "not in use by a live reply row with that DODAGID": asked for each Delta by a search
-    pub delta-taken : (delta k : ℕ) → k ≡ first (replyHere t (plusDelta instance delta) dodagid) (map instanceOf rows)
-        → deltaTaken v t instance dodagid delta ≡ ltb k (length rows)
-    unfolding deltaTaken
-    delta-taken delta k e =
-        rw (sees, replies-are (liveRows instanceDeadline clock (map instanceOf rows)))
-        (any-found instanceDeadline asReply (replyFor t (plusDelta instance delta) dodagid) clock
-        (reply-keeps clock t (plusDelta instance delta) dodagid later) (map instanceOf rows)
-        ∙ rw (← e, length-map rows instanceOf))
-
-  module _ (routes : List RouteRow) (sees : v .routes ≡ liveRows routeDeadline clock (map routeOf routes)) (source destination : Address)
-      (instance : ℕ) where
-    pub route-found : (k : ℕ) → k ≡ first (routeHere t source destination instance) (map routeOf routes) → k < length routes
-        → liveRoute v t source destination instance ≡ some (record { number = k; row = routeIn (getD routes k noRoute) })
-    route-found k e h =
-        rw (sees, routes-are (liveRows routeDeadline clock (map routeOf routes)))
-        (found routeDeadline some (routeFor t source destination instance) clock (route-keeps clock t source destination instance later)
-        (map routeOf routes) k
-        (routeIn (getD routes k noRoute)) e (rw (length-map routes routeOf) h)
-        (rw (read-at routeOf routes k noRoute none h, route-is routes t source destination instance k e h)))
-
-    pub route-missing : (k : ℕ) → k ≡ first (routeHere t source destination instance) (map routeOf routes) → length routes ≤ k
-        → liveRoute v t source destination instance ≡ none
-    route-missing k e h =
-        rw (sees, routes-are (liveRows routeDeadline clock (map routeOf routes)))
-        (missing routeDeadline some (routeFor t source destination instance) clock (route-keeps clock t source destination instance later)
-        (map routeOf routes) k e
-        (rw (length-map routes routeOf) h))
+    pub sort-any : (clock : ℕ) → clock ≤ t → any (λ (n : Numbered (S .Row)). p (n .row))
+        (parts (S .part) (liveRows (S .deadline) clock (map (S .read) rows))) ≡ ltb k (length rows)
+    sort-any clock later =
+        any-found (S .deadline) (S .part) p clock (keeps clock later) (map (S .read) rows) ∙ rw (← e, length-map rows (S .read))

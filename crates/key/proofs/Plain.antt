@@ -15,7 +15,7 @@ use Rattle.lemmas.proofs.Choice.{true-false, and-left, and-right}
 use Rattle.lemmas.proofs.Same.{same-equal}
 use Rattle.row.specs.Meaning.{instanceOf, routeOf, requestOf, replyOf, routeIn}
 use Rattle.live.specs.Look.{partOf, held, asRequest, asReply}
-use Rattle.live.proofs.Laws.{request-part, reply-part, route-part}
+use Rattle.live.proofs.Laws.{request-part, reply-part, route-part, cond-false}
 use Rattle.row.specs.declared.InstanceRow.{InstanceRow}
 use Rattle.row.specs.declared.RouteRow.{RouteRow}
 use Rattle.first.proofs.Found.{cond-true, asPart, parts, seen, parts-cons, requests-are, replies-are, routes-are}
@@ -132,10 +132,6 @@ module _ {R A B : Type 0} (read : R → Option A) (deadline : A → Option ℕ) 
 both-none : {B : Type 0} (q : B → B → Bool) (o : Option B) → both q o none ≡ false
 both-none q none = refl
 both-none q (some b) = refl
-
-cond-false : (k : Bool) → cond k false false ≡ false
-cond-false true = refl
-cond-false false = refl
 
 cond-self : (k : Bool) → k ≡ cond k true false
 cond-self true = refl

@@ -9,17 +9,15 @@ use lib.Arith.{bin-ind}
 use lib.Bits.{bitOr, or-step}
 use lib.Dec.{eqb, ltb, leb}
 use borrow.Author.Tests.{eqb-true, eqb-false, leb-true, leb-false}
-use Rattle.plain.specs.Lists.{same}
 use Rattle.plain.specs.Given.{RequestRow, ReplyRow, Instance, Route}
-use Rattle.plain.specs.Table.{lasts, live, instanceDeadline}
-use Rattle.plain.specs.Answers.{requestFor, replyFor, routeFor}
+use Rattle.plain.specs.Table.{lasts, live, instanceDeadline, routeDeadline}
 use Rattle.lemmas.proofs.Choice.{true-false}
-use Rattle.row.specs.Meaning.{deadlineOf, requestOf, replyOf, instanceOf, routeIn, routeOf}
+use Rattle.row.specs.Meaning.{deadlineOf, requestOf, replyOf, instanceOf, routeIn, routeOf, noRow, noRoute}
 use Rattle.row.specs.Record.{bitOf}
 use Rattle.row.specs.declared.InstanceRow.{InstanceRow}
 use Rattle.row.specs.declared.RouteRow.{RouteRow}
 use Rattle.row.proofs.Laws.{flag-bit}
-use Rattle.live.specs.Look.{partOf, held, here, asRequest, asReply, requestHere, replyHere, routeHere}
+use Rattle.live.specs.Look.{partOf, held, here, asRequest, asReply}
 
 -- ---- kinds
 
@@ -57,55 +55,101 @@ route-part r = go (eqb (r .kind) 1)
     go true = refl
     go false = refl
 
+-- Rows of a kind among the meanings of a table's records.
+pub record Sort : Type 1 where
+  pub Record : Type 0
+  pub Meaning : Type 0
+  pub Row : Type 0
+  -- what a record means, and when that ends
+  pub read : Record → Option Meaning
+  pub deadline : Meaning → Option ℕ
+  -- the row that it is, if it is of the kind
+  pub part : Meaning → Option Row
+  pub ends : Row → Option ℕ
+  pub ended : (a : Meaning) (b : Row) → part a ≡ some b → deadline a ≡ ends b
+  -- what is read past the end of a table
+  pub blank : Record
+  -- the same told of the record
+  pub is : Record → Bool
+  pub row : Record → Row
+  pub parted : (r : Record) → partOf part (read r) ≡ cond (is r) (some (row r)) none
+
+pub request-ended : (a : Instance) (b : RequestRow) → asRequest a ≡ some b → instanceDeadline a ≡ b .deadline
+request-ended (Instance.request r) b e = let g : r ≡ b = cc in rw g
+request-ended (Instance.reply r) b e = let z : _≡_ {A = ℕ} 0 1 = cc in absurd (omega arith)
+
+abbrev pub requestSort : Sort
+requestSort = record {
+  Record = InstanceRow;
+  Meaning = Instance;
+  Row = RequestRow;
+  read = instanceOf;
+  deadline = instanceDeadline;
+  part = asRequest;
+  ends = λ b. b .deadline;
+  ended = request-ended;
+  blank = noRow;
+  is = λ r. eqb (r .kind) 1;
+  row = requestOf;
+  parted = request-part;
+}
+
+pub reply-ended : (a : Instance) (b : ReplyRow) → asReply a ≡ some b → instanceDeadline a ≡ b .deadline
+reply-ended (Instance.request r) b e = let z : _≡_ {A = ℕ} 0 1 = cc in absurd (omega arith)
+reply-ended (Instance.reply r) b e = let g : r ≡ b = cc in rw g
+
+abbrev pub replySort : Sort
+replySort = record {
+  Record = InstanceRow;
+  Meaning = Instance;
+  Row = ReplyRow;
+  read = instanceOf;
+  deadline = instanceDeadline;
+  part = asReply;
+  ends = λ b. b .deadline;
+  ended = reply-ended;
+  blank = noRow;
+  is = λ r. eqb (r .kind) 2;
+  row = replyOf;
+  parted = reply-part;
+}
+
+pub route-ended : (a b : Route) → _≡_ {A = Option Route} (some a) (some b) → routeDeadline a ≡ routeDeadline b
+route-ended a b e = let g : a ≡ b = cc in rw g
+
+abbrev pub routeSort : Sort
+routeSort = record {
+  Record = RouteRow;
+  Meaning = Route;
+  Row = Route;
+  read = routeOf;
+  deadline = routeDeadline;
+  part = some;
+  ends = routeDeadline;
+  ended = route-ended;
+  blank = noRoute;
+  is = λ r. eqb (r .kind) 1;
+  row = routeIn;
+  parted = route-part;
+}
+
 -- a record passes a test that is asked of its kind
-held-kind : {B : Type 0} (p : B → Bool) (k : Bool) (b : B) → held p (cond k (some b) none) ≡ cond k (p b) false
-held-kind p true b = refl
-held-kind p false b = refl
+module _ (S : Sort) (p : S .Row → Bool) (r : S .Record) where
+  pub sort-here : here (S .part) p (S .read r) ≡ cond (S .is r) (p (S .row r)) false
+  unfolding here
+  sort-here = rw (S .parted r) (go (S .is r))
+    where
+      go : (k : Bool) → held p (cond k (some (S .row r)) none) ≡ cond k (p (S .row r)) false
+      go true = refl
+      go false = refl
 
-pub request-here : (p : RequestRow → Bool) (r : InstanceRow) → here asRequest p (instanceOf r) ≡ cond (eqb (r .kind) 1) (p (requestOf r)) false
-unfolding here
-request-here p r = rw (request-part r) (held-kind p (eqb (r .kind) 1) (requestOf r))
+pub and-false : (a : Bool) → a && false ≡ false
+and-false true = refl
+and-false false = refl
 
-pub reply-here : (p : ReplyRow → Bool) (r : InstanceRow) → here asReply p (instanceOf r) ≡ cond (eqb (r .kind) 2) (p (replyOf r)) false
-unfolding here
-reply-here p r = rw (reply-part r) (held-kind p (eqb (r .kind) 2) (replyOf r))
-
-pub route-here : (p : Route → Bool) (r : RouteRow) → here some p (routeOf r) ≡ cond (eqb (r .kind) 1) (p (routeIn r)) false
-unfolding here
-route-here p r = rw (route-part r) (held-kind p (eqb (r .kind) 1) (routeIn r))
-
--- a row of another address is not the one that is asked for
-
-far : (k i l : Bool) → cond k (i && false && l) false ≡ false
-far true true l = refl
-far true false l = refl
-far false i l = refl
-
-route-gone : (k s i l : Bool) → cond k (s && false && i && l) false ≡ false
-route-gone true true i l = refl
-route-gone true false i l = refl
-route-gone false s i l = refl
-
-module _ (t instance : ℕ) (a : List ℕ) (r : InstanceRow) (e : same (r .dodagid) a ≡ false) where
-  pub request-far : requestHere t instance a (instanceOf r) ≡ false
-  unfolding requestOf
-  request-far =
-      request-here (requestFor t instance a) r
-      ∙ rw e (far (eqb (r .kind) 1) (eqb (r .instance) instance) (lasts t (deadlineOf (r .endless) (r .deadline))))
-
-  pub reply-far : replyHere t instance a (instanceOf r) ≡ false
-  unfolding replyOf
-  reply-far =
-      reply-here (replyFor t instance a) r
-      ∙ rw e (far (eqb (r .kind) 2) (eqb (r .instance) instance) (lasts t (deadlineOf (r .endless) (r .deadline))))
-
-pub route-far : (t : ℕ) (source destination : List ℕ) (instance : ℕ) (r : RouteRow) → same (r .destination) destination ≡ false
-    → routeHere t source destination instance (routeOf r) ≡ false
-unfolding routeIn
-route-far t source destination instance r e =
-    route-here (routeFor t source destination instance) r
-    ∙ rw e
-    (route-gone (eqb (r .kind) 1) (same (r .source) source) (eqb (r .instance) instance) (lasts t (deadlineOf (r .endless) (r .deadline))))
+pub cond-false : (k : Bool) → cond k false false ≡ false
+cond-false true = refl
+cond-false false = refl
 
 -- kinds that are in use
 

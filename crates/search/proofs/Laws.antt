@@ -7,28 +7,28 @@ use mathlib.Core.Option.{Option, some, none}
 use native.Mathlib.Omega.{arith}
 use native.Mathlib.Numerals.{add-one}
 use lib.Dec.{eqb, ltb}
-use lib.ListN.{length, getD, length-map}
-use borrow.Author.Tests.{lt-ltb, le-ltb, ne-eqb, eqb-true}
-use Rattle.plain.specs.Lists.{same}
+use lib.ListN.{length, getD}
+use borrow.Author.Tests.{lt-ltb, le-ltb, ne-eqb}
+use Rattle.plain.specs.Lists.{firstOf, same}
 use Rattle.plain.specs.Address.{Address}
-use Rattle.plain.specs.Given.{RequestRow, ReplyRow, Instance, Route}
-use Rattle.plain.specs.Table.{lasts, live, liveRows, instanceDeadline, routeDeadline}
-use Rattle.plain.specs.Answers.{View, requestFor}
+use Rattle.plain.specs.Given.{RequestRow, ReplyRow, Route}
+use Rattle.plain.specs.Table.{Numbered, lasts, live, liveRows, instanceDeadline, routeDeadline}
+use Rattle.plain.specs.Answers.{requests, replies, requestFor, replyFor, routeFor}
 use Rattle.plain.specs.Rank.{plusDelta}
 use Rattle.plain.specs.Request.{leastDelta, deltaTaken, freeDelta}
 use Rattle.lemmas.proofs.Choice.{and-left, and-right, true-false}
 use Rattle.row.specs.Meaning.{flag, instanceOf, routeOf, requestOf, noRow, noRoute}
-use Rattle.live.specs.Look.{partOf, here, asRequest, requestHere, replyHere, routeHere}
-use Rattle.live.proofs.Laws.{request-here}
+use Rattle.live.specs.Look.{here, requestHere, replyHere}
+use Rattle.live.proofs.Laws.{Sort, requestSort, replySort, routeSort, sort-here}
 use Rattle.row.specs.declared.InstanceRow.{InstanceRow}
 use Rattle.row.specs.declared.RouteRow.{RouteRow}
 use Rattle.first.specs.First.{first}
-use Rattle.first.proofs.Found.{lasts-before, found, missing, found-true, read-at, requests-are, request-found, request-missing, request-live, reply-found, reply-missing, reply-live, route-found, route-missing, route-live, delta-taken}
-use Rattle.message.specs.Message.{requestFound, replyFound, routeFound, deltaFound}
+use Rattle.first.proofs.Found.{parts, requests-are, replies-are, routes-are, sort-is, sort-live, sort-found, sort-missing, sort-any}
+use Rattle.message.specs.Message.{deltaFound}
 use Rattle.message.specs.declared.Found.{Found}
 use Rattle.message.specs.declared.FoundRoute.{FoundRoute}
 use Rattle.message.specs.declared.FreeDelta.{FreeDelta}
-use Rattle.search.specs.Seen.{partnerFor, partnerHere, seenAt, requestSeen, replySeen, routeSeen, partnerSeen, deltaSeen, LiveRow, LiveRoute}
+use Rattle.search.specs.Seen.{partnerFor, partnerHere, seenAt, deltaSeen, LiveRow, LiveRoute}
 
 -- ---- what a search hands on
 
@@ -54,74 +54,83 @@ module _ (routes : List RouteRow) (f : FoundRoute) (k : ℕ) where
     pub live-route-miss : (t : ℕ) → LiveRoute routes t f
     live-route-miss t = record { within = rw e (λ q. true-false (sym q)); lives = rw e (λ q. true-false (sym q)) }
 
--- ---- request rows, reply rows, routes
+-- ---- request rows, reply rows, routes, and a partner
 
-cond-first : (k x : Bool) → cond k x false ≡ true → k ≡ true
-cond-first true x e = refl
-cond-first false x e = true-false (sym e)
+-- A search for a row of a kind that is so, which none is that is not live at t; and all rows of the kind, as the rules name them.
+pub record Ask (t : ℕ) : Type 1 where
+  pub sort : Sort
+  pub test : sort .Row → Bool
+  pub lives : (b : sort .Row) → test b ≡ true → lasts t (sort .ends b) ≡ true
+  pub all : List (Numbered (sort .Meaning)) → List (Numbered (sort .Row))
+  pub all-are : (ns : List (Numbered (sort .Meaning))) → all ns ≡ parts (sort .part) ns
 
-module _ (rows : List InstanceRow) (t instance : ℕ) (dodagid : Address) (k : ℕ) (f : Found) where
-  pub request-hit : k ≡ first (requestHere t instance dodagid) (map instanceOf rows) → k < length rows
-      → f ≡ record { is = true; at = k; row = getD rows k noRow } → (clock : ℕ) → clock ≤ t → requestFound f ≡ requestSeen clock rows t instance dodagid
-  unfolding requestFound requestSeen
-  request-hit e h g clock l = rw g (sym (request-found (seenAt clock rows []) clock t l rows refl instance dodagid k e h))
+module _ (t : ℕ) (A : Ask t) (rows : List (A .sort .Record)) (k : ℕ) (e : k ≡ first (here (A .sort .part) (A .test)) (map (A .sort .read) rows)) where
+  -- what the rules see at a clock
+  abbrev pub seen : ℕ → Option (Numbered (A .sort .Row))
+  seen clock = firstOf (λ (n : Numbered (A .sort .Row)). A .test (n .row)) (A .all (liveRows (A .sort .deadline) clock (map (A .sort .read) rows)))
 
-  -- what was found is a request row
-  pub request-kind : k ≡ first (requestHere t instance dodagid) (map instanceOf rows) → k < length rows
-      → f ≡ record { is = true; at = k; row = getD rows k noRow } → f .is ≡ true → f .row .kind ≡ 1
-  request-kind e h g _ =
-      rw g
-      (eqb-true (getD rows k noRow .kind) 1
-      (cond-first (eqb (getD rows k noRow .kind) 1) (requestFor t instance dodagid (requestOf (getD rows k noRow)))
-      (sym (request-here (requestFor t instance dodagid) (getD rows k noRow)) ∙ found-true instanceOf (requestHere t instance dodagid) rows k noRow e h)))
+  -- is what is told of a row that was found
+  pub hit : (told : Option (Numbered (A .sort .Row))) → k < length rows
+      → told ≡ some (record { number = k; row = A .sort .row (getD rows k (A .sort .blank)) }) → (clock : ℕ) → clock ≤ t → told ≡ seen clock
+  hit told h g clock l =
+      g ∙ sym (rw (A .all-are (liveRows (A .sort .deadline) clock (map (A .sort .read) rows)))
+      (sort-found (A .sort) (A .test) t (A .lives) rows k e h clock l))
 
-  pub request-no-kind : f ≡ record { is = false; at = k; row = noRow } → f .is ≡ true → f .row .kind ≡ 1
-  request-no-kind g = rw g (λ q. true-false (sym q))
+  pub miss : (told : Option (Numbered (A .sort .Row))) → length rows ≤ k → told ≡ none → (clock : ℕ) → clock ≤ t → told ≡ seen clock
+  miss told h g clock l =
+      g ∙ sym (rw (A .all-are (liveRows (A .sort .deadline) clock (map (A .sort .read) rows)))
+      (sort-missing (A .sort) (A .test) t (A .lives) rows k e h clock l))
 
-  pub request-miss : k ≡ first (requestHere t instance dodagid) (map instanceOf rows) → length rows ≤ k
-      → f ≡ record { is = false; at = k; row = noRow } → (clock : ℕ) → clock ≤ t → requestFound f ≡ requestSeen clock rows t instance dodagid
-  unfolding requestFound requestSeen
-  request-miss e h g clock l = rw g (sym (request-missing (seenAt clock rows []) clock t l rows refl instance dodagid k e h))
+  pub hit-live : k < length rows → live (A .sort .deadline) t (A .sort .read (getD rows k (A .sort .blank))) ≡ true
+  hit-live h = sort-live (A .sort) (A .test) t (A .lives) rows k e h
 
-  pub reply-hit : k ≡ first (replyHere t instance dodagid) (map instanceOf rows) → k < length rows
-      → f ≡ record { is = true; at = k; row = getD rows k noRow } → (clock : ℕ) → clock ≤ t → replyFound f ≡ replySeen clock rows t instance dodagid
-  unfolding replyFound replySeen
-  reply-hit e h g clock l = rw g (sym (reply-found (seenAt clock rows []) clock t l rows refl instance dodagid k e h))
+  pub hit-kind : k < length rows → A .sort .is (getD rows k (A .sort .blank)) ≡ true
+  hit-kind h = sort-is (A .sort) (A .test) t (A .lives) rows k e h .0
 
-  pub reply-miss : k ≡ first (replyHere t instance dodagid) (map instanceOf rows) → length rows ≤ k
-      → f ≡ record { is = false; at = k; row = noRow } → (clock : ℕ) → clock ≤ t → replyFound f ≡ replySeen clock rows t instance dodagid
-  unfolding replyFound replySeen
-  reply-miss e h g clock l = rw g (sym (reply-missing (seenAt clock rows []) clock t l rows refl instance dodagid k e h))
+abbrev pub requestAsk : (t instance : ℕ) → Address → Ask t
+requestAsk t instance dodagid = record {
+  sort = requestSort;
+  test = requestFor t instance dodagid;
+  lives = λ b. and-right (eqb (b .instance) instance && same (b .dodagid) dodagid) (lasts t (b .deadline));
+  all = requests;
+  all-are = requests-are;
+}
 
-module _ (routes : List RouteRow) (t : ℕ) (source destination : Address) (instance k : ℕ) (f : FoundRoute) where
-  pub route-hit : k ≡ first (routeHere t source destination instance) (map routeOf routes) → k < length routes
-      → f ≡ record { is = true; at = k; route = getD routes k noRoute } → (clock : ℕ) → clock ≤ t
-      → routeFound f ≡ routeSeen clock routes t source destination instance
-  unfolding routeFound routeSeen
-  route-hit e h g clock l = rw g (sym (route-found (seenAt clock [] routes) clock t l routes refl source destination instance k e h))
+abbrev pub partnerAsk : (t instance : ℕ) → Address → Bool → Ask t
+partnerAsk t instance dodagid h = record {
+  sort = requestSort;
+  test = partnerFor t instance dodagid h;
+  lives = λ b e. requestAsk t instance dodagid .lives b (and-left (requestFor t instance dodagid b) (Bool·beq (b .h) h) e);
+  all = requests;
+  all-are = requests-are;
+}
 
-  pub route-miss : k ≡ first (routeHere t source destination instance) (map routeOf routes) → length routes ≤ k
-      → f ≡ record { is = false; at = k; route = noRoute } → (clock : ℕ) → clock ≤ t
-      → routeFound f ≡ routeSeen clock routes t source destination instance
-  unfolding routeFound routeSeen
-  route-miss e h g clock l = rw g (sym (route-missing (seenAt clock [] routes) clock t l routes refl source destination instance k e h))
+abbrev pub replyAsk : (t instance : ℕ) → Address → Ask t
+replyAsk t instance dodagid = record {
+  sort = replySort;
+  test = replyFor t instance dodagid;
+  lives = λ b. and-right (eqb (b .instance) instance && same (b .dodagid) dodagid) (lasts t (b .deadline));
+  all = replies;
+  all-are = replies-are;
+}
+
+abbrev pub routeAsk : (t : ℕ) → Address → Address → ℕ → Ask t
+routeAsk t source destination instance = record {
+  sort = routeSort;
+  test = routeFor t source destination instance;
+  lives = λ b. and-right (same (b .source) source && same (b .destination) destination && eqb (b .instance) instance) (lasts t (b .deadline));
+  all = λ ns. ns;
+  all-are = routes-are;
+}
 
 -- ---- the partner
-
-partner-keeps : (c t instance : ℕ) (dodagid : Address) (h : Bool) → c ≤ t → (a : Instance) (b : RequestRow) → asRequest a ≡ some b
-    → partnerFor t instance dodagid h b ≡ true → lasts c (instanceDeadline a) ≡ true
-partner-keeps c t instance dodagid h l (Instance.request r) b e f =
-    let g : r ≡ b = cc in
-    let q : requestFor t instance dodagid b ≡ true = and-left (requestFor t instance dodagid b) (Bool·beq (b .h) h) f in
-    rw g (lasts-before c t (b .deadline) l (and-right (eqb (b .instance) instance && same (b .dodagid) dodagid) (lasts t (b .deadline)) q))
-partner-keeps c t instance dodagid h l (Instance.reply r) b e f = let z : _≡_ {A = ℕ} 0 1 = cc in absurd (omega arith)
 
 -- one row: a request row of that key, and its H
 module _ (r : InstanceRow) (t instance : ℕ) (dodagid : Address) (h : Bool) where
   pub partner-not : requestHere t instance dodagid (instanceOf r) ≡ false → partnerHere t instance dodagid h (instanceOf r) ≡ false
   partner-not e =
-      request-here (partnerFor t instance dodagid h) r
-      ∙ both (eqb (r .kind) 1) (requestFor t instance dodagid (requestOf r)) (sym (request-here (requestFor t instance dodagid) r) ∙ e)
+      sort-here requestSort (partnerFor t instance dodagid h) r
+      ∙ both (eqb (r .kind) 1) (requestFor t instance dodagid (requestOf r)) (sym (sort-here requestSort (requestFor t instance dodagid) r) ∙ e)
     where
       both : (k x : Bool) → cond k x false ≡ false → cond k (x && Bool·beq (requestOf r .h) h) false ≡ false
       both true x e = rw e
@@ -130,8 +139,8 @@ module _ (r : InstanceRow) (t instance : ℕ) (dodagid : Address) (h : Bool) whe
   partner-is : requestHere t instance dodagid (instanceOf r) ≡ true → partnerHere t instance dodagid h (instanceOf r) ≡ Bool·beq (flag (r .h)) h
   unfolding requestOf
   partner-is e =
-      request-here (partnerFor t instance dodagid h) r
-      ∙ both (eqb (r .kind) 1) (requestFor t instance dodagid (requestOf r)) (sym (request-here (requestFor t instance dodagid) r) ∙ e)
+      sort-here requestSort (partnerFor t instance dodagid h) r
+      ∙ both (eqb (r .kind) 1) (requestFor t instance dodagid (requestOf r)) (sym (sort-here requestSort (requestFor t instance dodagid) r) ∙ e)
     where
       both : (k x : Bool) → cond k x false ≡ true → cond k (x && Bool·beq (flag (r .h)) h) false ≡ Bool·beq (flag (r .h)) h
       both true x e = rw e
@@ -150,32 +159,6 @@ module _ (r : InstanceRow) (t instance : ℕ) (dodagid : Address) (h : Bool) whe
       on : (b : Bool) → Bool·beq true b ≡ b
       on true = refl
       on false = refl
-
-module _ (rows : List InstanceRow) (t instance : ℕ) (dodagid : Address) (h : Bool) (k : ℕ) where
-  -- the record that was found is a request row
-  partner-part : k ≡ first (partnerHere t instance dodagid h) (map instanceOf rows) → k < length rows
-      → partOf asRequest (instanceOf (getD rows k noRow)) ≡ some (requestOf (getD rows k noRow))
-  unfolding instanceOf
-  partner-part e l =
-      rw (cond-first (eqb (getD rows k noRow .kind) 1) (partnerFor t instance dodagid h (requestOf (getD rows k noRow)))
-      (sym (request-here (partnerFor t instance dodagid h) (getD rows k noRow)) ∙ found-true instanceOf (partnerHere t instance dodagid h) rows k noRow e l))
-
-  pub partner-hit : (f : Found) → k ≡ first (partnerHere t instance dodagid h) (map instanceOf rows) → k < length rows
-      → f ≡ record { is = true; at = k; row = getD rows k noRow } → (clock : ℕ) → clock ≤ t → requestFound f ≡ partnerSeen clock rows t instance dodagid h
-  unfolding requestFound partnerSeen
-  partner-hit f e l g clock q =
-      rw (g, requests-are (liveRows instanceDeadline clock (map instanceOf rows)))
-      (sym (found instanceDeadline asRequest (partnerFor t instance dodagid h) clock (partner-keeps clock t instance dodagid h q) (map instanceOf rows) k
-      (requestOf (getD rows k noRow)) e (rw (length-map rows instanceOf) l)
-      (rw (read-at instanceOf rows k noRow none l) (partner-part e l))))
-
-  pub partner-miss : (f : Found) → k ≡ first (partnerHere t instance dodagid h) (map instanceOf rows) → length rows ≤ k
-      → f ≡ record { is = false; at = k; row = noRow } → (clock : ℕ) → clock ≤ t → requestFound f ≡ partnerSeen clock rows t instance dodagid h
-  unfolding requestFound partnerSeen
-  partner-miss f e l g clock q =
-      rw (g, requests-are (liveRows instanceDeadline clock (map instanceOf rows)))
-      (sym (missing instanceDeadline asRequest (partnerFor t instance dodagid h) clock (partner-keeps clock t instance dodagid h q) (map instanceOf rows) k e
-      (rw (length-map rows instanceOf) l)))
 
 -- ---- Delta
 
@@ -210,11 +193,19 @@ module _ (rows : List InstanceRow) (t instance : ℕ) (dodagid : Address) where
   tried-none clock l = refl
 
   module _ (delta k number : ℕ) (d : delta < 64) (n : number ≡ plusDelta instance delta) (e : k ≡ first (replyHere t number dodagid) (map instanceOf rows)) where
+    -- "not in use by a live reply row with that DODAGID": asked for each Delta by a search
+    delta-taken : (clock : ℕ) → clock ≤ t → deltaTaken (seenAt clock rows []) t instance dodagid delta ≡ ltb k (length rows)
+    unfolding deltaTaken
+    delta-taken clock l =
+        rw (replies-are (liveRows instanceDeadline clock (map instanceOf rows)))
+        (sort-any replySort (replyFor t (plusDelta instance delta) dodagid) t (replyAsk t (plusDelta instance delta) dodagid .lives) rows k (rw n at e)
+        clock l)
+
     pub tried-more : k < length rows → Tried rows t instance dodagid delta → Tried rows t instance dodagid (delta + 1)
     tried-more h w clock l =
         w clock l
         ∙ least-step (deltaTaken (seenAt clock rows []) t instance dodagid) delta d
-        (delta-taken (seenAt clock rows []) clock t l rows refl instance dodagid delta k (rw n at e) ∙ lt-ltb k (length rows) h)
+        (delta-taken clock l ∙ lt-ltb k (length rows) h)
 
     pub tried-free : (f : FreeDelta) → length rows ≤ k → f ≡ record { is = true; delta = delta } → Tried rows t instance dodagid delta
         → (clock : ℕ) → clock ≤ t → deltaFound f ≡ deltaSeen clock rows t instance dodagid
@@ -223,7 +214,7 @@ module _ (rows : List InstanceRow) (t instance : ℕ) (dodagid : Address) where
         rw g
         (sym (w clock l
         ∙ least-free (deltaTaken (seenAt clock rows []) t instance dodagid) delta d
-        (delta-taken (seenAt clock rows []) clock t l rows refl instance dodagid delta k (rw n at e) ∙ le-ltb k (length rows) h)))
+        (delta-taken clock l ∙ le-ltb k (length rows) h)))
 
   pub tried-all : (delta : ℕ) (f : FreeDelta) → 64 ≤ delta → f ≡ record { is = false; delta = 0 } → Tried rows t instance dodagid delta
       → (clock : ℕ) → clock ≤ t → deltaFound f ≡ deltaSeen clock rows t instance dodagid

@@ -1,6 +1,5 @@
-use mathlib.Core.Path.{sym, _∙_}
 use Rattle.row.specs.Meaning.{routeIn}
-use Rattle.live.proofs.Laws.{route-here, route-far}
+use Rattle.live.proofs.Laws.{routeSort, sort-here, and-false, cond-false}
 use borrow.Author.Needs.{needs}
 use Rattle.live.proofs.is_route.Statement.{statement}
 use Rattle.live.proofs.is_route.Tie as tie
@@ -11,7 +10,7 @@ is-same-requires c κs = search needs
 
 returns : tie.Need-returns
 unfolding routeIn
-returns c = search (route-here, cases)
+returns c = search (sort-here routeSort, cases)
 
 is-same-requires-2 : tie.Need-is-same-requires-2
 is-same-requires-2 c κs = search needs
@@ -22,7 +21,7 @@ does-last-requires c κs = search needs
 returns-2 : tie.Need-returns-2
 unfolding routeIn
 returns-2 c = search (
-  route-here,
+  sort-here routeSort,
   ← c .does-last .ensures,
   c .before .before .before .if3 .taken,
   ← c .before .before .before .before .is-same2 .ensures,
@@ -34,7 +33,7 @@ returns-2 c = search (
 returns-3 : tie.Need-returns-3
 unfolding routeIn
 returns-3 c = search (
-  route-here,
+  sort-here routeSort,
   c .before .before .if3 .taken,
   ← c .before .before .before .is-same2 .ensures,
   c .before .before .before .before .before .before .before .if1 .taken,
@@ -44,12 +43,11 @@ returns-3 c = search (
 
 returns-4 : tie.Need-returns-4
 unfolding routeIn
-returns-4 c = search (route-here, c .if3 .left, ← c .before .is-same2 .ensures, cases)
+returns-4 c = search (sort-here routeSort, c .if3 .left, ← c .before .is-same2 .ensures, cases)
 
 returns-5 : tie.Need-returns-5
-returns-5 c =
-    let a = c .before .before .before .args in
-    sym (route-far (a .t) (a .source) (a .destination) (a .instance) (a .r) (sym (c .before .is-same .ensures) ∙ c .if1 .left))
+unfolding routeIn
+returns-5 c = search (sort-here routeSort, c .if1 .left, ← c .before .is-same .ensures, and-false, cond-false, cases)
 
 pub is-route-spec : {M : Type 1} → statement M
 is-route-spec =

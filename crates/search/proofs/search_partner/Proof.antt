@@ -1,7 +1,10 @@
 pub mod Lts
 pub mod Tie
+use mathlib.Core.Path.{ap}
 use denote.Ref.{now}
-use Rattle.search.proofs.Laws.{partner-hit, partner-miss}
+use Rattle.message.specs.Message.{requestFound}
+use Rattle.search.specs.Seen.{partnerSeen}
+use Rattle.search.proofs.Laws.{partnerAsk, hit, miss}
 use borrow.Author.Needs.{needs}
 use Rattle.search.proofs.search_partner.Statement.{statement}
 use Rattle.search.proofs.search_partner.Proof.Tie as tie
@@ -21,13 +24,22 @@ found-requires : tie.Need-found-requires
 found-requires c = search needs
 
 returns : tie.Need-returns
-returns c = partner-hit (now (c .before .before .before .before .args .rows)) (c .before .before .before .before .args .t) (c .before .before .before .before .args .instance) (c .before .before .before .before .args .dodagid) (c .before .before .before .before .args .h) (c .before .before .before .find-partner .result) (c .found .result) (c .before .before .before .find-partner .ensures) (c .before .before .if1 .taken) (c .found .ensures)
+unfolding requestFound partnerSeen
+returns c = let a = c .before .before .before .before .args in
+    let k = c .before .before .before .find-partner in
+    let f = c .found in
+    let low = c .before .before .if1 .taken in
+    hit (a .t) (partnerAsk (a .t) (a .instance) (a .dodagid) (a .h)) (now (a .rows)) (k .result) (k .ensures) (requestFound (f .result)) low (ap requestFound (f .ensures))
 
 not-found-requires : tie.Need-not-found-requires
 not-found-requires c = search needs
 
 returns-2 : tie.Need-returns-2
-returns-2 c = partner-miss (now (c .before .before .before .args .rows)) (c .before .before .before .args .t) (c .before .before .before .args .instance) (c .before .before .before .args .dodagid) (c .before .before .before .args .h) (c .before .before .find-partner .result) (c .not-found .result) (c .before .before .find-partner .ensures) (c .before .if1 .left) (c .not-found .ensures)
+unfolding requestFound partnerSeen
+returns-2 c = let a = c .before .before .before .args in
+    let k = c .before .before .find-partner in
+    let f = c .not-found in
+    miss (a .t) (partnerAsk (a .t) (a .instance) (a .dodagid) (a .h)) (now (a .rows)) (k .result) (k .ensures) (requestFound (f .result)) (c .before .if1 .left) (ap requestFound (f .ensures))
 
 pub search-partner-spec : {M : Type 1} → statement M
 search-partner-spec = tie.close (tie.spec find-partner-requires mul-found shared-slice-copy-out-found found-requires returns not-found-requires returns-2)

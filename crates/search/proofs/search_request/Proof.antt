@@ -1,8 +1,12 @@
 pub mod Lts
 pub mod Tie
+use mathlib.Core.Path.{sym, ap}
 use denote.Ref.{now}
-use Rattle.first.proofs.Found.{request-live}
-use Rattle.search.proofs.Laws.{request-hit, request-miss, request-kind, request-no-kind, live-hit, live-miss}
+use borrow.Author.Tests.{eqb-true}
+use Rattle.lemmas.proofs.Choice.{true-false}
+use Rattle.message.specs.Message.{requestFound}
+use Rattle.search.specs.Seen.{requestSeen}
+use Rattle.search.proofs.Laws.{requestAsk, hit, miss, hit-live, hit-kind, live-hit, live-miss}
 use borrow.Author.Needs.{needs}
 use Rattle.search.proofs.search_request.Statement.{statement}
 use Rattle.search.proofs.search_request.Proof.Tie as tie
@@ -22,13 +26,22 @@ found-requires : tie.Need-found-requires
 found-requires c = search needs
 
 returns : tie.Need-returns
-returns c = ((request-hit (now (c .before .before .before .before .args .rows)) (c .before .before .before .before .args .t) (c .before .before .before .before .args .instance) (c .before .before .before .before .args .dodagid) (c .before .before .before .find-request .result) (c .found .result) (c .before .before .before .find-request .ensures) (c .before .before .if1 .taken) (c .found .ensures), request-kind (now (c .before .before .before .before .args .rows)) (c .before .before .before .before .args .t) (c .before .before .before .before .args .instance) (c .before .before .before .before .args .dodagid) (c .before .before .before .find-request .result) (c .found .result) (c .before .before .before .find-request .ensures) (c .before .before .if1 .taken) (c .found .ensures)), live-hit (now (c .before .before .before .before .args .rows)) (c .found .result) (c .before .before .before .find-request .result) (c .found .ensures) (c .before .before .before .before .args .t) (c .before .before .if1 .taken) (request-live (now (c .before .before .before .before .args .rows)) (c .before .before .before .before .args .t) (c .before .before .before .before .args .instance) (c .before .before .before .before .args .dodagid) (c .before .before .before .find-request .result) (c .before .before .before .find-request .ensures) (c .before .before .if1 .taken)))
+unfolding requestFound requestSeen
+returns c = let a = c .before .before .before .before .args in
+    let k = c .before .before .before .find-request in
+    let f = c .found in
+    let low = c .before .before .if1 .taken in
+    ((hit (a .t) (requestAsk (a .t) (a .instance) (a .dodagid)) (now (a .rows)) (k .result) (k .ensures) (requestFound (f .result)) low (ap requestFound (f .ensures)), λ _. rw (f .ensures) (eqb-true _ 1 (hit-kind (a .t) (requestAsk (a .t) (a .instance) (a .dodagid)) (now (a .rows)) (k .result) (k .ensures) low))), live-hit (now (a .rows)) (f .result) (k .result) (f .ensures) (a .t) low (hit-live (a .t) (requestAsk (a .t) (a .instance) (a .dodagid)) (now (a .rows)) (k .result) (k .ensures) low))
 
 not-found-requires : tie.Need-not-found-requires
 not-found-requires c = search needs
 
 returns-2 : tie.Need-returns-2
-returns-2 c = ((request-miss (now (c .before .before .before .args .rows)) (c .before .before .before .args .t) (c .before .before .before .args .instance) (c .before .before .before .args .dodagid) (c .before .before .find-request .result) (c .not-found .result) (c .before .before .find-request .ensures) (c .before .if1 .left) (c .not-found .ensures), request-no-kind (now (c .before .before .before .args .rows)) (c .before .before .before .args .t) (c .before .before .before .args .instance) (c .before .before .before .args .dodagid) (c .before .before .find-request .result) (c .not-found .result) (c .not-found .ensures)), live-miss (now (c .before .before .before .args .rows)) (c .not-found .result) (c .before .before .find-request .result) (c .not-found .ensures) (c .before .before .before .args .t))
+unfolding requestFound requestSeen
+returns-2 c = let a = c .before .before .before .args in
+    let k = c .before .before .find-request in
+    let f = c .not-found in
+    ((miss (a .t) (requestAsk (a .t) (a .instance) (a .dodagid)) (now (a .rows)) (k .result) (k .ensures) (requestFound (f .result)) (c .before .if1 .left) (ap requestFound (f .ensures)), rw (f .ensures) (λ q. true-false (sym q))), live-miss (now (a .rows)) (f .result) (k .result) (f .ensures) (a .t))
 
 pub search-request-spec : {M : Type 1} → statement M
 search-request-spec = tie.close (tie.spec find-request-requires mul-found shared-slice-copy-out-found found-requires returns not-found-requires returns-2)

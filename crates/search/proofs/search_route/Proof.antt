@@ -1,8 +1,10 @@
 pub mod Lts
 pub mod Tie
+use mathlib.Core.Path.{ap}
 use denote.Ref.{now}
-use Rattle.first.proofs.Found.{route-live}
-use Rattle.search.proofs.Laws.{route-hit, route-miss, live-route-hit, live-route-miss}
+use Rattle.message.specs.Message.{routeFound}
+use Rattle.search.specs.Seen.{routeSeen}
+use Rattle.search.proofs.Laws.{routeAsk, hit, miss, hit-live, live-route-hit, live-route-miss}
 use borrow.Author.Needs.{needs}
 use Rattle.search.proofs.search_route.Statement.{statement}
 use Rattle.search.proofs.search_route.Proof.Tie as tie
@@ -22,13 +24,22 @@ found-route-requires : tie.Need-found-route-requires
 found-route-requires c = search needs
 
 returns : tie.Need-returns
-returns c = (route-hit (now (c .before .before .before .before .args .routes)) (c .before .before .before .before .args .t) (c .before .before .before .before .args .source) (c .before .before .before .before .args .destination) (c .before .before .before .before .args .instance) (c .before .before .before .find-route .result) (c .found-route .result) (c .before .before .before .find-route .ensures) (c .before .before .if1 .taken) (c .found-route .ensures), live-route-hit (now (c .before .before .before .before .args .routes)) (c .found-route .result) (c .before .before .before .find-route .result) (c .found-route .ensures) (c .before .before .before .before .args .t) (c .before .before .if1 .taken) (route-live (now (c .before .before .before .before .args .routes)) (c .before .before .before .before .args .t) (c .before .before .before .before .args .source) (c .before .before .before .before .args .destination) (c .before .before .before .before .args .instance) (c .before .before .before .find-route .result) (c .before .before .before .find-route .ensures) (c .before .before .if1 .taken)))
+unfolding routeFound routeSeen
+returns c = let a = c .before .before .before .before .args in
+    let k = c .before .before .before .find-route in
+    let f = c .found-route in
+    let low = c .before .before .if1 .taken in
+    (hit (a .t) (routeAsk (a .t) (a .source) (a .destination) (a .instance)) (now (a .routes)) (k .result) (k .ensures) (routeFound (f .result)) low (ap routeFound (f .ensures)), live-route-hit (now (a .routes)) (f .result) (k .result) (f .ensures) (a .t) low (hit-live (a .t) (routeAsk (a .t) (a .source) (a .destination) (a .instance)) (now (a .routes)) (k .result) (k .ensures) low))
 
 no-route-found-requires : tie.Need-no-route-found-requires
 no-route-found-requires c = search needs
 
 returns-2 : tie.Need-returns-2
-returns-2 c = (route-miss (now (c .before .before .before .args .routes)) (c .before .before .before .args .t) (c .before .before .before .args .source) (c .before .before .before .args .destination) (c .before .before .before .args .instance) (c .before .before .find-route .result) (c .no-route-found .result) (c .before .before .find-route .ensures) (c .before .if1 .left) (c .no-route-found .ensures), live-route-miss (now (c .before .before .before .args .routes)) (c .no-route-found .result) (c .before .before .find-route .result) (c .no-route-found .ensures) (c .before .before .before .args .t))
+unfolding routeFound routeSeen
+returns-2 c = let a = c .before .before .before .args in
+    let k = c .before .before .find-route in
+    let f = c .no-route-found in
+    (miss (a .t) (routeAsk (a .t) (a .source) (a .destination) (a .instance)) (now (a .routes)) (k .result) (k .ensures) (routeFound (f .result)) (c .before .if1 .left) (ap routeFound (f .ensures)), live-route-miss (now (a .routes)) (f .result) (k .result) (f .ensures) (a .t))
 
 pub search-route-spec : {M : Type 1} → statement M
 search-route-spec = tie.close (tie.spec find-route-requires mul-found-route shared-slice-copy-out-found-route found-route-requires returns no-route-found-requires returns-2)
