@@ -7,10 +7,10 @@ use mathlib.Core.Option.{Option, some, none}
 use native.Mathlib.Omega.{arith}
 use lib.Dec.{eqb}
 use borrow.Author.Tests.{eqb-true, eq-eqb, not-false}
-use Rattle.plain.specs.Lists.{same, given}
+use Rattle.plain.specs.Lists.{same, given, firstOf}
 use Rattle.plain.specs.Given.{Settings, Lent, Received, Start, Event, RequestRow, ReplyRow, Instance, Route, State}
 use Rattle.plain.specs.Table.{Numbered, Change, put, lasts, instanceDeadline, routeDeadline}
-use Rattle.plain.specs.Answers.{answerOf, viewOf, asRequest, asReply, replies, requestFor, replyFor, routeFor, liveRequest, liveReply, liveRoute}
+use Rattle.plain.specs.Answers.{answerOf, viewOf, asReply, replies, routeFor, liveRequest, liveRoute}
 use Rattle.plain.specs.Octets.{Message, messageOf}
 use Rattle.plain.specs.Rank.{stepped}
 use Rattle.plain.specs.Request.{Asked, Accepted, rowOfRequest, leastDelta, deltaTaken, freeDelta, askedWith, asked, repliesNow, requestLines, requestRow, ownReplyRow, routeRow, routeChange, withReplyRow, deltaOr0, acceptRequest, startTargets, startLines, startRow, acceptStart}
@@ -18,66 +18,14 @@ use Rattle.plain.specs.Reply.{origNode, destSeq, partnerNumber, partnerOf, answ
 use Rattle.plain.specs.Plain.{linesWith, messageLines, lines, acceptWith, acceptMessage, accept}
 use Rattle.plain.specs.declared.Target.{Target}
 use Rattle.lemmas.proofs.Choice.{true-false, and-left, and-right, and-both}
+use Rattle.lemmas.proofs.Same.{same-equal}
 use Rattle.memory.proofs.Each.{All, any-none, picked}
 use Rattle.memory.proofs.Tables.{Rows}
 use Rattle.memory.proofs.Lines.{unheld, heard, begun}
-use Rattle.memory.proofs.Good.{requests-picked, replies-picked}
-use Rattle.memory.proofs.Keys.{Key, instanceKey, routeKey, key-path, same-true, eq-same, Other, Keyed, Tells, none-kept, new-more, free-found, put-keyed}
+use Rattle.memory.proofs.Keys.{Key, instanceKey, routeKey, key-path, eq-same, Other, Keyed, Tells, none-kept, new-more, free-found, put-keyed}
+use Rattle.memory.proofs.Kind.{Kind, requestKind, replyKind, other-kind, rowFor, tells}
 
 -- ---- The tests by which rows are looked for tell their keys
-
--- the key of an instance row of a kind
-abbrev pub keyOf : ℕ → ℕ → List ℕ → Key
-keyOf kind number address = record { kind = kind; number = number; one = address; other = [] }
-
-test-hit : (kind a i : ℕ) (xs ys : List ℕ) (l : Bool) → eqb a i && same xs ys && l ≡ true → keyOf kind i ys ≡ keyOf kind a xs
-test-hit kind a i xs ys l e =
-    let k = and-left (eqb a i && same xs ys) l e in
-    key-path kind i a ys xs [] [] (sym (eqb-true a i (and-left (eqb a i) (same xs ys) k)))
-    (sym (same-true xs ys (and-right (eqb a i) (same xs ys) k))) refl
-
-test-miss : (kind a i : ℕ) (xs ys : List ℕ) (l : Bool) → eqb a i && same xs ys && l ≡ false → l ≡ true → keyOf kind a xs ≡ keyOf kind i ys → ⊥
-test-miss kind a i xs ys l e h z =
-    true-false (sym (and-both (eqb a i && same xs ys) l
-    (and-both (eqb a i) (same xs ys) (eq-eqb a i (ap (λ (y : Key). y .number) z)) (eq-same xs ys (ap (λ (y : Key). y .one) z))) h) ∙ e)
-
-other-kind : (k l : Key) → (k .kind ≡ l .kind → ⊥) → k ≡ l → ⊥
-other-kind k l f z = f (ap (λ (y : Key). y .kind) z)
-
-tells-request : (t : ℕ) (q : RequestRow)
-    → Tells instanceDeadline instanceKey asRequest (λ (n : Numbered RequestRow). requestFor t (q .instance) (q .dodagid) (n .row))
-    (Instance.request q) t
-tells-request t q = record { hit = hit; miss = miss }
-  where
-    test : Numbered RequestRow → Bool
-    test n = requestFor t (q .instance) (q .dodagid) (n .row)
-
-    hit : (i : ℕ) (r : Instance)
-        → All (λ (n : Numbered RequestRow). (n .number ≡ i) × (test n ≡ true → instanceKey (Instance.request q) ≡ instanceKey r)) (asRequest i r)
-    hit i (Instance.request r) = ((refl, test-hit 0 (r .instance) (q .instance) (r .dodagid) (q .dodagid) (lasts t (r .deadline))), tt)
-    hit i (Instance.reply r) = tt
-
-    miss : (i : ℕ) (r : Instance) → All (λ (n : Numbered RequestRow). test n ≡ false) (asRequest i r)
-        → Other instanceDeadline instanceKey t (instanceKey (Instance.request q)) r
-    miss i (Instance.request r) k = test-miss 0 (r .instance) (q .instance) (r .dodagid) (q .dodagid) (lasts t (r .deadline)) (k .0)
-    miss i (Instance.reply r) k = λ l. other-kind (instanceKey (Instance.reply r)) (instanceKey (Instance.request q)) (omega arith)
-
-tells-reply : (t : ℕ) (q : ReplyRow)
-    → Tells instanceDeadline instanceKey asReply (λ (n : Numbered ReplyRow). replyFor t (q .instance) (q .dodagid) (n .row)) (Instance.reply q) t
-tells-reply t q = record { hit = hit; miss = miss }
-  where
-    test : Numbered ReplyRow → Bool
-    test n = replyFor t (q .instance) (q .dodagid) (n .row)
-
-    hit : (i : ℕ) (r : Instance)
-        → All (λ (n : Numbered ReplyRow). (n .number ≡ i) × (test n ≡ true → instanceKey (Instance.reply q) ≡ instanceKey r)) (asReply i r)
-    hit i (Instance.request r) = tt
-    hit i (Instance.reply r) = ((refl, test-hit 1 (r .instance) (q .instance) (r .dodagid) (q .dodagid) (lasts t (r .deadline))), tt)
-
-    miss : (i : ℕ) (r : Instance) → All (λ (n : Numbered ReplyRow). test n ≡ false) (asReply i r)
-        → Other instanceDeadline instanceKey t (instanceKey (Instance.reply q)) r
-    miss i (Instance.request r) k = λ l. other-kind (instanceKey (Instance.request r)) (instanceKey (Instance.reply q)) (omega arith)
-    miss i (Instance.reply r) k = test-miss 1 (r .instance) (q .instance) (r .dodagid) (q .dodagid) (lasts t (r .deadline)) (k .0)
 
 -- each route is picked
 abbrev asRoute : ℕ → Route → List (Numbered Route)
@@ -100,8 +48,8 @@ tells-route t q = record { hit = λ i r. ((refl, hit r), tt); miss = λ i r k. m
         let k = and-left (a && b && c) (lasts t (r .deadline)) e in
         let j = and-left (a && b) c k in
         key-path 2 (q .instance) (r .instance) (q .source) (r .source) (q .destination) (r .destination)
-        (sym (eqb-true (r .instance) (q .instance) (and-right (a && b) c k))) (sym (same-true (r .source) (q .source) (and-left a b j)))
-        (sym (same-true (r .destination) (q .destination) (and-right a b j)))
+        (sym (eqb-true (r .instance) (q .instance) (and-right (a && b) c k))) (sym (same-equal (r .source) (q .source) (and-left a b j)))
+        (sym (same-equal (r .destination) (q .destination) (and-right a b j)))
 
     miss : (r : Route) → routeFor t (q .source) (q .destination) (q .instance) r ≡ false → Other routeDeadline routeKey t (routeKey q) r
     miss r e l z =
@@ -125,17 +73,10 @@ module _ (s : State) (t : ℕ) (h : s .clock ≤ t) where
   abbrev pub KeysApart : Accepted → Type 0
   KeysApart a = Instances (a .instances) × Routes (a .routes)
 
-  request-put : (q : RequestRow) → Instances (put (liveRequest (viewOf s) t (q .instance) (q .dodagid)) (Instance.request q))
-  request-put q =
-      rw (requests-picked (viewOf s .instances))
-      (put-keyed instanceDeadline instanceKey asRequest (λ (n : Numbered RequestRow). requestFor t (q .instance) (q .dodagid) (n .row))
-      (Instance.request q) (s .clock) t (s .instances) (tells-request t q) h)
-
-  reply-put : (q : ReplyRow) → Instances (put (liveReply (viewOf s) t (q .instance) (q .dodagid)) (Instance.reply q))
-  reply-put q =
-      rw (replies-picked (viewOf s .instances))
-      (put-keyed instanceDeadline instanceKey asReply (λ (n : Numbered ReplyRow). replyFor t (q .instance) (q .dodagid) (n .row)) (Instance.reply q)
-      (s .clock) t (s .instances) (tells-reply t q) h)
+  kind-put : (K : Kind) (q : K .Row) → Instances (put (firstOf (rowFor K t q) (K .every (viewOf s .instances))) (K .whole q))
+  kind-put K q =
+      rw (K .every-are (viewOf s .instances))
+      (put-keyed instanceDeadline instanceKey (K .pick) (rowFor K t q) (K .whole q) (s .clock) t (s .instances) (tells K t q) h)
 
   route-put : (q : Route) → Routes (put (liveRoute (viewOf s) t (q .source) (q .destination) (q .instance)) q)
   route-put q =
@@ -153,7 +94,7 @@ module _ (s : State) (t : ℕ) (h : s .clock ≤ t) where
   unfolding acceptReply answered answeredWith replyRow routeRow
   with-apart x c m none = ((none-kept instanceDeadline instanceKey 0 (s .instances), tt), (none-kept routeDeadline routeKey 0 (s .routes), tt))
   with-apart x c m (some p) = (
-    reply-put (replyRow t m (answered x (viewOf s) t c m (p .row))),
+    kind-put replyKind (replyRow t m (answered x (viewOf s) t c m (p .row))),
     route-change (m .discovery .h) (routeRow t (origNode m) (m .base .dodagid) (partnerNumber m) (c .neighbour) (destSeq m) (m .configuration)),
   )
 
@@ -181,9 +122,8 @@ module _ (s : State) (t : ℕ) (h : s .clock ≤ t) where
   own-free x own m none e k = true-false (sym e)
   own-free x own m (some d) e k =
       let q : ReplyRow = ownReplyRow x t own m d in
-      let test : Numbered ReplyRow → Bool = λ n. replyFor t (q .instance) (q .dodagid) (n .row) in
-      free-found instanceDeadline instanceKey asReply test (Instance.reply q) (s .clock) t (s .instances) (tells-reply t q) h
-      (rw (replies-picked (viewOf s .instances)) at (any-none test (replies (viewOf s .instances)) k))
+      free-found instanceDeadline instanceKey asReply (rowFor replyKind t q) (Instance.reply q) (s .clock) t (s .instances) (tells replyKind t q) h
+      (rw (replyKind .every-are (viewOf s .instances)) at (any-none (rowFor replyKind t q) (replies (viewOf s .instances)) k))
 
   -- the new rows of a request row put are request rows
   put-kind : {B : Type 0} (o : Option (Numbered B)) (q : RequestRow) (r : ReplyRow)
@@ -222,7 +162,7 @@ module _ (s : State) (t : ℕ) (h : s .clock ≤ t) where
   request-apart x c m e = (
     with-reply (rowOfRequest (viewOf s) t m) (requestRow t c m (asked x (viewOf s) t c m)) (repliesNow (asked x (viewOf s) t c m))
         (ownReplyRow x t (stepped (s .own)) m (deltaOr0 (freeDelta (viewOf s) t (m .base .instance) (x .receiving))))
-        (request-put (requestRow t c m (asked x (viewOf s) t c m)))
+        (kind-put requestKind (requestRow t c m (asked x (viewOf s) t c m)))
         (λ r. own-free x (stepped (s .own)) m (freeDelta (viewOf s) t (m .base .instance) (x .receiving))
         (delta-given x c m (asked x (viewOf s) t c m) e r)
         (least (deltaTaken (viewOf s) t (m .base .instance) (x .receiving)) 0 64)),
@@ -256,7 +196,7 @@ module _ (s : State) (t : ℕ) (h : s .clock ≤ t) where
 
       new : given (liveRequest (viewOf s) t (c .instance) (x .receiving)) ≡ false
           → Rows (Other instanceDeadline instanceKey t (instanceKey (Instance.request q))) (s .instances)
-      new g = go (liveRequest (viewOf s) t (q .instance) (q .dodagid)) (request-put q) g
+      new g = go (liveRequest (viewOf s) t (q .instance) (q .dodagid)) (kind-put requestKind q) g
         where
           go : (o : Option (Numbered RequestRow)) → Instances (put o (Instance.request q)) → given o ≡ false
               → Rows (Other instanceDeadline instanceKey t (instanceKey (Instance.request q))) (s .instances)

@@ -62,6 +62,11 @@ module _ {A : Type 0} (P : A → Type 0) where
   Found p xs none = All (λ (x : A). p x ≡ false) xs
   Found p xs (some x) = P x × (p x ≡ true)
 
+  -- what holds of none and of each that is known so
+  pub found-case : (Q : Option A → Type 0) (p : A → Bool) (xs : List A) (o : Option A) → Q none → ((x : A) → P x → Q (some x)) → Found p xs o → Q o
+  found-case Q p xs none n f h = n
+  found-case Q p xs (some x) n f h = f x (h .0)
+
   pub first-found : (p : A → Bool) (xs : List A) → All P xs → Found p xs (firstOf p xs)
   unfolding firstOf
   first-found p [] h = tt

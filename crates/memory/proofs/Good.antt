@@ -1,8 +1,8 @@
 -- The rules write good rows: at most 8 targets, prefix lengths of at most 127, deadlines of at most 2^41.
 use Prim.Native.Nat.{ℕ, zero, suc, _+_, _*_, _^_, _≤_, _<_}
-use mathlib.Core.Path.{_≡_, refl, ap}
-use mathlib.Core.Bool.{Bool, true, false, cond, not, _&&_}
-use mathlib.Core.List.{List, [], _∷_, _++_, map}
+use mathlib.Core.Path.{_≡_, refl}
+use mathlib.Core.Bool.{Bool, true, false, cond, not}
+use mathlib.Core.List.{List, [], _∷_, map}
 use mathlib.Core.Option.{Option, some, none}
 use native.Mathlib.Omega.{arith}
 use native.Mathlib.Nat.{mul-le-mul, le-refl, le-trans}
@@ -10,11 +10,11 @@ use lib.Dec.{eqb, ltb, leb}
 use lib.ListN.{length, getD, take, drop}
 use lib.Seq.{getD-drop}
 use borrow.Author.Tests.{ltb-false, le-leb}
-use Rattle.plain.specs.Lists.{any, all, once}
+use Rattle.plain.specs.Lists.{any, once}
 use Rattle.plain.specs.Address.{Address}
 use Rattle.plain.specs.Given.{Settings, Lent, Received, Start, Event, RequestRow, ReplyRow, Instance, Route}
 use Rattle.plain.specs.Table.{Numbered, Change, put}
-use Rattle.plain.specs.Answers.{answerOf, View, asRequest, asReply, requestFor, replyFor, liveReply, requests, replies, badStart, goodDeadline, goodInstance, goodRoute}
+use Rattle.plain.specs.Answers.{answerOf, View, requestFor, replyFor, liveReply, requests, replies, badStart, goodDeadline, goodInstance, goodRoute}
 use Rattle.plain.specs.Octets.{Opt, Message, optionsIn, nextOption, sized, followedBy, ofType, optionsOf, configurationType, configurationOf, defaultLifetime, lifetimeUnit, fields, sum, artType, plenOf, targetOf, sameTarget, messageOf, tooMany, mostAddresses, mostTargets}
 use Rattle.plain.specs.Rank.{stepped, rowDeadline, lifetimeDeadline}
 use Rattle.plain.specs.Request.{Accepted, rowOfRequest, routeOfRequest, askedWith, asked, repliesNow, deltaOr0, matchesUs, common, rowTargets, isUpdate, targetsKept, keptDeadline, requestRow, ownReplyRow, routeRow, routeChange, withReplyRow, acceptRequest, wholeBits, startTargets, startRow, acceptStart}
@@ -22,10 +22,11 @@ use Rattle.plain.specs.Reply.{origNode, destSeq, partnerNumber, answeredWith, a
 use Rattle.plain.specs.Plain.{lines, acceptWith, acceptMessage, accept}
 use Rattle.plain.specs.declared.Target.{Target}
 use Rattle.plain.specs.declared.Standing.{Standing}
-use Rattle.lemmas.proofs.Choice.{cond-case, and-right, or-right}
+use Rattle.lemmas.proofs.Choice.{cond-case, or-right}
 use Rattle.memory.specs.Facts.{ProperEvent}
-use Rattle.memory.proofs.Each.{All, Found, all-each, all-weaken, all-append, all-those, all-once, all-map, first-found, all-true, any-none, those-less, picked, all-picked}
+use Rattle.memory.proofs.Each.{All, all-each, all-weaken, all-append, all-those, all-once, all-map, found-case, all-true, any-none, those-less}
 use Rattle.memory.proofs.Tables.{Writes}
+use Rattle.memory.proofs.Kind.{requestKind, replyKind, Lasts, found-lasts}
 use Rattle.memory.proofs.Lines.{none-of-six, heard, begun, accepted-time}
 
 -- ---- Octets
@@ -175,16 +176,6 @@ start-short c e =
 
 -- ---- The live rows that are seen
 
-pub requests-picked : (ns : List (Numbered Instance)) → requests ns ≡ picked asRequest ns
-unfolding requests picked
-requests-picked [] = refl
-requests-picked (n ∷ ns) = ap (λ (rest : List (Numbered RequestRow)). asRequest (n .number) (n .row) ++ rest) (requests-picked ns)
-
-pub replies-picked : (ns : List (Numbered Instance)) → replies ns ≡ picked asReply ns
-unfolding replies picked
-replies-picked [] = refl
-replies-picked (n ∷ ns) = ap (λ (rest : List (Numbered ReplyRow)). asReply (n .number) (n .row) ++ rest) (replies-picked ns)
-
 abbrev pub GoodInstance : Instance → Type 0
 GoodInstance r = goodInstance r ≡ true
 
@@ -193,23 +184,6 @@ GoodRoute r = goodRoute r ≡ true
 
 abbrev pub GoodView : View → Type 0
 GoodView v = All (λ (n : Numbered Instance). GoodInstance (n .row)) (v .instances)
-
-abbrev RequestLasts : Numbered RequestRow → Type 0
-RequestLasts n = Deadline (n .row .deadline)
-
-abbrev ReplyLasts : Numbered ReplyRow → Type 0
-ReplyLasts n = Deadline (n .row .deadline)
-
-seen-request : (i : ℕ) (r : Instance) → GoodInstance r → All RequestLasts (asRequest i r)
-unfolding goodInstance
-seen-request i (Instance.request r) g =
-    (and-right (leb (length (r .targets)) mostTargets && all (λ (t : Target). leb (t .plen) 127) (r .targets)) (goodDeadline (r .deadline)) g, tt)
-seen-request i (Instance.reply r) g = tt
-
-seen-reply : (i : ℕ) (r : Instance) → GoodInstance r → All ReplyLasts (asReply i r)
-unfolding goodInstance
-seen-reply i (Instance.request r) g = tt
-seen-reply i (Instance.reply r) g = (g, tt)
 
 -- ---- Rows
 
@@ -226,18 +200,6 @@ route-row : (t : ℕ) (source destination : Address) (instance : ℕ) (nextHop :
     → OctetsIf configuration → GoodRoute (routeRow t source destination instance nextHop seq configuration)
 unfolding goodRoute routeRow
 route-row t source destination instance nextHop seq configuration h o = lifetime-deadline t configuration h o
-
-request-deadline : (p : Numbered RequestRow → Bool) (ns : List (Numbered RequestRow)) (st : Standing) (row : Option (Numbered RequestRow)) (t l : ℕ)
-    → t ≤ 2 ^ 40 → Found RequestLasts p ns row → Deadline (keptDeadline st row t l)
-unfolding keptDeadline
-request-deadline p ns st none t l h g = row-deadline t l h
-request-deadline p ns st (some n) t l h g = chosen-deadline (isUpdate st) (n .row .deadline) t l h (g .0)
-
-reply-deadline : (p : Numbered ReplyRow → Bool) (ns : List (Numbered ReplyRow)) (st : Standing) (row : Option (Numbered ReplyRow)) (t l : ℕ)
-    → t ≤ 2 ^ 40 → Found ReplyLasts p ns row → Deadline (keptReplyDeadline st row t l)
-unfolding keptReplyDeadline
-reply-deadline p ns st none t l h g = row-deadline t l h
-reply-deadline p ns st (some n) t l h g = chosen-deadline (isUpdate st) (n .row .deadline) t l h (g .0)
 
 -- ---- Changes
 
@@ -279,13 +241,15 @@ fit msg o e = record {
 
 module _ (x : Settings) (v : View) (t : ℕ) (h : t ≤ 2 ^ 40) (g : GoodView v) where
   request-writes : (c : Received) (m : Message) → Fit m → WritesGood (acceptRequest x (v .own) t c m (asked x v t c m))
-  unfolding acceptRequest asked askedWith requestRow ownReplyRow
+  unfolding acceptRequest asked askedWith requestRow ownReplyRow keptDeadline
   request-writes c m f = (
     with-reply-writes (put (rowOfRequest v t m) (Instance.request row)) (repliesNow (asked x v t c m)) own
         (put-writes GoodInstance (rowOfRequest v t m) (Instance.request row)
         (request-row row (le-trans (kept-less x st (rowOfRequest v t m) (m .targets)) (f .count))
         (kept-short x st (rowOfRequest v t m) (m .targets) (f .targets))
-        (request-deadline test (requests (v .instances)) st (rowOfRequest v t m) t (m .discovery .l) h found)))
+        (found-case (Lasts requestKind) (λ o. Deadline (keptDeadline st o t (m .discovery .l))) test (requests (v .instances)) (rowOfRequest v t m)
+        (row-deadline t (m .discovery .l) h) (λ n k. chosen-deadline (isUpdate st) (n .row .deadline) t (m .discovery .l) h k)
+        (found-lasts requestKind test (v .instances) g))))
         (reply-row own (row-deadline t (m .discovery .l) h)),
     route-writes (m .discovery .h) (routeOfRequest x v t m)
         (routeRow t (x .receiving) (m .base .dodagid) (m .base .instance) (c .neighbour) (m .discovery .number) (m .configuration))
@@ -305,18 +269,15 @@ module _ (x : Settings) (v : View) (t : ℕ) (h : t ≤ 2 ^ 40) (g : GoodView v)
       test : Numbered RequestRow → Bool
       test n = requestFor t (m .base .instance) (m .base .dodagid) (n .row)
 
-      found : Found RequestLasts test (requests (v .instances)) (rowOfRequest v t m)
-      found = first-found RequestLasts test (requests (v .instances))
-          (rw (requests-picked (v .instances))
-          (all-picked asRequest (λ (n : Numbered Instance). GoodInstance (n .row)) RequestLasts (λ n k. seen-request (n .number) (n .row) k)
-          (v .instances) g))
-
   reply-writes : (c : Received) (m : Message) (p : RequestRow) → Fit m → WritesGood (acceptReply x (v .own) t c m (answered x v t c m p))
-  unfolding acceptReply answered answeredWith replyRow
+  unfolding acceptReply answered answeredWith replyRow keptReplyDeadline
   reply-writes c m p f = (
     put-writes GoodInstance live (Instance.reply (replyRow t m (answered x v t c m p)))
         (reply-row (replyRow t m (answered x v t c m p))
-        (reply-deadline test (replies (v .instances)) (answered x v t c m p .standing) live t (m .discovery .l) h found)),
+        (found-case (Lasts replyKind) (λ o. Deadline (keptReplyDeadline (answered x v t c m p .standing) o t (m .discovery .l))) test
+        (replies (v .instances)) live (row-deadline t (m .discovery .l) h)
+        (λ n k. chosen-deadline (isUpdate (answered x v t c m p .standing)) (n .row .deadline) t (m .discovery .l) h k)
+        (found-lasts replyKind test (v .instances) g))),
     route-writes (m .discovery .h) (answered x v t c m p .route)
         (routeRow t (origNode m) (m .base .dodagid) (partnerNumber m) (c .neighbour) (destSeq m) (m .configuration))
         (route-row t (origNode m) (m .base .dodagid) (partnerNumber m) (c .neighbour) (destSeq m) (m .configuration) h (f .configuration)),
@@ -327,12 +288,6 @@ module _ (x : Settings) (v : View) (t : ℕ) (h : t ≤ 2 ^ 40) (g : GoodView v)
 
       test : Numbered ReplyRow → Bool
       test n = replyFor t (m .base .instance) (m .base .dodagid) (n .row)
-
-      found : Found ReplyLasts test (replies (v .instances)) live
-      found = first-found ReplyLasts test (replies (v .instances))
-          (rw (replies-picked (v .instances))
-          (all-picked asReply (λ (n : Numbered Instance). GoodInstance (n .row)) ReplyLasts (λ n k. seen-reply (n .number) (n .row) k)
-          (v .instances) g))
 
   with-writes : (c : Received) (m : Message) (p : Option (Numbered RequestRow)) → Fit m → WritesGood (acceptWith x c m v t p)
   with-writes c m none f = ((tt, tt), (tt, tt))

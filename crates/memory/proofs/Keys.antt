@@ -1,6 +1,6 @@
 -- No two live rows of a table have the same key.
 use Prim.Native.Nat.{ℕ, zero, suc, _≤_, _<_}
-use mathlib.Core.Path.{_≡_, refl, sym, ap₂, _∙_}
+use mathlib.Core.Path.{_≡_, refl, sym, _∙_}
 use mathlib.Core.Bool.{Bool, true, false, cond}
 use mathlib.Core.List.{List, [], _∷_, _++_}
 use mathlib.Core.Option.{Option, some, none}
@@ -8,11 +8,11 @@ use native.Mathlib.Omega.{arith}
 use native.Mathlib.Nat.{le-refl}
 use lib.Dec.{eqb}
 use lib.ListN.{replicate}
-use borrow.Author.Tests.{eqb-true, eq-eqb, ne-eqb}
+use borrow.Author.Tests.{eq-eqb, ne-eqb}
 use Rattle.plain.specs.Lists.{same, firstOf}
 use Rattle.plain.specs.Given.{Instance, Route}
 use Rattle.plain.specs.Table.{Numbered, Change, put, lasts, becomes, live, liveFrom, placedFrom, placed}
-use Rattle.lemmas.proofs.Choice.{cond-case, true-false, and-left, and-right, and-both}
+use Rattle.lemmas.proofs.Choice.{cond-case, true-false, and-both}
 use Rattle.memory.proofs.Each.{All, Pairs, Found, all-weaken, all-append, first-found, picked, all-picked, picked-all}
 use Rattle.memory.proofs.Tables.{Rows, rows-weaken, rows-tail, lasts-later, kept, placed-rest, placed-live, placed-dead, Becomes, placed-rows}
 
@@ -37,14 +37,6 @@ pub key-path : (kind : ℕ) (n m : ℕ) (xs ys us vs : List ℕ) → n ≡ m →
 key-path kind n m xs ys us vs e f g = λ i. record { kind = kind; number = e i; one = f i; other = g i }
 
 -- the test of two lists of numbers
-pub same-true : (xs ys : List ℕ) → same xs ys ≡ true → xs ≡ ys
-unfolding same
-same-true [] [] e = refl
-same-true [] (y ∷ ys) e = true-false (sym e)
-same-true (x ∷ xs) [] e = true-false (sym e)
-same-true (x ∷ xs) (y ∷ ys) e =
-    ap₂ _∷_ (eqb-true x y (and-left (eqb x y) (same xs ys) e)) (same-true xs ys (and-right (eqb x y) (same xs ys) e))
-
 same-self : (xs : List ℕ) → same xs xs ≡ true
 unfolding same
 same-self [] = refl

@@ -7,9 +7,10 @@ pub mod Lines
 pub mod Step
 pub mod Memory
 -- facts: good rows, the own number, keys, no wrong state
+pub mod Keys
+pub mod Kind
 pub mod Good
 pub mod Own
-pub mod Keys
 pub mod Apart
 pub mod Sound
 pub mod Facts

@@ -8,21 +8,23 @@ use native.Mathlib.Omega.{arith}
 use lib.Dec.{eqb}
 use borrow.Author.Tests.{eqb-true, eq-eqb, ne-eqb}
 use Rattle.plain.specs.Lists.{anyTwo, same}
-use Rattle.plain.specs.Given.{Settings, Lent, Received, Event, Call, RequestRow, ReplyRow, Instance, Route, State}
+use Rattle.plain.specs.Given.{Settings, Lent, Received, Event, Call, RequestRow, Route, State}
 use Rattle.plain.specs.Table.{Numbered, Change, placed, instanceDeadline, routeDeadline}
-use Rattle.plain.specs.Answers.{Line, answerOf, View, viewOf, goodInstance, goodRoute, allGood, goodState, asRequest, asReply, requests, replies, requestTwins, replyTwins, routeTwins, wrongState}
+use Rattle.plain.specs.Answers.{Line, answerOf, View, viewOf, goodInstance, goodRoute, allGood, goodState, requests, replies, requestTwins, replyTwins, routeTwins, wrongState}
 use Rattle.plain.specs.Octets.{Message, messageOf}
 use Rattle.plain.specs.Request.{asked, requestLines, startLines}
 use Rattle.plain.specs.Reply.{partnerOf, replyLines}
 use Rattle.plain.specs.Plain.{linesWith, messageLines, lines, Result, step}
 use Rattle.lemmas.proofs.Choice.{cond-case, true-false, and-left, and-right, and-both}
+use Rattle.lemmas.proofs.Same.{same-equal}
 use Rattle.memory.specs.Facts.{ProperEvent}
-use Rattle.memory.proofs.Each.{All, Pairs, pairs-none, pairs-weaken, picked, pairs-picked}
+use Rattle.memory.proofs.Each.{All, Pairs, pairs-none, pairs-weaken}
 use Rattle.memory.proofs.Lines.{accepted-time}
 use Rattle.memory.proofs.Tables.{Rows, Writes, rows-good, rows-live, placed-rows, writes-become}
-use Rattle.memory.proofs.Good.{requests-picked, replies-picked, GoodInstance, GoodRoute, accept-writes}
-use Rattle.memory.proofs.Keys.{Key, instanceKey, routeKey, key-path, same-true, Distinct, distinct-live, keyed-placed}
-use Rattle.memory.proofs.Apart.{keyOf, accept-apart}
+use Rattle.memory.proofs.Good.{GoodInstance, GoodRoute, accept-writes}
+use Rattle.memory.proofs.Keys.{instanceKey, routeKey, key-path, Distinct, distinct-live, keyed-placed}
+use Rattle.memory.proofs.Kind.{requestKind, replyKind, apart-test, no-twins}
+use Rattle.memory.proofs.Apart.{accept-apart}
 use Rattle.memory.proofs.Step.{outcome, step-case}
 use Rattle.memory.proofs.Own.{Own, step-own}
 
@@ -83,68 +85,6 @@ step-sound x s c o g =
 
 -- ---- A sound state is not wrong
 
--- a test that tells one key from another
-apart-test : (b : Bool) (k l : Key) → (b ≡ true → l ≡ k) → (l ≡ k → ⊥) → b ≡ false
-apart-test true k l f g = absurd (g (f refl))
-apart-test false k l f g = refl
-
-pair-equal : (kind a i : ℕ) (xs ys : List ℕ) → eqb a i && same xs ys ≡ true → keyOf kind i ys ≡ keyOf kind a xs
-pair-equal kind a i xs ys e =
-    key-path kind i a ys xs [] [] (sym (eqb-true a i (and-left (eqb a i) (same xs ys) e)))
-    (sym (same-true xs ys (and-right (eqb a i) (same xs ys) e))) refl
-
--- two rows that are seen have other keys
-abbrev RowsApart : Numbered Instance → Numbered Instance → Type 0
-RowsApart n m = instanceKey (m .row) ≡ instanceKey (n .row) → ⊥
-
-no-requests : (ns : List (Numbered Instance)) → Pairs RowsApart ns → anyTwo requestTwins (requests ns) ≡ false
-no-requests ns h =
-    rw (requests-picked ns)
-    (pairs-none requestTwins (picked asRequest ns)
-    (pairs-picked asRequest RowsApart (λ a b. requestTwins a b ≡ false) one (λ n m. two (n .number) (m .number) (n .row) (m .row)) ns h))
-  where
-    one : (i : ℕ) (r : Instance) → Pairs (λ (a b : Numbered RequestRow). requestTwins a b ≡ false) (asRequest i r)
-    one i (Instance.request r) = (tt, tt)
-    one i (Instance.reply r) = tt
-
-    two : (i j : ℕ) (p q : Instance) → (instanceKey q ≡ instanceKey p → ⊥)
-        → All (λ (a : Numbered RequestRow). All (λ (b : Numbered RequestRow). requestTwins a b ≡ false) (asRequest j q)) (asRequest i p)
-    two i j (Instance.request p) (Instance.request q) f = (
-      (
-        apart-test (eqb (p .instance) (q .instance) && same (p .dodagid) (q .dodagid)) (instanceKey (Instance.request p))
-            (instanceKey (Instance.request q))
-            (pair-equal 0 (p .instance) (q .instance) (p .dodagid) (q .dodagid)) f,
-        tt,
-      ),
-      tt,
-    )
-    two i j (Instance.request p) (Instance.reply q) f = (tt, tt)
-    two i j (Instance.reply p) q f = tt
-
-no-replies : (ns : List (Numbered Instance)) → Pairs RowsApart ns → anyTwo replyTwins (replies ns) ≡ false
-no-replies ns h =
-    rw (replies-picked ns)
-    (pairs-none replyTwins (picked asReply ns)
-    (pairs-picked asReply RowsApart (λ a b. replyTwins a b ≡ false) one (λ n m. two (n .number) (m .number) (n .row) (m .row)) ns h))
-  where
-    one : (i : ℕ) (r : Instance) → Pairs (λ (a b : Numbered ReplyRow). replyTwins a b ≡ false) (asReply i r)
-    one i (Instance.request r) = tt
-    one i (Instance.reply r) = (tt, tt)
-
-    two : (i j : ℕ) (p q : Instance) → (instanceKey q ≡ instanceKey p → ⊥)
-        → All (λ (a : Numbered ReplyRow). All (λ (b : Numbered ReplyRow). replyTwins a b ≡ false) (asReply j q)) (asReply i p)
-    two i j (Instance.reply p) (Instance.reply q) f = (
-      (
-        apart-test (eqb (p .instance) (q .instance) && same (p .dodagid) (q .dodagid)) (instanceKey (Instance.reply p))
-            (instanceKey (Instance.reply q))
-            (pair-equal 1 (p .instance) (q .instance) (p .dodagid) (q .dodagid)) f,
-        tt,
-      ),
-      tt,
-    )
-    two i j (Instance.reply p) (Instance.request q) f = (tt, tt)
-    two i j (Instance.request p) q f = tt
-
 no-routes : (ns : List (Numbered Route)) → Pairs (λ (n m : Numbered Route). routeKey (m .row) ≡ routeKey (n .row) → ⊥) ns
     → anyTwo routeTwins ns ≡ false
 no-routes ns h =
@@ -162,19 +102,21 @@ no-routes ns h =
             let k = and-left (a && b) c e in
             key-path 2 (m .row .instance) (n .row .instance) (m .row .source) (n .row .source) (m .row .destination) (n .row .destination)
             (sym (eqb-true (n .row .instance) (m .row .instance) (and-right (a && b) c e)))
-            (sym (same-true (n .row .source) (m .row .source) (and-left a b k)))
-            (sym (same-true (n .row .destination) (m .row .destination) (and-right a b k)))
+            (sym (same-equal (n .row .source) (m .row .source) (and-left a b k)))
+            (sym (same-equal (n .row .destination) (m .row .destination) (and-right a b k)))
 
 sound-right : (s : State) → Sound s → wrongState (goodState s) (viewOf s) ≡ false
 unfolding wrongState
 sound-right s g =
     let ns = viewOf s .instances in
     let d = distinct-live instanceDeadline instanceKey (s .clock) 0 (s .instances) (g .instances) in
+    let none-asked : anyTwo requestTwins (requests ns) ≡ false = no-twins requestKind ns d in
+    let none-answered : anyTwo replyTwins (replies ns) ≡ false = no-twins replyKind ns d in
     rw (
       good-state s (g .good),
       ne-eqb (s .own) 0 (λ e. omega (arith, g .own .0)),
-      no-requests ns d,
-      no-replies ns d,
+      none-asked,
+      none-answered,
       no-routes (viewOf s .routes) (distinct-live routeDeadline routeKey (s .clock) 0 (s .routes) (g .routes)),
     )
 

@@ -1,8 +1,8 @@
 -- What a search answers is what the rules find.
-use Prim.Native.Nat.{ℕ, zero, suc, _+_, _-_, _<_, _≤_}
-use mathlib.Core.Path.{_≡_, refl, sym, ap, _∙_}
+use Prim.Native.Nat.{ℕ, suc, _+_, _-_, _<_, _≤_}
+use mathlib.Core.Path.{_≡_, refl, sym, _∙_}
 use mathlib.Core.Bool.{Bool, true, false, cond, not, Bool·beq, _&&_}
-use mathlib.Core.List.{List, [], _∷_, map}
+use mathlib.Core.List.{List, [], map}
 use mathlib.Core.Option.{Option, some, none}
 use native.Mathlib.Omega.{arith}
 use native.Mathlib.Numerals.{add-one}
@@ -11,7 +11,6 @@ use lib.ListN.{length, getD}
 use borrow.Author.Tests.{lt-ltb, le-ltb, ne-eqb}
 use Rattle.plain.specs.Lists.{firstOf, same}
 use Rattle.plain.specs.Address.{Address}
-use Rattle.plain.specs.Given.{RequestRow, ReplyRow, Route}
 use Rattle.plain.specs.Table.{Numbered, lasts, live, liveRows, instanceDeadline, routeDeadline}
 use Rattle.plain.specs.Answers.{requests, replies, requestFor, replyFor, routeFor}
 use Rattle.plain.specs.Rank.{plusDelta}
