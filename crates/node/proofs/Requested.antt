@@ -33,7 +33,7 @@ use Rattle.decision.specs.declared.Post.{Post}
 use Rattle.request.specs.Facts.{askedOf, Sendable, Gathered}
 use Rattle.request.specs.Room.{Roomy}
 use Rattle.request.specs.declared.RequestFacts.{RequestFacts}
-use Rattle.request.proofs.Lines.{rank-fits, has-room}
+use Rattle.request_answer.proofs.Lines.{rank-fits, has-room}
 use Rattle.outcome.specs.Nothing.{nothingSent}
 use Rattle.finish.specs.Gives.{stateOf, decisionOf, Settled, Gives}
 use Rattle.finish.specs.declared.Live.{Live}

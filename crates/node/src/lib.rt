@@ -161,7 +161,7 @@ pub fn take_request(
     let targ = request::is_targ_node(o, *p);
     let free = search::free_delta_if(targ, instances, t, instance, receiving);
     let a = request::gather(o, k, *p, targ, f, g, free);
-    let answer = request::judge(o, k, *p, vector, a);
+    let answer = request_answer::judge(o, k, *p, vector, a);
     if answer::number(answer) != 0 {
         return outcome::refused(answer, clock, seq);
     }

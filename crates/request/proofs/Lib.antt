@@ -1,3 +1,3 @@
 pub mod Kept
 pub mod Rows
-pub mod Lines
+pub mod Onward

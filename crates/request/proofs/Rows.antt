@@ -36,14 +36,6 @@ use Rattle.rule.specs.Heard.{Heard}
 use Rattle.rule.proofs.Types.{length-mapped}
 use Rattle.request.proofs.Kept.{all-kept}
 
-pub given-delta : (d : FreeDelta) → given (deltaFound d) ≡ d .is
-unfolding deltaFound
-given-delta d = go (d .is)
-  where
-    go : (b : Bool) → given (cond b (some (d .delta)) none) ≡ b
-    go true = refl
-    go false = refl
-
 pub delta-or : (d : FreeDelta) → deltaOr0 (deltaFound d) ≡ cond (d .is) (d .delta) 0
 unfolding deltaFound
 delta-or d = go (d .is)

@@ -1,6 +1,6 @@
 use mathlib.Core.Path.{_∙_}
 use Rattle.request.proofs.Rows.{facts-eight}
-use Rattle.request.proofs.Lines.{forwards-some, forwards-none}
+use Rattle.request.proofs.Onward.{forwards-some, forwards-none}
 use borrow.Author.Needs.{needs}
 use Rattle.request.proofs.forwards.Statement.{statement}
 use Rattle.request.proofs.forwards.Tie as tie

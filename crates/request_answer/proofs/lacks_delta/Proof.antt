@@ -1,7 +1,7 @@
-use Rattle.request.proofs.Rows.{given-delta}
+use Rattle.request_answer.proofs.Lines.{given-delta}
 use borrow.Author.Needs.{needs}
-use Rattle.request.proofs.lacks_delta.Statement.{statement}
-use Rattle.request.proofs.lacks_delta.Tie as tie
+use Rattle.request_answer.proofs.lacks_delta.Statement.{statement}
+use Rattle.request_answer.proofs.lacks_delta.Tie as tie
 use Rattle.lemmas.proofs.Cases.{cases}
 
 replies-now-requires : tie.Need-replies-now-requires

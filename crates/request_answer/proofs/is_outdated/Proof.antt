@@ -1,6 +1,6 @@
 use borrow.Author.Needs.{needs}
-use Rattle.request.proofs.is_outdated.Statement.{statement}
-use Rattle.request.proofs.is_outdated.Tie as tie
+use Rattle.request_answer.proofs.is_outdated.Statement.{statement}
+use Rattle.request_answer.proofs.is_outdated.Tie as tie
 use Rattle.lemmas.proofs.Cases.{cases}
 
 is-stale-requires : tie.Need-is-stale-requires

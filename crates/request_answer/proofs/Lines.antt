@@ -3,39 +3,37 @@ use Prim.Native.Nat.{ℕ, suc, _≤_, _<_}
 use mathlib.Core.Path.{_≡_, refl, sym, _∙_}
 use mathlib.Core.Bool.{Bool, true, false, cond, not, _&&_, _||_}
 use mathlib.Core.List.{List, []}
+use mathlib.Core.Option.{some, none}
 use native.Mathlib.Omega.{arith}
-use lib.Dec.{eqb, ltb}
+use lib.Dec.{ltb}
 use lib.ListN.{length, take, length-take}
-use borrow.Author.Tests.{lt-ltb, le-ltb, ltb-false}
+use borrow.Author.Tests.{ltb-false}
 use Rattle.lemmas.proofs.Choice.{or-left, or-right, true-false}
 use Rattle.plain.specs.Lists.{any, given}
 use Rattle.plain.specs.Address.{Address}
 use Rattle.plain.specs.Given.{Settings}
 use Rattle.plain.specs.Answers.{answerOf}
-use Rattle.plain.specs.Rank.{minHop, integerPart, ownRank, rankRefused}
+use Rattle.plain.specs.Rank.{minHop, ownRank, rankRefused}
 use Rattle.plain.specs.Octets.{elided}
 use Rattle.plain.specs.Request.{ours, cannotElide, grown, cannotGrow, isStale, isNothingNew, routeStale, forwards, repliesNow, requestLines}
 use Rattle.rank.proofs.Refusal.{own-fits}
 use Rattle.own.specs.Settings.{Whole}
 use Rattle.own.proofs.Growth.{whole-take, whole-grown, elided-length}
 use Rattle.message.specs.Message.{configurationIn, messageIn, receivedBy, routeFound, deltaFound}
+use Rattle.message.specs.declared.FreeDelta.{FreeDelta}
 use Rattle.message.specs.declared.Parsed.{Parsed}
 use Rattle.message.specs.declared.Link.{Link}
 use Rattle.request.specs.Facts.{askedOf}
 use Rattle.request.specs.Room.{Roomy}
 use Rattle.request.specs.declared.RequestFacts.{RequestFacts}
 
--- "if targets remain", as the code asks it
-module _ (p : Parsed) (a : RequestFacts) (eight : length (a .targets .list) ≡ 8) where
-  pub forwards-some : 0 < a .targets .count
-      → eqb (p .discovery .limit) 0 || ltb (integerPart (minHop (configurationIn (p .configured) (p .configuration))) (a .rank)) (p .discovery .limit)
-      ≡ forwards (messageIn p []) (askedOf a)
-  unfolding forwards messageIn askedOf
-  forwards-some h = rw (lt-ltb 0 (length (take (a .targets .count) (a .targets .list))) (omega (arith, length-take (a .targets .count) (a .targets .list))))
-
-  pub forwards-none : a .targets .count ≤ 0 → false ≡ forwards (messageIn p []) (askedOf a)
-  unfolding forwards messageIn askedOf
-  forwards-none h = rw (le-ltb 0 (length (take (a .targets .count) (a .targets .list))) (omega (arith, length-take (a .targets .count) (a .targets .list))))
+pub given-delta : (d : FreeDelta) → given (deltaFound d) ≡ d .is
+unfolding deltaFound
+given-delta d = go (d .is)
+  where
+    go : (b : Bool) → given (cond b (some (d .delta)) none) ≡ b
+    go true = refl
+    go false = refl
 
 pub lines-of : (x : Settings) (k : Link) (p : Parsed) (v : List Address) (a : RequestFacts)
     → answerOf (requestLines x (receivedBy k []) (messageIn p v) (askedOf a))
@@ -62,9 +60,9 @@ full-added x false false compr v = refl
 pub full-is : (x : Settings) (p : Parsed) (a : RequestFacts) (v : List Address) (adds r : Bool)
     → adds ≡ forwards (messageIn p []) (askedOf a) && not (p .discovery .h)
     → r ≡ adds && cannotGrow (p .discovery .compr) (grown x false v)
-    → forwards (messageIn p []) (askedOf a) && not (p .discovery .h) && cannotGrow (p .discovery .compr) (grown x (p .discovery .h) v) ≡ r
+    → r ≡ forwards (messageIn p []) (askedOf a) && not (p .discovery .h) && cannotGrow (p .discovery .compr) (grown x (p .discovery .h) v)
 full-is x p a v adds r ea er =
-    sym (er ∙ rw ea (full-added x (forwards (messageIn p []) (askedOf a)) (p .discovery .h) (p .discovery .compr) v))
+    er ∙ rw ea (full-added x (forwards (messageIn p []) (askedOf a)) (p .discovery .h) (p .discovery .compr) v)
 
 -- ---- What is known where no line holds
 

@@ -1,6 +1,6 @@
 use borrow.Author.Needs.{needs}
-use Rattle.request.proofs.is_rank_refused.Statement.{statement}
-use Rattle.request.proofs.is_rank_refused.Tie as tie
+use Rattle.request_answer.proofs.is_rank_refused.Statement.{statement}
+use Rattle.request_answer.proofs.is_rank_refused.Tie as tie
 use Rattle.lemmas.proofs.Cases.{cases}
 
 step-of-requires : tie.Need-step-of-requires

@@ -1,6 +1,6 @@
 use borrow.Author.Needs.{needs}
-use Rattle.request.proofs.adds_ours.Statement.{statement}
-use Rattle.request.proofs.adds_ours.Tie as tie
+use Rattle.request_answer.proofs.adds_ours.Statement.{statement}
+use Rattle.request_answer.proofs.adds_ours.Tie as tie
 
 forwards-requires : tie.Need-forwards-requires
 forwards-requires c κs = search needs
