@@ -29,7 +29,7 @@ use Rattle.decision.specs.declared.Decided.{Decided}
 use Rattle.decision.specs.declared.Post.{Post}
 use Rattle.reply.specs.Facts.{answeredOf, isFull, Gathered}
 use Rattle.reply.specs.declared.ReplyFacts.{ReplyFacts}
-use Rattle.reply.proofs.Laws as reply
+use Rattle.reply_answer.proofs.Laws as reply
 use Rattle.outcome.specs.Nothing.{nothingSent}
 use Rattle.finish.specs.Gives.{stateOf, decisionOf, Settled, Gives}
 use Rattle.finish.specs.declared.Live.{Live}

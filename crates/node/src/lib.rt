@@ -212,7 +212,7 @@ pub fn take_reply(
         let f = search::search_reply(instances, t, instance_of(*p), dodagid);
         let g = search::search_route(routes, t, orig, dodagid, number);
         let a = reply::gather(o, k, *p, found_row(w), f, g);
-        let answer = reply::judge(o, k, *p, vector, a);
+        let answer = reply_answer::judge(o, k, *p, vector, a);
         if answer::number(answer) != 0 {
             return outcome::refused(answer, clock, seq);
         }

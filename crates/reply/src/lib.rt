@@ -1,5 +1,4 @@
-// A received reply by value (01, "A reply"): the facts that it rests on, and its answer.
-use answer::Answer;
+// A received reply by value (01, "A reply"): the facts that it rests on, and whether its vector grows.
 use message::Found;
 use message::FoundRoute;
 use message::Link;
@@ -10,19 +9,15 @@ use plain::Target;
 use row::InstanceRow;
 ghost use Prim.Native.Nat.{_≤_};
 ghost use mathlib.Core.Path.{_≡_};
-ghost use mathlib.Core.Bool.{cond, true, not, _&&_, _||_};
+ghost use mathlib.Core.Bool.{cond, true, not, _&&_};
 ghost use mathlib.Core.List.{List, []};
 ghost use lib.ListN.{take};
 ghost use Rattle.plain.specs.Address.{Address};
-ghost use Rattle.plain.specs.Answers.{answerOf};
-ghost use Rattle.plain.specs.Rank.{minHop, ownRank, rankRefused};
-ghost use Rattle.plain.specs.Request.{isStale, routeStale};
-ghost use Rattle.plain.specs.Reply.{onlyTarget, origNode, destSeq, partnerNumber, replyStanding, answeredWith, replyLoops, grows, replyLines};
-ghost use Rattle.answer.specs.Answer.{answerNumber};
+ghost use Rattle.plain.specs.Rank.{ownRank};
+ghost use Rattle.plain.specs.Reply.{onlyTarget, origNode, destSeq, partnerNumber, replyStanding, answeredWith, grows};
 ghost use Rattle.row.specs.Meaning.{requestOf};
 ghost use Rattle.message.specs.Message.{messageIn, receivedBy, replyFound, routeFound};
 ghost use Rattle.own.specs.Settings.{settingsOf};
-ghost use Rattle.rule.specs.Heard.{Array};
 ghost use Rattle.reply.specs.Facts.{answeredOf, Gathered};
 
 // What the answer and the outcome of a reply rest on: the rows that the tables hold for it, whether it is symmetric, whether we are
@@ -139,64 +134,7 @@ pub fn gather(
     }
 }
 
-// ---- The answer
-
-// Answer 9.
-fn loops(o: Own, p: Parsed, vector: &[[u8; 16]; 16], w: ReplyFacts) -> bool
-    requires { ⌜ p .n ≤ 16 ⌝ }
-    ensures { λ r. ⌜ r ≡ replyLoops (settingsOf o) (messageIn p (now (vector .entry))) (answeredOf w) ⌝ }
-{
-    if p.discovery.h {
-        return false;
-    }
-    if w.symmetric {
-        if w.orig {
-            return false;
-        }
-        let receiving = o.receiving;
-        return !path::stands_once(receiving, p.n, vector);
-    }
-    path::has_ours(o, p.n, vector)
-}
-
-// Answer 11: the link towards TargNode is asked of an asymmetric reply.
-fn is_link_bad(k: Link, w: ReplyFacts) -> bool
-    ensures { λ r. ⌜ r ≡ not (w .symmetric) && not (k .downward) ⌝ }
-{
-    if k.downward {
-        return false;
-    }
-    !w.symmetric
-}
-
-// Answer 12, for an asymmetric reply.
-fn is_rank_refused(k: Link, p: Parsed, w: ReplyFacts) -> bool
-    ensures { λ r. ⌜ ((v : List Address) → r ≡ not (w .symmetric) && rankRefused (minHop (messageIn p v .configuration)) (p .base .rank) (k .increase) (p .discovery .limit) (w .orig)) ⌝ }
-{
-    if w.symmetric {
-        return false;
-    }
-    rank::is_refused(
-        rule::step_of(p),
-        p.base.rank,
-        k.increase,
-        p.discovery.limit,
-        w.orig,
-    )
-}
-
-// Answer 13.
-fn is_stale(p: Parsed, w: ReplyFacts) -> bool
-    ensures { λ r. ⌜ ((v : List Address) → r ≡ isStale (w .standing) || routeStale (p .discovery .h) (routeFound (w .route)) (destSeq (messageIn p v))) ⌝ }
-{
-    let standing = w.standing;
-    if standing::is_stale(standing) {
-        return true;
-    }
-    let g = w.route;
-    let seq = dest_seq(p);
-    rule::is_route_stale(p.discovery.h, g, seq)
-}
+// ---- What it comes to
 
 // Whether our addresses are added to the vector. Answer 16 is asked only there.
 pub fn does_grow(p: Parsed, w: ReplyFacts) -> bool
@@ -209,36 +147,4 @@ pub fn does_grow(p: Parsed, w: ReplyFacts) -> bool
         return false;
     }
     !p.discovery.h
-}
-
-// The first line that holds.
-pub fn judge(o: Own, k: Link, p: Parsed, vector: &[[u8; 16]; 16], w: ReplyFacts) -> Answer
-    requires { ⌜ (p .n ≤ 16) × (p .discovery .compr ≤ 16) ⌝ }
-    requires { ⌜ Array (now vector) ⌝ }
-    ensures { λ r. ⌜ answerNumber r ≡ answerOf (replyLines (settingsOf o) (receivedBy k []) (messageIn p (now (vector .entry))) (answeredOf w)) ⌝ }
-{
-    if loops(o, p, vector, w) {
-        return Answer::Loop;
-    }
-    let dodagid = p.base.dodagid;
-    if own::cannot_elide(o, p.discovery.h, p.discovery.compr, dodagid) {
-        return Answer::CannotElide;
-    }
-    if is_link_bad(k, w) {
-        return Answer::LinkNotGood;
-    }
-    if is_rank_refused(k, p, w) {
-        return Answer::RankRefused;
-    }
-    if is_stale(p, w) {
-        return Answer::Stale;
-    }
-    let standing = w.standing;
-    if standing::is_nothing_new(standing) {
-        return Answer::NothingNew;
-    }
-    if rule::cannot_add(o, does_grow(p, w), p.discovery.compr, p.n) {
-        return Answer::VectorFull;
-    }
-    Answer::Done
 }

@@ -1,39 +1,29 @@
 use Rattle.plain.specs.Reply.{replyLoops}
 use Rattle.message.specs.Message.{messageIn}
 use Rattle.reply.specs.Facts.{answeredOf}
 use borrow.Author.Needs.{needs}
-use Rattle.reply.proofs.loops.Statement.{statement}
-use Rattle.reply.proofs.loops.Tie as tie
-use Rattle.reply.proofs.loops.Reads as reads
-use Rattle.reply.proofs.loops.Lts as lts
-use Rattle.path.proofs.has_ours.Reads as has-ours-reads
-use Rattle.path.proofs.stands_once.Reads as stands-once-reads
+use Rattle.reply_answer.proofs.loops.Statement.{statement}
+use Rattle.reply_answer.proofs.loops.Tie as tie
 use Rattle.lemmas.proofs.Cases.{cases}
 
--- src/lib.rt:151:9
 returns : tie.Need-returns
 unfolding replyLoops answeredOf messageIn
 returns c = search (c .if1 .taken, cases)
 
--- src/lib.rt:155:13
 returns-2 : tie.Need-returns-2
 unfolding replyLoops answeredOf messageIn
 returns-2 c = search (c .if3 .taken, c .before .if2 .taken, c .before .before .if1 .left, cases)
 
--- src/lib.rt:158:17
 stands-once-requires : tie.Need-stands-once-requires
 stands-once-requires c κs = search needs
 
--- src/lib.rt:158:9
 returns-3 : tie.Need-returns-3
 unfolding replyLoops answeredOf messageIn
 returns-3 c = search (← c .stands-once .ensures, c .before .before .if3 .left, c .before .before .before .if2 .taken, c .before .before .before .before .if1 .left, cases)
 
--- src/lib.rt:160:5
 has-ours-requires : tie.Need-has-ours-requires
 has-ours-requires c κs = search needs
 
--- src/lib.rt:146:1
 returns-4 : tie.Need-returns-4
 unfolding replyLoops answeredOf messageIn
 returns-4 c = search (← c .has-ours .ensures, c .before .if2 .left, c .before .before .if1 .left, cases)

@@ -1,15 +1,11 @@
-use Rattle.reply.proofs.Laws.{link-good, link-bad}
+use Rattle.reply_answer.proofs.Laws.{link-good, link-bad}
 use mathlib.Core.Bool.{not}
-use Rattle.reply.proofs.is_link_bad.Statement.{statement}
-use Rattle.reply.proofs.is_link_bad.Tie as tie
-use Rattle.reply.proofs.is_link_bad.Reads as reads
-use Rattle.reply.proofs.is_link_bad.Lts as lts
+use Rattle.reply_answer.proofs.is_link_bad.Statement.{statement}
+use Rattle.reply_answer.proofs.is_link_bad.Tie as tie
 
--- src/lib.rt:169:9
 returns : tie.Need-returns
 returns c = let s = c .before .args in rw (c .if1 .taken) (link-good (not (s .w .symmetric)))
 
--- src/lib.rt:165:1
 returns-2 : tie.Need-returns-2
 returns-2 c = let s = c .before .before .args in rw (c .before .if1 .left) (link-bad (not (s .w .symmetric)))
 
