@@ -158,7 +158,7 @@ pub fn take_request(
     let receiving = receiving_of(o);
     let f = search::search_request(instances, t, instance, dodagid);
     let g = search::search_route(routes, t, receiving, dodagid, instance);
-    let targ = request::is_targ_node(o, *p);
+    let targ = request_targets::is_targ_node(o, *p);
     let free = search::free_delta_if(targ, instances, t, instance, receiving);
     let a = request::gather(o, k, *p, targ, f, g, free);
     let answer = request_answer::judge(o, k, *p, vector, a);

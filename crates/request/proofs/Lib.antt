@@ -1,3 +1,2 @@
-pub mod Kept
 pub mod Rows
 pub mod Onward

@@ -1,10 +1,10 @@
 use mathlib.Core.Path.{sym, _∙_}
 use Rattle.own.specs.Settings.{settingsOf}
 use Rattle.message.specs.Message.{requestFound}
-use Rattle.request.proofs.Kept.{kept-update, kept-new, kept-all}
+use Rattle.request_targets.proofs.Kept.{kept-update, kept-new, kept-all}
 use borrow.Author.Needs.{needs}
-use Rattle.request.proofs.targets_kept.Statement.{statement}
-use Rattle.request.proofs.targets_kept.Tie as tie
+use Rattle.request_targets.proofs.targets_kept.Statement.{statement}
+use Rattle.request_targets.proofs.targets_kept.Tie as tie
 
 is-update-requires : tie.Need-is-update-requires
 is-update-requires c κs = search needs

@@ -1,8 +1,8 @@
 use mathlib.Core.Path.{refl}
-use Rattle.request.proofs.Rows.{targets-found, none-found, found-eight}
+use Rattle.request_targets.proofs.Rows.{targets-found, none-found, found-eight}
 use borrow.Author.Needs.{needs}
-use Rattle.request.proofs.row_targets.Statement.{statement}
-use Rattle.request.proofs.row_targets.Tie as tie
+use Rattle.request_targets.proofs.row_targets.Statement.{statement}
+use Rattle.request_targets.proofs.row_targets.Tie as tie
 
 cast-t5 : tie.Need-cast-t5
 cast-t5 c = search needs
