@@ -276,20 +276,11 @@ module _ (clock seq t : ℕ) (rows : List InstanceRow) (routes : List RouteRow) 
 
 -- ---- a start: whether a row of its key is live, and no row of either table stands for it
 
-module _ (clock seq t : ℕ) (rows : List InstanceRow) (routes : List RouteRow) (o : Own) (s : Asking) (ts : Targets) (instance : ℕ) (receiving : Address)
-    (e1 : instance ≡ s .instance) (e2 : receiving ≡ o .receiving) (f : Found) (is : Bool) (e3 : is ≡ f .is)
-    (sf : requestFound f ≡ requestSeen clock rows t instance receiving) where
-  found-given : given (requestFound f) ≡ f .is
-  unfolding requestFound
-  found-given = go (f .is)
-    where
-      go : (b : Bool) → given (numbered b (f .at) (requestOf (f .row))) ≡ b
-      go true = refl
-      go false = refl
-
+module _ (clock seq t : ℕ) (rows : List InstanceRow) (routes : List RouteRow) (o : Own) (s : Asking) (instance : ℕ) (receiving : Address)
+    (e1 : instance ≡ s .instance) (e2 : receiving ≡ o .receiving) (is : Bool) (e3 : is ≡ given (requestSeen clock rows t instance receiving)) where
   taken-is : is ≡ given (liveRequest (viewOf (stateOf clock seq rows routes)) t (s .instance) (settingsOf o .receiving))
   unfolding requestSeen
-  taken-is = e3 ∙ (sym found-given ∙ rw (sf, e1, e2))
+  taken-is = e3 ∙ rw (e1, e2)
 
   -- the answer of a start
   pub start-answer : (targets : List Target)

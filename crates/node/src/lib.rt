@@ -256,8 +256,8 @@ pub fn take_start(
     ensures { λ r. ⌜ ((targets : List plain.Target) → Gives (enact t (stateOf clock seq (now (instances .entry)) (now (routes .entry))) (startDecision (settingsOf o) (stateOf clock seq (now (instances .entry)) (now (routes .entry))) t (startOf s targets) (listOf ts))) (now (instances .entry)) (now (instances .exit)) (now (routes .entry)) (now (routes .exit)) (now (forward .entry)) (now (forward .exit)) (now (reply .entry)) (now (reply .exit)) r) ⌝ }
 {
     let receiving = receiving_of(o);
-    let f = search::search_request(instances, t, asked_instance(s), receiving);
-    let answer = start::judge(o, s, is_found(f));
+    let taken = search::has_request(instances, t, asked_instance(s), receiving);
+    let answer = start::judge(o, s, taken);
     if answer::number(answer) != 0 {
         return outcome::refused(answer, clock, seq);
     }

@@ -3,6 +3,7 @@ ghost use mathlib.Core.Path.{_≡_};
 ghost use mathlib.Core.Bool.{true, false};
 ghost use mathlib.Core.List.{map};
 ghost use Prim.Native.Nat.{ℕ, _≤_};
+ghost use Rattle.plain.specs.Lists.{given};
 ghost use Rattle.plain.specs.Table.{instanceDeadline, routeDeadline};
 ghost use Rattle.row.specs.Meaning.{instanceOf, routeOf, noRow, noRoute};
 ghost use Rattle.first.specs.First.{first};
@@ -111,6 +112,17 @@ pub fn search_request(rows: &[InstanceRow], t: u64, instance: u8, dodagid: [u8; 
         return found(i, rows[i]);
     }
     not_found(i)
+}
+
+// Whether a request row of a key is live: a start needs to know no more of it.
+pub fn has_request(rows: &[InstanceRow], t: u64, instance: u8, dodagid: [u8; 16]) -> bool
+    ensures { λ b. ⌜ ((clock : ℕ) → clock ≤ t → b ≡ given (requestSeen clock (now (rows .entry)) t instance dodagid)) ⌝ }
+{
+    let i = find::find_request(rows, t, instance, dodagid);
+    if i < rows.len() {
+        return true;
+    }
+    false
 }
 
 // The live reply row of a key.

@@ -26,11 +26,8 @@ receiving-of-requires c = search needs
 asked-instance-requires : tie.Need-asked-instance-requires
 asked-instance-requires c = search needs
 
-search-request-requires : tie.Need-search-request-requires
-search-request-requires c = search needs
-
-is-found-requires : tie.Need-is-found-requires
-is-found-requires c = search needs
+has-request-requires : tie.Need-has-request-requires
+has-request-requires c = search needs
 
 judge-requires : tie.Need-judge-requires
 judge-requires c = search needs
@@ -48,18 +45,17 @@ returns : tie.Need-returns
 unfolding startDecision
 returns c =
     λ targets.
-    let o = c .before .before .before .before .before .before .before .before .before .before .before in
+    let o = c .before .before .before .before .before .before .before .before .before .before in
     let a = o .args in
     let rows = now (a .instances) in
     let routes = now (a .routes) in
-    let receiving = c .before .before .before .before .before .before .before .before .receiving-of in
-    let instance = c .before .before .before .before .before .before .asked-instance in
-    let f = c .before .before .before .before .before .search-request in
-    let is = c .before .before .before .before .is-found in
+    let receiving = c .before .before .before .before .before .before .before .receiving-of in
+    let instance = c .before .before .before .before .before .asked-instance in
+    let is = c .before .before .before .before .has-request in
     let judge = c .before .before .before .judge in
     let number = c .before .before .number in
     let e =
-    judge .ensures ∙ start-answer (a .clock) (a .seq) (a .t) rows routes (a .o) (a .s) (a .ts) (instance .result) (receiving .result) (instance .ensures) (receiving .ensures) (f .result) (is .result) (is .ensures) (f .ensures .0 .0 (a .clock) (o .pre .later)) targets in
+    judge .ensures ∙ start-answer (a .clock) (a .seq) (a .t) rows routes (a .o) (a .s) (instance .result) (receiving .result) (instance .ensures) (receiving .ensures) (is .result) (is .ensures (a .clock) (o .pre .later)) targets in
     refused-gives (a .clock) (a .seq) (a .t) rows routes (now (a .forward)) (now (a .reply)) _ _ (judge .result) (c .refused .result) e
     (λ z. c .before .if1 .taken (number .ensures ∙ (e ∙ z))) (c .refused .ensures)
 
@@ -67,7 +63,7 @@ accepted-requires : tie.Need-accepted-requires
 accepted-requires c = search needs
 
 start-post-requires : tie.Need-start-post-requires
-start-post-requires c κs = c .before .before .before .before .before .before .before .before .before .before .before .pre .sendable
+start-post-requires c κs = c .before .before .before .before .before .before .before .before .before .before .pre .sendable
 
 no-post-requires : tie.Need-no-post-requires
 no-post-requires c = search needs
@@ -80,14 +76,13 @@ none-live-requires c = search needs
 
 finish-requires : tie.Need-finish-requires
 finish-requires c κs =
-    let o = c .before .before .before .before .before .before .before .before .before .before .before .before .before .before .before .before .before .before .before .before .before .before .before in
+    let o = c .before .before .before .before .before .before .before .before .before .before .before .before .before .before .before .before .before .before .before .before .before .before in
     let a = o .args in
     let rows = now (a .instances) in
     let routes = now (a .routes) in
-    let receiving = c .before .before .before .before .before .before .before .before .before .before .before .before .before .before .before .before .before .before .before .before .receiving-of in
-    let instance = c .before .before .before .before .before .before .before .before .before .before .before .before .before .before .before .before .before .before .asked-instance in
-    let f = c .before .before .before .before .before .before .before .before .before .before .before .before .before .before .before .before .before .search-request in
-    let is = c .before .before .before .before .before .before .before .before .before .before .before .before .before .before .before .before .is-found in
+    let receiving = c .before .before .before .before .before .before .before .before .before .before .before .before .before .before .before .before .before .before .before .receiving-of in
+    let instance = c .before .before .before .before .before .before .before .before .before .before .before .before .before .before .before .before .before .asked-instance in
+    let is = c .before .before .before .before .before .before .before .before .before .before .before .before .before .before .before .before .has-request in
     let judge = c .before .before .before .before .before .before .before .before .before .before .before .before .before .before .before .judge in
     let number = c .before .before .before .before .before .before .before .before .before .before .before .before .before .before .number in
     let d = c .before .before .before .before .before .before .before .before .before .before .before .before .accepted in
@@ -115,14 +110,13 @@ returns-2 : tie.Need-returns-2
 unfolding startDecision acceptStart
 returns-2 c =
     λ targets.
-    let o = c .before .before .before .before .before .before .before .before .before .before .before .before .before .before .before .before .before .before .before .before .before .before .before .before .before .before .before .before .before .before in
+    let o = c .before .before .before .before .before .before .before .before .before .before .before .before .before .before .before .before .before .before .before .before .before .before .before .before .before .before .before .before .before in
     let a = o .args in
     let rows = now (a .instances) in
     let routes = now (a .routes) in
-    let receiving = c .before .before .before .before .before .before .before .before .before .before .before .before .before .before .before .before .before .before .before .before .before .before .before .before .before .before .before .receiving-of in
-    let instance = c .before .before .before .before .before .before .before .before .before .before .before .before .before .before .before .before .before .before .before .before .before .before .before .before .before .asked-instance in
-    let f = c .before .before .before .before .before .before .before .before .before .before .before .before .before .before .before .before .before .before .before .before .before .before .before .before .search-request in
-    let is = c .before .before .before .before .before .before .before .before .before .before .before .before .before .before .before .before .before .before .before .before .before .before .before .is-found in
+    let receiving = c .before .before .before .before .before .before .before .before .before .before .before .before .before .before .before .before .before .before .before .before .before .before .before .before .before .before .receiving-of in
+    let instance = c .before .before .before .before .before .before .before .before .before .before .before .before .before .before .before .before .before .before .before .before .before .before .before .before .asked-instance in
+    let is = c .before .before .before .before .before .before .before .before .before .before .before .before .before .before .before .before .before .before .before .before .before .before .before .has-request in
     let judge = c .before .before .before .before .before .before .before .before .before .before .before .before .before .before .before .before .before .before .before .before .before .before .judge in
     let number = c .before .before .before .before .before .before .before .before .before .before .before .before .before .before .before .before .before .before .before .before .before .number in
     let d = c .before .before .before .before .before .before .before .before .before .before .before .before .before .before .before .before .before .before .before .accepted in
@@ -131,11 +125,11 @@ returns-2 c =
     let vector = c .before .before .before .before .before .before .before .before .before .before .before .before .before .before .before .before .no-vector .result in
     let l = c .before .before .before .before .before .before .before .none-live in
     let quiet : Posts (settingsOf (a .o)) vector [] Destination.nowhere (back .result) = rw (back .ensures) (posts-nothing (settingsOf (a .o)) vector) in
-    let zero = sym (start-answer (a .clock) (a .seq) (a .t) rows routes (a .o) (a .s) (a .ts) (instance .result) (receiving .result) (instance .ensures) (receiving .ensures) (f .result) (is .result) (is .ensures) (f .ensures .0 .0 (a .clock) (o .pre .later)) targets) ∙ (sym (judge .ensures) ∙ (sym (number .ensures) ∙ c .before .before .before .before .before .before .before .before .before .before .before .before .before .before .before .before .before .before .before .before .if1 .left)) in
+    let zero = sym (start-answer (a .clock) (a .seq) (a .t) rows routes (a .o) (a .s) (instance .result) (receiving .result) (instance .ensures) (receiving .ensures) (is .result) (is .ensures (a .clock) (o .pre .later)) targets) ∙ (sym (judge .ensures) ∙ (sym (number .ensures) ∙ c .before .before .before .before .before .before .before .before .before .before .before .before .before .before .before .before .before .before .before .before .if1 .left)) in
     rw (eq-eqb _ 0 zero)
     (c .before .before .before .before .before .before .finish .ensures _
     (new-settled (l .result) (l .ensures) (settingsOf (a .o)) vector _ (d .result) (there .result) (back .result) (d .ensures targets)
     (there .ensures (a .t) vector targets) quiet))
 
 pub take-start-spec : {M : Type 1} → statement M
-take-start-spec = tie.close (tie.spec receiving-of-requires asked-instance-requires search-request-requires is-found-requires judge-requires number-requires refused-requires same-length returns accepted-requires start-post-requires no-post-requires no-vector-requires none-live-requires finish-requires same-length-2 same-length-3 same-length-4 same-length-5 returns-2)
+take-start-spec = tie.close (tie.spec receiving-of-requires asked-instance-requires has-request-requires judge-requires number-requires refused-requires same-length returns accepted-requires start-post-requires no-post-requires no-vector-requires none-live-requires finish-requires same-length-2 same-length-3 same-length-4 same-length-5 returns-2)

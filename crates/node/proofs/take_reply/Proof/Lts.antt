@@ -1567,7 +1567,7 @@ b24 =
 abbrev b25 : Syntax.Body
 b25 =
     Syntax.call
-    "reply::judge"
+    "reply_answer::judge"
     (List._∷_
     (Syntax.copy (Syntax.place 5 List.[]))
     (List._∷_
@@ -26339,16 +26339,16 @@ module _ (claims· : Claims) where
           𝓤 H A W 𝓣 0 ps·10 r·10 (claims· .20) (claims· .21)
           "node::found_row") (known11 : Plain.Known 𝓤 H A W 𝓣 0 ps·11 r·11 (claims· .22)
           (claims· .23) "reply::gather") (known12 : Plain.Known 𝓤 H A W 𝓣 1 ps·12 r·12
-          (claims· .24) (claims· .25) "reply::judge") (known13 : Plain.Known 𝓤 H A W 𝓣 0 ps·13 r·13
-          (claims· .26) (claims· .27) "answer::number") (known14 : Plain.Known 𝓤 H A W 𝓣 0 ps·14
-          r·14 (claims· .28) (claims· .29) "outcome::refused") (known15 : Plain.Known 𝓤 H A W 𝓣 0
-          ps·15 r·15 (claims· .30) (claims· .31) "reply_accepted::accepted") (known16 : Plain.Known
-          𝓤 H A W 𝓣 1 ps·16 r·16 (claims· .32) (claims· .33)
-          "reply_accepted::forward_post") (known17 : Plain.Known 𝓤 H A W 𝓣 0 ps·17 r·17
-          (claims· .34) (claims· .35) "decision::no_post") (known18 : Plain.Known 𝓤 H A W 𝓣 0 ps·18
-          r·18 (claims· .36) (claims· .37) "node::live_of") (known19 : Plain.Known 𝓤 H A W 𝓣 8
-          ps·19 r·19 (claims· .38) (claims· .39) "finish::finish") (known20 : Plain.Known 𝓤 H A W 𝓣
-          0 ps·20 r·20 (claims· .40) (claims· .41) "node::no_partner") → Statement.Triple 𝓤
+          (claims· .24) (claims· .25) "reply_answer::judge") (known13 : Plain.Known 𝓤 H A W 𝓣 0
+          ps·13 r·13 (claims· .26) (claims· .27) "answer::number") (known14 : Plain.Known 𝓤 H A W 𝓣
+          0 ps·14 r·14 (claims· .28) (claims· .29) "outcome::refused") (known15 : Plain.Known 𝓤 H A
+          W 𝓣 0 ps·15 r·15 (claims· .30) (claims· .31)
+          "reply_accepted::accepted") (known16 : Plain.Known 𝓤 H A W 𝓣 1 ps·16 r·16 (claims· .32)
+          (claims· .33) "reply_accepted::forward_post") (known17 : Plain.Known 𝓤 H A W 𝓣 0 ps·17
+          r·17 (claims· .34) (claims· .35) "decision::no_post") (known18 : Plain.Known 𝓤 H A W 𝓣 0
+          ps·18 r·18 (claims· .36) (claims· .37) "node::live_of") (known19 : Plain.Known 𝓤 H A W 𝓣
+          8 ps·19 r·19 (claims· .38) (claims· .39) "finish::finish") (known20 : Plain.Known 𝓤 H A W
+          𝓣 0 ps·20 r·20 (claims· .40) (claims· .41) "node::no_partner") → Statement.Triple 𝓤
           (Wp.WpFn 𝓤 H (𝓣 .C) (𝓣 .Λ) (Function.fnOf 6 ps r xs m hs body)) (Function.plainOf 𝓤 H A 6
           ps r Pre· Post·)
 
@@ -26876,7 +26876,7 @@ module _ (claims· : Claims) where
             Plain.Known 𝓤 H A W 𝓣 1 ps·9 r·9 (claims· .18) (claims· .19) "search::search_route" ×
             Plain.Known 𝓤 H A W 𝓣 0 ps·10 r·10 (claims· .20) (claims· .21) "node::found_row" ×
             Plain.Known 𝓤 H A W 𝓣 0 ps·11 r·11 (claims· .22) (claims· .23) "reply::gather" ×
-            Plain.Known 𝓤 H A W 𝓣 1 ps·12 r·12 (claims· .24) (claims· .25) "reply::judge" ×
+            Plain.Known 𝓤 H A W 𝓣 1 ps·12 r·12 (claims· .24) (claims· .25) "reply_answer::judge" ×
             Plain.Known 𝓤 H A W 𝓣 0 ps·13 r·13 (claims· .26) (claims· .27) "answer::number" ×
             Plain.Known 𝓤 H A W 𝓣 0 ps·14 r·14 (claims· .28) (claims· .29) "outcome::refused" ×
             Plain.Known
@@ -43057,7 +43057,7 @@ module _ (claims· : Claims) where
               r·12
               (claims· .24)
               (claims· .25)
-              "reply::judge"
+              "reply_answer::judge"
               (known .12)
               E
               (λ pos β. β)
@@ -51237,7 +51237,7 @@ module _ (claims· : Claims) where
             r·12
             (claims· .24)
             (claims· .25)
-            "reply::judge")
+            "reply_answer::judge")
             (known13 : Plain.Known
             𝓤
             H

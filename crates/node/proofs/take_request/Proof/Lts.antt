@@ -1508,7 +1508,7 @@ b12 =
 abbrev b13 : Syntax.Body
 b13 =
     Syntax.call
-    "request::is_targ_node"
+    "request_targets::is_targ_node"
     (List._∷_
     (Syntax.copy (Syntax.place 5 List.[]))
     (List._∷_ (Syntax.copy (Syntax.place 26 List.[])) List.[]))
@@ -1591,7 +1591,7 @@ b19 =
 abbrev b20 : Syntax.Body
 b20 =
     Syntax.call
-    "request::judge"
+    "request_answer::judge"
     (List._∷_
     (Syntax.copy (Syntax.place 5 List.[]))
     (List._∷_
@@ -29607,21 +29607,21 @@ module _ (claims· : Claims) where
           "node::receiving_of") (known4 : Plain.Known 𝓤 H A W 𝓣 1 ps·4 r·4 (claims· .8)
           (claims· .9) "search::search_request") (known5 : Plain.Known 𝓤 H A W 𝓣 1 ps·5 r·5
           (claims· .10) (claims· .11) "search::search_route") (known6 : Plain.Known 𝓤 H A W 𝓣 0
-          ps·6 r·6 (claims· .12) (claims· .13) "request::is_targ_node") (known7 : Plain.Known 𝓤 H A
-          W 𝓣 1 ps·7 r·7 (claims· .14) (claims· .15) "search::free_delta_if") (known8 : Plain.Known
-          𝓤 H A W 𝓣 0 ps·8 r·8 (claims· .16) (claims· .17) "request::gather") (known9 : Plain.Known
-          𝓤 H A W 𝓣 1 ps·9 r·9 (claims· .18) (claims· .19) "request::judge") (known10 : Plain.Known
-          𝓤 H A W 𝓣 0 ps·10 r·10 (claims· .20) (claims· .21)
-          "answer::number") (known11 : Plain.Known 𝓤 H A W 𝓣 0 ps·11 r·11 (claims· .22)
-          (claims· .23) "outcome::refused") (known12 : Plain.Known 𝓤 H A W 𝓣 0 ps·12 r·12
-          (claims· .24) (claims· .25) "request_stored::accepted") (known13 : Plain.Known 𝓤 H A W 𝓣
-          0 ps·13 r·13 (claims· .26) (claims· .27)
-          "request_sent::forward_post") (known14 : Plain.Known 𝓤 H A W 𝓣 0 ps·14 r·14 (claims· .28)
-          (claims· .29) "request_sent::reply_post") (known15 : Plain.Known 𝓤 H A W 𝓣 0 ps·15 r·15
-          (claims· .30) (claims· .31) "node::live_of") (known16 : Plain.Known 𝓤 H A W 𝓣 8 ps·16
-          r·16 (claims· .32) (claims· .33) "finish::finish") → Statement.Triple 𝓤 (Wp.WpFn 𝓤 H
-          (𝓣 .C) (𝓣 .Λ) (Function.fnOf 6 ps r xs m hs body)) (Function.plainOf 𝓤 H A 6 ps r Pre·
-          Post·)
+          ps·6 r·6 (claims· .12) (claims· .13)
+          "request_targets::is_targ_node") (known7 : Plain.Known 𝓤 H A W 𝓣 1 ps·7 r·7 (claims· .14)
+          (claims· .15) "search::free_delta_if") (known8 : Plain.Known 𝓤 H A W 𝓣 0 ps·8 r·8
+          (claims· .16) (claims· .17) "request::gather") (known9 : Plain.Known 𝓤 H A W 𝓣 1 ps·9 r·9
+          (claims· .18) (claims· .19) "request_answer::judge") (known10 : Plain.Known 𝓤 H A W 𝓣 0
+          ps·10 r·10 (claims· .20) (claims· .21) "answer::number") (known11 : Plain.Known 𝓤 H A W 𝓣
+          0 ps·11 r·11 (claims· .22) (claims· .23) "outcome::refused") (known12 : Plain.Known 𝓤 H A
+          W 𝓣 0 ps·12 r·12 (claims· .24) (claims· .25)
+          "request_stored::accepted") (known13 : Plain.Known 𝓤 H A W 𝓣 0 ps·13 r·13 (claims· .26)
+          (claims· .27) "request_sent::forward_post") (known14 : Plain.Known 𝓤 H A W 𝓣 0 ps·14 r·14
+          (claims· .28) (claims· .29) "request_sent::reply_post") (known15 : Plain.Known 𝓤 H A W 𝓣
+          0 ps·15 r·15 (claims· .30) (claims· .31) "node::live_of") (known16 : Plain.Known 𝓤 H A W
+          𝓣 8 ps·16 r·16 (claims· .32) (claims· .33) "finish::finish") → Statement.Triple 𝓤
+          (Wp.WpFn 𝓤 H (𝓣 .C) (𝓣 .Λ) (Function.fnOf 6 ps r xs m hs body)) (Function.plainOf 𝓤 H A 6
+          ps r Pre· Post·)
 
     module _ where
       abbrev at0 : Typed.TF T65 O1
@@ -30072,10 +30072,21 @@ module _ (claims· : Claims) where
             Plain.Known 𝓤 H A W 𝓣 0 ps·3 r·3 (claims· .6) (claims· .7) "node::receiving_of" ×
             Plain.Known 𝓤 H A W 𝓣 1 ps·4 r·4 (claims· .8) (claims· .9) "search::search_request" ×
             Plain.Known 𝓤 H A W 𝓣 1 ps·5 r·5 (claims· .10) (claims· .11) "search::search_route" ×
-            Plain.Known 𝓤 H A W 𝓣 0 ps·6 r·6 (claims· .12) (claims· .13) "request::is_targ_node" ×
+            Plain.Known
+            𝓤
+            H
+            A
+            W
+            𝓣
+            0
+            ps·6
+            r·6
+            (claims· .12)
+            (claims· .13)
+            "request_targets::is_targ_node" ×
             Plain.Known 𝓤 H A W 𝓣 1 ps·7 r·7 (claims· .14) (claims· .15) "search::free_delta_if" ×
             Plain.Known 𝓤 H A W 𝓣 0 ps·8 r·8 (claims· .16) (claims· .17) "request::gather" ×
-            Plain.Known 𝓤 H A W 𝓣 1 ps·9 r·9 (claims· .18) (claims· .19) "request::judge" ×
+            Plain.Known 𝓤 H A W 𝓣 1 ps·9 r·9 (claims· .18) (claims· .19) "request_answer::judge" ×
             Plain.Known 𝓤 H A W 𝓣 0 ps·10 r·10 (claims· .20) (claims· .21) "answer::number" ×
             Plain.Known 𝓤 H A W 𝓣 0 ps·11 r·11 (claims· .22) (claims· .23) "outcome::refused" ×
             Plain.Known
@@ -46285,7 +46296,7 @@ module _ (claims· : Claims) where
               r·9
               (claims· .18)
               (claims· .19)
-              "request::judge"
+              "request_answer::judge"
               (known .9)
               E
               (λ pos β. β)
@@ -47922,7 +47933,7 @@ module _ (claims· : Claims) where
               r·6
               (claims· .12)
               (claims· .13)
-              "request::is_targ_node"
+              "request_targets::is_targ_node"
               (known .6)
               E
               (λ pos β. β)
@@ -52668,7 +52679,7 @@ module _ (claims· : Claims) where
             r·6
             (claims· .12)
             (claims· .13)
-            "request::is_targ_node")
+            "request_targets::is_targ_node")
             (known7 : Plain.Known
             𝓤
             H
@@ -52704,7 +52715,7 @@ module _ (claims· : Claims) where
             r·9
             (claims· .18)
             (claims· .19)
-            "request::judge")
+            "request_answer::judge")
             (known10 : Plain.Known
             𝓤
             H
