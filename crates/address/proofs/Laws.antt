@@ -2,11 +2,11 @@
 use Prim.Native.Nat.{ℕ, _+_, _≤_, _<_}
 use mathlib.Core.Path.{_≡_}
 use mathlib.Core.Bool.{true, false}
-use mathlib.Core.List.{List, _++_, append-nil}
+use mathlib.Core.List.{List}
 use native.Mathlib.Omega.{arith}
 use lib.Dec.{eqb}
-use lib.ListN.{length, getD, take, drop, drop-of-length-le}
-use lib.Seq.{getD-take, length-take-le, take-length, paste}
+use lib.ListN.{length, getD, take, drop}
+use lib.Seq.{getD-take, length-take-le}
 use Rattle.plain.specs.Lists.{same}
 use Rattle.lemmas.proofs.Walk.{same-hit, same-miss, same-end}
 
@@ -31,9 +31,3 @@ module _ (k : ℕ) (xs ys : List ℕ) (p : k ≤ length xs) (q : k ≤ length ys
   pub first-end : k ≤ i → same (take k xs) (take k ys) ≡ true
   first-end h =
       same-end (take k xs) (take k ys) i v (omega (arith, length-take-le k xs p)) (omega (arith, length-take-le k ys q))
-
--- ---- Octets put over others
-
--- up to the end
-pub over-end : (d part : List ℕ) (at : ℕ) → length d ≤ at + length part → paste d at part (length part) ≡ take at d ++ part
-over-end d part at h = rw (take-length part, drop-of-length-le d {i = at + length part} h, append-nil)

@@ -1,10 +1,8 @@
 // Addresses: sixteen octets by value (01, "Octets on the air").
 ghost use mathlib.Core.Path.{_≡_};
-ghost use Prim.Native.Nat.{_+_, _≤_};
-ghost use lib.ListN.{length};
-ghost use lib.Seq.{paste};
+ghost use Prim.Native.Nat.{_≤_};
 ghost use Rattle.plain.specs.Lists.{same};
-ghost use Rattle.plain.specs.Address.{linkLocal, allZero, unusable, firstBits, agree, sharesFirst};
+ghost use Rattle.plain.specs.Address.{firstBits, agree, sharesFirst};
 
 // Whether the first `compr` octets of `a` are those of the DODAGID.
 pub fn shares_first(compr: u8, dodagid: [u8; 16], a: [u8; 16]) -> bool
@@ -40,41 +38,6 @@ pub fn is_same(a: [u8; 16], b: [u8; 16]) -> bool
     true
 }
 
-fn is_link_local(a: [u8; 16]) -> bool
-    ensures { λ r. ⌜ r ≡ linkLocal a ⌝ }
-{
-    if a[0] != 0xfe {
-        return false;
-    }
-    a[1] / 64 == 2
-}
-
-fn is_all_zero(a: [u8; 16]) -> bool
-    ensures { λ r. ⌜ r ≡ allZero a ⌝ }
-{
-    let mut i: usize = 0;
-    while i < 16 {
-        if 0 != a[i] {
-            return false;
-        }
-        i = i + 1;
-    }
-    true
-}
-
-// Whether an address is link-local, multicast or all zero.
-pub fn is_unusable(a: [u8; 16]) -> bool
-    ensures { λ r. ⌜ r ≡ unusable a ⌝ }
-{
-    if is_link_local(a) {
-        return true;
-    }
-    if a[0] == 0xff {
-        return true;
-    }
-    is_all_zero(a)
-}
-
 // The first k bits of an address, the others 0. Most are asked for whole.
 pub fn first_bits(k: u8, a: [u8; 16]) -> [u8; 16]
     ensures { λ r. ⌜ r ≡ firstBits k a ⌝ }
@@ -93,17 +56,4 @@ pub fn do_agree(k: u8, a: [u8; 16], b: [u8; 16]) -> bool
         return is_same(a, b);
     }
     is_same(prefix::cut_bits(k, a), prefix::cut_bits(k, b))
-}
-
-// Puts some octets over those of `out` from `at` on.
-pub fn put_over(out: &mut [u8], at: usize, part: &[u8])
-    requires { ⌜ at + length (now part) ≤ length (now out) ⌝ }
-    ensures { λ r. ⌜ now (out .exit) ≡ paste (now (out .entry)) at (now (part .entry)) (length (now (part .entry))) ⌝ }
-{
-    let mut i: usize = 0;
-    while i < part.len() {
-        let to = at + i;
-        out[to] = part[i];
-        i = i + 1;
-    }
 }

@@ -23,8 +23,8 @@ pub fn is_bad(o: Own, clock: u64, t: u64, forward: usize, reply: usize) -> bool
     if reply < 1236 {
         return true;
     }
-    if address::is_unusable(receiving) {
+    if unusable::is_unusable(receiving) {
         return true;
     }
-    address::is_unusable(sending)
+    unusable::is_unusable(sending)
 }

@@ -80,7 +80,7 @@ pub fn read_dodagid(msg: &[u8]) -> [u8; 16]
     ensures { λ r. ⌜ r ≡ baseOf (now (msg .entry)) .dodagid ⌝ }
 {
     let mut dodagid = [0u8; 16];
-    address::put_over(&mut dodagid, 0, &msg[8..24]);
+    octets::put_over(&mut dodagid, 0, &msg[8..24]);
     dodagid
 }
 
@@ -89,7 +89,7 @@ pub fn has_unusable_dodagid(msg: &[u8]) -> bool
     requires { ⌜ 24 ≤ length (now msg) ⌝ }
     ensures { λ r. ⌜ r ≡ unusable (baseOf (now (msg .entry)) .dodagid) ⌝ }
 {
-    address::is_unusable(read_dodagid(msg))
+    unusable::is_unusable(read_dodagid(msg))
 }
 
 // Whether there are over 16 vector addresses or over 8 targets.

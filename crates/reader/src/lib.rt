@@ -68,7 +68,7 @@ fn read_configuration(msg: &[u8], f: Found) -> [u8; 14]
     }
     let start = f.start;
     let end = f.end;
-    address::put_over(&mut octets, 0, &msg[start..end]);
+    octets::put_over(&mut octets, 0, &msg[start..end]);
     octets
 }
 

@@ -18,7 +18,7 @@ pub fn addresses(part: &[u8], compr: u8, dodagid: [u8; 16]) -> [[u8; 16]; 16]
         let end = at + width;
         // in its place: an address that is made apart is waited for when it is copied there
         vector[i] = dodagid;
-        address::put_over(&mut vector[i], compr as usize, &part[at..end]);
+        octets::put_over(&mut vector[i], compr as usize, &part[at..end]);
         at = end;
         i = i + 1;
     }

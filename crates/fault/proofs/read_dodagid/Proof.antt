@@ -1,7 +1,7 @@
 use mathlib.Core.Path.{_∙_}
 use native.Mathlib.Omega.{arith}
 use borrow.Author.Needs.{needs}
-use Rattle.address.proofs.Laws.{over-end}
+use Rattle.octets.proofs.Laws.{over-end}
 use Rattle.plain.specs.Octets.{baseOf}
 use Rattle.fault.proofs.Part.{length-part}
 use Rattle.fault.proofs.read_dodagid.Statement.{statement}

@@ -2,7 +2,7 @@ use Prim.Native.Nat.{_<_}
 use mathlib.Core.Path.{_∙_}
 use native.Mathlib.Omega.{arith}
 use borrow.Author.Needs.{needs}
-use Rattle.address.proofs.Laws.{over-end}
+use Rattle.octets.proofs.Laws.{over-end}
 use Rattle.fault.proofs.Part.{length-part}
 use Rattle.reader.proofs.Routes.{configuration-size}
 use Rattle.reader.proofs.read_configuration.Statement.{statement}

@@ -4,7 +4,7 @@ use mathlib.Core.List.{[]}
 use native.Mathlib.Omega.{arith}
 use lib.ListN.{length, take, drop, length-take, length-drop}
 use lib.Seq.{getD-set-same, set-set}
-use Rattle.address.proofs.Laws.{over-end}
+use Rattle.octets.proofs.Laws.{over-end}
 use borrow.Author.Needs.{needs}
 use Rattle.vector.proofs.Laws.{Restoring, restoring-first, room-here, restoring-more, restoring-last}
 use Rattle.lemmas.proofs.Cases.{cases}

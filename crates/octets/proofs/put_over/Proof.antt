@@ -6,8 +6,8 @@ use lib.Seq.{paste, paste-zero, paste-suc, length-paste}
 use lib.ListN.{length}
 use borrow.Author.Needs.{needs}
 use Rattle.lemmas.proofs.Cases.{cases}
-use Rattle.address.proofs.put_over.Statement.{statement}
-use Rattle.address.proofs.put_over.Tie as tie
+use Rattle.octets.proofs.put_over.Statement.{statement}
+use Rattle.octets.proofs.put_over.Tie as tie
 
 abbrev Inv-loop : tie.InvT-loop
 Inv-loop out₀ at part i₀ out i = (i ≤ length part) × (out ≡ paste out₀ at part i)

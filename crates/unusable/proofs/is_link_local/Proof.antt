@@ -1,7 +1,7 @@
 use borrow.Author.Needs.{needs}
 use Rattle.lemmas.proofs.Cases.{cases}
-use Rattle.address.proofs.is_link_local.Statement.{statement}
-use Rattle.address.proofs.is_link_local.Tie as tie
+use Rattle.unusable.proofs.is_link_local.Statement.{statement}
+use Rattle.unusable.proofs.is_link_local.Tie as tie
 
 array-read-if1 : tie.Need-array-read-if1
 array-read-if1 c = search needs

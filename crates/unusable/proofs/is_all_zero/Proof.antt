@@ -8,8 +8,8 @@ use borrow.Author.Needs.{needs}
 use Rattle.lemmas.proofs.Walk.{all-miss, all-hit, all-end}
 use Rattle.plain.specs.Lists.{all}
 use Rattle.lemmas.proofs.Cases.{cases}
-use Rattle.address.proofs.is_all_zero.Statement.{statement}
-use Rattle.address.proofs.is_all_zero.Tie as tie
+use Rattle.unusable.proofs.is_all_zero.Statement.{statement}
+use Rattle.unusable.proofs.is_all_zero.Tie as tie
 
 abbrev Inv-loop : tie.InvT-loop
 Inv-loop a i₀ i = (i ≤ 16) × (all (eqb 0) a ≡ all (eqb 0) (drop i a))

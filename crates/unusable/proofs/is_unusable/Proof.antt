@@ -1,8 +1,8 @@
 use borrow.Author.Needs.{needs}
 use Rattle.plain.specs.Address.{unusable}
 use Rattle.lemmas.proofs.Cases.{cases}
-use Rattle.address.proofs.is_unusable.Statement.{statement}
-use Rattle.address.proofs.is_unusable.Tie as tie
+use Rattle.unusable.proofs.is_unusable.Statement.{statement}
+use Rattle.unusable.proofs.is_unusable.Tie as tie
 
 is-link-local-requires : tie.Need-is-link-local-requires
 is-link-local-requires c κs = search needs
