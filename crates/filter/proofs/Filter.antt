@@ -1,5 +1,5 @@
 -- The soundness of the filter: where it has no mark for a row's hash, no earlier row that was marked has the row's key.
-use Prim.Native.Nat.{ℕ, _+_, _<_, _/_, _%_}
+use Prim.Native.Nat.{ℕ, _+_, _<_, _≤_, _/_, _%_}
 use mathlib.Core.Path.{_≡_, refl, sym, _∙_}
 use mathlib.Core.Bool.{Bool, true, false, cond, _||_}
 use mathlib.Core.List.{List, [], _∷_}
@@ -8,14 +8,14 @@ use native.Mathlib.Omega.{arith}
 use native.Mathlib.Nat.{eq-or-lt-of-le}
 use lib.Dec.{eqb}
 use lib.Bits.{bitOr, bitAnd, and-le-r}
-use lib.ListN.{length, getD, set, take, length-take}
+use lib.ListN.{length, getD, set, take, length-take, length-set}
 use lib.Seq.{getD-set-same, getD-set-other, getD-take}
 use borrow.Author.Tests.{eqb-true, eqb-false, eq-eqb}
 use Rattle.plain.specs.Lists.{any, anyTwo}
 use Rattle.lemmas.proofs.Choice.{true-false, or-left, or-right, or-neither}
 use Rattle.first.proofs.Found.{cond-true}
 use Rattle.filter.specs.Filter.{bitsOf, hasBits, maybeOf, markedOf, classOf, chosenOf, inClass}
-use Rattle.key.proofs.Any.{not-so, so, any-false, any-not, two-less}
+use Rattle.key.proofs.Any.{not-so, so, any-false, any-not, two-start, two-hit, two-more, two-end, two-less}
 use Rattle.filter.proofs.Words.{or-has, or-keeps}
 
 -- ---- words
@@ -32,6 +32,13 @@ stays false w h g e = e
 -- the words have the mark of a hash, of which `slot` tells the word
 abbrev pub has : (ℕ → ℕ) → List ℕ → ℕ → Bool
 has slot ws h = hasBits (getD ws (slot h) 0) h
+
+-- what was asked only where the filter said maybe
+pub asked : (m b e : Bool) → m ≡ true → b ≡ e → cond m e false ≡ b
+asked m b e h f = rw (h, f)
+
+pub unasked : (m e : Bool) → m ≡ false → cond m e false ≡ false
+unasked m e h = rw h
 
 -- ---- one pass over rows of any kind
 
@@ -121,21 +128,40 @@ module _ (slot : ℕ → ℕ) (K : Kind) (mask p : ℕ) (rows : List (K .Row)) w
       go m false q =
           rw (getD-set-other ws _ _ _ 0 (eqb-false (slot (K .hash (row k))) (slot (K .hash (row j))) q)) (holds k m c)
 
-  -- the same with a name for each thing that the code computes on the way
-  module _ (j h s x : ℕ) (v on m : Bool) (ws : List ℕ)
-      (hashed : h ≡ K .hash (row j)) (lives : v ≡ K .live (row j)) (chose : on ≡ chosenOf mask p v h) (placed : s ≡ slot h) where
+  -- ---- the pass as a loop
+
+  -- at row j: no two of the rows before it are twins of the class, and each of the class has its mark in the words
+  abbrev pub Passed : ℕ → ℕ → List ℕ → Type 0
+  Passed size j ws =
+      (j ≤ length rows) × (length ws ≡ size) × (anyTwo (inClass (K .hash) mask p (K .twins)) (take j rows) ≡ false) × Holds j ws
+
+  pub passed-none : (size : ℕ) (ws : List ℕ) → length ws ≡ size → Passed size 0 ws
+  passed-none size ws e = (omega arith, e, two-start (inClass (K .hash) mask p (K .twins)) rows, none-held ws)
+
+  pub passed-all : (size j : ℕ) (ws : List ℕ) → Passed size j ws → length rows ≤ j → anyTwo (inClass (K .hash) mask p (K .twins)) rows ≡ false
+  passed-all size j ws w h = two-end (inClass (K .hash) mask p (K .twins)) rows j h (w .2)
+
+  -- with a name for each thing that the code computes on the way
+  module _ (j h s : ℕ) (v on m : Bool) (ws : List ℕ) (low : j < length rows)
+      (hashed : h ≡ K .hash (row j)) (lives : v ≡ K .live (row j)) (chose : on ≡ chosenOf mask p v h) (placed : s ≡ slot h)
+      (asks : m ≡ maybeOf on (getD ws s 0) h) where
     chose-is : on ≡ chosen (row j)
     chose-is = chose ∙ rw (hashed, lives)
 
-    pub pass-miss : j < length rows → Holds j ws → m ≡ maybeOf on (getD ws s 0) h → cond m (earlierTwin j) false ≡ false
-        → earlierIn j ≡ false
-    pass-miss low holds e f = miss j ws low holds (rw (← chose-is, ← hashed, ← placed, ← e) f)
+    pub passed-hit : (b : Bool) → m ≡ true → b ≡ earlierTwin j → b ≡ true → anyTwo (inClass (K .hash) mask p (K .twins)) rows ≡ true
+    passed-hit b e f g =
+        two-hit (inClass (K .hash) mask p (K .twins)) rows j (K .none) low
+        (hit j (getD ws s 0) (rw (← chose-is, ← hashed, ← asks) (asked m b (earlierTwin j) e f ∙ g)))
 
-    pub pass-keep : Holds j ws → s < length ws → x ≡ markedOf on (getD ws s 0) h → Holds (j + 1) (set ws s x)
-    pass-keep holds room e = rw (e, chose-is, placed, hashed) (keep j ws (rw (← hashed, ← placed) room) holds)
-
-    pub pass-hit : m ≡ maybeOf on (getD ws s 0) h → cond m (earlierTwin j) false ≡ true → earlierIn j ≡ true
-    pass-hit e f = hit j (getD ws s 0) (rw (← chose-is, ← hashed, ← e) f)
+    pub passed-more : (size x : ℕ) → Passed size j ws → s < length ws → cond m (earlierTwin j) false ≡ false → x ≡ markedOf on (getD ws s 0) h
+        → Passed size (j + 1) (set ws s x)
+    passed-more size x w room f e = (
+      omega arith,
+      length-set ws s x ∙ w .1,
+      two-more (inClass (K .hash) mask p (K .twins)) rows j (K .none) low (w .2)
+          (miss j ws low (w .3) (rw (← chose-is, ← hashed, ← placed, ← asks) f)),
+      rw (e, chose-is, placed, hashed) (keep j ws (rw (← hashed, ← placed) room) (w .3)),
+    )
 
 -- ---- a pass for each class
 
@@ -166,6 +192,19 @@ module _ {R : Type 0} (hash : R → ℕ) (twins : R → R → Bool) (mask : ℕ)
       so (anyTwo twins rows) (λ n. true-false (sym e
       ∙ two-less (inClass hash mask q twins) twins (λ a b w. cond-true (eqb (classOf mask (hash b)) q) (twins a b) w .1) rows n))
 
+-- no two are twins of a class below p
+module _ (K : Kind) (mask : ℕ) (rows : List (K .Row)) where
+  abbrev pub Below : ℕ → Type 0
+  Below p = (q : ℕ) → q < p → anyTwo (inClass (K .hash) mask q (K .twins)) rows ≡ false
+
+  pub below-first : (b : Bool) → b ≡ anyTwo (inClass (K .hash) mask 0 (K .twins)) rows → b ≡ false → Below 1
+  below-first b e f q l =
+      let z : q ≡ 0 = omega arith in
+      rw z (sym e ∙ f)
+
+  pub below-all : (p : ℕ) → Below p → mask < p → anyTwo (K .twins) rows ≡ false
+  below-all p w h = each-class (K .hash) (K .twins) mask rows (λ q l. w q (omega arith))
+
 -- ---- one class for all
 
 -- every row is of the one class
@@ -177,10 +216,3 @@ one-chosen false h = refl
 pub all-class : {R : Type 0} (hash : R → ℕ) (twins : R → R → Bool) (rows : List R) → anyTwo (inClass hash 0 0 twins) rows ≡ false
     → anyTwo twins rows ≡ false
 all-class hash twins rows e = each-class hash twins 0 rows (λ q l. let z : q ≡ 0 = omega arith in rw z e)
-
--- what was asked only where the filter said maybe
-pub asked : (m b e : Bool) → m ≡ true → b ≡ e → cond m e false ≡ b
-asked m b e h f = rw (h, f)
-
-pub unasked : (m e : Bool) → m ≡ false → cond m e false ≡ false
-unasked m e h = rw h

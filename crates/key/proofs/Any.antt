@@ -6,9 +6,9 @@ use mathlib.Core.List.{List, [], _∷_, _++_}
 use native.Mathlib.Omega.{arith}
 use native.Mathlib.Numerals.{add-one}
 use lib.ListN.{length, getD, take, drop, take-append-drop, length-take, drop-of-length-le}
-use lib.Seq.{take-suc, take-all}
+use lib.Seq.{take-suc, take-all, getD-take}
 use Rattle.plain.specs.Lists.{any, anyTwo}
-use Rattle.lemmas.proofs.Walk.{left-at}
+use Rattle.lemmas.proofs.Walk.{left-at, any-hit, any-miss, any-end}
 use Rattle.lemmas.proofs.Choice.{true-false, or-left, or-right, or-neither}
 
 pub not-so : (b : Bool) → (b ≡ true → ⊥) → b ≡ false
@@ -140,8 +140,18 @@ module _ {A : Type 0} (p q : A → A → Bool) where
 
 -- ---- the first j of a list, gone through from its front
 
-pub first-below : {A : Type 0} (xs : List A) (i j : ℕ) → i < j → j < length xs → i < length (take j xs)
-first-below xs i j h k = omega (arith, length-take j xs)
+module _ {A : Type 0} (p : A → Bool) (xs : List A) (j : ℕ) where
+  -- at i: one of the first j is so if one of those from i on is
+  abbrev pub Left : ℕ → Type 0
+  Left i = (i ≤ j) × (any p (take j xs) ≡ any p (drop i (take j xs)))
 
-pub first-past : {A : Type 0} (xs : List A) (i j : ℕ) → j ≤ i → length (take j xs) ≤ i
-first-past xs i j h = omega (arith, length-take j xs)
+  module _ (i : ℕ) (d : A) (w : Left i) where
+    module _ (b : Bool) (h : i < j) (k : j < length xs) (e : b ≡ p (getD xs i d)) where
+      pub left-hit : b ≡ true → any p (take j xs) ≡ true
+      left-hit f = any-hit p d (take j xs) i (w .1) (omega (arith, length-take j xs)) (rw (getD-take j xs i d h) (sym e ∙ f))
+
+      pub left-miss : b ≡ false → Left (i + 1)
+      left-miss f = (omega arith, any-miss p d (take j xs) i (w .1) (omega (arith, length-take j xs)) (rw (getD-take j xs i d h) (sym e ∙ f)))
+
+    pub left-end : j ≤ i → any p (take j xs) ≡ false
+    left-end h = any-end p d (take j xs) i (w .1) (omega (arith, length-take j xs))

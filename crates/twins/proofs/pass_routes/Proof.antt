@@ -1,38 +1,26 @@
 pub mod Lts
 pub mod Tie
 use Rattle.filter.proofs.Joins.{routeKind}
-use Prim.Native.Nat.{_-_, _≤_}
-use mathlib.Core.Path.{_≡_, sym, _∙_}
+use Prim.Native.Nat.{_-_}
+use mathlib.Core.Path.{sym, _∙_}
 use mathlib.Core.Logic.{⊎-elim}
-use mathlib.Core.Bool.{false}
 use denote.Ref.{now}
-use lib.ListN.{length, take, length-set}
-use Rattle.plain.specs.Lists.{anyTwo}
-use Rattle.row.specs.Meaning.{noRoute}
-use Rattle.key.specs.Pair.{routePair}
-use Rattle.filter.specs.Filter.{slotOf, hashRoute, inClass}
-use Rattle.key.proofs.Any.{two-start, two-hit, two-more, two-end}
-use Rattle.filter.proofs.Filter.{Holds, none-held, pass-hit, pass-miss, pass-keep, asked, unasked}
+use lib.ListN.{length}
+use Rattle.filter.specs.Filter.{slotOf}
+use Rattle.filter.proofs.Filter.{Passed, passed-none, passed-hit, passed-more, passed-all, asked, unasked}
 use borrow.Author.Needs.{needs}
 use Rattle.twins.proofs.pass_routes.Statement.{statement}
 use Rattle.twins.proofs.pass_routes.Proof.Tie as tie
 
 -- No two of the first j rows are twins of the pass's class, and each of them that is of the class has its mark.
 abbrev Inv-loop : tie.InvT-loop
-Inv-loop routes t mask p words₀ j₀ words j =
-    (j ≤ length routes) × (length words ≡ 1536) × (anyTwo (inClass hashRoute mask p (routePair t)) (take j routes) ≡ false) × Holds slotOf (routeKind t) mask p routes j words
+Inv-loop routes t mask p words₀ j₀ words j = Passed slotOf (routeKind t) mask p routes 1536 j words
 
 abbrev μ-loop : tie.MeasureT-loop
 μ-loop routes t mask p words₀ j₀ words j = length routes - j
 
 loop-holds : tie.Need-loop-holds Inv-loop μ-loop
-loop-holds c = (
-  search needs,
-  search needs,
-  two-start (inClass hashRoute (c .args .mask) (c .args .p) (routePair (c .args .t)))
-      (now (c .args .routes)),
-  none-held slotOf (routeKind (c .args .t)) (c .args .mask) (c .args .p) (now (c .args .routes)) _,
-)
+loop-holds c = passed-none slotOf (routeKind (c .args .t)) (c .args .mask) (c .args .p) (now (c .args .routes)) 1536 _ (search needs)
 
 mul-hash-route : tie.Need-mul-hash-route Inv-loop μ-loop
 mul-hash-route c = search needs
@@ -79,10 +67,7 @@ returns c = let a = c .before .before .before .before .before .before .before .b
     let s = c .before .before .before .before .slot-of in
     let m = c .before .before .before .maybe in
     let e = c .before .scan-routes in
-    sym (two-hit (inClass hashRoute (a .mask) (a .p) (routePair (a .t))) (now (a .routes)) (l .j) noRoute (search needs)
-    (pass-hit slotOf (routeKind (a .t)) (a .mask) (a .p) (now (a .routes)) (l .j) (h .result) (s .result) 0 (v .result) (o .result) (m .result)
-    (l .words) (h .ensures) (v .ensures) (o .ensures) (s .ensures .0) (m .ensures)
-    (asked (m .result) (e .result) _ (c .before .before .if1 .taken) (e .ensures) ∙ c .if2 .taken)))
+    sym (passed-hit slotOf (routeKind (a .t)) (a .mask) (a .p) (now (a .routes)) (l .j) (h .result) (s .result) (v .result) (o .result) (m .result) (l .words) (search needs) (h .ensures) (v .ensures) (o .ensures) (s .ensures .0) (m .ensures) (e .result) (c .before .before .if1 .taken) (e .ensures) (c .if2 .taken))
 
 marked-requires : tie.Need-marked-requires Inv-loop μ-loop
 marked-requires c = search needs
@@ -107,20 +92,15 @@ loop-again c = let a = c .before .before .before .before .before .before .before
     let o = c .before .before .before .before .is-chosen in
     let s = c .before .before .before .slot-of in
     let m = c .before .before .maybe in
-    let none = ⊎-elim (λ w. asked (m .result) (w .1 .result) _ (w .0 .taken) (w .1 .ensures) ∙ w .2 .left)
-    (λ w. unasked (m .result) _ (w .left)) (c .before .if1 .came) in (
-      search needs,
-      simp length-set (search needs),
-      two-more (inClass hashRoute (a .mask) (a .p) (routePair (a .t))) (now (a .routes)) (l .j) noRoute (search needs) (l .inv .2)
-          (pass-miss slotOf (routeKind (a .t)) (a .mask) (a .p) (now (a .routes)) (l .j) (h .result) (s .result) 0 (v .result) (o .result) (m .result) (l .words) (h .ensures) (v .ensures) (o .ensures) (s .ensures .0) (search needs) (l .inv .3) (m .ensures) none),
-      pass-keep slotOf (routeKind (a .t)) (a .mask) (a .p) (now (a .routes)) (l .j) (h .result) (s .result) (c .marked .result) (v .result) (o .result)
-          (m .result) (l .words) (h .ensures) (v .ensures) (o .ensures) (s .ensures .0) (l .inv .3) (search needs) (c .marked .ensures),
-    )
+    let none = ⊎-elim (λ w. asked (m .result) (w .1 .result) _ (w .0 .taken) (w .1 .ensures) ∙ w .2 .left) (λ w. unasked (m .result) _ (w .left))
+    (c .before .if1 .came) in
+    passed-more slotOf (routeKind (a .t)) (a .mask) (a .p) (now (a .routes)) (l .j) (h .result) (s .result) (v .result) (o .result) (m .result) (l .words) (search needs) (h .ensures) (v .ensures) (o .ensures) (s .ensures .0) (m .ensures) 1536 (c .marked .result) (l .inv) (search needs)
+    none (c .marked .ensures)
 
 returns-2 : tie.Need-returns-2 Inv-loop μ-loop
 returns-2 c = let a = c .before .before .args in
     let l = c .before .loop in
-    sym (two-end (inClass hashRoute (a .mask) (a .p) (routePair (a .t))) (now (a .routes)) (l .j) (c .loop-test .left) (l .inv .2))
+    sym (passed-all slotOf (routeKind (a .t)) (a .mask) (a .p) (now (a .routes)) 1536 (l .j) (l .words) (l .inv) (c .loop-test .left))
 
 pub pass-routes-spec : {M : Type 1} → statement M
 pass-routes-spec = tie.close (tie.spec Inv-loop μ-loop loop-holds mul-hash-route shared-slice-copy-out-hash-route hash-route-requires mul-is-live-route shared-slice-copy-out-is-live-route is-live-route-requires is-chosen-requires slot-of-requires mul-w array-read-w maybe-requires scan-routes-requires returns marked-requires mul-words array-write-words add-j loop-less loop-again returns-2)

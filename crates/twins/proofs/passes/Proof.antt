@@ -1,22 +1,20 @@
 pub mod Lts
 pub mod Tie
-use native.Mathlib.Omega.{arith}
-use Prim.Native.Nat.{ℕ, _+_, _-_, _≤_, _<_}
-use mathlib.Core.Path.{_≡_, sym, _∙_}
-use mathlib.Core.Bool.{false}
+use Prim.Native.Nat.{_+_, _-_, _≤_, _<_}
+use mathlib.Core.Path.{sym, _∙_}
 use denote.Ref.{now}
-use Rattle.plain.specs.Lists.{anyTwo}
 use Rattle.key.specs.Pair.{rowTwins}
 use borrow.Author.Count.{below-more}
-use Rattle.filter.specs.Filter.{hashRow, inClass}
-use Rattle.filter.proofs.Filter.{one-class, each-class}
+use Rattle.filter.specs.Filter.{hashRow}
+use Rattle.filter.proofs.Filter.{Below, below-first, below-all, one-class}
+use Rattle.filter.proofs.Joins.{rowKind}
 use borrow.Author.Needs.{needs}
 use Rattle.twins.proofs.passes.Statement.{statement}
 use Rattle.twins.proofs.passes.Proof.Tie as tie
 
 -- No two rows are twins of a class below p.
 abbrev Inv-loop : tie.InvT-loop
-Inv-loop rows t mask p₀ p = (mask < 65536) × (p ≤ mask + 1) × ((q : ℕ) → q < p → anyTwo (inClass hashRow mask q (rowTwins t)) rows ≡ false)
+Inv-loop rows t mask p₀ p = (mask < 65536) × (p ≤ mask + 1) × Below (rowKind t) mask rows p
 
 abbrev μ-loop : tie.MeasureT-loop
 μ-loop rows t mask p₀ p = mask + 1 - p
@@ -32,13 +30,8 @@ returns c = let a = c .before .before .before .args in
     sym (one-class hashRow (rowTwins (a .t)) _ _ (now (a .rows)) (sym (c .before .pass .ensures) ∙ c .if1 .taken))
 
 loop-holds : tie.Need-loop-holds Inv-loop μ-loop
-loop-holds c = (
-  search needs,
-  search needs,
-  λ q l.
-      let e : q ≡ 0 = omega arith in
-      rw e (sym (c .before .pass .ensures) ∙ c .if1 .left),
-)
+loop-holds c = let a = c .before .before .before .args in
+    (search needs, search needs, below-first (rowKind (a .t)) _ (now (a .rows)) (c .before .pass .result) (c .before .pass .ensures) (c .if1 .left))
 
 pass-requires-2 : tie.Need-pass-requires-2 Inv-loop μ-loop
 pass-requires-2 c = search needs
@@ -60,7 +53,7 @@ loop-again c = let l = c .before .before .before .loop in
 returns-3 : tie.Need-returns-3 Inv-loop μ-loop
 returns-3 c = let a = c .before .before .before .before .before .args in
     let l = c .before .loop in
-    sym (each-class hashRow (rowTwins (a .t)) _ (now (a .rows)) (λ q h. l .inv .2 q (omega arith)))
+    sym (below-all (rowKind (a .t)) _ (now (a .rows)) (l .p) (l .inv .2) (search needs))
 
 pub passes-spec : {M : Type 1} → statement M
 passes-spec =
