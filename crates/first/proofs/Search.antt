@@ -28,17 +28,17 @@ module _ {R A : Type 0} (read : R → A) (p : A → Bool) (rows : List R) (d : R
   pub at-from : (i : ℕ) → firstFrom p i (map read rows) ≡ i + first p (map read (drop i rows))
   at-from i = rw (map-drop read i rows)
 
-  pub at-hit : (k i : ℕ) → k ≡ i + first p (map read (drop i rows)) → i < length rows → p (read (getD rows i d)) ≡ true → i ≡ k
+  pub at-hit : (k i : ℕ) → k ≡ i + first p (map read (drop i rows)) → i < length rows → (b : Bool) → b ≡ p (read (getD rows i d)) → b ≡ true → i ≡ k
   unfolding first
-  at-hit k i v h e =
-      let z : first p (map read (drop i rows)) ≡ 0 = rw (left-at rows i d h, e) in
+  at-hit k i v h b f e =
+      let z : first p (map read (drop i rows)) ≡ 0 = rw (left-at rows i d h, ← f, e) in
       omega arith
 
-  pub at-miss : (k i : ℕ) → k ≡ i + first p (map read (drop i rows)) → i < length rows → p (read (getD rows i d)) ≡ false
+  pub at-miss : (k i : ℕ) → k ≡ i + first p (map read (drop i rows)) → i < length rows → (b : Bool) → b ≡ p (read (getD rows i d)) → b ≡ false
       → k ≡ i + 1 + first p (map read (drop (i + 1) rows))
   unfolding first
-  at-miss k i v h e =
-      let z : first p (map read (drop i rows)) ≡ suc (first p (map read (drop (i + 1) rows))) = rw (left-at rows i d h, e) in
+  at-miss k i v h b f e =
+      let z : first p (map read (drop i rows)) ≡ suc (first p (map read (drop (i + 1) rows))) = rw (left-at rows i d h, ← f, e) in
       omega arith
 
   pub at-end : (k i : ℕ) → k ≡ i + first p (map read (drop i rows)) → length rows ≤ i → i ≡ k

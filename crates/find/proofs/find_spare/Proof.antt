@@ -1,7 +1,7 @@
 pub mod Lts
 pub mod Tie
 use Prim.Native.Nat.{_+_, _-_}
-use mathlib.Core.Path.{_≡_, sym, ap, _∙_}
+use mathlib.Core.Path.{_≡_, ap}
 use mathlib.Core.Bool.{not}
 use mathlib.Core.List.{map}
 use denote.Ref.{now}
@@ -42,20 +42,19 @@ loop-less : tie.Need-loop-less Inv-loop μ-loop
 loop-less c = search needs
 
 loop-again : tie.Need-loop-again Inv-loop μ-loop
-loop-again c = at-miss instanceOf (dead instanceDeadline (c .before .before .before .before .before .args .t))
-    (now (c .before .before .before .before .before .args .rows)) noRow _ (c .before .before .before .before .loop .i)
-    (c .before .before .before .before .loop .inv) (c .before .before .before .loop-test .taken)
-    (ap not (sym (c .before .is-live .ensures) ∙ c .if1 .taken))
+loop-again c = let a = c .before .before .before .before .before .args in
+    let l = c .before .before .before .before .loop in
+    at-miss instanceOf (dead instanceDeadline (a .t)) (now (a .rows)) noRow _ (l .i) (l .inv) (c .before .before .before .loop-test .taken) (not (c .before .is-live .result)) (ap not (c .before .is-live .ensures)) (ap not (c .if1 .taken))
 
 returns : tie.Need-returns Inv-loop μ-loop
-returns c = at-hit instanceOf (dead instanceDeadline (c .before .before .before .before .before .args .t))
-    (now (c .before .before .before .before .before .args .rows)) noRow _ (c .before .before .before .before .loop .i)
-    (c .before .before .before .before .loop .inv) (c .before .before .before .loop-test .taken)
-    (ap not (sym (c .before .is-live .ensures) ∙ c .if1 .left))
+returns c = let a = c .before .before .before .before .before .args in
+    let l = c .before .before .before .before .loop in
+    at-hit instanceOf (dead instanceDeadline (a .t)) (now (a .rows)) noRow _ (l .i) (l .inv) (c .before .before .before .loop-test .taken) (not (c .before .is-live .result)) (ap not (c .before .is-live .ensures)) (ap not (c .if1 .left))
 
 returns-2 : tie.Need-returns-2 Inv-loop μ-loop
-returns-2 c = at-end instanceOf (dead instanceDeadline (c .before .before .args .t)) (now (c .before .before .args .rows)) noRow _
-    (c .before .loop .i) (c .before .loop .inv) (c .loop-test .left)
+returns-2 c = let a = c .before .before .args in
+    let l = c .before .loop in
+    at-end instanceOf (dead instanceDeadline (a .t)) (now (a .rows)) noRow _ (l .i) (l .inv) (c .loop-test .left)
 
 pub find-spare-spec : {M : Type 1} → statement M
 find-spare-spec = tie.close (tie.spec Inv-loop μ-loop loop-holds mul-is-live shared-slice-copy-out-is-live is-live-requires add-i loop-less loop-again

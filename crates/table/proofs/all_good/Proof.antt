@@ -1,6 +1,6 @@
 pub mod Lts
 pub mod Tie
-use Prim.Native.Nat.{_-_, _≤_}
+use Prim.Native.Nat.{_-_}
 use mathlib.Core.Path.{_≡_, refl, sym, _∙_}
 use mathlib.Core.List.{map}
 use denote.Ref.{now}
@@ -14,13 +14,13 @@ use Rattle.table.proofs.all_good.Proof.Tie as tie
 
 -- Each row is good if each from i on is.
 abbrev Inv-loop : tie.InvT-loop
-Inv-loop rows i₀ i = (i ≤ length rows) × (allGood goodInstance (map instanceOf rows) ≡ allGood goodInstance (map instanceOf (drop i rows)))
+Inv-loop rows i₀ i = allGood goodInstance (map instanceOf rows) ≡ allGood goodInstance (map instanceOf (drop i rows))
 
 abbrev μ-loop : tie.MeasureT-loop
 μ-loop rows i₀ i = length rows - i
 
 loop-holds : tie.Need-loop-holds Inv-loop μ-loop
-loop-holds c = (search needs, refl)
+loop-holds c = refl
 
 mul-is-good : tie.Need-mul-is-good Inv-loop μ-loop
 mul-is-good c = search needs
@@ -38,21 +38,19 @@ loop-less : tie.Need-loop-less Inv-loop μ-loop
 loop-less c = search needs
 
 loop-again : tie.Need-loop-again Inv-loop μ-loop
-loop-again c = (
-  search needs,
-  good-hit instanceOf goodInstance (now (c .before .before .before .before .before .args .rows)) noRow
-      (c .before .before .before .before .loop .i) (c .before .before .before .before .loop .inv .1) (c .before .before .before .loop-test .taken)
-      (sym (c .before .is-good .ensures) ∙ c .if1 .taken),
-)
+loop-again c = let a = c .before .before .before .before .before .args in
+    let l = c .before .before .before .before .loop in
+    good-hit instanceOf goodInstance (now (a .rows)) noRow (l .i) (l .inv) (c .before .before .before .loop-test .taken) (sym (c .before .is-good .ensures) ∙ c .if1 .taken)
 
 returns : tie.Need-returns Inv-loop μ-loop
-returns c = sym (good-miss instanceOf goodInstance (now (c .before .before .before .before .before .args .rows)) noRow
-    (c .before .before .before .before .loop .i) (c .before .before .before .before .loop .inv .1) (c .before .before .before .loop-test .taken)
-    (sym (c .before .is-good .ensures) ∙ c .if1 .left))
+returns c = let a = c .before .before .before .before .before .args in
+    let l = c .before .before .before .before .loop in
+    sym (good-miss instanceOf goodInstance (now (a .rows)) noRow (l .i) (l .inv) (c .before .before .before .loop-test .taken) (sym (c .before .is-good .ensures) ∙ c .if1 .left))
 
 returns-2 : tie.Need-returns-2 Inv-loop μ-loop
-returns-2 c = sym (good-end instanceOf goodInstance (now (c .before .before .args .rows)) noRow (c .before .loop .i) (c .before .loop .inv .1)
-    (c .loop-test .left))
+returns-2 c = let a = c .before .before .args in
+    let l = c .before .loop in
+    sym (good-end instanceOf goodInstance (now (a .rows)) noRow (l .i) (l .inv) (c .loop-test .left))
 
 pub all-good-spec : {M : Type 1} → statement M
 all-good-spec = tie.close (tie.spec Inv-loop μ-loop loop-holds mul-is-good shared-slice-copy-out-is-good is-good-requires add-i loop-less loop-again

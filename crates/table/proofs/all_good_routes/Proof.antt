@@ -1,6 +1,6 @@
 pub mod Lts
 pub mod Tie
-use Prim.Native.Nat.{_-_, _≤_}
+use Prim.Native.Nat.{_-_}
 use mathlib.Core.Path.{_≡_, refl, sym, _∙_}
 use mathlib.Core.List.{map}
 use denote.Ref.{now}
@@ -14,13 +14,13 @@ use Rattle.table.proofs.all_good_routes.Proof.Tie as tie
 
 -- Each row is good if each from i on is.
 abbrev Inv-loop : tie.InvT-loop
-Inv-loop routes i₀ i = (i ≤ length routes) × (allGood goodRoute (map routeOf routes) ≡ allGood goodRoute (map routeOf (drop i routes)))
+Inv-loop routes i₀ i = allGood goodRoute (map routeOf routes) ≡ allGood goodRoute (map routeOf (drop i routes))
 
 abbrev μ-loop : tie.MeasureT-loop
 μ-loop routes i₀ i = length routes - i
 
 loop-holds : tie.Need-loop-holds Inv-loop μ-loop
-loop-holds c = (search needs, refl)
+loop-holds c = refl
 
 mul-is-good-route : tie.Need-mul-is-good-route Inv-loop μ-loop
 mul-is-good-route c = search needs
@@ -38,21 +38,19 @@ loop-less : tie.Need-loop-less Inv-loop μ-loop
 loop-less c = search needs
 
 loop-again : tie.Need-loop-again Inv-loop μ-loop
-loop-again c = (
-  search needs,
-  good-hit routeOf goodRoute (now (c .before .before .before .before .before .args .routes)) noRoute
-      (c .before .before .before .before .loop .i) (c .before .before .before .before .loop .inv .1) (c .before .before .before .loop-test .taken)
-      (sym (c .before .is-good-route .ensures) ∙ c .if1 .taken),
-)
+loop-again c = let a = c .before .before .before .before .before .args in
+    let l = c .before .before .before .before .loop in
+    good-hit routeOf goodRoute (now (a .routes)) noRoute (l .i) (l .inv) (c .before .before .before .loop-test .taken) (sym (c .before .is-good-route .ensures) ∙ c .if1 .taken)
 
 returns : tie.Need-returns Inv-loop μ-loop
-returns c = sym (good-miss routeOf goodRoute (now (c .before .before .before .before .before .args .routes)) noRoute
-    (c .before .before .before .before .loop .i) (c .before .before .before .before .loop .inv .1) (c .before .before .before .loop-test .taken)
-    (sym (c .before .is-good-route .ensures) ∙ c .if1 .left))
+returns c = let a = c .before .before .before .before .before .args in
+    let l = c .before .before .before .before .loop in
+    sym (good-miss routeOf goodRoute (now (a .routes)) noRoute (l .i) (l .inv) (c .before .before .before .loop-test .taken) (sym (c .before .is-good-route .ensures) ∙ c .if1 .left))
 
 returns-2 : tie.Need-returns-2 Inv-loop μ-loop
-returns-2 c = sym (good-end routeOf goodRoute (now (c .before .before .args .routes)) noRoute (c .before .loop .i) (c .before .loop .inv .1)
-    (c .loop-test .left))
+returns-2 c = let a = c .before .before .args in
+    let l = c .before .loop in
+    sym (good-end routeOf goodRoute (now (a .routes)) noRoute (l .i) (l .inv) (c .loop-test .left))
 
 pub all-good-routes-spec : {M : Type 1} → statement M
 all-good-routes-spec = tie.close (tie.spec Inv-loop μ-loop loop-holds mul-is-good-route shared-slice-copy-out-is-good-route is-good-route-requires
