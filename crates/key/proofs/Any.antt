@@ -50,6 +50,14 @@ module _ {A : Type 0} (p : A → Bool) where
   any-not (x ∷ xs) d e zero h = or-left (p x) (any p xs) e
   any-not (x ∷ xs) d e (suc k) h = any-not xs d (or-right (p x) (any p xs) e) k (omega arith)
 
+-- none is so in the narrower sense, where none is in the wider
+pub any-less : {A : Type 0} (p q : A → Bool) → ((x : A) → p x ≡ true → q x ≡ true) → (xs : List A) → any q xs ≡ false → any p xs ≡ false
+unfolding any
+any-less p q f [] e = refl
+any-less p q f (x ∷ xs) e =
+    or-neither (p x) (any p xs) (not-so (p x) (λ t. true-false (sym (f x t) ∙ or-left (q x) (any q xs) e)))
+    (any-less p q f xs (or-right (q x) (any q xs) e))
+
 module _ {A : Type 0} (p q : A → Bool) (f : (x : A) → p x ≡ q x) where
   pub any-same : (xs : List A) → any p xs ≡ any q xs
   unfolding any
@@ -114,28 +122,12 @@ module _ {A : Type 0} (p q : A → A → Bool) where
   two-either (x ∷ xs) =
       rw (any-either x xs, ← two-either xs) (or-across (any (p x) xs) (anyTwo p xs) (any (q x) xs) (anyTwo q xs))
 
-  any-less : ((x y : A) → p x y ≡ true → q x y ≡ true) → (x : A) (ys : List A) → any (q x) ys ≡ false → any (p x) ys ≡ false
-  unfolding any
-  any-less f x [] e = refl
-  any-less f x (y ∷ ys) e =
-      or-neither (p x y) (any (p x) ys) (not-so (p x y) (λ t. true-false (sym (f x y t) ∙ or-left (q x y) (any (q x) ys) e)))
-      (any-less f x ys (or-right (q x y) (any (q x) ys) e))
-
-  -- none is so before y in the narrower sense, where none is in the wider
-  pub any-before : ((x y : A) → p x y ≡ true → q x y ≡ true) → (y : A) (xs : List A) → any (λ (x : A). q x y) xs ≡ false
-      → any (λ (x : A). p x y) xs ≡ false
-  unfolding any
-  any-before f y [] e = refl
-  any-before f y (x ∷ xs) e =
-      or-neither (p x y) (any (λ (z : A). p z y) xs) (not-so (p x y) (λ t. true-false (sym (f x y t) ∙ or-left (q x y) (any (λ (z : A). q z y) xs) e)))
-      (any-before f y xs (or-right (q x y) (any (λ (z : A). q z y) xs) e))
-
   -- what two are not so in the wider sense they are not in the narrower
   pub two-less : ((x y : A) → p x y ≡ true → q x y ≡ true) → (xs : List A) → anyTwo q xs ≡ false → anyTwo p xs ≡ false
   unfolding anyTwo
   two-less f [] e = refl
   two-less f (x ∷ xs) e =
-      or-neither (any (p x) xs) (anyTwo p xs) (any-less f x xs (or-left (any (q x) xs) (anyTwo q xs) e))
+      or-neither (any (p x) xs) (anyTwo p xs) (any-less (p x) (q x) (f x) xs (or-left (any (q x) xs) (anyTwo q xs) e))
       (two-less f xs (or-right (any (q x) xs) (anyTwo q xs) e))
 
 -- ---- the first j of a list, gone through from its front

@@ -11,7 +11,7 @@ use Rattle.plain.specs.Lists.{anyTwo}
 use Rattle.row.specs.declared.InstanceRow.{InstanceRow}
 use Rattle.row.specs.Meaning.{noRow}
 use Rattle.key.specs.Pair.{rowTwins, endingOf}
-use Rattle.key.proofs.Any.{two-start, two-hit, two-more, two-end, any-before}
+use Rattle.key.proofs.Any.{two-start, two-hit, two-more, two-end, any-less}
 use Rattle.key.proofs.Plain.{row-ends}
 use borrow.Author.Needs.{needs}
 use Rattle.twins.proofs.every_pair.Statement.{statement}
@@ -49,8 +49,8 @@ loop-again c = let a = c .before .before .before .before .args in
     let l = c .before .before .before .loop in
     let row = getD (now (a .rows)) (l .j) noRow in
     let none = ⊎-elim (λ w. sym (w .1 .ensures) ∙ w .2 .left)
-    (λ w. any-before (rowTwins (a .t)) (λ (x y : InstanceRow). eqb (endingOf (x .dodagid)) (endingOf (y .dodagid))) (row-ends (a .t)) row
-    (take (l .j) (now (a .rows))) (sym (c .before .has-ending .ensures) ∙ w .left)) (c .if1 .came) in
+    (λ w. any-less (λ (x : InstanceRow). rowTwins (a .t) x row) (λ (x : InstanceRow). eqb (endingOf (x .dodagid)) (endingOf (row .dodagid)))
+    (λ x. row-ends (a .t) x row) (take (l .j) (now (a .rows))) (sym (c .before .has-ending .ensures) ∙ w .left)) (c .if1 .came) in
     (search needs, two-more (rowTwins (a .t)) (now (a .rows)) (l .j) noRow (search needs) (l .inv .1) none)
 
 returns-2 : tie.Need-returns-2 Inv-loop μ-loop

@@ -11,7 +11,7 @@ use Rattle.plain.specs.Lists.{anyTwo}
 use Rattle.row.specs.declared.RouteRow.{RouteRow}
 use Rattle.row.specs.Meaning.{noRoute}
 use Rattle.key.specs.Pair.{routePair, endingOf}
-use Rattle.key.proofs.Any.{two-start, two-hit, two-more, two-end, any-before}
+use Rattle.key.proofs.Any.{two-start, two-hit, two-more, two-end, any-less}
 use Rattle.key.proofs.Plain.{route-ends}
 use borrow.Author.Needs.{needs}
 use Rattle.twins.proofs.every_pair_of_routes.Statement.{statement}
@@ -49,8 +49,8 @@ loop-again c = let a = c .before .before .before .before .args in
     let l = c .before .before .before .loop in
     let row = getD (now (a .routes)) (l .j) noRoute in
     let none = ⊎-elim (λ w. sym (w .1 .ensures) ∙ w .2 .left)
-    (λ w. any-before (routePair (a .t)) (λ (x y : RouteRow). eqb (endingOf (x .destination)) (endingOf (y .destination))) (route-ends (a .t)) row
-    (take (l .j) (now (a .routes))) (sym (c .before .has-route-ending .ensures) ∙ w .left)) (c .if1 .came) in
+    (λ w. any-less (λ (x : RouteRow). routePair (a .t) x row) (λ (x : RouteRow). eqb (endingOf (x .destination)) (endingOf (row .destination)))
+    (λ x. route-ends (a .t) x row) (take (l .j) (now (a .routes))) (sym (c .before .has-route-ending .ensures) ∙ w .left)) (c .if1 .came) in
     (search needs, two-more (routePair (a .t)) (now (a .routes)) (l .j) noRoute (search needs) (l .inv .1) none)
 
 returns-2 : tie.Need-returns-2 Inv-loop μ-loop

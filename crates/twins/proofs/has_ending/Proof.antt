@@ -1,26 +1,21 @@
 pub mod Lts
 pub mod Tie
-use Prim.Native.Nat.{_-_, _≤_}
-use mathlib.Core.Path.{_≡_, refl, sym, _∙_}
+use Prim.Native.Nat.{_-_}
+use mathlib.Core.Path.{_≡_, refl, sym}
 use denote.Ref.{now}
 use lib.Dec.{eqb}
-use lib.ListN.{getD, take, drop}
-use lib.Seq.{getD-take}
-use Rattle.plain.specs.Lists.{any}
+use lib.ListN.{getD}
 use Rattle.row.specs.declared.InstanceRow.{InstanceRow}
 use Rattle.row.specs.Meaning.{noRow}
 use Rattle.key.specs.Pair.{endingOf}
-use Rattle.lemmas.proofs.Walk.{any-hit, any-miss, any-end}
-use Rattle.key.proofs.Any.{first-below, first-past}
+use Rattle.key.proofs.Any.{Left, left-hit, left-miss, left-end}
 use borrow.Author.Needs.{needs}
 use Rattle.twins.proofs.has_ending.Statement.{statement}
 use Rattle.twins.proofs.has_ending.Proof.Tie as tie
 
 -- One of the first j rows has the ending of number j if one of those from i on has it.
 abbrev Inv-loop : tie.InvT-loop
-Inv-loop rows j e i₀ i =
-    (e ≡ endingOf (getD rows j noRow .dodagid)) × (i ≤ j)
-    × (any (λ (x : InstanceRow). eqb (endingOf (x .dodagid)) e) (take j rows) ≡ any (λ (x : InstanceRow). eqb (endingOf (x .dodagid)) e) (drop i (take j rows)))
+Inv-loop rows j e i₀ i = (e ≡ endingOf (getD rows j noRow .dodagid)) × Left (λ (x : InstanceRow). eqb (endingOf (x .dodagid)) e) rows j i
 
 abbrev μ-loop : tie.MeasureT-loop
 μ-loop rows j e i₀ i = j - i
@@ -35,7 +30,7 @@ ending-requires : tie.Need-ending-requires Inv-loop μ-loop
 ending-requires c = search needs
 
 loop-holds : tie.Need-loop-holds Inv-loop μ-loop
-loop-holds c = (c .ending .ensures, search needs, refl)
+loop-holds c = (c .ending .ensures, (search needs, refl))
 
 mul-does-end : tie.Need-mul-does-end Inv-loop μ-loop
 mul-does-end c = search needs
@@ -51,9 +46,8 @@ returns c = let a = c .before .before .before .before .before .before .before .a
     let l = c .before .before .before .before .loop in
     let e = c .before .before .before .before .before .ending .result in
     rw (← l .inv .0)
-    (sym (any-hit (λ (x : InstanceRow). eqb (endingOf (x .dodagid)) e) noRow (take (a .j) (now (a .rows))) (l .i) (l .inv .2)
-    (first-below (now (a .rows)) (l .i) (a .j) (search needs) (search needs))
-    (rw (getD-take (a .j) (now (a .rows)) (l .i) noRow (search needs)) (sym (c .before .does-end .ensures) ∙ c .if1 .taken))))
+    (sym (left-hit (λ (x : InstanceRow). eqb (endingOf (x .dodagid)) e) (now (a .rows)) (a .j) (l .i) noRow (l .inv .1) (c .before .does-end .result) (search needs) (search needs)
+    (c .before .does-end .ensures) (c .if1 .taken)))
 
 add-i : tie.Need-add-i Inv-loop μ-loop
 add-i c = search needs
@@ -66,19 +60,15 @@ loop-again c = let a = c .before .before .before .before .before .before .before
     let l = c .before .before .before .before .loop in
     let e = c .before .before .before .before .before .ending .result in (
       l .inv .0,
-      search needs,
-      any-miss (λ (x : InstanceRow). eqb (endingOf (x .dodagid)) e) noRow (take (a .j) (now (a .rows))) (l .i) (l .inv .2)
-          (first-below (now (a .rows)) (l .i) (a .j) (search needs) (search needs))
-          (rw (getD-take (a .j) (now (a .rows)) (l .i) noRow (search needs)) (sym (c .before .does-end .ensures) ∙ c .if1 .left)),
+      left-miss (λ (x : InstanceRow). eqb (endingOf (x .dodagid)) e) (now (a .rows)) (a .j) (l .i) noRow (l .inv .1) (c .before .does-end .result) (search needs) (search needs)
+          (c .before .does-end .ensures) (c .if1 .left),
     )
 
 returns-2 : tie.Need-returns-2 Inv-loop μ-loop
 returns-2 c = let a = c .before .before .before .before .args in
     let l = c .before .loop in
     let e = c .before .before .ending .result in
-    rw (← l .inv .0)
-    (sym (any-end (λ (x : InstanceRow). eqb (endingOf (x .dodagid)) e) noRow (take (a .j) (now (a .rows))) (l .i) (l .inv .2)
-    (first-past (now (a .rows)) (l .i) (a .j) (search needs))))
+    rw (← l .inv .0) (sym (left-end (λ (x : InstanceRow). eqb (endingOf (x .dodagid)) e) (now (a .rows)) (a .j) (l .i) noRow (l .inv .1) (search needs)))
 
 pub has-ending-spec : {M : Type 1} → statement M
 has-ending-spec = tie.close (tie.spec Inv-loop μ-loop mul-ending shared-slice-copy-out-ending ending-requires loop-holds mul-does-end
