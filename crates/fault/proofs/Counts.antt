@@ -32,6 +32,9 @@ module _ (n k : ℕ) (e : min 2 n ≡ k) where
   two-is : ltb 1 k ≡ ltb 1 n
   two-is = same-test _ _ (λ q. lt-ltb 1 n (omega (arith, ltb-true 1 k q))) (λ q. le-ltb 1 n (omega (arith, ltb-false 1 k q)))
 
+once-some : (n : ℕ) → eqb n 1 ≡ true → 0 < n
+once-some n e = omega (arith, eqb-true n 1 e)
+
 module _ {msg : List ℕ} {s : Scan} (v : Outlined msg s) where
   pub request-is : eqb (s .rreq .count) 1 && eqb (s .rrep .count) 0 && ltb 0 (s .art .count) ≡ requestCounts (optionsOf msg)
   unfolding requestCounts
@@ -42,19 +45,13 @@ module _ {msg : List ℕ} {s : Scan} (v : Outlined msg s) where
   reply-is = rw (one-is _ _ (v .rrep .count), zero-is _ _ (v .rreq .count), one-is _ _ (v .art .count))
 
   pub request-rreq : requestCounts (optionsOf msg) ≡ true → 0 < s .rreq .count
-  request-rreq e =
-      let q : eqb (s .rreq .count) 1 ≡ true = and-left _ _ (and-left _ _ (request-is ∙ e)) in
-      omega (arith, eqb-true (s .rreq .count) 1 q)
+  request-rreq e = once-some (s .rreq .count) (and-left _ _ (and-left _ _ (request-is ∙ e)))
 
   pub reply-rrep : replyCounts (optionsOf msg) ≡ true → 0 < s .rrep .count
-  reply-rrep e =
-      let q : eqb (s .rrep .count) 1 ≡ true = and-left _ _ (and-left _ _ (reply-is ∙ e)) in
-      omega (arith, eqb-true (s .rrep .count) 1 q)
+  reply-rrep e = once-some (s .rrep .count) (and-left _ _ (and-left _ _ (reply-is ∙ e)))
 
   pub reply-art : replyCounts (optionsOf msg) ≡ true → 0 < s .art .count
-  reply-art e =
-      let q : eqb (s .art .count) 1 ≡ true = and-right (eqb (s .rrep .count) 1 && eqb (s .rreq .count) 0) _ (reply-is ∙ e) in
-      omega (arith, eqb-true (s .art .count) 1 q)
+  reply-art e = once-some (s .art .count) (and-right (eqb (s .rrep .count) 1 && eqb (s .rreq .count) 0) _ (reply-is ∙ e))
 
   -- ---- Answer 3
 
