@@ -1,15 +1,16 @@
 -- What an ART's octets make, and two targets compared.
-use Prim.Native.Nat.{ℕ, _+_, _-_, _/_, _≤_, _<_}
+use Prim.Native.Nat.{ℕ, _+_, _-_, _≤_, _<_}
 use mathlib.Core.Path.{_≡_, ap, _∙_}
 use mathlib.Core.Bool.{Bool, false}
 use mathlib.Core.List.{List, _++_}
 use native.Mathlib.Omega.{arith}
 use native.Mathlib.Nat.{zero-add}
-use lib.Dec.{eqb, ltb}
+use lib.Dec.{ltb}
 use lib.ListN.{length, take, drop, replicate, length-replicate, replicate-append-replicate}
 use lib.Seq.{take-at, drop-at, take-append-add, take-length, paste}
 use borrow.Author.Tests.{ltb-false, eqb-true, eq-eqb, not-false}
-use Rattle.lemmas.proofs.Choice.{cond-case, or-left, or-right}
+use Rattle.lemmas.proofs.Choice.{or-left, or-right}
+use Rattle.lemmas.proofs.Rules.{most-octets}
 use Rattle.plain.specs.Address.{agree}
 use Rattle.plain.specs.Octets.{fields, sum, plenOf, prefixBits, prefixOctets, badArt, sameTarget}
 use Rattle.plain.specs.declared.Target.{Target}
@@ -40,9 +41,6 @@ filled-up z n part h = go (n - length part) (omega arith) (omega arith)
 pub plen-below : (body : List ℕ) → plenOf body < 128
 unfolding fields sum
 plen-below body = omega arith
-
-pub most-octets : (plen : ℕ) → plen < 128 → prefixOctets plen ≤ 16
-most-octets plen h = cond-case (λ (b : ℕ). (b + 7) / 8 ≤ 16) (eqb plen 0) 128 plen (λ _. omega arith) (λ _. omega arith)
 
 -- how large an ART is that is not bad
 pub art-size : (body : List ℕ) → badArt body ≡ false → (2 ≤ length body) × (length body ≤ 18)

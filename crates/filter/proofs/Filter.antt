@@ -1,5 +1,5 @@
 -- The soundness of the filter: where it has no mark for a row's hash, no earlier row that was marked has the row's key.
-use Prim.Native.Nat.{ℕ, _+_, _<_, _≤_, _/_, _%_}
+use Prim.Native.Nat.{ℕ, _+_, _<_, _≤_, _%_}
 use mathlib.Core.Path.{_≡_, refl, sym, _∙_}
 use mathlib.Core.Bool.{Bool, true, false, cond, _||_}
 use mathlib.Core.List.{List, [], _∷_}
@@ -12,8 +12,7 @@ use lib.ListN.{length, getD, set, take, length-take, length-set}
 use lib.Seq.{getD-set-same, getD-set-other, getD-take}
 use borrow.Author.Tests.{eqb-true, eqb-false, eq-eqb}
 use Rattle.plain.specs.Lists.{any, anyTwo}
-use Rattle.lemmas.proofs.Choice.{true-false, or-left, or-right, or-neither}
-use Rattle.first.proofs.Found.{cond-true}
+use Rattle.lemmas.proofs.Choice.{true-false, cond-true, or-left, or-right, or-neither}
 use Rattle.filter.specs.Filter.{bitsOf, hasBits, maybeOf, markedOf, classOf, chosenOf, inClass}
 use Rattle.key.proofs.Any.{not-so, so, any-false, any-not, two-start, two-hit, two-more, two-end, two-less}
 use Rattle.filter.proofs.Words.{or-has, or-keeps}

@@ -1,34 +1,38 @@
 -- Twins have one hash, and the filter serves for each of the two tables.
 use Prim.Native.Nat.{ℕ}
 use mathlib.Core.Path.{_≡_}
-use mathlib.Core.Bool.{true, false, cond}
+use mathlib.Core.Bool.{Bool, true, false, cond}
 use Rattle.plain.specs.Table.{live, instanceDeadline, routeDeadline}
+use Rattle.lemmas.proofs.Choice.{cond-true}
 use Rattle.row.specs.Meaning.{instanceOf, routeOf, noRow, noRoute}
 use Rattle.row.specs.declared.InstanceRow.{InstanceRow}
 use Rattle.row.specs.declared.RouteRow.{RouteRow}
-use Rattle.first.proofs.Found.{cond-true}
 use Rattle.key.specs.Pair.{sameKey, rowTwins, sameThree, routePair}
 use Rattle.key.proofs.Plain.{key-parts, three-parts}
 use Rattle.filter.specs.Filter.{hashRow, hashRoute}
 use Rattle.filter.proofs.Filter.{Kind}
 
+three-true : (k x y : Bool) → cond k (cond x y false) false ≡ true → (k ≡ true) × (x ≡ true) × (y ≡ true)
+three-true k x y e =
+    let q = cond-true k (cond x y false) e in
+    let l = cond-true x y (q .1) in
+    (q .0, l .0, l .1)
+
 pub row-joins : (t : ℕ) (a b : InstanceRow) → rowTwins t a b ≡ true
     → (live instanceDeadline t (instanceOf a) ≡ true) × (live instanceDeadline t (instanceOf b) ≡ true) × (hashRow a ≡ hashRow b)
 unfolding rowTwins hashRow
 row-joins t a b e =
-    let q = cond-true (sameKey a b) (cond (live instanceDeadline t (instanceOf a)) (live instanceDeadline t (instanceOf b)) false) e in
-    let l = cond-true (live instanceDeadline t (instanceOf a)) (live instanceDeadline t (instanceOf b)) (q .1) in
+    let q = three-true (sameKey a b) (live instanceDeadline t (instanceOf a)) (live instanceDeadline t (instanceOf b)) e in
     let k = key-parts a b (q .0) in
-    (l .0, l .1, rw (k .0, k .1, k .2))
+    (q .1, q .2, rw (k .0, k .1, k .2))
 
 pub route-joins : (t : ℕ) (a b : RouteRow) → routePair t a b ≡ true
     → (live routeDeadline t (routeOf a) ≡ true) × (live routeDeadline t (routeOf b) ≡ true) × (hashRoute a ≡ hashRoute b)
 unfolding routePair hashRoute
 route-joins t a b e =
-    let q = cond-true (sameThree a b) (cond (live routeDeadline t (routeOf a)) (live routeDeadline t (routeOf b)) false) e in
-    let l = cond-true (live routeDeadline t (routeOf a)) (live routeDeadline t (routeOf b)) (q .1) in
+    let q = three-true (sameThree a b) (live routeDeadline t (routeOf a)) (live routeDeadline t (routeOf b)) e in
     let k = three-parts a b (q .0) in
-    (l .0, l .1, rw (k .0, k .1, k .2))
+    (q .1, q .2, rw (k .0, k .1, k .2))
 
 -- ---- the two tables, at time t
 

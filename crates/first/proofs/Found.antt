@@ -10,13 +10,14 @@ use mathlib.Core.Option.{Option, some, none}
 use native.Mathlib.Omega.{arith}
 use lib.Dec.{ltb, leb·suc-suc}
 use lib.ListN.{length, getD, length-map}
-use borrow.Author.Tests.{ltb-true, lt-ltb}
+use borrow.Author.Tests.{lt-ltb}
 use Rattle.plain.specs.Lists.{any, firstOf}
 use Rattle.plain.specs.Given.{Instance, Route}
 use Rattle.plain.specs.Table.{Numbered, lasts, live, liveFrom, liveRows}
 use Rattle.plain.specs.Answers as A
 use Rattle.plain.specs.Answers.{requests, replies}
-use Rattle.lemmas.proofs.Choice.{true-false}
+use Rattle.lemmas.proofs.Choice.{true-false, cond-true}
+use Rattle.lemmas.proofs.Rules.{lasts-before}
 use Rattle.live.specs.Look.{partOf, held, here, asRequest, asReply}
 use Rattle.live.proofs.Laws.{Sort, sort-here}
 use Rattle.first.specs.First.{first}
@@ -210,17 +211,7 @@ found-true read p rows k d e h =
     let f : p (getD (map read rows) k z) ≡ true = rw (← e) at (first-true p (map read rows) z l) in
     rw (read-at read rows k d z h) at f
 
--- ---- what is live at a call is live at the clock
-
-pub lasts-before : (c t : ℕ) (d : Option ℕ) → c ≤ t → lasts t d ≡ true → lasts c d ≡ true
-lasts-before c t none h e = refl
-lasts-before c t (some d) h e = lt-ltb c d (omega (arith, ltb-true t d e))
-
 -- ---- the three kinds of rows
-
-pub cond-true : (k x : Bool) → cond k x false ≡ true → (k ≡ true) × (x ≡ true)
-cond-true true x e = (refl, e)
-cond-true false x e = true-false (sym e)
 
 -- a row of a kind that is so, and what is so is live at t
 module _ (S : Sort) (p : S .Row → Bool) (t : ℕ) (lives : (b : S .Row) → p b ≡ true → lasts t (S .ends b) ≡ true) where

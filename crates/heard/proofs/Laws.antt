@@ -1,13 +1,12 @@
 -- What a message that was read is, and what its octets answer.
-use Prim.Native.Nat.{ℕ, _+_, _-_, _/_, _≤_}
+use Prim.Native.Nat.{ℕ, _+_, _-_, _/_}
 use mathlib.Core.Path.{_≡_, refl, sym, ap, _∙_}
 use mathlib.Core.Bool.{Bool, true, false, cond}
 use mathlib.Core.List.{List, [], map}
 use native.Mathlib.Omega.{arith}
 use native.Mathlib.Nat.{div-mul-le-self}
 use lib.Dec.{eqb}
-use lib.ListN.{length, take, drop, length-drop}
-use lib.Seq.{length-take-le}
+use lib.ListN.{length, take, drop}
 use borrow.Author.Tests.{le-leb, ne-eqb, eqb-true}
 use Rattle.plain.specs.Address.{Address, unusable}
 use Rattle.plain.specs.Given.{Settings, Lent, Received, Event}
@@ -21,6 +20,7 @@ use Rattle.plain.specs.declared.Target.{Target}
 use Rattle.memory.proofs.Each.{All, all-each, all-once, all-map, all-true}
 use Rattle.reader.specs.declared.Reading.{Reading}
 use Rattle.reader.specs.Reading.{refusalNumber, messageRead, heardFrom, Bounded}
+use Rattle.reader.proofs.Part.{part-length}
 use Rattle.message.specs.Message.{messageIn}
 use Rattle.rule.specs.Heard.{Heard}
 use Rattle.writer_option.specs.Sendable.{shortPrefix}
@@ -28,13 +28,7 @@ use Rattle.heard.specs.Parsed.{parsedOf}
 
 -- ---- The vector's part of the octets
 
-part-length : (msg : List ℕ) (at size : ℕ) → at + size ≤ length msg → length (take (at + size - at) (drop at msg)) ≡ size
-part-length msg at size h = length-take-le (at + size - at) (drop at msg) (omega (arith, length-drop at msg)) ∙ omega arith
-
 module _ (msg : List ℕ) (r : Reading) (b : Bounded (length msg) r) where
-  pub addresses-fit : length (take (r .at + r .size - r .at) (drop (r .at) msg)) / (16 - r .discovery .compr) ≤ 16
-  addresses-fit = rw (part-length msg (r .at) (r .size) (b .within)) (b .addresses)
-
   pub vector-is : (v : List Address)
       → take (length (take (r .at + r .size - r .at) (drop (r .at) msg)) / (16 - r .discovery .compr)) v
       ≡ restored (r .discovery .compr) (r .base .dodagid) (take (r .at + r .size - r .at) (drop (r .at) msg))

@@ -11,14 +11,14 @@ use Rattle.plain.specs.Lists.{any, anyTwo, same}
 use Rattle.plain.specs.Given.{RequestRow, ReplyRow, Instance, Route}
 use Rattle.plain.specs.Table.{Numbered, live, liveFrom, liveRows, instanceDeadline, routeDeadline}
 use Rattle.plain.specs.Answers.{requests, replies, requestTwins, replyTwins, routeTwins}
-use Rattle.lemmas.proofs.Choice.{true-false, and-left, and-right}
+use Rattle.lemmas.proofs.Choice.{true-false, cond-true, cond-false, and-left, and-right}
 use Rattle.lemmas.proofs.Same.{same-equal}
 use Rattle.row.specs.Meaning.{instanceOf, routeOf, requestOf, replyOf, routeIn}
 use Rattle.live.specs.Look.{partOf, held, asRequest, asReply}
-use Rattle.live.proofs.Laws.{request-part, reply-part, route-part, cond-false}
+use Rattle.live.proofs.Laws.{request-part, reply-part, route-part}
 use Rattle.row.specs.declared.InstanceRow.{InstanceRow}
 use Rattle.row.specs.declared.RouteRow.{RouteRow}
-use Rattle.first.proofs.Found.{cond-true, asPart, parts, seen, parts-cons, requests-are, replies-are, routes-are}
+use Rattle.first.proofs.Found.{asPart, parts, seen, parts-cons, requests-are, replies-are, routes-are}
 use Rattle.key.specs.Pair.{sameKey, rowTwins, sameThree, routePair, endingOf}
 use Rattle.key.proofs.Any.{or-none, two-same, two-either}
 

@@ -33,3 +33,15 @@ or-right false b e = e
 
 pub or-neither : (a b : Bool) → a ≡ false → b ≡ false → a || b ≡ false
 or-neither a b e f = rw (e, f)
+
+pub and-false : (a : Bool) → a && false ≡ false
+and-false true = refl
+and-false false = refl
+
+pub cond-true : (k x : Bool) → cond k x false ≡ true → (k ≡ true) × (x ≡ true)
+cond-true true x e = (refl, e)
+cond-true false x e = true-false (sym e)
+
+pub cond-false : (k : Bool) → cond k false false ≡ false
+cond-false true = refl
+cond-false false = refl

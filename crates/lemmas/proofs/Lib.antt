@@ -3,3 +3,4 @@ pub mod Choice
 pub mod Buffer
 pub mod Walk
 pub mod Same
+pub mod Rules

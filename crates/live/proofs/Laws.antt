@@ -1,7 +1,7 @@
 -- What the kind of a record says of its meaning.
 use Prim.Native.Nat.{ℕ, _+_, _*_, _/_, _%_, _≤_, _<_, max}
 use mathlib.Core.Path.{_≡_, refl, sym, _∙_}
-use mathlib.Core.Bool.{Bool, true, false, cond, not, _&&_, _||_}
+use mathlib.Core.Bool.{Bool, true, false, cond, not, _||_}
 use mathlib.Core.Option.{Option, some, none}
 use native.Mathlib.Omega.{arith}
 use lib.Arith.{bin-ind}
@@ -141,14 +141,6 @@ module _ (S : Sort) (p : S .Row → Bool) (r : S .Record) where
       go : (k : Bool) → held p (cond k (some (S .row r)) none) ≡ cond k (p (S .row r)) false
       go true = refl
       go false = refl
-
-pub and-false : (a : Bool) → a && false ≡ false
-and-false true = refl
-and-false false = refl
-
-pub cond-false : (k : Bool) → cond k false false ≡ false
-cond-false true = refl
-cond-false false = refl
 
 -- kinds that are in use
 

@@ -19,9 +19,10 @@ use Rattle.plain.specs.Plain.{linesWith, messageLines, lines, acceptWith, accep
 use Rattle.plain.specs.declared.Target.{Target}
 use Rattle.lemmas.proofs.Choice.{true-false, and-left, and-right, and-both}
 use Rattle.lemmas.proofs.Same.{same-equal}
+use Rattle.lemmas.proofs.Rules.{unheld}
 use Rattle.memory.proofs.Each.{All, any-none, picked}
 use Rattle.memory.proofs.Tables.{Rows}
-use Rattle.memory.proofs.Lines.{unheld, heard, begun}
+use Rattle.memory.proofs.Lines.{heard, begun}
 use Rattle.memory.proofs.Keys.{Key, instanceKey, routeKey, key-path, eq-same, Other, Keyed, Tells, none-kept, new-more, free-found, put-keyed}
 use Rattle.memory.proofs.Kind.{Kind, requestKind, replyKind, other-kind, rowFor, tells}
 

@@ -13,8 +13,9 @@ use Rattle.plain.specs.Lists.{same, firstOf}
 use Rattle.plain.specs.Given.{Instance, Route}
 use Rattle.plain.specs.Table.{Numbered, Change, put, lasts, becomes, live, liveFrom, placedFrom, placed}
 use Rattle.lemmas.proofs.Choice.{cond-case, true-false, and-both}
+use Rattle.lemmas.proofs.Rules.{lasts-before}
 use Rattle.memory.proofs.Each.{All, Pairs, Found, all-weaken, all-append, first-found, picked, all-picked, picked-all}
-use Rattle.memory.proofs.Tables.{Rows, rows-weaken, rows-tail, lasts-later, kept, placed-rest, placed-live, placed-dead, Becomes, placed-rows}
+use Rattle.memory.proofs.Tables.{Rows, rows-weaken, rows-tail, kept, placed-rest, placed-live, placed-dead, Becomes, placed-rows}
 
 -- ---- Keys
 
@@ -44,14 +45,6 @@ same-self (x ∷ xs) = and-both (eqb x x) (same xs xs) (eq-eqb x x refl) (same-s
 
 pub eq-same : (xs ys : List ℕ) → xs ≡ ys → same xs ys ≡ true
 eq-same xs ys e = rw e (same-self ys)
-
--- a row that lasts at u lasted before
-lasts-before : (t u : ℕ) (d : Option ℕ) → t ≤ u → lasts u d ≡ true → lasts t d ≡ true
-lasts-before t u d h e = go (lasts t d) refl
-  where
-    go : (b : Bool) → lasts t d ≡ b → lasts t d ≡ true
-    go true f = f
-    go false f = true-false (sym e ∙ lasts-later t u d h f)
 
 -- ---- Tables
 

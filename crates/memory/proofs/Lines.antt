@@ -1,27 +1,18 @@
 -- What is known of a call that no line refuses, and what every call comes to.
-use Prim.Native.Nat.{ℕ, _^_, _≤_, _<_}
+use Prim.Native.Nat.{ℕ, _^_, _≤_}
 use mathlib.Core.Path.{_≡_, refl}
-use mathlib.Core.Bool.{Bool, true, false, cond, _||_}
-use mathlib.Core.List.{List, _∷_}
+use mathlib.Core.Bool.{Bool, true, false, _||_}
 use native.Mathlib.Omega.{arith}
 use lib.Dec.{eqb, ltb}
 use borrow.Author.Tests.{ltb-false, eqb-true}
 use Rattle.plain.specs.Address.{unusable}
 use Rattle.plain.specs.Given.{Settings, Lent, Received, Start, Event, Call}
-use Rattle.plain.specs.Answers.{Line, answerOf, View, badLent, badStart}
+use Rattle.plain.specs.Answers.{answerOf, View, badLent, badStart}
 use Rattle.plain.specs.Octets.{messageOf, tooMany}
 use Rattle.plain.specs.Request.{startTargets, startLines}
 use Rattle.plain.specs.Plain.{messageLines, lines, accept, Decision, decide}
 use Rattle.lemmas.proofs.Choice.{cond-case, true-false}
-
--- an answer 0: a line of another number does not hold
-pub unheld : (l : Line) (ls : List Line) → answerOf (l ∷ ls) ≡ 0 → 0 < l .number → (l .holds ≡ false) × (answerOf ls ≡ 0)
-unfolding answerOf
-unheld l ls e h = go (l .holds) refl e
-  where
-    go : (b : Bool) → l .holds ≡ b → cond b (l .number) (answerOf ls) ≡ 0 → (l .holds ≡ false) × (answerOf ls ≡ 0)
-    go true f e = absurd (omega arith)
-    go false f e = (f, e)
+use Rattle.lemmas.proofs.Rules.{unheld}
 
 -- the first three of six tests
 pub none-of-six : (a b c d e f : Bool) → a || b || c || d || e || f ≡ false → (a ≡ false) × (b ≡ false) × (c ≡ false)

@@ -1,2 +1,3 @@
 pub mod Routes
 pub mod Message
+pub mod Part

@@ -1,11 +1,10 @@
 -- Addresses cut and made whole again: dropped octets put back, and prefixes filled up with zeros. Each law is over the length.
-use Prim.Native.Nat.{ℕ, zero, suc, _-_, _*_, _/_, _%_, _^_, _≤_, _<_}
+use Prim.Native.Nat.{ℕ, zero, suc, _-_, _*_, _/_, _%_, _≤_, _<_}
 use mathlib.Core.Path.{_≡_, refl, sym, _∙_}
 use mathlib.Core.List.{List, [], _∷_, _++_, map, map-map}
 use native.Mathlib.Omega.{arith}
 use native.Mathlib.Nat.{mul-div-cancel, mul-mod-left}
 use lib.ListN.{length, take, replicate, take-append-drop, length-drop, length-map}
-use lib.Pow.{shl-shr}
 use Rattle.plain.specs.Address.{Address, keepBits, firstBits, elide, restore}
 use Rattle.plain.specs.Octets.{elided, restored, addressOctets}
 use Rattle.round.specs.Round.{Each, Octets, Whole}
@@ -36,16 +35,6 @@ restored-elided k d v lt h e =
     (map-same (λ a. restore k d (elide k a)) v (each-of _ _ (restore-elide k d) v e))
 
 -- ---- "Ceil(length/8) octets, spare bits ignored, stored and sent as zero"
-
-keep-again : (k x : ℕ) → keepBits k (keepBits k x) ≡ keepBits k x
-unfolding keepBits
-keep-again k x = rw (shl-shr (x / 2 ^ (8 - k)) (8 - k))
-
--- the first bits are kept once and for all
-pub first-again : (k : ℕ) (a : Address) → firstBits k (firstBits k a) ≡ firstBits k a
-unfolding firstBits
-first-again k [] = refl
-first-again k (x ∷ a) = rw (keep-again k x, first-again (k - 8) a)
 
 keep-none : (k x : ℕ) → k ≤ 0 → x < 256 → keepBits k x ≡ 0
 unfolding keepBits

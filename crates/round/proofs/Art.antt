@@ -1,31 +1,21 @@
 -- "ART, type 0x0D: Dest SeqNo (8), X, Prefix Length (7), target": the body that is written is read back to its target.
-use Prim.Native.Nat.{ℕ, _+_, _≤_, _<_}
+use Prim.Native.Nat.{ℕ, _+_}
 use mathlib.Core.Path.{_≡_, _∙_}
-use mathlib.Core.Bool.{Bool, true, false, cond}
+use mathlib.Core.Bool.{false}
 use mathlib.Core.List.{List, [], _∷_, _++_}
 use native.Mathlib.Omega.{arith}
-use lib.Dec.{eqb}
 use lib.ListN.{length, take, replicate, length-take}
 use borrow.Author.Tests.{le-ltb, eq-eqb}
 use Rattle.plain.specs.Address.{firstBits}
 use Rattle.plain.specs.Octets.{word, artBits, prefixBits, prefixOctets, plenOf, targetOf, badArt}
 use Rattle.plain.specs.declared.Target.{Target}
+use Rattle.lemmas.proofs.Rules.{most-octets}
 use Rattle.round.specs.Round.{WritableTarget}
 use Rattle.round.proofs.Fields.{fields-fit}
 use Rattle.round.proofs.Address.{first-filled}
 
 abbrev pub artBody : Target → List ℕ
 artBody t = t .seq ∷ word artBits (0 ∷ t .plen ∷ []) ∷ take (prefixOctets (t .plen)) (t .addr)
-
-prefix-le : (plen : ℕ) → plen < 128 → prefixBits plen ≤ 128
-prefix-le plen h = go (eqb plen 0)
-  where
-    go : (b : Bool) → cond b 128 plen ≤ 128
-    go true = omega arith
-    go false = omega arith
-
-pub octets-le : (plen : ℕ) → plen < 128 → prefixOctets plen ≤ 16
-octets-le plen h = omega (arith, prefix-le plen h)
 
 module _ (t : Target) (w : WritableTarget t) where
   pub plen-back : plenOf (artBody t) ≡ t .plen
@@ -42,7 +32,7 @@ module _ (t : Target) (w : WritableTarget t) where
   target-back = rw (plen-back, addr-back)
 
   pub length-art : length (artBody t) ≡ 2 + prefixOctets (t .plen)
-  length-art = omega (arith, length-take (prefixOctets (t .plen)) (t .addr), w .whole .long, octets-le (t .plen) (w .plen))
+  length-art = omega (arith, length-take (prefixOctets (t .plen)) (t .addr), w .whole .long, most-octets (t .plen) (w .plen))
 
   pub good-art : badArt (artBody t) ≡ false
   unfolding badArt

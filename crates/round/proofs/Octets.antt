@@ -14,11 +14,12 @@ use Rattle.plain.specs.declared.Base.{Base}
 use Rattle.plain.specs.declared.Target.{Target}
 use Rattle.plain.specs.declared.Discovery.{Discovery}
 use Rattle.lemmas.proofs.Choice.{or-left}
+use Rattle.lemmas.proofs.Rules.{most-octets}
 use Rattle.round.specs.Round.{Each, Octets, Whole, WritableBase, WritableConfiguration, WritableDiscovery, WritableVector, WritableTarget, WritesOctets}
 use Rattle.round.proofs.Lists.{each-append, each-flatten, each-take, each-drop, each-map}
 use Rattle.round.proofs.Fields.{word-lt}
 use Rattle.round.proofs.Options.{option, octetsOfOption, octetsOfOptions}
-use Rattle.round.proofs.Art.{artBody, octets-le, length-art}
+use Rattle.round.proofs.Art.{artBody, length-art}
 use Rattle.round.proofs.Route.{length-route}
 use Rattle.round.proofs.Message.{configurations, routeType, route-type, each-option, options, octets-are}
 
@@ -81,7 +82,7 @@ route-octets d dodagid v w u =
 art-octets : (t : Target) → WritableTarget t → Octets (octetsOfOption (option artType (artBody t)))
 unfolding sum
 art-octets t w =
-    option-octets artType (artBody t) (omega arith) (omega (arith, length-art t w, octets-le (t .plen) (w .plen)))
+    option-octets artType (artBody t) (omega arith) (omega (arith, length-art t w, most-octets (t .plen) (w .plen)))
     (w .seq, (word-lt artBits (0 ∷ t .plen ∷ []), each-take (λ x. x < 256) (prefixOctets (t .plen)) (t .addr) (w .whole .octets)))
 
 pub writes-octets : WritesOctets

@@ -1,10 +1,9 @@
 -- How long the octets of an ART are.
-use Prim.Native.Nat.{ℕ, suc, _+_, _*_, _/_, _≤_, _<_}
+use Prim.Native.Nat.{ℕ, suc, _+_, _*_, _≤_, _<_}
 use mathlib.Core.Path.{_≡_}
-use mathlib.Core.Bool.{Bool, true, false, cond}
+use mathlib.Core.Bool.{true}
 use mathlib.Core.List.{List, [], _∷_, _++_, map, flatten}
 use native.Mathlib.Omega.{arith}
-use lib.Dec.{eqb}
 use lib.ListN.{length, getD, take, length-append, length-take}
 use lib.Seq.{getD-take}
 use borrow.Author.Tests.{leb-true}
@@ -12,6 +11,7 @@ use Rattle.lemmas.proofs.Choice.{and-left, and-right}
 use Rattle.plain.specs.Lists.{all}
 use Rattle.plain.specs.Octets.{prefixOctets, artOctets}
 use Rattle.plain.specs.declared.Target.{Target}
+use Rattle.lemmas.proofs.Rules.{most-octets}
 use Rattle.writer_octets.proofs.Addresses.{all-at}
 use Rattle.writer_option.specs.Sendable.{shortPrefix, shortPrefixes}
 use Rattle.writer_art.specs.Heads.{artHead}
@@ -26,13 +26,6 @@ short-at n ts i h k e =
     leb-true (getD ts i noTarget .plen) 127
     (rw (getD-take n ts i noTarget h) at (all-at shortPrefix (take n ts) i noTarget (omega (arith, length-take n ts)) e))
 
-pub prefix-octets-le : (plen : ℕ) → plen ≤ 127 → prefixOctets plen ≤ 16
-prefix-octets-le plen h = go (eqb plen 0)
-  where
-    go : (z : Bool) → (cond z 128 plen + 7) / 8 ≤ 16
-    go true = omega arith
-    go false = omega arith
-
 -- an ART is its head and so many octets of its target
 pub art-parts : (t : Target) (size : ℕ) → size ≡ prefixOctets (t .plen) → size ≤ length (t .addr) → artOctets t ≡ artHead t size ++ take size (t .addr)
 unfolding artOctets
@@ -45,7 +38,7 @@ unfolding artOctets
 art-length t = omega arith
 
 pub art-le : (t : Target) → t .plen ≤ 127 → length (artOctets t) ≤ 20
-art-le t h = omega (arith, art-length t, length-take (prefixOctets (t .plen)) (t .addr), prefix-octets-le (t .plen) h)
+art-le t h = omega (arith, art-length t, length-take (prefixOctets (t .plen)) (t .addr), most-octets (t .plen) (omega arith))
 
 pub arts-le : (ts : List Target) → shortPrefixes ts ≡ true → length (flatten (map artOctets ts)) ≤ 20 * length ts
 unfolding flatten all

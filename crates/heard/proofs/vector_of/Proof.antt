@@ -1,6 +1,7 @@
 use denote.Ref.{now}
 use borrow.Author.Needs.{needs}
-use Rattle.heard.proofs.Laws.{addresses-fit, vector-is}
+use Rattle.reader.proofs.Part.{addresses-fit}
+use Rattle.heard.proofs.Laws.{vector-is}
 use Rattle.heard.proofs.vector_of.Statement.{statement}
 use Rattle.heard.proofs.vector_of.Tie as tie
 

@@ -1,9 +1,10 @@
 use Rattle.row.specs.Meaning.{requestOf}
-use Rattle.live.proofs.Laws.{requestSort, sort-here, and-false, cond-false}
+use Rattle.live.proofs.Laws.{requestSort, sort-here}
 use borrow.Author.Needs.{needs}
 use Rattle.live.proofs.is_request.Statement.{statement}
 use Rattle.live.proofs.is_request.Tie as tie
 use Rattle.lemmas.proofs.Cases.{cases}
+use Rattle.lemmas.proofs.Choice.{and-false, cond-false}
 
 is-same-requires : tie.Need-is-same-requires
 is-same-requires c κs = search needs

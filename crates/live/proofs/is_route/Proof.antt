@@ -1,9 +1,10 @@
 use Rattle.row.specs.Meaning.{routeIn}
-use Rattle.live.proofs.Laws.{routeSort, sort-here, and-false, cond-false}
+use Rattle.live.proofs.Laws.{routeSort, sort-here}
 use borrow.Author.Needs.{needs}
 use Rattle.live.proofs.is_route.Statement.{statement}
 use Rattle.live.proofs.is_route.Tie as tie
 use Rattle.lemmas.proofs.Cases.{cases}
+use Rattle.lemmas.proofs.Choice.{and-false, cond-false}
 
 is-same-requires : tie.Need-is-same-requires
 is-same-requires c κs = search needs

@@ -1,5 +1,5 @@
 use denote.Ref.{now}
-use Rattle.octets_main.proofs.Laws.{addresses-fit}
+use Rattle.reader.proofs.Part.{addresses-fit}
 use borrow.Author.Needs.{needs}
 use Rattle.octets_main.proofs.print_message.Statement.{statement}
 use Rattle.octets_main.proofs.print_message.Tie as tie
@@ -13,7 +13,6 @@ use Rattle.octets_main.proofs.print_kind.Reads as print-kind-reads
 use Rattle.octets_main.proofs.print_targets.Reads as print-targets-reads
 use Rattle.octets_main.proofs.print_vector.Reads as print-vector-reads
 use Rattle.vector.proofs.addresses.Reads as addresses-reads
-use Rattle.lemmas.proofs.Cases.{cases}
 
 -- src/main.rt:137:15
 add-end : tie.Need-add-end

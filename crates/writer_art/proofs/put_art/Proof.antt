@@ -6,7 +6,8 @@ use lib.ListN.{length, length-take, length-drop}
 use borrow.Author.Needs.{needs}
 use Rattle.lemmas.proofs.Buffer.{written-then}
 use Rattle.plain.specs.Octets.{artOctets, prefixOctets}
-use Rattle.writer_art.proofs.Lengths.{prefix-octets-le, art-parts}
+use Rattle.lemmas.proofs.Rules.{most-octets}
+use Rattle.writer_art.proofs.Lengths.{art-parts}
 use Rattle.writer_art.proofs.put_art.Statement.{statement}
 use Rattle.writer_art.proofs.put_art.Tie as tie
 use Rattle.writer_art.proofs.put_art.Reads as reads
@@ -21,7 +22,8 @@ sized : (s : lts.Start (target-octets-reads.Asked, target-octets-reads.Learnt, p
 sized s =
     let t = s .args .t in
     let k : length (t .addr) ≡ 16 = search needs in
-    (k, prefix-octets-le (t .plen) (s .pre .0), ap length (art-parts t _ refl (omega (arith, prefix-octets-le (t .plen) (s .pre .0)))) ∙ omega (arith, length-take (prefixOctets (t .plen)) (t .addr), prefix-octets-le (t .plen) (s .pre .0)))
+    let most = most-octets (t .plen) (omega (arith, s .pre .0)) in
+    (k, most, ap length (art-parts t _ refl (omega (arith, most))) ∙ omega (arith, length-take (prefixOctets (t .plen)) (t .addr), most))
 
 target-octets-requires : tie.Need-target-octets-requires
 target-octets-requires c κs = search needs
