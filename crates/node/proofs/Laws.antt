@@ -2,12 +2,11 @@
 use Prim.Native.Nat.{ℕ, zero, suc, _+_, _<_, _≤_, _^_}
 use mathlib.Core.Path.{_≡_, refl, sym, ap, subst, _∙_}
 use mathlib.Core.Bool.{Bool, true, false, cond, not, _&&_, _||_}
-use mathlib.Core.List.{List, [], _∷_, _++_, map}
+use mathlib.Core.List.{List, [], _∷_, map}
 use mathlib.Core.Option.{Option, some, none}
 use native.Mathlib.Omega.{arith}
 use lib.Dec.{eqb, leb}
-use lib.ListN.{length, getD, take, replicate, length-append, length-replicate}
-use lib.Seq.{length-take-le}
+use lib.ListN.{length, getD}
 use borrow.Author.Tests.{leb-true, le-ltb, eq-eqb, ne-eqb}
 use Rattle.lemmas.proofs.Choice.{true-false, and-left, and-right}
 use Rattle.plain.specs.Lists.{all, anyTwo, given}
@@ -21,7 +20,8 @@ use Rattle.plain.specs.Reply.{Answered, partnerOf, answeredWith, answered, repl
 use Rattle.plain.specs.Plain.{Decision, enact, linesWith, acceptWith, idle}
 use Rattle.plain.specs.declared.Target.{Target}
 use Rattle.answer.specs.Answer.{answerNumber}
-use Rattle.row.specs.Meaning.{instanceOf, routeOf, requestOf, routeIn, targetsOf, blankTarget, noRow, noRoute}
+use Rattle.row.specs.Meaning.{instanceOf, routeOf, requestOf, routeIn, targetsOf, noRow, noRoute}
+use Rattle.row.proofs.Laws.{length-targets}
 use Rattle.good.specs.Good.{goodIf}
 use Rattle.row.specs.declared.InstanceRow.{InstanceRow}
 use Rattle.row.specs.declared.RouteRow.{RouteRow}
@@ -119,12 +119,6 @@ all-good-at read good (r ∷ rows) (suc i) d e h = all-good-at read good rows i 
     go none e = e
     go (some a) e = and-right (good a) (allGood good (map read rows)) e
 
-count-is : (n : ℕ) (ts : List Target) → length (targetsOf n ts) ≡ n
-unfolding targetsOf
-count-is n ts =
-    length-take-le n (ts ++ replicate n blankTarget)
-    (omega (arith, length-append ts (replicate n blankTarget), length-replicate n blankTarget))
-
 pub row-few : (rows : List InstanceRow) (t : ℕ) (f : Found) → allGood goodInstance (map instanceOf rows) ≡ true → LiveRow rows t f
     → (f .is ≡ true → f .row .kind ≡ 1) → f .is ≡ true → f .row .count ≤ 8
 unfolding instanceOf goodInstance requestOf
@@ -136,7 +130,7 @@ row-few rows t f g l k i =
     let d =
     and-left (leb (length ts) mostTargets) (all (λ (z : Target). leb (z .plen) 127) ts)
     (and-left (leb (length ts) mostTargets && all (λ (z : Target). leb (z .plen) 127) ts) (goodDeadline (requestOf (f .row) .deadline)) c) in
-    omega (arith, leb-true (length ts) mostTargets d, count-is (f .row .count) (f .row .targets))
+    omega (arith, leb-true (length ts) mostTargets d, length-targets (f .row .count) (f .row .targets))
 
 -- ---- a decision is settled, by the numbers of what was found
 

@@ -2,7 +2,7 @@
 use Prim.Native.Nat.{ℕ, _<_, _≤_}
 use mathlib.Core.Path.{_≡_, refl, ap, _∙_}
 use mathlib.Core.Bool.{Bool, true, false, cond, not, _&&_, _||_}
-use mathlib.Core.List.{List, [], _∷_}
+use mathlib.Core.List.{List, []}
 use mathlib.Core.Option.{Option}
 use native.Mathlib.Omega.{arith}
 use lib.ListN.{take}
@@ -11,9 +11,10 @@ use Rattle.plain.specs.Given.{Settings, Received, RequestRow, ReplyRow, Route}
 use Rattle.plain.specs.Table.{Numbered}
 use Rattle.plain.specs.Octets.{Message}
 use Rattle.plain.specs.Rank.{minHop, ownRank, rankRefused}
-use Rattle.plain.specs.Answers.{Line, answerOf}
+use Rattle.plain.specs.Answers.{answerOf}
 use Rattle.plain.specs.Request.{cannotElide, cannotGrow, grown, isStale, isNothingNew, routeStale}
 use Rattle.plain.specs.Reply.{Answered, answeredWith, destSeq, grows, replyLoops, replyLines}
+use Rattle.lemmas.proofs.Rules.{unheld}
 use Rattle.rank.proofs.Refusal.{own-fits}
 use Rattle.message.specs.Message.{messageIn, receivedBy, routeFound}
 use Rattle.message.specs.declared.Parsed.{Parsed}
@@ -65,14 +66,6 @@ pub lines-of : (x : Settings) (k : Link) (p : Parsed) (v : List Address) (w : Re
 unfolding replyLines answerOf answeredOf messageIn isFull
 lines-of x k p v w = refl
 
-line-none : (l : Line) (ls : List Line) → answerOf (l ∷ ls) ≡ 0 → 0 < l .number → (l .holds ≡ false) × (answerOf ls ≡ 0)
-unfolding answerOf
-line-none l ls e h = go (l .holds) e
-  where
-    go : (b : Bool) → cond b (l .number) (answerOf ls) ≡ 0 → (b ≡ false) × (answerOf ls ≡ 0)
-    go true e = absurd (omega arith)
-    go false e = (refl, e)
-
 -- 12 and 16 are not given where none is
 pub none-holds : (x : Settings) (c : Received) (m : Message) (a : Answered) → answerOf (replyLines x c m a) ≡ 0
     → (not (a .symmetric)
@@ -80,13 +73,13 @@ pub none-holds : (x : Settings) (c : Received) (m : Message) (a : Answered) → 
     × (isFull x m a ≡ false)
 unfolding replyLines isFull
 none-holds x c m a e =
-    let e10 = line-none _ _ e (omega arith) .1 in
-    let e11 = line-none _ _ e10 (omega arith) .1 in
-    let e12 = line-none _ _ e11 (omega arith) .1 in
-    let e13 = line-none _ _ e12 (omega arith) in
-    let e14 = line-none _ _ (e13 .1) (omega arith) .1 in
-    let e16 = line-none _ _ e14 (omega arith) .1 in
-    (e13 .0, line-none _ _ e16 (omega arith) .0)
+    let e10 = unheld _ _ e (omega arith) .1 in
+    let e11 = unheld _ _ e10 (omega arith) .1 in
+    let e12 = unheld _ _ e11 (omega arith) .1 in
+    let e13 = unheld _ _ e12 (omega arith) in
+    let e14 = unheld _ _ (e13 .1) (omega arith) .1 in
+    let e16 = unheld _ _ e14 (omega arith) .1 in
+    (e13 .0, unheld _ _ e16 (omega arith) .0)
 
 -- where 12 is not given, our own rank has 16 bits
 pub rank-fits : (x : Settings) (c : Received) (m : Message) (p : RequestRow) (row : Option (Numbered ReplyRow)) (route : Option (Numbered Route))
