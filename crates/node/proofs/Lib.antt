@@ -1,4 +1,5 @@
 pub mod Laws
+pub mod Decides
 pub mod Requested
 pub mod Answered
 pub mod Lent

@@ -1,26 +1,78 @@
 pub mod Lts
 pub mod Tie
 use denote.Ref.{now}
-use mathlib.Core.Path.{sym, ap, _∙_}
-use mathlib.Core.List.{[]}
+use mathlib.Core.Path.{_≡_, sym, ap, _∙_}
+use mathlib.Core.List.{List, []}
 use native.Mathlib.Omega.{arith}
-use Rattle.plain.specs.Given.{Destination}
-use Rattle.plain.specs.Answers.{viewOf}
+use Rattle.plain.specs.Address.{Address}
+use Rattle.plain.specs.Given.{Settings, Destination}
+use Rattle.plain.specs.Answers.{viewOf, answerOf}
 use Rattle.plain.specs.Plain.{idle}
 use Rattle.answer.specs.Answer.{answerNumber}
 use Rattle.row.specs.Meaning.{replyOf}
 use Rattle.own.specs.Settings.{settingsOf}
 use Rattle.decision.specs.Decision.{Posts}
 use Rattle.rule.proofs.Laws.{posts-nothing}
+use Rattle.reply.specs.Facts.{answeredOf}
 use Rattle.finish.specs.Gives.{stateOf}
 use Rattle.finish.proofs.Laws.{refused-gives}
 use Rattle.node.proofs.Laws.{no-partner-is, reply-is, answered-is, ready}
-use Rattle.node.proofs.Answered.{reply-refused, reply-rank, reply-room, reply-taken, reply-settled}
+use Rattle.node.proofs.Decides.{refused, taken}
+use Rattle.node.proofs.Answered.{Known, asking, lines, accept, reply-decided, reply-rank, reply-room, reply-settled}
 use borrow.Author.Needs.{needs}
 use Rattle.node.proofs.take_reply.Statement.{statement}
 use Rattle.node.proofs.take_reply.Proof.Tie as tie
 use Rattle.node.proofs.take_reply.Proof.Lts as lts
 use Rattle.node.proofs.Lent.take_reply.Reads as reads
+
+-- ---- what is known
+
+-- when the facts are gathered
+known : (c : tie.After-gather)
+    → Known (c .before .before .before .before .before .before .before .before .before .before .before .before .before .before .before .before .before .before .before .before .before .before .before .before .args .clock) (c .before .before .before .before .before .before .before .before .before .before .before .before .before .before .before .before .before .before .before .before .before .before .before .before .args .seq)
+    (c .before .before .before .before .before .before .before .before .before .before .before .before .before .before .before .before .before .before .before .before .before .before .before .before .args .t) (now (c .before .before .before .before .before .before .before .before .before .before .before .before .before .before .before .before .before .before .before .before .before .before .before .before .args .instances))
+    (now (c .before .before .before .before .before .before .before .before .before .before .before .before .before .before .before .before .before .before .before .before .before .before .before .before .args .routes)) (c .before .before .before .before .before .before .before .before .before .before .before .before .before .before .before .before .before .before .before .before .before .before .before .before .args .o)
+    (c .before .before .before .before .before .before .before .before .before .before .before .before .before .before .before .before .before .before .before .before .before .before .before .before .args .k) (now (c .before .before .before .before .before .before .before .before .before .before .before .before .before .before .before .before .before .before .before .before .before .before .before .before .args .p))
+    (now (c .before .before .before .before .before .before .before .before .before .before .before .before .before .before .before .before .before .before .before .before .before .before .before .before .args .vector)) (c .before .before .before .before .before .search-reply .result)
+    (c .before .before .before .search-route .result) (c .before .before .before .before .before .before .before .before .before .before .before .before .before .search-partner .result .row) (c .before .found-row .result) (c .gather .result)
+known c =
+    let o = c .before .before .before .before .before .before .before .before .before .before .before .before .before .before .before .before .before .before .before .before .before .before .before .before in
+    let a = o .args in
+    let rows = now (a .instances) in
+    let routes = now (a .routes) in
+    let vector = now (a .vector) in
+    let number = c .before .before .before .before .before .before .before .before .before .before .before .before .before .before .before .before .before .before .before .partner-number in
+    let orig = c .before .before .before .before .before .before .before .before .before .before .before .before .before .before .before .before .before .orig-node in
+    let h = c .before .before .before .before .before .before .before .before .before .before .before .before .before .before .h-of in
+    let w = c .before .before .before .before .before .before .before .before .before .before .before .before .before .search-partner in
+    let is = c .before .before .before .before .before .before .before .before .before .before .before .before .is-found in
+    let dodagid = c .before .before .before .before .before .before .before .before .before .dodagid-of in
+    let instance = c .before .before .before .before .before .before .instance-of in
+    let f = c .before .before .before .before .before .search-reply in
+    let g = c .before .before .before .search-route in
+    record {
+      same = c .before .found-row .ensures;
+      gathered = c .gather .ensures vector;
+      found =
+          answered-is (a .clock) (a .seq) (a .t) rows routes (a .o) (a .k) (now (a .p)) vector (number .result) (orig .result) (h .result)
+          (number .ensures vector) (orig .ensures vector) (h .ensures) (w .result) (w .ensures (a .clock) (o .pre .later)) (instance .result)
+          (dodagid .result) (instance .ensures) (dodagid .ensures) (f .result) (g .result) (f .ensures .0 (a .clock) (o .pre .later))
+          (g .ensures .0 (a .clock) (o .pre .later));
+      decided =
+          reply-is (a .clock) (a .seq) (a .t) rows routes (a .o) (a .k) (now (a .p)) vector (number .result) (orig .result) (h .result)
+          (number .ensures vector) (orig .ensures vector) (h .ensures) (w .result) (w .ensures (a .clock) (o .pre .later)) (is .result) (is .ensures)
+          (c .before .before .before .before .before .before .before .before .before .before .before .if1 .taken);
+    }
+
+-- and where the answer is 0
+zero : (c : tie.Else2) → answerOf (lines (known (c .before .before .before .before)) (answeredOf (c .before .before .before .before .gather .result))) ≡ 0
+zero c = sym (c .before .before .judge .ensures) ∙ (sym (c .before .number .ensures) ∙ c .if2 .left)
+
+-- no reply of our own is written
+quiet : (c : tie.After-no-post) → (x : Settings) (vector : List Address) → Posts x vector [] Destination.nowhere (c .no-post .result)
+quiet c x vector = rw (c .no-post .ensures) (posts-nothing x vector)
+
+-- ---- the parts
 
 whole-requires : tie.Need-whole-requires
 whole-requires c = search needs
@@ -78,91 +130,21 @@ same-length-2 c = search needs
 
 returns : tie.Need-returns
 returns c =
-    let o = c .before .before .before .before .before .before .before .before .before .before .before .before .before .before .before .before .before .before .before .before .before .before .before .before .before .before .before .before .before in
-    let a = o .args in
-    let rows = now (a .instances) in
-    let routes = now (a .routes) in
-    let vector = now (a .vector) in
-    let number = c .before .before .before .before .before .before .before .before .before .before .before .before .before .before .before .before .before .before .before .before .before .before .before .before .partner-number in
-    let orig = c .before .before .before .before .before .before .before .before .before .before .before .before .before .before .before .before .before .before .before .before .before .before .orig-node in
-    let h = c .before .before .before .before .before .before .before .before .before .before .before .before .before .before .before .before .before .before .before .h-of in
-    let w = c .before .before .before .before .before .before .before .before .before .before .before .before .before .before .before .before .before .before .search-partner in
-    let is = c .before .before .before .before .before .before .before .before .before .before .before .before .before .before .before .before .before .is-found in
-    let dodagid = c .before .before .before .before .before .before .before .before .before .before .before .before .before .before .dodagid-of in
-    let instance = c .before .before .before .before .before .before .before .before .before .before .before .instance-of in
-    let f = c .before .before .before .before .before .before .before .before .before .before .search-reply in
-    let g = c .before .before .before .before .before .before .before .before .search-route in
-    let partner = c .before .before .before .before .before .before .found-row in
-    let facts = c .before .before .before .before .before .gather in
-    let found =
-    answered-is (a .clock) (a .seq) (a .t) rows routes (a .o) (a .k) (now (a .p)) vector (number .result) (orig .result) (h .result)
-    (number .ensures vector) (orig .ensures vector) (h .ensures) (w .result) (w .ensures (a .clock) (o .pre .later)) (instance .result) (dodagid .result)
-    (instance .ensures) (dodagid .ensures) (f .result) (g .result) (f .ensures .0 (a .clock) (o .pre .later)) (g .ensures .0 (a .clock) (o .pre .later)) in
-    let decided =
-    reply-is (a .clock) (a .seq) (a .t) rows routes (a .o) (a .k) (now (a .p)) vector (number .result) (orig .result) (h .result)
-    (number .ensures vector) (orig .ensures vector) (h .ensures) (w .result) (w .ensures (a .clock) (o .pre .later)) (is .result) (is .ensures)
-    (c .before .before .before .before .before .before .before .before .before .before .before .before .before .before .before .before .if1 .taken) in
-    reply-refused (a .clock) (a .seq) (a .t) rows routes (a .o) (a .k) (now (a .p)) vector (f .result) (g .result) (w .result .row) (partner .result) (partner .ensures) (facts .result) (facts .ensures vector) found decided (now (a .forward)) (now (a .reply)) (c .before .before .before .judge .result) (c .before .before .number .result)
+    let a = c .before .before .before .before .before .before .before .before .before .before .before .before .before .before .before .before .before .before .before .before .before .before .before .before .before .before .before .before .before .args in
+    let h = known (c .before .before .before .before .before) in
+    refused (lines h) (accept h) (answeredOf (c .before .before .before .before .before .gather .result)) (asking h) (h .gathered .means) _ (reply-decided h) (a .clock) (a .seq) (a .t)
+    (now (a .instances)) (now (a .routes)) (now (a .forward)) (now (a .reply)) (c .before .before .before .judge .result) (c .before .before .number .result)
     (c .refused .result) (c .before .before .before .judge .ensures) (c .before .before .number .ensures) (c .before .if2 .taken) (c .refused .ensures)
 
 accepted-requires : tie.Need-accepted-requires
-accepted-requires c κs =
-    let o = c .before .before .before .before .before .before .before .before .before .before .before .before .before .before .before .before .before .before .before .before .before .before .before .before .before .before .before .before .before in
-    let a = o .args in
-    let rows = now (a .instances) in
-    let routes = now (a .routes) in
-    let vector = now (a .vector) in
-    let number = c .before .before .before .before .before .before .before .before .before .before .before .before .before .before .before .before .before .before .before .before .before .before .before .before .partner-number in
-    let orig = c .before .before .before .before .before .before .before .before .before .before .before .before .before .before .before .before .before .before .before .before .before .before .orig-node in
-    let h = c .before .before .before .before .before .before .before .before .before .before .before .before .before .before .before .before .before .before .before .h-of in
-    let w = c .before .before .before .before .before .before .before .before .before .before .before .before .before .before .before .before .before .before .search-partner in
-    let is = c .before .before .before .before .before .before .before .before .before .before .before .before .before .before .before .before .before .is-found in
-    let dodagid = c .before .before .before .before .before .before .before .before .before .before .before .before .before .before .dodagid-of in
-    let instance = c .before .before .before .before .before .before .before .before .before .before .before .instance-of in
-    let f = c .before .before .before .before .before .before .before .before .before .before .search-reply in
-    let g = c .before .before .before .before .before .before .before .before .search-route in
-    let partner = c .before .before .before .before .before .before .found-row in
-    let facts = c .before .before .before .before .before .gather in
-    let found =
-    answered-is (a .clock) (a .seq) (a .t) rows routes (a .o) (a .k) (now (a .p)) vector (number .result) (orig .result) (h .result)
-    (number .ensures vector) (orig .ensures vector) (h .ensures) (w .result) (w .ensures (a .clock) (o .pre .later)) (instance .result) (dodagid .result)
-    (instance .ensures) (dodagid .ensures) (f .result) (g .result) (f .ensures .0 (a .clock) (o .pre .later)) (g .ensures .0 (a .clock) (o .pre .later)) in
-    let decided =
-    reply-is (a .clock) (a .seq) (a .t) rows routes (a .o) (a .k) (now (a .p)) vector (number .result) (orig .result) (h .result)
-    (number .ensures vector) (orig .ensures vector) (h .ensures) (w .result) (w .ensures (a .clock) (o .pre .later)) (is .result) (is .ensures)
-    (c .before .before .before .before .before .before .before .before .before .before .before .before .before .before .before .before .if1 .taken) in
-    let zero = sym (c .before .before .before .judge .ensures) ∙ (sym (c .before .before .number .ensures) ∙ c .before .if2 .left) in
-    (o .pre .time, reply-rank (a .clock) (a .seq) (a .t) rows routes (a .o) (a .k) (now (a .p)) vector (f .result) (g .result) (w .result .row) (partner .result) (partner .ensures) (facts .result) (facts .ensures vector) found decided zero)
+accepted-requires c κs = (c .before .before .before .before .before .before .before .before .before .before .before .before .before .before .before .before .before .before .before .before .before .before .before .before .before .before .before .before .before .pre .time, reply-rank (known (c .before .before .before .before .before)) (zero (c .before)))
 
 forward-post-requires : tie.Need-forward-post-requires
 forward-post-requires c κs =
-    let o = c .before .before .before .before .before .before .before .before .before .before .before .before .before .before .before .before .before .before .before .before .before .before .before .before .before .before .before .before .before .before .before in
-    let a = o .args in
-    let rows = now (a .instances) in
-    let routes = now (a .routes) in
-    let vector = now (a .vector) in
-    let number = c .before .before .before .before .before .before .before .before .before .before .before .before .before .before .before .before .before .before .before .before .before .before .before .before .before .before .partner-number in
-    let orig = c .before .before .before .before .before .before .before .before .before .before .before .before .before .before .before .before .before .before .before .before .before .before .before .before .orig-node in
-    let h = c .before .before .before .before .before .before .before .before .before .before .before .before .before .before .before .before .before .before .before .before .before .h-of in
-    let w = c .before .before .before .before .before .before .before .before .before .before .before .before .before .before .before .before .before .before .before .before .search-partner in
-    let is = c .before .before .before .before .before .before .before .before .before .before .before .before .before .before .before .before .before .before .before .is-found in
-    let dodagid = c .before .before .before .before .before .before .before .before .before .before .before .before .before .before .before .before .dodagid-of in
-    let instance = c .before .before .before .before .before .before .before .before .before .before .before .before .before .instance-of in
-    let f = c .before .before .before .before .before .before .before .before .before .before .before .before .search-reply in
-    let g = c .before .before .before .before .before .before .before .before .before .before .search-route in
-    let partner = c .before .before .before .before .before .before .before .before .found-row in
-    let facts = c .before .before .before .before .before .before .before .gather in
-    let found =
-    answered-is (a .clock) (a .seq) (a .t) rows routes (a .o) (a .k) (now (a .p)) vector (number .result) (orig .result) (h .result)
-    (number .ensures vector) (orig .ensures vector) (h .ensures) (w .result) (w .ensures (a .clock) (o .pre .later)) (instance .result) (dodagid .result)
-    (instance .ensures) (dodagid .ensures) (f .result) (g .result) (f .ensures .0 (a .clock) (o .pre .later)) (g .ensures .0 (a .clock) (o .pre .later)) in
-    let decided =
-    reply-is (a .clock) (a .seq) (a .t) rows routes (a .o) (a .k) (now (a .p)) vector (number .result) (orig .result) (h .result)
-    (number .ensures vector) (orig .ensures vector) (h .ensures) (w .result) (w .ensures (a .clock) (o .pre .later)) (is .result) (is .ensures)
-    (c .before .before .before .before .before .before .before .before .before .before .before .before .before .before .before .before .before .before .if1 .taken) in
-    let zero = sym (c .before .before .before .before .before .judge .ensures) ∙ (sym (c .before .before .before .before .number .ensures) ∙ c .before .before .before .if2 .left) in
+    let h = known (c .before .before .before .before .before .before .before) in
+    let z = zero (c .before .before .before) in
     let v = c .before .before .before .before .before .before .before .before .before .before .before .before .before .before .before .before .before .before .before .before .before .before .before .before .before .before .before .before .whole in
-    (o .pre .heard, record { places = v .ensures .0; whole = v .ensures .1 }, reply-rank (a .clock) (a .seq) (a .t) rows routes (a .o) (a .k) (now (a .p)) vector (f .result) (g .result) (w .result .row) (partner .result) (partner .ensures) (facts .result) (facts .ensures vector) found decided zero, reply-room (a .clock) (a .seq) (a .t) rows routes (a .o) (a .k) (now (a .p)) vector (f .result) (g .result) (w .result .row) (partner .result) (partner .ensures) (facts .result) (facts .ensures vector) found decided zero)
+    (c .before .before .before .before .before .before .before .before .before .before .before .before .before .before .before .before .before .before .before .before .before .before .before .before .before .before .before .before .before .before .before .pre .heard, record { places = v .ensures .0; whole = v .ensures .1 }, reply-rank h z, reply-room h z)
 
 no-post-requires : tie.Need-no-post-requires
 no-post-requires c = search needs
@@ -174,38 +156,16 @@ finish-requires : tie.Need-finish-requires
 finish-requires c κs =
     let o = c .before .before .before .before .before .before .before .before .before .before .before .before .before .before .before .before .before .before .before .before .before .before .before .before .before .before .before .before .before .before .before .before .before .before .before .before .before .before .before .before .before in
     let a = o .args in
-    let rows = now (a .instances) in
-    let routes = now (a .routes) in
     let vector = now (a .vector) in
-    let number = c .before .before .before .before .before .before .before .before .before .before .before .before .before .before .before .before .before .before .before .before .before .before .before .before .before .before .before .before .before .before .before .before .before .before .before .before .partner-number in
-    let orig = c .before .before .before .before .before .before .before .before .before .before .before .before .before .before .before .before .before .before .before .before .before .before .before .before .before .before .before .before .before .before .before .before .before .before .orig-node in
-    let h = c .before .before .before .before .before .before .before .before .before .before .before .before .before .before .before .before .before .before .before .before .before .before .before .before .before .before .before .before .before .before .before .h-of in
-    let w = c .before .before .before .before .before .before .before .before .before .before .before .before .before .before .before .before .before .before .before .before .before .before .before .before .before .before .before .before .before .before .search-partner in
-    let is = c .before .before .before .before .before .before .before .before .before .before .before .before .before .before .before .before .before .before .before .before .before .before .before .before .before .before .before .before .before .is-found in
-    let dodagid = c .before .before .before .before .before .before .before .before .before .before .before .before .before .before .before .before .before .before .before .before .before .before .before .before .before .before .dodagid-of in
-    let instance = c .before .before .before .before .before .before .before .before .before .before .before .before .before .before .before .before .before .before .before .before .before .before .before .instance-of in
     let f = c .before .before .before .before .before .before .before .before .before .before .before .before .before .before .before .before .before .before .before .before .before .before .search-reply in
     let g = c .before .before .before .before .before .before .before .before .before .before .before .before .before .before .before .before .before .before .before .before .search-route in
-    let partner = c .before .before .before .before .before .before .before .before .before .before .before .before .before .before .before .before .before .before .found-row in
-    let facts = c .before .before .before .before .before .before .before .before .before .before .before .before .before .before .before .before .before .gather in
-    let found =
-    answered-is (a .clock) (a .seq) (a .t) rows routes (a .o) (a .k) (now (a .p)) vector (number .result) (orig .result) (h .result)
-    (number .ensures vector) (orig .ensures vector) (h .ensures) (w .result) (w .ensures (a .clock) (o .pre .later)) (instance .result) (dodagid .result)
-    (instance .ensures) (dodagid .ensures) (f .result) (g .result) (f .ensures .0 (a .clock) (o .pre .later)) (g .ensures .0 (a .clock) (o .pre .later)) in
-    let decided =
-    reply-is (a .clock) (a .seq) (a .t) rows routes (a .o) (a .k) (now (a .p)) vector (number .result) (orig .result) (h .result)
-    (number .ensures vector) (orig .ensures vector) (h .ensures) (w .result) (w .ensures (a .clock) (o .pre .later)) (is .result) (is .ensures)
-    (c .before .before .before .before .before .before .before .before .before .before .before .before .before .before .before .before .before .before .before .before .before .before .before .before .before .before .before .before .if1 .taken) in
-    let zero = sym (c .before .before .before .before .before .before .before .before .before .before .before .before .before .before .before .judge .ensures) ∙ (sym (c .before .before .before .before .before .before .before .before .before .before .before .before .before .before .number .ensures) ∙ c .before .before .before .before .before .before .before .before .before .before .before .before .before .if2 .left) in
     let v = c .before .before .before .before .before .before .before .before .before .before .before .before .before .before .before .before .before .before .before .before .before .before .before .before .before .before .before .before .before .before .before .before .before .before .before .before .before .before .whole in
-    let d = c .before .before .before .before .before .before .before .before .before .before .before .accepted in
     let there = c .before .before .before .before .before .before .before .before .before .forward-post in
     let back = c .before .before .before .before .before .before .before .before .no-post in
     let l = c .before .before .before .before .before .before .before .live-of in
-    let quiet : Posts (settingsOf (a .o)) vector [] Destination.nowhere (back .result) = rw (back .ensures) (posts-nothing (settingsOf (a .o)) vector) in
-    ready (f .result) (replyOf (f .result .row)) (g .result) (l .result) (l .ensures) (settingsOf (a .o)) (a .t) rows routes (now (a .forward))
-    (now (a .reply)) vector (there .result) (back .result) (f .ensures .1) (g .ensures .1) (o .pre .forwardRoom) (o .pre .replyRoom) (v .ensures .0)
-    (there .ensures .fits) (quiet .fits)
+    ready (f .result) (replyOf (f .result .row)) (g .result) (l .result) (l .ensures) (settingsOf (a .o)) (a .t) (now (a .instances)) (now (a .routes))
+    (now (a .forward)) (now (a .reply)) vector (there .result) (back .result) (f .ensures .1) (g .ensures .1) (o .pre .forwardRoom) (o .pre .replyRoom)
+    (v .ensures .0) (there .ensures .fits) (quiet (c .before .before .before .before .before .before .before .before) (settingsOf (a .o)) vector .fits)
 
 same-length-3 : tie.Need-same-length-3
 same-length-3 c = search needs
@@ -221,41 +181,17 @@ same-length-6 c = search needs
 
 returns-2 : tie.Need-returns-2
 returns-2 c =
-    let o = c .before .before .before .before .before .before .before .before .before .before .before .before .before .before .before .before .before .before .before .before .before .before .before .before .before .before .before .before .before .before .before .before .before .before .before .before .before .before .before .before .before .before .before .before .before .before .before .before in
-    let a = o .args in
-    let rows = now (a .instances) in
-    let routes = now (a .routes) in
+    let a = c .before .before .before .before .before .before .before .before .before .before .before .before .before .before .before .before .before .before .before .before .before .before .before .before .before .before .before .before .before .before .before .before .before .before .before .before .before .before .before .before .before .before .before .before .before .before .before .before .args in
     let vector = now (a .vector) in
-    let number = c .before .before .before .before .before .before .before .before .before .before .before .before .before .before .before .before .before .before .before .before .before .before .before .before .before .before .before .before .before .before .before .before .before .before .before .before .before .before .before .before .before .before .before .partner-number in
-    let orig = c .before .before .before .before .before .before .before .before .before .before .before .before .before .before .before .before .before .before .before .before .before .before .before .before .before .before .before .before .before .before .before .before .before .before .before .before .before .before .before .before .before .orig-node in
-    let h = c .before .before .before .before .before .before .before .before .before .before .before .before .before .before .before .before .before .before .before .before .before .before .before .before .before .before .before .before .before .before .before .before .before .before .before .before .before .before .h-of in
-    let w = c .before .before .before .before .before .before .before .before .before .before .before .before .before .before .before .before .before .before .before .before .before .before .before .before .before .before .before .before .before .before .before .before .before .before .before .before .before .search-partner in
-    let is = c .before .before .before .before .before .before .before .before .before .before .before .before .before .before .before .before .before .before .before .before .before .before .before .before .before .before .before .before .before .before .before .before .before .before .before .before .is-found in
-    let dodagid = c .before .before .before .before .before .before .before .before .before .before .before .before .before .before .before .before .before .before .before .before .before .before .before .before .before .before .before .before .before .before .before .before .before .dodagid-of in
-    let instance = c .before .before .before .before .before .before .before .before .before .before .before .before .before .before .before .before .before .before .before .before .before .before .before .before .before .before .before .before .before .before .instance-of in
-    let f = c .before .before .before .before .before .before .before .before .before .before .before .before .before .before .before .before .before .before .before .before .before .before .before .before .before .before .before .before .before .search-reply in
-    let g = c .before .before .before .before .before .before .before .before .before .before .before .before .before .before .before .before .before .before .before .before .before .before .before .before .before .before .before .search-route in
-    let partner = c .before .before .before .before .before .before .before .before .before .before .before .before .before .before .before .before .before .before .before .before .before .before .before .before .before .found-row in
-    let facts = c .before .before .before .before .before .before .before .before .before .before .before .before .before .before .before .before .before .before .before .before .before .before .before .before .gather in
-    let found =
-    answered-is (a .clock) (a .seq) (a .t) rows routes (a .o) (a .k) (now (a .p)) vector (number .result) (orig .result) (h .result)
-    (number .ensures vector) (orig .ensures vector) (h .ensures) (w .result) (w .ensures (a .clock) (o .pre .later)) (instance .result) (dodagid .result)
-    (instance .ensures) (dodagid .ensures) (f .result) (g .result) (f .ensures .0 (a .clock) (o .pre .later)) (g .ensures .0 (a .clock) (o .pre .later)) in
-    let decided =
-    reply-is (a .clock) (a .seq) (a .t) rows routes (a .o) (a .k) (now (a .p)) vector (number .result) (orig .result) (h .result)
-    (number .ensures vector) (orig .ensures vector) (h .ensures) (w .result) (w .ensures (a .clock) (o .pre .later)) (is .result) (is .ensures)
-    (c .before .before .before .before .before .before .before .before .before .before .before .before .before .before .before .before .before .before .before .before .before .before .before .before .before .before .before .before .before .before .before .before .before .before .before .if1 .taken) in
-    let zero = sym (c .before .before .before .before .before .before .before .before .before .before .before .before .before .before .before .before .before .before .before .before .before .before .judge .ensures) ∙ (sym (c .before .before .before .before .before .before .before .before .before .before .before .before .before .before .before .before .before .before .before .before .before .number .ensures) ∙ c .before .before .before .before .before .before .before .before .before .before .before .before .before .before .before .before .before .before .before .before .if2 .left) in
-    let v = c .before .before .before .before .before .before .before .before .before .before .before .before .before .before .before .before .before .before .before .before .before .before .before .before .before .before .before .before .before .before .before .before .before .before .before .before .before .before .before .before .before .before .before .before .before .whole in
+    let h = known (c .before .before .before .before .before .before .before .before .before .before .before .before .before .before .before .before .before .before .before .before .before .before .before .before) in
     let d = c .before .before .before .before .before .before .before .before .before .before .before .before .before .before .before .before .before .before .accepted in
     let there = c .before .before .before .before .before .before .before .before .before .before .before .before .before .before .before .before .forward-post in
     let back = c .before .before .before .before .before .before .before .before .before .before .before .before .before .before .before .no-post in
     let l = c .before .before .before .before .before .before .before .before .before .before .before .before .before .before .live-of in
-    let quiet : Posts (settingsOf (a .o)) vector [] Destination.nowhere (back .result) = rw (back .ensures) (posts-nothing (settingsOf (a .o)) vector) in
-    rw (reply-taken (a .clock) (a .seq) (a .t) rows routes (a .o) (a .k) (now (a .p)) vector (f .result) (g .result) (w .result .row) (partner .result) (partner .ensures) (facts .result) (facts .ensures vector) found decided zero)
+    rw (taken (lines h) (accept h) (answeredOf (c .before .before .before .before .before .before .before .before .before .before .before .before .before .before .before .before .before .before .before .before .before .before .before .before .gather .result)) (asking h) (h .gathered .means) _ (reply-decided h) (zero (c .before .before .before .before .before .before .before .before .before .before .before .before .before .before .before .before .before .before .before .before)))
     (c .before .before .before .before .before .before .finish .ensures _
-    (reply-settled (a .clock) (a .seq) (a .t) rows routes (a .o) (a .k) (now (a .p)) vector (f .result) (g .result) (w .result .row) (partner .result) (partner .ensures) (facts .result) (facts .ensures vector) found decided (l .result) (l .ensures) (d .result) (there .result) (back .result) (d .ensures (settingsOf (a .o)) vector)
-    (there .ensures) quiet))
+    (reply-settled h (l .result) (l .ensures) (d .result) (there .result) (back .result) (d .ensures (settingsOf (a .o)) vector) (there .ensures)
+    (quiet (c .before .before .before .before .before .before .before .before .before .before .before .before .before .before .before) (settingsOf (a .o)) vector)))
 
 no-partner-requires : tie.Need-no-partner-requires
 no-partner-requires c = search needs

@@ -1,18 +1,70 @@
 pub mod Lts
 pub mod Tie
 use denote.Ref.{now}
-use mathlib.Core.Path.{sym, _∙_}
+use mathlib.Core.Path.{_≡_, sym, _∙_}
 use mathlib.Core.List.{[]}
+use Rattle.plain.specs.Answers.{answerOf}
 use Rattle.row.specs.Meaning.{requestOf}
 use Rattle.own.specs.Settings.{settingsOf}
+use Rattle.decision.specs.Decision.{Posts}
 use Rattle.rule.proofs.Types.{own-sixteen}
+use Rattle.request.specs.Facts.{askedOf}
 use Rattle.node.proofs.Laws.{row-few, asked-is, ready}
-use Rattle.node.proofs.Requested.{request-refused, request-sendable, request-room, request-taken, request-settled}
+use Rattle.node.proofs.Decides.{refused, taken}
+use Rattle.node.proofs.Requested.{Known, asking, lines, accept, request-decided, request-sendable, request-room, request-settled}
 use borrow.Author.Needs.{needs}
 use Rattle.node.proofs.take_request.Statement.{statement}
 use Rattle.node.proofs.take_request.Proof.Tie as tie
 use Rattle.node.proofs.take_request.Proof.Lts as lts
 use Rattle.node.proofs.Lent.take_request.Reads as reads
+
+-- ---- what is known
+
+-- when the facts are gathered
+known : (c : tie.After-gather)
+    → Known (c .before .before .before .before .before .before .before .before .before .before .before .before .before .before .before .before .before .before .args .clock) (c .before .before .before .before .before .before .before .before .before .before .before .before .before .before .before .before .before .before .args .seq)
+    (c .before .before .before .before .before .before .before .before .before .before .before .before .before .before .before .before .before .before .args .t) (now (c .before .before .before .before .before .before .before .before .before .before .before .before .before .before .before .before .before .before .args .instances))
+    (now (c .before .before .before .before .before .before .before .before .before .before .before .before .before .before .before .before .before .before .args .routes)) (c .before .before .before .before .before .before .before .before .before .before .before .before .before .before .before .before .before .before .args .o)
+    (c .before .before .before .before .before .before .before .before .before .before .before .before .before .before .before .before .before .before .args .k) (now (c .before .before .before .before .before .before .before .before .before .before .before .before .before .before .before .before .before .before .args .p))
+    (now (c .before .before .before .before .before .before .before .before .before .before .before .before .before .before .before .before .before .before .args .vector)) (c .before .before .before .before .before .before .before .before .search-request .result)
+    (c .before .before .before .before .before .before .search-route .result) (c .before .before .free-delta-if .result) (c .gather .result)
+known c =
+    let o = c .before .before .before .before .before .before .before .before .before .before .before .before .before .before .before .before .before .before in
+    let a = o .args in
+    let vector = now (a .vector) in
+    let instance = c .before .before .before .before .before .before .before .before .before .before .before .before .before .instance-of in
+    let dodagid = c .before .before .before .before .before .before .before .before .before .before .before .dodagid-of in
+    let receiving = c .before .before .before .before .before .before .before .before .before .before .receiving-of in
+    let f = c .before .before .before .before .before .before .before .before .search-request in
+    let g = c .before .before .before .before .before .before .search-route in
+    let targ = c .before .before .before .before .is-targ-node in
+    let free = c .before .before .free-delta-if in
+    record {
+      gathered = c .gather .ensures vector;
+      found =
+          asked-is (a .clock) (a .seq) (a .t) (now (a .instances)) (now (a .routes)) (a .o) (a .k) (now (a .p)) vector (instance .result) (dodagid .result)
+          (receiving .result) (instance .ensures) (dodagid .ensures) (receiving .ensures) (f .result) (g .result) (free .result)
+          (f .ensures .0 .0 (a .clock) (o .pre .later)) (g .ensures .0 (a .clock) (o .pre .later)) (targ .result) (targ .ensures vector)
+          (λ e. free .ensures e (a .clock) (o .pre .later));
+    }
+
+-- and where the answer is 0
+zero : (c : tie.Else1) → answerOf (lines (known (c .before .before .before .before)) (askedOf (c .before .before .before .before .gather .result))) ≡ 0
+zero c = sym (c .before .before .judge .ensures) ∙ (sym (c .before .number .ensures) ∙ c .if1 .left)
+
+-- the forward that is written
+forwarded : (c : tie.After-forward-post) → Posts (settingsOf (c .before .before .before .before .before .before .before .before .before .before .before .before .before .before .before .before .before .before .before .before .before .before .before .before .before .before .args .o)) (now (c .before .before .before .before .before .before .before .before .before .before .before .before .before .before .before .before .before .before .before .before .before .before .before .before .before .before .args .vector))
+    (accept (known (c .before .before .before .before .before .before .before .before)) (askedOf (c .before .before .before .before .before .before .before .before .gather .result)) .sent .forward)
+    (accept (known (c .before .before .before .before .before .before .before .before)) (askedOf (c .before .before .before .before .before .before .before .before .gather .result)) .sent .forwardTo) (c .forward-post .result)
+forwarded c =
+    let o = c .before .before .before .before .before .before .before .before .before .before .before .before .before .before .before .before .before .before .before .before .before .before .before .before .before .before in
+    let a = o .args in
+    let sixteen = own-sixteen (a .o) _ (o .good .1 .1 .1 .1 .0) in
+    c .forward-post .ensures (settingsOf (a .o)) (a .seq) (a .t) (now (a .vector))
+    (request-room (known (c .before .before .before .before .before .before .before .before)) (zero (c .before .before .before .before)) (o .pre .heard .addresses) (sixteen .0) (sixteen .1)
+    (c .before .before .before .before .before .before .before .before .before .before .before .before .before .before .before .before .before .before .before .before .before .before .before .whole .ensures .1))
+
+-- ---- the parts
 
 whole-requires : tie.Need-whole-requires
 whole-requires c = search needs
@@ -64,69 +116,17 @@ same-length-2 c = search needs
 
 returns : tie.Need-returns
 returns c =
-    let o = c .before .before .before .before .before .before .before .before .before .before .before .before .before .before .before .before .before .before .before .before .before .before .before in
-    let a = o .args in
-    let rows = now (a .instances) in
-    let routes = now (a .routes) in
-    let vector = now (a .vector) in
-    let instance = c .before .before .before .before .before .before .before .before .before .before .before .before .before .before .before .before .before .before .instance-of in
-    let dodagid = c .before .before .before .before .before .before .before .before .before .before .before .before .before .before .before .before .dodagid-of in
-    let receiving = c .before .before .before .before .before .before .before .before .before .before .before .before .before .before .before .receiving-of in
-    let f = c .before .before .before .before .before .before .before .before .before .before .before .before .before .search-request in
-    let g = c .before .before .before .before .before .before .before .before .before .before .before .search-route in
-    let targ = c .before .before .before .before .before .before .before .before .before .is-targ-node in
-    let free = c .before .before .before .before .before .before .before .free-delta-if in
-    let facts = c .before .before .before .before .before .gather in
-    let found =
-    asked-is (a .clock) (a .seq) (a .t) rows routes (a .o) (a .k) (now (a .p)) vector (instance .result) (dodagid .result) (receiving .result)
-    (instance .ensures) (dodagid .ensures) (receiving .ensures) (f .result) (g .result) (free .result) (f .ensures .0 .0 (a .clock) (o .pre .later))
-    (g .ensures .0 (a .clock) (o .pre .later)) (targ .result) (targ .ensures vector) (λ e. free .ensures e (a .clock) (o .pre .later)) in
-    request-refused (a .clock) (a .seq) (a .t) rows routes (a .o) (a .k) (now (a .p)) vector (f .result) (g .result) (free .result) (facts .result) (facts .ensures vector) found (now (a .forward)) (now (a .reply)) (c .before .before .before .judge .result)
-    (c .before .before .number .result) (c .refused .result) (c .before .before .before .judge .ensures) (c .before .before .number .ensures) (c .before .if1 .taken) (c .refused .ensures)
+    let a = c .before .before .before .before .before .before .before .before .before .before .before .before .before .before .before .before .before .before .before .before .before .before .before .args in
+    let h = known (c .before .before .before .before .before) in
+    refused (lines h) (accept h) (askedOf (c .before .before .before .before .before .gather .result)) (asking h) (h .gathered .means) _ (request-decided h) (a .clock) (a .seq) (a .t)
+    (now (a .instances)) (now (a .routes)) (now (a .forward)) (now (a .reply)) (c .before .before .before .judge .result) (c .before .before .number .result)
+    (c .refused .result) (c .before .before .before .judge .ensures) (c .before .before .number .ensures) (c .before .if1 .taken) (c .refused .ensures)
 
 accepted-requires : tie.Need-accepted-requires
-accepted-requires c κs =
-    let o = c .before .before .before .before .before .before .before .before .before .before .before .before .before .before .before .before .before .before .before .before .before .before .before in
-    let a = o .args in
-    let rows = now (a .instances) in
-    let routes = now (a .routes) in
-    let vector = now (a .vector) in
-    let instance = c .before .before .before .before .before .before .before .before .before .before .before .before .before .before .before .before .before .before .instance-of in
-    let dodagid = c .before .before .before .before .before .before .before .before .before .before .before .before .before .before .before .before .dodagid-of in
-    let receiving = c .before .before .before .before .before .before .before .before .before .before .before .before .before .before .before .receiving-of in
-    let f = c .before .before .before .before .before .before .before .before .before .before .before .before .before .search-request in
-    let g = c .before .before .before .before .before .before .before .before .before .before .before .search-route in
-    let targ = c .before .before .before .before .before .before .before .before .before .is-targ-node in
-    let free = c .before .before .before .before .before .before .before .free-delta-if in
-    let facts = c .before .before .before .before .before .gather in
-    let found =
-    asked-is (a .clock) (a .seq) (a .t) rows routes (a .o) (a .k) (now (a .p)) vector (instance .result) (dodagid .result) (receiving .result)
-    (instance .ensures) (dodagid .ensures) (receiving .ensures) (f .result) (g .result) (free .result) (f .ensures .0 .0 (a .clock) (o .pre .later))
-    (g .ensures .0 (a .clock) (o .pre .later)) (targ .result) (targ .ensures vector) (λ e. free .ensures e (a .clock) (o .pre .later)) in
-    let zero = sym (c .before .before .before .judge .ensures) ∙ (sym (c .before .before .number .ensures) ∙ c .before .if1 .left) in
-    (o .pre .time, request-sendable (a .clock) (a .seq) (a .t) rows routes (a .o) (a .k) (now (a .p)) vector (f .result) (g .result) (free .result) (facts .result) (facts .ensures vector) found zero)
+accepted-requires c κs = (c .before .before .before .before .before .before .before .before .before .before .before .before .before .before .before .before .before .before .before .before .before .before .before .pre .time, request-sendable (known (c .before .before .before .before .before)) (zero (c .before)))
 
 forward-post-requires : tie.Need-forward-post-requires
-forward-post-requires c κs =
-    let o = c .before .before .before .before .before .before .before .before .before .before .before .before .before .before .before .before .before .before .before .before .before .before .before .before .before in
-    let a = o .args in
-    let rows = now (a .instances) in
-    let routes = now (a .routes) in
-    let vector = now (a .vector) in
-    let instance = c .before .before .before .before .before .before .before .before .before .before .before .before .before .before .before .before .before .before .before .before .instance-of in
-    let dodagid = c .before .before .before .before .before .before .before .before .before .before .before .before .before .before .before .before .before .before .dodagid-of in
-    let receiving = c .before .before .before .before .before .before .before .before .before .before .before .before .before .before .before .before .before .receiving-of in
-    let f = c .before .before .before .before .before .before .before .before .before .before .before .before .before .before .before .search-request in
-    let g = c .before .before .before .before .before .before .before .before .before .before .before .before .before .search-route in
-    let targ = c .before .before .before .before .before .before .before .before .before .before .before .is-targ-node in
-    let free = c .before .before .before .before .before .before .before .before .before .free-delta-if in
-    let facts = c .before .before .before .before .before .before .before .gather in
-    let found =
-    asked-is (a .clock) (a .seq) (a .t) rows routes (a .o) (a .k) (now (a .p)) vector (instance .result) (dodagid .result) (receiving .result)
-    (instance .ensures) (dodagid .ensures) (receiving .ensures) (f .result) (g .result) (free .result) (f .ensures .0 .0 (a .clock) (o .pre .later))
-    (g .ensures .0 (a .clock) (o .pre .later)) (targ .result) (targ .ensures vector) (λ e. free .ensures e (a .clock) (o .pre .later)) in
-    let zero = sym (c .before .before .before .before .before .judge .ensures) ∙ (sym (c .before .before .before .before .number .ensures) ∙ c .before .before .before .if1 .left) in
-    (o .pre .heard, request-sendable (a .clock) (a .seq) (a .t) rows routes (a .o) (a .k) (now (a .p)) vector (f .result) (g .result) (free .result) (facts .result) (facts .ensures vector) found zero)
+forward-post-requires c κs = (c .before .before .before .before .before .before .before .before .before .before .before .before .before .before .before .before .before .before .before .before .before .before .before .before .before .pre .heard, request-sendable (known (c .before .before .before .before .before .before .before)) (zero (c .before .before .before)))
 
 reply-post-requires : tie.Need-reply-post-requires
 reply-post-requires c κs = c .before .before .before .before .before .before .before .before .before .before .before .before .before .before .before .before .before .before .before .before .before .before .before .before .before .before .before .pre .heard
@@ -138,35 +138,16 @@ finish-requires : tie.Need-finish-requires
 finish-requires c κs =
     let o = c .before .before .before .before .before .before .before .before .before .before .before .before .before .before .before .before .before .before .before .before .before .before .before .before .before .before .before .before .before .before .before .before .before .before .before .before in
     let a = o .args in
-    let rows = now (a .instances) in
-    let routes = now (a .routes) in
-    let vector = now (a .vector) in
-    let instance = c .before .before .before .before .before .before .before .before .before .before .before .before .before .before .before .before .before .before .before .before .before .before .before .before .before .before .before .before .before .before .before .instance-of in
-    let dodagid = c .before .before .before .before .before .before .before .before .before .before .before .before .before .before .before .before .before .before .before .before .before .before .before .before .before .before .before .before .before .dodagid-of in
-    let receiving = c .before .before .before .before .before .before .before .before .before .before .before .before .before .before .before .before .before .before .before .before .before .before .before .before .before .before .before .before .receiving-of in
     let f = c .before .before .before .before .before .before .before .before .before .before .before .before .before .before .before .before .before .before .before .before .before .before .before .before .before .before .search-request in
     let g = c .before .before .before .before .before .before .before .before .before .before .before .before .before .before .before .before .before .before .before .before .before .before .before .before .search-route in
-    let targ = c .before .before .before .before .before .before .before .before .before .before .before .before .before .before .before .before .before .before .before .before .before .before .is-targ-node in
-    let free = c .before .before .before .before .before .before .before .before .before .before .before .before .before .before .before .before .before .before .before .before .free-delta-if in
-    let facts = c .before .before .before .before .before .before .before .before .before .before .before .before .before .before .before .before .before .before .gather in
-    let found =
-    asked-is (a .clock) (a .seq) (a .t) rows routes (a .o) (a .k) (now (a .p)) vector (instance .result) (dodagid .result) (receiving .result)
-    (instance .ensures) (dodagid .ensures) (receiving .ensures) (f .result) (g .result) (free .result) (f .ensures .0 .0 (a .clock) (o .pre .later))
-    (g .ensures .0 (a .clock) (o .pre .later)) (targ .result) (targ .ensures vector) (λ e. free .ensures e (a .clock) (o .pre .later)) in
-    let zero = sym (c .before .before .before .before .before .before .before .before .before .before .before .before .before .before .before .before .judge .ensures) ∙ (sym (c .before .before .before .before .before .before .before .before .before .before .before .before .before .before .before .number .ensures) ∙ c .before .before .before .before .before .before .before .before .before .before .before .before .before .before .if1 .left) in
-    let sixteen = own-sixteen (a .o) _ (o .good .1 .1 .1 .1 .0) in
     let w = c .before .before .before .before .before .before .before .before .before .before .before .before .before .before .before .before .before .before .before .before .before .before .before .before .before .before .before .before .before .before .before .before .before .whole in
-    let d = c .before .before .before .before .before .before .before .before .before .before .before .before .accepted in
     let there = c .before .before .before .before .before .before .before .before .before .before .forward-post in
     let back = c .before .before .before .before .before .before .before .before .reply-post in
     let l = c .before .before .before .before .before .before .before .live-of in
-    let pf =
-    there .ensures (settingsOf (a .o)) (a .seq) (a .t) vector
-    (request-room (a .clock) (a .seq) (a .t) rows routes (a .o) (a .k) (now (a .p)) vector (f .result) (g .result) (free .result) (facts .result) (facts .ensures vector) found zero (o .pre .heard .addresses) (sixteen .0) (sixteen .1) (w .ensures .1)) in
-    let pr = back .ensures (a .t) vector (w .ensures .0) in
-    ready (f .result) (requestOf (f .result .row)) (g .result) (l .result) (l .ensures) (settingsOf (a .o)) (a .t) rows routes (now (a .forward))
-    (now (a .reply)) vector (there .result) (back .result) (f .ensures .1) (g .ensures .1) (o .pre .forwardRoom) (o .pre .replyRoom) (w .ensures .0)
-    (pf .fits) (pr .fits)
+    ready (f .result) (requestOf (f .result .row)) (g .result) (l .result) (l .ensures) (settingsOf (a .o)) (a .t) (now (a .instances)) (now (a .routes))
+    (now (a .forward)) (now (a .reply)) (now (a .vector)) (there .result) (back .result) (f .ensures .1) (g .ensures .1) (o .pre .forwardRoom)
+    (o .pre .replyRoom) (w .ensures .0) (forwarded (c .before .before .before .before .before .before .before .before .before .before) .fits)
+    (back .ensures (a .t) (now (a .vector)) (w .ensures .0) .fits)
 
 same-length-3 : tie.Need-same-length-3
 same-length-3 c = search needs
@@ -182,37 +163,18 @@ same-length-6 c = search needs
 
 returns-2 : tie.Need-returns-2
 returns-2 c =
-    let o = c .before .before .before .before .before .before .before .before .before .before .before .before .before .before .before .before .before .before .before .before .before .before .before .before .before .before .before .before .before .before .before .before .before .before .before .before .before .before .before .before .before .before .before in
-    let a = o .args in
-    let rows = now (a .instances) in
-    let routes = now (a .routes) in
+    let a = c .before .before .before .before .before .before .before .before .before .before .before .before .before .before .before .before .before .before .before .before .before .before .before .before .before .before .before .before .before .before .before .before .before .before .before .before .before .before .before .before .before .before .before .args in
     let vector = now (a .vector) in
-    let instance = c .before .before .before .before .before .before .before .before .before .before .before .before .before .before .before .before .before .before .before .before .before .before .before .before .before .before .before .before .before .before .before .before .before .before .before .before .before .before .instance-of in
-    let dodagid = c .before .before .before .before .before .before .before .before .before .before .before .before .before .before .before .before .before .before .before .before .before .before .before .before .before .before .before .before .before .before .before .before .before .before .before .before .dodagid-of in
-    let receiving = c .before .before .before .before .before .before .before .before .before .before .before .before .before .before .before .before .before .before .before .before .before .before .before .before .before .before .before .before .before .before .before .before .before .before .before .receiving-of in
-    let f = c .before .before .before .before .before .before .before .before .before .before .before .before .before .before .before .before .before .before .before .before .before .before .before .before .before .before .before .before .before .before .before .before .before .search-request in
-    let g = c .before .before .before .before .before .before .before .before .before .before .before .before .before .before .before .before .before .before .before .before .before .before .before .before .before .before .before .before .before .before .before .search-route in
-    let targ = c .before .before .before .before .before .before .before .before .before .before .before .before .before .before .before .before .before .before .before .before .before .before .before .before .before .before .before .before .before .is-targ-node in
-    let free = c .before .before .before .before .before .before .before .before .before .before .before .before .before .before .before .before .before .before .before .before .before .before .before .before .before .before .before .free-delta-if in
-    let facts = c .before .before .before .before .before .before .before .before .before .before .before .before .before .before .before .before .before .before .before .before .before .before .before .before .before .gather in
-    let found =
-    asked-is (a .clock) (a .seq) (a .t) rows routes (a .o) (a .k) (now (a .p)) vector (instance .result) (dodagid .result) (receiving .result)
-    (instance .ensures) (dodagid .ensures) (receiving .ensures) (f .result) (g .result) (free .result) (f .ensures .0 .0 (a .clock) (o .pre .later))
-    (g .ensures .0 (a .clock) (o .pre .later)) (targ .result) (targ .ensures vector) (λ e. free .ensures e (a .clock) (o .pre .later)) in
-    let zero = sym (c .before .before .before .before .before .before .before .before .before .before .before .before .before .before .before .before .before .before .before .before .before .before .before .judge .ensures) ∙ (sym (c .before .before .before .before .before .before .before .before .before .before .before .before .before .before .before .before .before .before .before .before .before .before .number .ensures) ∙ c .before .before .before .before .before .before .before .before .before .before .before .before .before .before .before .before .before .before .before .before .before .if1 .left) in
-    let sixteen = own-sixteen (a .o) _ (o .good .1 .1 .1 .1 .0) in
+    let h = known (c .before .before .before .before .before .before .before .before .before .before .before .before .before .before .before .before .before .before .before .before .before .before .before .before .before) in
     let w = c .before .before .before .before .before .before .before .before .before .before .before .before .before .before .before .before .before .before .before .before .before .before .before .before .before .before .before .before .before .before .before .before .before .before .before .before .before .before .before .before .whole in
     let d = c .before .before .before .before .before .before .before .before .before .before .before .before .before .before .before .before .before .before .before .accepted in
     let there = c .before .before .before .before .before .before .before .before .before .before .before .before .before .before .before .before .before .forward-post in
     let back = c .before .before .before .before .before .before .before .before .before .before .before .before .before .before .before .reply-post in
     let l = c .before .before .before .before .before .before .before .before .before .before .before .before .before .before .live-of in
-    let pf =
-    there .ensures (settingsOf (a .o)) (a .seq) (a .t) vector
-    (request-room (a .clock) (a .seq) (a .t) rows routes (a .o) (a .k) (now (a .p)) vector (f .result) (g .result) (free .result) (facts .result) (facts .ensures vector) found zero (o .pre .heard .addresses) (sixteen .0) (sixteen .1) (w .ensures .1)) in
-    let pr = back .ensures (a .t) vector (w .ensures .0) in
-    rw (request-taken (a .clock) (a .seq) (a .t) rows routes (a .o) (a .k) (now (a .p)) vector (f .result) (g .result) (free .result) (facts .result) (facts .ensures vector) found zero)
+    rw (taken (lines h) (accept h) (askedOf (c .before .before .before .before .before .before .before .before .before .before .before .before .before .before .before .before .before .before .before .before .before .before .before .before .before .gather .result)) (asking h) (h .gathered .means) _ (request-decided h) (zero (c .before .before .before .before .before .before .before .before .before .before .before .before .before .before .before .before .before .before .before .before .before)))
     (c .before .before .before .before .before .before .finish .ensures _
-    (request-settled (a .clock) (a .seq) (a .t) rows routes (a .o) (a .k) (now (a .p)) vector (f .result) (g .result) (free .result) (facts .result) (facts .ensures vector) found (l .result) (l .ensures) (d .result) (there .result) (back .result) (d .ensures vector) pf pr))
+    (request-settled h (l .result) (l .ensures) (d .result) (there .result) (back .result) (d .ensures vector) (forwarded (c .before .before .before .before .before .before .before .before .before .before .before .before .before .before .before .before .before))
+    (back .ensures (a .t) vector (w .ensures .0))))
 
 pub take-request-spec : {M : Type 1} → statement M
 take-request-spec = tie.close (tie.spec whole-requires instance-of-requires dodagid-of-requires receiving-of-requires search-request-requires search-route-requires is-targ-node-requires free-delta-if-requires gather-requires judge-requires number-requires refused-requires same-length same-length-2 returns accepted-requires forward-post-requires reply-post-requires live-of-requires finish-requires same-length-3 same-length-4 same-length-5 same-length-6 returns-2)
