@@ -30,7 +30,7 @@ use Rattle.rule.specs.Heard.{Heard}
 use Rattle.reader.specs.Reading.{refusalNumber, heardFrom, Bounded}
 use Rattle.reader.specs.declared.Reading.{Reading}
 use Rattle.heard.specs.Parsed.{parsedOf}
-use Rattle.heard.proofs.Laws.{message-is, reply-is, base-is, heard-sound, lines-bad, lines-long, lines-wrong, lines-refused, lines-heard}
+use Rattle.heard.proofs.Laws.{message-is, reply-is, base-is, heard-sound, first-lent, first-own, first-wrong, first-none, lines-refused, lines-heard}
 use Rattle.outcome.specs.Nothing.{nothingSent}
 use Rattle.finish.specs.Gives.{stateOf, decisionOf, Gives}
 use Rattle.outcome.specs.declared.Outcome.{Outcome}
@@ -153,12 +153,13 @@ module _ (x : Settings) (clock seq t : ℕ) (rows : List InstanceRow) (routes : 
 
   module _ (b : Bool) (bad : b ≡ badLent x clock l) where
     pub is-bad : b ≡ true → answered-by ≡ 1
-    is-bad z = lines-bad x (goodState s) (viewOf s) l e (sym bad ∙ z)
+    unfolding lines
+    is-bad z = first-lent (badLent x clock l) _ _ _ (sym bad ∙ z)
 
     module _ (fine : b ≡ false) where
       pub is-long : 1236 < length octets → answered-by ≡ 1
-      unfolding longMessage
-      is-long z = lines-long x (goodState s) (viewOf s) l e (sym bad ∙ fine) (lt-ltb 1236 (length octets) z)
+      unfolding lines longMessage
+      is-long z = first-own (badLent x clock l) (longMessage octets) _ _ (sym bad ∙ fine) (lt-ltb 1236 (length octets) z)
 
       module _ (short : length octets ≤ 1236) (w : Bool) (wrong : w ≡ wrongState (goodState s) (viewOf s)) where
         long-not : longMessage octets ≡ false
@@ -166,7 +167,8 @@ module _ (x : Settings) (clock seq t : ℕ) (rows : List InstanceRow) (routes : 
         long-not = le-ltb 1236 (length octets) short
 
         pub is-wrong : w ≡ true → answered-by ≡ 2
-        is-wrong z = lines-wrong x (goodState s) (viewOf s) l e (sym bad ∙ fine) long-not (sym wrong ∙ z)
+        unfolding lines
+        is-wrong z = first-wrong (badLent x clock l) (longMessage octets) (wrongState (goodState s) (viewOf s)) _ (sym bad ∙ fine) long-not (sym wrong ∙ z)
 
         module _ (right : w ≡ false) (r : Reading) (f : heardFrom octets r ≡ hear octets) where
           pub is-refused : (a : Answer) (n : ℕ) → answerNumber a ≡ refusalNumber (r .refusal) → n ≡ answerNumber a → (n ≡ 0 → ⊥) → answered-by ≡ answerNumber a
@@ -219,25 +221,6 @@ module _ (x : Settings) (clock seq t : ℕ) (rows : List InstanceRow) (routes : 
 
 -- ---- a start
 
-module _ (x : Settings) (good : Bool) (v : View) (c : Lent) (e : Start) where
-  start-lines-bad : badLent x (v .clock) c ≡ true → answerOf (lines x good v c (Event.start e)) ≡ 1
-  unfolding lines answerOf
-  start-lines-bad a = rw a
-
-  module _ (a : badLent x (v .clock) c ≡ false) where
-    start-lines-fields : badStart e (startTargets e) ≡ true → answerOf (lines x good v c (Event.start e)) ≡ 1
-    unfolding lines answerOf
-    start-lines-fields l = rw (a, l)
-
-    module _ (l : badStart e (startTargets e) ≡ false) where
-      start-lines-wrong : wrongState good v ≡ true → answerOf (lines x good v c (Event.start e)) ≡ 2
-      unfolding lines answerOf
-      start-lines-wrong w = rw (a, l, w)
-
-      start-lines-on : wrongState good v ≡ false → answerOf (lines x good v c (Event.start e)) ≡ answerOf (startLines x v (c .time) e)
-      unfolding lines answerOf
-      start-lines-on w = rw (a, l, w)
-
 module _ (x : Settings) (clock seq t : ℕ) (rows : List InstanceRow) (routes : List RouteRow) (forward reply : List ℕ) (s : Asking) (targets : List Target) where
   abbrev from : State
   from = stateOf clock seq rows routes
@@ -256,19 +239,23 @@ module _ (x : Settings) (clock seq t : ℕ) (rows : List InstanceRow) (routes : 
 
   module _ (b : Bool) (bad : b ≡ badLent x clock lent) where
     pub start-bad : b ≡ true → start-answered ≡ 1
-    start-bad z = start-lines-bad x (goodState from) (viewOf from) lent asking (sym bad ∙ z)
+    unfolding lines
+    start-bad z = first-lent (badLent x clock lent) _ _ _ (sym bad ∙ z)
 
     module _ (fine : b ≡ false) (g : Gathering) (gathers : Gathers targets g) (f : Bool) (judged : Judged g (s .l) (s .compr) (s .limit) f) where
       fields-are : f ≡ badStart asking (startTargets asking)
       fields-are = judged .told asking gathers refl refl refl
 
       pub fields-bad : f ≡ true → start-answered ≡ 1
-      fields-bad z = start-lines-fields x (goodState from) (viewOf from) lent asking (sym bad ∙ fine) (sym fields-are ∙ z)
+      unfolding lines
+      fields-bad z = first-own (badLent x clock lent) (badStart asking (startTargets asking)) _ _ (sym bad ∙ fine) (sym fields-are ∙ z)
 
       module _ (fields-fine : f ≡ false) (w : Bool) (wrong : w ≡ wrongState (goodState from) (viewOf from)) where
         pub start-wrong : w ≡ true → start-answered ≡ 2
+        unfolding lines
         start-wrong z =
-            start-lines-wrong x (goodState from) (viewOf from) lent asking (sym bad ∙ fine) (sym fields-are ∙ fields-fine) (sym wrong ∙ z)
+            first-wrong (badLent x clock lent) (badStart asking (startTargets asking)) (wrongState (goodState from) (viewOf from)) _ (sym bad ∙ fine)
+            (sym fields-are ∙ fields-fine) (sym wrong ∙ z)
 
         module _ (right : w ≡ false) (ts : Targets) (ts-are : ts ≡ g .targets) where
           pub taken-start : TakenStart clock t forward reply s ts
@@ -287,11 +274,17 @@ module _ (x : Settings) (clock seq t : ℕ) (rows : List InstanceRow) (routes : 
           targets-are : listOf ts ≡ startTargets asking
           targets-are = rw ts-are (fit asking g gathers (sym fields-are ∙ fields-fine) .held)
 
+          start-on : start-answered ≡ answerOf (startLines x (viewOf from) t asking)
+          unfolding lines
+          start-on =
+              first-none (badLent x clock lent) (badStart asking (startTargets asking)) (wrongState (goodState from) (viewOf from)) _ (sym bad ∙ fine)
+              (sym fields-are ∙ fields-fine) (sym wrong ∙ right)
+
           pub start-step : step x from started ≡ enact t from (startDecision x from t asking (listOf ts))
           unfolding startDecision accept
           start-step =
               rw (
                 step-is x from started,
-                start-lines-on x (goodState from) (viewOf from) lent asking (sym bad ∙ fine) (sym fields-are ∙ fields-fine) (sym wrong ∙ right),
+                start-on,
                 targets-are,
               )

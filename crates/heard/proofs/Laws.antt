@@ -2,7 +2,7 @@
 use Prim.Native.Nat.{ℕ, _+_, _-_, _/_}
 use mathlib.Core.Path.{_≡_, refl, sym, ap, _∙_}
 use mathlib.Core.Bool.{Bool, true, false, cond}
-use mathlib.Core.List.{List, [], map}
+use mathlib.Core.List.{List, [], _∷_, map}
 use native.Mathlib.Omega.{arith}
 use native.Mathlib.Nat.{div-mul-le-self}
 use lib.Dec.{eqb}
@@ -10,7 +10,7 @@ use lib.ListN.{length, take, drop}
 use borrow.Author.Tests.{le-leb, ne-eqb, eqb-true}
 use Rattle.plain.specs.Address.{Address, unusable}
 use Rattle.plain.specs.Given.{Settings, Lent, Received, Event}
-use Rattle.plain.specs.Answers.{answerOf, View, badLent, longMessage, wrongState}
+use Rattle.plain.specs.Answers.{Line, answerOf, View, badLent, longMessage, wrongState}
 use Rattle.plain.specs.Octets as octets
 use Rattle.plain.specs.Octets.{Opt, Message, optionsOf, ofType, artType, fields, sum, plenOf, targetOf, sameTarget, restored, baseOf, messageOf, malformed, unfit, tooMany, hear}
 use Rattle.plain.specs.Request.{ours}
@@ -135,21 +135,31 @@ module _ (msg : List ℕ) (r : Reading) (e : heardFrom msg r ≡ hear msg) (z : 
 
 -- ---- The lines
 
+-- those that every call is asked first: 1 of what is lent, 1 of what is asked, 2
+module _ (lent own wrong : Bool) (rest : List Line) where
+  abbrev pub firstLines : List Line
+  firstLines =
+      record { number = 1; holds = lent } ∷ record { number = 1; holds = own } ∷ record { number = 2; holds = wrong } ∷ rest
+
+  pub first-lent : lent ≡ true → answerOf firstLines ≡ 1
+  unfolding answerOf
+  first-lent a = rw a
+
+  pub first-own : lent ≡ false → own ≡ true → answerOf firstLines ≡ 1
+  unfolding answerOf
+  first-own a l = rw (a, l)
+
+  pub first-wrong : lent ≡ false → own ≡ false → wrong ≡ true → answerOf firstLines ≡ 2
+  unfolding answerOf
+  first-wrong a l w = rw (a, l, w)
+
+  pub first-none : lent ≡ false → own ≡ false → wrong ≡ false → answerOf firstLines ≡ answerOf rest
+  unfolding answerOf
+  first-none a l w = rw (a, l, w)
+
 module _ (x : Settings) (good : Bool) (v : View) (c : Lent) (e : Received) where
-  pub lines-bad : badLent x (v .clock) c ≡ true → answerOf (lines x good v c (Event.message e)) ≡ 1
-  unfolding lines answerOf
-  lines-bad a = rw a
-
   module _ (a : badLent x (v .clock) c ≡ false) where
-    pub lines-long : longMessage (e .octets) ≡ true → answerOf (lines x good v c (Event.message e)) ≡ 1
-    unfolding lines answerOf
-    lines-long l = rw (a, l)
-
     module _ (l : longMessage (e .octets) ≡ false) where
-      pub lines-wrong : wrongState good v ≡ true → answerOf (lines x good v c (Event.message e)) ≡ 2
-      unfolding lines answerOf
-      lines-wrong w = rw (a, l, w)
-
       module _ (w : wrongState good v ≡ false) (msg : List ℕ) (q : e .octets ≡ msg) (r : Reading) (f : heardFrom msg r ≡ hear msg) where
         -- 3, 4, 5 and 6, or the lines after them
         lines-are : answerOf (lines x good v c (Event.message e))
