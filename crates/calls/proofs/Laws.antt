@@ -1,23 +1,22 @@
 -- From the tests of a public call to what the plain node answers.
 use Prim.Native.Nat.{ℕ, _-_, _/_, _≤_, _<_, _^_}
-use mathlib.Core.Path.{_≡_, refl, sym, ap, ap₂, subst, _∙_}
-use mathlib.Core.Bool.{Bool, true, false, cond, not, _&&_, _||_}
+use mathlib.Core.Path.{_≡_, refl, sym, ap, ap₂, _∙_}
+use mathlib.Core.Bool.{Bool, true, false, cond, _||_}
 use mathlib.Core.List.{List, [], map}
 use mathlib.Core.Option.{Option, some, none}
-use native.Mathlib.Omega.{arith}
 use lib.Dec.{eqb, ltb}
 use lib.ListN.{length, take, drop}
 use borrow.Author.Tests.{lt-ltb, le-ltb, ltb-false}
-use Rattle.lemmas.proofs.Choice.{true-false, and-left, or-left, or-right}
+use Rattle.lemmas.proofs.Choice.{true-false, and-left}
 use Rattle.plain.specs.Lists.{anyTwo}
 use Rattle.plain.specs.Address.{Address, unusable}
 use Rattle.plain.specs.Given.{Settings, Lent, Received, Start, RequestRow, Event, Call, State}
 use Rattle.plain.specs.Table.{Numbered}
-use Rattle.plain.specs.Octets.{Message, hear, messageOf, baseOf, restored}
+use Rattle.plain.specs.Octets.{Message, hear, messageOf, restored}
 use Rattle.plain.specs.Answers.{View, viewOf, badLent, longMessage, badStart, goodInstance, goodRoute, allGood, goodState, wrongState, requests, replies, requestTwins, replyTwins, routeTwins, answerOf}
 use Rattle.plain.specs.Request.{Accepted, ours, askedWith, asked, requestLines, acceptRequest, forwardedRequest, replyMessage, requestRow, startTargets, startLines}
 use Rattle.plain.specs.Reply.{partnerOf, answeredWith, answered, replyLines, acceptReply}
-use Rattle.plain.specs.Plain.{Decision, lines, messageLines, linesWith, accept, acceptMessage, acceptWith, decide, enact, step}
+use Rattle.plain.specs.Plain.{lines, messageLines, linesWith, accept, acceptMessage, acceptWith, decide, enact, step}
 use Rattle.answer.specs.Answer.{answerNumber}
 use Rattle.answer.specs.declared.Answer.{Answer}
 use Rattle.row.specs.Meaning.{instanceOf, routeOf}

@@ -1,18 +1,18 @@
 -- What a call comes to, by each way out.
-use Prim.Native.Nat.{ℕ, zero, suc, _<_, _≤_}
+use Prim.Native.Nat.{ℕ, zero, suc, _<_}
 use mathlib.Core.Path.{_≡_, refl, sym, ap, subst, _∙_}
 use mathlib.Core.Logic.{_⊎_, inl, inr, ⊎-elim}
 use mathlib.Core.Bool.{Bool, true, false, cond, _&&_}
 use mathlib.Core.List.{List, [], _∷_, map}
-use mathlib.Core.Option.{Option, some, none}
+use mathlib.Core.Option.{some, none}
 use native.Mathlib.Omega.{arith}
 use lib.Dec.{eqb}
 use lib.ListN.{length, getD, set}
-use borrow.Author.Tests.{ne-eqb, eq-eqb, eqb-true}
+use borrow.Author.Tests.{ne-eqb}
 use Rattle.lemmas.specs.Written.{over, Written}
-use Rattle.lemmas.proofs.Choice.{true-false, and-left, and-right}
+use Rattle.lemmas.proofs.Choice.{and-left, and-right}
 use Rattle.plain.specs.Address.{Address}
-use Rattle.plain.specs.Given.{Settings, ReplyRow, Instance}
+use Rattle.plain.specs.Given.{Settings, Instance}
 use Rattle.plain.specs.Table.{hasRoom, placed, instanceDeadline, routeDeadline}
 use Rattle.plain.specs.Request.{Accepted}
 use Rattle.plain.specs.Plain as plain
@@ -22,14 +22,15 @@ use Rattle.answer.specs.declared.Destination.{Destination}
 use Rattle.answer.specs.declared.Answer.{Answer}
 use Rattle.answer.specs.declared.Answer.the-variants.{Done, NoRow}
 use Rattle.row.specs.Meaning.{instanceOf, routeOf, requestOf, replyOf, routeIn, noRow, noRoute}
-use Rattle.row.specs.Record.{requestRecord, replyRecord, routeRecord}
+use Rattle.row.specs.Record.{replyRecord, routeRecord}
 use Rattle.row.proofs.Laws.{reply-back}
 use Rattle.row.specs.declared.InstanceRow.{InstanceRow}
 use Rattle.row.specs.declared.RouteRow.{RouteRow}
 use Rattle.decision.specs.Decision.{postOctets, instanceMeant, recordOf, replyIn}
+use Rattle.decision.proofs.Laws.{again}
 use Rattle.decision.specs.declared.Decided.{Decided}
 use Rattle.decision.specs.declared.Post.{Post}
-use Rattle.place.specs.Places.{rowChange, hopChange, Placed, RoutePlaced}
+use Rattle.place.specs.Places.{Placed, RoutePlaced}
 use Rattle.place.specs.declared.Places as P
 use Rattle.place.specs.declared.RoutePlace.{RoutePlace}
 use Rattle.finish.specs.declared.Live.{Live}
@@ -56,14 +57,6 @@ module _ (r : InstanceRow) where
       go false q =
           let f : replyRecord (replyOf r) ≡ r = rw q at e in
           rw (reply-kind f)
-
--- the record that is written for a reply row is written again for what it means
-pub reply-record : (q : ReplyRow) → recordOf (instanceMeant (replyRecord q)) ≡ replyRecord q
-unfolding instanceMeant recordOf instanceOf replyRecord
-reply-record q =
-    let e : some (Instance.reply (replyOf (replyRecord q))) ≡ some (Instance.reply q) = reply-back q in
-    let f : replyOf (replyRecord q) ≡ q = cc in
-    rw f
 
 pub route-means : (r : RouteRow) → routeRecord (routeIn r) ≡ r → routeOf r ≡ some (routeIn r)
 unfolding routeOf routeRecord
@@ -166,6 +159,7 @@ module _ (clock seq t : ℕ) (rows : List InstanceRow) (routes : List RouteRow) 
           → own ≡ d .seq → to ≡ there .to → from ≡ back .to
           → r ≡ record { answer = Done; forward = record { size = n; to = to }; reply = record { size = m; to = from }; clock = t; seq = own }
           → Gives (enact t (stateOf clock seq rows routes) (plain.Decision.take acc)) rows rows' routes routes' forward forward' reply reply' r
+      unfolding recordOf
       done-gives b r e₀ e₁ s1 s2 u v eo et ef f =
           let e : p .ok && q .ok ≡ true = sym e₀ ∙ e₁ in
           let po : p .ok ≡ true = and-left (p .ok) (q .ok) e in
@@ -191,7 +185,7 @@ module _ (clock seq t : ℕ) (rows : List InstanceRow) (routes : List RouteRow) 
             replyTo = ap destinationOf ef ∙ w .reply .goes;
             forwardOctets = u .holds ∙ ap (λ z. over z forward) (w .forward .sends);
             replyOctets = v .holds ∙ ap (λ z. over z reply) (w .reply .sends);
-            instances = records-two rows (p .first) (p .second) (d .row) (replyRecord (replyIn (d .second))) (w .row) (reply-record (replyIn (d .second)));
+            instances = records-two rows (p .first) (p .second) (d .row) (replyRecord (replyIn (d .second))) (w .row) (again (Instance.reply (replyIn (d .second))));
             hops = records-route routes (q .hop) (d .route) (route-record (d .routed) refl);
             kept = λ z. absurd (z refl);
           })

@@ -1,26 +1,25 @@
 -- From what searches and decisions give to what the rules decide.
-use Prim.Native.Nat.{ℕ, zero, suc, _+_, _<_, _≤_, _^_}
-use mathlib.Core.Path.{_≡_, refl, sym, ap, subst, _∙_}
-use mathlib.Core.Bool.{Bool, true, false, cond, not, _&&_, _||_}
+use Prim.Native.Nat.{ℕ, zero, suc, _<_, _≤_}
+use mathlib.Core.Path.{_≡_, refl, sym, ap, _∙_}
+use mathlib.Core.Bool.{Bool, true, false, not, _&&_, _||_}
 use mathlib.Core.List.{List, [], _∷_, map}
 use mathlib.Core.Option.{Option, some, none}
 use native.Mathlib.Omega.{arith}
 use lib.Dec.{eqb, leb}
 use lib.ListN.{length, getD}
-use borrow.Author.Tests.{leb-true, le-ltb, eq-eqb, ne-eqb}
+use borrow.Author.Tests.{leb-true, eq-eqb, ne-eqb}
 use Rattle.lemmas.proofs.Choice.{true-false, and-left, and-right}
 use Rattle.plain.specs.Lists.{all, anyTwo, given}
 use Rattle.plain.specs.Address.{Address}
-use Rattle.plain.specs.Given.{Settings, Received, RequestRow, ReplyRow, Instance, Route, State}
-use Rattle.plain.specs.Table.{Numbered, Change, put, noChange}
+use Rattle.plain.specs.Given.{Settings, Received, RequestRow, Instance, Route, State}
+use Rattle.plain.specs.Table.{Numbered, Change, put}
 use Rattle.plain.specs.Octets.{Message, mostTargets}
 use Rattle.plain.specs.Answers.{View, viewOf, goodInstance, allGood, goodDeadline, goodState, wrongState, requests, replies, requestTwins, replyTwins, routeTwins, answerOf, liveRequest}
-use Rattle.plain.specs.Request.{Accepted, Asked, areTargNode, askedWith, asked, forwards, repliesNow, requestRow, forwardedRequest, requestLines, acceptRequest, freeDelta, deltaTaken, routeChange, withReplyRow, startLines, acceptStart}
-use Rattle.plain.specs.Reply.{Answered, partnerOf, answeredWith, answered, replyLines, acceptReply, origNode, partnerNumber}
-use Rattle.plain.specs.Plain.{Decision, enact, linesWith, acceptWith, idle}
+use Rattle.plain.specs.Request.{Accepted, Asked, areTargNode, askedWith, asked, forwards, repliesNow, requestRow, forwardedRequest, requestLines, acceptRequest, freeDelta, deltaTaken, routeChange, withReplyRow, startLines}
+use Rattle.plain.specs.Reply.{partnerOf, answeredWith, answered, replyLines, acceptReply, origNode, partnerNumber}
+use Rattle.plain.specs.Plain.{idle}
 use Rattle.plain.specs.declared.Target.{Target}
-use Rattle.answer.specs.Answer.{answerNumber}
-use Rattle.row.specs.Meaning.{instanceOf, routeOf, requestOf, routeIn, targetsOf, noRow, noRoute}
+use Rattle.row.specs.Meaning.{instanceOf, requestOf, routeIn, targetsOf, noRow, noRoute}
 use Rattle.row.proofs.Laws.{length-targets}
 use Rattle.good.specs.Good.{goodIf}
 use Rattle.row.specs.declared.InstanceRow.{InstanceRow}
@@ -37,15 +36,13 @@ use Rattle.decision.specs.Decision.{Fits, Posts, Stores, instanceMeant, instanc
 use Rattle.decision.specs.declared.Decided.{Decided}
 use Rattle.decision.specs.declared.Post.{Post}
 use Rattle.search.specs.Seen.{requestSeen, replySeen, routeSeen, partnerSeen, deltaSeen, LiveRow, LiveRoute}
-use Rattle.place.specs.Places.{rowChange, hopChange}
+use Rattle.place.specs.Places.{hopChange}
 use Rattle.finish.specs.Gives.{stateOf, decisionOf, Ready, Settled}
 use Rattle.finish.specs.declared.Live.{Live}
-use Rattle.targets.specs.declared.Targets.{Targets}
-use Rattle.kept.specs.Kept.{listOf}
 use Rattle.start.specs.Start.{startOf, startAnswer}
 use Rattle.start.specs.declared.Asking.{Asking}
 use Rattle.start.proofs.Lines.{lines-of}
-use Rattle.node.specs.Taken.{requestDecision, replyDecision}
+use Rattle.node.specs.Taken.{replyDecision}
 
 -- ---- 2
 

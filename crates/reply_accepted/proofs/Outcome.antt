@@ -2,7 +2,7 @@
 use Prim.Native.Nat.{ℕ}
 use mathlib.Core.Path.{_≡_, refl}
 use mathlib.Core.Bool.{false}
-use Rattle.plain.specs.Given.{Settings, Received}
+use Rattle.plain.specs.Given.{Settings, Received, Instance}
 use Rattle.plain.specs.Octets.{Message}
 use Rattle.plain.specs.Request.{withReplyRow}
 use Rattle.plain.specs.Reply.{Answered, replyRow, acceptReply}
@@ -11,7 +11,7 @@ use Rattle.row.specs.declared.InstanceRow.{InstanceRow}
 use Rattle.row.specs.declared.RouteRow.{RouteRow}
 use Rattle.decision.specs.Decision.{Stores, instancesBy, routesBy, recordOf}
 use Rattle.decision.specs.declared.ReplyFields.{ReplyFields}
-use Rattle.rule.proofs.Laws.{reply-meant, route-meant}
+use Rattle.decision.proofs.Laws.{meant, route-meant}
 use Rattle.reply_accepted.specs.Made.{replyRoute}
 
 pub accepts : (x : Settings) (seq t : ℕ) (c : Received) (m : Message) (a : Answered) (row : InstanceRow) (second : ReplyFields) (route : RouteRow)
@@ -21,8 +21,8 @@ pub accepts : (x : Settings) (seq t : ℕ) (c : Received) (m : Message) (a : Ans
 unfolding acceptReply instancesBy routesBy withReplyRow recordOf replyRoute
 accepts x seq t c m a row second route e f = record {
   own = refl;
-  instances = rw (e, reply-meant (replyRow t m a)) refl;
+  instances = rw (e, meant (Instance.reply (replyRow t m a))) refl;
   routes = rw (f, route-meant (replyRoute t c m)) refl;
-  row = rw (e, reply-meant (replyRow t m a)) refl;
+  row = rw (e, meant (Instance.reply (replyRow t m a))) refl;
   route = λ b. rw (f, route-meant (replyRoute t c m)) refl;
 }

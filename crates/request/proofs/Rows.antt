@@ -1,5 +1,4 @@
 -- The facts, from their parts.
-use Prim.Native.Nat.{ℕ}
 use mir.Val.{Val}
 use denote.Laws.{Is}
 use denote.Struct.Declared.{row}

@@ -5,12 +5,12 @@ use mathlib.Core.Bool.{cond}
 use mathlib.Core.List.{List, []}
 use Rattle.plain.specs.Rank.{stepped}
 use Rattle.plain.specs.Address.{Address}
-use Rattle.plain.specs.Given.{Settings, Received}
+use Rattle.plain.specs.Given.{Settings, Received, Instance}
 use Rattle.plain.specs.Octets.{Message}
 use Rattle.plain.specs.Request.{Asked, repliesNow, requestRow, ownReplyRow, routeRow, deltaOr0, acceptRequest}
 use Rattle.row.specs.Record.{requestRecord, routeRecord}
-use Rattle.rule.proofs.Laws.{request-meant, request-again, route-meant}
-use Rattle.decision.specs.Decision.{replyIn, instancesBy, routesBy, Stores}
+use Rattle.decision.proofs.Laws.{meant, again, route-meant}
+use Rattle.decision.specs.Decision.{replyIn, instancesBy, recordOf, routesBy, Stores}
 use Rattle.decision.specs.declared.Decided.{Decided}
 use Rattle.message.specs.Message.{configurationIn, messageIn, receivedBy, requestFound, routeFound, deltaFound}
 use Rattle.message.specs.declared.Parsed.{Parsed}
@@ -28,17 +28,17 @@ module _ (x : Settings) (own t : ℕ) (c : Received) (m : Message) (a : Asked) (
       → r .route ≡ routeRecord (routeRow t (x .receiving) (m .base .dodagid) (m .base .instance) (c .neighbour) (m .discovery .number) (m .configuration))
       → r .seq ≡ cond (repliesNow a) (stepped own) own
       → Stores (acceptRequest x own t c m a) (a .row) (a .route) r
-  unfolding acceptRequest instancesBy routesBy
+  unfolding acceptRequest instancesBy routesBy recordOf
   accepts er ep es ed et eq = record {
     own = eq;
-    instances = rw (er, request-meant (requestRow t c m a), ep, es);
+    instances = rw (er, meant (Instance.request (requestRow t c m a)), ep, es);
     routes =
         rw (
           ed,
           et,
           route-meant (routeRow t (x .receiving) (m .base .dodagid) (m .base .instance) (c .neighbour) (m .discovery .number) (m .configuration)),
         );
-    row = rw er (request-again (requestRow t c m a));
+    row = rw er (again (Instance.request (requestRow t c m a)));
     route =
         λ w.
         rw (

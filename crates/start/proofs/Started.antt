@@ -7,7 +7,7 @@ use mathlib.Core.Option.{none, some}
 use native.Mathlib.Omega.{arith}
 use lib.ListN.{length, take}
 use Rattle.plain.specs.Address.{Address, zeroAddress}
-use Rattle.plain.specs.Given.{Settings, RequestRow, Destination}
+use Rattle.plain.specs.Given.{Settings, RequestRow, Instance, Destination}
 use Rattle.plain.specs.Octets.{octetsOf}
 use Rattle.plain.specs.Rank.{stepped, rowDeadline}
 use Rattle.plain.specs.Request.{startRow, startMessage, acceptStart, withReplyRow, routeChange}
@@ -23,9 +23,9 @@ use Rattle.targets.specs.declared.Targets.{Targets}
 use Rattle.kept.specs.Kept.{listOf}
 use Rattle.message.specs.Message.{messageIn}
 use Rattle.message.specs.declared.Parsed.{Parsed}
-use Rattle.decision.specs.Decision.{Posts, Stores, instancesBy, routesBy}
+use Rattle.decision.specs.Decision.{Posts, Stores, instancesBy, recordOf, routesBy}
 use Rattle.decision.specs.declared.Decided.{Decided}
-use Rattle.rule.proofs.Laws.{request-meant, request-again}
+use Rattle.decision.proofs.Laws.{meant, again}
 use Rattle.rule.proofs.Sent.{dio-posts, plainPost, plain-message}
 use Rattle.start.specs.Start as start
 use Rattle.start.specs.Start.{startOf}
@@ -90,11 +90,11 @@ pub stored-is : (x : Settings) (own next t : ℕ) (s : Asking) (ts : Targets) (r
     → r .seq ≡ next
     → (targets : List Target)
     → Stores {B = RequestRow} (acceptStart x own t (startOf s targets) (listOf ts)) none none r
-unfolding acceptStart startRow instancesBy routesBy withReplyRow routeChange
+unfolding acceptStart startRow instancesBy routesBy withReplyRow routeChange recordOf
 stored-is x own next t s ts r en er ep ed eq targets = record {
   own = eq ∙ en;
-  instances = rw (er, ep, request-meant (startRow x t next (startOf s []) (listOf ts)), en);
+  instances = rw (er, ep, meant (Instance.request (startRow x t next (startOf s []) (listOf ts))), en);
   routes = rw ed;
-  row = rw er (request-again (startRow x t next (startOf s []) (listOf ts)));
+  row = rw er (again (Instance.request (startRow x t next (startOf s []) (listOf ts))));
   route = λ w. true-false (sym w ∙ ed);
 }
