@@ -1,7 +1,7 @@
 -- What a deadline's two fields mean, and what is known of one that was made here.
 use Prim.Native.Nat.{ℕ, _^_, _≤_}
 use mathlib.Core.Path.{_≡_}
-use mathlib.Core.Bool.{Bool, true, cond}
+use mathlib.Core.Bool.{true, cond}
 use mathlib.Core.Option.{Option, some, none}
 use Rattle.deadline.specs.declared.Deadline.{Deadline}
 

@@ -1,8 +1,8 @@
 -- What a decision means: what the rules send and store.
 use Prim.Native.Nat.{ℕ, _≤_}
 use mathlib.Core.Path.{_≡_}
-use mathlib.Core.Bool.{Bool, true, false, cond}
-use mathlib.Core.List.{List, [], _∷_, reverse}
+use mathlib.Core.Bool.{true, false, cond}
+use mathlib.Core.List.{List, [], reverse}
 use mathlib.Core.Option.{Option, some, none}
 use lib.Dec.{eqb}
 use lib.ListN.{length, take}
@@ -17,7 +17,6 @@ use Rattle.row.specs.Record.{requestRecord, replyRecord, routeRecord}
 use Rattle.row.specs.declared.InstanceRow.{InstanceRow}
 use Rattle.writer_option.specs.Sendable.{Sendable, shortPrefixes}
 use Rattle.message.specs.Message.{configurationIn}
-use Rattle.message.specs.declared.Parsed.{Parsed}
 use Rattle.decision.specs.declared.What.{What}
 use Rattle.decision.specs.declared.What.the-variants.{Nothing, Dio, Path}
 use Rattle.decision.specs.declared.Post.{Post}

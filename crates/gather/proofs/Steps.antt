@@ -14,7 +14,6 @@ use Rattle.targets.specs.declared.Count.{Count}
 use Rattle.targets.specs.Collected.{noneYet, targetsIn, Collected, Joined}
 use Rattle.targets.proofs.Laws.{none-collected, gathered}
 use Rattle.spare.proofs.Whole.{once-whole}
-use Rattle.gather.specs.declared.Gathering.{Gathering}
 use Rattle.gather.specs.Gathers.{isLong, Gathers}
 
 pub record Underway (ts rest list : List Target) (c : Count) (long : Bool) : Type 0 where

@@ -1,5 +1,4 @@
 -- The address that a host is told: the neighbour's where the way's number is 2, else zero.
-use Prim.Native.Nat.{ℕ}
 use mathlib.Core.Path.{_≡_, refl}
 use native.Mathlib.Omega.{arith}
 use Rattle.plain.specs.Address.{Address, zeroAddress}

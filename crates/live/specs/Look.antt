@@ -1,6 +1,6 @@
 -- A row of a table, in use or not, asked whether it is live and of a key.
 use Prim.Native.Nat.{ℕ}
-use mathlib.Core.Bool.{Bool, true, false}
+use mathlib.Core.Bool.{Bool, false}
 use mathlib.Core.Option.{Option, some, none}
 use Rattle.plain.specs.Address.{Address}
 use Rattle.plain.specs.Given.{RequestRow, ReplyRow, Instance, Route}

@@ -9,7 +9,6 @@ use Rattle.plain.specs.Given.{Received, RequestRow, ReplyRow, Route}
 use Rattle.plain.specs.Table.{Numbered}
 use Rattle.plain.specs.Octets.{Message}
 use Rattle.row.specs.Meaning.{requestOf, replyOf, routeIn}
-use Rattle.row.specs.declared.InstanceRow.{InstanceRow}
 use Rattle.message.specs.declared.Parsed.{Parsed}
 use Rattle.message.specs.declared.Link.{Link}
 use Rattle.message.specs.declared.Found.{Found}

@@ -9,13 +9,13 @@ use native.Mathlib.Nat.{suc-mul}
 use lib.Dec.{ltb, eqb}
 use lib.ListN.{length, take, drop, set, length-append, length-drop, length-set}
 use lib.Seq.{take-suc-set}
-use borrow.Author.Tests.{lt-ltb, le-ltb, ltb-false, eqb-true}
+use borrow.Author.Tests.{lt-ltb, le-ltb, eqb-true}
 use Rattle.plain.specs.Lists.{same, all}
 use Rattle.plain.specs.Address.{Address}
 use Rattle.plain.specs.Given.{Settings}
 use Rattle.plain.specs.Octets.{elided}
 use Rattle.plain.specs.Request.{ownVector, grown, cannotGrow}
-use Rattle.lemmas.proofs.Choice.{cond-case, or-left, and-left, and-right}
+use Rattle.lemmas.proofs.Choice.{cond-case, and-left, and-right}
 use Rattle.own.specs.Settings.{grownCount, Whole}
 
 -- ---- How many addresses

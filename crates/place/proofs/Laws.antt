@@ -1,16 +1,15 @@
 -- Each way in which an accepted call's rows are placed.
-use Prim.Native.Nat.{ℕ, zero, suc, _+_, _<_, _≤_}
+use Prim.Native.Nat.{ℕ, _+_, _<_, _≤_}
 use mathlib.Core.Path.{_≡_, refl, sym, ap, _∙_}
-use mathlib.Core.Bool.{Bool, true, false, cond}
-use mathlib.Core.List.{List, [], _∷_, map}
-use mathlib.Core.Option.{Option, some, none}
+use mathlib.Core.Bool.{Bool, true, false}
+use mathlib.Core.List.{List, map}
 use native.Mathlib.Omega.{arith}
 use lib.Dec.{ltb}
 use lib.ListN.{length, getD, set, length-set}
 use lib.Seq.{set-out}
 use borrow.Author.Tests.{lt-ltb, le-ltb, ltb-true}
-use Rattle.plain.specs.Given.{ReplyRow, Instance, Route}
-use Rattle.plain.specs.Table.{live, hasRoom, instanceDeadline, routeDeadline}
+use Rattle.plain.specs.Given.{Instance}
+use Rattle.plain.specs.Table.{live, instanceDeadline, routeDeadline}
 use Rattle.plain.specs.Request.{withReplyRow}
 use Rattle.lemmas.proofs.Choice.{true-false}
 use Rattle.row.specs.Meaning.{instanceOf, routeOf, noRow, noRoute}
@@ -22,7 +21,7 @@ use Rattle.first.proofs.Room.{room-none, room-one, room-two}
 use Rattle.first.proofs.Store.{store-none, store-become, store-new, store-new-two, store-become-new}
 use Rattle.place.specs.declared.Places as P
 use Rattle.place.specs.declared.RoutePlace.{RoutePlace}
-use Rattle.place.specs.Places.{HasRow, HasRoute, rowChange, hopChange, Placed, RoutePlaced}
+use Rattle.place.specs.Places.{rowChange, hopChange, Placed, RoutePlaced}
 
 -- the first from the start on
 pub from-start : (t k : ℕ) (rows : List InstanceRow) → k ≡ firstFrom (dead instanceDeadline t) 0 (map instanceOf rows)

@@ -3,10 +3,10 @@ use Prim.Native.Nat.{ℕ, _<_}
 use mathlib.Core.Path.{_≡_}
 use mathlib.Core.Bool.{Bool, true, false, cond}
 use mathlib.Core.List.{List, map}
-use mathlib.Core.Option.{Option, some, none}
+use mathlib.Core.Option.{some}
 use lib.ListN.{length, getD, set}
 use Rattle.plain.specs.Given.{ReplyRow, Instance, Route}
-use Rattle.plain.specs.Table.{Numbered, Change, noChange, put, live, hasRoom, placed, instanceDeadline, routeDeadline}
+use Rattle.plain.specs.Table.{Change, noChange, put, live, hasRoom, placed, instanceDeadline, routeDeadline}
 use Rattle.plain.specs.Request.{withReplyRow}
 use Rattle.row.specs.Meaning.{instanceOf, routeOf, noRow, noRoute}
 use Rattle.row.specs.declared.InstanceRow.{InstanceRow}

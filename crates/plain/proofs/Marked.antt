@@ -1,7 +1,6 @@
 -- The marked cases, computed.
 use mathlib.Core.Path.{refl}
 use mathlib.Core.List.{flatten}
-use Rattle.plain.specs.Lists.{same}
 use Rattle.plain.specs.Address.{keepBits, firstBits}
 use Rattle.plain.specs.Octets.{sum, fields, word, optionsIn, badRoute, badArt, discoveryOf, targetOf, routeOctets, routeBodyOctets, artOctets}
 use Rattle.plain.specs.Rank.{integerPart, overLimit, rankRefused, freshness, plusDelta}

@@ -1,6 +1,6 @@
 -- Addresses: sixteen octets, most significant first. Each fact here is stated over the octets, whatever their number.
-use Prim.Native.Nat.{ℕ, zero, suc, _-_, _/_, _*_, _^_}
-use mathlib.Core.Bool.{Bool, true, false, cond, _&&_, _||_}
+use Prim.Native.Nat.{ℕ, _-_, _/_, _*_, _^_}
+use mathlib.Core.Bool.{Bool, _&&_, _||_}
 use mathlib.Core.List.{List, [], _∷_, _++_}
 use lib.Dec.{eqb}
 use lib.ListN.{getD, take, drop, replicate}

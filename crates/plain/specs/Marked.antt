@@ -1,16 +1,14 @@
 -- 01, "Bench examples": the marked cases (*), shown of the rules themselves, as a single table under one claim.
-use Prim.Native.Nat.{ℕ}
 use mathlib.Core.Path.{_≡_}
-use mathlib.Core.Bool.{Bool, true, false}
-use mathlib.Core.List.{List, [], _∷_, _++_}
-use mathlib.Core.Option.{Option, some, none}
-use lib.ListN.{drop, take, replicate}
-use Rattle.plain.specs.Octets.{Opt, optionsIn, badRoute, badArt, discoveryOf, targetOf, routeOctets, routeBodyOctets, artOctets}
+use mathlib.Core.Bool.{true, false}
+use mathlib.Core.List.{[], _∷_}
+use mathlib.Core.Option.{some}
+use lib.ListN.{take, replicate}
+use Rattle.plain.specs.Octets.{optionsIn, badRoute, badArt, discoveryOf, targetOf, routeOctets, routeBodyOctets, artOctets}
 use Rattle.plain.specs.Rank.{integerPart, rankRefused, freshness, plusDelta}
 use Rattle.plain.specs.declared.Target.{Target}
 use Rattle.plain.specs.declared.Discovery.{Discovery}
-use Rattle.plain.specs.declared.Freshness.{Freshness}
-use Rattle.plain.specs.declared.Freshness.the-variants.{Newer, Older, Equal, NotComparable}
+use Rattle.plain.specs.declared.Freshness.the-variants.{Newer, Older, NotComparable}
 
 -- S 1, H 1, L 1, RankLimit 7, SeqNo 240
 abbrev pub rreqHop : Discovery

@@ -5,7 +5,7 @@ use mathlib.Core.List.{List, [], _∷_, _++_, map, flatten}
 use mathlib.Core.Option.{Option, some, none}
 use lib.Dec.{eqb, ltb, leb}
 use lib.ListN.{length, getD, take, drop, replicate}
-use Rattle.plain.specs.Lists.{any, those, count, once, same}
+use Rattle.plain.specs.Lists.{any, those, once, same}
 use Rattle.plain.specs.Address.{Address, firstBits, elide, restore, unusable}
 use Rattle.plain.specs.declared.Target.{Target}
 use Rattle.plain.specs.declared.Base.{Base}

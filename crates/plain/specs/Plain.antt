@@ -3,13 +3,13 @@
 -- zero, destinations nowhere, state kept. Else 0: the clock becomes the call's time; rows, own number, octets and destinations follow "A
 -- request" (starts too) or "A reply"."
 use Prim.Native.Nat.{ℕ}
-use mathlib.Core.Bool.{Bool, true, false, cond, _&&_}
-use mathlib.Core.List.{List, [], _∷_, _++_}
+use mathlib.Core.Bool.{Bool, true, cond, _&&_}
+use mathlib.Core.List.{List, [], _∷_}
 use mathlib.Core.Option.{Option, some, none}
 use lib.Dec.{eqb}
 use lib.ListN.{length, replicate}
 use Rattle.plain.specs.Address.{unusable}
-use Rattle.plain.specs.Given.{Settings, Lent, Received, Start, Event, Call, RequestRow, Instance, Route, State, Destination, Sent}
+use Rattle.plain.specs.Given.{Settings, Lent, Received, Event, Call, RequestRow, Instance, Route, State, Destination, Sent}
 use Rattle.plain.specs.Table.{Numbered, noChange, liveRows, hasRoom, placed, instanceDeadline, routeDeadline}
 use Rattle.plain.specs.Answers.{Line, answerOf, View, viewOf, badLent, longMessage, badStart, goodState, wrongState}
 use Rattle.plain.specs.Octets.{Message, malformed, unfit, baseOf, messageOf, tooMany}

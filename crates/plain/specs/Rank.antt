@@ -4,7 +4,6 @@ use mathlib.Core.Bool.{Bool, true, false, cond, not, _&&_, _||_}
 use mathlib.Core.List.{List}
 use mathlib.Core.Option.{Option, some, none}
 use lib.Dec.{eqb, ltb, leb}
-use lib.ListN.{getD}
 use Rattle.plain.specs.Octets.{minHopRankIncrease, defaultLifetime, lifetimeUnit}
 use Rattle.plain.specs.declared.Freshness.{Freshness}
 use Rattle.plain.specs.declared.Freshness.the-variants.{Newer, Older, Equal, NotComparable}

@@ -1,21 +1,19 @@
 -- 01, "A reply": a received RREP.
-use Prim.Native.Nat.{ℕ, zero, suc, _+_, _-_}
-use mathlib.Core.Bool.{Bool, true, false, cond, not, Bool·beq, _&&_, _||_}
-use mathlib.Core.List.{List, [], _∷_, _++_, reverse}
+use Prim.Native.Nat.{ℕ, _-_}
+use mathlib.Core.Bool.{Bool, false, cond, not, Bool·beq, _&&_, _||_}
+use mathlib.Core.List.{List, [], _∷_, reverse}
 use mathlib.Core.Option.{Option, some, none}
-use lib.Dec.{eqb, ltb, leb}
+use lib.Dec.{eqb, ltb}
 use lib.ListN.{length}
 use Rattle.plain.specs.Lists.{any, firstOf, count, same}
 use Rattle.plain.specs.Address.{Address, zeroAddress}
 use Rattle.plain.specs.Given.{Settings, Received, RequestRow, ReplyRow, Instance, Route, Destination, Sent}
-use Rattle.plain.specs.Table.{Numbered, Change, put}
+use Rattle.plain.specs.Table.{Numbered, put}
 use Rattle.plain.specs.Answers.{Line, View, requests, requestFor, liveReply, liveRoute}
 use Rattle.plain.specs.Octets.{Message, octetsOf, elided}
 use Rattle.plain.specs.Rank.{minHop, ownRank, rankRefused, freshness, standing, rowDeadline, minusDelta}
-use Rattle.plain.specs.Request.{Accepted, ours, cannotElide, cannotGrow, grown, isStale, isNothingNew, isUpdate, routeStale, routeRow, routeChange, withRank, octetsIf, toIf, wholeTarget}
+use Rattle.plain.specs.Request.{Accepted, ours, cannotElide, cannotGrow, grown, isStale, isNothingNew, isUpdate, routeStale, routeRow, routeChange, withRank, toIf, wholeTarget}
 use Rattle.plain.specs.declared.Target.{Target}
-use Rattle.plain.specs.declared.Base.{Base}
-use Rattle.plain.specs.declared.Discovery.{Discovery}
 use Rattle.plain.specs.declared.Standing.{Standing}
 use Rattle.plain.specs.declared.Standing.the-variants.{IsNew}
 

@@ -1,11 +1,11 @@
 -- 01, "A request": a received RREQ, and the start of our own discovery.
-use Prim.Native.Nat.{ℕ, zero, suc, _+_, _-_, _*_}
+use Prim.Native.Nat.{ℕ, zero, suc, _+_, _-_}
 use mathlib.Core.Bool.{Bool, true, false, cond, not, _&&_, _||_}
 use mathlib.Core.List.{List, [], _∷_, _++_, map}
 use mathlib.Core.Option.{Option, some, none}
-use lib.Dec.{eqb, ltb, leb}
+use lib.Dec.{eqb, ltb}
 use lib.ListN.{length}
-use Rattle.plain.specs.Lists.{any, those, firstOf, once, same, given}
+use Rattle.plain.specs.Lists.{any, those, once, same, given}
 use Rattle.plain.specs.Address.{Address, zeroAddress, agree, sharesFirst, firstBits}
 use Rattle.plain.specs.Given.{Settings, Received, Start, RequestRow, ReplyRow, Instance, Route, Destination, Sent}
 use Rattle.plain.specs.Table.{Numbered, Change, noChange, put}

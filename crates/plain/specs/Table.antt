@@ -1,11 +1,11 @@
 -- Tables: rows in use or not, live or not, and the one place where it matters how many rows a table has.
-use Prim.Native.Nat.{ℕ, zero, suc}
+use Prim.Native.Nat.{ℕ, suc}
 use mathlib.Core.Bool.{Bool, true, false, cond}
 use mathlib.Core.List.{List, [], _∷_}
 use mathlib.Core.Option.{Option, some, none}
 use lib.Dec.{eqb, ltb, leb}
 use lib.ListN.{length}
-use Rattle.plain.specs.Given.{RequestRow, ReplyRow, Instance, Route}
+use Rattle.plain.specs.Given.{Instance, Route}
 
 -- a row and its number
 pub record Numbered (A : Type 0) : Type 0 where

@@ -3,11 +3,10 @@ use Prim.Native.Nat.{ℕ}
 use mathlib.Core.Path.{_≡_}
 use mathlib.Core.Bool.{Bool, true, false}
 use mathlib.Core.List.{List, [], _∷_, _++_}
-use mathlib.Core.Option.{Option, some, none}
 use lib.ListN.{length, replicate}
 use Rattle.plain.specs.Address.{Address}
-use Rattle.plain.specs.Given.{Settings, Call, Event, State, Destination}
-use Rattle.plain.specs.Plain.{Result, fresh, step}
+use Rattle.plain.specs.Given.{Settings, Call, Event, Destination}
+use Rattle.plain.specs.Plain.{fresh, step}
 
 -- fd00::n and fe80::n
 abbrev pub fd00 : ℕ → Address

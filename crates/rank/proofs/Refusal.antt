@@ -1,5 +1,5 @@
 -- What is known of a rank that is not refused.
-use Prim.Native.Nat.{ℕ, _+_, _<_, _≤_}
+use Prim.Native.Nat.{ℕ, _<_, _≤_}
 use mathlib.Core.Path.{_≡_}
 use mathlib.Core.Bool.{Bool, false, _||_}
 use lib.Dec.{ltb, leb}

@@ -1,13 +1,13 @@
 -- A message that is heard, and answers 5 and 6.
 use Prim.Native.Nat.{ℕ, zero, suc, _-_, _/_, _%_, _≤_, _<_}
 use mathlib.Core.Path.{_≡_, refl, sym, ap, _∙_}
-use mathlib.Core.Bool.{Bool, true, false, _||_}
+use mathlib.Core.Bool.{true, false, _||_}
 use mathlib.Core.List.{List}
 use mathlib.Core.Option.{Option}
 use native.Mathlib.Omega.{arith}
 use lib.Dec.{eqb, ltb}
 use lib.ListN.{length, take, drop, length-take, length-drop, length-map}
-use borrow.Author.Tests.{lt-ltb, le-ltb, ltb-false, ne-eqb}
+use borrow.Author.Tests.{ltb-false, ne-eqb}
 use Rattle.lemmas.proofs.Choice.{or-left, or-right}
 use Rattle.plain.specs.Address.{Address, unusable}
 use Rattle.plain.specs.Octets.{octetAt, wordAt, optionsOf, ofType, artType, targetsOf, baseOf, fields, sum, parts, restored, addressOctets, routeBody, vectorOctets, comprOf, discoveryOf, messageOf, tooMany, malformed, unfit, hear}

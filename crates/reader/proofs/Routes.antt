@@ -6,11 +6,11 @@ use mathlib.Core.List.{List, [], _∷_}
 use mathlib.Core.Option.{some, none}
 use native.Mathlib.Omega.{arith}
 use lib.Dec.{eqb, ltb}
-use lib.ListN.{length, take, drop, length-take, length-drop}
+use lib.ListN.{length, take, drop}
 use lib.Seq.{drop-drop, take-nil}
 use borrow.Author.Tests.{lt-ltb, le-ltb, ltb-false, eqb-true, not-false}
 use Rattle.lemmas.proofs.Choice.{or-left, or-right, true-false}
-use Rattle.plain.specs.Octets.{Opt, optionsOf, ofType, firstBody, routeBody, configurationType, configurationOf, rreqType, rrepType, badOption, badRoute, badConfiguration, replyCounts, requestCounts, unfit, mopOf, hOf, discoveryOf}
+use Rattle.plain.specs.Octets.{Opt, optionsOf, ofType, firstBody, routeBody, configurationType, configurationOf, badOption, badRoute, badConfiguration, replyCounts, requestCounts, unfit, mopOf, hOf, discoveryOf}
 use Rattle.plain.specs.declared.Discovery.{Discovery}
 use Rattle.option.specs.Follows.{optionOf, partOf}
 use Rattle.scan.specs.declared.Found.{Found}

@@ -1,6 +1,6 @@
 -- Posts, from their parts.
 use Prim.Native.Nat.{ℕ, _≤_, _<_}
-use mathlib.Core.Path.{_≡_, refl, ap, _∙_}
+use mathlib.Core.Path.{_≡_, refl, _∙_}
 use mathlib.Core.Bool.{Bool, true, false, cond, not}
 use mathlib.Core.List.{List, [], _∷_}
 use native.Mathlib.Omega.{arith}
@@ -10,7 +10,7 @@ use Rattle.lemmas.proofs.Choice.{cond-case}
 use Rattle.plain.specs.Lists.{all}
 use Rattle.plain.specs.Address.{Address}
 use Rattle.plain.specs.Given.{Settings, Received, Destination}
-use Rattle.plain.specs.Octets.{Message, octetsOf}
+use Rattle.plain.specs.Octets.{octetsOf}
 use Rattle.plain.specs.Request.{grown, sOut, withRank, withFlag, forwardedRequest, replyMessage, wholeTarget, octetsIf, toIf}
 use Rattle.plain.specs.declared.Base.{Base}
 use Rattle.plain.specs.declared.Discovery.{Discovery}

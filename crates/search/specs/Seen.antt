@@ -1,9 +1,9 @@
 -- What the rules see of lent tables, live at the clock: the live rows of a key at a call's time t.
 use Prim.Native.Nat.{ℕ, _<_}
 use mathlib.Core.Path.{_≡_}
-use mathlib.Core.Bool.{Bool, true, false, Bool·beq, _&&_}
+use mathlib.Core.Bool.{Bool, true, Bool·beq, _&&_}
 use mathlib.Core.List.{List, [], map}
-use mathlib.Core.Option.{Option, some, none}
+use mathlib.Core.Option.{Option}
 use lib.ListN.{length, getD}
 use Rattle.plain.specs.Lists.{firstOf}
 use Rattle.plain.specs.Address.{Address}

@@ -1,6 +1,6 @@
 pub mod Lts
 pub mod Tie
-use mathlib.Core.Path.{refl, sym, ap, _∙_}
+use mathlib.Core.Path.{ap}
 use native.Mathlib.Omega.{arith}
 use denote.Ref.{now}
 use Rattle.own.specs.Settings.{settingsOf}

@@ -2,7 +2,6 @@ pub mod Lts
 pub mod Tie
 use Prim.Native.Nat.{_≤_, _-_}
 use mathlib.Core.Path.{refl, sym, _∙_}
-use native.Mathlib.Omega.{arith}
 use denote.Ref.{now}
 use borrow.Author.Needs.{needs}
 use Rattle.address.proofs.First.{Unfound, is-found, not-here, nowhere}

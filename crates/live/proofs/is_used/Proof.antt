@@ -1,8 +1,6 @@
-use mathlib.Core.Path.{sym}
 use Rattle.live.proofs.Laws.{used-most}
 use Rattle.live.proofs.is_used.Statement.{statement}
 use Rattle.live.proofs.is_used.Tie as tie
-use Rattle.lemmas.proofs.Cases.{cases}
 
 returns : tie.Need-returns
 returns c = rw (c .if1 .taken)

@@ -1,6 +1,5 @@
 use Prim.Native.Nat.{_-_, _≤_}
 use lib.ListN.{length}
-use borrow.Author.Needs.{needs}
 use Rattle.octets_main.proofs.print_octets.Statement.{statement}
 use Rattle.octets_main.proofs.print_octets.Tie as tie
 use Rattle.octets_main.proofs.print_octets.Reads as reads

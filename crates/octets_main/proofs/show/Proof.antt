@@ -10,7 +10,6 @@ use Rattle.io.proofs.write_all.Reads as write-all-reads
 use Rattle.octets_main.proofs.print_decimal.Reads as print-decimal-reads
 use Rattle.octets_main.proofs.print_message.Reads as print-message-reads
 use Rattle.reader.proofs.read.Reads as read-reads
-use Rattle.lemmas.proofs.Cases.{cases}
 
 -- src/main.rt:151:5
 print-decimal-requires : tie.Need-print-decimal-requires

@@ -7,7 +7,6 @@ use Rattle.octets_main.proofs.show_octets.Reads as reads
 use Rattle.octets_main.proofs.show_octets.Lts as lts
 use Rattle.io.proofs.read_full.Reads as read-full-reads
 use Rattle.octets_main.proofs.show.Reads as show-reads
-use Rattle.lemmas.proofs.Cases.{cases}
 
 -- src/main.rt:171:9
 returns : tie.Need-returns

@@ -4,7 +4,6 @@ use Rattle.outcome.proofs.refused.Tie as tie
 use Rattle.outcome.proofs.refused.Reads as reads
 use Rattle.outcome.proofs.refused.Lts as lts
 use Rattle.outcome.proofs.nothing.Reads as nothing-reads
-use Rattle.lemmas.proofs.Cases.{cases}
 
 nothing-requires : tie.Need-nothing-requires
 nothing-requires c κs = search needs

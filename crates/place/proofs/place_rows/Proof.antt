@@ -1,6 +1,5 @@
 pub mod Lts
 pub mod Tie
-use mathlib.Core.Path.{_∙_}
 use denote.Ref.{now}
 use Rattle.place.proofs.Laws.{from-start, become-one, become-two, new-one, new-two, new-none}
 use borrow.Author.Needs.{needs}

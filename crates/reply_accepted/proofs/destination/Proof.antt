@@ -1,5 +1,4 @@
-use denote.Ref.{now}
-use mathlib.Core.Path.{_≡_, sym, _∙_}
+use mathlib.Core.Path.{sym, _∙_}
 use Rattle.plain.specs.Reply.{nextDestination}
 use Rattle.lemmas.proofs.Choice.{true-false}
 use Rattle.message.specs.Message.{messageIn}

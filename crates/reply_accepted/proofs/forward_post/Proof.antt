@@ -1,5 +1,4 @@
 use denote.Ref.{now}
-use mathlib.Core.Path.{_≡_}
 use Rattle.own.specs.Settings.{settingsOf}
 use Rattle.rule.proofs.Types.{own-sixteen}
 use Rattle.reply.specs.Facts.{answeredOf}

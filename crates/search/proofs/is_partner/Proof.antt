@@ -7,7 +7,6 @@ use Rattle.search.proofs.is_partner.Tie as tie
 use Rattle.search.proofs.is_partner.Reads as reads
 use Rattle.search.proofs.is_partner.Lts as lts
 use Rattle.live.proofs.is_request.Reads as is-request-reads
-use Rattle.lemmas.proofs.Cases.{cases}
 
 -- src/lib.rt:24:8
 is-request-requires : tie.Need-is-request-requires
