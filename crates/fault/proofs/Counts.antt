@@ -16,39 +16,30 @@ same-test : (a b : Bool) → (a ≡ true → b ≡ true) → (a ≡ false → b 
 same-test true b f g = sym (f refl)
 same-test false b f g = sym (g refl)
 
--- a count that stops at 2 answers as the number itself
-module _ (n k : ℕ) (e : min 2 n ≡ k) where
-  zero-is : eqb k 0 ≡ eqb n 0
-  zero-is =
-      same-test _ _ (λ q. eq-eqb n 0 (omega (arith, eqb-true k 0 q))) (λ q. ne-eqb n 0 (λ h. eqb-false k 0 q (omega arith)))
+-- a count that stops at 2 answers as the number itself, where it is compared with 0 or 1
+module _ (m n k : ℕ) (h : m ≤ 1) (e : min 2 n ≡ k) where
+  just-is : eqb k m ≡ eqb n m
+  just-is =
+      same-test _ _ (λ q. eq-eqb n m (omega (arith, eqb-true k m q))) (λ q. ne-eqb n m (λ z. eqb-false k m q (omega arith)))
 
-  one-is : eqb k 1 ≡ eqb n 1
-  one-is =
-      same-test _ _ (λ q. eq-eqb n 1 (omega (arith, eqb-true k 1 q))) (λ q. ne-eqb n 1 (λ h. eqb-false k 1 q (omega arith)))
+  over-is : ltb m k ≡ ltb m n
+  over-is = same-test _ _ (λ q. lt-ltb m n (omega (arith, ltb-true m k q))) (λ q. le-ltb m n (omega (arith, ltb-false m k q)))
 
-  some-is : ltb 0 k ≡ ltb 0 n
-  some-is = same-test _ _ (λ q. lt-ltb 0 n (omega (arith, ltb-true 0 k q))) (λ q. le-ltb 0 n (omega (arith, ltb-false 0 k q)))
-
-  two-is : ltb 1 k ≡ ltb 1 n
-  two-is = same-test _ _ (λ q. lt-ltb 1 n (omega (arith, ltb-true 1 k q))) (λ q. le-ltb 1 n (omega (arith, ltb-false 1 k q)))
-
-once-some : (n : ℕ) → eqb n 1 ≡ true → 0 < n
+pub once-some : (n : ℕ) → eqb n 1 ≡ true → 0 < n
 once-some n e = omega (arith, eqb-true n 1 e)
+
+-- what is counted once, beside other tests
+pub first-some : (n : ℕ) (b c : Bool) → (eqb n 1 && b) && c ≡ true → 0 < n
+first-some n b c e = once-some n (and-left _ _ (and-left _ _ e))
 
 module _ {msg : List ℕ} {s : Scan} (v : Outlined msg s) where
   pub request-is : eqb (s .rreq .count) 1 && eqb (s .rrep .count) 0 && ltb 0 (s .art .count) ≡ requestCounts (optionsOf msg)
   unfolding requestCounts
-  request-is = rw (one-is _ _ (v .rreq .count), zero-is _ _ (v .rrep .count), some-is _ _ (v .art .count))
+  request-is = rw (just-is 1 _ _ (omega arith) (v .rreq .count), just-is 0 _ _ (omega arith) (v .rrep .count), over-is 0 _ _ (omega arith) (v .art .count))
 
   pub reply-is : eqb (s .rrep .count) 1 && eqb (s .rreq .count) 0 && eqb (s .art .count) 1 ≡ replyCounts (optionsOf msg)
   unfolding replyCounts
-  reply-is = rw (one-is _ _ (v .rrep .count), zero-is _ _ (v .rreq .count), one-is _ _ (v .art .count))
-
-  pub request-rreq : requestCounts (optionsOf msg) ≡ true → 0 < s .rreq .count
-  request-rreq e = once-some (s .rreq .count) (and-left _ _ (and-left _ _ (request-is ∙ e)))
-
-  pub reply-rrep : replyCounts (optionsOf msg) ≡ true → 0 < s .rrep .count
-  reply-rrep e = once-some (s .rrep .count) (and-left _ _ (and-left _ _ (reply-is ∙ e)))
+  reply-is = rw (just-is 1 _ _ (omega arith) (v .rrep .count), just-is 0 _ _ (omega arith) (v .rreq .count), just-is 1 _ _ (omega arith) (v .art .count))
 
   pub reply-art : replyCounts (optionsOf msg) ≡ true → 0 < s .art .count
   reply-art e = once-some (s .art .count) (and-right (eqb (s .rrep .count) 1 && eqb (s .rreq .count) 0) _ (reply-is ∙ e))
@@ -60,7 +51,7 @@ module _ {msg : List ℕ} {s : Scan} (v : Outlined msg s) where
       || (replyCounts (optionsOf msg) && not (eqb (plenOf (firstBody (ofType artType (optionsOf msg)))) 0))
       ≡ malformed msg
   unfolding malformed
-  malformed-is h e = rw (le-ltb (length msg) 24 h, e, two-is _ _ (v .configuration .count))
+  malformed-is h e = rw (le-ltb (length msg) 24 h, e, over-is 1 _ _ (omega arith) (v .configuration .count))
 
 pub malformed-short : (msg : List ℕ) → length msg < 24 → malformed msg ≡ true
 unfolding malformed

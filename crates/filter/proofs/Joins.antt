@@ -1,22 +1,15 @@
 -- Twins have one hash, and the filter serves for each of the two tables.
 use Prim.Native.Nat.{ℕ}
 use mathlib.Core.Path.{_≡_}
-use mathlib.Core.Bool.{Bool, true, false, cond}
+use mathlib.Core.Bool.{true}
 use Rattle.plain.specs.Table.{live, instanceDeadline, routeDeadline}
-use Rattle.lemmas.proofs.Choice.{cond-true}
 use Rattle.row.specs.Meaning.{instanceOf, routeOf, noRow, noRoute}
 use Rattle.row.specs.declared.InstanceRow.{InstanceRow}
 use Rattle.row.specs.declared.RouteRow.{RouteRow}
 use Rattle.key.specs.Pair.{sameKey, rowTwins, sameThree, routePair}
-use Rattle.key.proofs.Plain.{key-parts, three-parts}
+use Rattle.key.proofs.Plain.{key-parts, three-parts, three-true}
 use Rattle.filter.specs.Filter.{hashRow, hashRoute}
 use Rattle.filter.proofs.Filter.{Kind}
-
-three-true : (k x y : Bool) → cond k (cond x y false) false ≡ true → (k ≡ true) × (x ≡ true) × (y ≡ true)
-three-true k x y e =
-    let q = cond-true k (cond x y false) e in
-    let l = cond-true x y (q .1) in
-    (q .0, l .0, l .1)
 
 pub row-joins : (t : ℕ) (a b : InstanceRow) → rowTwins t a b ≡ true
     → (live instanceDeadline t (instanceOf a) ≡ true) × (live instanceDeadline t (instanceOf b) ≡ true) × (hashRow a ≡ hashRow b)

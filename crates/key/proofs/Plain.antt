@@ -73,15 +73,12 @@ three-parts a b e =
       eqb-true (a .instance) (b .instance) (and-right two (eqb (a .instance) (b .instance)) e),
     )
 
--- twins have one ending
-
-pub row-ends : (t : ℕ) (a b : InstanceRow) → rowTwins t a b ≡ true → eqb (endingOf (a .dodagid)) (endingOf (b .dodagid)) ≡ true
-unfolding rowTwins
-row-ends t a b e = eq-eqb _ _ (ap endingOf (key-parts a b (cond-true (sameKey a b) _ e .0) .2))
-
-pub route-ends : (t : ℕ) (a b : RouteRow) → routePair t a b ≡ true → eqb (endingOf (a .destination)) (endingOf (b .destination)) ≡ true
-unfolding routePair
-route-ends t a b e = eq-eqb _ _ (ap endingOf (three-parts a b (cond-true (sameThree a b) _ e .0) .1))
+-- twins are of one key, and both live
+pub three-true : (k x y : Bool) → cond k (cond x y false) false ≡ true → (k ≡ true) × (x ≡ true) × (y ≡ true)
+three-true k x y e =
+    let q = cond-true k (cond x y false) e in
+    let l = cond-true x y (q .1) in
+    (q .0, l .0, l .1)
 
 -- ---- what is said of the live rows of a kind is said of the records
 

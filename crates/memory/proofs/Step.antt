@@ -2,6 +2,8 @@
 use Prim.Native.Nat.{ℕ, _≤_}
 use mathlib.Core.Path.{_≡_, refl, sym, ap₂}
 use mathlib.Core.Bool.{Bool, true, false, cond, _&&_}
+use mathlib.Core.List.{List}
+use mathlib.Core.Option.{Option}
 use native.Mathlib.Omega.{arith}
 use lib.Dec.{eqb}
 use lib.ListN.{length}
@@ -68,13 +70,16 @@ pub record Agree (p q : Result) : Type 0 where
 
 -- the rules see the same
 sim-view : (s u : State) → Sim s u → viewOf s ≡ viewOf u
-sim-view s u m = λ i. record { clock = m .clock i; own = m .own i; instances = instances i; routes = routes i }
+sim-view s u m = λ i. record {
+  clock = m .clock i;
+  own = m .own i;
+  instances = rows instanceDeadline goodInstance (s .instances) (u .instances) (m .instances) i;
+  routes = rows routeDeadline goodRoute (s .routes) (u .routes) (m .routes) i;
+}
   where
-    instances : liveRows instanceDeadline (s .clock) (s .instances) ≡ liveRows instanceDeadline (u .clock) (u .instances)
-    instances = rw (← m .clock) (same-live instanceDeadline goodInstance (s .clock) 0 (s .instances) (u .instances) (m .instances))
-
-    routes : liveRows routeDeadline (s .clock) (s .routes) ≡ liveRows routeDeadline (u .clock) (u .routes)
-    routes = rw (← m .clock) (same-live routeDeadline goodRoute (s .clock) 0 (s .routes) (u .routes) (m .routes))
+    rows : {A : Type 0} (deadline : A → Option ℕ) (good : A → Bool) (a b : List (Option A)) → Alike deadline good (s .clock) a b
+        → liveRows deadline (s .clock) a ≡ liveRows deadline (u .clock) b
+    rows deadline good a b h = rw (← m .clock) (same-live deadline good (s .clock) 0 a b h)
 
 sim-good : (s u : State) → Sim s u → goodState s ≡ goodState u
 sim-good s u m =
@@ -111,11 +116,9 @@ room-both t a s r =
     )
 
 module _ (t : ℕ) (a : Accepted) (s u : State) (m : Sim s u) (h : s .clock ≤ t) where
-  instances-at : Alike instanceDeadline goodInstance t (s .instances) (u .instances)
-  instances-at = alike-later instanceDeadline goodInstance (s .clock) t (s .instances) (u .instances) h (m .instances)
-
-  routes-at : Alike routeDeadline goodRoute t (s .routes) (u .routes)
-  routes-at = alike-later routeDeadline goodRoute (s .clock) t (s .routes) (u .routes) h (m .routes)
+  -- they are alike at the call's time
+  later : {A : Type 0} (deadline : A → Option ℕ) (good : A → Bool) (a b : List (Option A)) → Alike deadline good (s .clock) a b → Alike deadline good t a b
+  later deadline good a b k = alike-later deadline good (s .clock) t a b h k
 
   -- the second has room where the first has
   room-more : room t a s ≡ true → room t a u ≡ true
@@ -123,9 +126,9 @@ module _ (t : ℕ) (a : Accepted) (s u : State) (m : Sim s u) (h : s .clock ≤ 
       let k = room-both t a s r in
       and-both (hasRoom instanceDeadline t (a .instances) (u .instances)) (hasRoom routeDeadline t (a .routes) (u .routes))
       (le-leb (length (a .instances .new)) (spare instanceDeadline t (u .instances))
-      (omega (arith, k .0, spare-more instanceDeadline goodInstance t (s .instances) (u .instances) instances-at)))
+      (omega (arith, k .0, spare-more instanceDeadline goodInstance t (s .instances) (u .instances) (later instanceDeadline goodInstance (s .instances) (u .instances) (m .instances)))))
       (le-leb (length (a .routes .new)) (spare routeDeadline t (u .routes))
-      (omega (arith, k .1, spare-more routeDeadline goodRoute t (s .routes) (u .routes) routes-at)))
+      (omega (arith, k .1, spare-more routeDeadline goodRoute t (s .routes) (u .routes) (later routeDeadline goodRoute (s .routes) (u .routes) (m .routes)))))
 
   -- what is stored is alike
   stored-sim : room t a s ≡ true → Sim (stored t a s) (stored t a u)
@@ -133,10 +136,10 @@ module _ (t : ℕ) (a : Accepted) (s u : State) (m : Sim s u) (h : s .clock ≤ 
     clock = refl;
     own = refl;
     instances =
-        placed-alike instanceDeadline goodInstance t (a .instances .become) (a .instances .new) 0 (s .instances) (u .instances) instances-at
+        placed-alike instanceDeadline goodInstance t (a .instances .become) (a .instances .new) 0 (s .instances) (u .instances) (later instanceDeadline goodInstance (s .instances) (u .instances) (m .instances))
         (room-both t a s r .0);
     routes =
-        placed-alike routeDeadline goodRoute t (a .routes .become) (a .routes .new) 0 (s .routes) (u .routes) routes-at (room-both t a s r .1);
+        placed-alike routeDeadline goodRoute t (a .routes .become) (a .routes .new) 0 (s .routes) (u .routes) (later routeDeadline goodRoute (s .routes) (u .routes) (m .routes)) (room-both t a s r .1);
   }
 
   place-more : eqb (place t a s .answer) 17 ≡ false → Agree (place t a s) (place t a u)

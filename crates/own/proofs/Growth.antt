@@ -1,7 +1,7 @@
 -- A vector with our addresses added: how long it is, and that it stands in an array.
 use Prim.Native.Nat.{ℕ, zero, suc, _+_, _-_, _*_, _<_, _≤_}
 use mathlib.Core.Path.{_≡_, refl, ap, _∙_}
-use mathlib.Core.Bool.{Bool, true, false}
+use mathlib.Core.Bool.{Bool, true, false, cond}
 use mathlib.Core.List.{List, [], _∷_, _++_, append-assoc, flatten}
 use native.Mathlib.Omega.{arith}
 use native.Mathlib.Numerals.{add-one, add-two}
@@ -20,13 +20,10 @@ use Rattle.own.specs.Settings.{grownCount, Whole}
 
 -- ---- How many addresses
 
-own-two : (x : Settings) → same (x .receiving) (x .sending) ≡ false → length (ownVector x) ≡ 2
+own-count : (x : Settings) (b : Bool) → same (x .receiving) (x .sending) ≡ b → length (ownVector x) ≡ cond b 1 2
 unfolding ownVector
-own-two x e = rw e refl
-
-own-one : (x : Settings) → same (x .receiving) (x .sending) ≡ true → length (ownVector x) ≡ 1
-unfolding ownVector
-own-one x e = rw e refl
+own-count x true e = rw e refl
+own-count x false e = rw e refl
 
 pub own-length : (x : Settings) → (1 ≤ length (ownVector x)) × (length (ownVector x) ≤ 2)
 unfolding ownVector
@@ -49,7 +46,7 @@ module _ (x : Settings) (h : Bool) (n : ℕ) (f : h ≡ false) where
 
   pub room-two : same (x .receiving) (x .sending) ≡ false → grownCount x h n ≤ 16 → n + 1 < 16
   unfolding grownCount
-  room-two e k = omega (arith, rw f at k, own-two x e)
+  room-two e k = omega (arith, rw f at k, own-count x false e)
 
   -- how many there are tells whether ours are the same
   pub same-told : grownCount x h n ≡ n + 1 → same (x .receiving) (x .sending) ≡ true
@@ -58,14 +55,14 @@ module _ (x : Settings) (h : Bool) (n : ℕ) (f : h ≡ false) where
     where
       go : (b : Bool) → same (x .receiving) (x .sending) ≡ b → same (x .receiving) (x .sending) ≡ true
       go true q = q
-      go false q = absurd (omega (arith, rw f at e, own-two x q))
+      go false q = absurd (omega (arith, rw f at e, own-count x false q))
 
   pub different-told : (grownCount x h n ≡ n + 1 → ⊥) → same (x .receiving) (x .sending) ≡ false
   unfolding grownCount
   different-told e = go (same (x .receiving) (x .sending)) refl
     where
       go : (b : Bool) → same (x .receiving) (x .sending) ≡ b → same (x .receiving) (x .sending) ≡ false
-      go true q = absurd (e (rw f (omega (arith, own-one x q))))
+      go true q = absurd (e (rw f (omega (arith, own-count x true q))))
       go false q = q
 
   pub grow-one : (v : List Address) → same (x .receiving) (x .sending) ≡ true → n < length v

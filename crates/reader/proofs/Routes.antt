@@ -19,7 +19,7 @@ use Rattle.scan.specs.Seen.{Right, Told}
 use Rattle.scan.specs.Scanned.{Outlined}
 use Rattle.reader.specs.Parts.{RouteAt}
 use Rattle.fault.proofs.Part.{length-part}
-use Rattle.fault.proofs.Counts.{request-rreq, reply-rrep}
+use Rattle.fault.proofs.Counts.{request-is, reply-is, first-some}
 
 drop-take : {A : Type 0} (k n : ℕ) (xs : List A) → drop k (take n xs) ≡ take (n - k) (drop k xs)
 drop-take zero n xs = let e : n - 0 ≡ n = omega arith in rw e
@@ -80,7 +80,7 @@ h-is d b body e = ap (λ (x : Discovery). x .h) e
 
 pub route-reply : {msg : List ℕ} {s : Scan} → Outlined msg s → replyCounts (optionsOf msg) ≡ true → RouteAt msg (s .rrep)
 unfolding badOption
-route-reply v e = route-at (v .rrep) (reply-rrep v e) (λ body. refl) (rw e)
+route-reply v e = route-at (v .rrep) (first-some _ _ _ (reply-is v ∙ e)) (λ body. refl) (rw e)
 
 or-only : (a b : Bool) → a || b ≡ true → b ≡ false → a ≡ true
 or-only true b e f = refl
@@ -90,4 +90,4 @@ pub route-request : {msg : List ℕ} {s : Scan} → Outlined msg s → replyCoun
 unfolding badOption unfit
 route-request {msg} v e u =
     let q : requestCounts (optionsOf msg) ≡ true = or-only _ _ (not-false _ (or-right (not (eqb (mopOf msg) 4)) _ u)) e in
-    route-at (v .rreq) (request-rreq v q) (λ body. refl) (rw e)
+    route-at (v .rreq) (first-some _ _ _ (request-is v ∙ q)) (λ body. refl) (rw e)

@@ -1,7 +1,7 @@
 pub mod Lts
 pub mod Tie
 use Prim.Native.Nat.{_-_, _≤_}
-use mathlib.Core.Path.{_≡_, sym, _∙_}
+use mathlib.Core.Path.{_≡_, sym, ap, _∙_}
 use mathlib.Core.Logic.{⊎-elim}
 use mathlib.Core.Bool.{false}
 use denote.Ref.{now}
@@ -10,10 +10,12 @@ use lib.ListN.{length, getD, take}
 use Rattle.plain.specs.Lists.{anyTwo}
 use Rattle.row.specs.declared.RouteRow.{RouteRow}
 use Rattle.row.specs.Meaning.{noRoute}
-use Rattle.key.specs.Pair.{routePair, endingOf}
+use Rattle.key.specs.Pair.{sameThree, routePair, endingOf}
 use Rattle.key.proofs.Any.{two-start, two-hit, two-more, two-end, any-less}
-use Rattle.key.proofs.Plain.{route-ends}
+use Rattle.lemmas.proofs.Choice.{cond-true}
+use Rattle.key.proofs.Plain.{three-parts}
 use borrow.Author.Needs.{needs}
+use borrow.Author.Tests.{eq-eqb}
 use Rattle.twins.proofs.every_pair_of_routes.Statement.{statement}
 use Rattle.twins.proofs.every_pair_of_routes.Proof.Tie as tie
 
@@ -45,12 +47,13 @@ loop-less : tie.Need-loop-less Inv-loop μ-loop
 loop-less c = search needs
 
 loop-again : tie.Need-loop-again Inv-loop μ-loop
+unfolding routePair
 loop-again c = let a = c .before .before .before .before .args in
     let l = c .before .before .before .loop in
     let row = getD (now (a .routes)) (l .j) noRoute in
     let none = ⊎-elim (λ w. sym (w .1 .ensures) ∙ w .2 .left)
     (λ w. any-less (λ (x : RouteRow). routePair (a .t) x row) (λ (x : RouteRow). eqb (endingOf (x .destination)) (endingOf (row .destination)))
-    (λ x. route-ends (a .t) x row) (take (l .j) (now (a .routes))) (sym (c .before .has-route-ending .ensures) ∙ w .left)) (c .if1 .came) in
+    (λ x e. eq-eqb _ _ (ap endingOf (three-parts x row (cond-true (sameThree x row) _ e .0) .1))) (take (l .j) (now (a .routes))) (sym (c .before .has-route-ending .ensures) ∙ w .left)) (c .if1 .came) in
     (search needs, two-more (routePair (a .t)) (now (a .routes)) (l .j) noRoute (search needs) (l .inv .1) none)
 
 returns-2 : tie.Need-returns-2 Inv-loop μ-loop
