@@ -9,6 +9,7 @@ use Rattle.plain.specs.Given.{Received, RequestRow, ReplyRow, Route}
 use Rattle.plain.specs.Table.{Numbered}
 use Rattle.plain.specs.Octets.{Message}
 use Rattle.row.specs.Meaning.{requestOf, replyOf, routeIn}
+use Rattle.row.specs.declared.InstanceRow.{InstanceRow}
 use Rattle.message.specs.declared.Parsed.{Parsed}
 use Rattle.message.specs.declared.Link.{Link}
 use Rattle.message.specs.declared.Found.{Found}
@@ -44,12 +45,15 @@ receivedBy k octets = record {
 abbrev pub numbered : {A : Type 0} → Bool → ℕ → A → Option (Numbered A)
 numbered is at row = cond is (some (record { number = at; row = row })) none
 
--- "With a live row": the live request row of a key, the live reply row, the live route
-unfoldable pub requestFound : Found → Option (Numbered RequestRow)
-requestFound f = numbered (f .is) (f .at) (requestOf (f .row))
+-- "With a live row": the live row of a key, which is of a kind: a request row or a reply row; and the live route
+unfoldable pub rowFound : {A : Type 0} → (InstanceRow → A) → Found → Option (Numbered A)
+rowFound kind f = numbered (f .is) (f .at) (kind (f .row))
 
-unfoldable pub replyFound : Found → Option (Numbered ReplyRow)
-replyFound f = numbered (f .is) (f .at) (replyOf (f .row))
+abbrev pub requestFound : Found → Option (Numbered RequestRow)
+requestFound = rowFound requestOf
+
+abbrev pub replyFound : Found → Option (Numbered ReplyRow)
+replyFound = rowFound replyOf
 
 unfoldable pub routeFound : FoundRoute → Option (Numbered Route)
 routeFound f = numbered (f .is) (f .at) (routeIn (f .route))

@@ -14,7 +14,7 @@ use Rattle.row.specs.declared.InstanceRow.{InstanceRow}
 use Rattle.row.specs.declared.RouteRow.{RouteRow}
 use Rattle.own.specs.Settings.{settingsOf}
 use Rattle.own.specs.declared.Own.{Own}
-use Rattle.message.specs.Message.{messageIn, receivedBy, replyFound, routeFound}
+use Rattle.message.specs.Message.{messageIn, receivedBy, replyFound, routeFound, rowFound}
 use Rattle.message.specs.declared.Parsed.{Parsed}
 use Rattle.message.specs.declared.Link.{Link}
 use Rattle.message.specs.declared.Found.{Found}
@@ -88,7 +88,7 @@ module _ {clock seq t : ℕ} {rows : List InstanceRow} {routes : List RouteRow} 
       → Posts x vector (replySent x m (answeredOf a) .forward) (replySent x m (answeredOf a) .forwardTo) there
       → Posts x vector [] Destination.nowhere back
       → Settled x vector (accept asking) l d there back
-  unfolding answeredWith answeredOf replyFound acceptReply replySent
+  unfolding answeredWith answeredOf rowFound acceptReply replySent
   reply-settled l el d there back w pf pr =
       settles lines accept (answeredOf a) asking (h .gathered .means) (λ (q : Answered). q .row) (λ (q : Answered). q .route) f
       (replyOf (f .row)) g l el refl refl x vector d there back w pf pr

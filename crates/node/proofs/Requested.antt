@@ -16,7 +16,7 @@ use Rattle.row.specs.declared.InstanceRow.{InstanceRow}
 use Rattle.row.specs.declared.RouteRow.{RouteRow}
 use Rattle.own.specs.Settings.{settingsOf, Whole}
 use Rattle.own.specs.declared.Own.{Own}
-use Rattle.message.specs.Message.{messageIn, receivedBy, requestFound, routeFound, deltaFound}
+use Rattle.message.specs.Message.{messageIn, receivedBy, requestFound, routeFound, deltaFound, rowFound}
 use Rattle.message.specs.declared.Parsed.{Parsed}
 use Rattle.message.specs.declared.Link.{Link}
 use Rattle.message.specs.declared.Found.{Found}
@@ -95,7 +95,7 @@ module _ {clock seq t : ℕ} {rows : List InstanceRow} {routes : List RouteRow} 
       → Posts x vector (accept (askedOf a) .sent .forward) (accept (askedOf a) .sent .forwardTo) there
       → Posts x vector (accept (askedOf a) .sent .reply) (accept (askedOf a) .sent .replyTo) back
       → Settled x vector (accept asking) l d there back
-  unfolding askedWith askedOf requestFound
+  unfolding askedWith askedOf rowFound
   request-settled l el d there back w pf pr =
       settles lines accept (askedOf a) asking (h .gathered .means) (λ (q : Asked). q .row) (λ (q : Asked). q .route) f
       (requestOf (f .row)) g l el refl refl x vector d there back w pf pr

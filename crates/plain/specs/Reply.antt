@@ -11,8 +11,8 @@ use Rattle.plain.specs.Given.{Settings, Received, RequestRow, ReplyRow, 
 use Rattle.plain.specs.Table.{Numbered, put}
 use Rattle.plain.specs.Answers.{Line, View, requests, requestFor, liveReply, liveRoute}
 use Rattle.plain.specs.Octets.{Message, octetsOf, elided}
-use Rattle.plain.specs.Rank.{minHop, ownRank, rankRefused, freshness, standing, rowDeadline, minusDelta}
-use Rattle.plain.specs.Request.{Accepted, ours, cannotElide, cannotGrow, grown, isStale, isNothingNew, isUpdate, routeStale, routeRow, routeChange, withRank, toIf, wholeTarget}
+use Rattle.plain.specs.Rank.{minHop, ownRank, rankRefused, freshness, standing, minusDelta}
+use Rattle.plain.specs.Request.{Accepted, ours, cannotElide, cannotGrow, grown, isStale, isNothingNew, keptDeadline, routeStale, routeRow, routeChange, withRank, toIf, wholeTarget}
 use Rattle.plain.specs.declared.Target.{Target}
 use Rattle.plain.specs.declared.Standing.{Standing}
 use Rattle.plain.specs.declared.Standing.the-variants.{IsNew}
@@ -112,19 +112,14 @@ replyLines x c m a =
 
 -- ---- Rows
 
--- "the deadline stays" in an update; else it is from L
-unfoldable pub keptReplyDeadline : Standing → Option (Numbered ReplyRow) → ℕ → ℕ → Option ℕ
-keptReplyDeadline st none t l = rowDeadline t l
-keptReplyDeadline st (some n) t l = cond (isUpdate st) (n .row .deadline) (rowDeadline t l)
-
--- "it holds Dest SeqNo, rank, deadline from L"
+-- "it holds Dest SeqNo, rank, deadline from L", which stays in an update
 unfoldable pub replyRow : ℕ → Message → Answered → ReplyRow
 replyRow t m a = record {
   instance = m .base .instance;
   dodagid = m .base .dodagid;
   seq = destSeq m;
   rank = a .rank;
-  deadline = keptReplyDeadline (a .standing) (a .row) t (m .discovery .l);
+  deadline = keptDeadline (λ (r : ReplyRow). r .deadline) (a .standing) (a .row) t (m .discovery .l);
 }
 
 -- ---- What is sent on

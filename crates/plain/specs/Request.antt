@@ -202,9 +202,9 @@ abbrev pub sOut : Received → Message → Bool
 sOut c m = m .discovery .flag && c .downward
 
 -- "equal and lower rank updates the row: .. the deadline stays"; else the deadline is from L
-unfoldable pub keptDeadline : Standing → Option (Numbered RequestRow) → ℕ → ℕ → Option ℕ
-keptDeadline st none t l = rowDeadline t l
-keptDeadline st (some n) t l = cond (isUpdate st) (n .row .deadline) (rowDeadline t l)
+unfoldable pub keptDeadline : {A : Type 0} → (A → Option ℕ) → Standing → Option (Numbered A) → ℕ → ℕ → Option ℕ
+keptDeadline deadline st none t l = rowDeadline t l
+keptDeadline deadline st (some n) t l = cond (isUpdate st) (deadline (n .row)) (rowDeadline t l)
 
 -- "The row holds Orig SeqNo, S out, H, own rank, neighbour, targets, replied, deadline from L."
 unfoldable pub requestRow : ℕ → Received → Message → Asked → RequestRow
@@ -218,7 +218,7 @@ requestRow t c m a = record {
   neighbour = c .neighbour;
   targets = a .targets;
   replied = repliesNow a;
-  deadline = keptDeadline (a .standing) (a .row) t (m .discovery .l);
+  deadline = keptDeadline (λ (r : RequestRow). r .deadline) (a .standing) (a .row) t (m .discovery .l);
 }
 
 -- the route of a request, or of a reply: its next hop is the neighbour

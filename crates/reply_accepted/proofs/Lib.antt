@@ -1,5 +1,3 @@
--- deadlines that are kept
-pub mod Kept
 -- what is sent
 pub mod Sends
 -- what is stored

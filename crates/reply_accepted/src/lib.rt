@@ -18,10 +18,10 @@ ghost use mathlib.Core.List.{List, []};
 ghost use lib.Dec.{ltb};
 ghost use lib.ListN.{take};
 ghost use Rattle.plain.specs.Address.{Address};
-ghost use Rattle.plain.specs.Given.{Settings};
+ghost use Rattle.plain.specs.Given.{Settings, ReplyRow};
 ghost use Rattle.plain.specs.Given as rules;
-ghost use Rattle.plain.specs.Request.{toIf};
-ghost use Rattle.plain.specs.Reply.{origNode, keptReplyDeadline, replyRow, before, nextDestination, replySent, acceptReply};
+ghost use Rattle.plain.specs.Request.{keptDeadline, toIf};
+ghost use Rattle.plain.specs.Reply.{origNode, replyRow, before, nextDestination, replySent, acceptReply};
 ghost use Rattle.answer.specs.Answer.{destinationOf};
 ghost use Rattle.deadline.specs.Deadline.{deadlineOf};
 ghost use Rattle.row.specs.Record.{replyRecord, routeRecord};
@@ -37,7 +37,7 @@ ghost use Rattle.reply_accepted.specs.Made.{replyRoute, raised, whichWay
 // An update keeps the row's deadline.
 fn kept_deadline(t: u64, l: u8, w: ReplyFacts) -> Deadline
     requires { ⌜ t ≤ 2 ^ 40 ⌝ }
-    ensures { λ r. ⌜ deadlineOf r ≡ keptReplyDeadline (w .standing) (replyFound (w .found)) t l ⌝ }
+    ensures { λ r. ⌜ deadlineOf r ≡ keptDeadline (λ (r : ReplyRow). r .deadline) (w .standing) (replyFound (w .found)) t l ⌝ }
 {
     let f = w.found;
     if f.is {

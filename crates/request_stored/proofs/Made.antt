@@ -7,9 +7,8 @@ use mathlib.Core.Option.{some, none}
 use lib.Dec.{eqb}
 use lib.ListN.{take}
 use Rattle.plain.specs.Rank.{minHop, rowDeadline, plusDelta}
-use Rattle.plain.specs.Given.{Settings}
-use Rattle.plain.specs.Request.{isUpdate, keptDeadline, sOut, repliesNow, requestRow, ownReplyRow}
-use Rattle.plain.specs.declared.Standing.{Standing}
+use Rattle.plain.specs.Given.{Settings, RequestRow}
+use Rattle.plain.specs.Request.{keptDeadline, sOut, repliesNow, requestRow, ownReplyRow}
 use Rattle.deadline.specs.Deadline.{deadlineOf}
 use Rattle.deadline.specs.declared.Deadline.{Deadline}
 use Rattle.row.specs.Meaning as meaning
@@ -17,39 +16,14 @@ use Rattle.row.specs.Record.{requestRecord}
 use Rattle.message.specs.Message.{configurationIn, messageIn, receivedBy, requestFound}
 use Rattle.message.specs.declared.Parsed.{Parsed}
 use Rattle.message.specs.declared.Link.{Link}
-use Rattle.message.specs.declared.Found.{Found}
 use Rattle.decision.specs.Decision.{replyIn}
-use Rattle.rule.proofs.Laws.{deadline-kept}
 use Rattle.request.specs.Facts.{askedOf}
 use Rattle.request.specs.declared.RequestFacts.{RequestFacts}
-
--- ---- The deadline of the request row
-
-module _ (s : Standing) (f : Found) (t l : ℕ) where
-  -- "the deadline stays"
-  pub end-stays : isUpdate s ≡ true → f .is ≡ true
-      → deadlineOf (record { endless = not (eqb (f .row .endless) 0); at = f .row .deadline }) ≡ keptDeadline s (requestFound f) t l
-  unfolding deadlineOf keptDeadline requestFound meaning.requestOf
-  end-stays u e = rw (e, u) (deadline-kept (f .row .endless) (f .row .deadline))
-
-  pub end-none : f .is ≡ false → rowDeadline t l ≡ keptDeadline s (requestFound f) t l
-  unfolding keptDeadline requestFound
-  end-none e = rw e refl
-
-  pub end-new : isUpdate s ≡ false → rowDeadline t l ≡ keptDeadline s (requestFound f) t l
-  unfolding keptDeadline requestFound
-  end-new u = go (f .is)
-    where
-      go : (b : Bool) → rowDeadline t l ≡ keptDeadline s (cond b (some (record { number = f .at; row = meaning.requestOf (f .row) })) none) t l
-      go true = rw u refl
-      go false = refl
-
--- ---- Records
 
 pub request-is : (t : ℕ) (k : Link) (p : Parsed) (a : RequestFacts) (s replied : Bool) (end : Deadline)
     → s ≡ sOut (receivedBy k []) (messageIn p [])
     → replied ≡ repliesNow (askedOf a)
-    → deadlineOf end ≡ keptDeadline (a .standing) (requestFound (a .row)) t (p .discovery .l)
+    → deadlineOf end ≡ keptDeadline (λ (r : RequestRow). r .deadline) (a .standing) (requestFound (a .row)) t (p .discovery .l)
     → requestRecord (record {
       instance = p .base .instance;
       dodagid = p .base .dodagid;

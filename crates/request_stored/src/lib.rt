@@ -14,6 +14,7 @@ ghost use mathlib.Core.Path.{_≡_};
 ghost use mathlib.Core.Bool.{cond};
 ghost use mathlib.Core.List.{List, []};
 ghost use Rattle.plain.specs.Address.{Address};
+ghost use Rattle.plain.specs.Given.{RequestRow};
 ghost use Rattle.plain.specs.Request.{sOut, keptDeadline, requestRow, ownReplyRow, routeRow, deltaOr0, acceptRequest};
 ghost use Rattle.row.specs.Record.{requestRecord, routeRecord};
 ghost use Rattle.deadline.specs.Deadline.{deadlineOf};
@@ -27,7 +28,7 @@ ghost use Rattle.request.specs.Facts.{askedOf, Sendable};
 // The deadline of the request row: an update leaves it as it is.
 fn kept_deadline(t: u64, l: u8, a: RequestFacts) -> Deadline
     requires { ⌜ t ≤ 2 ^ 40 ⌝ }
-    ensures { λ r. ⌜ deadlineOf r ≡ keptDeadline (a .standing) (requestFound (a .row)) t l ⌝ }
+    ensures { λ r. ⌜ deadlineOf r ≡ keptDeadline (λ (r : RequestRow). r .deadline) (a .standing) (requestFound (a .row)) t l ⌝ }
 {
     let s = a.standing;
     let f = a.row;

@@ -18,7 +18,7 @@ use Rattle.plain.specs.Request.{rowTargets, matchesUs, areTargNode}
 use Rattle.row.specs.Meaning.{requestOf}
 use Rattle.row.proofs.Laws.{targets-within}
 use Rattle.kept.specs.Kept.{listOf, Kept}
-use Rattle.message.specs.Message.{messageIn, requestFound}
+use Rattle.message.specs.Message.{messageIn, requestFound, rowFound}
 use Rattle.row.specs.declared.InstanceRow.{InstanceRow}
 use Rattle.targets.specs.declared.Targets.{Targets}
 use Rattle.message.specs.declared.Found.{Found}
@@ -29,11 +29,11 @@ use Rattle.rule.proofs.Types.{length-mapped}
 module _ (f : Found) where
   pub targets-found : f .is ≡ true → f .row .count ≤ 8 → length (f .row .targets) ≡ 8
       → take (f .row .count) (f .row .targets) ≡ rowTargets (requestFound f)
-  unfolding requestFound requestOf
+  unfolding rowFound requestOf
   targets-found e h n = rw e (sym (targets-within (f .row .count) (f .row .targets) (omega arith)))
 
   pub none-found : f .is ≡ false → [] ≡ rowTargets (requestFound f)
-  unfolding requestFound
+  unfolding rowFound
   none-found e = rw e refl
 
 -- ---- What the types of the parameters say

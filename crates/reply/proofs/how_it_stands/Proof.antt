@@ -1,5 +1,5 @@
 use Rattle.plain.specs.Reply.{replyStanding}
-use Rattle.message.specs.Message.{replyFound}
+use Rattle.message.specs.Message.{rowFound}
 use Rattle.row.specs.Meaning.{replyOf}
 use borrow.Author.Needs.{needs}
 use Rattle.reply.proofs.how_it_stands.Statement.{statement}
@@ -24,12 +24,12 @@ standing-requires c κs = search needs
 
 -- src/lib.rt:118:9
 returns : tie.Need-returns
-unfolding replyStanding replyFound replyOf
+unfolding replyStanding rowFound replyOf
 returns c = search (← c .standing .ensures, ← c .before .compare .ensures, c .before .before .before .if1 .taken, cases)
 
 -- src/lib.rt:112:1
 returns-2 : tie.Need-returns-2
-unfolding replyStanding replyFound replyOf
+unfolding replyStanding rowFound replyOf
 returns-2 c = search (c .if1 .left, cases)
 
 pub how-it-stands-spec : {M : Type 1} → statement M

@@ -2,7 +2,7 @@ pub mod Lts
 pub mod Tie
 use mathlib.Core.Path.{ap}
 use denote.Ref.{now}
-use Rattle.message.specs.Message.{replyFound}
+use Rattle.message.specs.Message.{replyFound, rowFound}
 use Rattle.search.specs.Seen.{replySeen}
 use Rattle.search.proofs.Laws.{replyAsk, hit, miss, hit-live, live-hit, live-miss}
 use borrow.Author.Needs.{needs}
@@ -24,7 +24,7 @@ found-requires : tie.Need-found-requires
 found-requires c = search needs
 
 returns : tie.Need-returns
-unfolding replyFound replySeen
+unfolding rowFound replySeen
 returns c = let a = c .before .before .before .before .args in
     let k = c .before .before .before .find-reply in
     let f = c .found in
@@ -35,7 +35,7 @@ not-found-requires : tie.Need-not-found-requires
 not-found-requires c = search needs
 
 returns-2 : tie.Need-returns-2
-unfolding replyFound replySeen
+unfolding rowFound replySeen
 returns-2 c = let a = c .before .before .before .args in
     let k = c .before .before .find-reply in
     let f = c .not-found in

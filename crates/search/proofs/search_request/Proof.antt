@@ -4,7 +4,7 @@ use mathlib.Core.Path.{sym, ap}
 use denote.Ref.{now}
 use borrow.Author.Tests.{eqb-true}
 use Rattle.lemmas.proofs.Choice.{true-false}
-use Rattle.message.specs.Message.{requestFound}
+use Rattle.message.specs.Message.{requestFound, rowFound}
 use Rattle.search.specs.Seen.{requestSeen}
 use Rattle.search.proofs.Laws.{requestAsk, hit, miss, hit-live, hit-kind, live-hit, live-miss}
 use borrow.Author.Needs.{needs}
@@ -26,7 +26,7 @@ found-requires : tie.Need-found-requires
 found-requires c = search needs
 
 returns : tie.Need-returns
-unfolding requestFound requestSeen
+unfolding rowFound requestSeen
 returns c = let a = c .before .before .before .before .args in
     let k = c .before .before .before .find-request in
     let f = c .found in
@@ -37,7 +37,7 @@ not-found-requires : tie.Need-not-found-requires
 not-found-requires c = search needs
 
 returns-2 : tie.Need-returns-2
-unfolding requestFound requestSeen
+unfolding rowFound requestSeen
 returns-2 c = let a = c .before .before .before .args in
     let k = c .before .before .find-request in
     let f = c .not-found in
