@@ -3,11 +3,10 @@ use Prim.Native.Nat.{ℕ, _+_, _≤_, _<_}
 use mathlib.Core.Path.{_≡_, refl, sym, _∙_}
 use mathlib.Core.Bool.{Bool, true, false, cond}
 use mathlib.Core.List.{List, [], _∷_, _++_, append-nil}
-use native.Mathlib.Omega.{arith}
-use lib.ListN.{length, getD, take, drop, drop-of-length-le}
-use lib.Seq.{getD-take, length-take-le, append-snoc}
+use lib.ListN.{length, getD, take, drop}
+use lib.Seq.{append-snoc}
 use Rattle.plain.specs.Lists.{those}
-use Rattle.lemmas.proofs.Walk.{left-at}
+use Rattle.lemmas.proofs.Front.{front-at, front-end}
 
 -- what is kept below i, and those that are to come, are all
 abbrev pub Sifted : {A : Type 0} → (A → Bool) → ℕ → List A → ℕ → List A → Type 0
@@ -22,12 +21,8 @@ module _ {A : Type 0} (p : A → Bool) (n : ℕ) (xs : List A) (q : n ≤ length
   pub sift-more : (d : A) (more : List A) → i < n → more ≡ cond (p (getD xs i d)) (kept ++ (getD xs i d ∷ [])) kept → Sifted p n xs (i + 1) more
   unfolding those
   sift-more d more h e =
-      let l : drop i (take n xs) ≡ getD xs i d ∷ drop (i + 1) (take n xs) =
-      rw (← getD-take n xs i d h) (left-at (take n xs) i d (omega (arith, length-take-le n xs q)))
-      in
-      rw e (one-more (p (getD xs i d)) (getD xs i d) kept (those p (drop (i + 1) (take n xs)))) ∙ (rw l at v)
+      rw e (one-more (p (getD xs i d)) (getD xs i d) kept (those p (drop (i + 1) (take n xs)))) ∙ (rw (front-at n xs q i d h) at v)
 
   pub sift-end : n ≤ i → kept ≡ those p (take n xs)
   unfolding those
-  sift-end h =
-      sym (append-nil kept) ∙ (rw (drop-of-length-le (take n xs) {i = i} (omega (arith, length-take-le n xs q))) at v)
+  sift-end h = sym (append-nil kept) ∙ (rw (front-end n xs q i h) at v)

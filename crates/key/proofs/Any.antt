@@ -129,21 +129,3 @@ module _ {A : Type 0} (p q : A → A → Bool) where
   two-less f (x ∷ xs) e =
       or-neither (any (p x) xs) (anyTwo p xs) (any-less (p x) (q x) (f x) xs (or-left (any (q x) xs) (anyTwo q xs) e))
       (two-less f xs (or-right (any (q x) xs) (anyTwo q xs) e))
-
--- ---- the first j of a list, gone through from its front
-
-module _ {A : Type 0} (p : A → Bool) (xs : List A) (j : ℕ) where
-  -- at i: one of the first j is so if one of those from i on is
-  abbrev pub Left : ℕ → Type 0
-  Left i = (i ≤ j) × (any p (take j xs) ≡ any p (drop i (take j xs)))
-
-  module _ (i : ℕ) (d : A) (w : Left i) where
-    module _ (b : Bool) (h : i < j) (k : j < length xs) (e : b ≡ p (getD xs i d)) where
-      pub left-hit : b ≡ true → any p (take j xs) ≡ true
-      left-hit f = any-hit p d (take j xs) i (w .1) (omega (arith, length-take j xs)) (rw (getD-take j xs i d h) (sym e ∙ f))
-
-      pub left-miss : b ≡ false → Left (i + 1)
-      left-miss f = (omega arith, any-miss p d (take j xs) i (w .1) (omega (arith, length-take j xs)) (rw (getD-take j xs i d h) (sym e ∙ f)))
-
-    pub left-end : j ≤ i → any p (take j xs) ≡ false
-    left-end h = any-end p d (take j xs) i (w .1) (omega (arith, length-take j xs))

@@ -5,14 +5,13 @@ use mathlib.Core.Bool.{Bool, true, false, cond}
 use mathlib.Core.List.{List, [], _∷_}
 use native.Mathlib.Omega.{arith}
 use lib.Dec.{eqb}
-use lib.ListN.{length, getD, take, drop, drop-of-length-le}
-use lib.Seq.{getD-take, length-take-le}
+use lib.ListN.{length, getD, take, drop}
 use borrow.Author.Tests.{ne-eqb}
 use Rattle.plain.specs.Lists.{count, same}
 use Rattle.plain.specs.Address.{Address}
 use Rattle.plain.specs.Reply.{before}
 use Rattle.lemmas.proofs.Choice.{cond-case}
-use Rattle.lemmas.proofs.Walk.{left-at}
+use Rattle.lemmas.proofs.Front.{front-at, front-end}
 
 -- an element counts for itself
 count-cons : {A : Type 0} (p : A → Bool) (x : A) (xs : List A) → count p (x ∷ xs) ≡ count p (x ∷ []) + count p xs
@@ -41,36 +40,24 @@ pub next-last : (first : Address) (v : List Address) (i : ℕ) → last first v 
 next-last first v i = let e : i + 1 - 1 ≡ i = omega arith in last-one first v (i + 1) (λ z. omega arith) ∙ rw e
 
 module _ (n : ℕ) (v : List Address) (q : n ≤ length v) (i : ℕ) where
-  pub below : i < n → i < length (take n v)
-  below h = omega (arith, length-take-le n v q)
-
-  pub past : n ≤ i → length (take n v) ≤ i
-  past h = omega (arith, length-take-le n v q)
-
-  left : i < n → drop i (take n v) ≡ getD v i [] ∷ drop (i + 1) (take n v)
-  left h = rw (← getD-take n v i [] h) (left-at (take n v) i [] (below h))
-
-  none-left : n ≤ i → drop i (take n v) ≡ []
-  none-left h = drop-of-length-le (take n v) {i = i} (past h)
-
   module _ (p : Address → Bool) (found : ℕ) (u : count p (take n v) ≡ found + count p (drop i (take n v))) where
     pub count-more : i < n → count p (take n v) ≡ found + count p (getD v i [] ∷ []) + count p (drop (i + 1) (take n v))
-    count-more h = omega (arith, u, ap (count p) (left h), count-cons p (getD v i []) (drop (i + 1) (take n v)))
+    count-more h = omega (arith, u, ap (count p) (front-at n v q i [] h), count-cons p (getD v i []) (drop (i + 1) (take n v)))
 
     pub count-end : n ≤ i → found ≡ count p (take n v)
     unfolding count
-    count-end h = omega (arith, u, ap (count p) (none-left h))
+    count-end h = omega (arith, u, ap (count p) (front-end n v q i h))
 
   module _ (first last a : Address) (u : before first a (take n v) ≡ before last a (drop i (take n v))) where
     pub before-hit : i < n → same a (getD v i []) ≡ true → before first a (take n v) ≡ last
     unfolding before
-    before-hit h e = u ∙ rw (left h, e)
+    before-hit h e = u ∙ rw (front-at n v q i [] h, e)
 
     pub before-miss : i < n → same a (getD v i []) ≡ false
         → before first a (take n v) ≡ before (getD v i []) a (drop (i + 1) (take n v))
     unfolding before
-    before-miss h e = u ∙ rw (left h, e)
+    before-miss h e = u ∙ rw (front-at n v q i [] h, e)
 
     pub before-end : n ≤ i → before first a (take n v) ≡ last
     unfolding before
-    before-end h = u ∙ rw (none-left h)
+    before-end h = u ∙ rw (front-end n v q i h)

@@ -4,7 +4,7 @@ use Prim.Native.Nat.{_≤_, _-_}
 use mathlib.Core.Path.{refl, sym, _∙_}
 use denote.Ref.{now}
 use borrow.Author.Needs.{needs}
-use Rattle.address.proofs.First.{Unfound, is-found, not-here, nowhere}
+use Rattle.lemmas.proofs.Front.{Unfound, is-found, not-here, nowhere}
 use Rattle.plain.specs.Octets.{sameTarget}
 use Rattle.plain.specs.Blank.{noTarget}
 use Rattle.collect.proofs.is_listed.Statement.{statement}

@@ -7,7 +7,7 @@ use lib.ListN.{length, length-map}
 use borrow.Author.Needs.{needs}
 use Rattle.ours.specs.Ours.{settings}
 use Rattle.plain.specs.Request.{matchesUs}
-use Rattle.address.proofs.First.{Unfound, is-found, not-here, nowhere}
+use Rattle.lemmas.proofs.Front.{Unfound, is-found, not-here, nowhere}
 use Rattle.matching.proofs.is_named.Statement.{statement}
 use Rattle.matching.proofs.is_named.Tie as tie
 use Rattle.lemmas.proofs.Cases.{cases}

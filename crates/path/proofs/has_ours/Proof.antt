@@ -2,20 +2,18 @@ use Prim.Native.Nat.{_≤_, _-_}
 use mathlib.Core.Path.{_≡_, refl, sym, _∙_}
 use native.Mathlib.Omega.{arith}
 use mathlib.Core.List.{[]}
-use lib.ListN.{length, take, drop}
-use lib.Seq.{getD-take}
+use lib.ListN.{length}
 use borrow.Author.Needs.{needs}
-use Rattle.plain.specs.Lists.{any}
 use Rattle.plain.specs.Request.{ours}
 use Rattle.own.specs.Settings.{settingsOf}
-use Rattle.lemmas.proofs.Walk.{any-hit, any-miss, any-end}
-use Rattle.path.proofs.Walk.{below, past}
+use Rattle.lemmas.proofs.Front.{Unfound, is-found, not-here, nowhere}
 use Rattle.path.proofs.has_ours.Statement.{statement}
 use Rattle.path.proofs.has_ours.Tie as tie
 use Rattle.lemmas.proofs.Cases.{cases}
 
+-- One of the first n addresses is ours if one of those from i on is.
 abbrev Inv-loop : tie.InvT-loop
-Inv-loop o n vector addresses i₀ i = (i ≤ n) × (any (ours (settingsOf o)) (take n vector) ≡ any (ours (settingsOf o)) (drop i (take n vector)))
+Inv-loop o n vector addresses i₀ i = (i ≤ n) × Unfound (ours (settingsOf o)) n vector i
 
 abbrev μ-loop : tie.MeasureT-loop
 μ-loop o n vector addresses i₀ i = n - i
@@ -37,7 +35,7 @@ returns c =
     let l = c .before .before .before .before .loop in
     let s = c .before .before .before .before .before .before .args in
     let q : length (s .vector .now) ≡ 16 = search needs in
-    sym (any-hit (ours (settingsOf (s .o))) [] (take (s .n) (s .vector .now)) (l .i) (l .inv .1) (below (s .n) (s .vector .now) (omega arith) (l .i) (search needs)) (rw (getD-take (s .n) (s .vector .now) (l .i) [] (search needs)) (sym (c .before .is-ours .ensures) ∙ c .if1 .taken)))
+    sym (is-found (ours (settingsOf (s .o))) [] (s .n) (s .vector .now) (omega arith) (l .i) (l .inv .1) (search needs) (sym (c .before .is-ours .ensures) ∙ c .if1 .taken))
 
 add-i : tie.Need-add-i Inv-loop μ-loop
 add-i c = search cases
@@ -50,14 +48,14 @@ loop-again c =
     let l = c .before .before .before .before .loop in
     let s = c .before .before .before .before .before .before .args in
     let q : length (s .vector .now) ≡ 16 = search needs in
-    (search needs, any-miss (ours (settingsOf (s .o))) [] (take (s .n) (s .vector .now)) (l .i) (l .inv .1) (below (s .n) (s .vector .now) (omega arith) (l .i) (search needs)) (rw (getD-take (s .n) (s .vector .now) (l .i) [] (search needs)) (sym (c .before .is-ours .ensures) ∙ c .if1 .left)))
+    (search needs, not-here (ours (settingsOf (s .o))) [] (s .n) (s .vector .now) (omega arith) (l .i) (l .inv .1) (search needs) (sym (c .before .is-ours .ensures) ∙ c .if1 .left))
 
 returns-2 : tie.Need-returns-2 Inv-loop μ-loop
 returns-2 c =
     let l = c .before .loop in
     let s = c .before .before .before .args in
     let q : length (s .vector .now) ≡ 16 = search needs in
-    sym (any-end (ours (settingsOf (s .o))) [] (take (s .n) (s .vector .now)) (l .i) (l .inv .1) (past (s .n) (s .vector .now) (omega arith) (l .i) (search needs)))
+    sym (nowhere (ours (settingsOf (s .o))) [] (s .n) (s .vector .now) (omega arith) (l .i) (l .inv .1) (search needs))
 
 pub has-ours-spec : {M : Type 1} → statement M
 has-ours-spec =

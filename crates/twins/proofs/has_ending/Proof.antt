@@ -1,21 +1,21 @@
 pub mod Lts
 pub mod Tie
-use Prim.Native.Nat.{_-_}
-use mathlib.Core.Path.{_≡_, refl, sym}
+use Prim.Native.Nat.{_-_, _≤_}
+use mathlib.Core.Path.{_≡_, refl, sym, _∙_}
 use denote.Ref.{now}
 use lib.Dec.{eqb}
 use lib.ListN.{getD}
 use Rattle.row.specs.declared.InstanceRow.{InstanceRow}
 use Rattle.row.specs.Meaning.{noRow}
 use Rattle.key.specs.Pair.{endingOf}
-use Rattle.key.proofs.Any.{Left, left-hit, left-miss, left-end}
+use Rattle.lemmas.proofs.Front.{Unfound, is-found, not-here, nowhere}
 use borrow.Author.Needs.{needs}
 use Rattle.twins.proofs.has_ending.Statement.{statement}
 use Rattle.twins.proofs.has_ending.Proof.Tie as tie
 
 -- One of the first j rows has the ending of number j if one of those from i on has it.
 abbrev Inv-loop : tie.InvT-loop
-Inv-loop rows j e i₀ i = (e ≡ endingOf (getD rows j noRow .dodagid)) × Left (λ (x : InstanceRow). eqb (endingOf (x .dodagid)) e) rows j i
+Inv-loop rows j e i₀ i = (e ≡ endingOf (getD rows j noRow .dodagid)) × (i ≤ j) × Unfound (λ (x : InstanceRow). eqb (endingOf (x .dodagid)) e) j rows i
 
 abbrev μ-loop : tie.MeasureT-loop
 μ-loop rows j e i₀ i = j - i
@@ -30,7 +30,7 @@ ending-requires : tie.Need-ending-requires Inv-loop μ-loop
 ending-requires c = search needs
 
 loop-holds : tie.Need-loop-holds Inv-loop μ-loop
-loop-holds c = (c .ending .ensures, (search needs, refl))
+loop-holds c = (c .ending .ensures, search needs, refl)
 
 mul-does-end : tie.Need-mul-does-end Inv-loop μ-loop
 mul-does-end c = search needs
@@ -46,8 +46,7 @@ returns c = let a = c .before .before .before .before .before .before .before .a
     let l = c .before .before .before .before .loop in
     let e = c .before .before .before .before .before .ending .result in
     rw (← l .inv .0)
-    (sym (left-hit (λ (x : InstanceRow). eqb (endingOf (x .dodagid)) e) (now (a .rows)) (a .j) (l .i) noRow (l .inv .1) (c .before .does-end .result) (search needs) (search needs)
-    (c .before .does-end .ensures) (c .if1 .taken)))
+    (sym (is-found (λ (x : InstanceRow). eqb (endingOf (x .dodagid)) e) noRow (a .j) (now (a .rows)) (search needs) (l .i) (l .inv .2) (search needs) (sym (c .before .does-end .ensures) ∙ c .if1 .taken)))
 
 add-i : tie.Need-add-i Inv-loop μ-loop
 add-i c = search needs
@@ -60,15 +59,15 @@ loop-again c = let a = c .before .before .before .before .before .before .before
     let l = c .before .before .before .before .loop in
     let e = c .before .before .before .before .before .ending .result in (
       l .inv .0,
-      left-miss (λ (x : InstanceRow). eqb (endingOf (x .dodagid)) e) (now (a .rows)) (a .j) (l .i) noRow (l .inv .1) (c .before .does-end .result) (search needs) (search needs)
-          (c .before .does-end .ensures) (c .if1 .left),
+      search needs,
+      not-here (λ (x : InstanceRow). eqb (endingOf (x .dodagid)) e) noRow (a .j) (now (a .rows)) (search needs) (l .i) (l .inv .2) (search needs) (sym (c .before .does-end .ensures) ∙ c .if1 .left),
     )
 
 returns-2 : tie.Need-returns-2 Inv-loop μ-loop
 returns-2 c = let a = c .before .before .before .before .args in
     let l = c .before .loop in
     let e = c .before .before .ending .result in
-    rw (← l .inv .0) (sym (left-end (λ (x : InstanceRow). eqb (endingOf (x .dodagid)) e) (now (a .rows)) (a .j) (l .i) noRow (l .inv .1) (search needs)))
+    rw (← l .inv .0) (sym (nowhere (λ (x : InstanceRow). eqb (endingOf (x .dodagid)) e) noRow (a .j) (now (a .rows)) (search needs) (l .i) (l .inv .2) (search needs)))
 
 pub has-ending-spec : {M : Type 1} → statement M
 has-ending-spec = tie.close (tie.spec Inv-loop μ-loop mul-ending shared-slice-copy-out-ending ending-requires loop-holds mul-does-end
