@@ -11,8 +11,9 @@ use lib.Seq.{take-at, drop-at, take-append-add, take-length, paste}
 use borrow.Author.Tests.{ltb-false, eqb-true, eq-eqb, not-false}
 use Rattle.lemmas.proofs.Choice.{or-left, or-right}
 use Rattle.lemmas.proofs.Rules.{most-octets}
+use Rattle.lemmas.proofs.Targets.{plen-below}
 use Rattle.plain.specs.Address.{agree}
-use Rattle.plain.specs.Octets.{fields, sum, plenOf, prefixBits, prefixOctets, badArt, sameTarget}
+use Rattle.plain.specs.Octets.{plenOf, prefixBits, prefixOctets, badArt, sameTarget}
 use Rattle.plain.specs.declared.Target.{Target}
 
 -- ---- The body of an ART
@@ -37,10 +38,6 @@ filled-up z n part h = go (n - length part) (omega arith) (omega arith)
         in
         let t : take m (replicate n z) ≡ replicate m z = rw f (first-of z m (length part)) in
         rw (take-length part, l, r, t)
-
-pub plen-below : (body : List ℕ) → plenOf body < 128
-unfolding fields sum
-plen-below body = omega arith
 
 -- how large an ART is that is not bad
 pub art-size : (body : List ℕ) → badArt body ≡ false → (2 ≤ length body) × (length body ≤ 18)

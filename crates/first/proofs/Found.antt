@@ -12,48 +12,13 @@ use lib.Dec.{ltb, leb·suc-suc}
 use lib.ListN.{length, getD, length-map}
 use borrow.Author.Tests.{lt-ltb}
 use Rattle.plain.specs.Lists.{any, firstOf}
-use Rattle.plain.specs.Given.{Instance, Route}
 use Rattle.plain.specs.Table.{Numbered, lasts, live, liveFrom, liveRows}
-use Rattle.plain.specs.Answers as A
-use Rattle.plain.specs.Answers.{requests, replies}
+use Rattle.plain.specs.Answers.{atNumber, ofKind}
 use Rattle.lemmas.proofs.Choice.{true-false, cond-true}
 use Rattle.lemmas.proofs.Rules.{lasts-before}
-use Rattle.live.specs.Look.{partOf, held, here, asRequest, asReply}
+use Rattle.live.specs.Look.{ofRow, held, here}
 use Rattle.live.proofs.Laws.{Sort, sort-here}
 use Rattle.first.specs.First.{first}
-
--- ---- the rows of a kind among numbered rows
-
-abbrev pub asPart : {B : Type 0} → ℕ → Option B → List (Numbered B)
-asPart i none = []
-asPart i (some b) = record { number = i; row = b } ∷ []
-
-unfoldable pub parts : {A B : Type 0} → (A → Option B) → List (Numbered A) → List (Numbered B)
-parts part [] = []
-parts part (n ∷ ns) = asPart (n .number) (part (n .row)) ++ parts part ns
-
-as-request : (i : ℕ) (a : Instance) → A.asRequest i a ≡ asPart i (asRequest a)
-as-request i (Instance.request r) = refl
-as-request i (Instance.reply r) = refl
-
-as-reply : (i : ℕ) (a : Instance) → A.asReply i a ≡ asPart i (asReply a)
-as-reply i (Instance.request r) = refl
-as-reply i (Instance.reply r) = refl
-
-pub requests-are : (ns : List (Numbered Instance)) → requests ns ≡ parts asRequest ns
-unfolding requests parts
-requests-are [] = refl
-requests-are (n ∷ ns) = rw (as-request (n .number) (n .row), requests-are ns)
-
-pub replies-are : (ns : List (Numbered Instance)) → replies ns ≡ parts asReply ns
-unfolding replies parts
-replies-are [] = refl
-replies-are (n ∷ ns) = rw (as-reply (n .number) (n .row), replies-are ns)
-
-pub routes-are : (ns : List (Numbered Route)) → ns ≡ parts some ns
-unfolding parts
-routes-are [] = refl
-routes-are (n ∷ ns) = ap (λ (z : List (Numbered Route)). n ∷ z) (routes-are ns)
 
 -- ---- the first of a kind that is so
 
@@ -65,24 +30,24 @@ renumber m n b e = λ i. some (record { number = e i; row = b })
 module _ {A B : Type 0} (deadline : A → Option ℕ) (part : A → Option B) where
   -- what the rules see of a row at the clock c: the part of the kind, if the row is live
   abbrev pub seen : ℕ → Option A → Option B
-  seen c o = cond (live deadline c o) (partOf part o) none
+  seen c o = cond (live deadline c o) (ofRow part o) none
 
-  pub parts-cons : (c i : ℕ) (o : Option A) (rows : List (Option A))
-      → parts part (liveFrom deadline c i (o ∷ rows)) ≡ asPart i (seen c o) ++ parts part (liveFrom deadline c (suc i) rows)
-  unfolding liveFrom parts
-  parts-cons c i none rows = refl
-  parts-cons c i (some a) rows = go (lasts c (deadline a))
+  pub kind-cons : (c i : ℕ) (o : Option A) (rows : List (Option A))
+      → ofKind part (liveFrom deadline c i (o ∷ rows)) ≡ atNumber i (seen c o) ++ ofKind part (liveFrom deadline c (suc i) rows)
+  unfolding liveFrom ofKind
+  kind-cons c i none rows = refl
+  kind-cons c i (some a) rows = go (lasts c (deadline a))
     where
       go : (y : Bool)
-          → parts part (cond y (record { number = i; row = a } ∷ liveFrom deadline c (suc i) rows) (liveFrom deadline c (suc i) rows))
-          ≡ asPart i (cond y (part a) none) ++ parts part (liveFrom deadline c (suc i) rows)
+          → ofKind part (cond y (record { number = i; row = a } ∷ liveFrom deadline c (suc i) rows) (liveFrom deadline c (suc i) rows))
+          ≡ atNumber i (cond y (part a) none) ++ ofKind part (liveFrom deadline c (suc i) rows)
       go true = refl
       go false = refl
 
-  pub seen-part : (c : ℕ) (o : Option A) (b : B) → seen c o ≡ some b → partOf part o ≡ some b
+  pub seen-part : (c : ℕ) (o : Option A) (b : B) → seen c o ≡ some b → ofRow part o ≡ some b
   seen-part c o b = go (live deadline c o)
     where
-      go : (y : Bool) → cond y (partOf part o) none ≡ some b → partOf part o ≡ some b
+      go : (y : Bool) → cond y (ofRow part o) none ≡ some b → ofRow part o ≡ some b
       go true e = e
       go false e = let z : _≡_ {A = ℕ} 0 1 = cc in absurd (omega arith)
 
@@ -104,20 +69,20 @@ module _ {A B : Type 0} (deadline : A → Option ℕ) (part : A → Option B) wh
             miss false g = refl
 
     found-from : (i : ℕ) (rows : List (Option A)) (b : B) → first (here part p) rows < length rows
-        → partOf part (getD rows (first (here part p) rows) none) ≡ some b
-        → firstOf (λ (n : Numbered B). p (n .row)) (parts part (liveFrom deadline c i rows)) ≡ some
+        → ofRow part (getD rows (first (here part p) rows) none) ≡ some b
+        → firstOf (λ (n : Numbered B). p (n .row)) (ofKind part (liveFrom deadline c i rows)) ≡ some
         (record { number = i + first (here part p) rows; row = b })
     unfolding first firstOf
     found-from i [] b h e = absurd (omega arith)
-    found-from i (o ∷ rows) b h e = rw (parts-cons c i o rows) (go (seen c o) refl (here part p o) refl (λ k g. found-from (suc i) rows b k g) h e)
+    found-from i (o ∷ rows) b h e = rw (kind-cons c i o rows) (go (seen c o) refl (here part p o) refl (λ k g. found-from (suc i) rows b k g) h e)
       where
         go : (x : Option B) → seen c o ≡ x → (y : Bool) → here part p o ≡ y
-            → (first (here part p) rows < length rows → partOf part (getD rows (first (here part p) rows) none) ≡ some b
-            → firstOf (λ (n : Numbered B). p (n .row)) (parts part (liveFrom deadline c (suc i) rows)) ≡ some
+            → (first (here part p) rows < length rows → ofRow part (getD rows (first (here part p) rows) none) ≡ some b
+            → firstOf (λ (n : Numbered B). p (n .row)) (ofKind part (liveFrom deadline c (suc i) rows)) ≡ some
             (record { number = suc i + first (here part p) rows; row = b }))
             → cond y 0 (suc (first (here part p) rows)) < suc (length rows)
-            → partOf part (getD (o ∷ rows) (cond y 0 (suc (first (here part p) rows))) none) ≡ some b
-            → firstOf (λ (n : Numbered B). p (n .row)) (asPart i x ++ parts part (liveFrom deadline c (suc i) rows))
+            → ofRow part (getD (o ∷ rows) (cond y 0 (suc (first (here part p) rows))) none) ≡ some b
+            → firstOf (λ (n : Numbered B). p (n .row)) (atNumber i x ++ ofKind part (liveFrom deadline c (suc i) rows))
             ≡ some (record { number = i + cond y 0 (suc (first (here part p) rows)); row = b })
         go none q true w r h e =
             let z : held p (seen c o) ≡ false = rw q in
@@ -132,22 +97,22 @@ module _ {A B : Type 0} (deadline : A → Option ℕ) (part : A → Option B) wh
             let f : p a ≡ false = rw q at (seen-here o ∙ w) in
             rw f (r (omega arith) e ∙ renumber (suc i + first (here part p) rows) (i + suc (first (here part p) rows)) b (omega arith))
 
-    pub found : (rows : List (Option A)) (k : ℕ) (b : B) → k ≡ first (here part p) rows → k < length rows → partOf part (getD rows k none) ≡ some b
-        → firstOf (λ (n : Numbered B). p (n .row)) (parts part (liveRows deadline c rows)) ≡ some (record { number = k; row = b })
+    pub found : (rows : List (Option A)) (k : ℕ) (b : B) → k ≡ first (here part p) rows → k < length rows → ofRow part (getD rows k none) ≡ some b
+        → firstOf (λ (n : Numbered B). p (n .row)) (ofKind part (liveRows deadline c rows)) ≡ some (record { number = k; row = b })
     found rows k b e h g = rw e (found-from 0 rows b (rw (← e) h) (rw (← e) g) ∙ renumber (0 + first (here part p) rows) (first (here part p) rows) b
         (omega arith))
 
     missing-from : (i : ℕ) (rows : List (Option A)) → length rows ≤ first (here part p) rows
-        → firstOf (λ (n : Numbered B). p (n .row)) (parts part (liveFrom deadline c i rows)) ≡ none
-    unfolding first firstOf liveFrom parts
+        → firstOf (λ (n : Numbered B). p (n .row)) (ofKind part (liveFrom deadline c i rows)) ≡ none
+    unfolding first firstOf liveFrom ofKind
     missing-from i [] h = refl
-    missing-from i (o ∷ rows) h = rw (parts-cons c i o rows) (go (seen c o) refl (here part p o) refl (missing-from (suc i) rows) h)
+    missing-from i (o ∷ rows) h = rw (kind-cons c i o rows) (go (seen c o) refl (here part p o) refl (missing-from (suc i) rows) h)
       where
         go : (x : Option B) → seen c o ≡ x → (y : Bool) → here part p o ≡ y
-            → (length rows ≤ first (here part p) rows → firstOf (λ (n : Numbered B). p (n .row)) (parts part (liveFrom deadline c (suc i) rows))
+            → (length rows ≤ first (here part p) rows → firstOf (λ (n : Numbered B). p (n .row)) (ofKind part (liveFrom deadline c (suc i) rows))
             ≡ none)
             → suc (length rows) ≤ cond y 0 (suc (first (here part p) rows))
-            → firstOf (λ (n : Numbered B). p (n .row)) (asPart i x ++ parts part (liveFrom deadline c (suc i) rows)) ≡ none
+            → firstOf (λ (n : Numbered B). p (n .row)) (atNumber i x ++ ofKind part (liveFrom deadline c (suc i) rows)) ≡ none
         go x q true w r h = absurd (omega arith)
         go none q false w r h = r (omega arith)
         go (some a) q false w r h =
@@ -155,18 +120,18 @@ module _ {A B : Type 0} (deadline : A → Option ℕ) (part : A → Option B) wh
             rw f (r (omega arith))
 
     pub missing : (rows : List (Option A)) (k : ℕ) → k ≡ first (here part p) rows → length rows ≤ k
-        → firstOf (λ (n : Numbered B). p (n .row)) (parts part (liveRows deadline c rows)) ≡ none
+        → firstOf (λ (n : Numbered B). p (n .row)) (ofKind part (liveRows deadline c rows)) ≡ none
     missing rows k e h = missing-from 0 rows (rw (← e) h)
 
     any-from : (i : ℕ) (rows : List (Option A))
-        → any (λ (n : Numbered B). p (n .row)) (parts part (liveFrom deadline c i rows)) ≡ ltb (first (here part p) rows) (length rows)
-    unfolding first any liveFrom parts
+        → any (λ (n : Numbered B). p (n .row)) (ofKind part (liveFrom deadline c i rows)) ≡ ltb (first (here part p) rows) (length rows)
+    unfolding first any liveFrom ofKind
     any-from i [] = refl
-    any-from i (o ∷ rows) = rw (parts-cons c i o rows) (go (seen c o) refl (here part p o) refl (any-from (suc i) rows))
+    any-from i (o ∷ rows) = rw (kind-cons c i o rows) (go (seen c o) refl (here part p o) refl (any-from (suc i) rows))
       where
         go : (x : Option B) → seen c o ≡ x → (y : Bool) → here part p o ≡ y
-            → any (λ (n : Numbered B). p (n .row)) (parts part (liveFrom deadline c (suc i) rows)) ≡ ltb (first (here part p) rows) (length rows)
-            → any (λ (n : Numbered B). p (n .row)) (asPart i x ++ parts part (liveFrom deadline c (suc i) rows))
+            → any (λ (n : Numbered B). p (n .row)) (ofKind part (liveFrom deadline c (suc i) rows)) ≡ ltb (first (here part p) rows) (length rows)
+            → any (λ (n : Numbered B). p (n .row)) (atNumber i x ++ ofKind part (liveFrom deadline c (suc i) rows))
             ≡ ltb (cond y 0 (suc (first (here part p) rows))) (suc (length rows))
         go none q true w r =
             let z : held p (seen c o) ≡ false = rw q in
@@ -180,7 +145,7 @@ module _ {A B : Type 0} (deadline : A → Option ℕ) (part : A → Option B) wh
             rw f (r ∙ sym (leb·suc-suc (suc (first (here part p) rows)) (length rows)))
 
     pub any-found : (rows : List (Option A))
-        → any (λ (n : Numbered B). p (n .row)) (parts part (liveRows deadline c rows)) ≡ ltb (first (here part p) rows) (length rows)
+        → any (λ (n : Numbered B). p (n .row)) (ofKind part (liveRows deadline c rows)) ≡ ltb (first (here part p) rows) (length rows)
     any-found rows = any-from 0 rows
 
 -- ---- the row that was found
@@ -218,7 +183,7 @@ module _ (S : Sort) (p : S .Row → Bool) (t : ℕ) (lives : (b : S .Row) → p 
   keeps : (c : ℕ) → c ≤ t → (a : S .Meaning) (b : S .Row) → S .part a ≡ some b → p b ≡ true → lasts c (S .deadline a) ≡ true
   keeps c h a b e f = rw (S .ended a b e) (lasts-before c t (S .ends b) h (lives b f))
 
-  part-live : (o : Option (S .Meaning)) (b : S .Row) → partOf (S .part) o ≡ some b → p b ≡ true → live (S .deadline) t o ≡ true
+  part-live : (o : Option (S .Meaning)) (b : S .Row) → ofRow (S .part) o ≡ some b → p b ≡ true → live (S .deadline) t o ≡ true
   part-live none b e f = let z : _≡_ {A = ℕ} 0 1 = cc in absurd (omega arith)
   part-live (some a) b e f = keeps t (omega arith) a b e f
 
@@ -231,7 +196,7 @@ module _ (S : Sort) (p : S .Row → Bool) (t : ℕ) (lives : (b : S .Row) → p 
           cond-true (S .is (getD rows k (S .blank))) (p (S .row (getD rows k (S .blank))))
           (sym (sort-here S p (getD rows k (S .blank))) ∙ found-true (S .read) (here (S .part) p) rows k (S .blank) e h)
 
-      sort-part : partOf (S .part) (S .read (getD rows k (S .blank))) ≡ some (S .row (getD rows k (S .blank)))
+      sort-part : ofRow (S .part) (S .read (getD rows k (S .blank))) ≡ some (S .row (getD rows k (S .blank)))
       sort-part = S .parted (getD rows k (S .blank)) ∙ rw (sort-is .0)
 
       pub sort-live : live (S .deadline) t (S .read (getD rows k (S .blank))) ≡ true
@@ -239,17 +204,17 @@ module _ (S : Sort) (p : S .Row → Bool) (t : ℕ) (lives : (b : S .Row) → p 
 
       -- the rules find it among what is live at the clock
       pub sort-found : (clock : ℕ) → clock ≤ t → firstOf (λ (n : Numbered (S .Row)). p (n .row))
-          (parts (S .part) (liveRows (S .deadline) clock (map (S .read) rows))) ≡ some (record { number = k; row = S .row (getD rows k (S .blank)) })
+          (ofKind (S .part) (liveRows (S .deadline) clock (map (S .read) rows))) ≡ some (record { number = k; row = S .row (getD rows k (S .blank)) })
       sort-found clock later =
           found (S .deadline) (S .part) p clock (keeps clock later) (map (S .read) rows) k (S .row (getD rows k (S .blank))) e
           (rw (length-map rows (S .read)) h) (rw (read-at (S .read) rows k (S .blank) none h) sort-part)
 
     pub sort-missing : length rows ≤ k → (clock : ℕ) → clock ≤ t → firstOf (λ (n : Numbered (S .Row)). p (n .row))
-        (parts (S .part) (liveRows (S .deadline) clock (map (S .read) rows))) ≡ none
+        (ofKind (S .part) (liveRows (S .deadline) clock (map (S .read) rows))) ≡ none
     sort-missing h clock later =
         missing (S .deadline) (S .part) p clock (keeps clock later) (map (S .read) rows) k e (rw (length-map rows (S .read)) h)
 
     pub sort-any : (clock : ℕ) → clock ≤ t → any (λ (n : Numbered (S .Row)). p (n .row))
-        (parts (S .part) (liveRows (S .deadline) clock (map (S .read) rows))) ≡ ltb k (length rows)
+        (ofKind (S .part) (liveRows (S .deadline) clock (map (S .read) rows))) ≡ ltb k (length rows)
     sort-any clock later =
         any-found (S .deadline) (S .part) p clock (keeps clock later) (map (S .read) rows) ∙ rw (← e, length-map rows (S .read))

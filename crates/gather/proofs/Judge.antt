@@ -11,12 +11,14 @@ use borrow.Author.Tests.{ltb-false, le-leb, eqb-false}
 use Rattle.plain.specs.Given.{Start}
 use Rattle.plain.specs.Lists.{any, all, onceAfter, once}
 use Rattle.plain.specs.Octets.{sameTarget, mostTargets}
-use Rattle.plain.specs.Answers.{badStart}
+use Rattle.plain.specs.Answers.{longPrefix, shortPrefix, badStart}
 use Rattle.plain.specs.Request.{wholeBits, startTargets}
 use Rattle.plain.specs.declared.Target.{Target}
-use Rattle.lemmas.proofs.Choice.{cond-case, and-both, or-left, or-right}
+use Rattle.lemmas.proofs.Choice.{or-left, or-right}
+use Rattle.lemmas.proofs.Each.{each-true}
+use Rattle.lemmas.proofs.Targets.{start-short}
 use Rattle.gather.specs.declared.Gathering.{Gathering}
-use Rattle.gather.specs.Gathers.{isLong, isShort, Gathers, Judged, Fit}
+use Rattle.gather.specs.Gathers.{Gathers, Judged, Fit}
 
 or-true : (a : Bool) → a || true ≡ true
 or-true true = refl
@@ -43,33 +45,22 @@ pub judged : (g : Gathering) (l compr limit : ℕ) (bad : Bool)
 unfolding badStart startTargets
 judged g l compr limit bad e = record { told = λ c v p q r. e ∙ rw (sizes (c .targets) g v, v .long, p, q, r) }
 
--- no prefix gets longer
-short-after : (earlier ts : List Target) → any isLong ts ≡ false → all isShort (map wholeBits (onceAfter sameTarget earlier ts)) ≡ true
-unfolding any all onceAfter wholeBits
-short-after earlier [] e = refl
-short-after earlier (t ∷ ts) e =
-    let u : any isLong ts ≡ false = or-right (isLong t) (any isLong ts) e in
-    let s : isShort t ≡ true = le-leb (t .plen) 127 (ltb-false 127 (t .plen) (or-left (isLong t) (any isLong ts) e)) in
-    cond-case (λ (us : List Target). all isShort (map wholeBits us) ≡ true) (any (sameTarget t) earlier) (onceAfter sameTarget earlier ts)
-    (t ∷ onceAfter sameTarget (earlier ++ (t ∷ [])) ts) (λ _. short-after earlier ts u)
-    (λ _. and-both (isShort t) _ s (short-after (earlier ++ (t ∷ [])) ts u))
-
 -- what is held of a start that is no bad call
 pub fit : (c : Start) (g : Gathering) → Gathers (c .targets) g → badStart c (startTargets c) ≡ false → Fit c g
 unfolding badStart startTargets
 fit c g v e =
     let T = S (c .targets) g v in
-    let before = eqb (length T) 0 || ltb mostTargets (length T) || any isLong (c .targets) || ltb 3 (c .l) in
+    let before = eqb (length T) 0 || ltb mostTargets (length T) || any longPrefix (c .targets) || ltb 3 (c .l) in
     let three = or-left _ _ (or-left _ _ (or-left _ _ e)) in
     let two = or-left _ _ three in
     let w : g .targets .over ≡ false = v .over ∙ or-right (eqb (length (S (c .targets) g v)) 0) _ two in
     let n : eqb (length (S (c .targets) g v)) 0 ≡ false = or-left _ _ two in
-    let s : any isLong (c .targets) ≡ false = or-right (eqb (length (S (c .targets) g v)) 0 || ltb mostTargets (length (S (c .targets) g v))) _ three in
+    let s : any longPrefix (c .targets) ≡ false = or-right (eqb (length (S (c .targets) g v)) 0 || ltb mostTargets (length (S (c .targets) g v))) _ three in
     record {
       whole = w;
       some = omega (arith, number (c .targets) g v w, eqb-false (length (S (c .targets) g v)) 0 n);
       few = v .few;
       held = v .held w;
-      short = rw (v .held w) (short-after [] (c .targets) s);
+      short = rw (v .held w) (each-true shortPrefix (startTargets c) (start-short c s));
       compr = ltb-false 15 (c .compr) (or-right before (ltb 15 (c .compr)) (or-left (before || ltb 15 (c .compr)) (ltb 127 (c .limit)) e));
     }

@@ -14,10 +14,11 @@ use Rattle.targets.specs.declared.Count.{Count}
 use Rattle.targets.specs.Collected.{noneYet, targetsIn, Collected, Joined}
 use Rattle.targets.proofs.Laws.{none-collected, gathered}
 use Rattle.spare.proofs.Whole.{once-whole}
-use Rattle.gather.specs.Gathers.{isLong, Gathers}
+use Rattle.plain.specs.Answers.{longPrefix}
+use Rattle.gather.specs.Gathers.{Gathers}
 
 pub record Underway (ts rest list : List Target) (c : Count) (long : Bool) : Type 0 where
-  pub prefixes : long || any isLong rest ≡ any isLong ts
+  pub prefixes : long || any longPrefix rest ≡ any longPrefix ts
   pub collected : Collected (once sameTarget (map wholeBits ts)) (map wholeBits rest) (targetsIn list c)
   pub padded : Padded (c .n) list
 
@@ -33,17 +34,17 @@ pub begun : (ts : List Target) → Underway ts (drop 0 ts) (replicate 8 noTarget
 begun ts = record { prefixes = refl; collected = none-collected (map wholeBits ts); padded = refl }
 
 step : (ts rest list after : List Target) (c r : Count) (long : Bool) (t : Target) → Joined c list (wholeBits t) r after
-    → Underway ts (t ∷ rest) list c long → Underway ts rest after r (long || isLong t)
+    → Underway ts (t ∷ rest) list c long → Underway ts rest after r (long || longPrefix t)
 unfolding any
 step ts rest list after c r long t j v = record {
-  prefixes = or-after long (isLong t) (any isLong rest) ∙ v .prefixes;
+  prefixes = or-after long (longPrefix t) (any longPrefix rest) ∙ v .prefixes;
   collected = j .collected _ _ (v .collected);
   padded = j .padded (v .padded);
 }
 
 module _ (ts : List Target) (i : ℕ) (list : List Target) (c : Count) (long : Bool) (v : Underway ts (drop i ts) list c long) where
   pub one-more : (after : List Target) (r : Count) → i < length ts → Joined c list (wholeBits (getD ts i noTarget)) r after
-      → Underway ts (drop (i + 1) ts) after r (long || isLong (getD ts i noTarget))
+      → Underway ts (drop (i + 1) ts) after r (long || longPrefix (getD ts i noTarget))
   one-more after r h j =
       step ts (drop (i + 1) ts) list after c r long (getD ts i noTarget) j (rw (left-at ts i noTarget h) at v)
 

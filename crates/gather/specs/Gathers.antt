@@ -3,23 +3,16 @@ use Prim.Native.Nat.{ℕ, _≤_}
 use mathlib.Core.Path.{_≡_}
 use mathlib.Core.Bool.{Bool, true, false}
 use mathlib.Core.List.{List, map}
-use lib.Dec.{ltb, leb}
+use lib.Dec.{ltb}
 use lib.ListN.{length, take}
 use Rattle.plain.specs.Given.{Start}
 use Rattle.plain.specs.Lists.{any, all, once}
 use Rattle.plain.specs.Octets.{sameTarget, mostTargets}
-use Rattle.plain.specs.Answers.{badStart}
+use Rattle.plain.specs.Answers.{longPrefix, shortPrefix, badStart}
 use Rattle.plain.specs.Blank.{Padded}
 use Rattle.plain.specs.Request.{wholeBits, startTargets}
 use Rattle.plain.specs.declared.Target.{Target}
 use Rattle.gather.specs.declared.Gathering.{Gathering}
-
--- "a target prefix over 127"
-abbrev pub isLong : Target → Bool
-isLong t = ltb 127 (t .plen)
-
-abbrev pub isShort : Target → Bool
-isShort t = leb (t .plen) 127
 
 -- the first `count` of them
 abbrev pub heldIn : Gathering → List Target
@@ -28,7 +21,7 @@ heldIn g = take (g .targets .count) (g .targets .list)
 -- What the targets `ts` that are handed in come to: "A target listed twice in a request or start .. counts once, at its first place; the 8
 -- are counted after that." They are held, with spare bits zero, unless they are over 8. Past those that are held the list is blank.
 pub record Gathers (ts : List Target) (g : Gathering) : Type 0 where
-  pub long : g .long ≡ any isLong ts
+  pub long : g .long ≡ any longPrefix ts
   pub over : g .targets .over ≡ ltb mostTargets (length (map wholeBits (once sameTarget ts)))
   pub few : g .targets .count ≤ mostTargets
   pub room : length (g .targets .list) ≡ mostTargets
@@ -46,5 +39,5 @@ pub record Fit (c : Start) (g : Gathering) : Type 0 where
   pub some : 1 ≤ g .targets .count
   pub few : g .targets .count ≤ mostTargets
   pub held : heldIn g ≡ startTargets c
-  pub short : all isShort (heldIn g) ≡ true
+  pub short : all shortPrefix (heldIn g) ≡ true
   pub compr : c .compr ≤ 15

@@ -6,7 +6,8 @@ use targets::Targets;
 ghost use mathlib.Core.Path.{_≡_};
 ghost use mathlib.Core.Bool.{_||_};
 ghost use Rattle.targets.specs.Collected.{targetsIn};
-ghost use Rattle.gather.specs.Gathers.{isLong, Gathers, Judged};
+ghost use Rattle.plain.specs.Answers.{longPrefix};
+ghost use Rattle.gather.specs.Gathers.{Gathers, Judged};
 
 // What is gathered: the targets, and whether a prefix is over 127.
 pub struct Gathering {
@@ -16,7 +17,7 @@ pub struct Gathering {
 
 // Whether a prefix is over 127, with one more target.
 fn is_long(long: bool, t: Target) -> bool
-    ensures { λ r. ⌜ r ≡ long || isLong t ⌝ }
+    ensures { λ r. ⌜ r ≡ long || longPrefix t ⌝ }
 {
     if long { true } else { 127 < t.plen }
 }

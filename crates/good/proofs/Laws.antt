@@ -11,36 +11,29 @@ use lib.Seq.{take-take, getD-take}
 use borrow.Author.Tests.{le-leb, lt-leb}
 use Rattle.plain.specs.Lists.{all}
 use Rattle.plain.specs.Given.{Instance}
-use Rattle.plain.specs.Answers.{goodDeadline, goodInstance}
+use Rattle.plain.specs.Answers.{shortPrefix, goodIf, goodDeadline, goodInstance}
 use Rattle.plain.specs.declared.Target.{Target}
 use Rattle.lemmas.proofs.Choice.{and-left, and-right, and-both}
+use Rattle.lemmas.proofs.Walk.{all-take}
 use Rattle.row.specs.Meaning.{deadlineOf, targetsOf, requestOf, replyOf, instanceOf}
 use Rattle.row.specs.declared.InstanceRow.{InstanceRow}
 use Rattle.row.proofs.Laws.{length-targets, targets-within, noTarget}
-use Rattle.good.specs.Good.{goodTarget, goodIf}
-
-all-fewer : (p : Target → Bool) (m : ℕ) (ts : List Target) → all p ts ≡ true → all p (take m ts) ≡ true
-unfolding all
-all-fewer p zero ts e = refl
-all-fewer p (suc m) [] e = refl
-all-fewer p (suc m) (x ∷ xs) e =
-    and-both (p x) (all p (take m xs)) (and-left (p x) (all p xs) e) (all-fewer p m xs (and-right (p x) (all p xs) e))
 
 -- of at most four targets, of which the first four are good, each is good
 pub few-good : (count : ℕ) (ts : List Target) → length ts ≡ 8 → count ≤ 4
-    → leb (length (targetsOf 4 ts)) 8 && all goodTarget (targetsOf 4 ts) ≡ true
-    → leb (length (targetsOf count ts)) 8 && all goodTarget (targetsOf count ts) ≡ true
+    → leb (length (targetsOf 4 ts)) 8 && all shortPrefix (targetsOf 4 ts) ≡ true
+    → leb (length (targetsOf count ts)) 8 && all shortPrefix (targetsOf count ts) ≡ true
 few-good count ts eight few g =
-    let four : all goodTarget (take 4 ts) ≡ true =
-    rw (targets-within 4 ts (omega arith)) at (and-right (leb (length (targetsOf 4 ts)) 8) (all goodTarget (targetsOf 4 ts)) g) in
-    let own : all goodTarget (targetsOf count ts) ≡ true =
-    rw (targets-within count ts (omega arith), ← take-take count 4 ts few) (all-fewer goodTarget count (take 4 ts) four) in
-    and-both (leb (length (targetsOf count ts)) 8) (all goodTarget (targetsOf count ts))
+    let four : all shortPrefix (take 4 ts) ≡ true =
+    rw (targets-within 4 ts (omega arith)) at (and-right (leb (length (targetsOf 4 ts)) 8) (all shortPrefix (targetsOf 4 ts)) g) in
+    let own : all shortPrefix (targetsOf count ts) ≡ true =
+    rw (targets-within count ts (omega arith), ← take-take count 4 ts few) (all-take shortPrefix count (take 4 ts) four) in
+    and-both (leb (length (targetsOf count ts)) 8) (all shortPrefix (targetsOf count ts))
     (rw (length-targets count ts) (le-leb count 8 (omega arith))) own
 
 -- such a row with a good deadline is good, whatever its kind
 pub plainly-good : (r : InstanceRow)
-    → leb (length (targetsOf (r .count) (r .targets))) 8 && all goodTarget (targetsOf (r .count) (r .targets)) ≡ true
+    → leb (length (targetsOf (r .count) (r .targets))) 8 && all shortPrefix (targetsOf (r .count) (r .targets)) ≡ true
     → goodDeadline (deadlineOf (r .endless) (r .deadline)) ≡ true → goodIf goodInstance (instanceOf r) ≡ true
 unfolding instanceOf requestOf replyOf goodInstance
 plainly-good r g d = go (eqb (r .kind) 1) (eqb (r .kind) 2)
@@ -48,7 +41,7 @@ plainly-good r g d = go (eqb (r .kind) 1) (eqb (r .kind) 2)
     go : (a b : Bool)
         → goodIf goodInstance (cond a (some (Instance.request (requestOf r))) (cond b (some (Instance.reply (replyOf r))) none)) ≡ true
     go true b =
-        and-both (leb (length (targetsOf (r .count) (r .targets))) 8 && all goodTarget (targetsOf (r .count) (r .targets)))
+        and-both (leb (length (targetsOf (r .count) (r .targets))) 8 && all shortPrefix (targetsOf (r .count) (r .targets)))
         (goodDeadline (deadlineOf (r .endless) (r .deadline))) g d
     go false true = d
     go false false = refl
@@ -56,21 +49,15 @@ plainly-good r g d = go (eqb (r .kind) 1) (eqb (r .kind) 2)
 -- ---- what the loop over targets asks
 
 module _ (count : ℕ) (ts : List Target) (eight : length ts ≡ 8) where
-  pub count-over : 8 < count → leb (length (targetsOf count ts)) 8 && all goodTarget (targetsOf count ts) ≡ false
+  pub count-over : 8 < count → leb (length (targetsOf count ts)) 8 && all shortPrefix (targetsOf count ts) ≡ false
   count-over h = rw (length-targets count ts, lt-leb count 8 h)
 
-  pub count-within : count ≤ 8 → leb (length (targetsOf count ts)) 8 && all goodTarget (targetsOf count ts) ≡ all goodTarget (take count ts)
+  pub count-within : count ≤ 8 → leb (length (targetsOf count ts)) 8 && all shortPrefix (targetsOf count ts) ≡ all shortPrefix (take count ts)
   count-within h = rw (length-targets count ts, le-leb count 8 h, targets-within count ts (omega arith))
 
   -- the target at i is good, where i is below the count
-  pub good-at : (i : ℕ) → i < count → getD ts i noTarget .plen ≤ 127 → goodTarget (getD (take count ts) i noTarget) ≡ true
+  pub good-at : (i : ℕ) → i < count → getD ts i noTarget .plen ≤ 127 → shortPrefix (getD (take count ts) i noTarget) ≡ true
   good-at i h g = rw (getD-take count ts i noTarget h) (le-leb (getD ts i noTarget .plen) 127 g)
 
-  pub bad-at : (i : ℕ) → i < count → 127 < getD ts i noTarget .plen → goodTarget (getD (take count ts) i noTarget) ≡ false
+  pub bad-at : (i : ℕ) → i < count → 127 < getD ts i noTarget .plen → shortPrefix (getD (take count ts) i noTarget) ≡ false
   bad-at i h g = rw (getD-take count ts i noTarget h) (lt-leb (getD ts i noTarget .plen) 127 g)
-
-  pub count-below : (i : ℕ) → i < count → count ≤ 8 → i < length (take count ts)
-  count-below i h k = omega (arith, length-take count ts)
-
-  pub count-past : (i : ℕ) → count ≤ i → length (take count ts) ≤ i
-  count-past i h = omega (arith, length-take count ts)

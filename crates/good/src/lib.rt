@@ -5,9 +5,8 @@ ghost use lib.Dec.{leb};
 ghost use lib.ListN.{length};
 ghost use Rattle.plain.specs.Lists.{all};
 ghost use Rattle.plain.specs.Octets.{mostTargets};
-ghost use Rattle.plain.specs.Answers.{goodDeadline, goodInstance, goodRoute};
+ghost use Rattle.plain.specs.Answers.{shortPrefix, goodIf, goodDeadline, goodInstance, goodRoute};
 ghost use Rattle.row.specs.Meaning.{deadlineOf, targetsOf, instanceOf, routeOf};
-ghost use Rattle.good.specs.Good.{goodTarget, goodIf};
 use plain::Target;
 use row::InstanceRow;
 use row::RouteRow;
@@ -25,7 +24,7 @@ fn is_good_deadline(endless: u8, deadline: u64) -> bool
 }
 
 fn are_good_targets(count: u8, targets: [Target; 8]) -> bool
-    ensures { λ b. ⌜ b ≡ leb (length (targetsOf count targets)) mostTargets && all goodTarget (targetsOf count targets) ⌝ }
+    ensures { λ b. ⌜ b ≡ leb (length (targetsOf count targets)) mostTargets && all shortPrefix (targetsOf count targets) ⌝ }
 {
     if 8 < count {
         return false;
@@ -45,7 +44,7 @@ fn are_good_targets(count: u8, targets: [Target; 8]) -> bool
 // At most four targets, as most rows have, none of them wrong: asked without a branch that goes by the count. Where this is not so,
 // nothing is said.
 fn are_few_good(count: u8, targets: [Target; 8]) -> bool
-    ensures { λ b. ⌜ (b ≡ true → leb (length (targetsOf count targets)) mostTargets && all goodTarget (targetsOf count targets) ≡ true) ⌝ }
+    ensures { λ b. ⌜ (b ≡ true → leb (length (targetsOf count targets)) mostTargets && all shortPrefix (targetsOf count targets) ≡ true) ⌝ }
 {
     if 4 < count {
         return false;

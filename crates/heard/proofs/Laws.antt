@@ -10,20 +10,20 @@ use lib.ListN.{length, take, drop}
 use borrow.Author.Tests.{le-leb, ne-eqb, eqb-true}
 use Rattle.plain.specs.Address.{Address, unusable}
 use Rattle.plain.specs.Given.{Settings, Lent, Received, Event}
-use Rattle.plain.specs.Answers.{Line, answerOf, View, badLent, longMessage, wrongState}
+use Rattle.plain.specs.Answers.{Line, answerOf, View, shortPrefix, badLent, longMessage, wrongState}
 use Rattle.plain.specs.Octets as octets
 use Rattle.plain.specs.Octets.{Opt, Message, optionsOf, ofType, artType, fields, sum, plenOf, targetOf, sameTarget, restored, baseOf, messageOf, malformed, unfit, tooMany, hear}
 use Rattle.plain.specs.Request.{ours}
 use Rattle.plain.specs.Plain.{lines, messageLines}
 use Rattle.plain.specs.declared.Base.{Base}
 use Rattle.plain.specs.declared.Target.{Target}
-use Rattle.memory.proofs.Each.{All, all-each, all-once, all-map, all-true}
+use Rattle.lemmas.proofs.Each.{each-true}
+use Rattle.lemmas.proofs.Targets.{targets-short}
 use Rattle.reader.specs.declared.Reading.{Reading}
 use Rattle.reader.specs.Reading.{refusalNumber, messageRead, heardFrom, Bounded}
 use Rattle.reader.proofs.Part.{part-length}
 use Rattle.message.specs.Message.{messageIn}
 use Rattle.rule.specs.Heard.{Heard}
-use Rattle.writer_option.specs.Sendable.{shortPrefix}
 use Rattle.heard.specs.Parsed.{parsedOf}
 
 -- ---- The vector's part of the octets
@@ -36,7 +36,7 @@ module _ (msg : List ℕ) (r : Reading) (b : Bounded (length msg) r) where
       ≡ restored (r .discovery .compr) (r .base .dodagid) (take (r .size) (drop (r .at) msg))
   vector-is v e =
       let s : r .at + r .size - r .at ≡ r .size = omega arith in
-      rw s at (rw (part-length msg (r .at) (r .size) (b .within)) at e)
+      rw s at (rw (part-length msg r b) at e)
 
 -- ---- What is heard
 
@@ -87,19 +87,6 @@ base-of : (msg : List ℕ) → messageOf msg .base ≡ baseOf msg
 unfolding messageOf
 base-of msg = refl
 
--- Prefix Length has seven bits
-target-short : (body : List ℕ) → shortPrefix (targetOf body) ≡ true
-unfolding targetOf fields sum
-target-short body = le-leb (plenOf body) 127 (omega arith)
-
-targets-short : (msg : List ℕ) → All (λ (t : Target). shortPrefix t ≡ true) (messageOf msg .targets)
-unfolding messageOf
-targets-short msg =
-    let arts : List Opt = ofType artType (optionsOf msg) in
-    all-once (λ (t : Target). shortPrefix t ≡ true) sameTarget [] (map (λ (o : Opt). targetOf (o .body)) arts)
-    (all-map (λ (t : Target). shortPrefix t ≡ true) (λ (o : Opt). targetOf (o .body)) arts
-    (all-each (λ (o : Opt). shortPrefix (targetOf (o .body)) ≡ true) (λ o. target-short (o .body)) arts))
-
 module _ (msg : List ℕ) (r : Reading) (e : heardFrom msg r ≡ hear msg) (z : refusalNumber (r .refusal) ≡ 0) where
   pub message-read : messageRead msg r ≡ messageOf msg
   unfolding heardFrom hear
@@ -129,7 +116,7 @@ module _ (msg : List ℕ) (r : Reading) (e : heardFrom msg r ≡ hear msg) (z : 
     compr = b .compr;
     targets = b .few;
     prefixes =
-        rw (ap (λ (m : Message). m .targets) message-read) (all-true shortPrefix (messageOf msg .targets) (targets-short msg));
+        rw (ap (λ (m : Message). m .targets) message-read) (each-true shortPrefix (messageOf msg .targets) (targets-short msg));
     padded = b .padded;
   }
 

@@ -10,15 +10,16 @@ use borrow.Author.Tests.{eqb-true, eq-eqb}
 use Rattle.plain.specs.Lists.{any, anyTwo, same}
 use Rattle.plain.specs.Given.{RequestRow, ReplyRow, Instance, Route}
 use Rattle.plain.specs.Table.{Numbered, live, liveFrom, liveRows, instanceDeadline, routeDeadline}
-use Rattle.plain.specs.Answers.{requests, replies, requestTwins, replyTwins, routeTwins}
+use Rattle.plain.specs.Answers.{atNumber, ofKind, asRequest, asReply, requests, replies, requestTwins, replyTwins, routeTwins}
 use Rattle.lemmas.proofs.Choice.{true-false, cond-true, cond-false, and-left, and-right}
 use Rattle.lemmas.proofs.Same.{same-equal}
 use Rattle.row.specs.Meaning.{instanceOf, routeOf, requestOf, replyOf, routeIn}
-use Rattle.live.specs.Look.{partOf, held, asRequest, asReply}
+use Rattle.live.specs.Look.{ofRow, held}
 use Rattle.live.proofs.Laws.{request-part, reply-part, route-part}
 use Rattle.row.specs.declared.InstanceRow.{InstanceRow}
 use Rattle.row.specs.declared.RouteRow.{RouteRow}
-use Rattle.first.proofs.Found.{asPart, parts, seen, parts-cons, requests-are, replies-are, routes-are}
+use Rattle.lemmas.proofs.Rules.{every-kind}
+use Rattle.first.proofs.Found.{seen, kind-cons}
 use Rattle.key.specs.Pair.{sameKey, rowTwins, sameThree, routePair, endingOf}
 use Rattle.key.proofs.Any.{or-none, two-same, two-either}
 
@@ -94,31 +95,31 @@ any-never (r ∷ rows) = any-never rows
 
 module _ {R A B : Type 0} (read : R → Option A) (deadline : A → Option ℕ) (part : A → Option B) (c : ℕ) where
   any-seen : (f : B → Bool) (i : ℕ) (rows : List R)
-      → any (λ (n : Numbered B). f (n .row)) (parts part (liveFrom deadline c i (map read rows)))
+      → any (λ (n : Numbered B). f (n .row)) (ofKind part (liveFrom deadline c i (map read rows)))
       ≡ any (λ (r : R). held f (seen deadline part c (read r))) rows
-  unfolding any parts liveFrom
+  unfolding any ofKind liveFrom
   any-seen f i [] = refl
-  any-seen f i (r ∷ rows) = rw (parts-cons deadline part c i (read r) (map read rows)) (go (seen deadline part c (read r)) (any-seen f (suc i) rows))
+  any-seen f i (r ∷ rows) = rw (kind-cons deadline part c i (read r) (map read rows)) (go (seen deadline part c (read r)) (any-seen f (suc i) rows))
     where
       go : (x : Option B)
-          → any (λ (n : Numbered B). f (n .row)) (parts part (liveFrom deadline c (suc i) (map read rows)))
+          → any (λ (n : Numbered B). f (n .row)) (ofKind part (liveFrom deadline c (suc i) (map read rows)))
           ≡ any (λ (r : R). held f (seen deadline part c (read r))) rows
-          → any (λ (n : Numbered B). f (n .row)) (asPart i x ++ parts part (liveFrom deadline c (suc i) (map read rows)))
+          → any (λ (n : Numbered B). f (n .row)) (atNumber i x ++ ofKind part (liveFrom deadline c (suc i) (map read rows)))
           ≡ held f x || any (λ (r : R). held f (seen deadline part c (read r))) rows
       go none e = e
       go (some b) e = rw e
 
   two-seen : (q : B → B → Bool) (i : ℕ) (rows : List R)
-      → anyTwo (λ (n m : Numbered B). q (n .row) (m .row)) (parts part (liveFrom deadline c i (map read rows)))
+      → anyTwo (λ (n m : Numbered B). q (n .row) (m .row)) (ofKind part (liveFrom deadline c i (map read rows)))
       ≡ anyTwo (λ (a b : R). both q (seen deadline part c (read a)) (seen deadline part c (read b))) rows
-  unfolding anyTwo parts liveFrom
+  unfolding anyTwo ofKind liveFrom
   two-seen q i [] = refl
-  two-seen q i (r ∷ rows) = rw (parts-cons deadline part c i (read r) (map read rows)) (go (seen deadline part c (read r)) (two-seen q (suc i) rows))
+  two-seen q i (r ∷ rows) = rw (kind-cons deadline part c i (read r) (map read rows)) (go (seen deadline part c (read r)) (two-seen q (suc i) rows))
     where
       go : (x : Option B)
-          → anyTwo (λ (n m : Numbered B). q (n .row) (m .row)) (parts part (liveFrom deadline c (suc i) (map read rows)))
+          → anyTwo (λ (n m : Numbered B). q (n .row) (m .row)) (ofKind part (liveFrom deadline c (suc i) (map read rows)))
           ≡ anyTwo (λ (a b : R). both q (seen deadline part c (read a)) (seen deadline part c (read b))) rows
-          → anyTwo (λ (n m : Numbered B). q (n .row) (m .row)) (asPart i x ++ parts part (liveFrom deadline c (suc i) (map read rows)))
+          → anyTwo (λ (n m : Numbered B). q (n .row) (m .row)) (atNumber i x ++ ofKind part (liveFrom deadline c (suc i) (map read rows)))
           ≡ any (λ (b : R). both q x (seen deadline part c (read b))) rows
           || anyTwo (λ (a b : R). both q (seen deadline part c (read a)) (seen deadline part c (read b))) rows
       go none e = rw (any-never rows) e
@@ -163,8 +164,8 @@ sameReply a b = eqb (a .instance) (b .instance) && same (a .dodagid) (b .dodagid
 module _ (t : ℕ) (a b : InstanceRow) where
   -- both live: their kinds are 1 or 2
   both-live : (a .kind ≡ 1) ⊎ (a .kind ≡ 2) → (b .kind ≡ 1) ⊎ (b .kind ≡ 2)
-      → both sameRequest (partOf asRequest (instanceOf a)) (partOf asRequest (instanceOf b))
-      || both sameReply (partOf asReply (instanceOf a)) (partOf asReply (instanceOf b))
+      → both sameRequest (ofRow asRequest (instanceOf a)) (ofRow asRequest (instanceOf b))
+      || both sameReply (ofRow asReply (instanceOf a)) (ofRow asReply (instanceOf b))
       ≡ cond (sameKey a b) true false
   unfolding sameKey requestOf replyOf
   both-live (inl e) (inl f) =
@@ -184,12 +185,12 @@ module _ (t : ℕ) (a b : InstanceRow) where
   row-pair = go (live instanceDeadline t (instanceOf a)) refl (live instanceDeadline t (instanceOf b)) refl
     where
       go : (x : Bool) → live instanceDeadline t (instanceOf a) ≡ x → (y : Bool) → live instanceDeadline t (instanceOf b) ≡ y
-          → both sameRequest (cond x (partOf asRequest (instanceOf a)) none) (cond y (partOf asRequest (instanceOf b)) none)
-          || both sameReply (cond x (partOf asReply (instanceOf a)) none) (cond y (partOf asReply (instanceOf b)) none)
+          → both sameRequest (cond x (ofRow asRequest (instanceOf a)) none) (cond y (ofRow asRequest (instanceOf b)) none)
+          || both sameReply (cond x (ofRow asReply (instanceOf a)) none) (cond y (ofRow asReply (instanceOf b)) none)
           ≡ cond (sameKey a b) (cond x y false) false
       go false e y f = sym (cond-false (sameKey a b))
       go true e false f =
-          rw (both-none sameRequest (partOf asRequest (instanceOf a)), both-none sameReply (partOf asReply (instanceOf a)), cond-false (sameKey a b))
+          rw (both-none sameRequest (ofRow asRequest (instanceOf a)), both-none sameReply (ofRow asReply (instanceOf a)), cond-false (sameKey a b))
       go true e true f = both-live (live-kind t a e) (live-kind t b f)
 
 -- "two request rows, two reply rows .. of the same key, both live at the last accepted time"
@@ -198,13 +199,12 @@ pub rows-twins : (t : ℕ) (rows : List InstanceRow)
     ≡ anyTwo requestTwins (requests (liveRows instanceDeadline t (map instanceOf rows)))
     || anyTwo replyTwins (replies (liveRows instanceDeadline t (map instanceOf rows)))
 rows-twins t rows =
-    rw (requests-are (liveRows instanceDeadline t (map instanceOf rows)), replies-are (liveRows instanceDeadline t (map instanceOf rows)))
-    (sym (rw (two-seen instanceOf instanceDeadline asRequest t sameRequest 0 rows, two-seen instanceOf instanceDeadline asReply t sameReply 0 rows)
+    sym (rw (two-seen instanceOf instanceDeadline asRequest t sameRequest 0 rows, two-seen instanceOf instanceDeadline asReply t sameReply 0 rows)
     (two-either
     (λ (a b : InstanceRow). both sameRequest (seen instanceDeadline asRequest t (instanceOf a)) (seen instanceDeadline asRequest t (instanceOf b)))
     (λ (a b : InstanceRow). both sameReply (seen instanceDeadline asReply t (instanceOf a)) (seen instanceDeadline asReply t (instanceOf b)))
     rows
-    ∙ two-same _ (rowTwins t) (row-pair t) rows)))
+    ∙ two-same _ (rowTwins t) (row-pair t) rows))
 
 -- ---- routes
 
@@ -212,7 +212,7 @@ abbrev sameRoute : Route → Route → Bool
 sameRoute a b = same (a .source) (b .source) && same (a .destination) (b .destination) && eqb (a .instance) (b .instance)
 
 module _ (t : ℕ) (a b : RouteRow) where
-  both-live-routes : a .kind ≡ 1 → b .kind ≡ 1 → both sameRoute (partOf some (routeOf a)) (partOf some (routeOf b)) ≡ cond (sameThree a b) true false
+  both-live-routes : a .kind ≡ 1 → b .kind ≡ 1 → both sameRoute (ofRow some (routeOf a)) (ofRow some (routeOf b)) ≡ cond (sameThree a b) true false
   unfolding sameThree routeIn
   both-live-routes e f =
       rw (route-part a, route-part b, e, f)
@@ -223,14 +223,14 @@ module _ (t : ℕ) (a b : RouteRow) where
   route-pair = go (live routeDeadline t (routeOf a)) refl (live routeDeadline t (routeOf b)) refl
     where
       go : (x : Bool) → live routeDeadline t (routeOf a) ≡ x → (y : Bool) → live routeDeadline t (routeOf b) ≡ y
-          → both sameRoute (cond x (partOf some (routeOf a)) none) (cond y (partOf some (routeOf b)) none)
+          → both sameRoute (cond x (ofRow some (routeOf a)) none) (cond y (ofRow some (routeOf b)) none)
           ≡ cond (sameThree a b) (cond x y false) false
       go false e y f = sym (cond-false (sameThree a b))
-      go true e false f = rw (both-none sameRoute (partOf some (routeOf a)), cond-false (sameThree a b))
+      go true e false f = rw (both-none sameRoute (ofRow some (routeOf a)), cond-false (sameThree a b))
       go true e true f = both-live-routes (live-route t a e) (live-route t b f)
 
 -- ".. or two routes of the same key, both live at the last accepted time"
 pub routes-twins : (t : ℕ) (routes : List RouteRow) → anyTwo (routePair t) routes ≡ anyTwo routeTwins (liveRows routeDeadline t (map routeOf routes))
 routes-twins t routes =
-    rw (routes-are (liveRows routeDeadline t (map routeOf routes)))
+    rw (every-kind (liveRows routeDeadline t (map routeOf routes)))
     (sym (two-seen routeOf routeDeadline some t sameRoute 0 routes ∙ two-same _ (routePair t) (route-pair t) routes))

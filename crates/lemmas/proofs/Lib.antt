@@ -2,5 +2,8 @@ pub mod Cases
 pub mod Choice
 pub mod Buffer
 pub mod Walk
+pub mod Front
 pub mod Same
+pub mod Each
 pub mod Rules
+pub mod Targets

@@ -1,25 +1,37 @@
 -- Facts of the plain node's definitions that crates use which do not see each other.
 use Prim.Native.Nat.{ℕ, _+_, _/_, _<_, _≤_}
-use mathlib.Core.Path.{_≡_, refl}
+use mathlib.Core.Path.{_≡_, refl, ap}
 use mathlib.Core.Bool.{Bool, true, false, cond}
-use mathlib.Core.List.{List, _∷_}
+use mathlib.Core.List.{List, [], _∷_}
 use mathlib.Core.Option.{Option, some, none}
 use native.Mathlib.Omega.{arith}
 use lib.Dec.{eqb}
 use borrow.Author.Tests.{ltb-true, lt-ltb}
-use Rattle.plain.specs.Answers.{Line, answerOf}
+use Rattle.plain.specs.Answers.{Line, answerOf, ofKind}
+use Rattle.plain.specs.Address.{keepBits}
 use Rattle.plain.specs.Octets.{prefixOctets}
-use Rattle.plain.specs.Table.{lasts}
+use Rattle.plain.specs.Table.{Numbered, lasts}
 use Rattle.lemmas.proofs.Choice.{cond-case}
 
 -- a prefix has no more octets than an address
 pub most-octets : (plen : ℕ) → plen < 128 → prefixOctets plen ≤ 16
 most-octets plen h = cond-case (λ (b : ℕ). (b + 7) / 8 ≤ 16) (eqb plen 0) 128 plen (λ _. omega arith) (λ _. omega arith)
 
+-- no bit of an octet
+pub keep-none : (x : ℕ) → x < 256 → keepBits 0 x ≡ 0
+unfolding keepBits
+keep-none x h = omega arith
+
 -- what is live at a time was live before
 pub lasts-before : (c t : ℕ) (d : Option ℕ) → c ≤ t → lasts t d ≡ true → lasts c d ≡ true
 lasts-before c t none h e = refl
 lasts-before c t (some d) h e = lt-ltb c d (omega (arith, ltb-true t d e))
+
+-- where each row is of the kind, the rows of the kind are all
+pub every-kind : {A : Type 0} (ns : List (Numbered A)) → ns ≡ ofKind some ns
+unfolding ofKind
+every-kind [] = refl
+every-kind (n ∷ ns) = ap (λ zs. n ∷ zs) (every-kind ns)
 
 -- an answer 0: a line of another number does not hold
 pub unheld : (l : Line) (ls : List Line) → answerOf (l ∷ ls) ≡ 0 → 0 < l .number → (l .holds ≡ false) × (answerOf ls ≡ 0)

@@ -1,13 +1,15 @@
 -- Loops over a list from its front: what is said of the whole list is said of what is left of it at i.
-use Prim.Native.Nat.{ℕ, _+_, _<_, _≤_}
-use mathlib.Core.Path.{_≡_, _∙_}
+use Prim.Native.Nat.{ℕ, zero, suc, _+_, _<_, _≤_}
+use mathlib.Core.Path.{_≡_, refl, _∙_}
 use mathlib.Core.Bool.{Bool, true, false}
-use mathlib.Core.List.{List, _∷_}
+use mathlib.Core.List.{List, [], _∷_, map}
+use native.Mathlib.Omega.{arith}
 use native.Mathlib.Numerals.{add-one}
 use lib.Dec.{eqb}
-use lib.ListN.{length, getD, drop, drop-of-length-le}
+use lib.ListN.{length, getD, take, drop, drop-of-length-le}
 use lib.Seq.{drop-cons}
 use Rattle.plain.specs.Lists.{any, all, same}
+use Rattle.lemmas.proofs.Choice.{and-left, and-right, and-both}
 
 -- what is left at i is the element there and what is left at i + 1
 pub left-at : {A : Type 0} (xs : List A) (i : ℕ) (d : A) → i < length xs → drop i xs ≡ getD xs i d ∷ drop (i + 1) xs
@@ -27,18 +29,36 @@ module _ {A : Type 0} (p : A → Bool) (d : A) where
   unfolding any
   any-end xs i v h = v ∙ rw (drop-of-length-le xs {i = i} h)
 
-  pub all-miss : (xs : List A) (i : ℕ) → all p xs ≡ all p (drop i xs) → i < length xs → p (getD xs i d) ≡ false → all p xs ≡ false
+  pub all-miss : {b : Bool} (xs : List A) (i : ℕ) → b ≡ all p (drop i xs) → i < length xs → p (getD xs i d) ≡ false → b ≡ false
   unfolding all
   all-miss xs i v h e = v ∙ rw (left-at xs i d h, e)
 
-  pub all-hit : (xs : List A) (i : ℕ) → all p xs ≡ all p (drop i xs) → i < length xs → p (getD xs i d) ≡ true
-      → all p xs ≡ all p (drop (i + 1) xs)
+  pub all-hit : {b : Bool} (xs : List A) (i : ℕ) → b ≡ all p (drop i xs) → i < length xs → p (getD xs i d) ≡ true
+      → b ≡ all p (drop (i + 1) xs)
   unfolding all
   all-hit xs i v h e = v ∙ rw (left-at xs i d h, e)
 
-  pub all-end : (xs : List A) (i : ℕ) → all p xs ≡ all p (drop i xs) → length xs ≤ i → all p xs ≡ true
+  pub all-end : {b : Bool} (xs : List A) (i : ℕ) → b ≡ all p (drop i xs) → length xs ≤ i → b ≡ true
   unfolding all
   all-end xs i v h = v ∙ rw (drop-of-length-le xs {i = i} h)
+
+  -- each of them is so: the one at i, and those before n
+  pub all-at : (xs : List A) (i : ℕ) → i < length xs → all p xs ≡ true → p (getD xs i d) ≡ true
+  unfolding all
+  all-at [] i h e = absurd (omega arith)
+  all-at (x ∷ xs) zero h e = and-left (p x) (all p xs) e
+  all-at (x ∷ xs) (suc i) h e = all-at xs i (omega arith) (and-right (p x) (all p xs) e)
+
+pub all-take : {A : Type 0} (p : A → Bool) (n : ℕ) (xs : List A) → all p xs ≡ true → all p (take n xs) ≡ true
+unfolding all
+all-take p zero xs e = refl
+all-take p (suc n) [] e = refl
+all-take p (suc n) (x ∷ xs) e = and-both (p x) (all p (take n xs)) (and-left (p x) (all p xs) e) (all-take p n xs (and-right (p x) (all p xs) e))
+
+pub all-map : {A B : Type 0} (p : B → Bool) (f : A → B) (xs : List A) → all p (map f xs) ≡ all (λ (x : A). p (f x)) xs
+unfolding all
+all-map p f [] = refl
+all-map p f (x ∷ xs) = rw (all-map p f xs)
 
 -- two lists side by side
 pub same-miss : (xs ys : List ℕ) (i : ℕ) → same xs ys ≡ same (drop i xs) (drop i ys) → i < length xs → i < length ys

@@ -16,27 +16,28 @@ use Rattle.row.specs.Record.{bitOf}
 use Rattle.row.specs.declared.InstanceRow.{InstanceRow}
 use Rattle.row.specs.declared.RouteRow.{RouteRow}
 use Rattle.row.proofs.Laws.{flag-bit}
-use Rattle.live.specs.Look.{partOf, held, here, asRequest, asReply}
+use Rattle.live.specs.Look.{ofRow, held, here}
+use Rattle.plain.specs.Answers.{asRequest, asReply}
 
 -- ---- kinds
 
-pub request-part : (r : InstanceRow) → partOf asRequest (instanceOf r) ≡ cond (eqb (r .kind) 1) (some (requestOf r)) none
+pub request-part : (r : InstanceRow) → ofRow asRequest (instanceOf r) ≡ cond (eqb (r .kind) 1) (some (requestOf r)) none
 unfolding instanceOf
 request-part r = go (eqb (r .kind) 1) (eqb (r .kind) 2)
   where
     go : (a b : Bool)
-        → partOf asRequest (cond a (some (Instance.request (requestOf r))) (cond b (some (Instance.reply (replyOf r))) none))
+        → ofRow asRequest (cond a (some (Instance.request (requestOf r))) (cond b (some (Instance.reply (replyOf r))) none))
         ≡ cond a (some (requestOf r)) none
     go true b = refl
     go false true = refl
     go false false = refl
 
-pub reply-part : (r : InstanceRow) → partOf asReply (instanceOf r) ≡ cond (eqb (r .kind) 2) (some (replyOf r)) none
+pub reply-part : (r : InstanceRow) → ofRow asReply (instanceOf r) ≡ cond (eqb (r .kind) 2) (some (replyOf r)) none
 unfolding instanceOf
 reply-part r = go (eqb (r .kind) 1) refl (eqb (r .kind) 2) refl
   where
     go : (a : Bool) → eqb (r .kind) 1 ≡ a → (b : Bool) → eqb (r .kind) 2 ≡ b
-        → partOf asReply (cond a (some (Instance.request (requestOf r))) (cond b (some (Instance.reply (replyOf r))) none))
+        → ofRow asReply (cond a (some (Instance.request (requestOf r))) (cond b (some (Instance.reply (replyOf r))) none))
         ≡ cond b (some (replyOf r)) none
     go true e true f =
         let one : r .kind ≡ 1 = eqb-true (r .kind) 1 e in
@@ -46,11 +47,11 @@ reply-part r = go (eqb (r .kind) 1) refl (eqb (r .kind) 2) refl
     go false e true f = refl
     go false e false f = refl
 
-pub route-part : (r : RouteRow) → partOf some (routeOf r) ≡ cond (eqb (r .kind) 1) (some (routeIn r)) none
+pub route-part : (r : RouteRow) → ofRow some (routeOf r) ≡ cond (eqb (r .kind) 1) (some (routeIn r)) none
 unfolding routeOf
 route-part r = go (eqb (r .kind) 1)
   where
-    go : (a : Bool) → partOf some (cond a (some (routeIn r)) none) ≡ cond a (some (routeIn r)) none
+    go : (a : Bool) → ofRow some (cond a (some (routeIn r)) none) ≡ cond a (some (routeIn r)) none
     go true = refl
     go false = refl
 
@@ -71,7 +72,7 @@ pub record Sort : Type 1 where
   -- the same told of the record
   pub is : Record → Bool
   pub row : Record → Row
-  pub parted : (r : Record) → partOf part (read r) ≡ cond (is r) (some (row r)) none
+  pub parted : (r : Record) → ofRow part (read r) ≡ cond (is r) (some (row r)) none
 
 pub request-ended : (a : Instance) (b : RequestRow) → asRequest a ≡ some b → instanceDeadline a ≡ b .deadline
 request-ended (Instance.request r) b e = let g : r ≡ b = cc in rw g

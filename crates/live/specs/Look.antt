@@ -3,13 +3,13 @@ use Prim.Native.Nat.{ℕ}
 use mathlib.Core.Bool.{Bool, false}
 use mathlib.Core.Option.{Option, some, none}
 use Rattle.plain.specs.Address.{Address}
-use Rattle.plain.specs.Given.{RequestRow, ReplyRow, Instance, Route}
-use Rattle.plain.specs.Answers.{requestFor, replyFor, routeFor}
+use Rattle.plain.specs.Given.{Instance, Route}
+use Rattle.plain.specs.Answers.{asRequest, asReply, requestFor, replyFor, routeFor}
 
 -- the part of a row that is asked for: it is in use, and of the kind
-abbrev pub partOf : {A B : Type 0} → (A → Option B) → Option A → Option B
-partOf part none = none
-partOf part (some a) = part a
+abbrev pub ofRow : {A B : Type 0} → (A → Option B) → Option A → Option B
+ofRow part none = none
+ofRow part (some a) = part a
 
 -- it is there, and is so
 abbrev pub held : {B : Type 0} → (B → Bool) → Option B → Bool
@@ -18,15 +18,7 @@ held p (some b) = p b
 
 -- a row of the kind that is so
 unfoldable pub here : {A B : Type 0} → (A → Option B) → (B → Bool) → Option A → Bool
-here part p row = held p (partOf part row)
-
-abbrev pub asRequest : Instance → Option RequestRow
-asRequest (Instance.request r) = some r
-asRequest (Instance.reply r) = none
-
-abbrev pub asReply : Instance → Option ReplyRow
-asReply (Instance.request r) = none
-asReply (Instance.reply r) = some r
+here part p row = held p (ofRow part row)
 
 -- "Row key: RPLInstanceID and DODAGID. With a live row ..": a request row of that key, live at t
 abbrev pub requestHere : ℕ → ℕ → Address → Option Instance → Bool

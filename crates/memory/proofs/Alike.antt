@@ -8,27 +8,19 @@ use mathlib.Core.Logic.{_⊎_, inl, inr}
 use native.Mathlib.Omega.{arith}
 use lib.ListN.{length, replicate}
 use Rattle.plain.specs.Table.{Numbered, live, liveFrom, spare, placedFrom}
-use Rattle.plain.specs.Answers.{allGood}
+use Rattle.plain.specs.Answers.{goodIf, allGood}
+use Rattle.plain.specs.Lists.{all}
+use Rattle.lemmas.specs.Each.{Each}
+use Rattle.lemmas.proofs.Each.{each-weaken}
 use Rattle.memory.proofs.Tables.{shown, live-front, dead-shows, kept, placed-rest, placed-live, placed-dead, kept-dead, dead-later}
-
--- a row that is not in use, or is good
-abbrev pub goodRow : {A : Type 0} → (A → Bool) → Option A → Bool
-goodRow good none = true
-goodRow good (some r) = good r
-
-good-front : {A : Type 0} (good : A → Bool) (r : Option A) (rows : List (Option A)) → allGood good (r ∷ rows) ≡ goodRow good r && allGood good rows
-unfolding allGood
-good-front good none rows = refl
-good-front good (some r) rows = refl
 
 module _ {A : Type 0} (deadline : A → Option ℕ) (good : A → Bool) where
   -- neither live nor wrong
   abbrev pub Spent : ℕ → Option A → Type 0
-  Spent t r = (live deadline t r ≡ false) × (goodRow good r ≡ true)
+  Spent t r = (live deadline t r ≡ false) × (goodIf good r ≡ true)
 
   abbrev pub AllSpent : ℕ → List (Option A) → Type 0
-  AllSpent t [] = Unit {0}
-  AllSpent t (b ∷ bs) = Spent t b × AllSpent t bs
+  AllSpent t bs = Each (Spent t) bs
 
   -- the same row, or two that are spent
   abbrev pub RowAlike : ℕ → Option A → Option A → Type 0
@@ -59,17 +51,17 @@ module _ {A : Type 0} (deadline : A → Option ℕ) (good : A → Bool) where
       go (inr e) = rw (dead-shows deadline t i a (e .0 .0), dead-shows deadline t i b (e .1 .0))
 
   spent-good : (t : ℕ) (bs : List (Option A)) → AllSpent t bs → allGood good bs ≡ true
-  unfolding allGood
+  unfolding all
   spent-good t [] d = refl
-  spent-good t (b ∷ bs) d = rw (good-front good b bs, d .0 .1) (spent-good t bs (d .1))
+  spent-good t (b ∷ bs) d = rw (d .0 .1) (spent-good t bs (d .1))
 
   pub same-good : (t : ℕ) (rows bs : List (Option A)) → Alike t rows bs → allGood good rows ≡ allGood good bs
-  unfolding allGood
+  unfolding all
   same-good t [] bs d = sym (spent-good t bs d)
   same-good t (a ∷ rows) [] d = absurd d
-  same-good t (a ∷ rows) (b ∷ bs) d = rw (good-front good a rows, good-front good b bs, same-good t rows bs (d .1)) (go (d .0))
+  same-good t (a ∷ rows) (b ∷ bs) d = rw (same-good t rows bs (d .1)) (go (d .0))
     where
-      go : RowAlike t a b → goodRow good a && allGood good bs ≡ goodRow good b && allGood good bs
+      go : RowAlike t a b → goodIf good a && allGood good bs ≡ goodIf good b && allGood good bs
       go (inl e) = rw e
       go (inr e) = rw (e .0 .1, e .1 .1)
 
@@ -146,12 +138,8 @@ module _ {A : Type 0} (deadline : A → Option ℕ) (good : A → Bool) where
   spent-later : (t u : ℕ) (r : Option A) → t ≤ u → Spent t r → Spent u r
   spent-later t u r h d = (dead-later deadline t u r h (d .0), d .1)
 
-  all-spent-later : (t u : ℕ) (bs : List (Option A)) → t ≤ u → AllSpent t bs → AllSpent u bs
-  all-spent-later t u [] h d = tt
-  all-spent-later t u (b ∷ bs) h d = (spent-later t u b h (d .0), all-spent-later t u bs h (d .1))
-
   pub alike-later : (t u : ℕ) (rows bs : List (Option A)) → t ≤ u → Alike t rows bs → Alike u rows bs
-  alike-later t u [] bs h d = all-spent-later t u bs h d
+  alike-later t u [] bs h d = each-weaken (Spent t) (Spent u) (λ b. spent-later t u b h) bs d
   alike-later t u (a ∷ rows) [] h d = absurd d
   alike-later t u (a ∷ rows) (b ∷ bs) h d = (go (d .0), alike-later t u rows bs h (d .1))
     where

@@ -10,7 +10,7 @@ use borrow.Author.Tests.{eqb-true, eq-eqb, not-false}
 use Rattle.plain.specs.Lists.{same, given, firstOf}
 use Rattle.plain.specs.Given.{Settings, Lent, Received, Start, Event, RequestRow, ReplyRow, Instance, Route, State}
 use Rattle.plain.specs.Table.{Numbered, Change, put, lasts, instanceDeadline, routeDeadline}
-use Rattle.plain.specs.Answers.{answerOf, viewOf, asReply, replies, routeFor, liveRequest, liveRoute}
+use Rattle.plain.specs.Answers.{answerOf, viewOf, asReply, ofKind, replies, routeFor, liveRequest, liveRoute}
 use Rattle.plain.specs.Octets.{Message, messageOf}
 use Rattle.plain.specs.Rank.{stepped}
 use Rattle.plain.specs.Request.{Asked, Accepted, rowOfRequest, leastDelta, deltaTaken, freeDelta, askedWith, asked, repliesNow, requestLines, requestRow, ownReplyRow, routeRow, routeChange, withReplyRow, deltaOr0, acceptRequest, startTargets, startLines, startRow, acceptStart}
@@ -19,8 +19,9 @@ use Rattle.plain.specs.Plain.{linesWith, messageLines, lines, acceptWith, accep
 use Rattle.plain.specs.declared.Target.{Target}
 use Rattle.lemmas.proofs.Choice.{true-false, and-left, and-right, and-both}
 use Rattle.lemmas.proofs.Same.{same-equal}
-use Rattle.lemmas.proofs.Rules.{unheld}
-use Rattle.memory.proofs.Each.{All, any-none, picked}
+use Rattle.lemmas.proofs.Rules.{unheld, every-kind}
+use Rattle.lemmas.specs.Each.{Each}
+use Rattle.lemmas.proofs.Each.{any-none}
 use Rattle.memory.proofs.Tables.{Rows}
 use Rattle.memory.proofs.Lines.{heard, begun}
 use Rattle.memory.proofs.Keys.{Key, instanceKey, routeKey, key-path, eq-same, Other, Keyed, Tells, none-kept, new-more, free-found, put-keyed}
@@ -28,17 +29,8 @@ use Rattle.memory.proofs.Kind.{Kind, requestKind, replyKind, other-kind
 
 -- ---- The tests by which rows are looked for tell their keys
 
--- each route is picked
-abbrev asRoute : ℕ → Route → List (Numbered Route)
-asRoute i r = record { number = i; row = r } ∷ []
-
-routes-picked : (ns : List (Numbered Route)) → ns ≡ picked asRoute ns
-unfolding picked
-routes-picked [] = refl
-routes-picked (n ∷ ns) = ap (λ (rest : List (Numbered Route)). n ∷ rest) (routes-picked ns)
-
 tells-route : (t : ℕ) (q : Route)
-    → Tells routeDeadline routeKey asRoute (λ (n : Numbered Route). routeFor t (q .source) (q .destination) (q .instance) (n .row)) q t
+    → Tells routeDeadline routeKey some (λ (n : Numbered Route). routeFor t (q .source) (q .destination) (q .instance) (n .row)) q t
 tells-route t q = record { hit = λ i r. ((refl, hit r), tt); miss = λ i r k. miss r (k .0) }
   where
     hit : (r : Route) → routeFor t (q .source) (q .destination) (q .instance) r ≡ true → routeKey q ≡ routeKey r
@@ -74,15 +66,14 @@ module _ (s : State) (t : ℕ) (h : s .clock ≤ t) where
   abbrev pub KeysApart : Accepted → Type 0
   KeysApart a = Instances (a .instances) × Routes (a .routes)
 
-  kind-put : (K : Kind) (q : K .Row) → Instances (put (firstOf (rowFor K t q) (K .every (viewOf s .instances))) (K .whole q))
+  kind-put : (K : Kind) (q : K .Row) → Instances (put (firstOf (rowFor K t q) (ofKind (K .part) (viewOf s .instances))) (K .whole q))
   kind-put K q =
-      rw (K .every-are (viewOf s .instances))
-      (put-keyed instanceDeadline instanceKey (K .pick) (rowFor K t q) (K .whole q) (s .clock) t (s .instances) (tells K t q) h)
+      put-keyed instanceDeadline instanceKey (K .part) (rowFor K t q) (K .whole q) (s .clock) t (s .instances) (tells K t q) h
 
   route-put : (q : Route) → Routes (put (liveRoute (viewOf s) t (q .source) (q .destination) (q .instance)) q)
   route-put q =
-      rw (routes-picked (viewOf s .routes))
-      (put-keyed routeDeadline routeKey asRoute (λ (n : Numbered Route). routeFor t (q .source) (q .destination) (q .instance) (n .row)) q
+      rw (every-kind (viewOf s .routes))
+      (put-keyed routeDeadline routeKey some (λ (n : Numbered Route). routeFor t (q .source) (q .destination) (q .instance) (n .row)) q
       (s .clock) t (s .routes) (tells-route t q) h)
 
   route-change : (b : Bool) (q : Route) → Routes (routeChange b (liveRoute (viewOf s) t (q .source) (q .destination) (q .instance)) q)
@@ -124,11 +115,11 @@ module _ (s : State) (t : ℕ) (h : s .clock ≤ t) where
   own-free x own m (some d) e k =
       let q : ReplyRow = ownReplyRow x t own m d in
       free-found instanceDeadline instanceKey asReply (rowFor replyKind t q) (Instance.reply q) (s .clock) t (s .instances) (tells replyKind t q) h
-      (rw (replyKind .every-are (viewOf s .instances)) at (any-none (rowFor replyKind t q) (replies (viewOf s .instances)) k))
+      (any-none (rowFor replyKind t q) (replies (viewOf s .instances)) k)
 
   -- the new rows of a request row put are request rows
   put-kind : {B : Type 0} (o : Option (Numbered B)) (q : RequestRow) (r : ReplyRow)
-      → All (λ (n : Instance). instanceKey (Instance.reply r) ≡ instanceKey n → ⊥) (put o (Instance.request q) .new)
+      → Each (λ (n : Instance). instanceKey (Instance.reply r) ≡ instanceKey n → ⊥) (put o (Instance.request q) .new)
   put-kind none q r = (other-kind (instanceKey (Instance.reply r)) (instanceKey (Instance.request q)) (omega arith), tt)
   put-kind (some n) q r = tt
 

@@ -14,34 +14,24 @@ use Rattle.plain.specs.Lists.{any, once}
 use Rattle.plain.specs.Address.{Address}
 use Rattle.plain.specs.Given.{Settings, Lent, Received, Start, Event, RequestRow, ReplyRow, Instance, Route}
 use Rattle.plain.specs.Table.{Numbered, Change, put}
-use Rattle.plain.specs.Answers.{answerOf, View, requestFor, replyFor, liveReply, requests, replies, badStart, goodDeadline, goodInstance, goodRoute}
+use Rattle.plain.specs.Answers.{answerOf, View, shortPrefix, requestFor, replyFor, liveReply, requests, replies, badStart, goodDeadline, goodInstance, goodRoute}
 use Rattle.plain.specs.Octets.{Opt, Message, optionsIn, nextOption, sized, followedBy, ofType, optionsOf, configurationType, configurationOf, defaultLifetime, lifetimeUnit, fields, sum, artType, plenOf, targetOf, sameTarget, messageOf, tooMany, mostAddresses, mostTargets}
 use Rattle.plain.specs.Rank.{stepped, rowDeadline, lifetimeDeadline}
 use Rattle.plain.specs.Request.{Accepted, rowOfRequest, routeOfRequest, askedWith, asked, repliesNow, deltaOr0, matchesUs, common, rowTargets, isUpdate, targetsKept, keptDeadline, requestRow, ownReplyRow, routeRow, routeChange, withReplyRow, acceptRequest, wholeBits, startTargets, startRow, acceptStart}
-use Rattle.plain.specs.Reply.{origNode, destSeq, partnerNumber, answeredWith, answered, partnerOf, keptReplyDeadline, replyRow, acceptReply}
+use Rattle.plain.specs.Reply.{origNode, destSeq, partnerNumber, answeredWith, answered, partnerOf, replyRow, acceptReply}
 use Rattle.plain.specs.Plain.{lines, acceptWith, acceptMessage, accept}
 use Rattle.plain.specs.declared.Target.{Target}
 use Rattle.plain.specs.declared.Standing.{Standing}
 use Rattle.lemmas.proofs.Choice.{cond-case, or-right}
 use Rattle.memory.specs.Facts.{ProperEvent}
-use Rattle.memory.proofs.Each.{All, all-each, all-weaken, all-append, all-those, all-once, all-map, found-case, all-true, any-none, those-less}
+use Rattle.lemmas.specs.Each.{Each, Octets}
+use Rattle.lemmas.proofs.Targets.{Short, targets-short, start-short}
+use Rattle.lemmas.proofs.Each.{each-always, each-weaken, each-append, each-those, each-once, each-map, each-take, each-drop, octet-lt, found-case, each-true, any-none, those-less}
 use Rattle.memory.proofs.Tables.{Writes}
 use Rattle.memory.proofs.Kind.{requestKind, replyKind, Lasts, found-lasts}
 use Rattle.memory.proofs.Lines.{none-of-six, heard, begun, accepted-time}
 
 -- ---- Octets
-
-abbrev Octets : List ℕ → Type 0
-Octets xs = (i : ℕ) → getD xs i 0 < 256
-
-take-octets : (n : ℕ) (xs : List ℕ) → Octets xs → Octets (take n xs)
-take-octets zero xs o i = omega arith
-take-octets (suc n) [] o i = omega arith
-take-octets (suc n) (x ∷ xs) o zero = o 0
-take-octets (suc n) (x ∷ xs) o (suc i) = take-octets n xs (λ k. o (suc k)) i
-
-drop-octets : (n : ℕ) (xs : List ℕ) → Octets xs → Octets (drop n xs)
-drop-octets n xs o i = rw (getD-drop n xs i 0) (o (n + i))
 
 -- the bodies of options
 abbrev Body : Opt → Type 0
@@ -49,7 +39,7 @@ Body o = Octets (o .body)
 
 abbrev Bodies : Option (List Opt) → Type 0
 Bodies none = Unit {0}
-Bodies (some os) = All Body os
+Bodies (some os) = Each Body os
 
 followed-octets : (o : Opt) (os : Option (List Opt)) → Body o → Bodies os → Bodies (followedBy o os)
 followed-octets o none h k = tt
@@ -61,30 +51,30 @@ sized-octets rest kind [] f o = tt
 sized-octets rest kind (size ∷ xs) f o =
     let read : Opt = record { kind = kind; body = take size xs } in
     cond-case Bodies (leb size (length xs)) (followedBy read (rest (drop size xs))) none
-    (λ e. followed-octets read (rest (drop size xs)) (take-octets size xs (λ i. o (suc i))) (f (drop size xs) (drop-octets size xs (λ i. o (suc i)))))
+    (λ e. followed-octets read (rest (drop size xs)) (each-take (λ x. x < 256) size xs (o .1)) (f (drop size xs) (each-drop (λ x. x < 256) size xs (o .1))))
     (λ e. tt)
 
 next-octets : (rest : List ℕ → Option (List Opt)) (xs : List ℕ) → ((ys : List ℕ) → Octets ys → Bodies (rest ys)) → Octets xs
     → Bodies (nextOption rest xs)
 next-octets rest [] f o = tt
 next-octets rest (kind ∷ xs) f o =
-    cond-case Bodies (eqb kind 0) (rest xs) (sized rest kind xs) (λ e. f xs (λ i. o (suc i))) (λ e. sized-octets rest kind xs f (λ i. o (suc i)))
+    cond-case Bodies (eqb kind 0) (rest xs) (sized rest kind xs) (λ e. f xs (o .1)) (λ e. sized-octets rest kind xs f (o .1))
 
 options-octets : (n : ℕ) (xs : List ℕ) → Octets xs → Bodies (optionsIn n xs)
 unfolding optionsIn
 options-octets zero xs o = tt
 options-octets (suc n) xs o = next-octets (optionsIn n) xs (options-octets n) o
 
-type-octets : (kind : ℕ) (os : Option (List Opt)) → Bodies os → All Body (ofType kind os)
+type-octets : (kind : ℕ) (os : Option (List Opt)) → Bodies os → Each Body (ofType kind os)
 type-octets kind none h = tt
-type-octets kind (some os) h = all-those Body (λ (o : Opt). eqb (o .kind) kind) os h
+type-octets kind (some os) h = each-those Body (λ (o : Opt). eqb (o .kind) kind) os h
 
 -- the Configuration
 abbrev OctetsIf : Option (List ℕ) → Type 0
 OctetsIf none = Unit {0}
 OctetsIf (some body) = Octets body
 
-configuration-octets : (os : List Opt) → All Body os → OctetsIf (configurationOf os)
+configuration-octets : (os : List Opt) → Each Body os → OctetsIf (configurationOf os)
 configuration-octets [] h = tt
 configuration-octets (o ∷ os) h = h .0
 
@@ -92,7 +82,7 @@ message-octets : (msg : List ℕ) → Octets msg → OctetsIf (messageOf msg .co
 unfolding messageOf
 message-octets msg o =
     configuration-octets (ofType configurationType (optionsOf msg))
-    (type-octets configurationType (optionsOf msg) (options-octets (length msg) (drop 24 msg) (drop-octets 24 msg o)))
+    (type-octets configurationType (optionsOf msg) (options-octets (length msg) (drop 24 msg) (each-drop (λ x. x < 256) 24 msg o)))
 
 -- ---- Deadlines
 
@@ -115,10 +105,10 @@ lifetime-deadline t none h o = refl
 lifetime-deadline t (some body) h o = go (eqb (defaultLifetime body) 255)
   where
     units : lifetimeUnit body ≤ 65535
-    units = omega (arith, o 12, o 13)
+    units = omega (arith, octet-lt body 12 o, octet-lt body 13 o)
 
     number : defaultLifetime body ≤ 255
-    number = omega (arith, o 11)
+    number = omega (arith, octet-lt body 11 o)
 
     lasting : defaultLifetime body * lifetimeUnit body ≤ 255 * 65535
     lasting = mul-le-mul number units
@@ -134,29 +124,14 @@ chosen-deadline false old t l h g = row-deadline t l h
 
 -- ---- Targets
 
-abbrev Short : Target → Type 0
-Short t = leb (t .plen) 127 ≡ true
-
--- Prefix Length has 7 bits
-target-short : (body : List ℕ) → Short (targetOf body)
-unfolding targetOf fields sum
-target-short body = le-leb (plenOf body) 127 (omega arith)
-
-targets-short : (msg : List ℕ) → All Short (messageOf msg .targets)
-unfolding messageOf
-targets-short msg =
-    let arts : List Opt = ofType artType (optionsOf msg) in
-    all-once Short sameTarget [] (map (λ (o : Opt). targetOf (o .body)) arts)
-    (all-map Short (λ (o : Opt). targetOf (o .body)) arts (all-each (λ (o : Opt). Short (targetOf (o .body))) (λ o. target-short (o .body)) arts))
-
 -- a message's targets that are kept
-kept-short : (x : Settings) (st : Standing) (row : Option (Numbered RequestRow)) (ts : List Target) → All Short ts
-    → All Short (targetsKept x st row ts)
+kept-short : (x : Settings) (st : Standing) (row : Option (Numbered RequestRow)) (ts : List Target) → Each Short ts
+    → Each Short (targetsKept x st row ts)
 unfolding targetsKept common
 kept-short x st row ts g =
-    all-those Short (λ (t : Target). not (matchesUs x t)) (cond (isUpdate st) (common ts (rowTargets row)) ts)
-    (cond-case (All Short) (isUpdate st) (common ts (rowTargets row)) ts
-    (λ e. all-those Short (λ (t : Target). any (sameTarget t) (rowTargets row)) ts g) (λ e. g))
+    each-those Short (λ (t : Target). not (matchesUs x t)) (cond (isUpdate st) (common ts (rowTargets row)) ts)
+    (cond-case (Each Short) (isUpdate st) (common ts (rowTargets row)) ts
+    (λ e. each-those Short (λ (t : Target). any (sameTarget t) (rowTargets row)) ts g) (λ e. g))
 
 kept-less : (x : Settings) (st : Standing) (row : Option (Numbered RequestRow)) (ts : List Target) → length (targetsKept x st row ts) ≤ length ts
 unfolding targetsKept common
@@ -164,15 +139,6 @@ kept-less x st row ts =
     le-trans (those-less (λ (t : Target). not (matchesUs x t)) (cond (isUpdate st) (common ts (rowTargets row)) ts))
     (cond-case (λ (us : List Target). length us ≤ length ts) (isUpdate st) (common ts (rowTargets row)) ts
     (λ e. those-less (λ (t : Target). any (sameTarget t) (rowTargets row)) ts) (λ e. le-refl (length ts)))
-
--- a start's targets
-start-short : (c : Start) → any (λ (t : Target). ltb 127 (t .plen)) (c .targets) ≡ false → All Short (startTargets c)
-unfolding startTargets wholeBits
-start-short c e =
-    all-map Short wholeBits (once sameTarget (c .targets))
-    (all-once Short sameTarget [] (c .targets)
-    (all-weaken (λ (t : Target). ltb 127 (t .plen) ≡ false) Short (λ t k. le-leb (t .plen) 127 (ltb-false 127 (t .plen) k)) (c .targets)
-    (any-none (λ (t : Target). ltb 127 (t .plen)) (c .targets) e)))
 
 -- ---- The live rows that are seen
 
@@ -183,14 +149,14 @@ abbrev pub GoodRoute : Route → Type 0
 GoodRoute r = goodRoute r ≡ true
 
 abbrev pub GoodView : View → Type 0
-GoodView v = All (λ (n : Numbered Instance). GoodInstance (n .row)) (v .instances)
+GoodView v = Each (λ (n : Numbered Instance). GoodInstance (n .row)) (v .instances)
 
 -- ---- Rows
 
-request-row : (r : RequestRow) → length (r .targets) ≤ 8 → All Short (r .targets) → Deadline (r .deadline) → GoodInstance (Instance.request r)
+request-row : (r : RequestRow) → length (r .targets) ≤ 8 → Each Short (r .targets) → Deadline (r .deadline) → GoodInstance (Instance.request r)
 unfolding goodInstance
 request-row r h g d =
-    rw (le-leb (length (r .targets)) mostTargets h, all-true (λ (t : Target). leb (t .plen) 127) (r .targets) g, d)
+    rw (le-leb (length (r .targets)) mostTargets h, each-true shortPrefix (r .targets) g, d)
 
 reply-row : (r : ReplyRow) → Deadline (r .deadline) → GoodInstance (Instance.reply r)
 unfolding goodInstance
@@ -215,7 +181,7 @@ route-writes false o r g = (tt, tt)
 with-reply-writes : (change : Change Instance) (b : Bool) (r : ReplyRow) → Writes GoodInstance change → GoodInstance (Instance.reply r)
     → Writes GoodInstance (withReplyRow change b r)
 unfolding withReplyRow
-with-reply-writes change true r w g = (w .0, all-append GoodInstance (change .new) (Instance.reply r ∷ []) (w .1) (g, tt))
+with-reply-writes change true r w g = (w .0, each-append GoodInstance (change .new) (Instance.reply r ∷ []) (w .1) (g, tt))
 with-reply-writes change false r w g = w
 
 -- ---- What an accepted call writes
@@ -226,7 +192,7 @@ WritesGood a = Writes GoodInstance (a .instances) × Writes GoodRoute (a .routes
 -- what is known of a message that no line refuses
 record Fit (m : Message) : Type 0 where
   count : length (m .targets) ≤ 8
-  targets : All Short (m .targets)
+  targets : Each Short (m .targets)
   configuration : OctetsIf (m .configuration)
 
 fit : (msg : List ℕ) → Octets msg → tooMany (messageOf msg) ≡ false → Fit (messageOf msg)
@@ -247,7 +213,7 @@ module _ (x : Settings) (v : View) (t : ℕ) (h : t ≤ 2 ^ 40) (g : GoodView v)
         (put-writes GoodInstance (rowOfRequest v t m) (Instance.request row)
         (request-row row (le-trans (kept-less x st (rowOfRequest v t m) (m .targets)) (f .count))
         (kept-short x st (rowOfRequest v t m) (m .targets) (f .targets))
-        (found-case (Lasts requestKind) (λ o. Deadline (keptDeadline st o t (m .discovery .l))) test (requests (v .instances)) (rowOfRequest v t m)
+        (found-case (Lasts requestKind) (λ o. Deadline (keptDeadline (λ (r : RequestRow). r .deadline) st o t (m .discovery .l))) test (requests (v .instances)) (rowOfRequest v t m)
         (row-deadline t (m .discovery .l) h) (λ n k. chosen-deadline (isUpdate st) (n .row .deadline) t (m .discovery .l) h k)
         (found-lasts requestKind test (v .instances) g))))
         (reply-row own (row-deadline t (m .discovery .l) h)),
@@ -270,11 +236,11 @@ module _ (x : Settings) (v : View) (t : ℕ) (h : t ≤ 2 ^ 40) (g : GoodView v)
       test n = requestFor t (m .base .instance) (m .base .dodagid) (n .row)
 
   reply-writes : (c : Received) (m : Message) (p : RequestRow) → Fit m → WritesGood (acceptReply x (v .own) t c m (answered x v t c m p))
-  unfolding acceptReply answered answeredWith replyRow keptReplyDeadline
+  unfolding acceptReply answered answeredWith replyRow keptDeadline
   reply-writes c m p f = (
     put-writes GoodInstance live (Instance.reply (replyRow t m (answered x v t c m p)))
         (reply-row (replyRow t m (answered x v t c m p))
-        (found-case (Lasts replyKind) (λ o. Deadline (keptReplyDeadline (answered x v t c m p .standing) o t (m .discovery .l))) test
+        (found-case (Lasts replyKind) (λ o. Deadline (keptDeadline (λ (r : ReplyRow). r .deadline) (answered x v t c m p .standing) o t (m .discovery .l))) test
         (replies (v .instances)) live (row-deadline t (m .discovery .l) h)
         (λ n k. chosen-deadline (isUpdate (answered x v t c m p .standing)) (n .row .deadline) t (m .discovery .l) h k)
         (found-lasts replyKind test (v .instances) g))),

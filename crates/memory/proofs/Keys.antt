@@ -11,10 +11,13 @@ use lib.ListN.{replicate}
 use borrow.Author.Tests.{eq-eqb, ne-eqb}
 use Rattle.plain.specs.Lists.{same, firstOf}
 use Rattle.plain.specs.Given.{Instance, Route}
+use Rattle.plain.specs.Answers.{atNumber, ofKind}
 use Rattle.plain.specs.Table.{Numbered, Change, put, lasts, becomes, live, liveFrom, placedFrom, placed}
 use Rattle.lemmas.proofs.Choice.{cond-case, true-false, and-both}
 use Rattle.lemmas.proofs.Rules.{lasts-before}
-use Rattle.memory.proofs.Each.{All, Pairs, Found, all-weaken, all-append, first-found, picked, all-picked, picked-all}
+use Rattle.lemmas.specs.Each.{Each}
+use Rattle.lemmas.proofs.Each.{Pairs, Found, each-weaken, each-append, first-found}
+use Rattle.memory.proofs.OfKind.{each-kind, kind-each}
 use Rattle.memory.proofs.Tables.{Rows, rows-weaken, rows-tail, kept, placed-rest, placed-live, placed-dead, Becomes, placed-rows}
 
 -- ---- Keys
@@ -68,7 +71,7 @@ module _ {A : Type 0} (deadline : A → Option ℕ) (key : A → Key) where
   -- the new rows have keys of their own
   abbrev pub New : ℕ → List A → List (Option A) → Type 0
   New t [] rows = Unit {0}
-  New t (n ∷ ns) rows = Rows (Other t (key n)) rows × All (λ (m : A). key m ≡ key n → ⊥) ns × New t ns rows
+  New t (n ∷ ns) rows = Rows (Other t (key n)) rows × Each (λ (m : A). key m ≡ key n → ⊥) ns × New t ns rows
 
   pub unused-distinct : (t n : ℕ) → Distinct t (replicate n none)
   unused-distinct t zero = tt
@@ -93,10 +96,10 @@ module _ {A : Type 0} (deadline : A → Option ℕ) (key : A → Key) where
 
   -- a key that no live row has, and no new one
   free-placed : (t : ℕ) (k : Key) (us : List (Numbered A)) (ns : List A) (i : ℕ) (rows : List (Option A)) → KeysKept us i rows
-      → Rows (Other t k) rows → All (λ (n : A). key n ≡ k → ⊥) ns → Rows (Other t k) (placedFrom deadline t us ns i rows)
+      → Rows (Other t k) rows → Each (λ (n : A). key n ≡ k → ⊥) ns → Rows (Other t k) (placedFrom deadline t us ns i rows)
   free-placed t k us ns i rows q h w =
       placed-rows deadline (Other t k) t us ns i rows h (other-becomes t k us i rows q h)
-      (all-weaken (λ (n : A). key n ≡ k → ⊥) (Other t k) (λ n f l. f) ns w)
+      (each-weaken (λ (n : A). key n ≡ k → ⊥) (Other t k) (λ n f l. f) ns w)
 
   kept-tail : (us : List (Numbered A)) (i : ℕ) (r : Option A) (rows : List (Option A)) → KeysKept us i (r ∷ rows) → KeysKept us (suc i) rows
   kept-tail us i none rows q = q
@@ -112,7 +115,7 @@ module _ {A : Type 0} (deadline : A → Option ℕ) (key : A → Key) where
 
   -- the new rows have other keys than a live row
   new-other : (t : ℕ) (ns : List A) (r : A) (rows : List (Option A)) → lasts t (deadline r) ≡ true → New t ns (some r ∷ rows)
-      → All (λ (n : A). key n ≡ key r → ⊥) ns
+      → Each (λ (n : A). key n ≡ key r → ⊥) ns
   new-other t [] r rows e h = tt
   new-other t (n ∷ ns) r rows e h = (λ z. h .0 .0 e (sym z), new-other t ns r rows e (h .2))
 
@@ -149,11 +152,11 @@ module _ {A : Type 0} (deadline : A → Option ℕ) (key : A → Key) where
           (λ l. free-placed t (key n) us ns (suc i) rows (kept-tail us i r rows q) (rows-tail (Other t (key n)) r rows (w .0)) (w .1), k)
 
   -- one more new row
-  pub new-more : (t : ℕ) (ns : List A) (q : A) (rows : List (Option A)) → New t ns rows → All (λ (n : A). key q ≡ key n → ⊥) ns
+  pub new-more : (t : ℕ) (ns : List A) (q : A) (rows : List (Option A)) → New t ns rows → Each (λ (n : A). key q ≡ key n → ⊥) ns
       → Rows (Other t (key q)) rows → New t (ns ++ (q ∷ [])) rows
   new-more t [] q rows h w g = (g, tt, tt)
   new-more t (n ∷ ns) q rows h w g =
-      (h .0, all-append (λ (m : A). key m ≡ key n → ⊥) ns (q ∷ []) (h .1) (w .0, tt), new-more t ns q rows (h .2) (w .1) g)
+      (h .0, each-append (λ (m : A). key m ≡ key n → ⊥) ns (q ∷ []) (h .1) (w .0, tt), new-more t ns q rows (h .2) (w .1) g)
 
   -- what a change must keep to
   abbrev pub Keyed : ℕ → Change A → List (Option A) → Type 0
@@ -183,86 +186,86 @@ module _ {A : Type 0} (deadline : A → Option ℕ) (key : A → Key) where
   abbrev Place : ℕ → List (Option A) → Numbered A → Type 0
   Place i rows n = (i ≤ n .number) × ((q : A) → key q ≡ key (n .row) → KeysKept (record { number = n .number; row = q } ∷ []) i rows)
 
-  places : (clock i : ℕ) (rows : List (Option A)) → All (Place i rows) (liveFrom deadline clock i rows)
+  places : (clock i : ℕ) (rows : List (Option A)) → Each (Place i rows) (liveFrom deadline clock i rows)
   unfolding liveFrom becomes
   places clock i [] = tt
   places clock i (none ∷ rows) =
-      all-weaken (Place (suc i) rows) (Place i (none ∷ rows)) (λ n h. (omega (arith, h .0), h .1)) (liveFrom deadline clock (suc i) rows)
+      each-weaken (Place (suc i) rows) (Place i (none ∷ rows)) (λ n h. (omega (arith, h .0), h .1)) (liveFrom deadline clock (suc i) rows)
       (places clock (suc i) rows)
   places clock i (some r ∷ rows) =
-      cond-case (All (Place i (some r ∷ rows))) (lasts clock (deadline r)) (record { number = i; row = r } ∷ liveFrom deadline clock (suc i) rows)
+      cond-case (Each (Place i (some r ∷ rows))) (lasts clock (deadline r)) (record { number = i; row = r } ∷ liveFrom deadline clock (suc i) rows)
       (liveFrom deadline clock (suc i) rows)
       (λ e. ((le-refl i, λ q z. (rw (eq-eqb i i refl) z, before-kept i (suc i) q rows (omega arith))), further (places clock (suc i) rows)))
       (λ e. further (places clock (suc i) rows))
     where
-      further : All (Place (suc i) rows) (liveFrom deadline clock (suc i) rows) → All (Place i (some r ∷ rows)) (liveFrom deadline clock (suc i) rows)
+      further : Each (Place (suc i) rows) (liveFrom deadline clock (suc i) rows) → Each (Place i (some r ∷ rows)) (liveFrom deadline clock (suc i) rows)
       further =
-          all-weaken (Place (suc i) rows) (Place i (some r ∷ rows))
+          each-weaken (Place (suc i) rows) (Place i (some r ∷ rows))
           (λ n h. (omega (arith, h .0), λ q z. (rw (ne-eqb (n .number) i (λ e. omega (arith, h .0))) refl, h .1 q z)))
           (liveFrom deadline clock (suc i) rows)
 
   -- a key that no row has of those that are seen
   free-seen : (clock t i : ℕ) (k : Key) (rows : List (Option A)) → clock ≤ t
-      → All (λ (n : Numbered A). Other t k (n .row)) (liveFrom deadline clock i rows) → Rows (Other t k) rows
+      → Each (λ (n : Numbered A). Other t k (n .row)) (liveFrom deadline clock i rows) → Rows (Other t k) rows
   unfolding liveFrom
   free-seen clock t i k [] h g = tt
   free-seen clock t i k (none ∷ rows) h g = free-seen clock t (suc i) k rows h g
   free-seen clock t i k (some r ∷ rows) h g = go (lasts clock (deadline r)) refl g (free-seen clock t (suc i) k rows h)
     where
       go : (b : Bool) → lasts clock (deadline r) ≡ b
-          → All (λ (n : Numbered A). Other t k (n .row))
+          → Each (λ (n : Numbered A). Other t k (n .row))
           (cond b (record { number = i; row = r } ∷ liveFrom deadline clock (suc i) rows) (liveFrom deadline clock (suc i) rows))
-          → (All (λ (n : Numbered A). Other t k (n .row)) (liveFrom deadline clock (suc i) rows) → Rows (Other t k) rows)
+          → (Each (λ (n : Numbered A). Other t k (n .row)) (liveFrom deadline clock (suc i) rows) → Rows (Other t k) rows)
           → Other t k r × Rows (Other t k) rows
       go true e g f = (g .0, f (g .1))
       go false e g f = (λ l. true-false (sym (lasts-before clock t (deadline r) h l) ∙ e), f g)
 
-  -- Rows of a kind are picked out of those that are seen, and one is looked for by a test that tells its key.
-  module _ {B : Type 0} (pick : ℕ → A → List (Numbered B)) (test : Numbered B → Bool) (q : A) where
+  -- Of the rows of a kind that are seen one is looked for by a test that tells its key.
+  module _ {B : Type 0} (kind : A → Option B) (test : Numbered B → Bool) (q : A) where
     pub record Tells (t : ℕ) : Type 0 where
-      pub hit : (i : ℕ) (r : A) → All (λ (n : Numbered B). (n .number ≡ i) × (test n ≡ true → key q ≡ key r)) (pick i r)
-      pub miss : (i : ℕ) (r : A) → All (λ (n : Numbered B). test n ≡ false) (pick i r) → Other t (key q) r
+      pub hit : (i : ℕ) (r : A) → Each (λ (n : Numbered B). (n .number ≡ i) × (test n ≡ true → key q ≡ key r)) (atNumber i (kind r))
+      pub miss : (i : ℕ) (r : A) → Each (λ (n : Numbered B). test n ≡ false) (atNumber i (kind r)) → Other t (key q) r
 
     -- none is found: no live row has its key
     pub free-found : (clock t : ℕ) (rows : List (Option A)) → Tells t → clock ≤ t
-        → All (λ (n : Numbered B). test n ≡ false) (picked pick (liveFrom deadline clock 0 rows)) → Rows (Other t (key q)) rows
+        → Each (λ (n : Numbered B). test n ≡ false) (ofKind kind (liveFrom deadline clock 0 rows)) → Rows (Other t (key q)) rows
     free-found clock t rows w h g =
         free-seen clock t 0 (key q) rows h
-        (all-weaken (λ (n : Numbered A). All (λ (m : Numbered B). test m ≡ false) (pick (n .number) (n .row)))
+        (each-weaken (λ (n : Numbered A). Each (λ (m : Numbered B). test m ≡ false) (atNumber (n .number) (kind (n .row))))
         (λ (n : Numbered A). Other t (key q) (n .row))
         (λ n k. w .miss (n .number) (n .row) k) (liveFrom deadline clock 0 rows)
-        (picked-all pick (λ (m : Numbered B). test m ≡ false) (liveFrom deadline clock 0 rows) g))
+        (kind-each kind (λ (m : Numbered B). test m ≡ false) (liveFrom deadline clock 0 rows) g))
 
     -- in the place of the one found, else new
     pub put-keyed : (clock t : ℕ) (rows : List (Option A)) → Tells t → clock ≤ t
-        → Keyed t (put (firstOf test (picked pick (liveFrom deadline clock 0 rows))) q) rows
+        → Keyed t (put (firstOf test (ofKind kind (liveFrom deadline clock 0 rows))) q) rows
     put-keyed clock t rows w h =
-        go (firstOf test (picked pick (liveFrom deadline clock 0 rows)))
-        (first-found Fits test (picked pick (liveFrom deadline clock 0 rows))
-        (all-picked pick (Place 0 rows) Fits (λ n k. fits (n .number) (n .row) (k .1) (pick (n .number) (n .row)) (w .hit (n .number) (n .row)))
+        go (firstOf test (ofKind kind (liveFrom deadline clock 0 rows)))
+        (first-found Fits test (ofKind kind (liveFrom deadline clock 0 rows))
+        (each-kind kind (Place 0 rows) Fits (λ n k. fits (n .number) (n .row) (k .1) (atNumber (n .number) (kind (n .row))) (w .hit (n .number) (n .row)))
         (liveFrom deadline clock 0 rows) (places clock 0 rows)))
       where
         Fits : Numbered B → Type 0
         Fits n = test n ≡ true → KeysKept (record { number = n .number; row = q } ∷ []) 0 rows
 
         fits : (i : ℕ) (r : A) → ((p : A) → key p ≡ key r → KeysKept (record { number = i; row = p } ∷ []) 0 rows) → (ms : List (Numbered B))
-            → All (λ (m : Numbered B). (m .number ≡ i) × (test m ≡ true → key q ≡ key r)) ms → All Fits ms
+            → Each (λ (m : Numbered B). (m .number ≡ i) × (test m ≡ true → key q ≡ key r)) ms → Each Fits ms
         fits i r f [] k = tt
         fits i r f (m ∷ ms) k = (λ e. rw (k .0 .0) (f q (k .0 .1 e)), fits i r f ms (k .1))
 
-        go : (o : Option (Numbered B)) → Found Fits test (picked pick (liveFrom deadline clock 0 rows)) o → Keyed t (put o q) rows
+        go : (o : Option (Numbered B)) → Found Fits test (ofKind kind (liveFrom deadline clock 0 rows)) o → Keyed t (put o q) rows
         go none k = (none-kept 0 rows, (free-found clock t rows w h k, tt, tt))
         go (some n) k = (k .0 (k .1), tt)
 
   -- ---- What is seen
 
   free-live : (t i : ℕ) (k : Key) (rows : List (Option A)) → Rows (Other t k) rows
-      → All (λ (n : Numbered A). key (n .row) ≡ k → ⊥) (liveFrom deadline t i rows)
+      → Each (λ (n : Numbered A). key (n .row) ≡ k → ⊥) (liveFrom deadline t i rows)
   unfolding liveFrom
   free-live t i k [] h = tt
   free-live t i k (none ∷ rows) h = free-live t (suc i) k rows h
   free-live t i k (some r ∷ rows) h =
-      cond-case (All (λ (n : Numbered A). key (n .row) ≡ k → ⊥)) (lasts t (deadline r))
+      cond-case (Each (λ (n : Numbered A). key (n .row) ≡ k → ⊥)) (lasts t (deadline r))
       (record { number = i; row = r } ∷ liveFrom deadline t (suc i) rows)
       (liveFrom deadline t (suc i) rows) (λ e. (h .0 e, free-live t (suc i) k rows (h .1))) (λ e. free-live t (suc i) k rows (h .1))
 

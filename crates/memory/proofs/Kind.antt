@@ -2,8 +2,8 @@
 use Prim.Native.Nat.{ℕ}
 use mathlib.Core.Path.{_≡_, refl, sym, ap, _∙_}
 use mathlib.Core.Bool.{Bool, true, false, _&&_}
-use mathlib.Core.List.{List, [], _∷_, _++_}
-use mathlib.Core.Option.{Option}
+use mathlib.Core.List.{List, []}
+use mathlib.Core.Option.{Option, some, none}
 use native.Mathlib.Omega.{arith}
 use lib.Dec.{eqb, leb}
 use lib.ListN.{length}
@@ -11,12 +11,13 @@ use borrow.Author.Tests.{eqb-true, eq-eqb}
 use Rattle.plain.specs.Lists.{all, firstOf, same, anyTwo}
 use Rattle.plain.specs.Given.{RequestRow, ReplyRow, Instance}
 use Rattle.plain.specs.Table.{Numbered, lasts, instanceDeadline}
-use Rattle.plain.specs.Answers.{asRequest, asReply, requests, replies, goodDeadline, goodInstance}
+use Rattle.plain.specs.Answers.{shortPrefix, asRequest, asReply, atNumber, ofKind, goodDeadline, goodInstance}
 use Rattle.plain.specs.Octets.{mostTargets}
-use Rattle.plain.specs.declared.Target.{Target}
 use Rattle.lemmas.proofs.Choice.{true-false, and-left, and-right, and-both}
 use Rattle.lemmas.proofs.Same.{same-equal}
-use Rattle.memory.proofs.Each.{All, Pairs, Found, first-found, pairs-none, picked, all-picked, pairs-picked}
+use Rattle.lemmas.specs.Each.{Each}
+use Rattle.lemmas.proofs.Each.{Pairs, Found, first-found, pairs-none}
+use Rattle.memory.proofs.OfKind.{each-kind, pairs-kind}
 use Rattle.memory.proofs.Keys.{Key, instanceKey, key-path, eq-same, Other, Tells}
 
 -- the key of an instance row of a kind
@@ -35,29 +36,21 @@ pub record Kind : Type 1 where
   pub keyed : (b : Row) → instanceKey (whole b) ≡ keyOf number (instance b) (dodagid b)
   pub ended : (b : Row) → instanceDeadline (whole b) ≡ deadline b
   pub good : (b : Row) → goodInstance (whole b) ≡ true → goodDeadline (deadline b) ≡ true
-  -- those of the kind, as the rules pick them
-  pub pick : ℕ → Instance → List (Numbered Row)
-  pub every : List (Numbered Instance) → List (Numbered Row)
-  pub every-are : (ns : List (Numbered Instance)) → every ns ≡ picked pick ns
-  -- an instance row is one of the kind, or has another in its key
-  pub split : (P : Instance → List (Numbered Row) → Type 0) (i : ℕ) → ((b : Row) → P (whole b) (record { number = i; row = b } ∷ []))
-      → ((r : Instance) → (instanceKey r .kind ≡ number → ⊥) → P r []) → (r : Instance) → P r (pick i r)
-
-pub requests-picked : (ns : List (Numbered Instance)) → requests ns ≡ picked asRequest ns
-unfolding requests picked
-requests-picked [] = refl
-requests-picked (n ∷ ns) = ap (λ (rest : List (Numbered RequestRow)). asRequest (n .number) (n .row) ++ rest) (requests-picked ns)
+  -- what an instance row is of the kind
+  pub part : Instance → Option Row
+  -- it is one of the kind, or has another in its key
+  pub split : (P : Instance → Option Row → Type 0) → ((b : Row) → P (whole b) (some b))
+      → ((r : Instance) → (instanceKey r .kind ≡ number → ⊥) → P r none) → (r : Instance) → P r (part r)
 
 pub request-good : (b : RequestRow) → goodInstance (Instance.request b) ≡ true → goodDeadline (b .deadline) ≡ true
 unfolding goodInstance
 request-good b g =
-    and-right (leb (length (b .targets)) mostTargets && all (λ (t : Target). leb (t .plen) 127) (b .targets)) (goodDeadline (b .deadline)) g
+    and-right (leb (length (b .targets)) mostTargets && all shortPrefix (b .targets)) (goodDeadline (b .deadline)) g
 
-pub request-split : (P : Instance → List (Numbered RequestRow) → Type 0) (i : ℕ)
-    → ((b : RequestRow) → P (Instance.request b) (record { number = i; row = b } ∷ []))
-    → ((r : Instance) → (instanceKey r .kind ≡ 0 → ⊥) → P r []) → (r : Instance) → P r (asRequest i r)
-request-split P i f g (Instance.request b) = f b
-request-split P i f g (Instance.reply b) = g (Instance.reply b) (omega arith)
+pub request-split : (P : Instance → Option RequestRow → Type 0) → ((b : RequestRow) → P (Instance.request b) (some b))
+    → ((r : Instance) → (instanceKey r .kind ≡ 0 → ⊥) → P r none) → (r : Instance) → P r (asRequest r)
+request-split P f g (Instance.request b) = f b
+request-split P f g (Instance.reply b) = g (Instance.reply b) (omega arith)
 
 abbrev pub requestKind : Kind
 requestKind = record {
@@ -70,26 +63,18 @@ requestKind = record {
   keyed = λ b. refl;
   ended = λ b. refl;
   good = request-good;
-  pick = asRequest;
-  every = requests;
-  every-are = requests-picked;
+  part = asRequest;
   split = request-split;
 }
-
-pub replies-picked : (ns : List (Numbered Instance)) → replies ns ≡ picked asReply ns
-unfolding replies picked
-replies-picked [] = refl
-replies-picked (n ∷ ns) = ap (λ (rest : List (Numbered ReplyRow)). asReply (n .number) (n .row) ++ rest) (replies-picked ns)
 
 pub reply-good : (b : ReplyRow) → goodInstance (Instance.reply b) ≡ true → goodDeadline (b .deadline) ≡ true
 unfolding goodInstance
 reply-good b g = g
 
-pub reply-split : (P : Instance → List (Numbered ReplyRow) → Type 0) (i : ℕ)
-    → ((b : ReplyRow) → P (Instance.reply b) (record { number = i; row = b } ∷ []))
-    → ((r : Instance) → (instanceKey r .kind ≡ 1 → ⊥) → P r []) → (r : Instance) → P r (asReply i r)
-reply-split P i f g (Instance.request b) = g (Instance.request b) (omega arith)
-reply-split P i f g (Instance.reply b) = f b
+pub reply-split : (P : Instance → Option ReplyRow → Type 0) → ((b : ReplyRow) → P (Instance.reply b) (some b))
+    → ((r : Instance) → (instanceKey r .kind ≡ 1 → ⊥) → P r none) → (r : Instance) → P r (asReply r)
+reply-split P f g (Instance.request b) = g (Instance.request b) (omega arith)
+reply-split P f g (Instance.reply b) = f b
 
 abbrev pub replyKind : Kind
 replyKind = record {
@@ -102,9 +87,7 @@ replyKind = record {
   keyed = λ b. refl;
   ended = λ b. refl;
   good = reply-good;
-  pick = asReply;
-  every = replies;
-  every-are = replies-picked;
+  part = asReply;
   split = reply-split;
 }
 
@@ -144,56 +127,57 @@ module _ (K : Kind) where
   same-hit a b e = K .keyed b ∙ test-hit (K .number) (K .instance a) (K .instance b) (K .dodagid a) (K .dodagid b) e ∙ sym (K .keyed a)
 
   -- the test by which a row is looked for tells its key
-  pub tells : (t : ℕ) (q : K .Row) → Tells instanceDeadline instanceKey (K .pick) (rowFor t q) (K .whole q) t
+  pub tells : (t : ℕ) (q : K .Row) → Tells instanceDeadline instanceKey (K .part) (rowFor t q) (K .whole q) t
   tells t q = record { hit = hit; miss = miss }
     where
       hit : (i : ℕ) (r : Instance)
-          → All (λ (n : Numbered (K .Row)). (n .number ≡ i) × (rowFor t q n ≡ true → instanceKey (K .whole q) ≡ instanceKey r)) (K .pick i r)
+          → Each (λ (n : Numbered (K .Row)). (n .number ≡ i) × (rowFor t q n ≡ true → instanceKey (K .whole q) ≡ instanceKey r)) (atNumber i (K .part r))
       hit i =
-          K .split (λ r ns. All (λ (n : Numbered (K .Row)). (n .number ≡ i) × (rowFor t q n ≡ true → instanceKey (K .whole q) ≡ instanceKey r)) ns) i
+          K .split
+          (λ r o. Each (λ (n : Numbered (K .Row)). (n .number ≡ i) × (rowFor t q n ≡ true → instanceKey (K .whole q) ≡ instanceKey r)) (atNumber i o))
           (λ b. ((refl, λ e. same-hit b q (and-left (sameRow b q) (lasts t (K .deadline b)) e)), tt)) (λ r f. tt)
 
-      miss : (i : ℕ) (r : Instance) → All (λ (n : Numbered (K .Row)). rowFor t q n ≡ false) (K .pick i r)
+      miss : (i : ℕ) (r : Instance) → Each (λ (n : Numbered (K .Row)). rowFor t q n ≡ false) (atNumber i (K .part r))
           → Other instanceDeadline instanceKey t (instanceKey (K .whole q)) r
       miss i =
-          K .split (λ r ns. All (λ (n : Numbered (K .Row)). rowFor t q n ≡ false) ns
-          → Other instanceDeadline instanceKey t (instanceKey (K .whole q)) r) i
+          K .split (λ r o. Each (λ (n : Numbered (K .Row)). rowFor t q n ≡ false) (atNumber i o)
+          → Other instanceDeadline instanceKey t (instanceKey (K .whole q)) r)
           (λ b k l z. test-miss (K .number) (K .instance b) (K .instance q) (K .dodagid b) (K .dodagid q) (lasts t (K .deadline b)) (k .0)
           (rw (K .ended b) at l) (sym (K .keyed b) ∙ z ∙ K .keyed q))
           (λ r f k l. other-kind (instanceKey r) (instanceKey (K .whole q)) (λ e. f (e ∙ ap (λ (y : Key). y .kind) (K .keyed q))))
 
   -- no two rows of other keys are twins
-  pub no-twins : (ns : List (Numbered Instance)) → Pairs RowsApart ns → anyTwo (λ (a b : Numbered (K .Row)). sameRow (a .row) (b .row)) (K .every ns)
+  pub no-twins : (ns : List (Numbered Instance)) → Pairs RowsApart ns → anyTwo (λ (a b : Numbered (K .Row)). sameRow (a .row) (b .row)) (ofKind (K .part) ns)
       ≡ false
   no-twins ns h =
-      rw (K .every-are ns)
-      (pairs-none (λ (a b : Numbered (K .Row)). sameRow (a .row) (b .row)) (picked (K .pick) ns)
-      (pairs-picked (K .pick) RowsApart Apart
-      (λ i. K .split (λ r ns. Pairs Apart ns) i (λ b. (tt, tt)) (λ r f. tt))
-      (λ n m. two (n .number) (m .number) (n .row) (m .row)) ns h))
+      pairs-none (λ (a b : Numbered (K .Row)). sameRow (a .row) (b .row)) (ofKind (K .part) ns)
+      (pairs-kind (K .part) RowsApart Apart
+      (λ i. K .split (λ r o. Pairs Apart (atNumber i o)) (λ b. (tt, tt)) (λ r f. tt))
+      (λ n m. two (n .number) (m .number) (n .row) (m .row)) ns h)
     where
       Apart : Numbered (K .Row) → Numbered (K .Row) → Type 0
       Apart a b = sameRow (a .row) (b .row) ≡ false
 
-      one : (a : Numbered (K .Row)) (j : ℕ) (q : Instance) → (instanceKey q ≡ instanceKey (K .whole (a .row)) → ⊥) → All (Apart a) (K .pick j q)
+      one : (a : Numbered (K .Row)) (j : ℕ) (q : Instance) → (instanceKey q ≡ instanceKey (K .whole (a .row)) → ⊥) → Each (Apart a) (atNumber j (K .part q))
       one a j =
-          K .split (λ q ns. (instanceKey q ≡ instanceKey (K .whole (a .row)) → ⊥) → All (Apart a) ns) j
+          K .split (λ q o. (instanceKey q ≡ instanceKey (K .whole (a .row)) → ⊥) → Each (Apart a) (atNumber j o))
           (λ b f. (apart-test (sameRow (a .row) b) (instanceKey (K .whole (a .row))) (instanceKey (K .whole b)) (same-hit (a .row) b) f, tt))
           (λ q g f. tt)
 
       two : (i j : ℕ) (p q : Instance) → (instanceKey q ≡ instanceKey p → ⊥)
-          → All (λ (a : Numbered (K .Row)). All (Apart a) (K .pick j q)) (K .pick i p)
+          → Each (λ (a : Numbered (K .Row)). Each (Apart a) (atNumber j (K .part q))) (atNumber i (K .part p))
       two i j p q =
-          K .split (λ p ns. (instanceKey q ≡ instanceKey p → ⊥) → All (λ (a : Numbered (K .Row)). All (Apart a) (K .pick j q)) ns) i
+          K .split
+          (λ p o. (instanceKey q ≡ instanceKey p → ⊥) → Each (λ (a : Numbered (K .Row)). Each (Apart a) (atNumber j (K .part q))) (atNumber i o))
           (λ a f. (one (record { number = i; row = a }) j q f, tt)) (λ p g f. tt) p
 
   -- a row that is found among good ones has a good deadline
   abbrev pub Lasts : Numbered (K .Row) → Type 0
   Lasts n = goodDeadline (K .deadline (n .row)) ≡ true
 
-  pub found-lasts : (p : Numbered (K .Row) → Bool) (ns : List (Numbered Instance)) → All (λ (n : Numbered Instance). goodInstance (n .row) ≡ true) ns
-      → Found Lasts p (K .every ns) (firstOf p (K .every ns))
+  pub found-lasts : (p : Numbered (K .Row) → Bool) (ns : List (Numbered Instance)) → Each (λ (n : Numbered Instance). goodInstance (n .row) ≡ true) ns
+      → Found Lasts p (ofKind (K .part) ns) (firstOf p (ofKind (K .part) ns))
   found-lasts p ns g =
-      first-found Lasts p (K .every ns)
-      (rw (K .every-are ns) (all-picked (K .pick) (λ (n : Numbered Instance). goodInstance (n .row) ≡ true) Lasts
-      (λ n k. K .split (λ r ns. goodInstance r ≡ true → All Lasts ns) (n .number) (λ b k. (K .good b k, tt)) (λ r f k. tt) (n .row) k) ns g))
+      first-found Lasts p (ofKind (K .part) ns)
+      (each-kind (K .part) (λ (n : Numbered Instance). goodInstance (n .row) ≡ true) Lasts
+      (λ n k. K .split (λ r o. goodInstance r ≡ true → Each Lasts (atNumber (n .number) o)) (λ b k. (K .good b k, tt)) (λ r f k. tt) (n .row) k) ns g)

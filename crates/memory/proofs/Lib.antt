@@ -1,6 +1,6 @@
--- Each element of a list, each row of a table
-pub mod Each
+-- each row of a table, rows of a kind
 pub mod Tables
+pub mod OfKind
 -- demand 3: tables that are alike, one call, lists of calls
 pub mod Alike
 pub mod Lines

@@ -18,7 +18,8 @@ use Rattle.plain.specs.Plain.{linesWith, messageLines, lines, Result, step}
 use Rattle.lemmas.proofs.Choice.{cond-case, true-false, and-left, and-right, and-both}
 use Rattle.lemmas.proofs.Same.{same-equal}
 use Rattle.memory.specs.Facts.{ProperEvent}
-use Rattle.memory.proofs.Each.{All, Pairs, pairs-none, pairs-weaken}
+use Rattle.lemmas.specs.Each.{Each}
+use Rattle.lemmas.proofs.Each.{Pairs, pairs-none, pairs-weaken}
 use Rattle.memory.proofs.Lines.{accepted-time}
 use Rattle.memory.proofs.Tables.{Rows, Writes, rows-good, rows-live, placed-rows, writes-become}
 use Rattle.memory.proofs.Good.{GoodInstance, GoodRoute, accept-writes}
@@ -126,7 +127,7 @@ sound-right s g =
 abbrev NotTwo : Line → Type 0
 NotTwo l = eqb (l .number) 2 && l .holds ≡ false
 
-not-two : (ls : List Line) → All NotTwo ls → answerOf ls ≡ 2 → ⊥
+not-two : (ls : List Line) → Each NotTwo ls → answerOf ls ≡ 2 → ⊥
 unfolding answerOf
 not-two [] h e = omega arith
 not-two (l ∷ ls) h e = go (l .holds) (h .0) e (not-two ls (h .1))
@@ -135,16 +136,16 @@ not-two (l ∷ ls) h e = go (l .holds) (h .0) e (not-two ls (h .1))
     go true f e k = true-false (rw (eq-eqb (l .number) 2 e) at f)
     go false f e k = k e
 
-with-not-two : (x : Settings) (c : Received) (m : Message) (v : View) (t : ℕ) (p : Option (Numbered RequestRow)) → All NotTwo (linesWith x c m v t p)
+with-not-two : (x : Settings) (c : Received) (m : Message) (v : View) (t : ℕ) (p : Option (Numbered RequestRow)) → Each NotTwo (linesWith x c m v t p)
 unfolding replyLines
 with-not-two x c m v t none = (refl, tt)
 with-not-two x c m v t (some p) = (refl, (refl, (refl, (refl, (refl, (refl, (refl, tt)))))))
 
-request-not-two : (x : Settings) (v : View) (t : ℕ) (c : Received) (m : Message) → All NotTwo (requestLines x c m (asked x v t c m))
+request-not-two : (x : Settings) (v : View) (t : ℕ) (c : Received) (m : Message) → Each NotTwo (requestLines x c m (asked x v t c m))
 unfolding requestLines
 request-not-two x v t c m = (refl, (refl, (refl, (refl, (refl, (refl, (refl, (refl, tt))))))))
 
-lines-not-two : (x : Settings) (good : Bool) (v : View) (c : Lent) (e : Event) → wrongState good v ≡ false → All NotTwo (lines x good v c e)
+lines-not-two : (x : Settings) (good : Bool) (v : View) (c : Lent) (e : Event) → wrongState good v ≡ false → Each NotTwo (lines x good v c e)
 unfolding lines messageLines startLines
 lines-not-two x good v c (Event.message r) w =
     let m : Message = messageOf (r .octets) in (
@@ -163,7 +164,7 @@ lines-not-two x good v c (Event.message r) w =
                   refl,
                   (
                     refl,
-                    cond-case (All NotTwo) (m .discovery .reply) (linesWith x r m v (c .time) (partnerOf v (c .time) m))
+                    cond-case (Each NotTwo) (m .discovery .reply) (linesWith x r m v (c .time) (partnerOf v (c .time) m))
                         (requestLines x r m (asked x v (c .time) r m))
                         (λ e. with-not-two x r m v (c .time) (partnerOf v (c .time) m)) (λ e. request-not-two x v (c .time) r m),
                   ),

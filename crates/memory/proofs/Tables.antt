@@ -10,8 +10,9 @@ use lib.ListN.{replicate}
 use borrow.Author.Tests.{ltb-false, le-ltb}
 use Rattle.plain.specs.Table.{Numbered, Change, lasts, becomes, live, liveFrom, placedFrom}
 use Rattle.plain.specs.Answers.{allGood}
+use Rattle.plain.specs.Lists.{all}
 use Rattle.lemmas.proofs.Choice.{cond-case, true-false, and-both}
-use Rattle.memory.proofs.Each.{All}
+use Rattle.lemmas.specs.Each.{Each}
 
 -- a row that does not last at t does not last later
 pub lasts-later : (t u : ℕ) (d : Option ℕ) → t ≤ u → lasts t d ≡ false → lasts u d ≡ false
@@ -41,16 +42,16 @@ module _ {A : Type 0} (P : A → Type 0) where
 
   -- every row that a change writes is so
   abbrev pub Writes : Change A → Type 0
-  Writes c = All (λ (n : Numbered A). P (n .row)) (c .become) × All P (c .new)
+  Writes c = Each (λ (n : Numbered A). P (n .row)) (c .become) × Each P (c .new)
 
-  pub becomes-so : (us : List (Numbered A)) (i : ℕ) (r : A) → All (λ (n : Numbered A). P (n .row)) us → P r → P (becomes us i r)
+  pub becomes-so : (us : List (Numbered A)) (i : ℕ) (r : A) → Each (λ (n : Numbered A). P (n .row)) us → P r → P (becomes us i r)
   unfolding becomes
   becomes-so [] i r w h = h
   becomes-so (u ∷ us) i r w h = cond-case P (eqb (u .number) i) (u .row) (becomes us i r) (λ e. w .0) (λ e. becomes-so us i r (w .1) h)
 
 -- no row in use is wrong
 pub rows-good : {A : Type 0} (good : A → Bool) (rows : List (Option A)) → Rows (λ (r : A). good r ≡ true) rows → allGood good rows ≡ true
-unfolding allGood
+unfolding all
 rows-good good [] h = refl
 rows-good good (none ∷ rows) h = rows-good good rows h
 rows-good good (some r ∷ rows) h = and-both (good r) (allGood good rows) (h .0) (rows-good good rows (h .1))
@@ -120,12 +121,12 @@ module _ {A : Type 0} (deadline : A → Option ℕ) where
   -- ---- Rows that are so
 
   module _ (P : A → Type 0) where
-    pub rows-live : (t i : ℕ) (rows : List (Option A)) → Rows P rows → All (λ (n : Numbered A). P (n .row)) (liveFrom deadline t i rows)
+    pub rows-live : (t i : ℕ) (rows : List (Option A)) → Rows P rows → Each (λ (n : Numbered A). P (n .row)) (liveFrom deadline t i rows)
     unfolding liveFrom
     rows-live t i [] h = tt
     rows-live t i (none ∷ rows) h = rows-live t (suc i) rows h
     rows-live t i (some r ∷ rows) h =
-        cond-case (All (λ (n : Numbered A). P (n .row))) (lasts t (deadline r)) (record { number = i; row = r } ∷ liveFrom deadline t (suc i) rows)
+        cond-case (Each (λ (n : Numbered A). P (n .row))) (lasts t (deadline r)) (record { number = i; row = r } ∷ liveFrom deadline t (suc i) rows)
         (liveFrom deadline t (suc i) rows) (λ e. (h .0, rows-live t (suc i) rows (h .1))) (λ e. rows-live t (suc i) rows (h .1))
 
     -- what a live row becomes is so
@@ -145,7 +146,7 @@ module _ {A : Type 0} (deadline : A → Option ℕ) where
     kept-row t us i (some r) rows rest g b h = (cond-case P (lasts t (deadline r)) (becomes us i r) r (b .0) (λ e. g .0), h)
 
     -- rows that are so, into which such rows are written
-    pub placed-rows : (t : ℕ) (us : List (Numbered A)) (ns : List A) (i : ℕ) (rows : List (Option A)) → Rows P rows → Becomes t us i rows → All P ns
+    pub placed-rows : (t : ℕ) (us : List (Numbered A)) (ns : List A) (i : ℕ) (rows : List (Option A)) → Rows P rows → Becomes t us i rows → Each P ns
         → Rows P (placedFrom deadline t us ns i rows)
     unfolding placedFrom
     placed-rows t us ns i [] g b w = tt
@@ -164,7 +165,7 @@ module _ {A : Type 0} (deadline : A → Option ℕ) where
         go false e h k = rw (placed-dead t us n ns i r rows e) (w .0, k)
 
     -- where every row that is written is so
-    pub writes-become : (t : ℕ) (us : List (Numbered A)) (i : ℕ) (rows : List (Option A)) → All (λ (n : Numbered A). P (n .row)) us → Rows P rows
+    pub writes-become : (t : ℕ) (us : List (Numbered A)) (i : ℕ) (rows : List (Option A)) → Each (λ (n : Numbered A). P (n .row)) us → Rows P rows
         → Becomes t us i rows
     writes-become t us i [] w g = tt
     writes-become t us i (none ∷ rows) w g = writes-become t us (suc i) rows w g

@@ -2,9 +2,9 @@
 use Prim.Native.Nat.{ℕ, _≤_, _<_}
 use mathlib.Core.Path.{_≡_}
 use mathlib.Core.List.{List, [], _∷_}
-use lib.ListN.{getD}
 use Rattle.plain.specs.Given.{Settings, Event, Call, State}
 use Rattle.plain.specs.Plain.{nothing, step, fresh}
+use Rattle.lemmas.specs.Each.{Octets}
 
 -- the state that a list of calls leaves
 unfoldable pub stateAfter : Settings → State → List Call → State
@@ -26,7 +26,7 @@ OwnNumber =
 
 -- A call's octets fit their type: every call that code can make is so. Other numbers are as they come.
 abbrev pub ProperEvent : Event → Type 0
-ProperEvent (Event.message r) = (i : ℕ) → getD (r .octets) i 0 < 256
+ProperEvent (Event.message r) = Octets (r .octets)
 ProperEvent (Event.start s) = Unit {0}
 
 abbrev pub Proper : List Call → Type 0

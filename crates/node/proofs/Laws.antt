@@ -14,19 +14,19 @@ use Rattle.plain.specs.Address.{Address}
 use Rattle.plain.specs.Given.{Settings, Received, RequestRow, Instance, Route, State}
 use Rattle.plain.specs.Table.{Numbered, Change, put}
 use Rattle.plain.specs.Octets.{Message, mostTargets}
-use Rattle.plain.specs.Answers.{View, viewOf, goodInstance, allGood, goodDeadline, goodState, wrongState, requests, replies, requestTwins, replyTwins, routeTwins, answerOf, liveRequest}
+use Rattle.plain.specs.Answers.{View, viewOf, shortPrefix, goodIf, goodInstance, allGood, goodDeadline, goodState, wrongState, requests, replies, requestTwins, replyTwins, routeTwins, answerOf, liveRequest}
 use Rattle.plain.specs.Request.{Accepted, Asked, areTargNode, askedWith, asked, forwards, repliesNow, requestRow, forwardedRequest, requestLines, acceptRequest, freeDelta, deltaTaken, routeChange, withReplyRow, startLines}
 use Rattle.plain.specs.Reply.{partnerOf, answeredWith, answered, replyLines, acceptReply, origNode, partnerNumber}
 use Rattle.plain.specs.Plain.{idle}
 use Rattle.plain.specs.declared.Target.{Target}
 use Rattle.row.specs.Meaning.{instanceOf, requestOf, routeIn, targetsOf, noRow, noRoute}
 use Rattle.row.proofs.Laws.{length-targets}
-use Rattle.good.specs.Good.{goodIf}
+use Rattle.lemmas.proofs.Walk.{all-at, all-map}
 use Rattle.row.specs.declared.InstanceRow.{InstanceRow}
 use Rattle.row.specs.declared.RouteRow.{RouteRow}
 use Rattle.own.specs.Settings.{settingsOf}
 use Rattle.own.specs.declared.Own.{Own}
-use Rattle.message.specs.Message.{messageIn, receivedBy, numbered, requestFound, replyFound, routeFound, deltaFound}
+use Rattle.message.specs.Message.{messageIn, receivedBy, numbered, requestFound, replyFound, routeFound, deltaFound, rowFound}
 use Rattle.message.specs.declared.Parsed.{Parsed}
 use Rattle.message.specs.declared.Link.{Link}
 use Rattle.message.specs.declared.Found.{Found}
@@ -101,32 +101,17 @@ wrong-last s a b t r n g f h e q u = u ∙ sym (wrong-routes (goodState s) (view
 
 -- ---- a found row has at most 8 targets
 
-all-good-at : {R A : Type 0} (read : R → Option A) (good : A → Bool) (rows : List R) (i : ℕ) (d : R) → allGood good (map read rows) ≡ true → i < length rows
-    → goodIf good (read (getD rows i d)) ≡ true
-unfolding allGood
-all-good-at read good [] i d e h = absurd (omega arith)
-all-good-at read good (r ∷ rows) zero d e h = go (read r) e
-  where
-    go : (o : Option _) → allGood good (o ∷ map read rows) ≡ true → goodIf good o ≡ true
-    go none e = refl
-    go (some a) e = and-left (good a) (allGood good (map read rows)) e
-all-good-at read good (r ∷ rows) (suc i) d e h = all-good-at read good rows i d (go (read r) e) (omega arith)
-  where
-    go : (o : Option _) → allGood good (o ∷ map read rows) ≡ true → allGood good (map read rows) ≡ true
-    go none e = e
-    go (some a) e = and-right (good a) (allGood good (map read rows)) e
-
 pub row-few : (rows : List InstanceRow) (t : ℕ) (f : Found) → allGood goodInstance (map instanceOf rows) ≡ true → LiveRow rows t f
     → (f .is ≡ true → f .row .kind ≡ 1) → f .is ≡ true → f .row .count ≤ 8
 unfolding instanceOf goodInstance requestOf
 row-few rows t f g l k i =
-    let a = all-good-at instanceOf goodInstance rows (f .at) noRow g (l .within i) in
+    let a = all-at (λ r. goodIf goodInstance (instanceOf r)) noRow rows (f .at) (l .within i) (sym (all-map (goodIf goodInstance) instanceOf rows) ∙ g) in
     let b : goodIf goodInstance (instanceOf (f .row)) ≡ true = rw (l .stands i) a in
     let c : goodInstance (Instance.request (requestOf (f .row))) ≡ true = rw (k i) at b in
     let ts = targetsOf (f .row .count) (f .row .targets) in
     let d =
-    and-left (leb (length ts) mostTargets) (all (λ (z : Target). leb (z .plen) 127) ts)
-    (and-left (leb (length ts) mostTargets && all (λ (z : Target). leb (z .plen) 127) ts) (goodDeadline (requestOf (f .row) .deadline)) c) in
+    and-left (leb (length ts) mostTargets) (all shortPrefix ts)
+    (and-left (leb (length ts) mostTargets && all shortPrefix ts) (goodDeadline (requestOf (f .row) .deadline)) c) in
     omega (arith, leb-true (length ts) mostTargets d, length-targets (f .row .count) (f .row .targets))
 
 -- ---- a decision is settled, by the numbers of what was found
@@ -243,7 +228,7 @@ module _ (clock seq t : ℕ) (rows : List InstanceRow) (routes : List RouteRow) 
 
   -- without a partner it is 8
   pub no-partner-is : (b : Bool) → b ≡ w .is → b ≡ false → replyDecision (settingsOf o) s t c m ≡ decisionOf 8 (idle (viewOf s))
-  unfolding replyDecision requestFound answerOf
+  unfolding replyDecision rowFound answerOf
   no-partner-is b e f =
       let g : partnerOf (viewOf s) t m ≡ none = sym partner-is ∙ rw (sym e ∙ f) in
       rw g
@@ -260,7 +245,7 @@ module _ (clock seq t : ℕ) (rows : List InstanceRow) (routes : List RouteRow) 
       → replyDecision (settingsOf o) s t c m
       ≡ decisionOf (answerOf (replyLines (settingsOf o) c m (answered (settingsOf o) (viewOf s) t c m (requestOf (w .row)))))
       (acceptReply (settingsOf o) seq t c m (answered (settingsOf o) (viewOf s) t c m (requestOf (w .row))))
-  unfolding replyDecision requestFound
+  unfolding replyDecision rowFound
   reply-is b e f =
       let g : partnerOf (viewOf s) t m ≡ some (record { number = w .at; row = requestOf (w .row) }) = sym partner-is ∙ rw (sym e ∙ f) in
       rw g

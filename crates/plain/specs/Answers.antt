@@ -41,22 +41,29 @@ viewOf s = record {
   routes = liveRows routeDeadline (s .clock) (s .routes);
 }
 
--- the request rows among the live rows, and the reply rows
-abbrev pub asRequest : ℕ → Instance → List (Numbered RequestRow)
-asRequest i (Instance.request r) = record { number = i; row = r } ∷ []
-asRequest i (Instance.reply r) = []
+-- an instance row is a request row or a reply row
+abbrev pub asRequest : Instance → Option RequestRow
+asRequest (Instance.request r) = some r
+asRequest (Instance.reply r) = none
 
-unfoldable pub requests : List (Numbered Instance) → List (Numbered RequestRow)
-requests [] = []
-requests (n ∷ ns) = asRequest (n .number) (n .row) ++ requests ns
+abbrev pub asReply : Instance → Option ReplyRow
+asReply (Instance.request r) = none
+asReply (Instance.reply r) = some r
 
-abbrev pub asReply : ℕ → Instance → List (Numbered ReplyRow)
-asReply i (Instance.request r) = []
-asReply i (Instance.reply r) = record { number = i; row = r } ∷ []
+-- the rows of a kind among the live rows, with their numbers; `kind` tells what a row is if it is of the kind
+abbrev pub atNumber : {B : Type 0} → ℕ → Option B → List (Numbered B)
+atNumber i none = []
+atNumber i (some r) = record { number = i; row = r } ∷ []
 
-unfoldable pub replies : List (Numbered Instance) → List (Numbered ReplyRow)
-replies [] = []
-replies (n ∷ ns) = asReply (n .number) (n .row) ++ replies ns
+unfoldable pub ofKind : {A B : Type 0} → (A → Option B) → List (Numbered A) → List (Numbered B)
+ofKind kind [] = []
+ofKind kind (n ∷ ns) = atNumber (n .number) (kind (n .row)) ++ ofKind kind ns
+
+abbrev pub requests : List (Numbered Instance) → List (Numbered RequestRow)
+requests = ofKind asRequest
+
+abbrev pub replies : List (Numbered Instance) → List (Numbered ReplyRow)
+replies = ofKind asReply
 
 -- "Row key: RPLInstanceID and DODAGID." Of a live row at a call's time: those that are live at the clock are seen.
 abbrev pub requestFor : ℕ → ℕ → Address → RequestRow → Bool
@@ -97,13 +104,20 @@ badLent x clock c =
 unfoldable pub longMessage : List ℕ → Bool
 longMessage octets = ltb 1236 (length octets)
 
+-- "a target prefix over 127", which the field's seven bits do not hold
+abbrev pub longPrefix : Target → Bool
+longPrefix t = ltb 127 (t .plen)
+
+abbrev pub shortPrefix : Target → Bool
+shortPrefix t = leb (t .plen) 127
+
 -- "a start with 0 or over 8 targets, a target prefix over 127, L over 3, Compr over 15, RankLimit over 127". Repeats are left out before
 -- targets are counted: `targets` is the list without them.
 unfoldable pub badStart : Start → List Target → Bool
 badStart c targets =
     eqb (length targets) 0
     || ltb mostTargets (length targets)
-    || any (λ (t : Target). ltb 127 (t .plen)) (c .targets)
+    || any longPrefix (c .targets)
     || ltb 3 (c .l)
     || ltb 15 (c .compr)
     || ltb 127 (c .limit)
@@ -118,17 +132,19 @@ goodDeadline (some d) = leb d (2 ^ 41)
 -- "a row in use with over 8 targets, a target prefix over 127 or a deadline above 2^41" is not good
 unfoldable pub goodInstance : Instance → Bool
 goodInstance (Instance.request r) =
-    leb (length (r .targets)) mostTargets && all (λ (t : Target). leb (t .plen) 127) (r .targets) && goodDeadline (r .deadline)
+    leb (length (r .targets)) mostTargets && all shortPrefix (r .targets) && goodDeadline (r .deadline)
 goodInstance (Instance.reply r) = goodDeadline (r .deadline)
 
 unfoldable pub goodRoute : Route → Bool
 goodRoute r = goodDeadline (r .deadline)
 
 -- each row in use is good, a dead one too
-unfoldable pub allGood : {A : Type 0} → (A → Bool) → List (Option A) → Bool
-allGood good [] = true
-allGood good (none ∷ rows) = allGood good rows
-allGood good (some r ∷ rows) = good r && allGood good rows
+abbrev pub goodIf : {A : Type 0} → (A → Bool) → Option A → Bool
+goodIf good none = true
+goodIf good (some r) = good r
+
+abbrev pub allGood : {A : Type 0} → (A → Bool) → List (Option A) → Bool
+allGood good rows = all (goodIf good) rows
 
 abbrev pub goodState : State → Bool
 goodState s = allGood goodInstance (s .instances) && allGood goodRoute (s .routes)

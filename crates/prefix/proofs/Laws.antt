@@ -35,10 +35,6 @@ pub keep-all : (k x : ℕ) → 8 ≤ k → keepBits k x ≡ x
 unfolding keepBits
 keep-all k x h = let e : 8 - k ≡ 0 = omega arith in rw e (omega arith)
 
-pub keep-none : (x : ℕ) → x < 256 → keepBits 0 x ≡ 0
-unfolding keepBits
-keep-none x h = omega arith
-
 -- all the bits of an address
 pub first-all : (k : ℕ) (a : List ℕ) → 8 * length a ≤ k → firstBits k a ≡ a
 unfolding firstBits

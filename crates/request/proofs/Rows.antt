@@ -12,7 +12,8 @@ use Rattle.plain.specs.Address.{Address}
 use Rattle.plain.specs.Given.{Settings}
 use Rattle.plain.specs.Rank.{ownRank}
 use Rattle.plain.specs.Request.{deltaOr0, areTargNode, requestStanding, targetsKept, askedWith}
-use Rattle.writer_option.specs.Sendable.{shortPrefix, shortPrefixes}
+use Rattle.plain.specs.Answers.{shortPrefix}
+use Rattle.writer_option.specs.Sendable.{shortPrefixes}
 use Rattle.kept.specs.Kept.{listOf, Kept}
 use Rattle.message.specs.Message.{messageIn, receivedBy, requestFound, routeFound, deltaFound}
 use Rattle.targets.specs.declared.Targets.{Targets}

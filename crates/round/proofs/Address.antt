@@ -7,8 +7,11 @@ use native.Mathlib.Nat.{mul-div-cancel, mul-mod-left}
 use lib.ListN.{length, take, replicate, take-append-drop, length-drop, length-map}
 use Rattle.plain.specs.Address.{Address, keepBits, firstBits, elide, restore}
 use Rattle.plain.specs.Octets.{elided, restored, addressOctets}
-use Rattle.round.specs.Round.{Each, Octets, Whole}
-use Rattle.round.proofs.Lists.{each-of, each-map, map-same, length-parts, parts-back}
+use Rattle.lemmas.specs.Each.{Each, Octets}
+use Rattle.lemmas.proofs.Rules.{keep-none}
+use Rattle.lemmas.proofs.Each.{each-map, each-weaken}
+use Rattle.round.specs.Round.{Whole}
+use Rattle.round.proofs.Lists.{map-same, length-parts, parts-back}
 
 -- ---- "Vector addresses drop their first Compr octets, shared with the DODAGID."
 
@@ -32,15 +35,9 @@ restored-elided k d v lt h e =
     let n : length (elided k v) / addressOctets k ≡ length (map (elide k) v)
     = rw (length-elided k v h, mul-div-cancel (length v) {n = addressOctets k} (omega arith)) (sym (length-map v (elide k))) in
     rw (n, parts-back (addressOctets k) (map (elide k) v) (elided-long k v h), map-map (restore k d) (elide k) v)
-    (map-same (λ a. restore k d (elide k a)) v (each-of _ _ (restore-elide k d) v e))
+    (map-same (λ a. restore k d (elide k a)) v (each-weaken _ _ (restore-elide k d) v e))
 
 -- ---- "Ceil(length/8) octets, spare bits ignored, stored and sent as zero"
-
-keep-none : (k x : ℕ) → k ≤ 0 → x < 256 → keepBits k x ≡ 0
-unfolding keepBits
-keep-none k x h b =
-    let e : k ≡ 0 = omega arith in
-    rw e (omega arith)
 
 -- The first k bits of an address are those of its first n octets, filled up with zeros, if these octets hold k bits.
 pub first-filled : (k n m : ℕ) (a : Address) → k ≤ 8 * n → length a ≤ m → Octets a
@@ -50,4 +47,5 @@ first-filled k n m [] p q o = refl
 first-filled k n zero (x ∷ a) p q o = absurd (omega arith)
 first-filled k (suc n) (suc m) (x ∷ a) p q o = rw (first-filled (k - 8) n (suc m) a (omega arith) (omega arith) (o .1))
 first-filled k zero (suc m) (x ∷ a) p q o =
-    rw (keep-none k 0 p (omega arith), keep-none k x p (o .0), first-filled (k - 8) zero m a (omega arith) (omega arith) (o .1))
+    let e : k ≡ 0 = omega arith in
+    rw (e, keep-none 0 (omega arith), keep-none x (o .0), first-filled (0 - 8) zero m a (omega arith) (omega arith) (o .1))

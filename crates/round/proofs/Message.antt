@@ -15,8 +15,10 @@ use Rattle.plain.specs.Octets.{Message, Opt, optionsOf, ofType, firstBody, conf
 use Rattle.plain.specs.declared.Target.{Target}
 use Rattle.plain.specs.declared.Discovery.{Discovery}
 use Rattle.plain.specs.Address.{Address}
-use Rattle.round.specs.Round.{Each, WritableBase}
-use Rattle.round.proofs.Lists.{each-append, those-append}
+use Rattle.lemmas.specs.Each.{Each}
+use Rattle.lemmas.proofs.Each.{each-append}
+use Rattle.round.specs.Round.{WritableBase}
+use Rattle.round.proofs.Lists.{those-append}
 use Rattle.round.proofs.Options.{option, octetsOfOption, octetsOfOptions, options-back, options-short, octets-append, kinds-are, those-are}
 use Rattle.round.proofs.Base.{length-base}
 use Rattle.round.proofs.Art.{artBody}

@@ -15,8 +15,9 @@ use Rattle.plain.specs.declared.Target.{Target}
 use Rattle.plain.specs.declared.Discovery.{Discovery}
 use Rattle.lemmas.proofs.Choice.{or-left}
 use Rattle.lemmas.proofs.Rules.{most-octets}
-use Rattle.round.specs.Round.{Each, Octets, Whole, WritableBase, WritableConfiguration, WritableDiscovery, WritableVector, WritableTarget, WritesOctets}
-use Rattle.round.proofs.Lists.{each-append, each-flatten, each-take, each-drop, each-map}
+use Rattle.lemmas.specs.Each.{Each, Octets}
+use Rattle.round.specs.Round.{Whole, WritableBase, WritableConfiguration, WritableDiscovery, WritableVector, WritableTarget, WritesOctets}
+use Rattle.lemmas.proofs.Each.{each-append, each-flatten, each-take, each-drop, each-map}
 use Rattle.round.proofs.Fields.{word-lt}
 use Rattle.round.proofs.Options.{option, octetsOfOption, octetsOfOptions}
 use Rattle.round.proofs.Art.{artBody, length-art}

@@ -12,7 +12,7 @@ use lib.Seq.{take-append-seam, drop-append-seam}
 use borrow.Author.Tests.{le-leb, ne-eqb}
 use Rattle.plain.specs.Lists.{those}
 use Rattle.plain.specs.Octets.{Opt, optionsIn, optionOctets, followedBy}
-use Rattle.round.specs.Round.{Each}
+use Rattle.lemmas.specs.Each.{Each}
 use Rattle.round.proofs.Lists.{those-map}
 
 -- one option in front of others

@@ -11,8 +11,10 @@ use lib.Seq.{take-append-seam}
 use borrow.Author.Tests.{le-ltb}
 use Rattle.plain.specs.Octets.{Message, Opt, hear, octetsOf, optionsOf, ofType, firstBody, configurationOf, discoveryOf, restored, comprOf, vectorOctets, routeBody, routeBodyOctets, replyCounts, plenOf, targetOf, targetsOf, baseOf, mopOf, messageOf, malformed, unfit, tooMany, anyBad, badOption, badRoute, badArt, configurationType, artType, mostAddresses, mostTargets}
 use Rattle.plain.specs.declared.Target.{Target}
-use Rattle.round.specs.Round.{Each, Writable, WritableConfiguration, WritableTarget, RoundTrip, BufferRoundTrip}
-use Rattle.round.proofs.Lists.{each-map, each-of, map-same, any-none}
+use Rattle.lemmas.specs.Each.{Each}
+use Rattle.lemmas.proofs.Each.{each-map, each-weaken, none-any}
+use Rattle.round.specs.Round.{Writable, WritableConfiguration, WritableTarget, RoundTrip, BufferRoundTrip}
+use Rattle.round.proofs.Lists.{map-same}
 use Rattle.round.proofs.Options.{option, octetsOfOptions}
 use Rattle.round.proofs.Base.{mop-back, base-back}
 use Rattle.round.proofs.Art.{artBody, plen-back, target-back, good-art}
@@ -44,7 +46,7 @@ targets-back : (ts : List Target) → Each WritableTarget ts
     → map (λ (o : Opt). targetOf (o .body)) (map (option artType) (map artBody ts)) ≡ ts
 targets-back ts h =
     rw (map-map (option artType) artBody ts, map-map (λ (o : Opt). targetOf (o .body)) (λ t. option artType (artBody t)) ts)
-    (map-same (λ t. targetOf (artBody t)) ts (each-of WritableTarget (λ t. targetOf (artBody t) ≡ t) target-back ts h))
+    (map-same (λ t. targetOf (artBody t)) ts (each-weaken WritableTarget (λ t. targetOf (artBody t) ≡ t) target-back ts h))
 
 -- "one ART, which must be a whole address"
 first-whole : (ts : List Target) → length ts ≡ 1 → Each WritableTarget ts → Each (λ (t : Target). t .plen ≡ 0) ts
@@ -77,7 +79,7 @@ module _ (m : Message) (w : Writable m) where
   options-good : anyBad (optionsOf (octetsOf m)) ≡ false
   options-good =
       rw are
-      (any-none badOption (options m)
+      (none-any badOption (options m)
       (each-option (λ (o : Opt). badOption o ≡ false) (m .configuration) (m .discovery .reply) body (m .targets)
       (good-configurations (m .configuration) (w .configuration))
       (route-option (m .discovery .reply) body

@@ -8,21 +8,13 @@ use lib.ListN.{length, take}
 use Rattle.plain.specs.Lists.{once}
 use Rattle.plain.specs.Address.{Address, firstBits, unusable}
 use Rattle.plain.specs.Octets.{Message, Heard, hear, octetsOf, elided, prefixBits, badConfiguration, sameTarget, mostAddresses, mostTargets}
+use Rattle.lemmas.specs.Each.{Each, Octets}
 use Rattle.lemmas.specs.Written.{Written}
 use Rattle.plain.specs.declared.Target.{Target}
 use Rattle.plain.specs.declared.Base.{Base}
 use Rattle.plain.specs.declared.Discovery.{Discovery}
 
 -- ---- What can be written
-
--- each element is so
-abbrev pub Each : {A : Type 0} → (A → Type 0) → List A → Type 0
-Each P [] = Unit
-Each P (x ∷ xs) = P x × Each P xs
-
--- each number is below 256
-abbrev pub Octets : List ℕ → Type 0
-Octets xs = Each (λ x. x < 256) xs
 
 -- a whole address: sixteen octets
 pub record Whole (a : Address) : Type 0 where

@@ -12,9 +12,10 @@ use borrow.Author.Tests.{lt-ltb, le-ltb, ne-eqb}
 use Rattle.plain.specs.Lists.{firstOf, same}
 use Rattle.plain.specs.Address.{Address}
 use Rattle.plain.specs.Table.{Numbered, lasts, live, liveRows, instanceDeadline, routeDeadline}
-use Rattle.plain.specs.Answers.{requests, replies, requestFor, replyFor, routeFor}
+use Rattle.plain.specs.Answers.{ofKind, requests, replies, requestFor, replyFor, routeFor}
 use Rattle.plain.specs.Rank.{plusDelta}
 use Rattle.plain.specs.Request.{leastDelta, deltaTaken, freeDelta}
+use Rattle.lemmas.proofs.Rules.{every-kind}
 use Rattle.lemmas.proofs.Choice.{and-left, and-right, true-false}
 use Rattle.row.specs.Meaning.{flag, instanceOf, routeOf, requestOf, noRow, noRoute}
 use Rattle.live.specs.Look.{here, requestHere, replyHere}
@@ -22,7 +23,7 @@ use Rattle.live.proofs.Laws.{Sort, requestSort, replySort, routeSort, sort-here
 use Rattle.row.specs.declared.InstanceRow.{InstanceRow}
 use Rattle.row.specs.declared.RouteRow.{RouteRow}
 use Rattle.first.specs.First.{first}
-use Rattle.first.proofs.Found.{parts, requests-are, replies-are, routes-are, sort-is, sort-live, sort-found, sort-missing, sort-any}
+use Rattle.first.proofs.Found.{sort-is, sort-live, sort-found, sort-missing, sort-any}
 use Rattle.message.specs.Message.{deltaFound}
 use Rattle.message.specs.declared.Found.{Found}
 use Rattle.message.specs.declared.FoundRoute.{FoundRoute}
@@ -61,7 +62,7 @@ pub record Ask (t : ℕ) : Type 1 where
   pub test : sort .Row → Bool
   pub lives : (b : sort .Row) → test b ≡ true → lasts t (sort .ends b) ≡ true
   pub all : List (Numbered (sort .Meaning)) → List (Numbered (sort .Row))
-  pub all-are : (ns : List (Numbered (sort .Meaning))) → all ns ≡ parts (sort .part) ns
+  pub all-are : (ns : List (Numbered (sort .Meaning))) → all ns ≡ ofKind (sort .part) ns
 
 module _ (t : ℕ) (A : Ask t) (rows : List (A .sort .Record)) (k : ℕ) (e : k ≡ first (here (A .sort .part) (A .test)) (map (A .sort .read) rows)) where
   -- what the rules see at a clock
@@ -92,7 +93,7 @@ requestAsk t instance dodagid = record {
   test = requestFor t instance dodagid;
   lives = λ b. and-right (eqb (b .instance) instance && same (b .dodagid) dodagid) (lasts t (b .deadline));
   all = requests;
-  all-are = requests-are;
+  all-are = λ ns. refl;
 }
 
 abbrev pub partnerAsk : (t instance : ℕ) → Address → Bool → Ask t
@@ -101,7 +102,7 @@ partnerAsk t instance dodagid h = record {
   test = partnerFor t instance dodagid h;
   lives = λ b e. requestAsk t instance dodagid .lives b (and-left (requestFor t instance dodagid b) (Bool·beq (b .h) h) e);
   all = requests;
-  all-are = requests-are;
+  all-are = λ ns. refl;
 }
 
 abbrev pub replyAsk : (t instance : ℕ) → Address → Ask t
@@ -110,7 +111,7 @@ replyAsk t instance dodagid = record {
   test = replyFor t instance dodagid;
   lives = λ b. and-right (eqb (b .instance) instance && same (b .dodagid) dodagid) (lasts t (b .deadline));
   all = replies;
-  all-are = replies-are;
+  all-are = λ ns. refl;
 }
 
 abbrev pub routeAsk : (t : ℕ) → Address → Address → ℕ → Ask t
@@ -119,7 +120,7 @@ routeAsk t source destination instance = record {
   test = routeFor t source destination instance;
   lives = λ b. and-right (same (b .source) source && same (b .destination) destination && eqb (b .instance) instance) (lasts t (b .deadline));
   all = λ ns. ns;
-  all-are = routes-are;
+  all-are = every-kind;
 }
 
 -- ---- the partner
@@ -196,9 +197,8 @@ module _ (rows : List InstanceRow) (t instance : ℕ) (dodagid : Address) where
     delta-taken : (clock : ℕ) → clock ≤ t → deltaTaken (seenAt clock rows []) t instance dodagid delta ≡ ltb k (length rows)
     unfolding deltaTaken
     delta-taken clock l =
-        rw (replies-are (liveRows instanceDeadline clock (map instanceOf rows)))
-        (sort-any replySort (replyFor t (plusDelta instance delta) dodagid) t (replyAsk t (plusDelta instance delta) dodagid .lives) rows k (rw n at e)
-        clock l)
+        sort-any replySort (replyFor t (plusDelta instance delta) dodagid) t (replyAsk t (plusDelta instance delta) dodagid .lives) rows k (rw n at e)
+        clock l
 
     pub tried-more : k < length rows → Tried rows t instance dodagid delta → Tried rows t instance dodagid (delta + 1)
     tried-more h w clock l =

@@ -9,10 +9,10 @@ use Rattle.plain.specs.Lists.{firstOf}
 use Rattle.plain.specs.Address.{Address}
 use Rattle.plain.specs.Given.{RequestRow, ReplyRow, Instance, Route}
 use Rattle.plain.specs.Table.{Numbered, live, liveRows, instanceDeadline, routeDeadline}
-use Rattle.plain.specs.Answers.{View, requests, requestFor, liveRequest, liveReply, liveRoute}
+use Rattle.plain.specs.Answers.{View, asRequest, requests, requestFor, liveRequest, liveReply, liveRoute}
 use Rattle.plain.specs.Request.{freeDelta}
 use Rattle.row.specs.Meaning.{instanceOf, routeOf, noRow, noRoute}
-use Rattle.live.specs.Look.{here, asRequest}
+use Rattle.live.specs.Look.{here}
 use Rattle.row.specs.declared.InstanceRow.{InstanceRow}
 use Rattle.row.specs.declared.RouteRow.{RouteRow}
 use Rattle.message.specs.declared.Found.{Found}

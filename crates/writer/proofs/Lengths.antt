@@ -13,7 +13,8 @@ use Rattle.plain.specs.declared.Base.{Base}
 use Rattle.plain.specs.declared.Discovery.{Discovery}
 use Rattle.writer.specs.Given.{messageFrom}
 use Rattle.writer_option.specs.Sendable.{Sendable, shortPrefixes}
-use Rattle.writer_octets.proofs.Addresses.{all-take, long}
+use Rattle.lemmas.proofs.Walk.{all-take}
+use Rattle.writer_octets.proofs.Addresses.{long}
 use Rattle.writer_base.proofs.Lengths.{base-length, configuration-le}
 use Rattle.writer_option.proofs.Lengths.{route-le}
 use Rattle.writer_art.proofs.Lengths.{arts-le}

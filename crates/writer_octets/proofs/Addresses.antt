@@ -17,22 +17,9 @@ use denote.Plain.{UInt}
 use denote.Laws.{Is}
 use Rattle.lemmas.proofs.Choice.{and-left, and-right, and-both}
 use Rattle.plain.specs.Lists.{all}
+use Rattle.lemmas.proofs.Walk.{all-take}
 use Rattle.plain.specs.Address.{Address}
 use Rattle.plain.specs.Octets.{elided}
-
--- what holds of each element holds of the element at i, and of each of the first n
-module _ {A : Type 0} (p : A → Bool) where
-  pub all-at : (xs : List A) (i : ℕ) (d : A) → i < length xs → all p xs ≡ true → p (getD xs i d) ≡ true
-  unfolding all
-  all-at [] i d h e = absurd (omega arith)
-  all-at (x ∷ xs) zero d h e = and-left (p x) (all p xs) e
-  all-at (x ∷ xs) (suc i) d h e = all-at xs i d (omega arith) (and-right (p x) (all p xs) e)
-
-  pub all-take : (n : ℕ) (xs : List A) → all p xs ≡ true → all p (take n xs) ≡ true
-  unfolding all
-  all-take zero xs e = refl
-  all-take (suc n) [] e = refl
-  all-take (suc n) (x ∷ xs) e = and-both (p x) (all p (take n xs)) (and-left (p x) (all p xs) e) (all-take n xs (and-right (p x) (all p xs) e))
 
 -- so many octets
 abbrev pub long : ℕ → List ℕ → Bool

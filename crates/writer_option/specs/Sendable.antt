@@ -3,8 +3,8 @@ use Prim.Native.Nat.{ℕ, _≤_, _*_, _-_}
 use mathlib.Core.Path.{_≡_}
 use mathlib.Core.Bool.{Bool, false}
 use mathlib.Core.List.{List}
-use lib.Dec.{leb}
 use Rattle.plain.specs.Lists.{all}
+use Rattle.plain.specs.Answers.{shortPrefix}
 use Rattle.plain.specs.declared.Target.{Target}
 use Rattle.plain.specs.declared.Discovery.{Discovery}
 
@@ -14,9 +14,6 @@ pub record Sendable (d : Discovery) (n : ℕ) : Type 0 where
   pub addresses : n ≤ 16
   pub octets : d .h ≡ false → n * (16 - d .compr) ≤ 252
 
--- No target has a Prefix Length over 127.
-abbrev pub shortPrefix : Target → Bool
-shortPrefix t = leb (t .plen) 127
-
+-- no target has a Prefix Length over 127
 abbrev pub shortPrefixes : List Target → Bool
 shortPrefixes ts = all shortPrefix ts

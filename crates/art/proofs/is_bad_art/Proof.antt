@@ -2,7 +2,7 @@ use Prim.Native.Nat.{_<_}
 use native.Mathlib.Omega.{arith}
 use borrow.Author.Needs.{needs}
 use Rattle.lemmas.proofs.Rules.{most-octets}
-use Rattle.art.proofs.Laws.{plen-below}
+use Rattle.lemmas.proofs.Targets.{plen-below}
 use Rattle.plain.specs.Octets.{badArt}
 use Rattle.lemmas.proofs.Cases.{cases}
 use Rattle.art.proofs.is_bad_art.Statement.{statement}

@@ -1,12 +1,14 @@
 use Rattle.row.proofs.Laws.{noTarget}
-use Rattle.good.proofs.Laws.{count-below, count-past, count-over, count-within, good-at, bad-at}
+use Rattle.good.proofs.Laws.{count-over, count-within, good-at, bad-at}
 use Prim.Native.Nat.{_≤_, _-_}
 use mathlib.Core.Path.{_≡_, refl, sym, _∙_}
 use borrow.Author.Needs.{needs}
 use lib.ListN.{length, drop, take}
 use Rattle.plain.specs.Lists.{all}
+use Rattle.lemmas.proofs.Front.{front-below, front-past}
+use native.Mathlib.Omega.{arith}
 use Rattle.lemmas.proofs.Walk.{all-miss, all-hit, all-end}
-use Rattle.good.specs.Good.{goodTarget}
+use Rattle.plain.specs.Answers.{shortPrefix}
 use Rattle.good.proofs.are_good_targets.Statement.{statement}
 use Rattle.good.proofs.are_good_targets.Tie as tie
 use Rattle.lemmas.proofs.Cases.{cases}
@@ -14,7 +16,7 @@ use Rattle.lemmas.proofs.Cases.{cases}
 -- Each of the first `count` targets is good if those from i on are.
 abbrev Inv-loop : tie.InvT-loop
 Inv-loop count targets i₀ i =
-    (count ≤ 8) × (i ≤ count) × (length targets ≡ 8) × (all goodTarget (take count targets) ≡ all goodTarget (drop i (take count targets)))
+    (count ≤ 8) × (i ≤ count) × (length targets ≡ 8) × (all shortPrefix (take count targets) ≡ all shortPrefix (drop i (take count targets)))
 
 abbrev μ-loop : tie.MeasureT-loop
 μ-loop count targets i₀ i = count - i
@@ -39,7 +41,7 @@ returns-2 c = let a = c .before .before .before .before .before .before .args in
     let l = c .before .before .before .before .loop in
     let h = c .before .before .before .loop-test .taken in
     sym (count-within (a .count) (a .t2) (l .inv .2) (l .inv .0)
-    ∙ all-miss goodTarget noTarget (take (a .count) (a .t2)) (l .i) (l .inv .3) (count-below (a .count) (a .t2) (l .inv .2) (l .i) h (l .inv .0))
+    ∙ all-miss shortPrefix noTarget (take (a .count) (a .t2)) (l .i) (l .inv .3) (front-below (a .count) (a .t2) (omega arith) (l .i) h)
     (bad-at (a .count) (a .t2) (l .inv .2) (l .i) h (c .if2 .taken)))
 
 add-i : tie.Need-add-i Inv-loop μ-loop
@@ -55,16 +57,16 @@ loop-again c = let a = c .before .before .before .before .before .before .args i
       l .inv .0,
       search needs,
       l .inv .2,
-      all-hit goodTarget noTarget (take (a .count) (a .t2)) (l .i) (l .inv .3)
-          (count-below (a .count) (a .t2) (l .inv .2) (l .i) h (l .inv .0)) (good-at (a .count) (a .t2) (l .inv .2) (l .i) h (c .if2 .left)),
+      all-hit shortPrefix noTarget (take (a .count) (a .t2)) (l .i) (l .inv .3)
+          (front-below (a .count) (a .t2) (omega arith) (l .i) h) (good-at (a .count) (a .t2) (l .inv .2) (l .i) h (c .if2 .left)),
     )
 
 returns-3 : tie.Need-returns-3 Inv-loop μ-loop
 returns-3 c = let a = c .before .before .before .args in
     let l = c .before .loop in
     sym (count-within (a .count) (a .t2) (l .inv .2) (l .inv .0)
-    ∙ all-end goodTarget noTarget (take (a .count) (a .t2)) (l .i) (l .inv .3)
-    (count-past (a .count) (a .t2) (l .inv .2) (l .i) (c .loop-test .left)))
+    ∙ all-end shortPrefix noTarget (take (a .count) (a .t2)) (l .i) (l .inv .3)
+    (front-past (a .count) (a .t2) (omega arith) (l .i) (c .loop-test .left)))
 
 pub are-good-targets-spec : {M : Type 1} → statement M
 are-good-targets-spec =

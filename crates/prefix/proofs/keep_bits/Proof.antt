@@ -2,7 +2,8 @@ use mathlib.Core.Path.{sym}
 use native.Mathlib.Nat.{mod-eq-of-lt}
 use native.Mathlib.Omega.{arith}
 use borrow.Author.Needs.{needs}
-use Rattle.prefix.proofs.Laws.{keep-le, keep-all, keep-none}
+use Rattle.prefix.proofs.Laws.{keep-le, keep-all}
+use Rattle.lemmas.proofs.Rules.{keep-none}
 use Rattle.plain.specs.Address.{keepBits}
 use Rattle.prefix.proofs.keep_bits.Statement.{statement}
 use Rattle.prefix.proofs.keep_bits.Tie as tie

@@ -1,26 +1,27 @@
 pub mod Lts
 pub mod Tie
 use Prim.Native.Nat.{_-_}
-use mathlib.Core.Path.{_≡_, refl, sym, _∙_}
+use mathlib.Core.Path.{_≡_, sym, _∙_}
 use mathlib.Core.List.{map}
 use denote.Ref.{now}
 use lib.ListN.{length, drop}
-use Rattle.plain.specs.Answers.{allGood, goodInstance}
+use Rattle.plain.specs.Lists.{all}
+use Rattle.plain.specs.Answers.{goodIf, allGood, goodInstance}
 use Rattle.row.specs.Meaning.{instanceOf, noRow}
-use Rattle.table.proofs.Good.{good-hit, good-miss, good-end}
+use Rattle.lemmas.proofs.Walk.{all-hit, all-miss, all-end, all-map}
 use borrow.Author.Needs.{needs}
 use Rattle.table.proofs.all_good.Statement.{statement}
 use Rattle.table.proofs.all_good.Proof.Tie as tie
 
 -- Each row is good if each from i on is.
 abbrev Inv-loop : tie.InvT-loop
-Inv-loop rows i₀ i = allGood goodInstance (map instanceOf rows) ≡ allGood goodInstance (map instanceOf (drop i rows))
+Inv-loop rows i₀ i = allGood goodInstance (map instanceOf rows) ≡ all (λ r. goodIf goodInstance (instanceOf r)) (drop i rows)
 
 abbrev μ-loop : tie.MeasureT-loop
 μ-loop rows i₀ i = length rows - i
 
 loop-holds : tie.Need-loop-holds Inv-loop μ-loop
-loop-holds c = refl
+loop-holds c = all-map (goodIf goodInstance) instanceOf _
 
 mul-is-good : tie.Need-mul-is-good Inv-loop μ-loop
 mul-is-good c = search needs
@@ -40,17 +41,17 @@ loop-less c = search needs
 loop-again : tie.Need-loop-again Inv-loop μ-loop
 loop-again c = let a = c .before .before .before .before .before .args in
     let l = c .before .before .before .before .loop in
-    good-hit instanceOf goodInstance (now (a .rows)) noRow (l .i) (l .inv) (c .before .before .before .loop-test .taken) (sym (c .before .is-good .ensures) ∙ c .if1 .taken)
+    all-hit (λ r. goodIf goodInstance (instanceOf r)) noRow (now (a .rows)) (l .i) (l .inv) (c .before .before .before .loop-test .taken) (sym (c .before .is-good .ensures) ∙ c .if1 .taken)
 
 returns : tie.Need-returns Inv-loop μ-loop
 returns c = let a = c .before .before .before .before .before .args in
     let l = c .before .before .before .before .loop in
-    sym (good-miss instanceOf goodInstance (now (a .rows)) noRow (l .i) (l .inv) (c .before .before .before .loop-test .taken) (sym (c .before .is-good .ensures) ∙ c .if1 .left))
+    sym (all-miss (λ r. goodIf goodInstance (instanceOf r)) noRow (now (a .rows)) (l .i) (l .inv) (c .before .before .before .loop-test .taken) (sym (c .before .is-good .ensures) ∙ c .if1 .left))
 
 returns-2 : tie.Need-returns-2 Inv-loop μ-loop
 returns-2 c = let a = c .before .before .args in
     let l = c .before .loop in
-    sym (good-end instanceOf goodInstance (now (a .rows)) noRow (l .i) (l .inv) (c .loop-test .left))
+    sym (all-end (λ r. goodIf goodInstance (instanceOf r)) noRow (now (a .rows)) (l .i) (l .inv) (c .loop-test .left))
 
 pub all-good-spec : {M : Type 1} → statement M
 all-good-spec = tie.close (tie.spec Inv-loop μ-loop loop-holds mul-is-good shared-slice-copy-out-is-good is-good-requires add-i loop-less loop-again

@@ -1,2 +1,0 @@
--- what answer 2 asks of one row
-pub mod Good
