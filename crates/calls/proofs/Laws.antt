@@ -4,32 +4,33 @@ use mathlib.Core.Path.{_≡_, refl, sym, ap, ap₂, _∙_}
 use mathlib.Core.Bool.{Bool, true, false, cond, _||_}
 use mathlib.Core.List.{List, [], map}
 use mathlib.Core.Option.{Option, some, none}
+use native.Mathlib.Omega.{arith}
 use lib.Dec.{eqb, ltb}
 use lib.ListN.{length, take, drop}
 use borrow.Author.Tests.{lt-ltb, le-ltb, ltb-false}
 use Rattle.lemmas.proofs.Choice.{true-false, and-left}
 use Rattle.plain.specs.Lists.{anyTwo}
 use Rattle.plain.specs.Address.{Address, unusable}
-use Rattle.plain.specs.Given.{Settings, Lent, Received, Start, RequestRow, Event, Call, State}
+use Rattle.plain.specs.Given.{Settings, Lent, Received, RequestRow, Event, Call, State}
 use Rattle.plain.specs.Table.{Numbered}
 use Rattle.plain.specs.Octets.{Message, hear, messageOf, restored}
-use Rattle.plain.specs.Answers.{View, viewOf, badLent, longMessage, badStart, goodInstance, goodRoute, allGood, goodState, wrongState, requests, replies, requestTwins, replyTwins, routeTwins, answerOf}
+use Rattle.plain.specs.Answers.{Line, View, viewOf, badLent, longMessage, badStart, goodInstance, goodRoute, allGood, goodState, wrongState, requests, replies, requestTwins, replyTwins, routeTwins, answerOf}
 use Rattle.plain.specs.Request.{Accepted, ours, askedWith, asked, requestLines, acceptRequest, forwardedRequest, replyMessage, requestRow, startTargets, startLines}
 use Rattle.plain.specs.Reply.{partnerOf, answeredWith, answered, replyLines, acceptReply}
 use Rattle.plain.specs.Plain.{lines, messageLines, linesWith, accept, acceptMessage, acceptWith, decide, enact, step}
 use Rattle.answer.specs.Answer.{answerNumber}
 use Rattle.answer.specs.declared.Answer.{Answer}
+use Rattle.answer.specs.declared.Answer.the-variants.{BadCall, WrongState, OwnDodagid}
 use Rattle.row.specs.Meaning.{instanceOf, routeOf}
 use Rattle.row.specs.declared.InstanceRow.{InstanceRow}
 use Rattle.row.specs.declared.RouteRow.{RouteRow}
 use Rattle.message.specs.Message.{messageIn, receivedBy}
 use Rattle.message.specs.declared.Link.{Link}
 use Rattle.message.specs.declared.Parsed.{Parsed}
-use Rattle.rule.specs.Heard.{Heard}
 use Rattle.reader.specs.Reading.{refusalNumber, heardFrom, Bounded}
 use Rattle.reader.specs.declared.Reading.{Reading}
 use Rattle.heard.specs.Parsed.{parsedOf}
-use Rattle.heard.proofs.Laws.{message-is, reply-is, base-is, heard-sound, first-lent, first-own, first-wrong, first-none, lines-refused, lines-heard}
+use Rattle.heard.proofs.Laws.{message-is, reply-is, base-is, heard-sound, firstLines, first-lent, first-own, first-wrong, first-none, lines-refused, lines-heard}
 use Rattle.outcome.specs.Nothing.{nothingSent}
 use Rattle.finish.specs.Gives.{stateOf, decisionOf, Gives}
 use Rattle.outcome.specs.declared.Outcome.{Outcome}
@@ -39,12 +40,50 @@ use Rattle.node.specs.Taken.{Taken, TakenStart, requestDecision, replyDecision,
 use Rattle.plain.specs.declared.Target.{Target}
 use Rattle.targets.specs.declared.Targets.{Targets}
 use Rattle.kept.specs.Kept.{listOf}
-use Rattle.gather.specs.Gathers.{Gathers, Judged}
+use Rattle.gather.specs.Gathers.{Gathers, Fit}
 use Rattle.gather.specs.declared.Gathering.{Gathering}
 use Rattle.gather.proofs.Judge.{fit}
 use Rattle.start.specs.Start.{startOf}
 use Rattle.start.specs.declared.Asking.{Asking}
 use Rattle.calls.specs.Calls.{messageCall, startCall}
+
+-- ---- any call
+
+-- what it is handed beside its event
+pub record Handed : Type 0 where
+  pub settings : Settings
+  pub clock : ℕ
+  pub seq : ℕ
+  pub time : ℕ
+  pub rows : List InstanceRow
+  pub routes : List RouteRow
+  pub forward : List ℕ
+  pub reply : List ℕ
+
+abbrev from : Handed → State
+from h = stateOf (h .clock) (h .seq) (h .rows) (h .routes)
+
+abbrev lentIn : Handed → Lent
+lentIn h = lentBy (h .time) (length (h .forward)) (length (h .reply))
+
+-- 1, asked of what is lent
+abbrev pub isBad : Handed → Bool
+isBad h = badLent (h .settings) (h .clock) (lentIn h)
+
+-- 1, asked of what the event brings
+abbrev pub isBadEvent : Event → Bool
+isBadEvent (Event.message r) = longMessage (r .octets)
+isBadEvent (Event.start s) = badStart s (startTargets s)
+
+-- 2
+abbrev pub isWrong : Handed → Bool
+isWrong h = wrongState (goodState (from h)) (viewOf (from h))
+
+-- what is known of a call that neither 1 nor 2 refuses
+pub record Admitted (h : Handed) (e : Event) : Type 0 where
+  pub lent : isBad h ≡ false
+  pub event : isBadEvent e ≡ false
+  pub state : isWrong h ≡ false
 
 -- ---- what a call that is not 1, and a state that is not 2, tell
 
@@ -75,23 +114,6 @@ good-is false v e = go (eqb (v .own) 0) e
     go true e = true-false e
     go false e = true-false e
 
-pub taken : (x : Settings) (clock seq t : ℕ) (rows : List InstanceRow) (routes : List RouteRow) (forward reply : List ℕ) (p : Parsed)
-    → badLent x clock (lentBy t (length forward) (length reply)) ≡ false
-    → wrongState (goodState (stateOf clock seq rows routes)) (viewOf (stateOf clock seq rows routes)) ≡ false
-    → Heard p → Taken clock t rows forward reply p
-taken x clock seq t rows routes forward reply p e f h =
-    let b = bounds x clock (lentBy t (length forward) (length reply)) e in
-    record {
-      later = b .0;
-      time = b .1;
-      good =
-          and-left (allGood goodInstance (map instanceOf rows)) (allGood goodRoute (map routeOf routes))
-          (good-is (goodState (stateOf clock seq rows routes)) (viewOf (stateOf clock seq rows routes)) f);
-      forwardRoom = b .2;
-      replyRoom = b .3;
-      heard = h;
-    }
-
 -- ---- a reply's lines and outcome, and that the octets that it came in play no part
 
 module _ (x : Settings) (v : View) (t : ℕ) (c : Received) (m : Message) (y : m .discovery .reply ≡ true) where
@@ -115,175 +137,188 @@ reply-apart x s t k octets m = same (partnerOf (viewOf s) t m)
     same none = refl
     same (some n) = refl
 
--- ---- one call
+-- ---- the lines that every call is asked first
 
-module _ (x : Settings) (s : State) (c : Call) where
-  step-is : step x s c
-      ≡ enact (c .lent .time) s (decisionOf (answerOf (lines x (goodState s) (viewOf s) (c .lent) (c .event))) (accept x (viewOf s) (c .lent) (c .event)))
+abbrev linesOf : Handed → Event → List Line
+linesOf h e = lines (h .settings) (goodState (from h)) (viewOf (from h)) (lentIn h) e
+
+abbrev answerTo : Handed → Event → ℕ
+answerTo h e = answerOf (linesOf h e)
+
+first : (h : Handed) (e : Event) → linesOf h e ≡ firstLines (isBad h) (isBadEvent e) (isWrong h) (drop 3 (linesOf h e))
+unfolding lines
+first h (Event.message r) = refl
+first h (Event.start s) = refl
+
+-- what is returned of a call that is refused
+abbrev refusedWith : Handed → Answer → Outcome
+refusedWith h a = record { answer = a; forward = nothingSent; reply = nothingSent; clock = h .clock; seq = h .seq }
+
+-- that this is what the plain node gives, with nothing written
+abbrev Refused : Handed → Event → Outcome → Type 0
+Refused h e r =
+    Gives (step (h .settings) (from h) (record { lent = lentIn h; event = e })) (h .rows) (h .rows) (h .routes) (h .routes) (h .forward) (h .forward)
+    (h .reply) (h .reply) r
+
+module _ (h : Handed) (e : Event) where
+  -- what the plain node does with it
+  called : step (h .settings) (from h) (record { lent = lentIn h; event = e })
+      ≡ enact (h .time) (from h) (decisionOf (answerTo h e) (accept (h .settings) (viewOf (from h)) (lentIn h) e))
   unfolding step decide
-  step-is = refl
+  called = refl
 
--- a call that is refused, whatever it brings
-pub refusal : (x : Settings) (clock seq t : ℕ) (rows : List InstanceRow) (routes : List RouteRow) (forward reply : List ℕ) (e : Event) (n : ℕ) (a : Answer) (r : Outcome)
-    → answerOf (lines x (goodState (stateOf clock seq rows routes)) (viewOf (stateOf clock seq rows routes)) (lentBy t (length forward) (length reply)) e) ≡ n
-    → (n ≡ 0 → ⊥) → answerNumber a ≡ n
-    → r ≡ record { answer = a; forward = nothingSent; reply = nothingSent; clock = clock; seq = seq }
-    → Gives (step x (stateOf clock seq rows routes) (record { lent = lentBy t (length forward) (length reply); event = e })) rows rows routes routes forward forward reply reply r
-refusal x clock seq t rows routes forward reply e n a r z u v w =
-    let s = stateOf clock seq rows routes in
-    let l = lentBy t (length forward) (length reply) in
-    rw (step-is x s (record { lent = l; event = e }), z) (refused-gives clock seq t rows routes forward reply n (accept x (viewOf s) l e) a r v u w)
+  module _ (a : Answer) (r : Outcome) where
+    refusal : (n : ℕ) → answerTo h e ≡ n → (n ≡ 0 → ⊥) → answerNumber a ≡ n → r ≡ refusedWith h a → Refused h e r
+    refusal n z u v w =
+        rw (called, z)
+        (refused-gives (h .clock) (h .seq) (h .time) (h .rows) (h .routes) (h .forward) (h .reply) n (accept (h .settings) (viewOf (from h)) (lentIn h) e) a r v u w)
 
-module _ (x : Settings) (clock seq t : ℕ) (rows : List InstanceRow) (routes : List RouteRow) (forward reply : List ℕ) (k : Link) (octets : List ℕ) where
-  abbrev s : State
-  s = stateOf clock seq rows routes
+    pub bad-lent : isBad h ≡ true → a ≡ BadCall → r ≡ refusedWith h a → Refused h e r
+    bad-lent z b w = refusal 1 (ap answerOf (first h e) ∙ first-lent (isBad h) _ _ _ z) (λ q. absurd (omega arith)) (ap answerNumber b) w
 
-  abbrev l : Lent
-  l = lentBy t (length forward) (length reply)
+    module _ (lent : isBad h ≡ false) where
+      pub bad-event : isBadEvent e ≡ true → a ≡ BadCall → r ≡ refusedWith h a → Refused h e r
+      bad-event z b w =
+          refusal 1 (ap answerOf (first h e) ∙ first-own (isBad h) (isBadEvent e) _ _ lent z) (λ q. absurd (omega arith)) (ap answerNumber b) w
 
+      pub wrong-state : isBadEvent e ≡ false → isWrong h ≡ true → a ≡ WrongState → r ≡ refusedWith h a → Refused h e r
+      wrong-state event z b w =
+          refusal 2 (ap answerOf (first h e) ∙ first-wrong (isBad h) (isBadEvent e) (isWrong h) _ lent event z) (λ q. absurd (omega arith))
+          (ap answerNumber b) w
+
+-- ---- a message
+
+pub short : (octets : List ℕ) → length octets ≤ 1236 → longMessage octets ≡ false
+unfolding longMessage
+short octets z = le-ltb 1236 (length octets) z
+
+pub long : (octets : List ℕ) → 1236 < length octets → longMessage octets ≡ true
+unfolding longMessage
+long octets z = lt-ltb 1236 (length octets) z
+
+-- what is known of a message that was read, where none of 1 to 6 refuses it
+pub record Read (h : Handed) (k : Link) (octets : List ℕ) (r : Reading) : Type 0 where
+  pub admitted : Admitted h (Event.message (receivedBy k octets))
+  pub heard : heardFrom octets r ≡ hear octets
+  pub accepted : refusalNumber (r .refusal) ≡ 0
+  pub bounded : Bounded (length octets) r
+
+-- and where 7 does not either: it is parsed, and its vector restored
+pub record Understood (h : Handed) (k : Link) (octets : List ℕ) (r : Reading) (p : Parsed) (v : List Address) : Type 0 where
+  pub read : Read h k octets r
+  pub foreign : ours (h .settings) (r .base .dodagid) ≡ false
+  pub parsed : p ≡ parsedOf r
+  pub vector : take (r .size / (16 - r .discovery .compr)) v ≡ restored (r .discovery .compr) (r .base .dodagid) (take (r .size) (drop (r .at) octets))
+
+-- the octets are refused, or the message is read: `a` is what they answer, `n` its number
+module _ {h : Handed} {k : Link} {octets : List ℕ} (q : Admitted h (Event.message (receivedBy k octets))) (r : Reading) (f : heardFrom octets r ≡ hear octets)
+    (a : Answer) (a-is : answerNumber a ≡ refusalNumber (r .refusal)) (n : ℕ) (n-is : n ≡ answerNumber a) where
+  pub octets-refused : (n ≡ 0 → ⊥) → (o : Outcome) → o ≡ refusedWith h a → Refused h (Event.message (receivedBy k octets)) o
+  octets-refused z o o-is =
+      let nonzero : answerNumber a ≡ 0 → ⊥ = λ y. z (n-is ∙ y) in
+      refusal h (Event.message (receivedBy k octets)) a o (answerNumber a)
+      (lines-refused (h .settings) (goodState (from h)) (viewOf (from h)) (lentIn h) (receivedBy k octets) (q .lent) (q .event) (q .state) octets refl r f
+      (answerNumber a) (sym a-is) nonzero)
+      nonzero refl o-is
+
+  pub octets-read : n ≡ 0 → (refusalNumber (r .refusal) ≡ 0 → Bounded (length octets) r) → Read h k octets r
+  octets-read z b =
+      let e = sym a-is ∙ sym n-is ∙ z in
+      record { admitted = q; heard = f; accepted = e; bounded = b e }
+
+module _ {h : Handed} {k : Link} {octets : List ℕ} {r : Reading} (read : Read h k octets r) where
   abbrev e : Received
   e = receivedBy k octets
 
-  abbrev call : Call
-  call = messageCall t (length forward) (length reply) k octets
+  base-ours : ours (h .settings) (messageOf octets .base .dodagid) ≡ ours (h .settings) (r .base .dodagid)
+  unfolding messageOf
+  base-ours = ap (λ (z : Address). ours (h .settings) z) (sym (ap (λ q. q .dodagid) (base-is octets r (read .heard) (read .accepted))))
 
-  abbrev answered-by : ℕ
-  answered-by = answerOf (lines x (goodState s) (viewOf s) l (Event.message e))
+  -- the lines from 8 on
+  abbrev rest : List Line
+  rest = messageLines (h .settings) (viewOf (from h)) (h .time) e (messageOf octets)
 
-  module _ (b : Bool) (bad : b ≡ badLent x clock l) where
-    pub is-bad : b ≡ true → answered-by ≡ 1
-    unfolding lines
-    is-bad z = first-lent (badLent x clock l) _ _ _ (sym bad ∙ z)
+  heard-lines : answerTo h (Event.message e) ≡ cond (ours (h .settings) (r .base .dodagid)) 7 (answerOf rest)
+  heard-lines =
+      let q = read .admitted in
+      lines-heard (h .settings) (goodState (from h)) (viewOf (from h)) (lentIn h) e (q .lent) (q .event) (q .state) octets refl r (read .heard) (read .accepted)
+      ∙ ap (λ (b : Bool). cond b 7 (answerOf rest)) base-ours
 
-    module _ (fine : b ≡ false) where
-      pub is-long : 1236 < length octets → answered-by ≡ 1
-      unfolding lines longMessage
-      is-long z = first-own (badLent x clock l) (longMessage octets) _ _ (sym bad ∙ fine) (lt-ltb 1236 (length octets) z)
+  pub own-refused : ours (h .settings) (r .base .dodagid) ≡ true → (a : Answer) → a ≡ OwnDodagid → (o : Outcome) → o ≡ refusedWith h a → Refused h (Event.message e) o
+  own-refused z a a-is o o-is = refusal h (Event.message e) a o 7 (heard-lines ∙ rw z) (λ y. absurd (omega arith)) (ap answerNumber a-is) o-is
 
-      module _ (short : length octets ≤ 1236) (w : Bool) (wrong : w ≡ wrongState (goodState s) (viewOf s)) where
-        long-not : longMessage octets ≡ false
-        unfolding longMessage
-        long-not = le-ltb 1236 (length octets) short
+module _ {h : Handed} {k : Link} {octets : List ℕ} {r : Reading} {p : Parsed} {v : List Address} (u : Understood h k octets r p v) where
+  pub taken : Taken (h .clock) (h .time) (h .rows) (h .forward) (h .reply) p
+  taken =
+      let b = bounds (h .settings) (h .clock) (lentIn h) (u .read .admitted .lent) in
+      record {
+        later = b .0;
+        time = b .1;
+        good =
+            and-left (allGood goodInstance (map instanceOf (h .rows))) (allGood goodRoute (map routeOf (h .routes)))
+            (good-is (goodState (from h)) (viewOf (from h)) (u .read .admitted .state));
+        forwardRoom = b .2;
+        replyRoom = b .3;
+        heard = rw (u .parsed) (heard-sound octets r (u .read .heard) (u .read .accepted) (u .read .bounded));
+      }
 
-        pub is-wrong : w ≡ true → answered-by ≡ 2
-        unfolding lines
-        is-wrong z = first-wrong (badLent x clock l) (longMessage octets) (wrongState (goodState s) (viewOf s)) _ (sym bad ∙ fine) long-not (sym wrong ∙ z)
+  m-is : messageIn p v ≡ messageOf octets
+  m-is = rw (u .parsed) (message-is octets r (u .read .heard) (u .read .accepted) v (u .vector))
 
-        module _ (right : w ≡ false) (r : Reading) (f : heardFrom octets r ≡ hear octets) where
-          pub is-refused : (a : Answer) (n : ℕ) → answerNumber a ≡ refusalNumber (r .refusal) → n ≡ answerNumber a → (n ≡ 0 → ⊥) → answered-by ≡ answerNumber a
-          is-refused a n g h z =
-              lines-refused x (goodState s) (viewOf s) l e (sym bad ∙ fine) long-not (sym wrong ∙ right) octets refl r f (answerNumber a) (sym g) (λ q. z (h ∙ q))
+  is-reply : messageOf octets .discovery .reply ≡ r .discovery .reply
+  is-reply = reply-is octets r (u .read .heard) (u .read .accepted)
 
-          module _ (a : Answer) (n : ℕ) (g : answerNumber a ≡ refusalNumber (r .refusal)) (h : n ≡ answerNumber a) (none-refused : n ≡ 0) where
-            number-0 : refusalNumber (r .refusal) ≡ 0
-            number-0 = sym g ∙ sym h ∙ none-refused
+  -- neither 1 nor 2 to 7
+  message-on : answerTo h (Event.message (receivedBy k octets)) ≡ answerOf (rest (u .read))
+  message-on = heard-lines (u .read) ∙ rw (u .foreign)
 
-            base-ours : ours x (messageOf octets .base .dodagid) ≡ ours x (r .base .dodagid)
-            unfolding messageOf
-            base-ours = ap (λ (z : Address). ours x z) (sym (ap (λ q. q .dodagid) (base-is octets r f number-0)))
+  abbrev given : Call
+  given = messageCall (h .time) (length (h .forward)) (length (h .reply)) k octets
 
-            heard-lines : answered-by ≡ cond (ours x (messageOf octets .base .dodagid)) 7 (answerOf (messageLines x (viewOf s) t e (messageOf octets)))
-            heard-lines = lines-heard x (goodState s) (viewOf s) l e (sym bad ∙ fine) long-not (sym wrong ∙ right) octets refl r f number-0
+  pub request-step : r .discovery .reply ≡ false
+      → step (h .settings) (from h) given ≡ enact (h .time) (from h) (requestDecision (h .settings) (from h) (h .time) (receivedBy k []) (messageIn p v))
+  unfolding requestDecision messageLines accept acceptMessage asked askedWith requestLines acceptRequest forwardedRequest replyMessage requestRow
+  request-step z = rw (called h (given .event), message-on, m-is, is-reply ∙ z)
 
-            pub is-own : (q : Bool) → q ≡ ours x (r .base .dodagid) → q ≡ true → answered-by ≡ 7
-            is-own q u v = heard-lines ∙ rw (base-ours ∙ sym u ∙ v)
-
-            pub sound : Bounded (length octets) r → Heard (parsedOf r)
-            sound z = heard-sound octets r f number-0 z
-
-            pub bounded : (refusalNumber (r .refusal) ≡ 0 → Bounded (length octets) r) → Bounded (length octets) r
-            bounded z = z number-0
-
-            module _ (q : Bool) (u : q ≡ ours x (r .base .dodagid)) (not-own : q ≡ false) (p : Parsed) (p-is : p ≡ parsedOf r) (v : List Address)
-                (v-is : take (r .size / (16 - r .discovery .compr)) v ≡ restored (r .discovery .compr) (r .base .dodagid) (take (r .size) (drop (r .at) octets))) where
-              m-is : messageIn p v ≡ messageOf octets
-              m-is = rw p-is (message-is octets r f number-0 v v-is)
-
-              on : answered-by ≡ answerOf (messageLines x (viewOf s) t e (messageOf octets))
-              on = heard-lines ∙ rw (base-ours ∙ sym u ∙ not-own)
-
-              pub request-step : r .discovery .reply ≡ false → step x s call ≡ enact t s (requestDecision x s t (receivedBy k []) (messageIn p v))
-              unfolding requestDecision messageLines accept acceptMessage asked askedWith requestLines acceptRequest forwardedRequest replyMessage requestRow
-              request-step z =
-                  let y : messageOf octets .discovery .reply ≡ false = reply-is octets r f number-0 ∙ z in
-                  rw (step-is x s call, on, m-is, y)
-
-              pub reply-step : r .discovery .reply ≡ true → step x s call ≡ enact t s (replyDecision x s t (receivedBy k []) (messageIn p v))
-              unfolding accept
-              reply-step z =
-                  let y : messageOf octets .discovery .reply ≡ true = reply-is octets r f number-0 ∙ z in
-                  step-is x s call
-                  ∙ ap₂ (λ (i : ℕ) (j : Accepted). enact t s (decisionOf i j)) (on ∙ ap answerOf (reply-lines x (viewOf s) t e (messageOf octets) y))
-                  (reply-accept x (viewOf s) t e (messageOf octets) y)
-                  ∙ reply-apart x s t k octets (messageOf octets)
-                  ∙ ap (λ (i : Message). enact t s (replyDecision x s t (receivedBy k []) i)) (sym m-is)
+  pub reply-step : r .discovery .reply ≡ true
+      → step (h .settings) (from h) given ≡ enact (h .time) (from h) (replyDecision (h .settings) (from h) (h .time) (receivedBy k []) (messageIn p v))
+  unfolding accept
+  reply-step z =
+      let y : messageOf octets .discovery .reply ≡ true = is-reply ∙ z in
+      called h (given .event)
+      ∙ ap₂ (λ (i : ℕ) (j : Accepted). enact (h .time) (from h) (decisionOf i j))
+      (message-on ∙ ap answerOf (reply-lines (h .settings) (viewOf (from h)) (h .time) (receivedBy k octets) (messageOf octets) y))
+      (reply-accept (h .settings) (viewOf (from h)) (h .time) (receivedBy k octets) (messageOf octets) y)
+      ∙ reply-apart (h .settings) (from h) (h .time) k octets (messageOf octets)
+      ∙ ap (λ (i : Message). enact (h .time) (from h) (replyDecision (h .settings) (from h) (h .time) (receivedBy k []) i)) (sym m-is)
 
 -- ---- a start
 
-module _ (x : Settings) (clock seq t : ℕ) (rows : List InstanceRow) (routes : List RouteRow) (forward reply : List ℕ) (s : Asking) (targets : List Target) where
-  abbrev from : State
-  from = stateOf clock seq rows routes
+module _ {h : Handed} {s : Asking} {targets : List Target} (q : Admitted h (Event.start (startOf s targets))) (g : Gathering) (gathers : Gathers targets g)
+    (ts : Targets) (ts-are : ts ≡ g .targets) where
+  fits : Fit (startOf s targets) g
+  fits = fit (startOf s targets) g gathers (q .event)
 
-  abbrev lent : Lent
-  lent = lentBy t (length forward) (length reply)
+  pub taken-start : TakenStart (h .clock) (h .time) (h .forward) (h .reply) s ts
+  taken-start =
+      let b = bounds (h .settings) (h .clock) (lentIn h) (q .lent) in
+      record {
+        later = b .0;
+        forwardRoom = b .2;
+        replyRoom = b .3;
+        time = b .1;
+        sendable = rw ts-are (record { compr = fits .compr; targets = fits .few; prefixes = fits .short });
+        padded = rw ts-are (gathers .padded);
+      }
 
-  abbrev asking : Start
-  asking = startOf s targets
+  targets-are : listOf ts ≡ startTargets (startOf s targets)
+  targets-are = rw ts-are (fits .held)
 
-  abbrev started : Call
-  started = startCall t (length forward) (length reply) s targets
+  start-on : answerTo h (Event.start (startOf s targets)) ≡ answerOf (startLines (h .settings) (viewOf (from h)) (h .time) (startOf s targets))
+  unfolding lines
+  start-on = first-none (isBad h) (isBadEvent (Event.start (startOf s targets))) (isWrong h) _ (q .lent) (q .event) (q .state)
 
-  abbrev start-answered : ℕ
-  start-answered = answerOf (lines x (goodState from) (viewOf from) lent (Event.start asking))
-
-  module _ (b : Bool) (bad : b ≡ badLent x clock lent) where
-    pub start-bad : b ≡ true → start-answered ≡ 1
-    unfolding lines
-    start-bad z = first-lent (badLent x clock lent) _ _ _ (sym bad ∙ z)
-
-    module _ (fine : b ≡ false) (g : Gathering) (gathers : Gathers targets g) (f : Bool) (judged : Judged g (s .l) (s .compr) (s .limit) f) where
-      fields-are : f ≡ badStart asking (startTargets asking)
-      fields-are = judged .told asking gathers refl refl refl
-
-      pub fields-bad : f ≡ true → start-answered ≡ 1
-      unfolding lines
-      fields-bad z = first-own (badLent x clock lent) (badStart asking (startTargets asking)) _ _ (sym bad ∙ fine) (sym fields-are ∙ z)
-
-      module _ (fields-fine : f ≡ false) (w : Bool) (wrong : w ≡ wrongState (goodState from) (viewOf from)) where
-        pub start-wrong : w ≡ true → start-answered ≡ 2
-        unfolding lines
-        start-wrong z =
-            first-wrong (badLent x clock lent) (badStart asking (startTargets asking)) (wrongState (goodState from) (viewOf from)) _ (sym bad ∙ fine)
-            (sym fields-are ∙ fields-fine) (sym wrong ∙ z)
-
-        module _ (right : w ≡ false) (ts : Targets) (ts-are : ts ≡ g .targets) where
-          pub taken-start : TakenStart clock t forward reply s ts
-          taken-start =
-              let l = bounds x clock lent (sym bad ∙ fine) in
-              let h = fit asking g gathers (sym fields-are ∙ fields-fine) in
-              record {
-                later = l .0;
-                forwardRoom = l .2;
-                replyRoom = l .3;
-                time = l .1;
-                sendable = rw ts-are (record { compr = h .compr; targets = h .few; prefixes = h .short });
-                padded = rw ts-are (gathers .padded);
-              }
-
-          targets-are : listOf ts ≡ startTargets asking
-          targets-are = rw ts-are (fit asking g gathers (sym fields-are ∙ fields-fine) .held)
-
-          start-on : start-answered ≡ answerOf (startLines x (viewOf from) t asking)
-          unfolding lines
-          start-on =
-              first-none (badLent x clock lent) (badStart asking (startTargets asking)) (wrongState (goodState from) (viewOf from)) _ (sym bad ∙ fine)
-              (sym fields-are ∙ fields-fine) (sym wrong ∙ right)
-
-          pub start-step : step x from started ≡ enact t from (startDecision x from t asking (listOf ts))
-          unfolding startDecision accept
-          start-step =
-              rw (
-                step-is x from started,
-                start-on,
-                targets-are,
-              )
+  pub start-step : step (h .settings) (from h) (startCall (h .time) (length (h .forward)) (length (h .reply)) s targets)
+      ≡ enact (h .time) (from h) (startDecision (h .settings) (from h) (h .time) (startOf s targets) (listOf ts))
+  unfolding startDecision accept
+  start-step = rw (called h (Event.start (startOf s targets)), start-on, targets-are)

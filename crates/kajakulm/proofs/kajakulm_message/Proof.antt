@@ -1,7 +1,7 @@
 pub mod Lts
 pub mod Tie
-use Rattle.host.proofs.Laws.{told}
 use borrow.Author.Needs.{needs}
+use Rattle.kajakulm.proofs.Laws.{tallied}
 use Rattle.kajakulm.proofs.kajakulm_message.Statement.{statement}
 use Rattle.kajakulm.proofs.kajakulm_message.Proof.Tie as tie
 
@@ -33,7 +33,9 @@ same-length-4 : tie.Need-same-length-4
 same-length-4 c = search needs
 
 returns : tie.Need-returns
-returns c = told _ _ _ _ _ _ _ _ _ _ _ (c .before .before .before .before .before .before .before .before .before .before .message .result) _ (rw (c .before .before .before .before .before .before .before .before .before .before .before .link-of .ensures) at (c .before .before .before .before .before .before .before .before .before .before .message .ensures)) (rw (c .before .before .answer-of .ensures) at (c .before .raise .ensures)) (c .host-outcome .ensures)
+returns c =
+    let g = rw (c .before .before .before .before .before .before .before .before .before .before .before .link-of .ensures) at (c .before .before .before .before .before .before .before .before .before .before .message .ensures) in
+    tallied g (c .before .before .answer-of .ensures) (c .before .raise .ensures) (c .host-outcome .ensures)
 
 pub kajakulm-message-spec : {M : Type 1} → statement M
 kajakulm-message-spec = tie.close (tie.spec link-of-requires message-requires answer-of-requires raise-requires host-outcome-requires same-length same-length-2 same-length-3 same-length-4 returns)

@@ -1,7 +1,7 @@
 pub mod Lts
 pub mod Tie
-use Rattle.host.proofs.Laws.{told}
 use borrow.Author.Needs.{needs}
+use Rattle.kajakulm.proofs.Laws.{tallied}
 use Rattle.kajakulm.proofs.kajakulm_start.Statement.{statement}
 use Rattle.kajakulm.proofs.kajakulm_start.Proof.Tie as tie
 use Rattle.kajakulm.proofs.kajakulm_start.Proof.Lts as lts
@@ -35,7 +35,9 @@ same-length-4 : tie.Need-same-length-4
 same-length-4 c = search needs
 
 returns : tie.Need-returns
-returns c = told _ _ _ _ _ _ _ _ _ _ _ (c .before .before .before .before .before .before .before .before .before .before .start .result) _ (rw (c .before .before .before .before .before .before .before .before .before .before .before .asking-of .ensures) at (c .before .before .before .before .before .before .before .before .before .before .start .ensures)) (rw (c .before .before .answer-of .ensures) at (c .before .raise .ensures)) (c .host-outcome .ensures)
+returns c =
+    let g = rw (c .before .before .before .before .before .before .before .before .before .before .before .asking-of .ensures) at (c .before .before .before .before .before .before .before .before .before .before .start .ensures) in
+    tallied g (c .before .before .answer-of .ensures) (c .before .raise .ensures) (c .host-outcome .ensures)
 
 pub kajakulm-start-spec : {M : Type 1} → statement M
 kajakulm-start-spec = tie.close (tie.spec asking-of-requires start-requires answer-of-requires raise-requires host-outcome-requires same-length same-length-2 same-length-3 same-length-4 returns)
