@@ -15,7 +15,7 @@ use Rattle.plain.specs.Answers.{longPrefix, shortPrefix, badStart}
 use Rattle.plain.specs.Request.{wholeBits, startTargets}
 use Rattle.plain.specs.declared.Target.{Target}
 use Rattle.lemmas.proofs.Choice.{or-left, or-right}
-use Rattle.lemmas.proofs.Each.{each-true}
+use Rattle.lemmas.proofs.Each.{each-settles}
 use Rattle.lemmas.proofs.Targets.{start-short}
 use Rattle.gather.specs.declared.Gathering.{Gathering}
 use Rattle.gather.specs.Gathers.{Gathers, Judged, Fit}
@@ -61,6 +61,6 @@ fit c g v e =
       some = omega (arith, number (c .targets) g v w, eqb-false (length (S (c .targets) g v)) 0 n);
       few = v .few;
       held = v .held w;
-      short = rw (v .held w) (each-true shortPrefix (startTargets c) (start-short c s));
+      short = rw (v .held w) (each-settles false shortPrefix (startTargets c) (start-short c s));
       compr = ltb-false 15 (c .compr) (or-right before (ltb 15 (c .compr)) (or-left (before || ltb 15 (c .compr)) (ltb 127 (c .limit)) e));
     }

@@ -17,7 +17,7 @@ use Rattle.plain.specs.Request.{ours}
 use Rattle.plain.specs.Plain.{lines, messageLines}
 use Rattle.plain.specs.declared.Base.{Base}
 use Rattle.plain.specs.declared.Target.{Target}
-use Rattle.lemmas.proofs.Each.{each-true}
+use Rattle.lemmas.proofs.Each.{each-settles}
 use Rattle.lemmas.proofs.Targets.{targets-short}
 use Rattle.reader.specs.declared.Reading.{Reading}
 use Rattle.reader.specs.Reading.{refusalNumber, messageRead, heardFrom, Bounded}
@@ -116,7 +116,7 @@ module _ (msg : List ℕ) (r : Reading) (e : heardFrom msg r ≡ hear msg) (z : 
     compr = b .compr;
     targets = b .few;
     prefixes =
-        rw (ap (λ (m : Message). m .targets) message-read) (each-true shortPrefix (messageOf msg .targets) (targets-short msg));
+        rw (ap (λ (m : Message). m .targets) message-read) (each-settles false shortPrefix (messageOf msg .targets) (targets-short msg));
     padded = b .padded;
   }
 

@@ -8,7 +8,6 @@ use native.Mathlib.Numerals.{add-one}
 use lib.ListN.{length, getD, take, drop, take-append-drop, length-take}
 use lib.Seq.{take-suc, take-all, getD-take}
 use Rattle.plain.specs.Lists.{any, anyTwo}
-use Rattle.lemmas.proofs.Walk.{any-hit, any-miss, any-end}
 use Rattle.lemmas.proofs.Choice.{true-false, or-left, or-right, or-neither}
 
 pub not-so : (b : Bool) → (b ≡ true → ⊥) → b ≡ false

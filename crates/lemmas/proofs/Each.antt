@@ -1,13 +1,14 @@
 -- Each element of a list is so; each two are so.
 use Prim.Native.Nat.{ℕ, zero, suc, _<_, _≤_}
 use mathlib.Core.Path.{_≡_, refl}
-use mathlib.Core.Bool.{Bool, true, false, cond}
+use mathlib.Core.Bool.{Bool, true, false, cond, not}
 use mathlib.Core.List.{List, [], _∷_, _++_, map, flatten}
 use mathlib.Core.Option.{Option, some, none}
 use native.Mathlib.Omega.{arith}
 use lib.ListN.{length, getD, take, drop}
 use Rattle.plain.specs.Lists.{any, all, those, firstOf, anyTwo, onceAfter}
 use Rattle.lemmas.specs.Each.{Each, Octets}
+use Rattle.lemmas.proofs.Walk.{settledBy}
 use Rattle.lemmas.proofs.Choice.{cond-case, or-left, or-right, or-neither, and-both}
 
 -- any two, one before the other
@@ -102,25 +103,23 @@ octet-lt (x ∷ xs) (suc i) h = octet-lt xs i (h .1)
 -- ---- Tests
 
 module _ {A : Type 0} where
-  pub each-true : (p : A → Bool) (xs : List A) → Each (λ (x : A). p x ≡ true) xs → all p xs ≡ true
-  unfolding all
-  each-true p [] h = refl
-  each-true p (x ∷ xs) h = and-both (p x) (all p xs) (h .0) (each-true p xs (h .1))
-
   pub any-none : (p : A → Bool) (xs : List A) → any p xs ≡ false → Each (λ (x : A). p x ≡ false) xs
   unfolding any
   any-none p [] e = tt
   any-none p (x ∷ xs) e = (or-left (p x) (any p xs) e, any-none p xs (or-right (p x) (any p xs) e))
 
-  pub none-any : (p : A → Bool) (xs : List A) → Each (λ (x : A). p x ≡ false) xs → any p xs ≡ false
-  unfolding any
-  none-any p [] h = refl
-  none-any p (x ∷ xs) h = or-neither (p x) (any p xs) (h .0) (none-any p xs (h .1))
+  -- where no element settles it
+  pub each-settles : (by : Bool) (p : A → Bool) (xs : List A) → Each (λ (x : A). p x ≡ not by) xs → settledBy by p xs ≡ not by
+  unfolding any all
+  each-settles true p [] h = refl
+  each-settles false p [] h = refl
+  each-settles true p (x ∷ xs) h = or-neither (p x) (any p xs) (h .0) (each-settles true p xs (h .1))
+  each-settles false p (x ∷ xs) h = and-both (p x) (all p xs) (h .0) (each-settles false p xs (h .1))
 
   pub pairs-none : (p : A → A → Bool) (xs : List A) → Pairs (λ (x y : A). p x y ≡ false) xs → anyTwo p xs ≡ false
   unfolding anyTwo
   pairs-none p [] h = refl
-  pairs-none p (x ∷ xs) h = or-neither (any (p x) xs) (anyTwo p xs) (none-any (p x) xs (h .0)) (pairs-none p xs (h .1))
+  pairs-none p (x ∷ xs) h = or-neither (any (p x) xs) (anyTwo p xs) (each-settles true (p x) xs (h .0)) (pairs-none p xs (h .1))
 
   pub those-less : (p : A → Bool) (xs : List A) → length (those p xs) ≤ length xs
   unfolding those

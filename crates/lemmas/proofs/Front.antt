@@ -7,7 +7,7 @@ use native.Mathlib.Omega.{arith}
 use lib.ListN.{length, getD, take, drop, drop-of-length-le}
 use lib.Seq.{getD-take, length-take-le}
 use Rattle.plain.specs.Lists.{any}
-use Rattle.lemmas.proofs.Walk.{left-at, any-hit, any-miss, any-end}
+use Rattle.lemmas.proofs.Walk.{left-at, walk-stop, walk-on, walk-end}
 
 module _ {A : Type 0} (n : ℕ) (xs : List A) (q : n ≤ length xs) (i : ℕ) where
   pub front-below : i < n → i < length (take n xs)
@@ -30,10 +30,10 @@ Unfound p n xs i = any p (take n xs) ≡ any p (drop i (take n xs))
 
 module _ {A : Type 0} (p : A → Bool) (d : A) (n : ℕ) (xs : List A) (q : n ≤ length xs) (i : ℕ) (v : Unfound p n xs i) where
   pub is-found : i < n → p (getD xs i d) ≡ true → any p (take n xs) ≡ true
-  is-found h e = any-hit p d (take n xs) i v (front-below n xs q i h) (rw (getD-take n xs i d h) e)
+  is-found h e = walk-stop true p d (take n xs) i v (front-below n xs q i h) (rw (getD-take n xs i d h) e)
 
   pub not-here : i < n → p (getD xs i d) ≡ false → Unfound p n xs (i + 1)
-  not-here h e = any-miss p d (take n xs) i v (front-below n xs q i h) (rw (getD-take n xs i d h) e)
+  not-here h e = walk-on true p d (take n xs) i v (front-below n xs q i h) (rw (getD-take n xs i d h) e)
 
   pub nowhere : n ≤ i → any p (take n xs) ≡ false
-  nowhere h = any-end p d (take n xs) i v (front-past n xs q i h)
+  nowhere h = walk-end true p d (take n xs) i v (front-past n xs q i h)

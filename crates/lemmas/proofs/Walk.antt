@@ -1,7 +1,7 @@
 -- Loops over a list from its front: what is said of the whole list is said of what is left of it at i.
 use Prim.Native.Nat.{ℕ, zero, suc, _+_, _<_, _≤_}
 use mathlib.Core.Path.{_≡_, refl, _∙_}
-use mathlib.Core.Bool.{Bool, true, false}
+use mathlib.Core.Bool.{Bool, true, false, not}
 use mathlib.Core.List.{List, [], _∷_, map}
 use native.Mathlib.Omega.{arith}
 use native.Mathlib.Numerals.{add-one}
@@ -15,33 +15,38 @@ use Rattle.lemmas.proofs.Choice.{and-left, and-right, and-both}
 pub left-at : {A : Type 0} (xs : List A) (i : ℕ) (d : A) → i < length xs → drop i xs ≡ getD xs i d ∷ drop (i + 1) xs
 left-at xs i d h = rw add-one (drop-cons xs i d h)
 
+-- `any` is settled by the first element that is so, `all` by the first that is not: `by` tells which.
+abbrev pub settledBy : {A : Type 0} → Bool → (A → Bool) → List A → Bool
+settledBy true p xs = any p xs
+settledBy false p xs = all p xs
+
+module _ {A : Type 0} (by : Bool) (p : A → Bool) (d : A) where
+  pub walk-stop : {b : Bool} (xs : List A) (i : ℕ) → b ≡ settledBy by p (drop i xs) → i < length xs → p (getD xs i d) ≡ by → b ≡ by
+  unfolding any all
+  walk-stop xs i v h e = v ∙ rw (left-at xs i d h) (go by e)
+    where
+      go : (by : Bool) → p (getD xs i d) ≡ by → settledBy by p (getD xs i d ∷ drop (i + 1) xs) ≡ by
+      go true e = rw e
+      go false e = rw e
+
+  pub walk-on : {b : Bool} (xs : List A) (i : ℕ) → b ≡ settledBy by p (drop i xs) → i < length xs → p (getD xs i d) ≡ not by
+      → b ≡ settledBy by p (drop (i + 1) xs)
+  unfolding any all
+  walk-on xs i v h e = v ∙ rw (left-at xs i d h) (go by e)
+    where
+      go : (by : Bool) → p (getD xs i d) ≡ not by → settledBy by p (getD xs i d ∷ drop (i + 1) xs) ≡ settledBy by p (drop (i + 1) xs)
+      go true e = rw e
+      go false e = rw e
+
+  pub walk-end : {b : Bool} (xs : List A) (i : ℕ) → b ≡ settledBy by p (drop i xs) → length xs ≤ i → b ≡ not by
+  unfolding any all
+  walk-end xs i v h = v ∙ rw (drop-of-length-le xs {i = i} h) (go by)
+    where
+      go : (by : Bool) → settledBy by p [] ≡ not by
+      go true = refl
+      go false = refl
+
 module _ {A : Type 0} (p : A → Bool) (d : A) where
-  pub any-hit : {b : Bool} (xs : List A) (i : ℕ) → b ≡ any p (drop i xs) → i < length xs → p (getD xs i d) ≡ true → b ≡ true
-  unfolding any
-  any-hit xs i v h e = v ∙ rw (left-at xs i d h, e)
-
-  pub any-miss : {b : Bool} (xs : List A) (i : ℕ) → b ≡ any p (drop i xs) → i < length xs → p (getD xs i d) ≡ false
-      → b ≡ any p (drop (i + 1) xs)
-  unfolding any
-  any-miss xs i v h e = v ∙ rw (left-at xs i d h, e)
-
-  pub any-end : {b : Bool} (xs : List A) (i : ℕ) → b ≡ any p (drop i xs) → length xs ≤ i → b ≡ false
-  unfolding any
-  any-end xs i v h = v ∙ rw (drop-of-length-le xs {i = i} h)
-
-  pub all-miss : {b : Bool} (xs : List A) (i : ℕ) → b ≡ all p (drop i xs) → i < length xs → p (getD xs i d) ≡ false → b ≡ false
-  unfolding all
-  all-miss xs i v h e = v ∙ rw (left-at xs i d h, e)
-
-  pub all-hit : {b : Bool} (xs : List A) (i : ℕ) → b ≡ all p (drop i xs) → i < length xs → p (getD xs i d) ≡ true
-      → b ≡ all p (drop (i + 1) xs)
-  unfolding all
-  all-hit xs i v h e = v ∙ rw (left-at xs i d h, e)
-
-  pub all-end : {b : Bool} (xs : List A) (i : ℕ) → b ≡ all p (drop i xs) → length xs ≤ i → b ≡ true
-  unfolding all
-  all-end xs i v h = v ∙ rw (drop-of-length-le xs {i = i} h)
-
   -- each of them is so: the one at i, and those before n
   pub all-at : (xs : List A) (i : ℕ) → i < length xs → all p xs ≡ true → p (getD xs i d) ≡ true
   unfolding all

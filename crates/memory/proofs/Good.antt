@@ -26,7 +26,7 @@ use Rattle.lemmas.proofs.Choice.{cond-case, or-right}
 use Rattle.memory.specs.Facts.{ProperEvent}
 use Rattle.lemmas.specs.Each.{Each, Octets}
 use Rattle.lemmas.proofs.Targets.{Short, targets-short, start-short}
-use Rattle.lemmas.proofs.Each.{each-always, each-weaken, each-append, each-those, each-once, each-map, each-take, each-drop, octet-lt, found-case, each-true, any-none, those-less}
+use Rattle.lemmas.proofs.Each.{each-always, each-weaken, each-append, each-those, each-once, each-map, each-take, each-drop, octet-lt, found-case, each-settles, any-none, those-less}
 use Rattle.memory.proofs.Tables.{Writes}
 use Rattle.memory.proofs.Kind.{requestKind, replyKind, Lasts, found-lasts}
 use Rattle.memory.proofs.Lines.{none-of-six, heard, begun, accepted-time}
@@ -156,7 +156,7 @@ GoodView v = Each (λ (n : Numbered Instance). GoodInstance (n .row)) (v .instan
 request-row : (r : RequestRow) → length (r .targets) ≤ 8 → Each Short (r .targets) → Deadline (r .deadline) → GoodInstance (Instance.request r)
 unfolding goodInstance
 request-row r h g d =
-    rw (le-leb (length (r .targets)) mostTargets h, each-true shortPrefix (r .targets) g, d)
+    rw (le-leb (length (r .targets)) mostTargets h, each-settles false shortPrefix (r .targets) g, d)
 
 reply-row : (r : ReplyRow) → Deadline (r .deadline) → GoodInstance (Instance.reply r)
 unfolding goodInstance

@@ -24,22 +24,16 @@ module _ (b : Base) (w : WritableBase b) (rest : List ℕ) where
   mop-back = rw base-fields
 
   pub base-back : baseOf (baseOctets b ++ rest) ≡ b
-  unfolding baseOf
+  unfolding baseOf baseOctets
   base-back = λ i. record {
-    instance = instance-back i;
-    version = version-back i;
+    instance = b .instance;
+    version = b .version;
     rank = rank-back i;
     g = g-back i;
     prf = prf-back i;
     dodagid = dodagid-back i;
   }
     where
-      instance-back : octetAt (baseOctets b ++ rest) 0 ≡ b .instance
-      instance-back = unfold baseOctets in refl
-
-      version-back : octetAt (baseOctets b ++ rest) 1 ≡ b .version
-      version-back = unfold baseOctets in refl
-
       rank-back : wordAt (baseOctets b ++ rest) 2 ≡ b .rank
       rank-back = unfold baseOctets in word-back (b .rank) [] (w .rank)
 

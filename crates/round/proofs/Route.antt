@@ -1,6 +1,6 @@
 -- "RREQ, type 0x0B" and "RREP, type 0x0C": the body that is written is read back to its fields and its vector.
 use Prim.Native.Nat.{ℕ, _+_, _%_, _<_}
-use mathlib.Core.Path.{_≡_, refl, sym}
+use mathlib.Core.Path.{_≡_, refl, sym, ap}
 use mathlib.Core.Bool.{Bool, true, false, cond, not}
 use mathlib.Core.List.{List, [], _∷_, flatten}
 use native.Mathlib.Omega.{arith}
@@ -8,7 +8,7 @@ use lib.Dec.{eqb, ltb}
 use lib.ListN.{length, getD}
 use borrow.Author.Tests.{le-ltb}
 use Rattle.plain.specs.Address.{Address}
-use Rattle.plain.specs.Octets.{sum, word, fields, bit, routeBits, numberBits, wordAt, vectorOctets, addressOctets, flagOf, hOf, comprOf, lOf, limitOf, numberOf, elided, restored, badRoute, discoveryOf, routeBodyOctets}
+use Rattle.plain.specs.Octets.{sum, word, fields, bit, routeBits, numberBits, wordAt, vectorOctets, addressOctets, hOf, comprOf, numberOf, elided, restored, badRoute, discoveryOf, routeBodyOctets}
 use Rattle.plain.specs.declared.Discovery.{Discovery}
 use Rattle.round.specs.Round.{WritableDiscovery, WritableVector}
 use Rattle.round.proofs.Fields.{word-lt, fields-fit, word-back, bit-lt, bit-back}
@@ -35,8 +35,11 @@ module _ (d : Discovery) (dodagid : Address) (v : List Address) (w : WritableDis
       (fields-fit routeBits (routeValues d)
       (bit-lt (d .flag), (bit-lt (d .h), (omega arith, (sent-compr-lt (d .h) (d .compr) (w .compr), (w .l, (w .limit, tt)))))))
 
+  flag-back : (k : ℕ) (b : Bool) → getD (routeValues d) k 0 ≡ bit b → eqb (getD (fields routeBits (wordAt (routeBodyOctets d v) 0)) k 0) 1 ≡ b
+  flag-back k b e = rw (route-fields, e) (bit-back b)
+
   h-back : hOf (routeBodyOctets d v) ≡ d .h
-  h-back = rw route-fields (bit-back (d .h))
+  h-back = flag-back 1 (d .h) refl
 
   compr-back : comprOf (routeBodyOctets d v) ≡ d .compr
   compr-back = rw (h-back, route-fields) (go (d .h) refl)
@@ -49,23 +52,14 @@ module _ (d : Discovery) (dodagid : Address) (v : List Address) (w : WritableDis
   unfolding discoveryOf
   discovery-back = λ i. record {
     reply = d .reply;
-    flag = flag-back i;
+    flag = flag-back 0 (d .flag) refl i;
     h = h-back i;
     compr = compr-back i;
-    l = l-back i;
-    limit = limit-back i;
+    l = ap (λ fs. getD fs 4 0) route-fields i;
+    limit = ap (λ fs. getD fs 5 0) route-fields i;
     number = number-is i;
   }
     where
-      flag-back : flagOf (routeBodyOctets d v) ≡ d .flag
-      flag-back = rw route-fields (bit-back (d .flag))
-
-      l-back : lOf (routeBodyOctets d v) ≡ d .l
-      l-back = rw route-fields
-
-      limit-back : limitOf (routeBodyOctets d v) ≡ d .limit
-      limit-back = rw route-fields
-
       number-is : numberOf (d .reply) (routeBodyOctets d v) ≡ d .number
       number-is = unfold routeBodyOctets in number-back (d .reply) (d .number) (w .number)
 

@@ -12,7 +12,7 @@ use borrow.Author.Tests.{le-ltb}
 use Rattle.plain.specs.Octets.{Message, Opt, hear, octetsOf, optionsOf, ofType, firstBody, configurationOf, discoveryOf, restored, comprOf, vectorOctets, routeBody, routeBodyOctets, replyCounts, plenOf, targetOf, targetsOf, baseOf, mopOf, messageOf, malformed, unfit, tooMany, anyBad, badOption, badRoute, badArt, configurationType, artType, mostAddresses, mostTargets}
 use Rattle.plain.specs.declared.Target.{Target}
 use Rattle.lemmas.specs.Each.{Each}
-use Rattle.lemmas.proofs.Each.{each-map, each-weaken, none-any}
+use Rattle.lemmas.proofs.Each.{each-map, each-weaken, each-settles}
 use Rattle.round.specs.Round.{Writable, WritableConfiguration, WritableTarget, RoundTrip, BufferRoundTrip}
 use Rattle.round.proofs.Lists.{map-same}
 use Rattle.round.proofs.Options.{option, octetsOfOptions}
@@ -79,7 +79,7 @@ module _ (m : Message) (w : Writable m) where
   options-good : anyBad (optionsOf (octetsOf m)) ≡ false
   options-good =
       rw are
-      (none-any badOption (options m)
+      (each-settles true badOption (options m)
       (each-option (λ (o : Opt). badOption o ≡ false) (m .configuration) (m .discovery .reply) body (m .targets)
       (good-configurations (m .configuration) (w .configuration))
       (route-option (m .discovery .reply) body

@@ -1,11 +1,12 @@
 use Prim.Native.Nat.{_≤_, _-_}
+use mathlib.Core.Bool.{false}
 use mathlib.Core.Path.{_≡_, refl, sym}
 use native.Mathlib.Omega.{arith}
 use lib.Dec.{eqb}
 use lib.ListN.{length, drop}
 use borrow.Author.Tests.{eq-eqb, ne-eqb}
 use borrow.Author.Needs.{needs}
-use Rattle.lemmas.proofs.Walk.{all-miss, all-hit, all-end}
+use Rattle.lemmas.proofs.Walk.{walk-stop, walk-on, walk-end}
 use Rattle.plain.specs.Lists.{all}
 use Rattle.lemmas.proofs.Cases.{cases}
 use Rattle.unusable.proofs.is_all_zero.Statement.{statement}
@@ -28,7 +29,7 @@ returns c =
     let l = c .before .before .loop in
     let a = c .before .before .before .args .t1 in
     let p : length a ≡ 16 = search needs in
-    sym (all-miss (eqb 0) 0 a (l .i) (l .inv .1) (omega arith) (ne-eqb _ _ (c .if1 .taken)))
+    sym (walk-stop false (eqb 0) 0 a (l .i) (l .inv .1) (omega arith) (ne-eqb _ _ (c .if1 .taken)))
 
 add-i : tie.Need-add-i Inv-loop μ-loop
 add-i c = search cases
@@ -41,14 +42,14 @@ loop-again c =
     let l = c .before .before .loop in
     let a = c .before .before .before .args .t1 in
     let p : length a ≡ 16 = search needs in
-    (search needs, all-hit (eqb 0) 0 a (l .i) (l .inv .1) (omega arith) (eq-eqb _ _ (c .if1 .left)))
+    (search needs, walk-on false (eqb 0) 0 a (l .i) (l .inv .1) (omega arith) (eq-eqb _ _ (c .if1 .left)))
 
 returns-2 : tie.Need-returns-2 Inv-loop μ-loop
 returns-2 c =
     let l = c .before .loop in
     let a = c .before .before .args .t1 in
     let p : length a ≡ 16 = search needs in
-    sym (all-end (eqb 0) 0 a (l .i) (l .inv .1) (omega arith))
+    sym (walk-end false (eqb 0) 0 a (l .i) (l .inv .1) (omega arith))
 
 pub is-all-zero-spec : {M : Type 1} → statement M
 is-all-zero-spec =
