@@ -1,7 +1,7 @@
 -- Whether a start is a bad call, and what is held of one that is none.
 use Prim.Native.Nat.{ℕ}
 use mathlib.Core.Path.{_≡_, refl, sym, _∙_}
-use mathlib.Core.Bool.{Bool, true, false, _||_}
+use mathlib.Core.Bool.{Bool, true, false, _||_, or-true}
 use mathlib.Core.List.{List, [], _∷_, _++_, map}
 use native.Mathlib.Omega.{arith}
 use lib.Dec.{eqb, ltb}
@@ -17,10 +17,6 @@ use Rattle.plain.specs.declared.Target.{Target}
 use Rattle.lemmas.proofs.Choice.{cond-case, and-both, or-left, or-right}
 use Rattle.gather.specs.declared.Gathering.{Gathering}
 use Rattle.gather.specs.Gathers.{isLong, isShort, Gathers, Judged, Fit}
-
-or-true : (a : Bool) → a || true ≡ true
-or-true true = refl
-or-true false = refl
 
 module _ (ts : List Target) (g : Gathering) (v : Gathers ts g) where
   abbrev S : List Target

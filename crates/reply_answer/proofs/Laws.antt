@@ -40,16 +40,6 @@ pub full-is : (x : Settings) (p : Parsed) (v : List Address) (w : ReplyFacts) (a
 unfolding messageIn
 full-is x p v w adds r ea er = er ∙ rw ea (full-added (messageIn p v) (answeredOf w) x)
 
--- ---- Answer 11
-
-pub link-good : (s : Bool) → false ≡ s && false
-link-good true = refl
-link-good false = refl
-
-pub link-bad : (s : Bool) → s ≡ s && true
-link-bad true = refl
-link-bad false = refl
-
 -- ---- Where no line holds
 
 -- 12 and 16 are not given
