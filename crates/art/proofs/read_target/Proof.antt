@@ -22,7 +22,7 @@ sub-put-over : tie.Need-sub-put-over
 sub-put-over c = let h = size (c .before .before .before) in omega arith
 
 part-put-over-start : tie.Need-part-put-over-start
-part-put-over-start c = let h = size (c .before .before .before) in omega arith
+part-put-over-start c = sub-put-over c
 
 part-put-over-end : tie.Need-part-put-over-end
 part-put-over-end c = search needs

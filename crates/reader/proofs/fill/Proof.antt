@@ -23,7 +23,7 @@ sub-discovery : tie.Need-sub-discovery
 sub-discovery c = omega (arith, placed (c .before .before .before) .long)
 
 part-discovery-start : tie.Need-part-discovery-start
-part-discovery-start c = omega (arith, placed (c .before .before .before) .long)
+part-discovery-start c = sub-discovery c
 
 part-discovery-end : tie.Need-part-discovery-end
 part-discovery-end c = placed (c .before .before .before) .within

@@ -50,7 +50,7 @@ sub-is-bad-option : tie.Need-sub-is-bad-option Inv-loop μ-loop
 sub-is-bad-option c = body-placed (turn (c .before .before .before)) (c .before .kind .given .1) .0
 
 part-is-bad-option-start : tie.Need-part-is-bad-option-start Inv-loop μ-loop
-part-is-bad-option-start c = body-placed (turn (c .before .before .before)) (c .before .kind .given .1) .0
+part-is-bad-option-start c = sub-is-bad-option c
 
 part-is-bad-option-end : tie.Need-part-is-bad-option-end Inv-loop μ-loop
 part-is-bad-option-end c = body-placed (turn (c .before .before .before)) (c .before .kind .given .1) .2

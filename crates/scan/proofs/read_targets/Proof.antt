@@ -65,7 +65,7 @@ sub-read-target : tie.Need-sub-read-target Inv-loop μ-loop
 sub-read-target c = body-placed (turn (c .before .before .before .before .before)) (c .before .before .before .kind .given .1) .0
 
 part-read-target-start : tie.Need-part-read-target-start Inv-loop μ-loop
-part-read-target-start c = body-placed (turn (c .before .before .before .before .before)) (c .before .before .before .kind .given .1) .0
+part-read-target-start c = sub-read-target c
 
 part-read-target-end : tie.Need-part-read-target-end Inv-loop μ-loop
 part-read-target-end c = body-placed (turn (c .before .before .before .before .before)) (c .before .before .before .kind .given .1) .2
