@@ -1,7 +1,7 @@
 -- Twins have one hash, and the filter serves for each of the two tables.
 use Prim.Native.Nat.{ℕ}
 use mathlib.Core.Path.{_≡_}
-use mathlib.Core.Bool.{true}
+use mathlib.Core.Bool.{Bool, true, false, cond}
 use Rattle.plain.specs.Table.{live, instanceDeadline, routeDeadline}
 use Rattle.row.specs.Meaning.{instanceOf, routeOf, noRow, noRoute}
 use Rattle.row.specs.declared.InstanceRow.{InstanceRow}
@@ -11,21 +11,31 @@ use Rattle.key.proofs.Plain.{key-parts, three-parts, three-true}
 use Rattle.filter.specs.Filter.{hashRow, hashRoute}
 use Rattle.filter.proofs.Filter.{Kind}
 
+-- ---- rows of one key have one hash
+
+row-hash : (a b : InstanceRow) → sameKey a b ≡ true → hashRow a ≡ hashRow b
+unfolding hashRow
+row-hash a b e = let k = key-parts a b e in rw (k .0, k .1, k .2)
+
+route-hash : (a b : RouteRow) → sameThree a b ≡ true → hashRoute a ≡ hashRoute b
+unfolding hashRoute
+route-hash a b e = let k = three-parts a b e in rw (k .0, k .1, k .2)
+
+-- ---- twins are of one key, and both live
+
+joined : {A : Type 0} (hash : A → ℕ) (key : A → A → Bool) → ((a b : A) → key a b ≡ true → hash a ≡ hash b) → (lives : A → Bool) (a b : A)
+    → cond (key a b) (cond (lives a) (lives b) false) false ≡ true → (lives a ≡ true) × (lives b ≡ true) × (hash a ≡ hash b)
+joined hash key f lives a b e = let q = three-true (key a b) (lives a) (lives b) e in (q .1, q .2, f a b (q .0))
+
 pub row-joins : (t : ℕ) (a b : InstanceRow) → rowTwins t a b ≡ true
     → (live instanceDeadline t (instanceOf a) ≡ true) × (live instanceDeadline t (instanceOf b) ≡ true) × (hashRow a ≡ hashRow b)
-unfolding rowTwins hashRow
-row-joins t a b e =
-    let q = three-true (sameKey a b) (live instanceDeadline t (instanceOf a)) (live instanceDeadline t (instanceOf b)) e in
-    let k = key-parts a b (q .0) in
-    (q .1, q .2, rw (k .0, k .1, k .2))
+unfolding rowTwins
+row-joins t = joined hashRow sameKey row-hash (λ r. live instanceDeadline t (instanceOf r))
 
 pub route-joins : (t : ℕ) (a b : RouteRow) → routePair t a b ≡ true
     → (live routeDeadline t (routeOf a) ≡ true) × (live routeDeadline t (routeOf b) ≡ true) × (hashRoute a ≡ hashRoute b)
-unfolding routePair hashRoute
-route-joins t a b e =
-    let q = three-true (sameThree a b) (live routeDeadline t (routeOf a)) (live routeDeadline t (routeOf b)) e in
-    let k = three-parts a b (q .0) in
-    (q .1, q .2, rw (k .0, k .1, k .2))
+unfolding routePair
+route-joins t = joined hashRoute sameThree route-hash (λ r. live routeDeadline t (routeOf r))
 
 -- ---- the two tables, at time t
 

@@ -1,7 +1,7 @@
 -- Whether a start is a bad call, and what is held of one that is none.
 use Prim.Native.Nat.{ℕ}
 use mathlib.Core.Path.{_≡_, refl, sym, _∙_}
-use mathlib.Core.Bool.{Bool, true, false, _||_}
+use mathlib.Core.Bool.{Bool, true, false, _||_, or-true}
 use mathlib.Core.List.{List, [], _∷_, _++_, map}
 use native.Mathlib.Omega.{arith}
 use lib.Dec.{eqb, ltb}
@@ -19,10 +19,6 @@ use Rattle.lemmas.proofs.Each.{each-settles}
 use Rattle.lemmas.proofs.Targets.{start-short}
 use Rattle.gather.specs.declared.Gathering.{Gathering}
 use Rattle.gather.specs.Gathers.{Gathers, Judged, Fit}
-
-or-true : (a : Bool) → a || true ≡ true
-or-true true = refl
-or-true false = refl
 
 module _ (ts : List Target) (g : Gathering) (v : Gathers ts g) where
   abbrev S : List Target

@@ -1,7 +1,7 @@
 -- The loop over the targets that are handed in: what is gathered so far, with those that are left, comes to all of them.
 use Prim.Native.Nat.{ℕ, _+_, _<_, _≤_}
 use mathlib.Core.Path.{_≡_, refl, sym, _∙_}
-use mathlib.Core.Bool.{Bool, true, false, _||_}
+use mathlib.Core.Bool.{Bool, false, _||_, or-assoc, or-false}
 use mathlib.Core.List.{List, [], _∷_, map}
 use lib.ListN.{length, getD, drop, drop-of-length-le, replicate}
 use Rattle.plain.specs.Lists.{any, once}
@@ -22,14 +22,6 @@ pub record Underway (ts rest list : List Target) (c : Count) (long : Bool) : Typ
   pub collected : Collected (once sameTarget (map wholeBits ts)) (map wholeBits rest) (targetsIn list c)
   pub padded : Padded (c .n) list
 
-or-after : (a b c : Bool) → (a || b) || c ≡ a || (b || c)
-or-after true b c = refl
-or-after false b c = refl
-
-or-none : (a : Bool) → a || false ≡ a
-or-none true = refl
-or-none false = refl
-
 pub begun : (ts : List Target) → Underway ts (drop 0 ts) (replicate 8 noTarget) noneYet false
 begun ts = record { prefixes = refl; collected = none-collected (map wholeBits ts); padded = refl }
 
@@ -37,7 +29,7 @@ step : (ts rest list after : List Target) (c r : Count) (long : Bool) (t : Targe
     → Underway ts (t ∷ rest) list c long → Underway ts rest after r (long || longPrefix t)
 unfolding any
 step ts rest list after c r long t j v = record {
-  prefixes = or-after long (longPrefix t) (any longPrefix rest) ∙ v .prefixes;
+  prefixes = or-assoc long (longPrefix t) (any longPrefix rest) ∙ v .prefixes;
   collected = j .collected _ _ (v .collected);
   padded = j .padded (v .padded);
 }
@@ -54,7 +46,7 @@ module _ (ts : List Target) (i : ℕ) (list : List Target) (c : Count) (long : B
       let u : Underway ts [] list c long = rw (drop-of-length-le ts {i = i} h) at v in
       let w = gathered (u .collected) (u .padded) in
       record {
-        long = sym (or-none long) ∙ u .prefixes;
+        long = sym (or-false long) ∙ u .prefixes;
         over = rw (← once-whole ts) (w .over);
         few = w .few;
         room = w .room;

@@ -1,7 +1,7 @@
 -- `any` and `anyTwo` place by place, and at a loop that goes through the list.
 use Prim.Native.Nat.{ℕ, zero, suc, _+_, _<_, _≤_}
 use mathlib.Core.Path.{_≡_, refl, sym, _∙_}
-use mathlib.Core.Bool.{Bool, true, false, _||_}
+use mathlib.Core.Bool.{Bool, true, false, _||_, or-false}
 use mathlib.Core.List.{List, [], _∷_, _++_}
 use native.Mathlib.Omega.{arith}
 use native.Mathlib.Numerals.{add-one}
@@ -17,10 +17,6 @@ not-so false h = refl
 pub so : (b : Bool) → (b ≡ false → ⊥) → b ≡ true
 so true h = refl
 so false h = absurd (h refl)
-
-pub or-none : (b : Bool) → b || false ≡ b
-or-none true = refl
-or-none false = refl
 
 or-across : (a b c d : Bool) → (a || b) || (c || d) ≡ (a || c) || (b || d)
 or-across true b c d = refl
@@ -68,7 +64,7 @@ module _ {A : Type 0} (p : A → A → Bool) where
   unfolding anyTwo any
   two-snoc [] y = refl
   two-snoc (x ∷ xs) y =
-      rw (any-append (p x) xs (y ∷ []), or-none (p x y), two-snoc xs y) (or-across (any (p x) xs) (p x y) (anyTwo p xs) (any (λ (x : A). p x y) xs))
+      rw (any-append (p x) xs (y ∷ []), or-false (p x y), two-snoc xs y) (or-across (any (p x) xs) (p x y) (anyTwo p xs) (any (λ (x : A). p x y) xs))
 
   two-front : (xs ys : List A) → anyTwo p (xs ++ ys) ≡ false → anyTwo p xs ≡ false
   unfolding anyTwo

@@ -1,7 +1,7 @@
 -- Twins among records are twins among the live rows of the plain node's tables.
 use Prim.Native.Nat.{ℕ, suc}
 use mathlib.Core.Path.{_≡_, refl, sym, ap, _∙_}
-use mathlib.Core.Bool.{Bool, true, false, cond, _&&_, _||_}
+use mathlib.Core.Bool.{Bool, true, false, cond, _&&_, _||_, and-true, and-false, or-false}
 use mathlib.Core.List.{List, [], _∷_, _++_, map}
 use mathlib.Core.Option.{Option, some, none}
 use mathlib.Core.Logic.{_⊎_, inl, inr}
@@ -21,35 +21,22 @@ use Rattle.row.specs.declared.RouteRow.{RouteRow}
 use Rattle.lemmas.proofs.Rules.{every-kind}
 use Rattle.first.proofs.Found.{seen, kind-cons}
 use Rattle.key.specs.Pair.{sameKey, rowTwins, sameThree, routePair, endingOf}
-use Rattle.key.proofs.Any.{or-none, two-same, two-either}
+use Rattle.key.proofs.Any.{two-same, two-either}
 
 -- ---- keys compared by their addresses first
 
 pub key-far : (a b : InstanceRow) → same (a .dodagid) (b .dodagid) ≡ false → sameKey a b ≡ false
 unfolding sameKey
-key-far a b e = rw e (go (eqb (a .kind) (b .kind)) (eqb (a .instance) (b .instance)))
-  where
-    go : (k i : Bool) → k && (i && false) ≡ false
-    go true true = refl
-    go true false = refl
-    go false i = refl
+key-far a b e = rw (e, and-false (eqb (a .instance) (b .instance)), and-false (eqb (a .kind) (b .kind)))
 
 pub key-near : (a b : InstanceRow) → eqb (a .kind) (b .kind) ≡ true → same (a .dodagid) (b .dodagid) ≡ true
     → sameKey a b ≡ eqb (a .instance) (b .instance)
 unfolding sameKey
-key-near a b k e = rw (k, e) (go (eqb (a .instance) (b .instance)))
-  where
-    go : (i : Bool) → true && (i && true) ≡ i
-    go true = refl
-    go false = refl
+key-near a b k e = rw (k, e) (and-true (eqb (a .instance) (b .instance)))
 
 pub three-far : (a b : RouteRow) → same (a .destination) (b .destination) ≡ false → sameThree a b ≡ false
 unfolding sameThree
-three-far a b e = rw e (go (same (a .source) (b .source)))
-  where
-    go : (s : Bool) → s && false && eqb (a .instance) (b .instance) ≡ false
-    go true = refl
-    go false = refl
+three-far a b e = rw (e, and-false (same (a .source) (b .source)))
 
 -- ---- what rows of one key have in common
 
@@ -169,7 +156,7 @@ module _ (t : ℕ) (a b : InstanceRow) where
       ≡ cond (sameKey a b) true false
   unfolding sameKey requestOf replyOf
   both-live (inl e) (inl f) =
-      rw (request-part a, request-part b, reply-part a, reply-part b, e, f) (or-none
+      rw (request-part a, request-part b, reply-part a, reply-part b, e, f) (or-false
       (eqb (a .instance) (b .instance) && same (a .dodagid) (b .dodagid)) ∙ cond-self
       (eqb (a .instance) (b .instance) && same (a .dodagid) (b .dodagid)))
   both-live (inl e) (inr f) = rw (request-part a, request-part b, reply-part a, reply-part b, e, f)

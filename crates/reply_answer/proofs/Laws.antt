@@ -1,8 +1,8 @@
 -- What the answer of a reply comes to.
 use Prim.Native.Nat.{_≤_}
 use mathlib.Core.Path.{_≡_, refl, ap, _∙_}
-use mathlib.Core.Bool.{Bool, true, false, cond, not, _&&_, _||_}
-use mathlib.Core.List.{List, []}
+use mathlib.Core.Bool.{Bool, true, false, cond, not, _&&_}
+use mathlib.Core.List.{List}
 use mathlib.Core.Option.{Option}
 use native.Mathlib.Omega.{arith}
 use lib.ListN.{take}
@@ -12,13 +12,12 @@ use Rattle.plain.specs.Table.{Numbered}
 use Rattle.plain.specs.Octets.{Message}
 use Rattle.plain.specs.Rank.{minHop, ownRank, rankRefused}
 use Rattle.plain.specs.Answers.{answerOf}
-use Rattle.plain.specs.Request.{cannotElide, cannotGrow, grown, isStale, isNothingNew, routeStale}
-use Rattle.plain.specs.Reply.{Answered, answeredWith, destSeq, grows, replyLoops, replyLines}
+use Rattle.plain.specs.Request.{cannotGrow, grown}
+use Rattle.plain.specs.Reply.{Answered, answeredWith, grows, replyLines}
 use Rattle.lemmas.proofs.Rules.{unheld}
 use Rattle.rank.proofs.Refusal.{own-fits}
-use Rattle.message.specs.Message.{messageIn, receivedBy, routeFound}
+use Rattle.message.specs.Message.{messageIn}
 use Rattle.message.specs.declared.Parsed.{Parsed}
-use Rattle.message.specs.declared.Link.{Link}
 use Rattle.reply.specs.Facts.{answeredOf, Gathered, isFull}
 use Rattle.reply.specs.declared.ReplyFacts.{ReplyFacts}
 use Rattle.reply.proofs.Laws.{grows-h}
@@ -41,32 +40,9 @@ pub full-is : (x : Settings) (p : Parsed) (v : List Address) (w : ReplyFacts) (a
 unfolding messageIn
 full-is x p v w adds r ea er = er ∙ rw ea (full-added (messageIn p v) (answeredOf w) x)
 
--- ---- Answer 11
+-- ---- Where no line holds
 
-pub link-good : (s : Bool) → false ≡ s && false
-link-good true = refl
-link-good false = refl
-
-pub link-bad : (s : Bool) → s ≡ s && true
-link-bad true = refl
-link-bad false = refl
-
--- ---- The first line that holds
-
-pub lines-of : (x : Settings) (k : Link) (p : Parsed) (v : List Address) (w : ReplyFacts)
-    → answerOf (replyLines x (receivedBy k []) (messageIn p v) (answeredOf w))
-    ≡ cond (replyLoops x (messageIn p v) (answeredOf w)) 9
-    (cond (cannotElide x (p .discovery .h) (p .discovery .compr) (p .base .dodagid)) 10
-    (cond (not (w .symmetric) && not (k .downward)) 11
-    (cond (not (w .symmetric) && rankRefused (minHop (messageIn p v .configuration)) (p .base .rank) (k .increase) (p .discovery .limit) (w .orig)) 12
-    (cond (isStale (w .standing) || routeStale (p .discovery .h) (routeFound (w .route)) (destSeq (messageIn p v))) 13
-    (cond (isNothingNew (w .standing)) 14
-    (cond (isFull x (messageIn p v) (answeredOf w)) 16
-    0))))))
-unfolding replyLines answerOf answeredOf messageIn isFull
-lines-of x k p v w = refl
-
--- 12 and 16 are not given where none is
+-- 12 and 16 are not given
 pub none-holds : (x : Settings) (c : Received) (m : Message) (a : Answered) → answerOf (replyLines x c m a) ≡ 0
     → (not (a .symmetric)
     && rankRefused (minHop (m .configuration)) (m .base .rank) (c .increase) (m .discovery .limit) (a .isOrig) ≡ false)

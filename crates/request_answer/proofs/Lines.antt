@@ -1,25 +1,26 @@
--- The lines of the table that a request is asked, as the code asks them.
-use Prim.Native.Nat.{ℕ, suc, _≤_, _<_}
-use mathlib.Core.Path.{_≡_, refl, sym, _∙_}
-use mathlib.Core.Bool.{Bool, true, false, cond, not, _&&_, _||_}
+-- Answers 15 and 16 of a request, and what is known where no line holds.
+use Prim.Native.Nat.{ℕ, _≤_, _<_}
+use mathlib.Core.Path.{_≡_, refl, _∙_}
+use mathlib.Core.Bool.{Bool, true, false, cond, not, _&&_}
 use mathlib.Core.List.{List, []}
 use mathlib.Core.Option.{some, none}
 use native.Mathlib.Omega.{arith}
 use lib.Dec.{ltb}
 use lib.ListN.{length, take, length-take}
 use borrow.Author.Tests.{ltb-false}
+use Rattle.lemmas.proofs.Rules.{unheld}
 use Rattle.lemmas.proofs.Choice.{or-left, or-right, true-false}
-use Rattle.plain.specs.Lists.{any, given}
+use Rattle.plain.specs.Lists.{given}
 use Rattle.plain.specs.Address.{Address}
 use Rattle.plain.specs.Given.{Settings}
 use Rattle.plain.specs.Answers.{answerOf}
 use Rattle.plain.specs.Rank.{minHop, ownRank, rankRefused}
 use Rattle.plain.specs.Octets.{elided}
-use Rattle.plain.specs.Request.{ours, cannotElide, grown, cannotGrow, isStale, isNothingNew, routeStale, forwards, repliesNow, requestLines}
+use Rattle.plain.specs.Request.{grown, cannotGrow, forwards, requestLines}
 use Rattle.rank.proofs.Refusal.{own-fits}
 use Rattle.own.specs.Settings.{Whole}
 use Rattle.own.proofs.Growth.{whole-take, whole-grown, elided-length}
-use Rattle.message.specs.Message.{configurationIn, messageIn, receivedBy, routeFound, deltaFound}
+use Rattle.message.specs.Message.{configurationIn, messageIn, receivedBy, deltaFound}
 use Rattle.message.specs.declared.FreeDelta.{FreeDelta}
 use Rattle.message.specs.declared.Parsed.{Parsed}
 use Rattle.message.specs.declared.Link.{Link}
@@ -34,20 +35,6 @@ given-delta d = go (d .is)
     go : (b : Bool) → given (cond b (some (d .delta)) none) ≡ b
     go true = refl
     go false = refl
-
-pub lines-of : (x : Settings) (k : Link) (p : Parsed) (v : List Address) (a : RequestFacts)
-    → answerOf (requestLines x (receivedBy k []) (messageIn p v) (askedOf a))
-    ≡ cond (any (ours x) (take (p .n) v)) 9
-    (cond (cannotElide x (p .discovery .h) (p .discovery .compr) (p .base .dodagid)) 10
-    (cond (not (k .upward)) 11
-    (cond (rankRefused (minHop (configurationIn (p .configured) (p .configuration))) (p .base .rank) (k .increase) (p .discovery .limit) (a .targ)) 12
-    (cond (isStale (a .standing) || routeStale (p .discovery .h) (routeFound (a .route)) (p .discovery .number)) 13
-    (cond (isNothingNew (a .standing)) 14
-    (cond (repliesNow (askedOf a) && not (given (deltaFound (a .delta)))) 15
-    (cond (forwards (messageIn p []) (askedOf a) && not (p .discovery .h) && cannotGrow (p .discovery .compr) (grown x (p .discovery .h) (take (p .n) v))) 16
-    0)))))))
-unfolding requestLines answerOf askedOf messageIn forwards
-lines-of x k p v a = refl
 
 -- 16: ours are added where the request goes on and H is 0
 full-added : (x : Settings) (goes h : Bool) (compr : ℕ) (v : List Address)
@@ -66,31 +53,21 @@ full-is x p a v adds r ea er =
 
 -- ---- What is known where no line holds
 
-cond-zero : (b : Bool) (n rest : ℕ) → cond b (suc n) rest ≡ 0 → (b ≡ false) × (rest ≡ 0)
-cond-zero true n rest e = absurd (omega arith)
-cond-zero false n rest e = (refl, e)
-
-clear : (b9 b10 b11 b12 b13 b14 b15 b16 : Bool)
-    → _≡_ {A = ℕ} (cond b9 9 (cond b10 10 (cond b11 11 (cond b12 12 (cond b13 13 (cond b14 14 (cond b15 15 (cond b16 16 0)))))))) 0
-    → (b12 ≡ false) × (b16 ≡ false)
-clear b9 b10 b11 b12 b13 b14 b15 b16 e =
-    let from12 = cond-zero b11 10 _ (cond-zero b10 9 _ (cond-zero b9 8 _ e .1) .1) .1 in
-    let from13 = cond-zero b12 11 _ from12 in
-    let from16 = cond-zero b15 14 _ (cond-zero b14 13 _ (cond-zero b13 12 _ (from13 .1) .1) .1) .1 in
-    (from13 .0, cond-zero b16 15 0 from16 .0)
-
 module _ (x : Settings) (k : Link) (p : Parsed) (v : List Address) (a : RequestFacts)
     (zero-is : answerOf (requestLines x (receivedBy k []) (messageIn p v) (askedOf a)) ≡ 0) where
   quiet : (rankRefused (minHop (configurationIn (p .configured) (p .configuration))) (p .base .rank) (k .increase) (p .discovery .limit) (a .targ) ≡ false)
       × (forwards (messageIn p []) (askedOf a) && not (p .discovery .h)
       && cannotGrow (p .discovery .compr) (grown x (p .discovery .h) (take (p .n) v)) ≡ false)
+  unfolding requestLines askedOf messageIn forwards
   quiet =
-      clear (any (ours x) (take (p .n) v)) (cannotElide x (p .discovery .h) (p .discovery .compr) (p .base .dodagid)) (not (k .upward))
-      (rankRefused (minHop (configurationIn (p .configured) (p .configuration))) (p .base .rank) (k .increase) (p .discovery .limit) (a .targ))
-      (isStale (a .standing) || routeStale (p .discovery .h) (routeFound (a .route)) (p .discovery .number)) (isNothingNew (a .standing))
-      (repliesNow (askedOf a) && not (given (deltaFound (a .delta))))
-      (forwards (messageIn p []) (askedOf a) && not (p .discovery .h)
-      && cannotGrow (p .discovery .compr) (grown x (p .discovery .h) (take (p .n) v))) (sym (lines-of x k p v a) ∙ zero-is)
+      let e10 = unheld _ _ zero-is (omega arith) .1 in
+      let e11 = unheld _ _ e10 (omega arith) .1 in
+      let e12 = unheld _ _ e11 (omega arith) .1 in
+      let e13 = unheld _ _ e12 (omega arith) in
+      let e14 = unheld _ _ (e13 .1) (omega arith) .1 in
+      let e15 = unheld _ _ e14 (omega arith) .1 in
+      let e16 = unheld _ _ e15 (omega arith) .1 in
+      (e13 .0, unheld _ _ e16 (omega arith) .0)
 
   -- our own rank fits
   pub rank-fits : ownRank (p .base .rank) (k .increase) < 65535

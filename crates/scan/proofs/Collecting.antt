@@ -1,5 +1,5 @@
 -- The pass that collects the targets, one turn for each thing that may stand at a position.
-use Prim.Native.Nat.{ℕ, _+_, _-_, _<_}
+use Prim.Native.Nat.{ℕ, _+_, _-_}
 use mathlib.Core.Path.{_≡_, refl, sym, ap, _∙_}
 use mathlib.Core.Bool.{false}
 use mathlib.Core.List.{List, [], _∷_, map}
@@ -14,10 +14,10 @@ use Rattle.plain.specs.declared.Target.{Target}
 use Rattle.targets.specs.declared.Targets.{Targets}
 use Rattle.targets.specs.Collected.{Collected, Gathered}
 use Rattle.targets.proofs.Laws.{gathered}
-use Rattle.option.specs.Follows.{optionOf, partOf, Follows}
+use Rattle.option.specs.Follows.{optionOf, partOf}
 use Rattle.option.specs.declared.Next.{Next}
 use Rattle.option.specs.declared.Next.the-variants.{Pad, Body, End, Cut}
-use Rattle.scan.proofs.Turn.{end-next, cut-next, pad-next, body-next}
+use Rattle.scan.proofs.Turn.{Turn, end-next, cut-next, pad-next, body-next}
 
 -- the targets of the ARTs among some options, in their order
 abbrev pub artTargets : Option (List Opt) → List Target
@@ -66,42 +66,42 @@ module _ {msg : List ℕ} {ts : Targets} {at left : ℕ} (v : Collecting msg ts 
   unfolding optionsIn those
   gathered-out h = gathered-none (rw h)
 
-  module _ {n : Next} (h : 0 < left) (w : Follows msg at n) where
-    pub gathered-end : n ≡ End → Gathered (once sameTarget (artTargets (optionsOf msg))) ts
-    unfolding those
-    gathered-end e = gathered-none (rw (end-next w h e))
+module _ {msg : List ℕ} {ts : Targets} {at left : ℕ} {n : Next} (w : Turn (Collecting msg ts at left) msg at left n) where
+  pub gathered-end : n ≡ End → Gathered (once sameTarget (artTargets (optionsOf msg))) ts
+  unfolding those
+  gathered-end e = gathered-none (w .inv) (rw (end-next w e))
 
-    pub gathered-cut : n ≡ Cut → Gathered (once sameTarget (artTargets (optionsOf msg))) ts
-    gathered-cut e = gathered-none (rw (cut-next w h e))
+  pub gathered-cut : n ≡ Cut → Gathered (once sameTarget (artTargets (optionsOf msg))) ts
+  gathered-cut e = gathered-none (w .inv) (rw (cut-next w e))
 
-    pub collecting-pad : n ≡ Pad → Collecting msg ts (at + 1) (left - 1)
-    collecting-pad e = record { good = rw (pad-next w h e) at (v .good); collected = rw (pad-next w h e) at (v .collected); padded = v .padded }
+  pub collecting-pad : n ≡ Pad → Collecting msg ts (at + 1) (left - 1)
+  collecting-pad e = record { good = rw (pad-next w e) at (w .inv .good); collected = rw (pad-next w e) at (w .inv .collected); padded = w .inv .padded }
 
-    module _ {kind start end : ℕ} (e : n ≡ Body kind start end) where
-      rest : Option (List Opt)
-      rest = optionsIn (left - 1) (drop end msg)
+  module _ {kind start end : ℕ} (e : n ≡ Body kind start end) where
+    rest : Option (List Opt)
+    rest = optionsIn (left - 1) (drop end msg)
 
-      good-here : anyBad (followedBy (optionOf kind (partOf msg start end)) rest) ≡ false
-      unfolding rest
-      good-here = sym (ap anyBad (body-next w h e)) ∙ v .good
+    good-here : anyBad (followedBy (optionOf kind (partOf msg start end)) rest) ≡ false
+    unfolding rest
+    good-here = sym (ap anyBad (body-next w e)) ∙ w .inv .good
 
-      pub art-here : kind ≡ artType → badArt (partOf msg start end) ≡ false
-      art-here k = art-good kind _ k (first-good kind (partOf msg start end) rest good-here)
+    pub art-here : kind ≡ artType → badArt (partOf msg start end) ≡ false
+    art-here k = art-good kind _ k (first-good kind (partOf msg start end) rest good-here)
 
-      pub collecting-other : (kind ≡ artType → ⊥) → Collecting msg ts end (left - 1)
-      unfolding rest
-      collecting-other k = record {
-        good = rest-good kind (partOf msg start end) rest good-here;
-        collected = rw (body-next w h e, other-first kind (partOf msg start end) rest k) at (v .collected);
-        padded = v .padded;
-      }
+    pub collecting-other : (kind ≡ artType → ⊥) → Collecting msg ts end (left - 1)
+    unfolding rest
+    collecting-other k = record {
+      good = rest-good kind (partOf msg start end) rest good-here;
+      collected = rw (body-next w e, other-first kind (partOf msg start end) rest k) at (w .inv .collected);
+      padded = w .inv .padded;
+    }
 
-      pub collecting-art : {r : Targets} {t : Target} → kind ≡ artType → t ≡ targetOf (partOf msg start end)
-          → ((all more : List Target) → Collected all (t ∷ more) ts → Collected all more r)
-          → (Padded (ts .count) (ts .list) → Padded (r .count) (r .list)) → Collecting msg r end (left - 1)
-      unfolding rest
-      collecting-art k q j b = let g = rest-good kind (partOf msg start end) rest good-here in record {
-        good = g;
-        collected = j _ _ (rw q (rw (body-next w h e, art-first kind (partOf msg start end) rest k g) at (v .collected)));
-        padded = b (v .padded);
-      }
+    pub collecting-art : {r : Targets} {t : Target} → kind ≡ artType → t ≡ targetOf (partOf msg start end)
+        → ((all more : List Target) → Collected all (t ∷ more) ts → Collected all more r)
+        → (Padded (ts .count) (ts .list) → Padded (r .count) (r .list)) → Collecting msg r end (left - 1)
+    unfolding rest
+    collecting-art k q j b = let g = rest-good kind (partOf msg start end) rest good-here in record {
+      good = g;
+      collected = j _ _ (rw q (rw (body-next w e, art-first kind (partOf msg start end) rest k g) at (w .inv .collected)));
+      padded = b (w .inv .padded);
+    }

@@ -1,5 +1,5 @@
 -- The pass over the options, one turn for each thing that may stand at a position.
-use Prim.Native.Nat.{ℕ, _+_, _-_, _<_}
+use Prim.Native.Nat.{ℕ, _+_, _-_}
 use mathlib.Core.Path.{_≡_, refl, sym, ap, _∙_}
 use mathlib.Core.Bool.{true, false}
 use mathlib.Core.List.{List, []}
@@ -10,14 +10,14 @@ use borrow.Author.Tests.{ne-eqb}
 use Rattle.lemmas.proofs.Choice.{true-false}
 use Rattle.plain.specs.Lists.{any, those}
 use Rattle.plain.specs.Octets.{Opt, optionsIn, optionsOf, anyBad, badOption, followedBy}
-use Rattle.option.specs.Follows.{optionOf, partOf, Follows}
+use Rattle.option.specs.Follows.{optionOf, partOf}
 use Rattle.option.specs.declared.Next.{Next}
 use Rattle.option.specs.declared.Next.the-variants.{Pad, Body, End, Cut}
 use Rattle.scan.specs.declared.Found.{Found}
 use Rattle.scan.specs.declared.Scan.{Scan}
 use Rattle.scan.specs.Seen.{Seen, Told}
 use Rattle.scan.specs.Scanned.{freshScan, Ahead, OptionTaken, Outlined, Scanned}
-use Rattle.scan.proofs.Turn.{body-placed, end-next, cut-next, pad-next, body-next}
+use Rattle.scan.proofs.Turn.{Turn, body-placed, end-next, cut-next, pad-next, body-next}
 
 -- what holds before each turn: the options from `at` on, read in `left` steps, are those that are to come
 pub record Passing (msg : List ℕ) (s : Scan) (at left : ℕ) : Type 0 where
@@ -74,7 +74,7 @@ scanned-bad msg r e h = record { bad = e ∙ sym h; told = λ f. true-false (sym
 
 module _ {msg : List ℕ} {s : Scan} {at left : ℕ} (v : Passing msg s at left) where
   -- no option is to come
-  pub scanned-none : optionsIn left (drop at msg) ≡ some [] → Scanned msg s
+  scanned-none : optionsIn left (drop at msg) ≡ some [] → Scanned msg s
   unfolding any
   scanned-none e =
       let good : anyBad (optionsOf msg) ≡ false = sym (v .same) ∙ rw e in
@@ -88,32 +88,32 @@ module _ {msg : List ℕ} {s : Scan} {at left : ℕ} (v : Passing msg s at left)
   unfolding optionsIn
   scanned-out h = scanned-none (rw h)
 
-  -- ---- One turn
+-- ---- One turn
 
-  module _ {n : Next} (h : 0 < left) (w : Follows msg at n) where
-    pub scanned-end : n ≡ End → Scanned msg s
-    scanned-end e = scanned-none (end-next w h e)
+module _ {msg : List ℕ} {s : Scan} {at left : ℕ} {n : Next} (w : Turn (Passing msg s at left) msg at left n) where
+  pub scanned-end : n ≡ End → Scanned msg s
+  scanned-end e = scanned-none (w .inv) (end-next w e)
 
-    pub scanned-cut : n ≡ Cut → anyBad (optionsOf msg) ≡ true
-    scanned-cut e = sym (v .same) ∙ rw (cut-next w h e)
+  pub scanned-cut : n ≡ Cut → anyBad (optionsOf msg) ≡ true
+  scanned-cut e = sym (w .inv .same) ∙ rw (cut-next w e)
 
-    pub passing-pad : n ≡ Pad → Passing msg s (at + 1) (left - 1)
-    passing-pad e = record {
-      bad = v .bad;
-      same = sym (ap anyBad (pad-next w h e)) ∙ v .same;
-      ahead = λ all rest p q. v .ahead all rest p (pad-next w h e ∙ q);
+  pub passing-pad : n ≡ Pad → Passing msg s (at + 1) (left - 1)
+  passing-pad e = record {
+    bad = w .inv .bad;
+    same = sym (ap anyBad (pad-next w e)) ∙ w .inv .same;
+    ahead = λ all rest p q. w .inv .ahead all rest p (pad-next w e ∙ q);
+  }
+
+  module _ {kind start end : ℕ} (e : n ≡ Body kind start end) where
+    pub bad-body : badOption (optionOf kind (partOf msg start end)) ≡ true → anyBad (optionsOf msg) ≡ true
+    bad-body b = sym (w .inv .same) ∙ ap anyBad (body-next w e) ∙ bad-first _ (optionsIn (left - 1) (drop end msg)) b
+
+    pub passing-body : {r : Scan} → badOption (optionOf kind (partOf msg start end)) ≡ false → OptionTaken kind start end s r
+        → Passing msg r end (left - 1)
+    passing-body g t = let p = body-placed w e in record {
+      bad = t .bad ∙ w .inv .bad;
+      same = sym (ap anyBad (body-next w e) ∙ right-first _ (optionsIn (left - 1) (drop end msg)) g) ∙ w .inv .same;
+      ahead = λ all rest a q.
+          t .ahead msg all rest (record { order = p .0; short = p .1; within = p .2; good = g })
+          (w .inv .ahead all _ a (body-next w e ∙ rw q));
     }
-
-    module _ {kind start end : ℕ} (e : n ≡ Body kind start end) where
-      pub bad-body : badOption (optionOf kind (partOf msg start end)) ≡ true → anyBad (optionsOf msg) ≡ true
-      bad-body b = sym (v .same) ∙ ap anyBad (body-next w h e) ∙ bad-first _ (optionsIn (left - 1) (drop end msg)) b
-
-      pub passing-body : {r : Scan} → badOption (optionOf kind (partOf msg start end)) ≡ false → OptionTaken kind start end s r
-          → Passing msg r end (left - 1)
-      passing-body g t = let p = body-placed w e in record {
-        bad = t .bad ∙ v .bad;
-        same = sym (ap anyBad (body-next w h e) ∙ right-first _ (optionsIn (left - 1) (drop end msg)) g) ∙ v .same;
-        ahead = λ all rest a q.
-            t .ahead msg all rest (record { order = p .0; short = p .1; within = p .2; good = g })
-            (v .ahead all _ a (body-next w h e ∙ rw q));
-      }

@@ -15,26 +15,31 @@ unfolding optionsIn
 options-step zero xs h = absurd (omega arith)
 options-step (suc n) xs h = let e : suc n - 1 ≡ n = omega arith in rw e
 
-module _ {msg : List ℕ} {at : ℕ} {n : Next} (w : Follows msg at n) where
+-- One turn of a loop over the options: what holds where it begins, that there may be one more, and what stands there.
+pub record Turn (I : Type 0) (msg : List ℕ) (at left : ℕ) (n : Next) : Type 0 where
+  pub inv : I
+  pub more : 0 < left
+  pub stands : Follows msg at n
+
+module _ {I : Type 0} {msg : List ℕ} {at left : ℕ} {n : Next} (t : Turn I msg at left n) where
   pub pad-placed : n ≡ Pad → at < length msg
-  pad-placed e = rw e at (w .placed)
+  pad-placed e = rw e at (t .stands .placed)
 
   pub body-placed : {kind start end : ℕ} → n ≡ Body kind start end → (start ≤ end) × (end ≤ start + 255) × (end ≤ length msg)
-  body-placed e = let p = rw e at (w .placed) in (p .1, p .2, p .3)
+  body-placed e = let p = rw e at (t .stands .placed) in (p .1, p .2, p .3)
 
-  module _ {left : ℕ} (h : 0 < left) where
-    next : optionsIn left (drop at msg) ≡ onwards (optionsIn (left - 1)) msg at n
-    next = options-step left (drop at msg) h ∙ w .reads (optionsIn (left - 1))
+  next : optionsIn left (drop at msg) ≡ onwards (optionsIn (left - 1)) msg at n
+  next = options-step left (drop at msg) (t .more) ∙ t .stands .reads (optionsIn (left - 1))
 
-    pub end-next : n ≡ End → optionsIn left (drop at msg) ≡ some []
-    end-next e = next ∙ rw e
+  pub end-next : n ≡ End → optionsIn left (drop at msg) ≡ some []
+  end-next e = next ∙ rw e
 
-    pub cut-next : n ≡ Cut → optionsIn left (drop at msg) ≡ none
-    cut-next e = next ∙ rw e
+  pub cut-next : n ≡ Cut → optionsIn left (drop at msg) ≡ none
+  cut-next e = next ∙ rw e
 
-    pub pad-next : n ≡ Pad → optionsIn left (drop at msg) ≡ optionsIn (left - 1) (drop (at + 1) msg)
-    pad-next e = next ∙ rw e
+  pub pad-next : n ≡ Pad → optionsIn left (drop at msg) ≡ optionsIn (left - 1) (drop (at + 1) msg)
+  pad-next e = next ∙ rw e
 
-    pub body-next : {kind start end : ℕ} → n ≡ Body kind start end
-        → optionsIn left (drop at msg) ≡ followedBy (optionOf kind (partOf msg start end)) (optionsIn (left - 1) (drop end msg))
-    body-next e = next ∙ rw e
+  pub body-next : {kind start end : ℕ} → n ≡ Body kind start end
+      → optionsIn left (drop at msg) ≡ followedBy (optionOf kind (partOf msg start end)) (optionsIn (left - 1) (drop end msg))
+  body-next e = next ∙ rw e

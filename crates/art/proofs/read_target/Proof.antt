@@ -8,6 +8,10 @@ use Rattle.plain.specs.Octets.{targetOf}
 use Rattle.art.proofs.read_target.Statement.{statement}
 use Rattle.art.proofs.read_target.Tie as tie
 
+-- the body has its flags and length, and 16 octets at most
+size : (s : tie.Start) → (2 ≤ length (s .args .body .now)) × (length (s .args .body .now) ≤ 18)
+size s = art-size (s .args .body .now) (s .pre)
+
 prefix-length-requires : tie.Need-prefix-length-requires
 prefix-length-requires c κs = search needs
 
@@ -15,22 +19,16 @@ slice-aggregate-put-over : tie.Need-slice-aggregate-put-over
 slice-aggregate-put-over c = search needs
 
 sub-put-over : tie.Need-sub-put-over
-sub-put-over c =
-    let h = art-size (c .before .before .before .args .body .now) (c .before .before .before .pre) in
-    omega arith
+sub-put-over c = let h = size (c .before .before .before) in omega arith
 
 part-put-over-start : tie.Need-part-put-over-start
-part-put-over-start c =
-    let h = art-size (c .before .before .before .args .body .now) (c .before .before .before .pre) in
-    omega arith
+part-put-over-start c = sub-put-over c
 
 part-put-over-end : tie.Need-part-put-over-end
 part-put-over-end c = search needs
 
 put-over-requires : tie.Need-put-over-requires
-put-over-requires c κs =
-    let h = art-size (c .before .before .before .before .args .body .now) (c .before .before .before .before .pre) in
-    simp (length-take, length-drop) (omega arith)
+put-over-requires c κs = let h = size (c .before .before .before .before) in simp (length-take, length-drop) (omega arith)
 
 prefix-bits-requires : tie.Need-prefix-bits-requires
 prefix-bits-requires c κs = search needs
@@ -44,8 +42,9 @@ octet-at-requires c κs = search needs
 returns : tie.Need-returns
 unfolding targetOf
 returns c =
-    let body = c .before .before .before .before .before .before .before .before .before .args .body .now in
-    let h = art-size body (c .before .before .before .before .before .before .before .before .before .pre) in
+    let s = c .before .before .before .before .before .before .before .before .before in
+    let body = s .args .body .now in
+    let h = size s in
     let k : length (drop 2 body) ≤ 16 = simp length-drop (omega arith) in
     rw (
       c .octet-at .ensures,

@@ -18,6 +18,9 @@ Inv-loop receiving sending n list i₀ i = (i ≤ n) × Unfound (matchesUs (sett
 abbrev μ-loop : tie.MeasureT-loop
 μ-loop receiving sending n list i₀ i = n - i
 
+places : (s : tie.Start Inv-loop μ-loop) → length (s .args .ts .list) ≡ 8
+places s = sym (length-map (s .args .ts .list) _) ∙ s .good .0 .1 .1 .1 .1 .0 .1 .0 .1
+
 loop-holds : tie.Need-loop-holds Inv-loop μ-loop
 loop-holds c = search cases
 
@@ -33,7 +36,7 @@ matches-us-requires c κs = search cases
 returns : tie.Need-returns Inv-loop μ-loop
 returns c =
     let s = c .before .before .before .before .before .before in
-    let p : length (s .args .ts .list) ≡ 8 = sym (length-map (s .args .ts .list) _) ∙ s .good .0 .1 .1 .1 .1 .0 .1 .0 .1 in
+    let p = places s in
     let l = c .before .before .before .before .loop in
     sym (is-found (matchesUs (settings (s .args .receiving) (s .args .sending))) _ (s .args .ts .count) (s .args .ts .list) (omega arith) (l .i) (l .inv .1) (omega arith) (sym (c .before .matches-us .ensures) ∙ c .if1 .taken))
 
@@ -46,14 +49,14 @@ loop-less c = search cases
 loop-again : tie.Need-loop-again Inv-loop μ-loop
 loop-again c =
     let s = c .before .before .before .before .before .before in
-    let p : length (s .args .ts .list) ≡ 8 = sym (length-map (s .args .ts .list) _) ∙ s .good .0 .1 .1 .1 .1 .0 .1 .0 .1 in
+    let p = places s in
     let l = c .before .before .before .before .loop in
     (search needs, not-here (matchesUs (settings (s .args .receiving) (s .args .sending))) _ (s .args .ts .count) (s .args .ts .list) (omega arith) (l .i) (l .inv .1) (omega arith) (sym (c .before .matches-us .ensures) ∙ c .if1 .left))
 
 returns-2 : tie.Need-returns-2 Inv-loop μ-loop
 returns-2 c =
     let s = c .before .before .before in
-    let p : length (s .args .ts .list) ≡ 8 = sym (length-map (s .args .ts .list) _) ∙ s .good .0 .1 .1 .1 .1 .0 .1 .0 .1 in
+    let p = places s in
     let l = c .before .loop in
     let none : Target = record { seq = 0; plen = 0; addr = [] } in
     sym (nowhere (matchesUs (settings (s .args .receiving) (s .args .sending))) none (s .args .ts .count) (s .args .ts .list) (omega arith) (l .i) (l .inv .1) (omega arith))

@@ -23,6 +23,9 @@ Inv-loop receiving sending n list kept₀ i₀ kept i =
 abbrev μ-loop : tie.MeasureT-loop
 μ-loop receiving sending n list kept₀ i₀ kept i = n - i
 
+places : (s : tie.Start Inv-loop μ-loop) → length (s .args .ts .list) ≡ 8
+places s = sym (length-map (s .args .ts .list) _) ∙ s .good .0 .1 .1 .1 .1 .0 .1 .0 .1
+
 nothing-requires : tie.Need-nothing-requires Inv-loop μ-loop
 nothing-requires c κs = search cases
 
@@ -52,7 +55,7 @@ loop-less c = search cases
 loop-again : tie.Need-loop-again Inv-loop μ-loop
 loop-again c =
     let s = c .before .before .before .before .before .before .before in
-    let p : length (s .args .ts .list) ≡ 8 = sym (length-map (s .args .ts .list) _) ∙ s .good .0 .1 .1 .1 .1 .0 .1 .0 .1 in
+    let p = places s in
     let l = c .before .before .before .before .loop in
     let k = c .keep-if in
     let e = rw (c .before .matches-us .ensures) at (k .ensures .0 .held .listed) in (
@@ -66,7 +69,7 @@ loop-again c =
 returns : tie.Need-returns Inv-loop μ-loop
 returns c =
     let s = c .before .before .before .before in
-    let p : length (s .args .ts .list) ≡ 8 = sym (length-map (s .args .ts .list) _) ∙ s .good .0 .1 .1 .1 .1 .0 .1 .0 .1 in
+    let p = places s in
     let l = c .before .loop in
     record {
       held = record {

@@ -1,3 +1,4 @@
+use Prim.Native.Nat.{_<_}
 use mathlib.Core.Path.{sym, _∙_}
 use native.Mathlib.Omega.{arith}
 use borrow.Author.Needs.{needs}
@@ -6,6 +7,10 @@ use Rattle.plain.specs.Octets.{badRoute}
 use Rattle.lemmas.proofs.Cases.{cases}
 use Rattle.option_body.proofs.is_bad_route.Statement.{statement}
 use Rattle.option_body.proofs.is_bad_route.Tie as tie
+
+-- fewer octets are elided than an address has
+below : (c : tie.After-compr-of) → c .compr-of .result < 16
+below c = rw (c .compr-of .ensures) (compr-below (c .before .before .before .before .before .args .body .now))
 
 returns : tie.Need-returns
 unfolding badRoute
@@ -25,13 +30,13 @@ cast-width : tie.Need-cast-width
 cast-width c = search needs
 
 sub-width : tie.Need-sub-width
-sub-width c = omega (arith, c .compr-of .ensures, compr-below (c .before .before .before .before .before .args .body .now))
+sub-width c = let b = below c in omega arith
 
 sub-result : tie.Need-sub-result
 sub-result c = search needs
 
 rem-result : tie.Need-rem-result
-rem-result c = omega (arith, c .compr-of .ensures, compr-below (c .before .before .before .before .before .args .body .now))
+rem-result c = let b = below c in omega arith
 
 returns-3 : tie.Need-returns-3
 returns-3 c = rw (c .compr-of .ensures) (vector-is (c .before .before .before .before .before .args .body .now) (omega arith) (sym (c .before .before .has-h .ensures) ∙ c .before .if2 .left))

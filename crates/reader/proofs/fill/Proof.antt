@@ -1,9 +1,14 @@
 use mathlib.Core.Path.{refl, sym, _∙_}
 use native.Mathlib.Omega.{arith}
 use borrow.Author.Needs.{needs}
+use Rattle.reader.specs.Parts.{RouteAt}
 use Rattle.reader.proofs.Routes.{h-is, configuration-is, part-after}
 use Rattle.reader.proofs.fill.Statement.{statement}
 use Rattle.reader.proofs.fill.Tie as tie
+
+-- where the RREQ or RREP is
+placed : (c : tie.After-route) → RouteAt (c .before .before .before .before .args .msg .now) (c .route .result)
+placed c = c .route .ensures _ (c .before .before .before .before .pre .0) (c .before .before .before .before .pre .1)
 
 read-configuration-requires : tie.Need-read-configuration-requires
 read-configuration-requires c κs = c .before .before .pre .0 .configuration
@@ -15,55 +20,31 @@ is-reply-requires : tie.Need-is-reply-requires
 is-reply-requires c κs = search needs
 
 sub-discovery : tie.Need-sub-discovery
-sub-discovery c =
-    let found = c .before .before .before in
-    let start = found .before .before .before .before in
-    let w = found .route .ensures _ (start .pre .0) (start .pre .1) in
-    omega (arith, w .long)
+sub-discovery c = omega (arith, placed (c .before .before .before) .long)
 
 part-discovery-start : tie.Need-part-discovery-start
-part-discovery-start c =
-    let found = c .before .before .before in
-    let start = found .before .before .before .before in
-    let w = found .route .ensures _ (start .pre .0) (start .pre .1) in
-    omega (arith, w .long)
+part-discovery-start c = sub-discovery c
 
 part-discovery-end : tie.Need-part-discovery-end
-part-discovery-end c =
-    let found = c .before .before .before in
-    let start = found .before .before .before .before in
-    let w = found .route .ensures _ (start .pre .0) (start .pre .1) in
-    w .within
+part-discovery-end c = placed (c .before .before .before) .within
 
 discovery-requires : tie.Need-discovery-requires
 discovery-requires c κs = search needs
 
 add-t19 : tie.Need-add-t19
-add-t19 c =
-    let found = c .before .before .before .before .before in
-    let start = found .before .before .before .before in
-    let w = found .route .ensures _ (start .pre .0) (start .pre .1) in
-    omega (arith, w .long)
+add-t19 c = omega (arith, placed (c .before .before .before .before .before) .long)
 
 sub-t20 : tie.Need-sub-t20
-sub-t20 c =
-    let found = c .before .before .before .before .before in
-    let start = found .before .before .before .before in
-    let w = found .route .ensures _ (start .pre .0) (start .pre .1) in
-    omega (arith, w .long)
+sub-t20 c = omega (arith, placed (c .before .before .before .before .before) .long)
 
 sub-t21 : tie.Need-sub-t21
-sub-t21 c =
-    let found = c .before .before .before .before .before in
-    let start = found .before .before .before .before in
-    let w = found .route .ensures _ (start .pre .0) (start .pre .1) in
-    omega (arith, w .long)
+sub-t21 c = omega (arith, placed (c .before .before .before .before .before) .long)
 
 returns : tie.Need-returns
 returns c =
     let found = c .before .before .before .before .before in
     let start = found .before .before .before .before in
-    let w = found .route .ensures _ (start .pre .0) (start .pre .1) in
+    let w = placed found in
     let v = start .pre .0 in
     let f = found .route .result in
     record {

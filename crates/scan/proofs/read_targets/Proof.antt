@@ -6,7 +6,7 @@ use denote.Ref.{now}
 use borrow.Author.Needs.{needs}
 use Rattle.targets.specs.Collected.{targetsIn}
 use Rattle.targets.proofs.Laws.{none-collected}
-use Rattle.scan.proofs.Turn.{pad-placed, body-placed}
+use Rattle.scan.proofs.Turn.{Turn, pad-placed, body-placed}
 use Rattle.scan.proofs.Collecting.{Collecting, artTargets, gathered-out, gathered-end, gathered-cut, collecting-pad, art-here, collecting-other, collecting-art}
 use Rattle.plain.specs.Octets.{optionsOf}
 use Rattle.scan.proofs.read_targets.Statement.{statement}
@@ -17,6 +17,13 @@ Inv-loop msg list₀ c₀ at₀ left₀ list c at left = Collecting msg (targets
 
 abbrev μ-loop : tie.MeasureT-loop
 μ-loop msg list₀ c₀ at₀ left₀ list c at left = left
+
+-- what is known of the option that is next
+turn : (c : tie.After-next-option Inv-loop μ-loop)
+    → let msg = now (c .before .before .before .before .before .before .args .msg) in
+    let l = c .before .before .loop in
+    Turn (Collecting msg (targetsIn (l .list) (l .c)) (l .at) (l .left)) msg (l .at) (l .left) (c .next-option .result)
+turn c = record { inv = c .before .before .loop .inv; more = c .before .loop-test .taken; stands = c .next-option .ensures }
 
 blank-list-requires : tie.Need-blank-list-requires Inv-loop μ-loop
 blank-list-requires c κs = search needs
@@ -40,21 +47,13 @@ enum-told : tie.Need-enum-told Inv-loop μ-loop
 enum-told c = search needs
 
 add-at : tie.Need-add-at Inv-loop μ-loop
-add-at c =
-    let next = c .before .before in
-    let inside = next .before in
-    let loop = inside .before in
-    omega (arith, pad-placed (next .next-option .ensures) (c .enum-told .given .1))
+add-at c = omega (arith, pad-placed (turn (c .before .before)) (c .enum-told .given .1))
 
 loop-less : tie.Need-loop-less Inv-loop μ-loop
 loop-less c = search needs
 
 loop-again : tie.Need-loop-again Inv-loop μ-loop
-loop-again c =
-    let next = c .before .before in
-    let inside = next .before in
-    let loop = inside .before in
-    collecting-pad (loop .loop .inv) (inside .loop-test .taken) (next .next-option .ensures) (c .enum-told .given .1)
+loop-again c = collecting-pad (turn (c .before .before)) (c .enum-told .given .1)
 
 enum-known-kind : tie.Need-enum-known-kind Inv-loop μ-loop
 enum-known-kind c = search needs
@@ -63,20 +62,16 @@ slice-aggregate-collect : tie.Need-slice-aggregate-collect Inv-loop μ-loop
 slice-aggregate-collect c = search needs
 
 sub-read-target : tie.Need-sub-read-target Inv-loop μ-loop
-sub-read-target c = body-placed (c .before .before .before .before .before .next-option .ensures) (c .before .before .before .kind .given .1) .0
+sub-read-target c = body-placed (turn (c .before .before .before .before .before)) (c .before .before .before .kind .given .1) .0
 
 part-read-target-start : tie.Need-part-read-target-start Inv-loop μ-loop
-part-read-target-start c = body-placed (c .before .before .before .before .before .next-option .ensures) (c .before .before .before .kind .given .1) .0
+part-read-target-start c = sub-read-target c
 
 part-read-target-end : tie.Need-part-read-target-end Inv-loop μ-loop
-part-read-target-end c = body-placed (c .before .before .before .before .before .next-option .ensures) (c .before .before .before .kind .given .1) .2
+part-read-target-end c = body-placed (turn (c .before .before .before .before .before)) (c .before .before .before .kind .given .1) .2
 
 read-target-requires : tie.Need-read-target-requires Inv-loop μ-loop
-read-target-requires c κs =
-    let next = c .before .before .before .before .before .before in
-    let inside = next .before in
-    let loop = inside .before in
-    art-here (loop .loop .inv) (inside .loop-test .taken) (next .next-option .ensures) (c .before .before .before .before .kind .given .1) (c .before .before .if1 .taken)
+read-target-requires c κs = art-here (turn (c .before .before .before .before .before .before)) (c .before .before .before .before .kind .given .1) (c .before .before .if1 .taken)
 
 collect-requires : tie.Need-collect-requires Inv-loop μ-loop
 collect-requires c κs =
@@ -88,20 +83,13 @@ loop-less-2 c = search needs
 
 loop-again-2 : tie.Need-loop-again-2 Inv-loop μ-loop
 loop-again-2 c =
-    let next = c .before .before .before .before .before .before .before .before .before in
-    let inside = next .before in
-    let loop = inside .before in
-    collecting-art (loop .loop .inv) (inside .loop-test .taken) (next .next-option .ensures) (c .before .before .before .before .before .before .before .kind .given .1) (c .before .before .before .before .before .if1 .taken) (c .before .before .read-target .ensures) (c .before .collect .ensures .collected) (c .before .collect .ensures .padded)
+    collecting-art (turn (c .before .before .before .before .before .before .before .before .before)) (c .before .before .before .before .before .before .before .kind .given .1) (c .before .before .before .before .before .if1 .taken) (c .before .before .read-target .ensures) (c .before .collect .ensures .collected) (c .before .collect .ensures .padded)
 
 loop-less-3 : tie.Need-loop-less-3 Inv-loop μ-loop
 loop-less-3 c = search needs
 
 loop-again-3 : tie.Need-loop-again-3 Inv-loop μ-loop
-loop-again-3 c =
-    let next = c .before .before .before .before in
-    let inside = next .before in
-    let loop = inside .before in
-    collecting-other (loop .loop .inv) (inside .loop-test .taken) (next .next-option .ensures) (c .before .before .kind .given .1) (c .if1 .left)
+loop-again-3 c = collecting-other (turn (c .before .before .before .before)) (c .before .before .kind .given .1) (c .if1 .left)
 
 enum-told-2 : tie.Need-enum-told-2 Inv-loop μ-loop
 enum-told-2 c = search needs
@@ -110,11 +98,7 @@ targets-in-requires : tie.Need-targets-in-requires Inv-loop μ-loop
 targets-in-requires c κs = search needs
 
 returns : tie.Need-returns Inv-loop μ-loop
-returns c =
-    let next = c .before .before .before in
-    let inside = next .before in
-    let loop = inside .before in
-    rw (c .targets-in .ensures) (gathered-end (loop .loop .inv) (inside .loop-test .taken) (next .next-option .ensures) (c .before .enum-told2 .given .1))
+returns c = rw (c .targets-in .ensures) (gathered-end (turn (c .before .before .before)) (c .before .enum-told2 .given .1))
 
 enum-told-3 : tie.Need-enum-told-3 Inv-loop μ-loop
 enum-told-3 c = search needs
@@ -123,11 +107,7 @@ targets-in-requires-2 : tie.Need-targets-in-requires-2 Inv-loop μ-loop
 targets-in-requires-2 c κs = search needs
 
 returns-2 : tie.Need-returns-2 Inv-loop μ-loop
-returns-2 c =
-    let next = c .before .before .before in
-    let inside = next .before in
-    let loop = inside .before in
-    rw (c .targets-in2 .ensures) (gathered-cut (loop .loop .inv) (inside .loop-test .taken) (next .next-option .ensures) (c .before .enum-told3 .given .1))
+returns-2 c = rw (c .targets-in2 .ensures) (gathered-cut (turn (c .before .before .before)) (c .before .enum-told3 .given .1))
 
 targets-in-requires-3 : tie.Need-targets-in-requires-3 Inv-loop μ-loop
 targets-in-requires-3 c κs = search needs

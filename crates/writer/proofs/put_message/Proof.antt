@@ -34,7 +34,7 @@ sub-put-configuration : tie.Need-sub-put-configuration
 sub-put-configuration c = let z = sizes (c .before .before .before .before) in omega arith
 
 part-put-configuration-start : tie.Need-part-put-configuration-start
-part-put-configuration-start c = let z = sizes (c .before .before .before .before) in omega arith
+part-put-configuration-start c = sub-put-configuration c
 
 part-put-configuration-end : tie.Need-part-put-configuration-end
 part-put-configuration-end c = search needs
@@ -49,7 +49,7 @@ sub-put-discovery : tie.Need-sub-put-discovery
 sub-put-discovery c = let z = sizes (c .before .before .before .before .before .before .before .before) in omega arith
 
 part-put-discovery-start : tie.Need-part-put-discovery-start
-part-put-discovery-start c = let z = sizes (c .before .before .before .before .before .before .before .before) in omega arith
+part-put-discovery-start c = sub-put-discovery c
 
 part-put-discovery-end : tie.Need-part-put-discovery-end
 part-put-discovery-end c = search needs
@@ -64,7 +64,7 @@ sub-put-arts : tie.Need-sub-put-arts
 sub-put-arts c = let z = sizes (c .before .before .before .before .before .before .before .before .before .before .before .before) in omega arith
 
 part-put-arts-start : tie.Need-part-put-arts-start
-part-put-arts-start c = let z = sizes (c .before .before .before .before .before .before .before .before .before .before .before .before) in omega arith
+part-put-arts-start c = sub-put-arts c
 
 part-put-arts-end : tie.Need-part-put-arts-end
 part-put-arts-end c = search needs

@@ -10,14 +10,9 @@ use Rattle.lemmas.proofs.Rules.{most-octets}
 use Rattle.writer_art.proofs.Lengths.{art-parts}
 use Rattle.writer_art.proofs.put_art.Statement.{statement}
 use Rattle.writer_art.proofs.put_art.Tie as tie
-use Rattle.writer_art.proofs.put_art.Reads as reads
-use Rattle.writer_art.proofs.put_art.Lts as lts
-use Rattle.writer_art.proofs.put_art_head.Reads as put-art-head-reads
-use Rattle.writer_octets.proofs.put_octets.Reads as put-octets-reads
-use Rattle.writer_art.proofs.target_octets.Reads as target-octets-reads
 
 -- how many octets there are
-sized : (s : lts.Start (target-octets-reads.Asked, target-octets-reads.Learnt, put-art-head-reads.Asked, put-art-head-reads.Learnt, put-octets-reads.Asked, put-octets-reads.Learnt) reads.Pre reads.Post)
+sized : (s : tie.Start)
     → (length (s .args .t .addr) ≡ 16) × (prefixOctets (s .args .t .plen) ≤ 16) × (length (artOctets (s .args .t)) ≡ prefixOctets (s .args .t .plen) + 4)
 sized s =
     let t = s .args .t in
@@ -35,7 +30,7 @@ sub-put-octets : tie.Need-sub-put-octets
 sub-put-octets c = let z = sized (c .before .before .before .before .before .before .before) in omega arith
 
 part-put-octets-start : tie.Need-part-put-octets-start
-part-put-octets-start c = let z = sized (c .before .before .before .before .before .before .before) in omega arith
+part-put-octets-start c = sub-put-octets c
 
 part-put-octets-end : tie.Need-part-put-octets-end
 part-put-octets-end c = search needs

@@ -12,9 +12,6 @@ use Rattle.writer_art.proofs.Lengths.{noTarget, short-at}
 use Rattle.writer_octets.proofs.Parts.{parts-none, parts-more, parts-room}
 use Rattle.writer_art.proofs.put_arts.Statement.{statement}
 use Rattle.writer_art.proofs.put_arts.Tie as tie
-use Rattle.writer_art.proofs.put_arts.Reads as reads
-use Rattle.writer_art.proofs.put_arts.Lts as lts
-use Rattle.writer_art.proofs.put_art.Reads as put-art-reads
 
 abbrev Inv-loop : tie.InvT-loop
 Inv-loop out₀ count targets at₀ i₀ out at i = (i ≤ count) × (length out ≡ length out₀) × Written (flatten (map artOctets (take i targets))) out₀ out at
@@ -23,7 +20,7 @@ abbrev μ-loop : tie.MeasureT-loop
 μ-loop out₀ count targets at₀ i₀ out at i = count - i
 
 -- what is left has room for the next one
-room : (c : lts.In-loop (put-art-reads.Asked, put-art-reads.Learnt) reads.Pre reads.Post Inv-loop μ-loop)
+room : (c : tie.In-loop Inv-loop μ-loop)
     → c .before .loop .at + length (artOctets (getD (c .before .before .before .args .t3) (c .before .loop .i) noTarget)) ≤ length (c .before .loop .out)
 room c =
     let s = c .before .before .before in
@@ -43,7 +40,7 @@ sub-put-art : tie.Need-sub-put-art Inv-loop μ-loop
 sub-put-art c = let r = room (c .before) in omega arith
 
 part-put-art-start : tie.Need-part-put-art-start Inv-loop μ-loop
-part-put-art-start c = let r = room (c .before) in omega arith
+part-put-art-start c = sub-put-art c
 
 part-put-art-end : tie.Need-part-put-art-end Inv-loop μ-loop
 part-put-art-end c = search needs

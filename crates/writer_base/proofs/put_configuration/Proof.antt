@@ -10,12 +10,9 @@ use Rattle.writer_base.proofs.Lengths.{configuration-some, configuratio
 use Rattle.writer_base.proofs.Stores.{stored}
 use Rattle.writer_base.proofs.put_configuration.Statement.{statement}
 use Rattle.writer_base.proofs.put_configuration.Tie as tie
-use Rattle.writer_base.proofs.put_configuration.Reads as reads
-use Rattle.writer_base.proofs.put_configuration.Lts as lts
-use Rattle.writer_octets.proofs.put_octets.Reads as put-octets-reads
 
 -- there is room for type, length and 14 octets
-room : (c : lts.Then1 (put-octets-reads.Asked, put-octets-reads.Learnt) reads.Pre reads.Post)
+room : (c : tie.Then1)
     → (length (c .before .before .args .t3) ≡ 14) × (16 ≤ length (c .before .before .args .out .now))
 room c =
     let s = c .before .before in
@@ -33,7 +30,7 @@ sub-put-octets : tie.Need-sub-put-octets
 sub-put-octets c = let z = room c in simp length-set (omega arith)
 
 part-put-octets-start : tie.Need-part-put-octets-start
-part-put-octets-start c = let z = room c in simp length-set (omega arith)
+part-put-octets-start c = sub-put-octets c
 
 part-put-octets-end : tie.Need-part-put-octets-end
 part-put-octets-end c = search needs

@@ -12,9 +12,6 @@ use Rattle.plain.specs.Address.{elide}
 use Rattle.writer_octets.proofs.Parts.{parts-none, parts-more, parts-room}
 use Rattle.writer_octets.proofs.put_vector.Statement.{statement}
 use Rattle.writer_octets.proofs.put_vector.Tie as tie
-use Rattle.writer_octets.proofs.put_vector.Reads as reads
-use Rattle.writer_octets.proofs.put_vector.Lts as lts
-use Rattle.writer_octets.proofs.put_address.Reads as put-address-reads
 
 abbrev Inv-loop : tie.InvT-loop
 Inv-loop out₀ compr n vector addresses at₀ i₀ out at i = (i ≤ n) × (length out ≡ length out₀) × Written (elided compr (take i vector)) out₀ out at
@@ -23,7 +20,7 @@ abbrev μ-loop : tie.MeasureT-loop
 μ-loop out₀ compr n vector addresses at₀ i₀ out at i = n - i
 
 -- what is left has room for the next one
-room : (c : lts.In-loop (put-address-reads.Asked, put-address-reads.Learnt) reads.Pre reads.Post Inv-loop μ-loop)
+room : (c : tie.In-loop Inv-loop μ-loop)
     → c .before .loop .at + length (elide (c .before .before .before .before .args .compr) (getD (c .before .before .before .before .args .vector .now) (c .before .loop .i) [])) ≤ length (c .before .loop .out)
 room c =
     let s = c .before .before .before .before in
@@ -43,7 +40,7 @@ sub-put-address : tie.Need-sub-put-address Inv-loop μ-loop
 sub-put-address c = let r = room (c .before) in omega arith
 
 part-put-address-start : tie.Need-part-put-address-start Inv-loop μ-loop
-part-put-address-start c = let r = room (c .before) in omega arith
+part-put-address-start c = sub-put-address c
 
 part-put-address-end : tie.Need-part-put-address-end Inv-loop μ-loop
 part-put-address-end c = search needs

@@ -53,7 +53,7 @@ sub-put-vector : tie.Need-sub-put-vector
 sub-put-vector c = let z = sized (c .before .before .before .before .before) in omega arith
 
 part-put-vector-start : tie.Need-part-put-vector-start
-part-put-vector-start c = let z = sized (c .before .before .before .before .before) in omega arith
+part-put-vector-start c = sub-put-vector c
 
 part-put-vector-end : tie.Need-part-put-vector-end
 part-put-vector-end c = search needs
