@@ -17,7 +17,8 @@ use Rattle.lemmas.proofs.Choice.{and-left, and-right, and-both}
 use Rattle.lemmas.proofs.Walk.{all-take}
 use Rattle.row.specs.Meaning.{deadlineOf, targetsOf, requestOf, replyOf, instanceOf}
 use Rattle.row.specs.declared.InstanceRow.{InstanceRow}
-use Rattle.row.proofs.Laws.{length-targets, targets-within, noTarget}
+use Rattle.row.proofs.Laws.{length-targets, targets-within}
+use Rattle.lemmas.proofs.Targets.{targetPast}
 
 -- of at most four targets, of which the first four are good, each is good
 pub few-good : (count : ℕ) (ts : List Target) → length ts ≡ 8 → count ≤ 4
@@ -56,8 +57,8 @@ module _ (count : ℕ) (ts : List Target) (eight : length ts ≡ 8) where
   count-within h = rw (length-targets count ts, le-leb count 8 h, targets-within count ts (omega arith))
 
   -- the target at i is good, where i is below the count
-  pub good-at : (i : ℕ) → i < count → getD ts i noTarget .plen ≤ 127 → shortPrefix (getD (take count ts) i noTarget) ≡ true
-  good-at i h g = rw (getD-take count ts i noTarget h) (le-leb (getD ts i noTarget .plen) 127 g)
+  pub good-at : (i : ℕ) → i < count → getD ts i targetPast .plen ≤ 127 → shortPrefix (getD (take count ts) i targetPast) ≡ true
+  good-at i h g = rw (getD-take count ts i targetPast h) (le-leb (getD ts i targetPast .plen) 127 g)
 
-  pub bad-at : (i : ℕ) → i < count → 127 < getD ts i noTarget .plen → shortPrefix (getD (take count ts) i noTarget) ≡ false
-  bad-at i h g = rw (getD-take count ts i noTarget h) (lt-leb (getD ts i noTarget .plen) 127 g)
+  pub bad-at : (i : ℕ) → i < count → 127 < getD ts i targetPast .plen → shortPrefix (getD (take count ts) i targetPast) ≡ false
+  bad-at i h g = rw (getD-take count ts i targetPast h) (lt-leb (getD ts i targetPast .plen) 127 g)

@@ -1,4 +1,4 @@
--- No target of a message, or of a start that is no bad call, has a Prefix Length over 127.
+-- Targets: none of a message, or of a start that is no bad call, has a Prefix Length over 127.
 use mathlib.Core.Path.{_≡_}
 use mathlib.Core.Bool.{true, false}
 use mathlib.Core.List.{List, [], map}
@@ -13,6 +13,10 @@ use Rattle.plain.specs.Request.{wholeBits, startTargets}
 use Rattle.plain.specs.declared.Target.{Target}
 use Rattle.lemmas.specs.Each.{Each}
 use Rattle.lemmas.proofs.Each.{each-always, each-weaken, each-once, each-map, any-none}
+
+-- what a list of targets has past its end
+abbrev pub targetPast : Target
+targetPast = record { seq = 0; plen = 0; addr = [] }
 
 abbrev pub Short : Target → Type 0
 Short t = shortPrefix t ≡ true

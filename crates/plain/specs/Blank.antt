@@ -7,7 +7,7 @@ use Rattle.plain.specs.Address.{zeroAddress}
 use Rattle.plain.specs.Octets.{mostTargets}
 use Rattle.plain.specs.declared.Target.{Target}
 
--- what is read past the end of a lent slice of targets
+-- a blank target; it is also what is read past the end of a lent slice of targets
 abbrev pub noTarget : Target
 noTarget = record { seq = 0; plen = 0; addr = zeroAddress }
 

@@ -9,10 +9,10 @@ use Rattle.plain.specs.Octets.{Message}
 use Rattle.plain.specs.Reply.{Answered, onlyTarget, grows}
 use Rattle.plain.specs.declared.Target.{Target}
 use Rattle.lemmas.proofs.Choice.{true-false}
-use Rattle.row.proofs.Laws.{noTarget}
+use Rattle.lemmas.proofs.Targets.{targetPast}
 
 -- a message with targets has its first as the only one
-pub only-first : (n : ℕ) (ts : List Target) → (n ≡ 0 → ⊥) → 0 < length ts → onlyTarget (take n ts) ≡ getD ts 0 noTarget
+pub only-first : (n : ℕ) (ts : List Target) → (n ≡ 0 → ⊥) → 0 < length ts → onlyTarget (take n ts) ≡ getD ts 0 targetPast
 only-first zero ts h k = absurd (h refl)
 only-first (suc n) [] h k = absurd (omega arith)
 only-first (suc n) (t ∷ ts) h k = refl

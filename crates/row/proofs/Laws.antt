@@ -8,10 +8,10 @@ use native.Mathlib.Omega.{arith}
 use lib.ListN.{length, take, drop, replicate, length-append, length-take, length-replicate, take-append-drop}
 use lib.Seq.{take-append-seam, take-append-le, length-take-le}
 use Rattle.plain.specs.Given.{RequestRow, ReplyRow, Instance, Route}
-use Rattle.plain.specs.Blank.{Padded}
+use Rattle.plain.specs.Blank.{noTarget, Padded}
 use Rattle.plain.specs.declared.Target.{Target}
 use Rattle.lemmas.specs.Written.{over}
-use Rattle.row.specs.Meaning.{flag, deadlineOf, blankTarget, targetsOf, requestOf, replyOf, instanceOf, routeIn, routeOf}
+use Rattle.row.specs.Meaning.{flag, deadlineOf, targetsOf, requestOf, replyOf, instanceOf, routeIn, routeOf}
 use Rattle.row.specs.Record.{bitOf, endlessOf, untilOf, requestRecord, replyRecord, routeRecord}
 
 -- ---- targets
@@ -21,14 +21,14 @@ unfolding targetsOf
 length-targets count ts =
     omega (
       arith,
-      length-take count (ts ++ replicate count blankTarget),
-      length-append ts (replicate count blankTarget),
-      length-replicate count blankTarget,
+      length-take count (ts ++ replicate count noTarget),
+      length-append ts (replicate count noTarget),
+      length-replicate count noTarget,
     )
 
 pub targets-within : (count : ℕ) (ts : List Target) → count ≤ length ts → targetsOf count ts ≡ take count ts
 unfolding targetsOf
-targets-within count ts h = take-append-le count ts (replicate count blankTarget) h
+targets-within count ts h = take-append-le count ts (replicate count noTarget) h
 
 -- ---- records that are written
 
@@ -41,9 +41,9 @@ unfolding deadlineOf
 deadline-back none = refl
 deadline-back (some d) = refl
 
-targets-back : (ts : List Target) → targetsOf (length ts) (over ts (replicate 8 blankTarget)) ≡ ts
+targets-back : (ts : List Target) → targetsOf (length ts) (over ts (replicate 8 noTarget)) ≡ ts
 unfolding targetsOf
-targets-back ts = rw append-assoc (take-append-seam ts (drop (length ts) (replicate 8 blankTarget) ++ replicate (length ts) blankTarget))
+targets-back ts = rw append-assoc (take-append-seam ts (drop (length ts) (replicate 8 noTarget) ++ replicate (length ts) noTarget))
 
 pub request-back : (r : RequestRow) → instanceOf (requestRecord r) ≡ some (Instance.request r)
 unfolding instanceOf requestOf requestRecord
@@ -59,10 +59,6 @@ route-back r = rw (deadline-back (r .deadline))
 
 -- ---- what the functions ask
 
--- what an array of targets is said to hold past its end
-abbrev pub noTarget : Target
-noTarget = record { seq = 0; plen = 0; addr = [] }
-
 pub endless-bit : (e : Bool) (d : ℕ) → endlessOf (cond e none (some d)) ≡ bitOf e
 endless-bit true d = refl
 endless-bit false d = refl
@@ -72,8 +68,8 @@ module _ (count : ℕ) (ts : List Target) (eight : length ts ≡ 8) (h : count �
   pub length-count : length (take count ts) ≡ count
   length-count = length-take-le count ts (omega arith)
 
-  pub padded-whole : Padded count ts → over (take count ts) (replicate 8 blankTarget) ≡ ts
+  pub padded-whole : Padded count ts → over (take count ts) (replicate 8 noTarget) ≡ ts
   padded-whole p =
-      ap (λ k. take count ts ++ drop k (replicate 8 blankTarget)) length-count
+      ap (λ k. take count ts ++ drop k (replicate 8 noTarget)) length-count
       ∙ ap (λ t. take count ts ++ t) (sym p)
       ∙ take-append-drop count ts

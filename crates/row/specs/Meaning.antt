@@ -6,6 +6,7 @@ use mathlib.Core.Option.{Option, some, none}
 use lib.Dec.{eqb}
 use lib.ListN.{take, replicate}
 use Rattle.plain.specs.Address.{zeroAddress}
+use Rattle.plain.specs.Blank.{noTarget}
 use Rattle.plain.specs.Given.{RequestRow, ReplyRow, Instance, Route}
 use Rattle.plain.specs.declared.Target.{Target}
 use Rattle.row.specs.declared.InstanceRow.{InstanceRow}
@@ -19,13 +20,10 @@ flag x = not (eqb x 0)
 unfoldable pub deadlineOf : ℕ → ℕ → Option ℕ
 deadlineOf endless deadline = cond (eqb endless 0) (some deadline) none
 
-abbrev pub blankTarget : Target
-blankTarget = record { seq = 0; plen = 0; addr = zeroAddress }
-
 -- The targets of a request row are its first `count`. A count over 8 is that many targets, of which the last are blank: "a row in use with
 -- over 8 targets" is one whose count is over 8.
 unfoldable pub targetsOf : ℕ → List Target → List Target
-targetsOf count targets = take count (targets ++ replicate count blankTarget)
+targetsOf count targets = take count (targets ++ replicate count noTarget)
 
 -- "The row holds Orig SeqNo, S out, H, own rank, neighbour, targets, replied, deadline from L" (A request), under its key
 unfoldable pub requestOf : InstanceRow → RequestRow
@@ -87,7 +85,7 @@ noRow = record {
   rank = 0;
   dodagid = zeroAddress;
   neighbour = zeroAddress;
-  targets = replicate 8 blankTarget;
+  targets = replicate 8 noTarget;
   deadline = 0;
 }
 

@@ -6,7 +6,7 @@ use lib.ListN.{length, replicate}
 use Rattle.plain.specs.Address.{zeroAddress}
 use Rattle.plain.specs.Given.{RequestRow, ReplyRow, Route}
 use Rattle.lemmas.specs.Written.{over}
-use Rattle.row.specs.Meaning.{blankTarget}
+use Rattle.plain.specs.Blank.{noTarget}
 use Rattle.row.specs.declared.InstanceRow.{InstanceRow}
 use Rattle.row.specs.declared.RouteRow.{RouteRow}
 
@@ -35,7 +35,7 @@ requestRecord r = record {
   rank = r .rank;
   dodagid = r .dodagid;
   neighbour = r .neighbour;
-  targets = over (r .targets) (replicate 8 blankTarget);
+  targets = over (r .targets) (replicate 8 noTarget);
   deadline = untilOf (r .deadline);
 }
 
@@ -53,7 +53,7 @@ replyRecord r = record {
   rank = r .rank;
   dodagid = r .dodagid;
   neighbour = zeroAddress;
-  targets = replicate 8 blankTarget;
+  targets = replicate 8 noTarget;
   deadline = untilOf (r .deadline);
 }
 

@@ -4,8 +4,8 @@ ghost use mathlib.Core.Bool.{cond};
 ghost use mathlib.Core.Option.{some, none};
 ghost use Prim.Native.Nat.{_≤_};
 ghost use lib.ListN.{take, replicate};
-ghost use Rattle.plain.specs.Blank.{Padded};
-ghost use Rattle.row.specs.Meaning.{blankTarget, noRow, noRoute};
+ghost use Rattle.plain.specs.Blank.{noTarget, Padded};
+ghost use Rattle.row.specs.Meaning.{noRow, noRoute};
 ghost use Rattle.row.specs.Record.{bitOf, untilOf, requestRecord, replyRecord, routeRecord};
 use plain::Target;
 
@@ -66,7 +66,7 @@ fn until(endless: bool, deadline: u64) -> u64
 }
 
 fn blank() -> Target
-    ensures { λ r. ⌜ r ≡ blankTarget ⌝ }
+    ensures { λ r. ⌜ r ≡ noTarget ⌝ }
 {
     Target {
         seq: 0,
@@ -76,7 +76,7 @@ fn blank() -> Target
 }
 
 fn blanks() -> [Target; 8]
-    ensures { λ r. ⌜ r ≡ replicate 8 blankTarget ⌝ }
+    ensures { λ r. ⌜ r ≡ replicate 8 noTarget ⌝ }
 {
     let b = blank();
     [b; 8]

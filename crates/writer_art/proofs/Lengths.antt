@@ -13,19 +13,16 @@ use Rattle.plain.specs.Octets.{prefixOctets, artOctets}
 use Rattle.plain.specs.declared.Target.{Target}
 use Rattle.lemmas.proofs.Rules.{most-octets}
 use Rattle.lemmas.proofs.Walk.{all-at}
+use Rattle.lemmas.proofs.Targets.{targetPast}
 use Rattle.plain.specs.Answers.{shortPrefix}
 use Rattle.writer_option.specs.Sendable.{shortPrefixes}
 use Rattle.writer_art.specs.Heads.{artHead}
 
--- what an array of targets is read as past its end
-abbrev pub noTarget : Target
-noTarget = record { seq = 0; plen = 0; addr = [] }
-
 -- each of the first n targets has a Prefix Length that can be sent
-pub short-at : (n : ℕ) (ts : List Target) (i : ℕ) → i < n → i < length ts → shortPrefixes (take n ts) ≡ true → getD ts i noTarget .plen ≤ 127
+pub short-at : (n : ℕ) (ts : List Target) (i : ℕ) → i < n → i < length ts → shortPrefixes (take n ts) ≡ true → getD ts i targetPast .plen ≤ 127
 short-at n ts i h k e =
-    leb-true (getD ts i noTarget .plen) 127
-    (rw (getD-take n ts i noTarget h) at (all-at shortPrefix noTarget (take n ts) i (omega (arith, length-take n ts)) e))
+    leb-true (getD ts i targetPast .plen) 127
+    (rw (getD-take n ts i targetPast h) at (all-at shortPrefix targetPast (take n ts) i (omega (arith, length-take n ts)) e))
 
 -- an ART is its head and so many octets of its target
 pub art-parts : (t : Target) (size : ℕ) → size ≡ prefixOctets (t .plen) → size ≤ length (t .addr) → artOctets t ≡ artHead t size ++ take size (t .addr)

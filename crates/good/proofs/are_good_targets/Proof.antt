@@ -1,4 +1,4 @@
-use Rattle.row.proofs.Laws.{noTarget}
+use Rattle.lemmas.proofs.Targets.{targetPast}
 use Rattle.good.proofs.Laws.{count-over, count-within, good-at, bad-at}
 use Prim.Native.Nat.{_≤_, _-_}
 use mathlib.Core.Bool.{false}
@@ -42,7 +42,7 @@ returns-2 c = let a = c .before .before .before .before .before .before .args in
     let l = c .before .before .before .before .loop in
     let h = c .before .before .before .loop-test .taken in
     sym (count-within (a .count) (a .t2) (l .inv .2) (l .inv .0)
-    ∙ walk-stop false shortPrefix noTarget (take (a .count) (a .t2)) (l .i) (l .inv .3) (front-below (a .count) (a .t2) (omega arith) (l .i) h)
+    ∙ walk-stop false shortPrefix targetPast (take (a .count) (a .t2)) (l .i) (l .inv .3) (front-below (a .count) (a .t2) (omega arith) (l .i) h)
     (bad-at (a .count) (a .t2) (l .inv .2) (l .i) h (c .if2 .taken)))
 
 add-i : tie.Need-add-i Inv-loop μ-loop
@@ -58,7 +58,7 @@ loop-again c = let a = c .before .before .before .before .before .before .args i
       l .inv .0,
       search needs,
       l .inv .2,
-      walk-on false shortPrefix noTarget (take (a .count) (a .t2)) (l .i) (l .inv .3)
+      walk-on false shortPrefix targetPast (take (a .count) (a .t2)) (l .i) (l .inv .3)
           (front-below (a .count) (a .t2) (omega arith) (l .i) h) (good-at (a .count) (a .t2) (l .inv .2) (l .i) h (c .if2 .left)),
     )
 
@@ -66,7 +66,7 @@ returns-3 : tie.Need-returns-3 Inv-loop μ-loop
 returns-3 c = let a = c .before .before .before .args in
     let l = c .before .loop in
     sym (count-within (a .count) (a .t2) (l .inv .2) (l .inv .0)
-    ∙ walk-end false shortPrefix noTarget (take (a .count) (a .t2)) (l .i) (l .inv .3)
+    ∙ walk-end false shortPrefix targetPast (take (a .count) (a .t2)) (l .i) (l .inv .3)
     (front-past (a .count) (a .t2) (omega arith) (l .i) (c .loop-test .left)))
 
 pub are-good-targets-spec : {M : Type 1} → statement M

@@ -8,7 +8,8 @@ use borrow.Author.Needs.{needs}
 use Rattle.lemmas.proofs.Buffer.{written-then, written-none}
 use Rattle.lemmas.specs.Written.{Written}
 use Rattle.plain.specs.Octets.{artOctets}
-use Rattle.writer_art.proofs.Lengths.{noTarget, short-at}
+use Rattle.lemmas.proofs.Targets.{targetPast}
+use Rattle.writer_art.proofs.Lengths.{short-at}
 use Rattle.writer_octets.proofs.Parts.{parts-none, parts-more, parts-room}
 use Rattle.writer_art.proofs.put_arts.Statement.{statement}
 use Rattle.writer_art.proofs.put_arts.Tie as tie
@@ -21,11 +22,11 @@ abbrev μ-loop : tie.MeasureT-loop
 
 -- what is left has room for the next one
 room : (c : tie.In-loop Inv-loop μ-loop)
-    → c .before .loop .at + length (artOctets (getD (c .before .before .before .args .t3) (c .before .loop .i) noTarget)) ≤ length (c .before .loop .out)
+    → c .before .loop .at + length (artOctets (getD (c .before .before .before .args .t3) (c .before .loop .i) targetPast)) ≤ length (c .before .loop .out)
 room c =
     let s = c .before .before .before in
     let l = c .before .loop in
-    parts-room (artOctets) (l .i) (s .args .count) (l .at) (s .args .t3) noTarget _ _ (c .loop-test .taken) (search needs) (l .inv .2) (s .pre .2) (l .inv .1)
+    parts-room (artOctets) (l .i) (s .args .count) (l .at) (s .args .t3) targetPast _ _ (c .loop-test .taken) (search needs) (l .inv .2) (s .pre .2) (l .inv .1)
 
 loop-holds : tie.Need-loop-holds Inv-loop μ-loop
 loop-holds c = (search needs, refl, rw parts-none (written-none _))
@@ -65,7 +66,7 @@ loop-again : tie.Need-loop-again Inv-loop μ-loop
 loop-again c =
     let s = c .before .before .before .before .before .before .before .before in
     let l = c .before .before .before .before .before .before .loop in
-    (search needs, search needs, rw (parts-more (artOctets) (l .i) (s .args .t3) noTarget (search needs)) (written-then _ _ _ _ _ _ _ (l .inv .2) (c .before .before .put-art .ensures)))
+    (search needs, search needs, rw (parts-more (artOctets) (l .i) (s .args .t3) targetPast (search needs)) (written-then _ _ _ _ _ _ _ (l .inv .2) (c .before .before .put-art .ensures)))
 
 same-length : tie.Need-same-length Inv-loop μ-loop
 same-length c = c .before .loop .inv .1
