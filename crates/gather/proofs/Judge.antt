@@ -2,14 +2,14 @@
 use Prim.Native.Nat.{ℕ}
 use mathlib.Core.Path.{_≡_, refl, sym, _∙_}
 use mathlib.Core.Bool.{Bool, true, false, _||_, or-true}
-use mathlib.Core.List.{List, [], _∷_, _++_, map}
+use mathlib.Core.List.{List, map}
 use native.Mathlib.Omega.{arith}
 use lib.Dec.{eqb, ltb}
 use lib.ListN.{length}
 use lib.Seq.{length-take-le}
-use borrow.Author.Tests.{ltb-false, le-leb, eqb-false}
+use borrow.Author.Tests.{ltb-false, eqb-false}
 use Rattle.plain.specs.Given.{Start}
-use Rattle.plain.specs.Lists.{any, all, onceAfter, once}
+use Rattle.plain.specs.Lists.{any, once}
 use Rattle.plain.specs.Octets.{sameTarget, mostTargets}
 use Rattle.plain.specs.Answers.{longPrefix, shortPrefix, badStart}
 use Rattle.plain.specs.Request.{wholeBits, startTargets}

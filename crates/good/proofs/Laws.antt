@@ -1,19 +1,19 @@
 -- When a row is good.
-use Prim.Native.Nat.{ℕ, zero, suc, _≤_, _<_}
+use Prim.Native.Nat.{ℕ, _≤_, _<_}
 use mathlib.Core.Path.{_≡_, refl}
 use mathlib.Core.Bool.{Bool, true, false, cond, _&&_}
-use mathlib.Core.List.{List, [], _∷_}
+use mathlib.Core.List.{List}
 use mathlib.Core.Option.{some, none}
 use native.Mathlib.Omega.{arith}
 use lib.Dec.{eqb, leb}
-use lib.ListN.{length, getD, take, length-take}
+use lib.ListN.{length, getD, take}
 use lib.Seq.{take-take, getD-take}
 use borrow.Author.Tests.{le-leb, lt-leb}
 use Rattle.plain.specs.Lists.{all}
 use Rattle.plain.specs.Given.{Instance}
 use Rattle.plain.specs.Answers.{shortPrefix, goodIf, goodDeadline, goodInstance}
 use Rattle.plain.specs.declared.Target.{Target}
-use Rattle.lemmas.proofs.Choice.{and-left, and-right, and-both}
+use Rattle.lemmas.proofs.Choice.{and-right, and-both}
 use Rattle.lemmas.proofs.Walk.{all-take}
 use Rattle.row.specs.Meaning.{deadlineOf, targetsOf, requestOf, replyOf, instanceOf}
 use Rattle.row.specs.declared.InstanceRow.{InstanceRow}

@@ -2,21 +2,20 @@
 use Prim.Native.Nat.{ℕ, _+_, _-_, _/_}
 use mathlib.Core.Path.{_≡_, refl, sym, ap, _∙_}
 use mathlib.Core.Bool.{Bool, true, false, cond}
-use mathlib.Core.List.{List, [], _∷_, map}
+use mathlib.Core.List.{List, _∷_}
 use native.Mathlib.Omega.{arith}
 use native.Mathlib.Nat.{div-mul-le-self}
 use lib.Dec.{eqb}
 use lib.ListN.{length, take, drop}
-use borrow.Author.Tests.{le-leb, ne-eqb, eqb-true}
+use borrow.Author.Tests.{ne-eqb, eqb-true}
 use Rattle.plain.specs.Address.{Address, unusable}
 use Rattle.plain.specs.Given.{Settings, Lent, Received, Event}
 use Rattle.plain.specs.Answers.{Line, answerOf, View, shortPrefix, badLent, longMessage, wrongState}
 use Rattle.plain.specs.Octets as octets
-use Rattle.plain.specs.Octets.{Opt, Message, optionsOf, ofType, artType, fields, sum, plenOf, targetOf, sameTarget, restored, baseOf, messageOf, malformed, unfit, tooMany, hear}
+use Rattle.plain.specs.Octets.{Message, restored, baseOf, messageOf, malformed, unfit, tooMany, hear}
 use Rattle.plain.specs.Request.{ours}
 use Rattle.plain.specs.Plain.{lines, messageLines}
 use Rattle.plain.specs.declared.Base.{Base}
-use Rattle.plain.specs.declared.Target.{Target}
 use Rattle.lemmas.proofs.Each.{each-settles}
 use Rattle.lemmas.proofs.Targets.{targets-short}
 use Rattle.reader.specs.declared.Reading.{Reading}

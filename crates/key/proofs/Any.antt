@@ -5,8 +5,8 @@ use mathlib.Core.Bool.{Bool, true, false, _||_, or-false}
 use mathlib.Core.List.{List, [], _∷_, _++_}
 use native.Mathlib.Omega.{arith}
 use native.Mathlib.Numerals.{add-one}
-use lib.ListN.{length, getD, take, drop, take-append-drop, length-take}
-use lib.Seq.{take-suc, take-all, getD-take}
+use lib.ListN.{length, getD, take, drop, take-append-drop}
+use lib.Seq.{take-suc, take-all}
 use Rattle.plain.specs.Lists.{any, anyTwo}
 use Rattle.lemmas.proofs.Choice.{true-false, or-left, or-right, or-neither}
 

@@ -1,12 +1,12 @@
 -- Twins among records are twins among the live rows of the plain node's tables.
 use Prim.Native.Nat.{ℕ, suc}
-use mathlib.Core.Path.{_≡_, refl, sym, ap, _∙_}
+use mathlib.Core.Path.{_≡_, refl, sym, _∙_}
 use mathlib.Core.Bool.{Bool, true, false, cond, _&&_, _||_, and-true, and-false, or-false}
 use mathlib.Core.List.{List, [], _∷_, _++_, map}
 use mathlib.Core.Option.{Option, some, none}
 use mathlib.Core.Logic.{_⊎_, inl, inr}
 use lib.Dec.{eqb}
-use borrow.Author.Tests.{eqb-true, eq-eqb}
+use borrow.Author.Tests.{eqb-true}
 use Rattle.plain.specs.Lists.{any, anyTwo, same}
 use Rattle.plain.specs.Given.{RequestRow, ReplyRow, Instance, Route}
 use Rattle.plain.specs.Table.{Numbered, live, liveFrom, liveRows, instanceDeadline, routeDeadline}
@@ -20,7 +20,7 @@ use Rattle.row.specs.declared.InstanceRow.{InstanceRow}
 use Rattle.row.specs.declared.RouteRow.{RouteRow}
 use Rattle.lemmas.proofs.Rules.{every-kind}
 use Rattle.first.proofs.Found.{seen, kind-cons}
-use Rattle.key.specs.Pair.{sameKey, rowTwins, sameThree, routePair, endingOf}
+use Rattle.key.specs.Pair.{sameKey, rowTwins, sameThree, routePair}
 use Rattle.key.proofs.Any.{two-same, two-either}
 
 -- ---- keys compared by their addresses first

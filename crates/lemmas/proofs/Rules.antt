@@ -1,21 +1,38 @@
 -- Facts of the plain node's definitions that crates use which do not see each other.
-use Prim.Native.Nat.{ℕ, _+_, _/_, _<_, _≤_}
+use Prim.Native.Nat.{ℕ, _+_, _-_, _*_, _/_, _<_, _≤_}
 use mathlib.Core.Path.{_≡_, refl, ap}
 use mathlib.Core.Bool.{Bool, true, false, cond}
-use mathlib.Core.List.{List, [], _∷_}
+use mathlib.Core.List.{List, [], _∷_, flatten}
 use mathlib.Core.Option.{Option, some, none}
 use native.Mathlib.Omega.{arith}
+use native.Mathlib.Nat.{suc-mul}
 use lib.Dec.{eqb}
+use lib.ListN.{length, drop, length-append, length-drop}
 use borrow.Author.Tests.{ltb-true, lt-ltb}
 use Rattle.plain.specs.Answers.{Line, answerOf, ofKind}
-use Rattle.plain.specs.Address.{keepBits}
-use Rattle.plain.specs.Octets.{prefixOctets}
+use Rattle.plain.specs.Address.{Address, keepBits}
+use Rattle.plain.specs.Octets.{prefixOctets, elided}
 use Rattle.plain.specs.Table.{Numbered, lasts}
+use Rattle.lemmas.specs.Each.{WholeVector}
 use Rattle.lemmas.proofs.Choice.{cond-case}
 
 -- a prefix has no more octets than an address
 pub most-octets : (plen : ℕ) → plen < 128 → prefixOctets plen ≤ 16
 most-octets plen h = cond-case (λ (b : ℕ). (b + 7) / 8 ≤ 16) (eqb plen 0) 128 plen (λ _. omega arith) (λ _. omega arith)
+
+-- each address of a vector takes the octets that Compr leaves of it
+pub elided-length : (compr : ℕ) (v : List Address) → WholeVector v → length (elided compr v) ≡ length v * (16 - compr)
+unfolding flatten
+elided-length compr [] w = omega arith
+elided-length compr (a ∷ v) w =
+    omega (
+      arith,
+      length-append (drop compr a) (elided compr v),
+      length-drop compr a,
+      w .0,
+      elided-length compr v (w .1),
+      suc-mul (length v) (16 - compr),
+    )
 
 -- no bit of an octet
 pub keep-none : (x : ℕ) → x < 256 → keepBits 0 x ≡ 0

@@ -2,22 +2,21 @@
 use Prim.Native.Nat.{ℕ, zero, suc, _+_, _*_, _^_, _≤_, _<_}
 use mathlib.Core.Path.{_≡_, refl}
 use mathlib.Core.Bool.{Bool, true, false, cond, not}
-use mathlib.Core.List.{List, [], _∷_, map}
+use mathlib.Core.List.{List, [], _∷_}
 use mathlib.Core.Option.{Option, some, none}
 use native.Mathlib.Omega.{arith}
 use native.Mathlib.Nat.{mul-le-mul, le-refl, le-trans}
 use lib.Dec.{eqb, ltb, leb}
-use lib.ListN.{length, getD, take, drop}
-use lib.Seq.{getD-drop}
+use lib.ListN.{length, take, drop}
 use borrow.Author.Tests.{ltb-false, le-leb}
-use Rattle.plain.specs.Lists.{any, once}
+use Rattle.plain.specs.Lists.{any}
 use Rattle.plain.specs.Address.{Address}
 use Rattle.plain.specs.Given.{Settings, Lent, Received, Start, Event, RequestRow, ReplyRow, Instance, Route}
 use Rattle.plain.specs.Table.{Numbered, Change, put}
 use Rattle.plain.specs.Answers.{answerOf, View, shortPrefix, requestFor, replyFor, liveReply, requests, replies, badStart, goodDeadline, goodInstance, goodRoute}
-use Rattle.plain.specs.Octets.{Opt, Message, optionsIn, nextOption, sized, followedBy, ofType, optionsOf, configurationType, configurationOf, defaultLifetime, lifetimeUnit, fields, sum, artType, plenOf, targetOf, sameTarget, messageOf, tooMany, mostAddresses, mostTargets}
+use Rattle.plain.specs.Octets.{Opt, Message, optionsIn, nextOption, sized, followedBy, ofType, optionsOf, configurationType, configurationOf, defaultLifetime, lifetimeUnit, sameTarget, messageOf, tooMany, mostAddresses, mostTargets}
 use Rattle.plain.specs.Rank.{stepped, rowDeadline, lifetimeDeadline}
-use Rattle.plain.specs.Request.{Accepted, rowOfRequest, routeOfRequest, askedWith, asked, repliesNow, deltaOr0, matchesUs, common, rowTargets, isUpdate, targetsKept, keptDeadline, requestRow, ownReplyRow, routeRow, routeChange, withReplyRow, acceptRequest, wholeBits, startTargets, startRow, acceptStart}
+use Rattle.plain.specs.Request.{Accepted, rowOfRequest, routeOfRequest, askedWith, asked, repliesNow, deltaOr0, matchesUs, common, rowTargets, isUpdate, targetsKept, keptDeadline, requestRow, ownReplyRow, routeRow, routeChange, withReplyRow, acceptRequest, startTargets, startRow, acceptStart}
 use Rattle.plain.specs.Reply.{origNode, destSeq, partnerNumber, answeredWith, answered, partnerOf, replyRow, acceptReply}
 use Rattle.plain.specs.Plain.{lines, acceptWith, acceptMessage, accept}
 use Rattle.plain.specs.declared.Target.{Target}
@@ -26,7 +25,7 @@ use Rattle.lemmas.proofs.Choice.{cond-case, or-right}
 use Rattle.memory.specs.Facts.{ProperEvent}
 use Rattle.lemmas.specs.Each.{Each, Octets}
 use Rattle.lemmas.proofs.Targets.{Short, targets-short, start-short}
-use Rattle.lemmas.proofs.Each.{each-always, each-weaken, each-append, each-those, each-once, each-map, each-take, each-drop, octet-lt, found-case, each-settles, any-none, those-less}
+use Rattle.lemmas.proofs.Each.{each-append, each-those, each-take, each-drop, octet-lt, found-case, each-settles, those-less}
 use Rattle.memory.proofs.Tables.{Writes}
 use Rattle.memory.proofs.Kind.{requestKind, replyKind, Lasts, found-lasts}
 use Rattle.memory.proofs.Lines.{none-of-six, heard, begun, accepted-time}

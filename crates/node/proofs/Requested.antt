@@ -14,7 +14,8 @@ use Rattle.plain.specs.Request.{Accepted, Asked, askedWith, asked, forwards, re
 use Rattle.row.specs.Meaning.{requestOf}
 use Rattle.row.specs.declared.InstanceRow.{InstanceRow}
 use Rattle.row.specs.declared.RouteRow.{RouteRow}
-use Rattle.own.specs.Settings.{settingsOf, Whole}
+use Rattle.lemmas.specs.Each.{WholeVector}
+use Rattle.own.specs.Settings.{settingsOf}
 use Rattle.own.specs.declared.Own.{Own}
 use Rattle.message.specs.Message.{messageIn, receivedBy, requestFound, routeFound, deltaFound, rowFound}
 use Rattle.message.specs.declared.Parsed.{Parsed}
@@ -85,7 +86,7 @@ module _ {clock seq t : ℕ} {rows : List InstanceRow} {routes : List RouteRow} 
       padded = h .gathered .padded;
     }
 
-    pub request-room : p .n ≤ 16 → length (o .receiving) ≡ 16 → length (o .sending) ≡ 16 → Whole vector → forwards (messageIn p []) (askedOf a) ≡ true
+    pub request-room : p .n ≤ 16 → length (o .receiving) ≡ 16 → length (o .sending) ≡ 16 → WholeVector vector → forwards (messageIn p []) (askedOf a) ≡ true
         → Roomy x (p .discovery .h) (p .discovery .compr) (take (p .n) vector)
     request-room few er es whole = has-room x k p vector a zero few er es whole
 

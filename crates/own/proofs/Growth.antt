@@ -1,22 +1,23 @@
 -- A vector with our addresses added: how long it is, and that it stands in an array.
-use Prim.Native.Nat.{ℕ, zero, suc, _+_, _-_, _*_, _<_, _≤_}
+use Prim.Native.Nat.{ℕ, suc, _+_, _-_, _*_, _<_, _≤_}
 use mathlib.Core.Path.{_≡_, refl, ap, _∙_}
 use mathlib.Core.Bool.{Bool, true, false, cond}
-use mathlib.Core.List.{List, [], _∷_, _++_, append-assoc, flatten}
+use mathlib.Core.List.{List, [], _∷_, _++_, append-assoc}
 use native.Mathlib.Omega.{arith}
 use native.Mathlib.Numerals.{add-one, add-two}
-use native.Mathlib.Nat.{suc-mul}
-use lib.Dec.{ltb, eqb}
-use lib.ListN.{length, take, drop, set, length-append, length-drop, length-set}
+use lib.Dec.{ltb}
+use lib.ListN.{length, take, set, length-append, length-set}
 use lib.Seq.{take-suc-set}
-use borrow.Author.Tests.{lt-ltb, le-ltb, eqb-true}
-use Rattle.plain.specs.Lists.{same, all}
+use borrow.Author.Tests.{lt-ltb, le-ltb}
+use Rattle.plain.specs.Lists.{same}
 use Rattle.plain.specs.Address.{Address}
 use Rattle.plain.specs.Given.{Settings}
-use Rattle.plain.specs.Octets.{elided}
 use Rattle.plain.specs.Request.{ownVector, grown, cannotGrow}
-use Rattle.lemmas.proofs.Choice.{cond-case, and-left, and-right}
-use Rattle.own.specs.Settings.{grownCount, Whole}
+use Rattle.lemmas.specs.Each.{WholeVector}
+use Rattle.lemmas.proofs.Each.{each-append}
+use Rattle.lemmas.proofs.Rules.{elided-length}
+use Rattle.lemmas.proofs.Choice.{cond-case}
+use Rattle.own.specs.Settings.{grownCount}
 
 -- ---- How many addresses
 
@@ -79,48 +80,22 @@ module _ (x : Settings) (h : Bool) (n : ℕ) (f : h ≡ false) where
       ∙ ap (λ (w : List Address). w ++ (x .sending ∷ [])) (take-suc-set v n (x .receiving) (omega arith))
       ∙ append-assoc (take n v) (x .receiving ∷ []) (x .sending ∷ []))
 
--- ---- Whole addresses
-
-pub whole-all : (v : List Address) → all (λ (a : Address). eqb (length a) 16) v ≡ true → Whole v
-unfolding Whole all
-whole-all [] e = tt
-whole-all (a ∷ v) e = (
-  eqb-true (length a) 16 (and-left (eqb (length a) 16) (all (λ (a : Address). eqb (length a) 16) v) e),
-  whole-all v (and-right (eqb (length a) 16) (all (λ (a : Address). eqb (length a) 16) v) e),
-)
-
-pub whole-take : (n : ℕ) (v : List Address) → Whole v → Whole (take n v)
-unfolding Whole
-whole-take zero v w = tt
-whole-take (suc n) [] w = tt
-whole-take (suc n) (a ∷ v) w = (w .0, whole-take n v (w .1))
-
-whole-append : (v w : List Address) → Whole v → Whole w → Whole (v ++ w)
-unfolding Whole
-whole-append [] w p q = q
-whole-append (a ∷ v) w p q = (p .0, whole-append v w (p .1) q)
-
-pub elided-length : (compr : ℕ) (v : List Address) → Whole v → length (elided compr v) ≡ length v * (16 - compr)
-unfolding Whole flatten
-elided-length compr [] w = omega arith
-elided-length compr (a ∷ v) w =
-    length-append (drop compr a) (elided compr v)
-    ∙ rw (length-drop compr a, w .0, elided-length compr v (w .1), suc-mul (length v) (16 - compr)) (omega arith)
+-- ---- whole addresses
 
 module _ (x : Settings) (p : length (x .receiving) ≡ 16) (q : length (x .sending) ≡ 16) where
-  whole-own : Whole (ownVector x)
-  unfolding ownVector Whole
+  whole-own : WholeVector (ownVector x)
+  unfolding ownVector
   whole-own =
-      cond-case Whole (same (x .receiving) (x .sending)) (x .receiving ∷ []) (x .receiving ∷ x .sending ∷ []) (λ e. (p, tt))
+      cond-case WholeVector (same (x .receiving) (x .sending)) (x .receiving ∷ []) (x .receiving ∷ x .sending ∷ []) (λ e. (p, tt))
       (λ e. (p, (q, tt)))
 
-  pub whole-grown : (h : Bool) (v : List Address) → Whole v → Whole (grown x h v)
+  pub whole-grown : (h : Bool) (v : List Address) → WholeVector v → WholeVector (grown x h v)
   whole-grown true v w = w
-  whole-grown false v w = whole-append v (ownVector x) w whole-own
+  whole-grown false v w = each-append (λ (a : Address). length a ≡ 16) v (ownVector x) w whole-own
 
   -- ---- Answer 16 by numbers
 
-  module _ (compr n : ℕ) (v : List Address) (e : length v ≡ n) (w : Whole v) where
+  module _ (compr n : ℕ) (v : List Address) (e : length v ≡ n) (w : WholeVector v) where
     count-is : length (grown x false v) ≡ grownCount x false n
     count-is = rw (← e) (grown-length x false v)
 

@@ -1,10 +1,7 @@
 -- What our two addresses mean, and what a vector is with them.
 use Prim.Native.Nat.{ℕ, _+_}
 use mathlib.Core.Bool.{Bool, cond}
-use mathlib.Core.List.{List, [], _∷_}
-use mathlib.Core.Path.{_≡_}
 use lib.ListN.{length}
-use Rattle.plain.specs.Address.{Address}
 use Rattle.plain.specs.Given.{Settings}
 use Rattle.plain.specs.Request.{ownVector}
 use Rattle.own.specs.declared.Own.{Own}
@@ -16,8 +13,3 @@ settingsOf o = record { receiving = o .receiving; sending = o .sending }
 -- "With H 0 add our receiving address, then the sending one if different": how many addresses n then are
 unfoldable pub grownCount : Settings → Bool → ℕ → ℕ
 grownCount x h n = cond h n (n + length (ownVector x))
-
--- each address of a vector is whole: "Sixteen-octet arrays by value rebuild and compare full addresses"
-unfoldable pub Whole : List Address → Type 0
-Whole [] = Unit {0}
-Whole (a ∷ v) = (length a ≡ 16) × Whole v

@@ -4,9 +4,10 @@ ghost use mathlib.Core.Bool.{false};
 ghost use mathlib.Core.List.{List};
 ghost use Prim.Native.Nat.{_≤_};
 ghost use lib.ListN.{length, take};
+ghost use Rattle.lemmas.specs.Each.{WholeVector};
 ghost use Rattle.plain.specs.Address.{Address};
 ghost use Rattle.plain.specs.Request.{ours, cannotElide, grown, cannotGrow};
-ghost use Rattle.own.specs.Settings.{settingsOf, grownCount, Whole};
+ghost use Rattle.own.specs.Settings.{settingsOf, grownCount};
 
 // 01, "Settings: a receiving and a sending address."
 #[repr(C)]
@@ -61,7 +62,7 @@ pub fn grown_count(o: Own, h: bool, n: usize) -> usize
 
 // What a reference to sixteen addresses does not tell by itself: that they are sixteen, and each whole. No code is left of it.
 pub fn whole(vector: &[[u8; 16]; 16])
-    ensures { λ r. ⌜ (length (now (vector .entry)) ≡ 16) × Whole (now (vector .entry)) ⌝ }
+    ensures { λ r. ⌜ (length (now (vector .entry)) ≡ 16) × WholeVector (now (vector .entry)) ⌝ }
 {
     writer_octets::whole(vector);
 }
@@ -97,7 +98,7 @@ pub fn grown_vector(
 // 16: with ours added a vector of n addresses is past 16 addresses or 252 octets.
 pub fn cannot_grow(o: Own, compr: u8, n: usize) -> bool
     requires { ⌜ (compr ≤ 16) × (n ≤ 16) ⌝ }
-    ensures { λ r. ⌜ ((v : List Address) → length v ≡ n → Whole v → r ≡ cannotGrow compr (grown (settingsOf o) false v)) ⌝ }
+    ensures { λ r. ⌜ ((v : List Address) → length v ≡ n → WholeVector v → r ≡ cannotGrow compr (grown (settingsOf o) false v)) ⌝ }
 {
     let addresses = grown_count(o, false, n);
     if 16 < addresses {

@@ -24,8 +24,10 @@ use Rattle.decision.specs.Decision.{postVector, postMessage, postPath, octetsAs
 use Rattle.decision.specs.declared.What.{What}
 use Rattle.decision.specs.declared.What.the-variants.{Nothing, Dio, Path}
 use Rattle.decision.specs.declared.Post.{Post}
-use Rattle.own.specs.Settings.{Whole}
-use Rattle.own.proofs.Growth.{elided-length, whole-grown, whole-take}
+use Rattle.lemmas.specs.Each.{WholeVector}
+use Rattle.own.proofs.Growth.{whole-grown}
+use Rattle.lemmas.proofs.Each.{each-take}
+use Rattle.lemmas.proofs.Rules.{elided-length}
 use Rattle.rule.specs.Heard.{Heard}
 use Rattle.decision.specs.Decision.{Posts, Fits}
 use Rattle.rule.proofs.Laws.{heard-sendable}
@@ -102,7 +104,7 @@ module _ (x : Settings) (p : Parsed) (vector : List Address) (a : Answered) (e :
         go true q = rw (← q, grows-h (messageIn p vector) a (sym q)) refl
         go false q = rw (← q) refl
 
-    module _ (whole : Whole vector) (receiving : length (x .receiving) ≡ 16) (sending : length (x .sending) ≡ 16) (room : isFull x (messageIn p vector) a ≡ false) where
+    module _ (whole : WholeVector vector) (receiving : length (x .receiving) ≡ 16) (sending : length (x .sending) ≡ 16) (room : isFull x (messageIn p vector) a ≡ false) where
       sent-room : Sendable (p .discovery) (length (postVector x (post Dio g to) vector))
       unfolding postVector raised messageIn isFull cannotGrow
       sent-room = go g k
@@ -119,7 +121,7 @@ module _ (x : Settings) (p : Parsed) (vector : List Address) (a : Answered) (e :
                 compr = heard .compr;
                 addresses = ltb-false 16 (length v) (or-left many long f);
                 octets = λ i.
-                    rw (← elided-length (p .discovery .compr) v (whole-grown x receiving sending false (take (p .n) vector) (whole-take (p .n) vector whole)))
+                    rw (← elided-length (p .discovery .compr) v (whole-grown x receiving sending false (take (p .n) vector) (each-take (λ (a : Address). length a ≡ 16) (p .n) vector whole)))
                     (ltb-false 252 (length (elided (p .discovery .compr) v)) (or-right many long f));
               }
           go false q = heard-sendable p vector e heard

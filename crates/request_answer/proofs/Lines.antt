@@ -18,8 +18,10 @@ use Rattle.plain.specs.Rank.{minHop, ownRank, rankRefused}
 use Rattle.plain.specs.Octets.{elided}
 use Rattle.plain.specs.Request.{grown, cannotGrow, forwards, requestLines}
 use Rattle.rank.proofs.Refusal.{own-fits}
-use Rattle.own.specs.Settings.{Whole}
-use Rattle.own.proofs.Growth.{whole-take, whole-grown, elided-length}
+use Rattle.lemmas.specs.Each.{WholeVector}
+use Rattle.own.proofs.Growth.{whole-grown}
+use Rattle.lemmas.proofs.Each.{each-take}
+use Rattle.lemmas.proofs.Rules.{elided-length}
 use Rattle.message.specs.Message.{configurationIn, messageIn, receivedBy, deltaFound}
 use Rattle.message.specs.declared.FreeDelta.{FreeDelta}
 use Rattle.message.specs.declared.Parsed.{Parsed}
@@ -76,7 +78,7 @@ module _ (x : Settings) (k : Link) (p : Parsed) (v : List Address) (a : RequestF
       (quiet .0)
 
 -- where 16 is not answered, the vector has room for ours
-grows : (x : Settings) (compr : ℕ) (w : List Address) → Whole (grown x false w) → cannotGrow compr (grown x false w) ≡ false → Roomy x false compr w
+grows : (x : Settings) (compr : ℕ) (w : List Address) → WholeVector (grown x false w) → cannotGrow compr (grown x false w) ≡ false → Roomy x false compr w
 unfolding cannotGrow
 grows x compr w whole e = record {
   addresses = ltb-false 16 (length (grown x false w)) (or-left (ltb 16 (length (grown x false w))) (ltb 252 (length (elided compr (grown x false w)))) e);
@@ -87,16 +89,16 @@ grows x compr w whole e = record {
       (or-right (ltb 16 (length (grown x false w))) (ltb 252 (length (elided compr (grown x false w)))) e));
 }
 
-room-if : (x : Settings) (h : Bool) (compr : ℕ) (w : List Address) → length w ≤ 16 → Whole (grown x false w)
+room-if : (x : Settings) (h : Bool) (compr : ℕ) (w : List Address) → length w ≤ 16 → WholeVector (grown x false w)
     → not h && cannotGrow compr (grown x h w) ≡ false → Roomy x h compr w
 room-if x true compr w few whole e = record { addresses = few; octets = λ h. true-false h }
 room-if x false compr w few whole e = grows x compr w whole e
 
 pub has-room : (x : Settings) (k : Link) (p : Parsed) (v : List Address) (a : RequestFacts)
     → answerOf (requestLines x (receivedBy k []) (messageIn p v) (askedOf a)) ≡ 0
-    → p .n ≤ 16 → length (x .receiving) ≡ 16 → length (x .sending) ≡ 16 → Whole v
+    → p .n ≤ 16 → length (x .receiving) ≡ 16 → length (x .sending) ≡ 16 → WholeVector v
     → forwards (messageIn p []) (askedOf a) ≡ true
     → Roomy x (p .discovery .h) (p .discovery .compr) (take (p .n) v)
 has-room x k p v a z few er es whole f =
     room-if x (p .discovery .h) (p .discovery .compr) (take (p .n) v) (omega (arith, length-take (p .n) v))
-    (whole-grown x er es false (take (p .n) v) (whole-take (p .n) v whole)) (rw f at (quiet x k p v a z .1))
+    (whole-grown x er es false (take (p .n) v) (each-take (λ (a : Address). length a ≡ 16) (p .n) v whole)) (rw f at (quiet x k p v a z .1))

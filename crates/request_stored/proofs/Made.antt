@@ -1,10 +1,9 @@
 -- The rows that a request leaves, from their parts.
 use Prim.Native.Nat.{ℕ}
-use mathlib.Core.Path.{_≡_, refl}
-use mathlib.Core.Bool.{Bool, true, false, cond, not}
+use mathlib.Core.Path.{_≡_}
+use mathlib.Core.Bool.{Bool, cond}
 use mathlib.Core.List.{[]}
 use mathlib.Core.Option.{some, none}
-use lib.Dec.{eqb}
 use lib.ListN.{take}
 use Rattle.plain.specs.Rank.{minHop, rowDeadline, plusDelta}
 use Rattle.plain.specs.Given.{Settings, RequestRow}

@@ -5,13 +5,13 @@ use mathlib.Core.List.{List, [], _∷_, _++_, map, map-map}
 use native.Mathlib.Omega.{arith}
 use native.Mathlib.Nat.{mul-div-cancel, mul-mod-left}
 use lib.ListN.{length, take, replicate, take-append-drop, length-drop, length-map}
-use Rattle.plain.specs.Address.{Address, keepBits, firstBits, elide, restore}
+use Rattle.plain.specs.Address.{Address, firstBits, elide, restore}
 use Rattle.plain.specs.Octets.{elided, restored, addressOctets}
 use Rattle.lemmas.specs.Each.{Each, Octets}
-use Rattle.lemmas.proofs.Rules.{keep-none}
+use Rattle.lemmas.proofs.Rules.{keep-none, elided-length}
 use Rattle.lemmas.proofs.Each.{each-map, each-weaken}
 use Rattle.round.specs.Round.{Whole}
-use Rattle.round.proofs.Lists.{map-same, length-parts, parts-back}
+use Rattle.round.proofs.Lists.{map-same, parts-back}
 
 -- ---- "Vector addresses drop their first Compr octets, shared with the DODAGID."
 
@@ -23,7 +23,7 @@ elided-long k v h = each-map Whole (λ xs. length xs ≡ addressOctets k) (elide
 
 -- the octets of a vector are a whole number of addresses
 pub length-elided : (k : ℕ) (v : List Address) → Each Whole v → length (elided k v) ≡ length v * addressOctets k
-length-elided k v h = length-parts (addressOctets k) (map (elide k) v) (elided-long k v h) ∙ rw (length-map v (elide k))
+length-elided k v h = elided-length k v (each-weaken Whole (λ (a : Address). length a ≡ 16) (λ a w. w .long) v h)
 
 pub elided-whole : (k : ℕ) (v : List Address) → Each Whole v → length (elided k v) % addressOctets k ≡ 0
 elided-whole k v h = rw (length-elided k v h) (mul-mod-left (length v) (addressOctets k))

@@ -1,10 +1,9 @@
 -- What lists come to whose elements are all alike in some way.
-use Prim.Native.Nat.{ℕ, _*_}
+use Prim.Native.Nat.{ℕ}
 use mathlib.Core.Path.{_≡_, refl}
 use mathlib.Core.Bool.{Bool, true, false, cond}
 use mathlib.Core.List.{List, [], _∷_, _++_, map, flatten}
-use native.Mathlib.Omega.{arith}
-use lib.ListN.{length, length-append}
+use lib.ListN.{length}
 use lib.Seq.{take-at, drop-at}
 use Rattle.plain.specs.Lists.{those}
 use Rattle.plain.specs.Octets.{parts}
@@ -33,11 +32,6 @@ those-append p (x ∷ xs) ys = rw (those-append p xs ys) (go (p x))
     go false = refl
 
 -- lists of one length, put together and taken apart again
-pub length-parts : {A : Type 0} (k : ℕ) (xss : List (List A)) → Each (λ xs. length xs ≡ k) xss → length (flatten xss) ≡ length xss * k
-unfolding flatten
-length-parts k [] h = omega arith
-length-parts k (xs ∷ xss) h = omega (arith, length-append xs (flatten xss), h .0, length-parts k xss (h .1))
-
 pub parts-back : (k : ℕ) (xss : List (List ℕ)) → Each (λ xs. length xs ≡ k) xss → parts (length xss) k (flatten xss) ≡ xss
 unfolding flatten parts
 parts-back k [] h = refl

@@ -7,7 +7,7 @@ use mathlib.Core.List.{List}
 use lib.ListN.{length, take}
 use Rattle.plain.specs.Address.{Address}
 use Rattle.plain.specs.Blank.{Padded}
-use Rattle.own.specs.Settings.{Whole}
+use Rattle.lemmas.specs.Each.{WholeVector}
 use Rattle.writer_option.specs.Sendable.{shortPrefixes}
 use Rattle.message.specs.declared.Parsed.{Parsed}
 
@@ -22,4 +22,4 @@ pub record Heard (p : Parsed) : Type 0 where
 -- What holds of the array that a vector stands in, by its type: sixteen places, each of sixteen octets.
 pub record Array (vector : List Address) : Type 0 where
   pub places : length vector ≡ 16
-  pub whole : Whole vector
+  pub whole : WholeVector vector

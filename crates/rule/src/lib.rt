@@ -10,12 +10,13 @@ ghost use mathlib.Core.Bool.{false, _&&_};
 ghost use mathlib.Core.List.{List};
 ghost use Prim.Native.Nat.{_^_, _≤_};
 ghost use lib.ListN.{length};
+ghost use Rattle.lemmas.specs.Each.{WholeVector};
 ghost use Rattle.plain.specs.Address.{Address};
 ghost use Rattle.plain.specs.Rank.{minHop};
 ghost use Rattle.plain.specs.Request.{routeStale, routeRow, withRank, grown, cannotGrow};
 ghost use Rattle.row.specs.Record.{routeRecord};
 ghost use Rattle.message.specs.Message.{configurationIn, routeFound};
-ghost use Rattle.own.specs.Settings.{settingsOf, Whole};
+ghost use Rattle.own.specs.Settings.{settingsOf};
 
 // ---- what is asked
 
@@ -45,7 +46,7 @@ pub fn step_of(p: Parsed) -> u16
 // compiled into its callers: a message by value would be copied for it.
 pub fn cannot_add(o: Own, adds: bool, compr: u8, n: usize) -> bool
     requires { ⌜ (compr ≤ 16) × (n ≤ 16) ⌝ }
-    ensures { λ r. ⌜ ((v : List Address) → length v ≡ n → Whole v → r ≡ adds && cannotGrow compr (grown (settingsOf o) false v)) ⌝ }
+    ensures { λ r. ⌜ ((v : List Address) → length v ≡ n → WholeVector v → r ≡ adds && cannotGrow compr (grown (settingsOf o) false v)) ⌝ }
 {
     if adds {
         return own::cannot_grow(o, compr, n);

@@ -12,7 +12,7 @@ use Rattle.plain.specs.Address.{Address, keepBits, firstBits}
 use Rattle.plain.specs.Octets.{sameTarget, prefixBits}
 use Rattle.plain.specs.Request.{matches, wholeBits}
 use Rattle.plain.specs.declared.Target.{Target}
-use Rattle.prefix.proofs.Laws.{keep-all}
+use Rattle.prefix.proofs.Laws.{first-all}
 
 keep-twice : (k x : ℕ) → keepBits k (keepBits k x) ≡ keepBits k x
 unfolding keepBits
@@ -23,12 +23,6 @@ pub first-twice : (k : ℕ) (a : Address) → firstBits k (firstBits k a) ≡ fi
 unfolding firstBits
 first-twice k [] = refl
 first-twice k (x ∷ xs) = rw (keep-twice k x, first-twice (k - 8) xs)
-
--- an address has no more bits than its octets
-pub first-all : (k : ℕ) (a : Address) → 8 * length a ≤ k → firstBits k a ≡ a
-unfolding firstBits
-first-all k [] h = refl
-first-all k (x ∷ xs) h = rw (keep-all k x (omega arith), first-all (k - 8) xs (omega arith))
 
 -- "Length 0 means a whole 16-octet address": such a target matches the address that it equals, and no other
 pub matches-address : (t : Target) (a : Address) → t .plen ≡ 0 → length (t .addr) ≤ 16 → length a ≤ 16 → matches t a ≡ same (t .addr) a

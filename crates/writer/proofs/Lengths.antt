@@ -5,7 +5,6 @@ use mathlib.Core.Bool.{Bool, true}
 use mathlib.Core.List.{List, _++_, map, flatten}
 use native.Mathlib.Omega.{arith}
 use lib.ListN.{length, take, length-append, length-take}
-use Rattle.plain.specs.Lists.{all}
 use Rattle.plain.specs.Address.{Address}
 use Rattle.plain.specs.Octets.{Message, baseOctets, configurationOctets, routeOctets, artOctets, octetsOf}
 use Rattle.plain.specs.declared.Target.{Target}
@@ -13,8 +12,8 @@ use Rattle.plain.specs.declared.Base.{Base}
 use Rattle.plain.specs.declared.Discovery.{Discovery}
 use Rattle.writer.specs.Given.{messageFrom}
 use Rattle.writer_option.specs.Sendable.{Sendable, shortPrefixes}
-use Rattle.lemmas.proofs.Walk.{all-take}
-use Rattle.writer_octets.proofs.Addresses.{long}
+use Rattle.lemmas.specs.Each.{WholeVector}
+use Rattle.lemmas.proofs.Each.{each-take}
 use Rattle.writer_base.proofs.Lengths.{base-length, configuration-le}
 use Rattle.writer_option.proofs.Lengths.{route-le}
 use Rattle.writer_art.proofs.Lengths.{arts-le}
@@ -39,13 +38,13 @@ pub record Sizes (m : Message) : Type 0 where
   pub arts : length (flatten (map artOctets (m .targets))) ≤ 160
 
 module _ (b : Base) (configured : Bool) (configuration : List ℕ) (d : Discovery) (n : ℕ) (vector : List Address) (count : ℕ) (targets : List Target) where
-  pub message-sizes : length (b .dodagid) ≡ 16 → length configuration ≡ 14 → Sendable d n → n ≤ length vector → all (long 16) vector ≡ true → count ≤ 8
+  pub message-sizes : length (b .dodagid) ≡ 16 → length configuration ≡ 14 → Sendable d n → n ≤ length vector → WholeVector vector → count ≤ 8
       → shortPrefixes (take count targets) ≡ true → Sizes (messageFrom b configured configuration d n vector count targets)
   message-sizes eb ec s hn e ht es = record {
     base = omega (arith, base-length b);
     configuration = configuration-le configured configuration ec;
     route =
         let k : length (take n vector) ≡ n = omega (arith, length-take n vector) in
-        route-le d (take n vector) (rw k s) (all-take (long 16) n vector e);
+        route-le d (take n vector) (rw k s) (each-take (λ (a : Address). length a ≡ 16) n vector e);
     arts = omega (arith, arts-le (take count targets) es, length-take count targets);
   }

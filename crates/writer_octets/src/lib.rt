@@ -1,13 +1,11 @@
 // Writers of octets and addresses: each writes at the front of the part of the buffer that it is lent, and answers how many octets it wrote.
 ghost use mathlib.Core.Path.{_≡_};
-ghost use mathlib.Core.Bool.{true};
 ghost use mathlib.Core.List.{reverse};
 ghost use Prim.Native.Nat.{_≤_};
 ghost use lib.ListN.{length, take};
-ghost use lib.Dec.{eqb};
+ghost use Rattle.lemmas.specs.Each.{WholeVector};
 ghost use Rattle.lemmas.specs.Written.{Written};
-ghost use Rattle.plain.specs.Lists.{all};
-ghost use Rattle.plain.specs.Address.{Address, elide};
+ghost use Rattle.plain.specs.Address.{elide};
 ghost use Rattle.plain.specs.Octets.{elided};
 
 // Octets as they are.
@@ -50,12 +48,12 @@ pub fn put_vector(out: &mut [u8], compr: usize, n: usize, vector: &[[u8; 16]; 16
 
 // Sixteen addresses by value have sixteen octets each: nothing is done with them but to say so.
 fn known(vector: [[u8; 16]; 16])
-    ensures { λ r. ⌜ (length vector ≡ 16) × (all (λ (a : Address). eqb (length a) 16) vector ≡ true) ⌝ }
+    ensures { λ r. ⌜ (length vector ≡ 16) × WholeVector vector ⌝ }
 {}
 
 // The same of addresses behind a reference, which by itself tells nothing of what it refers to. No code is left of it.
 pub fn whole(vector: &[[u8; 16]; 16])
-    ensures { λ r. ⌜ (length (now (vector .entry)) ≡ 16) × (all (λ (a : Address). eqb (length a) 16) (now (vector .entry)) ≡ true) ⌝ }
+    ensures { λ r. ⌜ (length (now (vector .entry)) ≡ 16) × WholeVector (now (vector .entry)) ⌝ }
 {
     known(*vector);
 }

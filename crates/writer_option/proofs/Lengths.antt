@@ -5,11 +5,11 @@ use mathlib.Core.Bool.{Bool, true, false}
 use mathlib.Core.List.{List, _++_}
 use native.Mathlib.Omega.{arith}
 use lib.ListN.{length}
-use Rattle.plain.specs.Lists.{all}
 use Rattle.plain.specs.Address.{Address}
 use Rattle.plain.specs.Octets.{routeBodyOctets, routeOctets, elided}
 use Rattle.plain.specs.declared.Discovery.{Discovery}
-use Rattle.writer_octets.proofs.Addresses.{long, elided-length}
+use Rattle.lemmas.specs.Each.{WholeVector}
+use Rattle.lemmas.proofs.Rules.{elided-length}
 use Rattle.writer_option.specs.Heads.{routeHead, routeWord}
 use Rattle.writer_option.specs.Sendable.{Sendable}
 
@@ -25,7 +25,7 @@ pub route-bare : (d : Discovery) (v : List Address) → d .h ≡ true → routeO
 unfolding routeOctets routeBodyOctets routeWord
 route-bare d v h = rw h
 
-pub route-le : (d : Discovery) (v : List Address) → Sendable d (length v) → all (long 16) v ≡ true → length (routeOctets d v) ≤ 257
+pub route-le : (d : Discovery) (v : List Address) → Sendable d (length v) → WholeVector v → length (routeOctets d v) ≤ 257
 route-le d v s e = go (d .h) refl
   where
     go : (h : Bool) → d .h ≡ h → length (routeOctets d v) ≤ 257

@@ -1,5 +1,4 @@
 use borrow.Author.Needs.{needs}
-use Rattle.own.proofs.Growth.{whole-all}
 use Rattle.own.proofs.whole.Statement.{statement}
 use Rattle.own.proofs.whole.Tie as tie
 
@@ -7,7 +6,7 @@ whole-requires : tie.Need-whole-requires
 whole-requires c κs = search needs
 
 returns : tie.Need-returns
-returns c = (c .whole .ensures .0, whole-all (c .before .args .vector .now) (c .whole .ensures .1))
+returns c = c .whole .ensures
 
 pub whole-spec : {M : Type 1} → statement M
 whole-spec = tie.close (tie.spec whole-requires returns)

@@ -10,7 +10,7 @@ use Rattle.plain.specs.Reply.{replyLines}
 use Rattle.message.specs.Message.{messageIn, receivedBy}
 use Rattle.reply.specs.Facts.{answeredOf, isFull}
 use Rattle.own.specs.Settings.{settingsOf}
-use Rattle.own.proofs.Growth.{whole-take}
+use Rattle.lemmas.proofs.Each.{each-take}
 use Rattle.reply_answer.proofs.Laws.{full-is}
 use denote.Ref.{now}
 use borrow.Author.Needs.{needs}
@@ -58,7 +58,7 @@ line-16 c =
     let a = s .args in
     let v = take (a .p .n) (now (a .vector)) in
     let len : length v ≡ a .p .n = length-take-le (a .p .n) (now (a .vector)) (omega (arith, s .pre .0 .0, s .pre .1 .places)) in
-    let whole = whole-take (a .p .n) (now (a .vector)) (s .pre .1 .whole) in
+    let whole = each-take _ (a .p .n) (now (a .vector)) (s .pre .1 .whole) in
     rw (
       line-14 (c .before .before .before),
       c .before .before .if6 .left,

@@ -10,7 +10,7 @@ use Rattle.plain.specs.Request.{forwards, requestLines}
 use Rattle.message.specs.Message.{messageIn, receivedBy}
 use Rattle.request.specs.Facts.{askedOf}
 use Rattle.own.specs.Settings.{settingsOf}
-use Rattle.own.proofs.Growth.{whole-take}
+use Rattle.lemmas.proofs.Each.{each-take}
 use Rattle.request_answer.proofs.Lines.{full-is}
 use denote.Ref.{now}
 use borrow.Author.Needs.{needs}
@@ -62,7 +62,7 @@ line-16 c =
     let a = s .args in
     let v = take (a .p .n) (now (a .vector)) in
     let len : length v ≡ a .p .n = length-take-le (a .p .n) (now (a .vector)) (omega (arith, s .pre .0 .addresses, s .pre .1 .places)) in
-    let whole = whole-take (a .p .n) (now (a .vector)) (s .pre .1 .whole) in
+    let whole = each-take _ (a .p .n) (now (a .vector)) (s .pre .1 .whole) in
     rw (
       line-15 (c .before .before .before),
       c .before .before .if7 .left,

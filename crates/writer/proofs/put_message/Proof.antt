@@ -1,20 +1,18 @@
 -- `writer::put_message` meets its contract.
 use mathlib.Core.Path.{_≡_}
-use mathlib.Core.Bool.{true}
 use native.Mathlib.Omega.{arith}
 use lib.ListN.{length, length-take, length-drop}
 use borrow.Author.Needs.{needs}
 use Rattle.lemmas.proofs.Buffer.{written-then}
-use Rattle.plain.specs.Lists.{all}
 use Rattle.plain.specs.Octets.{octetsOf}
-use Rattle.writer_octets.proofs.Addresses.{long}
+use Rattle.lemmas.specs.Each.{WholeVector}
 use Rattle.writer.specs.Given.{messageFrom}
 use Rattle.writer.proofs.Lengths.{Sizes, message-sizes}
 use Rattle.writer.proofs.put_message.Statement.{statement}
 use Rattle.writer.proofs.put_message.Tie as tie
 
 -- how many octets each part of the message has at most
-sizes-from : (s : tie.Start) → length (s .args .vector .now) ≡ 16 → all (long 16) (s .args .vector .now) ≡ true
+sizes-from : (s : tie.Start) → length (s .args .vector .now) ≡ 16 → WholeVector (s .args .vector .now)
     → Sizes (messageFrom (s .args .base) (s .args .configured) (s .args .configuration) (s .args .d) (s .args .n) (s .args .vector .now) (s .args .count) (s .args .targets))
 sizes-from s k w =
     let a = s .args in
