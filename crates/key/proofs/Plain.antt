@@ -27,7 +27,7 @@ use Rattle.key.proofs.Any.{two-same, two-either}
 
 pub key-far : (a b : InstanceRow) → same (a .dodagid) (b .dodagid) ≡ false → sameKey a b ≡ false
 unfolding sameKey
-key-far a b e = rw (e, and-false (eqb (a .instance) (b .instance)), and-false (eqb (a .kind) (b .kind)))
+key-far a b e = simp (e, and-false)
 
 pub key-near : (a b : InstanceRow) → eqb (a .kind) (b .kind) ≡ true → same (a .dodagid) (b .dodagid) ≡ true
     → sameKey a b ≡ eqb (a .instance) (b .instance)
@@ -36,7 +36,7 @@ key-near a b k e = rw (k, e) (and-true (eqb (a .instance) (b .instance)))
 
 pub three-far : (a b : RouteRow) → same (a .destination) (b .destination) ≡ false → sameThree a b ≡ false
 unfolding sameThree
-three-far a b e = rw (e, and-false (same (a .source) (b .source)))
+three-far a b e = simp (e, and-false)
 
 -- ---- what rows of one key have in common
 

@@ -6,8 +6,6 @@ use Rattle.finish.proofs.Laws.{full-gives, done-gives}
 use borrow.Author.Needs.{needs}
 use Rattle.finish.proofs.finish.Statement.{statement}
 use Rattle.finish.proofs.finish.Proof.Tie as tie
-use Rattle.finish.proofs.finish.Proof.Lts as lts
-use Rattle.finish.proofs.Lent.finish.Reads as reads
 
 is-replying-requires : tie.Need-is-replying-requires
 is-replying-requires c = search needs

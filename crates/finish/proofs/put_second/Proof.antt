@@ -8,8 +8,6 @@ use Rattle.decision.specs.Decision.{replyIn}
 use borrow.Author.Needs.{needs}
 use Rattle.finish.proofs.put_second.Statement.{statement}
 use Rattle.finish.proofs.put_second.Proof.Tie as tie
-use Rattle.finish.proofs.put_second.Proof.Lts as lts
-use Rattle.finish.proofs.Lent.put_second.Reads as reads
 
 second-of-requires : tie.Need-second-of-requires
 second-of-requires c = search needs

@@ -4,8 +4,6 @@ use mathlib.Core.Path.{_∙_}
 use borrow.Author.Needs.{needs}
 use Rattle.finish.proofs.store.Statement.{statement}
 use Rattle.finish.proofs.store.Proof.Tie as tie
-use Rattle.finish.proofs.store.Proof.Lts as lts
-use Rattle.finish.proofs.Lent.store.Reads as reads
 
 row-of-requires : tie.Need-row-of-requires
 row-of-requires c = search needs

@@ -22,8 +22,6 @@ use Rattle.node.proofs.Answered.{Known, asking, lines, accept, reply-de
 use borrow.Author.Needs.{needs}
 use Rattle.node.proofs.take_reply.Statement.{statement}
 use Rattle.node.proofs.take_reply.Proof.Tie as tie
-use Rattle.node.proofs.take_reply.Proof.Lts as lts
-use Rattle.node.proofs.Lent.take_reply.Reads as reads
 
 -- ---- what is known
 

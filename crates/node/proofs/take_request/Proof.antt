@@ -15,8 +15,6 @@ use Rattle.node.proofs.Requested.{Known, asking, lines, accept, request
 use borrow.Author.Needs.{needs}
 use Rattle.node.proofs.take_request.Statement.{statement}
 use Rattle.node.proofs.take_request.Proof.Tie as tie
-use Rattle.node.proofs.take_request.Proof.Lts as lts
-use Rattle.node.proofs.Lent.take_request.Reads as reads
 
 -- ---- what is known
 

@@ -17,8 +17,6 @@ use Rattle.node.proofs.Laws.{start-answer, new-settled, new-ready}
 use borrow.Author.Needs.{needs}
 use Rattle.node.proofs.take_start.Statement.{statement}
 use Rattle.node.proofs.take_start.Proof.Tie as tie
-use Rattle.node.proofs.take_start.Proof.Lts as lts
-use Rattle.node.proofs.Lent.take_start.Reads as reads
 
 receiving-of-requires : tie.Need-receiving-of-requires
 receiving-of-requires c = search needs

@@ -1,9 +1,6 @@
 use borrow.Author.Needs.{needs}
 use Rattle.outcome.proofs.refused.Statement.{statement}
 use Rattle.outcome.proofs.refused.Tie as tie
-use Rattle.outcome.proofs.refused.Reads as reads
-use Rattle.outcome.proofs.refused.Lts as lts
-use Rattle.outcome.proofs.nothing.Reads as nothing-reads
 
 nothing-requires : tie.Need-nothing-requires
 nothing-requires c κs = search needs

@@ -5,8 +5,6 @@ use Rattle.place.proofs.Laws.{route-become, route-new, route-none}
 use borrow.Author.Needs.{needs}
 use Rattle.place.proofs.place_route.Statement.{statement}
 use Rattle.place.proofs.place_route.Proof.Tie as tie
-use Rattle.place.proofs.place_route.Proof.Lts as lts
-use Rattle.place.proofs.Lent.place_route.Reads as reads
 
 route-to-requires : tie.Need-route-to-requires
 route-to-requires c = search needs

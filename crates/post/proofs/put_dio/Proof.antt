@@ -7,8 +7,6 @@ use Rattle.post.proofs.Laws.{grown-sendable, grown-written, plain-senda
 use borrow.Author.Needs.{needs}
 use Rattle.post.proofs.put_dio.Statement.{statement}
 use Rattle.post.proofs.put_dio.Proof.Tie as tie
-use Rattle.post.proofs.put_dio.Proof.Lts as lts
-use Rattle.post.proofs.Lent.put_dio.Reads as reads
 
 addresses-of-requires : tie.Need-addresses-of-requires
 addresses-of-requires c = search needs

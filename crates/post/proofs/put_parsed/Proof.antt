@@ -5,8 +5,6 @@ use Rattle.post.proofs.Laws.{parts-fit, parts-written}
 use borrow.Author.Needs.{needs}
 use Rattle.post.proofs.put_parsed.Statement.{statement}
 use Rattle.post.proofs.put_parsed.Proof.Tie as tie
-use Rattle.post.proofs.put_parsed.Proof.Lts as lts
-use Rattle.post.proofs.Lent.put_parsed.Reads as reads
 
 base-of-requires : tie.Need-base-of-requires
 base-of-requires c = search needs

@@ -6,8 +6,6 @@ use Rattle.post.proofs.Laws.{turned-path, straight-path}
 use borrow.Author.Needs.{needs}
 use Rattle.post.proofs.put_route_path.Statement.{statement}
 use Rattle.post.proofs.put_route_path.Proof.Tie as tie
-use Rattle.post.proofs.put_route_path.Proof.Lts as lts
-use Rattle.post.proofs.Lent.put_route_path.Reads as reads
 
 addresses-of-requires : tie.Need-addresses-of-requires
 addresses-of-requires c = search needs

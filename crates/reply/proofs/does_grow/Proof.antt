@@ -3,21 +3,16 @@ use Rattle.message.specs.Message.{messageIn}
 use Rattle.reply.specs.Facts.{answeredOf}
 use Rattle.reply.proofs.does_grow.Statement.{statement}
 use Rattle.reply.proofs.does_grow.Tie as tie
-use Rattle.reply.proofs.does_grow.Reads as reads
-use Rattle.reply.proofs.does_grow.Lts as lts
 use Rattle.lemmas.proofs.Cases.{cases}
 
--- src/lib.rt:203:9
 returns : tie.Need-returns
 unfolding grows answeredOf messageIn
 returns c = λ v. search (c .if1 .taken, cases)
 
--- src/lib.rt:206:9
 returns-2 : tie.Need-returns-2
 unfolding grows answeredOf messageIn
 returns-2 c = λ v. search (c .if2 .taken, c .before .if1 .left, cases)
 
--- src/lib.rt:199:1
 returns-3 : tie.Need-returns-3
 unfolding grows answeredOf messageIn
 returns-3 c = λ v. search (c .before .if2 .left, c .before .before .if1 .left, cases)

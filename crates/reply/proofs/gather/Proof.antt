@@ -6,35 +6,22 @@ use mathlib.Core.Path.{refl}
 use borrow.Author.Needs.{needs}
 use Rattle.reply.proofs.gather.Statement.{statement}
 use Rattle.reply.proofs.gather.Tie as tie
-use Rattle.reply.proofs.gather.Reads as reads
-use Rattle.reply.proofs.gather.Lts as lts
-use Rattle.own.proofs.is_ours.Reads as is-ours-reads
-use Rattle.reply.proofs.dest_seq.Reads as dest-seq-reads
-use Rattle.reply.proofs.how_it_stands.Reads as how-it-stands-reads
-use Rattle.reply.proofs.is_symmetric.Reads as is-symmetric-reads
-use Rattle.reply.proofs.own_rank.Reads as own-rank-reads
 
--- src/lib.rt:126:9
 is-symmetric-requires : tie.Need-is-symmetric-requires
 is-symmetric-requires c κs = search needs
 
--- src/lib.rt:127:9
 own-rank-requires : tie.Need-own-rank-requires
 own-rank-requires c κs = search needs
 
--- src/lib.rt:129:9
 is-ours-requires : tie.Need-is-ours-requires
 is-ours-requires c κs = search needs
 
--- src/lib.rt:130:9
 dest-seq-requires : tie.Need-dest-seq-requires
 dest-seq-requires c κs = search needs
 
--- src/lib.rt:131:9
 how-it-stands-requires : tie.Need-how-it-stands-requires
 how-it-stands-requires c κs = search needs
 
--- src/lib.rt:123:1
 returns : tie.Need-returns
 unfolding answeredOf answeredWith messageIn requestOf
 returns c = λ v. record {

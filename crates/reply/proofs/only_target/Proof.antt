@@ -5,18 +5,13 @@ use mathlib.Core.Path.{_≡_, refl, sym}
 use borrow.Author.Needs.{needs}
 use Rattle.reply.proofs.only_target.Statement.{statement}
 use Rattle.reply.proofs.only_target.Tie as tie
-use Rattle.reply.proofs.only_target.Reads as reads
-use Rattle.reply.proofs.only_target.Lts as lts
 
--- src/lib.rt:58:9
 returns : tie.Need-returns
 returns c = rw (c .if1 .taken) refl
 
--- src/lib.rt:64:5
 array-copy-out-result : tie.Need-array-copy-out-result
 array-copy-out-result c = search needs
 
--- src/lib.rt:54:1
 returns-2 : tie.Need-returns-2
 returns-2 c =
     let s = c .before .before .args in

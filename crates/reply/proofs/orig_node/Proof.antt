@@ -4,15 +4,10 @@ use mathlib.Core.Path.{ap}
 use borrow.Author.Needs.{needs}
 use Rattle.reply.proofs.orig_node.Statement.{statement}
 use Rattle.reply.proofs.orig_node.Tie as tie
-use Rattle.reply.proofs.orig_node.Reads as reads
-use Rattle.reply.proofs.orig_node.Lts as lts
-use Rattle.reply.proofs.only_target.Reads as only-target-reads
 
--- src/lib.rt:72:9
 only-target-requires : tie.Need-only-target-requires
 only-target-requires c κs = search needs
 
--- src/lib.rt:68:1
 returns : tie.Need-returns
 unfolding messageIn
 returns c = λ v. ap (λ (t : Target). t .addr) (c .before .only-target .ensures)

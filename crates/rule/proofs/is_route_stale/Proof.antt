@@ -4,31 +4,22 @@ use Rattle.row.specs.Meaning.{routeIn}
 use borrow.Author.Needs.{needs}
 use Rattle.rule.proofs.is_route_stale.Statement.{statement}
 use Rattle.rule.proofs.is_route_stale.Tie as tie
-use Rattle.rule.proofs.is_route_stale.Reads as reads
-use Rattle.rule.proofs.is_route_stale.Lts as lts
-use Rattle.sequence.proofs.compare.Reads as compare-reads
-use Rattle.sequence.proofs.is_outdated.Reads as is-outdated-reads
 use Rattle.lemmas.proofs.Cases.{cases}
 
--- src/lib.rt:69:42
 compare-requires : tie.Need-compare-requires
 compare-requires c κs = search needs
 
--- src/lib.rt:69:13
 is-outdated-requires : tie.Need-is-outdated-requires
 is-outdated-requires c κs = search needs
 
--- src/lib.rt:69:13
 returns : tie.Need-returns
 unfolding routeStale routeFound routeIn
 returns c = search (← c .is-outdated .ensures, ← c .before .compare .ensures, c .before .before .before .if2 .taken, c .before .before .before .before .if1 .taken, cases)
 
--- src/lib.rt:71:9
 returns-2 : tie.Need-returns-2
 unfolding routeStale routeFound routeIn
 returns-2 c = search (c .if2 .left, c .before .if1 .taken, cases)
 
--- src/lib.rt:63:1
 returns-3 : tie.Need-returns-3
 unfolding routeStale routeFound routeIn
 returns-3 c = search (c .if1 .left, cases)

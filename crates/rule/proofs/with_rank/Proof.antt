@@ -1,11 +1,8 @@
 use Rattle.plain.specs.Request.{withRank}
 use Rattle.rule.proofs.with_rank.Statement.{statement}
 use Rattle.rule.proofs.with_rank.Tie as tie
-use Rattle.rule.proofs.with_rank.Reads as reads
-use Rattle.rule.proofs.with_rank.Lts as lts
 use Rattle.lemmas.proofs.Cases.{cases}
 
--- src/lib.rt:96:1
 returns : tie.Need-returns
 unfolding withRank
 returns c = search cases

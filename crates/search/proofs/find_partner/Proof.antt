@@ -12,8 +12,6 @@ use Rattle.search.specs.Seen.{partnerHere}
 use borrow.Author.Needs.{needs}
 use Rattle.search.proofs.find_partner.Statement.{statement}
 use Rattle.search.proofs.find_partner.Proof.Tie as tie
-use Rattle.search.proofs.find_partner.Proof.Lts as lts
-use Rattle.search.proofs.Lent.find_partner.Reads as reads
 
 abbrev Inv-loop : tie.InvT-loop
 Inv-loop rows t instance dodagid h i₀ i = first (partnerHere t instance dodagid h) (map instanceOf rows) ≡ i + first (partnerHere t instance dodagid h) (map instanceOf (drop i rows))

@@ -6,8 +6,6 @@ use Rattle.search.proofs.Laws.{Tried, tried-none, tried-more, tried-fre
 use borrow.Author.Needs.{needs}
 use Rattle.search.proofs.free_delta.Statement.{statement}
 use Rattle.search.proofs.free_delta.Proof.Tie as tie
-use Rattle.search.proofs.free_delta.Proof.Lts as lts
-use Rattle.search.proofs.Lent.free_delta.Reads as reads
 
 abbrev Inv-loop : tie.InvT-loop
 Inv-loop rows t instance dodagid delta₀ delta = (delta ≤ 64) × Tried rows t instance dodagid delta

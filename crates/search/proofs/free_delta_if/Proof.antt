@@ -5,8 +5,6 @@ use Rattle.lemmas.proofs.Choice.{true-false}
 use borrow.Author.Needs.{needs}
 use Rattle.search.proofs.free_delta_if.Statement.{statement}
 use Rattle.search.proofs.free_delta_if.Proof.Tie as tie
-use Rattle.search.proofs.free_delta_if.Proof.Lts as lts
-use Rattle.search.proofs.Lent.free_delta_if.Reads as reads
 
 free-delta-requires : tie.Need-free-delta-requires
 free-delta-requires c = search needs

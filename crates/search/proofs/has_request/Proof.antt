@@ -11,8 +11,6 @@ use Rattle.search.proofs.Laws.{requestAsk, hit, miss}
 use borrow.Author.Needs.{needs}
 use Rattle.search.proofs.has_request.Statement.{statement}
 use Rattle.search.proofs.has_request.Proof.Tie as tie
-use Rattle.search.proofs.has_request.Proof.Lts as lts
-use Rattle.search.proofs.Lent.has_request.Reads as reads
 
 find-request-requires : tie.Need-find-request-requires
 find-request-requires c = search needs

@@ -4,27 +4,19 @@ use Rattle.search.proofs.Laws.{partner-not, partner-off, partner-on}
 use borrow.Author.Needs.{needs}
 use Rattle.search.proofs.is_partner.Statement.{statement}
 use Rattle.search.proofs.is_partner.Tie as tie
-use Rattle.search.proofs.is_partner.Reads as reads
-use Rattle.search.proofs.is_partner.Lts as lts
-use Rattle.live.proofs.is_request.Reads as is-request-reads
 
--- src/lib.rt:24:8
 is-request-requires : tie.Need-is-request-requires
 is-request-requires c κs = search needs
 
--- src/lib.rt:27:17
 returns : tie.Need-returns
 returns c = sym (partner-off (c .before .before .before .before .before .args .r) (c .before .before .before .before .before .args .t) (c .before .before .before .before .before .args .instance) (c .before .before .before .before .before .args .dodagid) (c .before .before .before .before .before .args .h) (sym (c .before .before .before .before .is-request .ensures) ∙ c .before .before .before .if1 .taken) (c .before .if2 .taken) ∙ ap not (c .if3 .taken))
 
--- src/lib.rt:29:13
 returns-2 : tie.Need-returns-2
 returns-2 c = sym (partner-off (c .before .before .before .before .before .args .r) (c .before .before .before .before .before .args .t) (c .before .before .before .before .before .args .instance) (c .before .before .before .before .before .args .dodagid) (c .before .before .before .before .before .args .h) (sym (c .before .before .before .before .is-request .ensures) ∙ c .before .before .before .if1 .taken) (c .before .if2 .taken) ∙ ap not (c .if3 .left))
 
--- src/lib.rt:31:9
 returns-3 : tie.Need-returns-3
 returns-3 c = sym (partner-on (c .before .before .before .before .args .r) (c .before .before .before .before .args .t) (c .before .before .before .before .args .instance) (c .before .before .before .before .args .dodagid) (c .before .before .before .before .args .h) (sym (c .before .before .before .is-request .ensures) ∙ c .before .before .if1 .taken) (c .if2 .left))
 
--- src/lib.rt:21:1
 returns-4 : tie.Need-returns-4
 returns-4 c = sym (partner-not (c .before .before .args .r) (c .before .before .args .t) (c .before .before .args .instance) (c .before .before .args .dodagid) (c .before .before .args .h) (sym (c .before .is-request .ensures) ∙ c .if1 .left))
 

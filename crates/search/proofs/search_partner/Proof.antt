@@ -8,8 +8,6 @@ use Rattle.search.proofs.Laws.{partnerAsk, hit, miss}
 use borrow.Author.Needs.{needs}
 use Rattle.search.proofs.search_partner.Statement.{statement}
 use Rattle.search.proofs.search_partner.Proof.Tie as tie
-use Rattle.search.proofs.search_partner.Proof.Lts as lts
-use Rattle.search.proofs.Lent.search_partner.Reads as reads
 
 find-partner-requires : tie.Need-find-partner-requires
 find-partner-requires c = search needs

@@ -8,8 +8,6 @@ use Rattle.search.proofs.Laws.{replyAsk, hit, miss, hit-live, live-hit,
 use borrow.Author.Needs.{needs}
 use Rattle.search.proofs.search_reply.Statement.{statement}
 use Rattle.search.proofs.search_reply.Proof.Tie as tie
-use Rattle.search.proofs.search_reply.Proof.Lts as lts
-use Rattle.search.proofs.Lent.search_reply.Reads as reads
 
 find-reply-requires : tie.Need-find-reply-requires
 find-reply-requires c = search needs

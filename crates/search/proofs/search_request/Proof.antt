@@ -10,8 +10,6 @@ use Rattle.search.proofs.Laws.{requestAsk, hit, miss, hit-live, hit-kin
 use borrow.Author.Needs.{needs}
 use Rattle.search.proofs.search_request.Statement.{statement}
 use Rattle.search.proofs.search_request.Proof.Tie as tie
-use Rattle.search.proofs.search_request.Proof.Lts as lts
-use Rattle.search.proofs.Lent.search_request.Reads as reads
 
 find-request-requires : tie.Need-find-request-requires
 find-request-requires c = search needs

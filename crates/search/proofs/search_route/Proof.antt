@@ -8,8 +8,6 @@ use Rattle.search.proofs.Laws.{routeAsk, hit, miss, hit-live, live-rout
 use borrow.Author.Needs.{needs}
 use Rattle.search.proofs.search_route.Statement.{statement}
 use Rattle.search.proofs.search_route.Proof.Tie as tie
-use Rattle.search.proofs.search_route.Proof.Lts as lts
-use Rattle.search.proofs.Lent.search_route.Reads as reads
 
 find-route-requires : tie.Need-find-route-requires
 find-route-requires c = search needs
