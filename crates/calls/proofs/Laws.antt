@@ -1,16 +1,17 @@
 -- From the tests of a public call to what the plain node answers.
-use Prim.Native.Nat.{ℕ, _-_, _/_, _≤_, _<_, _^_}
+use Prim.Native.Nat.{ℕ, _-_, _/_, _≤_, _<_}
 use mathlib.Core.Path.{_≡_, refl, sym, ap, ap₂, _∙_}
 use mathlib.Core.Bool.{Bool, true, false, cond, _||_}
 use mathlib.Core.List.{List, [], map}
 use mathlib.Core.Option.{Option, some, none}
 use native.Mathlib.Omega.{arith}
-use lib.Dec.{eqb, ltb}
+use lib.Dec.{eqb}
 use lib.ListN.{length, take, drop}
-use borrow.Author.Tests.{lt-ltb, le-ltb, ltb-false}
+use borrow.Author.Tests.{lt-ltb, le-ltb}
+use Rattle.lemmas.proofs.Rules.{lent-bounds}
 use Rattle.lemmas.proofs.Choice.{true-false, and-left}
 use Rattle.plain.specs.Lists.{anyTwo}
-use Rattle.plain.specs.Address.{Address, unusable}
+use Rattle.plain.specs.Address.{Address}
 use Rattle.plain.specs.Given.{Settings, Lent, Received, RequestRow, Event, Call, State}
 use Rattle.plain.specs.Table.{Numbered}
 use Rattle.plain.specs.Octets.{Message, hear, messageOf, restored}
@@ -85,24 +86,7 @@ pub record Admitted (h : Handed) (e : Event) : Type 0 where
   pub event : isBadEvent e ≡ false
   pub state : isWrong h ≡ false
 
--- ---- what a call that is not 1, and a state that is not 2, tell
-
-module _ (x : Settings) (clock : ℕ) (c : Lent) (e : badLent x clock c ≡ false) where
-  bounds : (clock ≤ c .time) × (c .time ≤ 2 ^ 40) × (1236 ≤ c .forwardRoom) × (1236 ≤ c .replyRoom)
-  unfolding badLent
-  bounds =
-      go (ltb (c .time) clock) (ltb (2 ^ 40) (c .time)) (ltb (c .forwardRoom) 1236) (ltb (c .replyRoom) 1236) (unusable (x .receiving)) (unusable (x .sending)) refl refl refl refl e
-    where
-      go : (p q r s u v : Bool) → ltb (c .time) clock ≡ p → ltb (2 ^ 40) (c .time) ≡ q → ltb (c .forwardRoom) 1236 ≡ r → ltb (c .replyRoom) 1236 ≡ s
-          → p || q || r || s || u || v ≡ false
-          → (clock ≤ c .time) × (c .time ≤ 2 ^ 40) × (1236 ≤ c .forwardRoom) × (1236 ≤ c .replyRoom)
-      go false false false false u v a b d f z =
-          (ltb-false (c .time) clock a, ltb-false (2 ^ 40) (c .time) b, ltb-false (c .forwardRoom) 1236 d, ltb-false (c .replyRoom) 1236 f)
-      go true q r s u v a b d f z = true-false z
-      go false true r s u v a b d f z = true-false z
-      go false false true s u v a b d f z = true-false z
-      go false false false true u v a b d f z = true-false z
-
+-- a state that is not 2: each row is good
 good-is : (good : Bool) (v : View) → wrongState good v ≡ false → good ≡ true
 unfolding wrongState
 good-is true v e = refl
@@ -250,7 +234,7 @@ module _ {h : Handed} {k : Link} {octets : List ℕ} {r : Reading} (read : Read 
 module _ {h : Handed} {k : Link} {octets : List ℕ} {r : Reading} {p : Parsed} {v : List Address} (u : Understood h k octets r p v) where
   pub taken : Taken (h .clock) (h .time) (h .rows) (h .forward) (h .reply) p
   taken =
-      let b = bounds (h .settings) (h .clock) (lentIn h) (u .read .admitted .lent) in
+      let b = lent-bounds (h .settings) (h .clock) (lentIn h) (u .read .admitted .lent) in
       record {
         later = b .0;
         time = b .1;
@@ -301,7 +285,7 @@ module _ {h : Handed} {s : Asking} {targets : List Target} (q : Admitted h (Even
 
   pub taken-start : TakenStart (h .clock) (h .time) (h .forward) (h .reply) s ts
   taken-start =
-      let b = bounds (h .settings) (h .clock) (lentIn h) (q .lent) in
+      let b = lent-bounds (h .settings) (h .clock) (lentIn h) (q .lent) in
       record {
         later = b .0;
         forwardRoom = b .2;

@@ -1,20 +1,21 @@
 -- Facts of the plain node's definitions that crates use which do not see each other.
-use Prim.Native.Nat.{ℕ, _+_, _-_, _*_, _/_, _<_, _≤_}
+use Prim.Native.Nat.{ℕ, _+_, _-_, _*_, _/_, _^_, _<_, _≤_}
 use mathlib.Core.Path.{_≡_, refl, ap}
-use mathlib.Core.Bool.{Bool, true, false, cond}
+use mathlib.Core.Bool.{Bool, true, false, cond, _||_}
 use mathlib.Core.List.{List, [], _∷_, flatten}
 use mathlib.Core.Option.{Option, some, none}
 use native.Mathlib.Omega.{arith}
 use native.Mathlib.Nat.{suc-mul}
-use lib.Dec.{eqb}
+use lib.Dec.{eqb, ltb}
 use lib.ListN.{length, drop, length-append, length-drop}
-use borrow.Author.Tests.{ltb-true, lt-ltb}
-use Rattle.plain.specs.Answers.{Line, answerOf, ofKind}
-use Rattle.plain.specs.Address.{Address, keepBits}
+use borrow.Author.Tests.{ltb-true, ltb-false, lt-ltb}
+use Rattle.plain.specs.Given.{Settings, Lent}
+use Rattle.plain.specs.Answers.{Line, answerOf, ofKind, badLent}
+use Rattle.plain.specs.Address.{Address, keepBits, unusable}
 use Rattle.plain.specs.Octets.{prefixOctets, elided}
 use Rattle.plain.specs.Table.{Numbered, lasts}
 use Rattle.lemmas.specs.Each.{WholeVector}
-use Rattle.lemmas.proofs.Choice.{cond-case}
+use Rattle.lemmas.proofs.Choice.{cond-case, or-left, or-right}
 
 -- a prefix has no more octets than an address
 pub most-octets : (plen : ℕ) → plen < 128 → prefixOctets plen ≤ 16
@@ -58,3 +59,18 @@ unheld l ls e h = go (l .holds) refl e
     go : (b : Bool) → l .holds ≡ b → cond b (l .number) (answerOf ls) ≡ 0 → (l .holds ≡ false) × (answerOf ls ≡ 0)
     go true f e = absurd (omega arith)
     go false f e = (f, e)
+
+-- what line 1 leaves of what every call is lent
+pub lent-bounds : (x : Settings) (clock : ℕ) (c : Lent) → badLent x clock c ≡ false
+    → (clock ≤ c .time) × (c .time ≤ 2 ^ 40) × (1236 ≤ c .forwardRoom) × (1236 ≤ c .replyRoom)
+unfolding badLent
+lent-bounds x clock c e =
+    let d = or-left _ (unusable (x .sending)) e in
+    let f = or-left _ (unusable (x .receiving)) d in
+    let g = or-left _ (ltb (c .replyRoom) 1236) f in
+    let h = or-left _ (ltb (c .forwardRoom) 1236) g in (
+      ltb-false (c .time) clock (or-left (ltb (c .time) clock) _ h),
+      ltb-false (2 ^ 40) (c .time) (or-right (ltb (c .time) clock) _ h),
+      ltb-false (c .forwardRoom) 1236 (or-right (ltb (c .time) clock || ltb (2 ^ 40) (c .time)) _ g),
+      ltb-false (c .replyRoom) 1236 (or-right (ltb (c .time) clock || ltb (2 ^ 40) (c .time) || ltb (c .forwardRoom) 1236) _ f),
+    )

@@ -3,16 +3,15 @@ use Prim.Native.Nat.{ℕ, _^_, _≤_}
 use mathlib.Core.Path.{_≡_, refl}
 use mathlib.Core.Bool.{Bool, true, false, _||_}
 use native.Mathlib.Omega.{arith}
-use lib.Dec.{eqb, ltb}
-use borrow.Author.Tests.{ltb-false, eqb-true}
-use Rattle.plain.specs.Address.{unusable}
+use lib.Dec.{eqb}
+use borrow.Author.Tests.{eqb-true}
 use Rattle.plain.specs.Given.{Settings, Lent, Received, Start, Event, Call}
 use Rattle.plain.specs.Answers.{answerOf, View, badLent, badStart}
 use Rattle.plain.specs.Octets.{messageOf, tooMany}
 use Rattle.plain.specs.Request.{startTargets, startLines}
 use Rattle.plain.specs.Plain.{messageLines, lines, accept, Decision, decide}
 use Rattle.lemmas.proofs.Choice.{cond-case, true-false}
-use Rattle.lemmas.proofs.Rules.{unheld}
+use Rattle.lemmas.proofs.Rules.{unheld, lent-bounds}
 
 -- the first three of six tests
 pub none-of-six : (a b c d e f : Bool) → a || b || c || d || e || f ≡ false → (a ≡ false) × (b ≡ false) × (c ≡ false)
@@ -23,11 +22,9 @@ none-of-six false false false d e f h = (refl, refl, refl)
 
 -- what line 1 leaves of a call's time
 in-time : (x : Settings) (clock : ℕ) (c : Lent) → badLent x clock c ≡ false → (clock ≤ c .time) × (c .time ≤ 2 ^ 40)
-unfolding badLent
 in-time x clock c e =
-    let k = none-of-six (ltb (c .time) clock) (ltb (2 ^ 40) (c .time)) (ltb (c .forwardRoom) 1236) (ltb (c .replyRoom) 1236)
-    (unusable (x .receiving)) (unusable (x .sending)) e in
-    (ltb-false (c .time) clock (k .0), ltb-false (2 ^ 40) (c .time) (k .1))
+    let b = lent-bounds x clock c e in
+    (b .0, b .1)
 
 -- a message that no line refuses
 pub heard : (x : Settings) (good : Bool) (v : View) (c : Lent) (r : Received) → answerOf (lines x good v c (Event.message r)) ≡ 0

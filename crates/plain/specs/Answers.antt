@@ -41,7 +41,7 @@ viewOf s = record {
   routes = liveRows routeDeadline (s .clock) (s .routes);
 }
 
--- an instance row is a request row or a reply row
+-- an instance row is a request row or a reply row: the one, or the other, that it is
 abbrev pub asRequest : Instance → Option RequestRow
 asRequest (Instance.request r) = some r
 asRequest (Instance.reply r) = none
@@ -104,10 +104,11 @@ badLent x clock c =
 unfoldable pub longMessage : List ℕ → Bool
 longMessage octets = ltb 1236 (length octets)
 
--- "a target prefix over 127", which the field's seven bits do not hold
+-- "a target prefix over 127": more than the field's seven bits hold
 abbrev pub longPrefix : Target → Bool
 longPrefix t = ltb 127 (t .plen)
 
+-- and one that is not
 abbrev pub shortPrefix : Target → Bool
 shortPrefix t = leb (t .plen) 127
 
@@ -138,7 +139,7 @@ goodInstance (Instance.reply r) = goodDeadline (r .deadline)
 unfoldable pub goodRoute : Route → Bool
 goodRoute r = goodDeadline (r .deadline)
 
--- each row in use is good, a dead one too
+-- a row is good if it is not in use, or good; each row in use is asked, a dead one too
 abbrev pub goodIf : {A : Type 0} → (A → Bool) → Option A → Bool
 goodIf good none = true
 goodIf good (some r) = good r

@@ -201,7 +201,8 @@ requestLines x c m a =
 abbrev pub sOut : Received → Message → Bool
 sOut c m = m .discovery .flag && c .downward
 
--- "equal and lower rank updates the row: .. the deadline stays"; else the deadline is from L
+-- "equal and lower rank updates the row: .. the deadline stays"; else the deadline is from L. For request rows and reply rows alike:
+-- `deadline` tells a row's.
 unfoldable pub keptDeadline : {A : Type 0} → (A → Option ℕ) → Standing → Option (Numbered A) → ℕ → ℕ → Option ℕ
 keptDeadline deadline st none t l = rowDeadline t l
 keptDeadline deadline st (some n) t l = cond (isUpdate st) (deadline (n .row)) (rowDeadline t l)

@@ -10,7 +10,6 @@ use Rattle.plain.specs.Given.{Settings, RequestRow}
 use Rattle.plain.specs.Request.{keptDeadline, sOut, repliesNow, requestRow, ownReplyRow}
 use Rattle.deadline.specs.Deadline.{deadlineOf}
 use Rattle.deadline.specs.declared.Deadline.{Deadline}
-use Rattle.row.specs.Meaning as meaning
 use Rattle.row.specs.Record.{requestRecord}
 use Rattle.message.specs.Message.{configurationIn, messageIn, receivedBy, requestFound}
 use Rattle.message.specs.declared.Parsed.{Parsed}

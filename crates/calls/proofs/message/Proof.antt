@@ -12,8 +12,6 @@ use Rattle.calls.proofs.Laws.{Handed, isBad, isBadEvent, Admitted, Read
 use borrow.Author.Needs.{needs}
 use Rattle.calls.proofs.message.Statement.{statement}
 use Rattle.calls.proofs.message.Proof.Tie as tie
-use Rattle.calls.proofs.message.Proof.Lts as lts
-use Rattle.calls.proofs.Lent.message.Reads as reads
 
 -- ---- what is handed in
 

@@ -10,8 +10,6 @@ use Rattle.calls.proofs.Laws.{Handed, isBad, isBadEvent, Admitted, bad-
 use borrow.Author.Needs.{needs}
 use Rattle.calls.proofs.start.Statement.{statement}
 use Rattle.calls.proofs.start.Proof.Tie as tie
-use Rattle.calls.proofs.start.Proof.Lts as lts
-use Rattle.calls.proofs.Lent.start.Reads as reads
 
 -- ---- what is handed in
 

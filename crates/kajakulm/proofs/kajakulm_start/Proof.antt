@@ -4,8 +4,6 @@ use borrow.Author.Needs.{needs}
 use Rattle.kajakulm.proofs.Laws.{tallied}
 use Rattle.kajakulm.proofs.kajakulm_start.Statement.{statement}
 use Rattle.kajakulm.proofs.kajakulm_start.Proof.Tie as tie
-use Rattle.kajakulm.proofs.kajakulm_start.Proof.Lts as lts
-use Rattle.kajakulm.proofs.Lent.kajakulm_start.Reads as reads
 
 asking-of-requires : tie.Need-asking-of-requires
 asking-of-requires c = search needs

@@ -2,9 +2,6 @@ use Prim.Native.Nat.{_-_, _≤_}
 use lib.ListN.{length}
 use Rattle.octets_main.proofs.print_octets.Statement.{statement}
 use Rattle.octets_main.proofs.print_octets.Tie as tie
-use Rattle.octets_main.proofs.print_octets.Reads as reads
-use Rattle.octets_main.proofs.print_octets.Lts as lts
-use Rattle.octets_main.proofs.print_octet.Reads as print-octet-reads
 use Rattle.lemmas.proofs.Cases.{cases}
 
 abbrev Inv-loop : tie.InvT-loop
@@ -13,31 +10,24 @@ Inv-loop s i₀ i = (i ≤ length s)
 abbrev μ-loop : tie.MeasureT-loop
 μ-loop s i₀ i = length s - i
 
--- src/main.rt:45:5
 loop-holds : tie.Need-loop-holds Inv-loop μ-loop
 loop-holds c = search cases
 
--- src/main.rt:46:21
 shared-slice-read-print-octet : tie.Need-shared-slice-read-print-octet Inv-loop μ-loop
 shared-slice-read-print-octet c = search cases
 
--- src/main.rt:46:9
 print-octet-requires : tie.Need-print-octet-requires Inv-loop μ-loop
 print-octet-requires c κs = search cases
 
--- src/main.rt:47:13
 add-i : tie.Need-add-i Inv-loop μ-loop
 add-i c = search cases
 
--- src/main.rt:45:5
 loop-less : tie.Need-loop-less Inv-loop μ-loop
 loop-less c = search cases
 
--- src/main.rt:45:5
 loop-again : tie.Need-loop-again Inv-loop μ-loop
 loop-again c = search cases
 
--- src/main.rt:43:1
 returns : tie.Need-returns Inv-loop μ-loop
 returns c = search cases
 

@@ -1,10 +1,6 @@
 use Prim.Native.Nat.{_-_, _≤_}
 use Rattle.octets_main.proofs.print_targets.Statement.{statement}
 use Rattle.octets_main.proofs.print_targets.Tie as tie
-use Rattle.octets_main.proofs.print_targets.Reads as reads
-use Rattle.octets_main.proofs.print_targets.Lts as lts
-use Rattle.octets_main.proofs.print_decimal.Reads as print-decimal-reads
-use Rattle.octets_main.proofs.print_target.Reads as print-target-reads
 use Rattle.lemmas.proofs.Cases.{cases}
 
 abbrev Inv-loop : tie.InvT-loop
@@ -13,43 +9,33 @@ Inv-loop count ts i₀ i = (i ≤ count)
 abbrev μ-loop : tie.MeasureT-loop
 μ-loop count ts i₀ i = count - i
 
--- src/main.rt:102:5
 print-decimal-requires : tie.Need-print-decimal-requires Inv-loop μ-loop
 print-decimal-requires c κs = search cases
 
--- src/main.rt:104:5
 loop-holds : tie.Need-loop-holds Inv-loop μ-loop
 loop-holds c = search cases
 
--- src/main.rt:106:13
 returns : tie.Need-returns Inv-loop μ-loop
 returns c = search cases
 
--- src/main.rt:108:17
 mul-t : tie.Need-mul-t Inv-loop μ-loop
 mul-t c = search cases
 
--- src/main.rt:108:17
 array-copy-out-t : tie.Need-array-copy-out-t Inv-loop μ-loop
 array-copy-out-t c = search cases
 
--- src/main.rt:109:9
 print-target-requires : tie.Need-print-target-requires Inv-loop μ-loop
 print-target-requires c κs = search cases
 
--- src/main.rt:110:13
 add-i : tie.Need-add-i Inv-loop μ-loop
 add-i c = search cases
 
--- src/main.rt:104:5
 loop-less : tie.Need-loop-less Inv-loop μ-loop
 loop-less c = search cases
 
--- src/main.rt:104:5
 loop-again : tie.Need-loop-again Inv-loop μ-loop
 loop-again c = search cases
 
--- src/main.rt:101:1
 returns-2 : tie.Need-returns-2 Inv-loop μ-loop
 returns-2 c = search cases
 

@@ -3,71 +3,49 @@ use Rattle.reader.specs.Reading.{refusalNumber}
 use borrow.Author.Needs.{needs}
 use Rattle.octets_main.proofs.show.Statement.{statement}
 use Rattle.octets_main.proofs.show.Tie as tie
-use Rattle.octets_main.proofs.show.Reads as reads
-use Rattle.octets_main.proofs.show.Lts as lts
-use Rattle.io.proofs.print_decimal.Reads as number-print-decimal-reads
-use Rattle.io.proofs.write_all.Reads as write-all-reads
-use Rattle.octets_main.proofs.print_decimal.Reads as print-decimal-reads
-use Rattle.octets_main.proofs.print_message.Reads as print-message-reads
-use Rattle.reader.proofs.read.Reads as read-reads
 
--- src/main.rt:151:5
 print-decimal-requires : tie.Need-print-decimal-requires
 print-decimal-requires c κs = search needs
 
--- src/main.rt:152:9
 read-requires : tie.Need-read-requires
 read-requires c κs = search needs
 
--- src/main.rt:155:27
 enum-told : tie.Need-enum-told
 enum-told c = search needs
 
--- src/main.rt:155:27
 print-message-requires : tie.Need-print-message-requires
 print-message-requires c κs = c .before .before .read .ensures .1 (ap refusalNumber (c .enum-told .given .1))
 
--- src/main.rt:156:31
 enum-told-2 : tie.Need-enum-told-2
 enum-told-2 c = search needs
 
--- src/main.rt:156:31
 print-decimal-requires-2 : tie.Need-print-decimal-requires-2
 print-decimal-requires-2 c κs = search needs
 
--- src/main.rt:157:27
 enum-told-3 : tie.Need-enum-told-3
 enum-told-3 c = search needs
 
--- src/main.rt:157:27
 print-decimal-requires-3 : tie.Need-print-decimal-requires-3
 print-decimal-requires-3 c κs = search needs
 
--- src/main.rt:158:30
 enum-told-4 : tie.Need-enum-told-4
 enum-told-4 c = search needs
 
--- src/main.rt:158:30
 print-decimal-requires-4 : tie.Need-print-decimal-requires-4
 print-decimal-requires-4 c κs = search needs
 
--- src/main.rt:159:29
 enum-told-5 : tie.Need-enum-told-5
 enum-told-5 c = search needs
 
--- src/main.rt:159:29
 print-decimal-requires-5 : tie.Need-print-decimal-requires-5
 print-decimal-requires-5 c κs = search needs
 
--- src/main.rt:161:22
 slice-aggregate-write-all : tie.Need-slice-aggregate-write-all
 slice-aggregate-write-all c = search needs
 
--- src/main.rt:161:5
 write-all-requires : tie.Need-write-all-requires
 write-all-requires c κs = search needs
 
--- src/main.rt:150:1
 returns : tie.Need-returns
 returns c = search needs
 

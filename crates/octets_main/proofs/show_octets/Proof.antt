@@ -3,52 +3,37 @@ use lib.Seq.{length-take-le}
 use borrow.Author.Needs.{needs}
 use Rattle.octets_main.proofs.show_octets.Statement.{statement}
 use Rattle.octets_main.proofs.show_octets.Tie as tie
-use Rattle.octets_main.proofs.show_octets.Reads as reads
-use Rattle.octets_main.proofs.show_octets.Lts as lts
-use Rattle.io.proofs.read_full.Reads as read-full-reads
-use Rattle.octets_main.proofs.show.Reads as show-reads
 
--- src/main.rt:171:9
 returns : tie.Need-returns
 returns c = search needs
 
--- src/main.rt:173:25
 slice-relend-prefix-read-full : tie.Need-slice-relend-prefix-read-full
 slice-relend-prefix-read-full c = search needs
 
--- src/main.rt:173:25
 slice-aggregate-read-full : tie.Need-slice-aggregate-read-full
 slice-aggregate-read-full c = sym (length-take-le _ _ (search needs))
 
--- src/main.rt:173:8
 read-full-requires : tie.Need-read-full-requires
 read-full-requires c κs = search needs
 
--- src/main.rt:174:9
 same-length : tie.Need-same-length
 same-length c = search needs
 
--- src/main.rt:174:9
 returns-2 : tie.Need-returns-2
 returns-2 c = search needs
 
--- src/main.rt:176:18
 slice-reshare-prefix-show : tie.Need-slice-reshare-prefix-show
 slice-reshare-prefix-show c = search needs
 
--- src/main.rt:176:18
 slice-aggregate-show : tie.Need-slice-aggregate-show
 slice-aggregate-show c = sym (length-take-le _ _ (search needs))
 
--- src/main.rt:176:5
 show-requires : tie.Need-show-requires
 show-requires c κs = search needs
 
--- src/main.rt:169:1
 same-length-2 : tie.Need-same-length-2
 same-length-2 c = search needs
 
--- src/main.rt:169:1
 returns-3 : tie.Need-returns-3
 returns-3 c = search needs
 

@@ -5,8 +5,6 @@ use lib.Seq.{length-take-le}
 use borrow.Author.Needs.{needs}
 use Rattle.traces_main.proofs.call.Statement.{statement}
 use Rattle.traces_main.proofs.call.Proof.Tie as tie
-use Rattle.traces_main.proofs.call.Proof.Lts as lts
-use Rattle.traces_main.proofs.Lent.call.Reads as reads
 
 least-requires : tie.Need-least-requires
 least-requires c = search needs

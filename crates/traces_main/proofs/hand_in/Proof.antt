@@ -3,8 +3,6 @@ pub mod Tie
 use borrow.Author.Needs.{needs}
 use Rattle.traces_main.proofs.hand_in.Statement.{statement}
 use Rattle.traces_main.proofs.hand_in.Proof.Tie as tie
-use Rattle.traces_main.proofs.hand_in.Proof.Lts as lts
-use Rattle.traces_main.proofs.Lent.hand_in.Reads as reads
 
 place-at-requires : tie.Need-place-at-requires
 place-at-requires c = search needs

@@ -3,8 +3,6 @@ pub mod Tie
 use borrow.Author.Needs.{needs}
 use Rattle.traces_main.proofs.hand_in_count.Statement.{statement}
 use Rattle.traces_main.proofs.hand_in_count.Proof.Tie as tie
-use Rattle.traces_main.proofs.hand_in_count.Proof.Lts as lts
-use Rattle.traces_main.proofs.Lent.hand_in_count.Reads as reads
 
 counted-requires : tie.Need-counted-requires
 counted-requires c = search needs

@@ -5,8 +5,6 @@ use lib.Seq.{length-take-le}
 use borrow.Author.Needs.{needs}
 use Rattle.traces_main.proofs.list.Statement.{statement}
 use Rattle.traces_main.proofs.list.Proof.Tie as tie
-use Rattle.traces_main.proofs.list.Proof.Lts as lts
-use Rattle.traces_main.proofs.Lent.list.Reads as reads
 
 slice-aggregate-read-record : tie.Need-slice-aggregate-read-record
 slice-aggregate-read-record c = search needs

@@ -3,8 +3,6 @@ pub mod Tie
 use borrow.Author.Needs.{needs}
 use Rattle.traces_main.proofs.message.Statement.{statement}
 use Rattle.traces_main.proofs.message.Proof.Tie as tie
-use Rattle.traces_main.proofs.message.Proof.Lts as lts
-use Rattle.traces_main.proofs.Lent.message.Reads as reads
 
 message-from-requires : tie.Need-message-from-requires
 message-from-requires c = search needs

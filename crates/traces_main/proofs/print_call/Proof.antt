@@ -3,8 +3,6 @@ pub mod Tie
 use borrow.Author.Needs.{needs}
 use Rattle.traces_main.proofs.print_call.Statement.{statement}
 use Rattle.traces_main.proofs.print_call.Proof.Tie as tie
-use Rattle.traces_main.proofs.print_call.Proof.Lts as lts
-use Rattle.traces_main.proofs.Lent.print_call.Reads as reads
 
 outcome-requires : tie.Need-outcome-requires
 outcome-requires c = search needs

@@ -5,8 +5,6 @@ use Prim.Native.Nat.{_-_, _≤_}
 use borrow.Author.Needs.{needs}
 use Rattle.traces_main.proofs.print_rows.Statement.{statement}
 use Rattle.traces_main.proofs.print_rows.Proof.Tie as tie
-use Rattle.traces_main.proofs.print_rows.Proof.Lts as lts
-use Rattle.traces_main.proofs.Lent.print_rows.Reads as reads
 
 abbrev Inv-loop : tie.InvT-loop
 Inv-loop rows clock i₀ i = i ≤ length rows

@@ -3,8 +3,6 @@ pub mod Tie
 use borrow.Author.Needs.{needs}
 use Rattle.traces_main.proofs.put_route.Statement.{statement}
 use Rattle.traces_main.proofs.put_route.Proof.Tie as tie
-use Rattle.traces_main.proofs.put_route.Proof.Lts as lts
-use Rattle.traces_main.proofs.Lent.put_route.Reads as reads
 
 mul-r : tie.Need-mul-r
 mul-r c = search needs

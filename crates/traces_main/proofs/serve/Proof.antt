@@ -6,8 +6,6 @@ use lib.Seq.{length-take-le}
 use borrow.Author.Needs.{needs}
 use Rattle.traces_main.proofs.serve.Statement.{statement}
 use Rattle.traces_main.proofs.serve.Proof.Tie as tie
-use Rattle.traces_main.proofs.serve.Proof.Lts as lts
-use Rattle.traces_main.proofs.Lent.serve.Reads as reads
 
 abbrev Inv-loop : tie.InvT-loop
 Inv-loop instances₀ routes₀ forward₀ reply₀ octets₀ tally₀ h₀ left₀ instances routes forward reply octets tally h left =

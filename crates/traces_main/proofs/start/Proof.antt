@@ -5,8 +5,6 @@ use lib.Seq.{length-take-le}
 use borrow.Author.Needs.{needs}
 use Rattle.traces_main.proofs.start.Statement.{statement}
 use Rattle.traces_main.proofs.start.Proof.Tie as tie
-use Rattle.traces_main.proofs.start.Proof.Lts as lts
-use Rattle.traces_main.proofs.Lent.start.Reads as reads
 
 targets-at-requires : tie.Need-targets-at-requires
 targets-at-requires c = search needs

@@ -3,8 +3,6 @@ pub mod Tie
 use borrow.Author.Needs.{needs}
 use Rattle.traces_main.proofs.tell.Statement.{statement}
 use Rattle.traces_main.proofs.tell.Proof.Tie as tie
-use Rattle.traces_main.proofs.tell.Proof.Lts as lts
-use Rattle.traces_main.proofs.Lent.tell.Reads as reads
 
 answer-of-requires : tie.Need-answer-of-requires
 answer-of-requires c = search needs

@@ -3,8 +3,6 @@ pub mod Tie
 use borrow.Author.Needs.{needs}
 use Rattle.traces_main.proofs.turn.Statement.{statement}
 use Rattle.traces_main.proofs.turn.Proof.Tie as tie
-use Rattle.traces_main.proofs.turn.Proof.Lts as lts
-use Rattle.traces_main.proofs.Lent.turn.Reads as reads
 
 is-call-requires : tie.Need-is-call-requires
 is-call-requires c = search needs

@@ -3,8 +3,6 @@ pub mod Tie
 use borrow.Author.Needs.{needs}
 use Rattle.whole_main.proofs.run.Statement.{statement}
 use Rattle.whole_main.proofs.run.Proof.Tie as tie
-use Rattle.whole_main.proofs.run.Proof.Lts as lts
-use Rattle.whole_main.proofs.Lent.run.Reads as reads
 
 no-row-requires : tie.Need-no-row-requires
 no-row-requires c = search needs

@@ -3,9 +3,6 @@ use mathlib.Core.Path.{_≡_}
 use Prim.Native.Nat.{_-_, _≤_}
 use Rattle.traces_main.proofs.input.address_at.Statement.{statement}
 use Rattle.traces_main.proofs.input.address_at.Tie as tie
-use Rattle.traces_main.proofs.input.address_at.Reads as reads
-use Rattle.traces_main.proofs.input.address_at.Lts as lts
-use Rattle.traces_main.proofs.input.octet_at.Reads as octet-at-reads
 use Rattle.lemmas.proofs.Cases.{cases}
 
 abbrev Inv-loop : tie.InvT-loop
@@ -14,35 +11,27 @@ Inv-loop o from a₀ i₀ a i = (i ≤ 16) × (length a ≡ 16)
 abbrev μ-loop : tie.MeasureT-loop
 μ-loop o from a₀ i₀ a i = 16 - i
 
--- src/input.rt:136:5
 loop-holds : tie.Need-loop-holds Inv-loop μ-loop
 loop-holds c = search cases
 
--- src/input.rt:137:28
 add-octet-at : tie.Need-add-octet-at Inv-loop μ-loop
 add-octet-at c = search cases
 
--- src/input.rt:137:16
 octet-at-requires : tie.Need-octet-at-requires Inv-loop μ-loop
 octet-at-requires c κs = search cases
 
--- src/input.rt:137:9
 array-write-a : tie.Need-array-write-a Inv-loop μ-loop
 array-write-a c = search cases
 
--- src/input.rt:138:13
 add-i : tie.Need-add-i Inv-loop μ-loop
 add-i c = search cases
 
--- src/input.rt:136:5
 loop-less : tie.Need-loop-less Inv-loop μ-loop
 loop-less c = search cases
 
--- src/input.rt:136:5
 loop-again : tie.Need-loop-again Inv-loop μ-loop
 loop-again c = search cases
 
--- src/input.rt:131:1
 returns : tie.Need-returns Inv-loop μ-loop
 returns c = search cases
 

@@ -3,9 +3,6 @@ use mathlib.Core.Path.{_≡_}
 use Prim.Native.Nat.{_-_, _≤_}
 use Rattle.traces_main.proofs.input.decode.Statement.{statement}
 use Rattle.traces_main.proofs.input.decode.Tie as tie
-use Rattle.traces_main.proofs.input.decode.Reads as reads
-use Rattle.traces_main.proofs.input.decode.Lts as lts
-use Rattle.traces_main.proofs.input.octet.Reads as octet-reads
 use Rattle.lemmas.proofs.Cases.{cases}
 
 abbrev Inv-loop : tie.InvT-loop
@@ -14,59 +11,45 @@ Inv-loop text octets₀ i₀ octets i = (i ≤ 2048) × (length octets ≡ lengt
 abbrev μ-loop : tie.MeasureT-loop
 μ-loop text octets₀ i₀ octets i = 2048 - i
 
--- src/input.rt:58:5
 loop-holds : tie.Need-loop-holds Inv-loop μ-loop
 loop-holds c = search cases
 
--- src/input.rt:60:13
 same-length : tie.Need-same-length Inv-loop μ-loop
 same-length c = search cases
 
--- src/input.rt:60:13
 returns : tie.Need-returns Inv-loop μ-loop
 returns c = search cases
 
--- src/input.rt:62:17
 mul-k : tie.Need-mul-k Inv-loop μ-loop
 mul-k c = search cases
 
--- src/input.rt:63:27
 element-copy-out-octet : tie.Need-element-copy-out-octet Inv-loop μ-loop
 element-copy-out-octet c = search cases
 
--- src/input.rt:63:41
 add-octet : tie.Need-add-octet Inv-loop μ-loop
 add-octet c = search cases
 
--- src/input.rt:63:36
 element-copy-out-octet-2 : tie.Need-element-copy-out-octet-2 Inv-loop μ-loop
 element-copy-out-octet-2 c = search cases
 
--- src/input.rt:63:21
 octet-requires : tie.Need-octet-requires Inv-loop μ-loop
 octet-requires c κs = search cases
 
--- src/input.rt:63:9
 slice-write-octets : tie.Need-slice-write-octets Inv-loop μ-loop
 slice-write-octets c = search cases
 
--- src/input.rt:64:13
 add-i : tie.Need-add-i Inv-loop μ-loop
 add-i c = search cases
 
--- src/input.rt:58:5
 loop-less : tie.Need-loop-less Inv-loop μ-loop
 loop-less c = search cases
 
--- src/input.rt:58:5
 loop-again : tie.Need-loop-again Inv-loop μ-loop
 loop-again c = search cases
 
--- src/input.rt:56:1
 same-length-2 : tie.Need-same-length-2 Inv-loop μ-loop
 same-length-2 c = search cases
 
--- src/input.rt:56:1
 returns-2 : tie.Need-returns-2 Inv-loop μ-loop
 returns-2 c = search cases
 

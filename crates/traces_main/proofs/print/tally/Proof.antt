@@ -1,10 +1,6 @@
 use Prim.Native.Nat.{_-_, _≤_}
 use Rattle.traces_main.proofs.print.tally.Statement.{statement}
 use Rattle.traces_main.proofs.print.tally.Tie as tie
-use Rattle.traces_main.proofs.print.tally.Reads as reads
-use Rattle.traces_main.proofs.print.tally.Lts as lts
-use Rattle.traces_main.proofs.print.decimal.Reads as decimal-reads
-use Rattle.traces_main.proofs.print.words.Reads as words-reads
 use Rattle.lemmas.proofs.Cases.{cases}
 
 abbrev Inv-loop : tie.InvT-loop
@@ -13,55 +9,42 @@ Inv-loop counts i₀ t5 i = i ≤ 18
 abbrev μ-loop : tie.MeasureT-loop
 μ-loop counts i₀ t5 i = 18 - i
 
--- src/print.rt:110:11
 slice-aggregate-words : tie.Need-slice-aggregate-words Inv-loop μ-loop
 slice-aggregate-words c = search cases
 
--- src/print.rt:110:5
 words-requires : tie.Need-words-requires Inv-loop μ-loop
 words-requires c κs = search cases
 
--- src/print.rt:112:5
 loop-holds : tie.Need-loop-holds Inv-loop μ-loop
 loop-holds c = search cases
 
--- src/print.rt:113:17
 mul-decimal : tie.Need-mul-decimal Inv-loop μ-loop
 mul-decimal c = search cases
 
--- src/print.rt:113:17
 array-read-decimal : tie.Need-array-read-decimal Inv-loop μ-loop
 array-read-decimal c = search cases
 
--- src/print.rt:113:17
 cast-decimal : tie.Need-cast-decimal Inv-loop μ-loop
 cast-decimal c = search cases
 
--- src/print.rt:113:9
 decimal-requires : tie.Need-decimal-requires Inv-loop μ-loop
 decimal-requires c κs = search cases
 
--- src/print.rt:114:13
 add-i : tie.Need-add-i Inv-loop μ-loop
 add-i c = search cases
 
--- src/print.rt:112:5
 loop-less : tie.Need-loop-less Inv-loop μ-loop
 loop-less c = search cases
 
--- src/print.rt:112:5
 loop-again : tie.Need-loop-again Inv-loop μ-loop
 loop-again c = search cases
 
--- src/print.rt:116:11
 slice-aggregate-words-2 : tie.Need-slice-aggregate-words-2 Inv-loop μ-loop
 slice-aggregate-words-2 c = search cases
 
--- src/print.rt:116:5
 words-requires-2 : tie.Need-words-requires-2 Inv-loop μ-loop
 words-requires-2 c κs = search cases
 
--- src/print.rt:108:1
 returns : tie.Need-returns Inv-loop μ-loop
 returns c = search cases
 

@@ -1,10 +1,6 @@
 use Prim.Native.Nat.{_-_, _≤_}
 use Rattle.traces_main.proofs.print.targets.Statement.{statement}
 use Rattle.traces_main.proofs.print.targets.Tie as tie
-use Rattle.traces_main.proofs.print.targets.Reads as reads
-use Rattle.traces_main.proofs.print.targets.Lts as lts
-use Rattle.traces_main.proofs.print.decimal.Reads as decimal-reads
-use Rattle.traces_main.proofs.print.target.Reads as target-reads
 use Rattle.lemmas.proofs.Cases.{cases}
 
 abbrev Inv-loop : tie.InvT-loop
@@ -13,47 +9,36 @@ Inv-loop count ts i₀ i = i ≤ count
 abbrev μ-loop : tie.MeasureT-loop
 μ-loop count ts i₀ i = count - i
 
--- src/print.rt:140:5
 decimal-requires : tie.Need-decimal-requires Inv-loop μ-loop
 decimal-requires c κs = search cases
 
--- src/print.rt:142:5
 loop-holds : tie.Need-loop-holds Inv-loop μ-loop
 loop-holds c = search cases
 
--- src/print.rt:144:13
 returns : tie.Need-returns Inv-loop μ-loop
 returns c = search cases
 
--- src/print.rt:146:17
 cast-k : tie.Need-cast-k Inv-loop μ-loop
 cast-k c = search cases
 
--- src/print.rt:147:17
 mul-t : tie.Need-mul-t Inv-loop μ-loop
 mul-t c = search cases
 
--- src/print.rt:147:17
 array-copy-out-t : tie.Need-array-copy-out-t Inv-loop μ-loop
 array-copy-out-t c = search cases
 
--- src/print.rt:148:9
 target-requires : tie.Need-target-requires Inv-loop μ-loop
 target-requires c κs = search cases
 
--- src/print.rt:149:13
 add-i : tie.Need-add-i Inv-loop μ-loop
 add-i c = search cases
 
--- src/print.rt:142:5
 loop-less : tie.Need-loop-less Inv-loop μ-loop
 loop-less c = search cases
 
--- src/print.rt:142:5
 loop-again : tie.Need-loop-again Inv-loop μ-loop
 loop-again c = search cases
 
--- src/print.rt:139:1
 returns-2 : tie.Need-returns-2 Inv-loop μ-loop
 returns-2 c = search cases
 
