@@ -14,6 +14,8 @@ use borrow.Author.Tests.{eqb-true, eqb-false, eq-eqb}
 use Rattle.plain.specs.Lists.{any, anyTwo}
 use Rattle.lemmas.proofs.Choice.{true-false, cond-true, or-left, or-right, or-neither}
 use Rattle.filter.specs.Filter.{bitsOf, hasBits, maybeOf, markedOf, classOf, chosenOf, inClass}
+use Rattle.key.specs.Pair.{twinsBy}
+use Rattle.key.proofs.Plain.{twins-are}
 use Rattle.key.proofs.Any.{not-so, so, any-false, any-not, two-start, two-hit, two-more, two-end, two-less}
 use Rattle.filter.proofs.Words.{or-has, or-keeps}
 
@@ -41,15 +43,22 @@ unasked m e h = rw h
 
 -- ---- one pass over rows of any kind
 
--- Rows of a table: of a hash is asked only that twins have one, and of twins that both are live.
+-- Rows of a table: of a hash is asked only that rows of one key have one.
 pub record Kind : Type 1 where
   pub Row : Type 0
   -- what is read past the end
   pub none : Row
   pub hash : Row → ℕ
   pub live : Row → Bool
-  pub twins : Row → Row → Bool
-  pub joins : (a b : Row) → twins a b ≡ true → (live a ≡ true) × (live b ≡ true) × (hash a ≡ hash b)
+  pub key : Row → Row → Bool
+  pub hashed : (a b : Row) → key a b ≡ true → hash a ≡ hash b
+
+abbrev pub twinsOf : (K : Kind) → K .Row → K .Row → Bool
+twinsOf K = twinsBy (K .key) (K .live)
+
+-- twins are both live, and have one hash
+joins : (K : Kind) (a b : K .Row) → twinsOf K a b ≡ true → (K .live a ≡ true) × (K .live b ≡ true) × (K .hash a ≡ K .hash b)
+joins K a b e = let q = twins-are (K .key) (K .live) a b e in (q .1, q .2, K .hashed a b (q .0))
 
 module _ (slot : ℕ → ℕ) (K : Kind) (mask p : ℕ) (rows : List (K .Row)) where
   abbrev pub row : ℕ → K .Row
@@ -57,10 +66,10 @@ module _ (slot : ℕ → ℕ) (K : Kind) (mask p : ℕ) (rows : List (K .Row)) w
 
   -- row j has a twin before it, and one of the pass's class
   abbrev pub earlierTwin : ℕ → Bool
-  earlierTwin j = any (λ (a : K .Row). K .twins a (row j)) (take j rows)
+  earlierTwin j = any (λ (a : K .Row). twinsOf K a (row j)) (take j rows)
 
   abbrev pub earlierIn : ℕ → Bool
-  earlierIn j = any (λ (a : K .Row). inClass (K .hash) mask p (K .twins) a (row j)) (take j rows)
+  earlierIn j = any (λ (a : K .Row). inClass (K .hash) mask p (twinsOf K) a (row j)) (take j rows)
 
   abbrev pub chosen : K .Row → Bool
   chosen r = chosenOf mask p (K .live r) (K .hash r)
@@ -80,19 +89,19 @@ module _ (slot : ℕ → ℕ) (K : Kind) (mask p : ℕ) (rows : List (K .Row)) w
       → earlierIn j ≡ false
   unfolding maybeOf Holds inClass chosenOf
   miss j ws low holds e =
-      any-false (λ (a : K .Row). inClass (K .hash) mask p (K .twins) a (row j)) (take j rows) (K .none) (λ k l. not-so _ (λ w. twin-not k l w))
+      any-false (λ (a : K .Row). inClass (K .hash) mask p (twinsOf K) a (row j)) (take j rows) (K .none) (λ k l. not-so _ (λ w. twin-not k l w))
     where
-      twin-not : (k : ℕ) → k < length (take j rows) → inClass (K .hash) mask p (K .twins) (getD (take j rows) k (K .none)) (row j) ≡ true → ⊥
+      twin-not : (k : ℕ) → k < length (take j rows) → inClass (K .hash) mask p (twinsOf K) (getD (take j rows) k (K .none)) (row j) ≡ true → ⊥
       twin-not k l w =
           let b : k < j = omega (arith, length-take j rows) in
           let row-k : getD (take j rows) k (K .none) ≡ row k = getD-take j rows k (K .none) b in
-          let q = cond-true (eqb (classOf mask (K .hash (row j))) p) (K .twins (getD (take j rows) k (K .none)) (row j)) w in
-          let tw : K .twins (row k) (row j) ≡ true = rw row-k at (q .1) in
-          let s = K .joins (row k) (row j) tw in
+          let q = cond-true (eqb (classOf mask (K .hash (row j))) p) (twinsOf K (getD (take j rows) k (K .none)) (row j)) w in
+          let tw : twinsOf K (row k) (row j) ≡ true = rw row-k at (q .1) in
+          let s = joins K (row k) (row j) tw in
           let c : chosen (row k) ≡ true = rw (s .0, s .2, q .0) in
           let m : has slot ws (K .hash (row j)) ≡ true = rw (s .2) at (holds k b c) in
           let f : earlierTwin j ≡ false = rw (s .1, q .0, m) at e in
-          let g = any-not (λ (a : K .Row). K .twins a (row j)) (take j rows) (K .none) f k l in
+          let g = any-not (λ (a : K .Row). twinsOf K a (row j)) (take j rows) (K .none) f k l in
           true-false (sym (q .1) ∙ g)
 
   -- a twin was found of a row that is chosen
@@ -132,13 +141,13 @@ module _ (slot : ℕ → ℕ) (K : Kind) (mask p : ℕ) (rows : List (K .Row)) w
   -- at row j: no two of the rows before it are twins of the class, and each of the class has its mark in the words
   abbrev pub Passed : ℕ → ℕ → List ℕ → Type 0
   Passed size j ws =
-      (j ≤ length rows) × (length ws ≡ size) × (anyTwo (inClass (K .hash) mask p (K .twins)) (take j rows) ≡ false) × Holds j ws
+      (j ≤ length rows) × (length ws ≡ size) × (anyTwo (inClass (K .hash) mask p (twinsOf K)) (take j rows) ≡ false) × Holds j ws
 
   pub passed-none : (size : ℕ) (ws : List ℕ) → length ws ≡ size → Passed size 0 ws
-  passed-none size ws e = (omega arith, e, two-start (inClass (K .hash) mask p (K .twins)) rows, none-held ws)
+  passed-none size ws e = (omega arith, e, two-start (inClass (K .hash) mask p (twinsOf K)) rows, none-held ws)
 
-  pub passed-all : (size j : ℕ) (ws : List ℕ) → Passed size j ws → length rows ≤ j → anyTwo (inClass (K .hash) mask p (K .twins)) rows ≡ false
-  passed-all size j ws w h = two-end (inClass (K .hash) mask p (K .twins)) rows j h (w .2)
+  pub passed-all : (size j : ℕ) (ws : List ℕ) → Passed size j ws → length rows ≤ j → anyTwo (inClass (K .hash) mask p (twinsOf K)) rows ≡ false
+  passed-all size j ws w h = two-end (inClass (K .hash) mask p (twinsOf K)) rows j h (w .2)
 
   -- with a name for each thing that the code computes on the way
   module _ (j h s : ℕ) (v on m : Bool) (ws : List ℕ) (low : j < length rows)
@@ -147,9 +156,9 @@ module _ (slot : ℕ → ℕ) (K : Kind) (mask p : ℕ) (rows : List (K .Row)) w
     chose-is : on ≡ chosen (row j)
     chose-is = chose ∙ rw (hashed, lives)
 
-    pub passed-hit : (b : Bool) → m ≡ true → b ≡ earlierTwin j → b ≡ true → anyTwo (inClass (K .hash) mask p (K .twins)) rows ≡ true
+    pub passed-hit : (b : Bool) → m ≡ true → b ≡ earlierTwin j → b ≡ true → anyTwo (inClass (K .hash) mask p (twinsOf K)) rows ≡ true
     passed-hit b e f g =
-        two-hit (inClass (K .hash) mask p (K .twins)) rows j (K .none) low
+        two-hit (inClass (K .hash) mask p (twinsOf K)) rows j (K .none) low
         (hit j (getD ws s 0) (rw (← chose-is, ← hashed, ← asks) (asked m b (earlierTwin j) e f ∙ g)))
 
     pub passed-more : (size x : ℕ) → Passed size j ws → s < length ws → cond m (earlierTwin j) false ≡ false → x ≡ markedOf on (getD ws s 0) h
@@ -157,7 +166,7 @@ module _ (slot : ℕ → ℕ) (K : Kind) (mask p : ℕ) (rows : List (K .Row)) w
     passed-more size x w room f e = (
       omega arith,
       length-set ws s x ∙ w .1,
-      two-more (inClass (K .hash) mask p (K .twins)) rows j (K .none) low (w .2)
+      two-more (inClass (K .hash) mask p (twinsOf K)) rows j (K .none) low (w .2)
           (miss j ws low (w .3) (rw (← chose-is, ← hashed, ← placed, ← asks) f)),
       rw (e, chose-is, placed, hashed) (keep j ws (rw (← hashed, ← placed) room) (w .3)),
     )
@@ -194,15 +203,15 @@ module _ {R : Type 0} (hash : R → ℕ) (twins : R → R → Bool) (mask : ℕ)
 -- no two are twins of a class below p
 module _ (K : Kind) (mask : ℕ) (rows : List (K .Row)) where
   abbrev pub Below : ℕ → Type 0
-  Below p = (q : ℕ) → q < p → anyTwo (inClass (K .hash) mask q (K .twins)) rows ≡ false
+  Below p = (q : ℕ) → q < p → anyTwo (inClass (K .hash) mask q (twinsOf K)) rows ≡ false
 
-  pub below-first : (b : Bool) → b ≡ anyTwo (inClass (K .hash) mask 0 (K .twins)) rows → b ≡ false → Below 1
+  pub below-first : (b : Bool) → b ≡ anyTwo (inClass (K .hash) mask 0 (twinsOf K)) rows → b ≡ false → Below 1
   below-first b e f q l =
       let z : q ≡ 0 = omega arith in
       rw z (sym e ∙ f)
 
-  pub below-all : (p : ℕ) → Below p → mask < p → anyTwo (K .twins) rows ≡ false
-  below-all p w h = each-class (K .hash) (K .twins) mask rows (λ q l. w q (omega arith))
+  pub below-all : (p : ℕ) → Below p → mask < p → anyTwo (twinsOf K) rows ≡ false
+  below-all p w h = each-class (K .hash) (twinsOf K) mask rows (λ q l. w q (omega arith))
 
 -- ---- one class for all
 

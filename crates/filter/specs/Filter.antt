@@ -27,10 +27,10 @@ hashAddress k d =
     mixOf k (quadOf (getD d 0 0) (getD d 1 0) (getD d 2 0) (getD d 3 0)) (quadOf (getD d 4 0) (getD d 5 0) (getD d 6 0) (getD d 7 0))
     (quadOf (getD d 8 0) (getD d 9 0) (getD d 10 0) (getD d 11 0)) (quadOf (getD d 12 0) (getD d 13 0) (getD d 14 0) (getD d 15 0))
 
-unfoldable pub hashRow : InstanceRow → ℕ
+abbrev pub hashRow : InstanceRow → ℕ
 hashRow r = finishOf (hashAddress (r .kind + r .instance * 256) (r .dodagid))
 
-unfoldable pub hashRoute : RouteRow → ℕ
+abbrev pub hashRoute : RouteRow → ℕ
 hashRoute r = finishOf (bitXor (hashAddress (r .instance) (r .source)) (hashAddress 0 (r .destination) / 2048))
 
 -- ---- the words

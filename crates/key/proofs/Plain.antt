@@ -1,7 +1,7 @@
 -- Twins among records are twins among the live rows of the plain node's tables.
 use Prim.Native.Nat.{ℕ, suc}
 use mathlib.Core.Path.{_≡_, refl, sym, _∙_}
-use mathlib.Core.Bool.{Bool, true, false, cond, _&&_, _||_, and-true, and-false, or-false}
+use mathlib.Core.Bool.{Bool, true, false, cond, _&&_, _||_, and-true, or-false}
 use mathlib.Core.List.{List, [], _∷_, _++_, map}
 use mathlib.Core.Option.{Option, some, none}
 use mathlib.Core.Logic.{_⊎_, inl, inr}
@@ -20,23 +20,13 @@ use Rattle.row.specs.declared.InstanceRow.{InstanceRow}
 use Rattle.row.specs.declared.RouteRow.{RouteRow}
 use Rattle.lemmas.proofs.Rules.{every-kind}
 use Rattle.first.proofs.Found.{seen, kind-cons}
-use Rattle.key.specs.Pair.{sameKey, rowTwins, sameThree, routePair}
+use Rattle.key.specs.Pair.{sameKey, rowTwins, sameThree, routePair, twinsBy}
 use Rattle.key.proofs.Any.{two-same, two-either}
-
--- ---- keys compared by their addresses first
-
-pub key-far : (a b : InstanceRow) → same (a .dodagid) (b .dodagid) ≡ false → sameKey a b ≡ false
-unfolding sameKey
-key-far a b e = simp (e, and-false)
 
 pub key-near : (a b : InstanceRow) → eqb (a .kind) (b .kind) ≡ true → same (a .dodagid) (b .dodagid) ≡ true
     → sameKey a b ≡ eqb (a .instance) (b .instance)
 unfolding sameKey
 key-near a b k e = rw (k, e) (and-true (eqb (a .instance) (b .instance)))
-
-pub three-far : (a b : RouteRow) → same (a .destination) (b .destination) ≡ false → sameThree a b ≡ false
-unfolding sameThree
-three-far a b e = simp (e, and-false)
 
 -- ---- what rows of one key have in common
 
@@ -62,10 +52,12 @@ three-parts a b e =
     )
 
 -- twins are of one key, and both live
-pub three-true : (k x y : Bool) → cond k (cond x y false) false ≡ true → (k ≡ true) × (x ≡ true) × (y ≡ true)
-three-true k x y e =
-    let q = cond-true k (cond x y false) e in
-    let l = cond-true x y (q .1) in
+pub twins-are : {A : Type 0} (key : A → A → Bool) (lives : A → Bool) (a b : A) → twinsBy key lives a b ≡ true
+    → (key a b ≡ true) × (lives a ≡ true) × (lives b ≡ true)
+unfolding twinsBy
+twins-are key lives a b e =
+    let q = cond-true (key a b) (cond (lives a) (lives b) false) e in
+    let l = cond-true (lives a) (lives b) (q .1) in
     (q .0, l .0, l .1)
 
 -- ---- what is said of the live rows of a kind is said of the records
@@ -168,7 +160,7 @@ module _ (t : ℕ) (a b : InstanceRow) where
   row-pair : both sameRequest (seen instanceDeadline asRequest t (instanceOf a)) (seen instanceDeadline asRequest t (instanceOf b))
       || both sameReply (seen instanceDeadline asReply t (instanceOf a)) (seen instanceDeadline asReply t (instanceOf b))
       ≡ rowTwins t a b
-  unfolding rowTwins
+  unfolding twinsBy
   row-pair = go (live instanceDeadline t (instanceOf a)) refl (live instanceDeadline t (instanceOf b)) refl
     where
       go : (x : Bool) → live instanceDeadline t (instanceOf a) ≡ x → (y : Bool) → live instanceDeadline t (instanceOf b) ≡ y
@@ -206,7 +198,7 @@ module _ (t : ℕ) (a b : RouteRow) where
       (cond-self (same (a .source) (b .source) && same (a .destination) (b .destination) && eqb (a .instance) (b .instance)))
 
   route-pair : both sameRoute (seen routeDeadline some t (routeOf a)) (seen routeDeadline some t (routeOf b)) ≡ routePair t a b
-  unfolding routePair
+  unfolding twinsBy
   route-pair = go (live routeDeadline t (routeOf a)) refl (live routeDeadline t (routeOf b)) refl
     where
       go : (x : Bool) → live routeDeadline t (routeOf a) ≡ x → (y : Bool) → live routeDeadline t (routeOf b) ≡ y

@@ -14,16 +14,19 @@ use Rattle.row.specs.declared.RouteRow.{RouteRow}
 unfoldable pub sameKey : InstanceRow → InstanceRow → Bool
 sameKey a b = eqb (a .kind) (b .kind) && (eqb (a .instance) (b .instance) && same (a .dodagid) (b .dodagid))
 
--- ".. both live at the last accepted time"
-unfoldable pub rowTwins : ℕ → InstanceRow → InstanceRow → Bool
-rowTwins t a b = cond (sameKey a b) (cond (live instanceDeadline t (instanceOf a)) (live instanceDeadline t (instanceOf b)) false) false
-
 -- ".. or two routes of the same key": source, destination, RPLInstanceID
 unfoldable pub sameThree : RouteRow → RouteRow → Bool
 sameThree a b = same (a .source) (b .source) && same (a .destination) (b .destination) && eqb (a .instance) (b .instance)
 
-unfoldable pub routePair : ℕ → RouteRow → RouteRow → Bool
-routePair t a b = cond (sameThree a b) (cond (live routeDeadline t (routeOf a)) (live routeDeadline t (routeOf b)) false) false
+-- ".. of the same key, both live at the last accepted time"
+unfoldable pub twinsBy : {A : Type 0} → (A → A → Bool) → (A → Bool) → A → A → Bool
+twinsBy key lives a b = cond (key a b) (cond (lives a) (lives b) false) false
+
+abbrev pub rowTwins : ℕ → InstanceRow → InstanceRow → Bool
+rowTwins t = twinsBy sameKey (λ (r : InstanceRow). live instanceDeadline t (instanceOf r))
+
+abbrev pub routePair : ℕ → RouteRow → RouteRow → Bool
+routePair t = twinsBy sameThree (λ (r : RouteRow). live routeDeadline t (routeOf r))
 
 -- the last octet of an address, in which addresses differ most: rows of one key have one
 abbrev pub endingOf : Address → ℕ

@@ -1,4 +1,3 @@
-use Rattle.filter.specs.Filter.{hashRoute}
 use borrow.Author.Needs.{needs}
 use Rattle.filter.proofs.hash_route.Statement.{statement}
 use Rattle.filter.proofs.hash_route.Tie as tie
@@ -17,7 +16,6 @@ finish-requires : tie.Need-finish-requires
 finish-requires c κs = search needs
 
 returns : tie.Need-returns
-unfolding hashRoute
 returns c = search (← c .finish .ensures, ← c .before .hash-address2 .ensures, ← c .before .before .hash-address .ensures, cases)
 
 pub hash-route-spec : {M : Type 1} → statement M

@@ -1,4 +1,3 @@
-use Rattle.filter.specs.Filter.{hashRow}
 use borrow.Author.Needs.{needs}
 use Rattle.filter.proofs.hash_row.Statement.{statement}
 use Rattle.filter.proofs.hash_row.Tie as tie
@@ -14,7 +13,6 @@ finish-requires : tie.Need-finish-requires
 finish-requires c κs = search needs
 
 returns : tie.Need-returns
-unfolding hashRow
 returns c = search (← c .finish .ensures, ← c .before .hash-address .ensures, ← c .before .before .pair .ensures, cases)
 
 pub hash-row-spec : {M : Type 1} → statement M

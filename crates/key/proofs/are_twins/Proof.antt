@@ -1,4 +1,4 @@
-use Rattle.key.specs.Pair.{rowTwins}
+use Rattle.key.specs.Pair.{twinsBy}
 use borrow.Author.Needs.{needs}
 use Rattle.key.proofs.are_twins.Statement.{statement}
 use Rattle.key.proofs.are_twins.Tie as tie
@@ -14,7 +14,7 @@ is-live-requires-2 : tie.Need-is-live-requires-2
 is-live-requires-2 c κs = search needs
 
 returns : tie.Need-returns
-unfolding rowTwins
+unfolding twinsBy
 returns c = search (
   ← c .is-live2 .ensures,
   c .before .if2 .taken,
@@ -25,7 +25,7 @@ returns c = search (
 )
 
 returns-2 : tie.Need-returns-2
-unfolding rowTwins
+unfolding twinsBy
 returns-2 c = search (
   c .if2 .left,
   ← c .before .is-live .ensures,
@@ -35,7 +35,7 @@ returns-2 c = search (
 )
 
 returns-3 : tie.Need-returns-3
-unfolding rowTwins
+unfolding twinsBy
 returns-3 c = search (c .if1 .left, ← c .before .is-same-key .ensures, cases)
 
 pub are-twins-spec : {M : Type 1} → statement M

@@ -1,6 +1,7 @@
 use mathlib.Core.Path.{sym, _∙_}
+use mathlib.Core.Bool.{and-false}
 use Rattle.key.specs.Pair.{sameKey}
-use Rattle.key.proofs.Plain.{key-far, key-near}
+use Rattle.key.proofs.Plain.{key-near}
 use borrow.Author.Needs.{needs}
 use borrow.Author.Tests.{eq-eqb}
 use Rattle.key.proofs.is_same_key.Statement.{statement}
@@ -21,9 +22,10 @@ returns-2 c =
     (sym (c .before .before .before .before .before .before .is-same .ensures) ∙ c .before .before .before .before .before .if1 .taken))
 
 returns-3 : tie.Need-returns-3
+unfolding sameKey
 returns-3 c =
-    let s = c .before .before .before .before .args in
-    sym (key-far (s .a) (s .b) (sym (c .before .is-same .ensures) ∙ c .if1 .left))
+    let far = sym (c .before .is-same .ensures) ∙ c .if1 .left in
+    sym (simp (far, and-false))
 
 pub is-same-key-spec : {M : Type 1} → statement M
 is-same-key-spec = tie.close (tie.spec is-same-requires returns returns-2 returns-3)

@@ -1,6 +1,6 @@
 use mathlib.Core.Path.{sym, _∙_}
+use mathlib.Core.Bool.{and-false}
 use Rattle.key.specs.Pair.{sameThree}
-use Rattle.key.proofs.Plain.{three-far}
 use borrow.Author.Needs.{needs}
 use Rattle.key.proofs.is_same_three.Statement.{statement}
 use Rattle.key.proofs.is_same_three.Tie as tie
@@ -27,9 +27,10 @@ unfolding sameThree
 returns-2 c = search (c .if2 .left, ← c .before .is-same2 .ensures, cases)
 
 returns-3 : tie.Need-returns-3
+unfolding sameThree
 returns-3 c =
-    let s = c .before .before .before .before .args in
-    sym (three-far (s .a) (s .b) (sym (c .before .is-same .ensures) ∙ c .if1 .left))
+    let far = sym (c .before .is-same .ensures) ∙ c .if1 .left in
+    sym (simp (far, and-false))
 
 pub is-same-three-spec : {M : Type 1} → statement M
 is-same-three-spec =
