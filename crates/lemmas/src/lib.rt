@@ -1,1 +1,2 @@
-// What contracts and proofs of every crate share: a writer's contract (specs/), and laws about lists, tests and buffers (proofs/).
+// What contracts and proofs of several crates share: a writer's contract and what holds of each element of a list (specs/), and laws about lists, tests,
+// buffers and the rules' definitions (proofs/).
