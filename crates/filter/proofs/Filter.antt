@@ -41,10 +41,10 @@ asked m b e h f = rw (h, f)
 pub unasked : (m e : Bool) → m ≡ false → cond m e false ≡ false
 unasked m e h = rw h
 
--- ---- one pass over rows of any kind
+-- ---- one pass over the rows of a table
 
 -- Rows of a table: of a hash is asked only that rows of one key have one.
-pub record Kind : Type 1 where
+pub record Table : Type 1 where
   pub Row : Type 0
   -- what is read past the end
   pub none : Row
@@ -53,30 +53,30 @@ pub record Kind : Type 1 where
   pub key : Row → Row → Bool
   pub hashed : (a b : Row) → key a b ≡ true → hash a ≡ hash b
 
-abbrev pub twinsOf : (K : Kind) → K .Row → K .Row → Bool
-twinsOf K = twinsBy (K .key) (K .live)
+abbrev pub twinsOf : (T : Table) → T .Row → T .Row → Bool
+twinsOf T = twinsBy (T .key) (T .live)
 
 -- twins are both live, and have one hash
-joins : (K : Kind) (a b : K .Row) → twinsOf K a b ≡ true → (K .live a ≡ true) × (K .live b ≡ true) × (K .hash a ≡ K .hash b)
-joins K a b e = let q = twins-are (K .key) (K .live) a b e in (q .1, q .2, K .hashed a b (q .0))
+joins : (T : Table) (a b : T .Row) → twinsOf T a b ≡ true → (T .live a ≡ true) × (T .live b ≡ true) × (T .hash a ≡ T .hash b)
+joins T a b e = let q = twins-are (T .key) (T .live) a b e in (q .1, q .2, T .hashed a b (q .0))
 
-module _ (slot : ℕ → ℕ) (K : Kind) (mask p : ℕ) (rows : List (K .Row)) where
-  abbrev pub row : ℕ → K .Row
-  row k = getD rows k (K .none)
+module _ (slot : ℕ → ℕ) (T : Table) (mask p : ℕ) (rows : List (T .Row)) where
+  abbrev pub row : ℕ → T .Row
+  row k = getD rows k (T .none)
 
   -- row j has a twin before it, and one of the pass's class
   abbrev pub earlierTwin : ℕ → Bool
-  earlierTwin j = any (λ (a : K .Row). twinsOf K a (row j)) (take j rows)
+  earlierTwin j = any (λ (a : T .Row). twinsOf T a (row j)) (take j rows)
 
   abbrev pub earlierIn : ℕ → Bool
-  earlierIn j = any (λ (a : K .Row). inClass (K .hash) mask p (twinsOf K) a (row j)) (take j rows)
+  earlierIn j = any (λ (a : T .Row). inClass (T .hash) mask p (twinsOf T) a (row j)) (take j rows)
 
-  abbrev pub chosen : K .Row → Bool
-  chosen r = chosenOf mask p (K .live r) (K .hash r)
+  abbrev pub chosen : T .Row → Bool
+  chosen r = chosenOf mask p (T .live r) (T .hash r)
 
   -- every chosen row before j has its mark
   pub Holds : ℕ → List ℕ → Type 0
-  Holds j ws = (k : ℕ) → k < j → chosen (row k) ≡ true → has slot ws (K .hash (row k)) ≡ true
+  Holds j ws = (k : ℕ) → k < j → chosen (row k) ≡ true → has slot ws (T .hash (row k)) ≡ true
 
   pub none-held : (ws : List ℕ) → Holds 0 ws
   unfolding Holds
@@ -84,81 +84,81 @@ module _ (slot : ℕ → ℕ) (K : Kind) (mask p : ℕ) (rows : List (K .Row)) w
 
   -- no mark, or a mark and no earlier twin: no earlier twin of the class
   miss : (j : ℕ) (ws : List ℕ) → j < length rows → Holds j ws
-      → cond (maybeOf (chosen (row j)) (getD ws (slot (K .hash (row j))) 0) (K .hash (row j)))
+      → cond (maybeOf (chosen (row j)) (getD ws (slot (T .hash (row j))) 0) (T .hash (row j)))
       (earlierTwin j) false ≡ false
       → earlierIn j ≡ false
   unfolding maybeOf Holds inClass chosenOf
   miss j ws low holds e =
-      any-false (λ (a : K .Row). inClass (K .hash) mask p (twinsOf K) a (row j)) (take j rows) (K .none) (λ k l. not-so _ (λ w. twin-not k l w))
+      any-false (λ (a : T .Row). inClass (T .hash) mask p (twinsOf T) a (row j)) (take j rows) (T .none) (λ k l. not-so _ (λ w. twin-not k l w))
     where
-      twin-not : (k : ℕ) → k < length (take j rows) → inClass (K .hash) mask p (twinsOf K) (getD (take j rows) k (K .none)) (row j) ≡ true → ⊥
+      twin-not : (k : ℕ) → k < length (take j rows) → inClass (T .hash) mask p (twinsOf T) (getD (take j rows) k (T .none)) (row j) ≡ true → ⊥
       twin-not k l w =
           let b : k < j = omega (arith, length-take j rows) in
-          let row-k : getD (take j rows) k (K .none) ≡ row k = getD-take j rows k (K .none) b in
-          let q = cond-true (eqb (classOf mask (K .hash (row j))) p) (twinsOf K (getD (take j rows) k (K .none)) (row j)) w in
-          let tw : twinsOf K (row k) (row j) ≡ true = rw row-k at (q .1) in
-          let s = joins K (row k) (row j) tw in
+          let row-k : getD (take j rows) k (T .none) ≡ row k = getD-take j rows k (T .none) b in
+          let q = cond-true (eqb (classOf mask (T .hash (row j))) p) (twinsOf T (getD (take j rows) k (T .none)) (row j)) w in
+          let tw : twinsOf T (row k) (row j) ≡ true = rw row-k at (q .1) in
+          let s = joins T (row k) (row j) tw in
           let c : chosen (row k) ≡ true = rw (s .0, s .2, q .0) in
-          let m : has slot ws (K .hash (row j)) ≡ true = rw (s .2) at (holds k b c) in
+          let m : has slot ws (T .hash (row j)) ≡ true = rw (s .2) at (holds k b c) in
           let f : earlierTwin j ≡ false = rw (s .1, q .0, m) at e in
-          let g = any-not (λ (a : K .Row). twinsOf K a (row j)) (take j rows) (K .none) f k l in
+          let g = any-not (λ (a : T .Row). twinsOf T a (row j)) (take j rows) (T .none) f k l in
           true-false (sym (q .1) ∙ g)
 
   -- a twin was found of a row that is chosen
-  hit : (j : ℕ) (w : ℕ) → cond (maybeOf (chosen (row j)) w (K .hash (row j))) (earlierTwin j) false ≡ true
+  hit : (j : ℕ) (w : ℕ) → cond (maybeOf (chosen (row j)) w (T .hash (row j))) (earlierTwin j) false ≡ true
       → earlierIn j ≡ true
   unfolding maybeOf inClass chosenOf
   hit j w e =
       let q = cond-true _ (earlierTwin j) e in
-      let r = cond-true (chosen (row j)) (hasBits w (K .hash (row j))) (q .0) in
-      let s = cond-true (K .live (row j)) (eqb (classOf mask (K .hash (row j))) p) (r .0) in
+      let r = cond-true (chosen (row j)) (hasBits w (T .hash (row j))) (q .0) in
+      let s = cond-true (T .live (row j)) (eqb (classOf mask (T .hash (row j))) p) (r .0) in
       rw (s .1) (q .1)
 
   -- its own mark is set, and the others stay
-  keep : (j : ℕ) (ws : List ℕ) → slot (K .hash (row j)) < length ws → Holds j ws
-      → Holds (j + 1) (set ws (slot (K .hash (row j))) (markedOf (chosen (row j)) (getD ws (slot (K .hash (row j))) 0) (K .hash (row j))))
+  keep : (j : ℕ) (ws : List ℕ) → slot (T .hash (row j)) < length ws → Holds j ws
+      → Holds (j + 1) (set ws (slot (T .hash (row j))) (markedOf (chosen (row j)) (getD ws (slot (T .hash (row j))) 0) (T .hash (row j))))
   unfolding Holds
   keep j ws room holds k l c =
       ⊎-elim
       (λ (e : k ≡ j).
       let on : chosen (row j) ≡ true = rw e at c in
       rw (e, getD-set-same ws _ _ 0 room, on) (marks _ _))
-      (λ (m : k < j). go m (eqb (slot (K .hash (row k))) (slot (K .hash (row j)))) refl)
+      (λ (m : k < j). go m (eqb (slot (T .hash (row k))) (slot (T .hash (row j)))) refl)
       (eq-or-lt-of-le (omega arith))
     where
-      go : k < j → (b : Bool) → eqb (slot (K .hash (row k))) (slot (K .hash (row j))) ≡ b
+      go : k < j → (b : Bool) → eqb (slot (T .hash (row k))) (slot (T .hash (row j))) ≡ b
           → has slot
-          (set ws (slot (K .hash (row j))) (markedOf (chosen (row j)) (getD ws (slot (K .hash (row j))) 0) (K .hash (row j))))
-          (K .hash (row k)) ≡ true
+          (set ws (slot (T .hash (row j))) (markedOf (chosen (row j)) (getD ws (slot (T .hash (row j))) 0) (T .hash (row j))))
+          (T .hash (row k)) ≡ true
       go m true q =
-          let e : slot (K .hash (row k)) ≡ slot (K .hash (row j)) = eqb-true (slot (K .hash (row k))) (slot (K .hash (row j))) q in
+          let e : slot (T .hash (row k)) ≡ slot (T .hash (row j)) = eqb-true (slot (T .hash (row k))) (slot (T .hash (row j))) q in
           rw (e, getD-set-same ws _ _ 0 room) (stays _ _ _ _ (rw e at (holds k m c)))
       go m false q =
-          rw (getD-set-other ws _ _ _ 0 (eqb-false (slot (K .hash (row k))) (slot (K .hash (row j))) q)) (holds k m c)
+          rw (getD-set-other ws _ _ _ 0 (eqb-false (slot (T .hash (row k))) (slot (T .hash (row j))) q)) (holds k m c)
 
   -- ---- the pass as a loop
 
   -- at row j: no two of the rows before it are twins of the class, and each of the class has its mark in the words
   abbrev pub Passed : ℕ → ℕ → List ℕ → Type 0
   Passed size j ws =
-      (j ≤ length rows) × (length ws ≡ size) × (anyTwo (inClass (K .hash) mask p (twinsOf K)) (take j rows) ≡ false) × Holds j ws
+      (j ≤ length rows) × (length ws ≡ size) × (anyTwo (inClass (T .hash) mask p (twinsOf T)) (take j rows) ≡ false) × Holds j ws
 
   pub passed-none : (size : ℕ) (ws : List ℕ) → length ws ≡ size → Passed size 0 ws
-  passed-none size ws e = (omega arith, e, two-start (inClass (K .hash) mask p (twinsOf K)) rows, none-held ws)
+  passed-none size ws e = (omega arith, e, two-start (inClass (T .hash) mask p (twinsOf T)) rows, none-held ws)
 
-  pub passed-all : (size j : ℕ) (ws : List ℕ) → Passed size j ws → length rows ≤ j → anyTwo (inClass (K .hash) mask p (twinsOf K)) rows ≡ false
-  passed-all size j ws w h = two-end (inClass (K .hash) mask p (twinsOf K)) rows j h (w .2)
+  pub passed-all : (size j : ℕ) (ws : List ℕ) → Passed size j ws → length rows ≤ j → anyTwo (inClass (T .hash) mask p (twinsOf T)) rows ≡ false
+  passed-all size j ws w h = two-end (inClass (T .hash) mask p (twinsOf T)) rows j h (w .2)
 
   -- with a name for each thing that the code computes on the way
   module _ (j h s : ℕ) (v on m : Bool) (ws : List ℕ) (low : j < length rows)
-      (hashed : h ≡ K .hash (row j)) (lives : v ≡ K .live (row j)) (chose : on ≡ chosenOf mask p v h) (placed : s ≡ slot h)
+      (hashed : h ≡ T .hash (row j)) (lives : v ≡ T .live (row j)) (chose : on ≡ chosenOf mask p v h) (placed : s ≡ slot h)
       (asks : m ≡ maybeOf on (getD ws s 0) h) where
     chose-is : on ≡ chosen (row j)
     chose-is = chose ∙ rw (hashed, lives)
 
-    pub passed-hit : (b : Bool) → m ≡ true → b ≡ earlierTwin j → b ≡ true → anyTwo (inClass (K .hash) mask p (twinsOf K)) rows ≡ true
+    pub passed-hit : (b : Bool) → m ≡ true → b ≡ earlierTwin j → b ≡ true → anyTwo (inClass (T .hash) mask p (twinsOf T)) rows ≡ true
     passed-hit b e f g =
-        two-hit (inClass (K .hash) mask p (twinsOf K)) rows j (K .none) low
+        two-hit (inClass (T .hash) mask p (twinsOf T)) rows j (T .none) low
         (hit j (getD ws s 0) (rw (← chose-is, ← hashed, ← asks) (asked m b (earlierTwin j) e f ∙ g)))
 
     pub passed-more : (size x : ℕ) → Passed size j ws → s < length ws → cond m (earlierTwin j) false ≡ false → x ≡ markedOf on (getD ws s 0) h
@@ -166,7 +166,7 @@ module _ (slot : ℕ → ℕ) (K : Kind) (mask p : ℕ) (rows : List (K .Row)) w
     passed-more size x w room f e = (
       omega arith,
       length-set ws s x ∙ w .1,
-      two-more (inClass (K .hash) mask p (twinsOf K)) rows j (K .none) low (w .2)
+      two-more (inClass (T .hash) mask p (twinsOf T)) rows j (T .none) low (w .2)
           (miss j ws low (w .3) (rw (← chose-is, ← hashed, ← placed, ← asks) f)),
       rw (e, chose-is, placed, hashed) (keep j ws (rw (← hashed, ← placed) room) (w .3)),
     )
@@ -201,17 +201,17 @@ module _ {R : Type 0} (hash : R → ℕ) (twins : R → R → Bool) (mask : ℕ)
       ∙ two-less (inClass hash mask q twins) twins (λ a b w. cond-true (eqb (classOf mask (hash b)) q) (twins a b) w .1) rows n))
 
 -- no two are twins of a class below p
-module _ (K : Kind) (mask : ℕ) (rows : List (K .Row)) where
+module _ (T : Table) (mask : ℕ) (rows : List (T .Row)) where
   abbrev pub Below : ℕ → Type 0
-  Below p = (q : ℕ) → q < p → anyTwo (inClass (K .hash) mask q (twinsOf K)) rows ≡ false
+  Below p = (q : ℕ) → q < p → anyTwo (inClass (T .hash) mask q (twinsOf T)) rows ≡ false
 
-  pub below-first : (b : Bool) → b ≡ anyTwo (inClass (K .hash) mask 0 (twinsOf K)) rows → b ≡ false → Below 1
+  pub below-first : (b : Bool) → b ≡ anyTwo (inClass (T .hash) mask 0 (twinsOf T)) rows → b ≡ false → Below 1
   below-first b e f q l =
       let z : q ≡ 0 = omega arith in
       rw z (sym e ∙ f)
 
-  pub below-all : (p : ℕ) → Below p → mask < p → anyTwo (twinsOf K) rows ≡ false
-  below-all p w h = each-class (K .hash) (twinsOf K) mask rows (λ q l. w q (omega arith))
+  pub below-all : (p : ℕ) → Below p → mask < p → anyTwo (twinsOf T) rows ≡ false
+  below-all p w h = each-class (T .hash) (twinsOf T) mask rows (λ q l. w q (omega arith))
 
 -- ---- one class for all
 

@@ -7,12 +7,12 @@ use Rattle.row.specs.declared.RouteRow.{RouteRow}
 use Rattle.key.specs.Pair.{sameKey, sameThree}
 use Rattle.key.proofs.Plain.{key-parts, three-parts}
 use Rattle.filter.specs.Filter.{hashRow, hashRoute}
-use Rattle.filter.proofs.Filter.{Kind}
+use Rattle.filter.proofs.Filter.{Table}
 
 -- the two tables, at time t
 
-abbrev pub rowKind : ℕ → Kind
-rowKind t = record {
+abbrev pub rowTable : ℕ → Table
+rowTable t = record {
   Row = InstanceRow;
   none = noRow;
   hash = hashRow;
@@ -21,8 +21,8 @@ rowKind t = record {
   hashed = λ a b e. let k = key-parts a b e in rw (k .0, k .1, k .2);
 }
 
-abbrev pub routeKind : ℕ → Kind
-routeKind t = record {
+abbrev pub routeTable : ℕ → Table
+routeTable t = record {
   Row = RouteRow;
   none = noRoute;
   hash = hashRoute;

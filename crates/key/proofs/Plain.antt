@@ -20,7 +20,7 @@ use Rattle.row.specs.declared.InstanceRow.{InstanceRow}
 use Rattle.row.specs.declared.RouteRow.{RouteRow}
 use Rattle.lemmas.proofs.Rules.{every-kind}
 use Rattle.first.proofs.Found.{seen, kind-cons}
-use Rattle.key.specs.Pair.{sameKey, rowTwins, sameThree, routePair, twinsBy}
+use Rattle.key.specs.Pair.{sameKey, twinRows, sameThree, twinRoutes, twinsBy}
 use Rattle.key.proofs.Any.{two-same, two-either}
 
 pub key-near : (a b : InstanceRow) → eqb (a .kind) (b .kind) ≡ true → same (a .dodagid) (b .dodagid) ≡ true
@@ -134,6 +134,17 @@ live-route t r = go (eqb (r .kind) 1) refl
     go true e l = eqb-true (r .kind) 1 e
     go false e l = true-false (sym l)
 
+-- G says something of two rows that are seen, and of one that is not live nothing
+pair-is : {A : Type 0} (key : A → A → Bool) (lives : A → Bool) (a b : A) (G : Bool → Bool → Bool) → ((y : Bool) → G false y ≡ false)
+    → G true false ≡ false → (lives a ≡ true → lives b ≡ true → G true true ≡ cond (key a b) true false) → G (lives a) (lives b) ≡ twinsBy key lives a b
+unfolding twinsBy
+pair-is key lives a b G f g h = go (lives a) refl (lives b) refl
+  where
+    go : (x : Bool) → lives a ≡ x → (y : Bool) → lives b ≡ y → G x y ≡ cond (key a b) (cond x y false) false
+    go false e y d = f y ∙ sym (cond-false (key a b))
+    go true e false d = g ∙ sym (cond-false (key a b))
+    go true e true d = h e d
+
 abbrev sameRequest : RequestRow → RequestRow → Bool
 sameRequest a b = eqb (a .instance) (b .instance) && same (a .dodagid) (b .dodagid)
 
@@ -159,22 +170,17 @@ module _ (t : ℕ) (a b : InstanceRow) where
 
   row-pair : both sameRequest (seen instanceDeadline asRequest t (instanceOf a)) (seen instanceDeadline asRequest t (instanceOf b))
       || both sameReply (seen instanceDeadline asReply t (instanceOf a)) (seen instanceDeadline asReply t (instanceOf b))
-      ≡ rowTwins t a b
-  unfolding twinsBy
-  row-pair = go (live instanceDeadline t (instanceOf a)) refl (live instanceDeadline t (instanceOf b)) refl
-    where
-      go : (x : Bool) → live instanceDeadline t (instanceOf a) ≡ x → (y : Bool) → live instanceDeadline t (instanceOf b) ≡ y
-          → both sameRequest (cond x (ofRow asRequest (instanceOf a)) none) (cond y (ofRow asRequest (instanceOf b)) none)
-          || both sameReply (cond x (ofRow asReply (instanceOf a)) none) (cond y (ofRow asReply (instanceOf b)) none)
-          ≡ cond (sameKey a b) (cond x y false) false
-      go false e y f = sym (cond-false (sameKey a b))
-      go true e false f =
-          rw (both-none sameRequest (ofRow asRequest (instanceOf a)), both-none sameReply (ofRow asReply (instanceOf a)), cond-false (sameKey a b))
-      go true e true f = both-live (live-kind t a e) (live-kind t b f)
+      ≡ twinRows t a b
+  row-pair =
+      pair-is sameKey (λ (r : InstanceRow). live instanceDeadline t (instanceOf r)) a b
+      (λ x y. both sameRequest (cond x (ofRow asRequest (instanceOf a)) none) (cond y (ofRow asRequest (instanceOf b)) none)
+      || both sameReply (cond x (ofRow asReply (instanceOf a)) none) (cond y (ofRow asReply (instanceOf b)) none))
+      (λ y. refl) (rw (both-none sameRequest (ofRow asRequest (instanceOf a)), both-none sameReply (ofRow asReply (instanceOf a))))
+      (λ e f. both-live (live-kind t a e) (live-kind t b f))
 
 -- "two request rows, two reply rows .. of the same key, both live at the last accepted time"
 pub rows-twins : (t : ℕ) (rows : List InstanceRow)
-    → anyTwo (rowTwins t) rows
+    → anyTwo (twinRows t) rows
     ≡ anyTwo requestTwins (requests (liveRows instanceDeadline t (map instanceOf rows)))
     || anyTwo replyTwins (replies (liveRows instanceDeadline t (map instanceOf rows)))
 rows-twins t rows =
@@ -183,7 +189,7 @@ rows-twins t rows =
     (λ (a b : InstanceRow). both sameRequest (seen instanceDeadline asRequest t (instanceOf a)) (seen instanceDeadline asRequest t (instanceOf b)))
     (λ (a b : InstanceRow). both sameReply (seen instanceDeadline asReply t (instanceOf a)) (seen instanceDeadline asReply t (instanceOf b)))
     rows
-    ∙ two-same _ (rowTwins t) (row-pair t) rows))
+    ∙ two-same _ (twinRows t) (row-pair t) rows))
 
 -- ---- routes
 
@@ -197,19 +203,14 @@ module _ (t : ℕ) (a b : RouteRow) where
       rw (route-part a, route-part b, e, f)
       (cond-self (same (a .source) (b .source) && same (a .destination) (b .destination) && eqb (a .instance) (b .instance)))
 
-  route-pair : both sameRoute (seen routeDeadline some t (routeOf a)) (seen routeDeadline some t (routeOf b)) ≡ routePair t a b
-  unfolding twinsBy
-  route-pair = go (live routeDeadline t (routeOf a)) refl (live routeDeadline t (routeOf b)) refl
-    where
-      go : (x : Bool) → live routeDeadline t (routeOf a) ≡ x → (y : Bool) → live routeDeadline t (routeOf b) ≡ y
-          → both sameRoute (cond x (ofRow some (routeOf a)) none) (cond y (ofRow some (routeOf b)) none)
-          ≡ cond (sameThree a b) (cond x y false) false
-      go false e y f = sym (cond-false (sameThree a b))
-      go true e false f = rw (both-none sameRoute (ofRow some (routeOf a)), cond-false (sameThree a b))
-      go true e true f = both-live-routes (live-route t a e) (live-route t b f)
+  route-pair : both sameRoute (seen routeDeadline some t (routeOf a)) (seen routeDeadline some t (routeOf b)) ≡ twinRoutes t a b
+  route-pair =
+      pair-is sameThree (λ (r : RouteRow). live routeDeadline t (routeOf r)) a b
+      (λ x y. both sameRoute (cond x (ofRow some (routeOf a)) none) (cond y (ofRow some (routeOf b)) none))
+      (λ y. refl) (both-none sameRoute (ofRow some (routeOf a))) (λ e f. both-live-routes (live-route t a e) (live-route t b f))
 
 -- ".. or two routes of the same key, both live at the last accepted time"
-pub routes-twins : (t : ℕ) (routes : List RouteRow) → anyTwo (routePair t) routes ≡ anyTwo routeTwins (liveRows routeDeadline t (map routeOf routes))
+pub routes-twins : (t : ℕ) (routes : List RouteRow) → anyTwo (twinRoutes t) routes ≡ anyTwo routeTwins (liveRows routeDeadline t (map routeOf routes))
 routes-twins t routes =
     rw (every-kind (liveRows routeDeadline t (map routeOf routes)))
-    (sym (two-seen routeOf routeDeadline some t sameRoute 0 routes ∙ two-same _ (routePair t) (route-pair t) routes))
+    (sym (two-seen routeOf routeDeadline some t sameRoute 0 routes ∙ two-same _ (twinRoutes t) (route-pair t) routes))

@@ -22,11 +22,11 @@ sameThree a b = same (a .source) (b .source) && same (a .destination) (b .destin
 unfoldable pub twinsBy : {A : Type 0} → (A → A → Bool) → (A → Bool) → A → A → Bool
 twinsBy key lives a b = cond (key a b) (cond (lives a) (lives b) false) false
 
-abbrev pub rowTwins : ℕ → InstanceRow → InstanceRow → Bool
-rowTwins t = twinsBy sameKey (λ (r : InstanceRow). live instanceDeadline t (instanceOf r))
+abbrev pub twinRows : ℕ → InstanceRow → InstanceRow → Bool
+twinRows t = twinsBy sameKey (λ (r : InstanceRow). live instanceDeadline t (instanceOf r))
 
-abbrev pub routePair : ℕ → RouteRow → RouteRow → Bool
-routePair t = twinsBy sameThree (λ (r : RouteRow). live routeDeadline t (routeOf r))
+abbrev pub twinRoutes : ℕ → RouteRow → RouteRow → Bool
+twinRoutes t = twinsBy sameThree (λ (r : RouteRow). live routeDeadline t (routeOf r))
 
 -- the last octet of an address, in which addresses differ most: rows of one key have one
 abbrev pub endingOf : Address → ℕ

@@ -1,7 +1,7 @@
 // Two rows of a table, by value: whether they have one key, and are twins (01, answer 2).
 ghost use mathlib.Core.Path.{_≡_};
 ghost use lib.Dec.{eqb};
-ghost use Rattle.key.specs.Pair.{sameKey, sameThree, rowTwins, routePair, endingOf};
+ghost use Rattle.key.specs.Pair.{sameKey, sameThree, twinRows, twinRoutes, endingOf};
 use row::InstanceRow;
 use row::RouteRow;
 
@@ -22,7 +22,7 @@ fn is_same_key(a: InstanceRow, b: InstanceRow) -> bool
 
 // The key is compared first: few rows have the same.
 pub fn are_twins(a: InstanceRow, b: InstanceRow, t: u64) -> bool
-    ensures { λ r. ⌜ r ≡ rowTwins t a b ⌝ }
+    ensures { λ r. ⌜ r ≡ twinRows t a b ⌝ }
 {
     if is_same_key(a, b) {
         if live::is_live(a, t) {
@@ -50,7 +50,7 @@ fn is_same_three(a: RouteRow, b: RouteRow) -> bool
 }
 
 pub fn are_twin_routes(a: RouteRow, b: RouteRow, t: u64) -> bool
-    ensures { λ r. ⌜ r ≡ routePair t a b ⌝ }
+    ensures { λ r. ⌜ r ≡ twinRoutes t a b ⌝ }
 {
     if is_same_three(a, b) {
         if live::is_live_route(a, t) {

@@ -12,7 +12,7 @@ ghost use Rattle.plain.specs.Lists.{any, anyTwo};
 ghost use Rattle.plain.specs.Table.{liveRows, instanceDeadline, routeDeadline};
 ghost use Rattle.plain.specs.Answers.{requests, replies, requestTwins, replyTwins, routeTwins};
 ghost use Rattle.row.specs.Meaning.{instanceOf, routeOf, noRow, noRoute};
-ghost use Rattle.key.specs.Pair.{rowTwins, routePair, endingOf};
+ghost use Rattle.key.specs.Pair.{twinRows, twinRoutes, endingOf};
 ghost use Rattle.filter.specs.Filter.{hashRow, hashRoute, inClass};
 use row::InstanceRow;
 use row::RouteRow;
@@ -23,7 +23,7 @@ use row::RouteRow;
 // it is not compiled into any.
 fn scan(rows: &[InstanceRow], j: usize, t: u64) -> bool
     requires { ⌜ j < length (now rows) ⌝ }
-    ensures { λ b. ⌜ b ≡ any (λ a. rowTwins t a (getD (now (rows .entry)) j noRow)) (take j (now (rows .entry))) ⌝ }
+    ensures { λ b. ⌜ b ≡ any (λ a. twinRows t a (getD (now (rows .entry)) j noRow)) (take j (now (rows .entry))) ⌝ }
 {
     let mut i: usize = 0;
     while i < j {
@@ -53,7 +53,7 @@ fn has_ending(rows: &[InstanceRow], j: usize) -> bool
 }
 
 fn every_pair(rows: &[InstanceRow], t: u64) -> bool
-    ensures { λ b. ⌜ b ≡ anyTwo (rowTwins t) (now (rows .entry)) ⌝ }
+    ensures { λ b. ⌜ b ≡ anyTwo (twinRows t) (now (rows .entry)) ⌝ }
 {
     let mut j: usize = 0;
     while j < rows.len() {
@@ -69,7 +69,7 @@ fn every_pair(rows: &[InstanceRow], t: u64) -> bool
 
 // All in one pass, with the small filter.
 fn few(rows: &[InstanceRow], t: u64) -> bool
-    ensures { λ b. ⌜ b ≡ anyTwo (rowTwins t) (now (rows .entry)) ⌝ }
+    ensures { λ b. ⌜ b ≡ anyTwo (twinRows t) (now (rows .entry)) ⌝ }
 {
     let mut words: [u64; 64] = [0; 64];
     let mut j: usize = 0;
@@ -91,7 +91,7 @@ fn few(rows: &[InstanceRow], t: u64) -> bool
 
 // Twins of one class.
 fn pass(rows: &[InstanceRow], t: u64, mask: u64, p: u64) -> bool
-    ensures { λ b. ⌜ b ≡ anyTwo (inClass hashRow mask p (rowTwins t)) (now (rows .entry)) ⌝ }
+    ensures { λ b. ⌜ b ≡ anyTwo (inClass hashRow mask p (twinRows t)) (now (rows .entry)) ⌝ }
 {
     let mut words: [u64; 1536] = [0; 1536];
     let mut j: usize = 0;
@@ -114,7 +114,7 @@ fn pass(rows: &[InstanceRow], t: u64, mask: u64, p: u64) -> bool
 // The first pass is called for by itself: a function of one caller would be compiled into it, and its filter would then stand in the frame
 // of every call, that of a node with few rows too.
 fn passes(rows: &[InstanceRow], t: u64) -> bool
-    ensures { λ b. ⌜ b ≡ anyTwo (rowTwins t) (now (rows .entry)) ⌝ }
+    ensures { λ b. ⌜ b ≡ anyTwo (twinRows t) (now (rows .entry)) ⌝ }
 {
     let mask = filter::mask_for(rows.len());
     if pass(rows, t, mask, 0) {
@@ -147,7 +147,7 @@ pub fn has_twins(rows: &[InstanceRow], clock: u64) -> bool
 
 fn scan_routes(routes: &[RouteRow], j: usize, t: u64) -> bool
     requires { ⌜ j < length (now routes) ⌝ }
-    ensures { λ b. ⌜ b ≡ any (λ a. routePair t a (getD (now (routes .entry)) j noRoute)) (take j (now (routes .entry))) ⌝ }
+    ensures { λ b. ⌜ b ≡ any (λ a. twinRoutes t a (getD (now (routes .entry)) j noRoute)) (take j (now (routes .entry))) ⌝ }
 {
     let mut i: usize = 0;
     while i < j {
@@ -175,7 +175,7 @@ fn has_route_ending(routes: &[RouteRow], j: usize) -> bool
 }
 
 fn every_pair_of_routes(routes: &[RouteRow], t: u64) -> bool
-    ensures { λ b. ⌜ b ≡ anyTwo (routePair t) (now (routes .entry)) ⌝ }
+    ensures { λ b. ⌜ b ≡ anyTwo (twinRoutes t) (now (routes .entry)) ⌝ }
 {
     let mut j: usize = 0;
     while j < routes.len() {
@@ -190,7 +190,7 @@ fn every_pair_of_routes(routes: &[RouteRow], t: u64) -> bool
 }
 
 fn few_routes(routes: &[RouteRow], t: u64) -> bool
-    ensures { λ b. ⌜ b ≡ anyTwo (routePair t) (now (routes .entry)) ⌝ }
+    ensures { λ b. ⌜ b ≡ anyTwo (twinRoutes t) (now (routes .entry)) ⌝ }
 {
     let mut words: [u64; 64] = [0; 64];
     let mut j: usize = 0;
@@ -211,7 +211,7 @@ fn few_routes(routes: &[RouteRow], t: u64) -> bool
 }
 
 fn pass_routes(routes: &[RouteRow], t: u64, mask: u64, p: u64) -> bool
-    ensures { λ b. ⌜ b ≡ anyTwo (inClass hashRoute mask p (routePair t)) (now (routes .entry)) ⌝ }
+    ensures { λ b. ⌜ b ≡ anyTwo (inClass hashRoute mask p (twinRoutes t)) (now (routes .entry)) ⌝ }
 {
     let mut words: [u64; 1536] = [0; 1536];
     let mut j: usize = 0;
@@ -232,7 +232,7 @@ fn pass_routes(routes: &[RouteRow], t: u64, mask: u64, p: u64) -> bool
 }
 
 fn passes_routes(routes: &[RouteRow], t: u64) -> bool
-    ensures { λ b. ⌜ b ≡ anyTwo (routePair t) (now (routes .entry)) ⌝ }
+    ensures { λ b. ⌜ b ≡ anyTwo (twinRoutes t) (now (routes .entry)) ⌝ }
 {
     let mask = filter::mask_for(routes.len());
     if pass_routes(routes, t, mask, 0) {

@@ -1,12 +1,12 @@
 pub mod Lts
 pub mod Tie
-use Rattle.filter.proofs.Joins.{rowKind}
+use Rattle.filter.proofs.Joins.{rowTable}
 use Prim.Native.Nat.{_-_}
 use mathlib.Core.Path.{sym, _∙_}
 use mathlib.Core.Logic.{⊎-elim}
 use denote.Ref.{now}
 use lib.ListN.{length}
-use Rattle.key.specs.Pair.{rowTwins}
+use Rattle.key.specs.Pair.{twinRows}
 use Rattle.filter.specs.Filter.{fewSlotOf, hashRow}
 use Rattle.filter.proofs.Filter.{Passed, passed-none, passed-hit, passed-more, passed-all, asked, unasked, one-chosen, one-class, all-class}
 use borrow.Author.Needs.{needs}
@@ -15,13 +15,13 @@ use Rattle.twins.proofs.few.Proof.Tie as tie
 
 -- No two of the first j rows are twins, and each live one of them has its mark: the one class is all rows.
 abbrev Inv-loop : tie.InvT-loop
-Inv-loop rows t words₀ j₀ words j = Passed fewSlotOf (rowKind t) 0 0 rows 64 j words
+Inv-loop rows t words₀ j₀ words j = Passed fewSlotOf (rowTable t) 0 0 rows 64 j words
 
 abbrev μ-loop : tie.MeasureT-loop
 μ-loop rows t words₀ j₀ words j = length rows - j
 
 loop-holds : tie.Need-loop-holds Inv-loop μ-loop
-loop-holds c = passed-none fewSlotOf (rowKind (c .args .t)) 0 0 (now (c .args .rows)) 64 _ (search needs)
+loop-holds c = passed-none fewSlotOf (rowTable (c .args .t)) 0 0 (now (c .args .rows)) 64 _ (search needs)
 
 mul-hash-row : tie.Need-mul-hash-row Inv-loop μ-loop
 mul-hash-row c = search needs
@@ -64,7 +64,7 @@ returns c = let a = c .before .before .before .before .before .before .before .b
     let s = c .before .before .before .before .few-slot-of in
     let m = c .before .before .before .maybe in
     let e = c .before .scan in
-    sym (one-class hashRow (rowTwins (a .t)) 0 0 (now (a .rows)) (passed-hit fewSlotOf (rowKind (a .t)) 0 0 (now (a .rows)) (l .j) (h .result) (s .result) (v .result) (v .result) (m .result) (l .words) (search needs) (h .ensures) (v .ensures) (one-chosen (v .result) (h .result)) (s .ensures .0) (m .ensures) (e .result) (c .before .before .if1 .taken) (e .ensures) (c .if2 .taken)))
+    sym (one-class hashRow (twinRows (a .t)) 0 0 (now (a .rows)) (passed-hit fewSlotOf (rowTable (a .t)) 0 0 (now (a .rows)) (l .j) (h .result) (s .result) (v .result) (v .result) (m .result) (l .words) (search needs) (h .ensures) (v .ensures) (one-chosen (v .result) (h .result)) (s .ensures .0) (m .ensures) (e .result) (c .before .before .if1 .taken) (e .ensures) (c .if2 .taken)))
 
 marked-requires : tie.Need-marked-requires Inv-loop μ-loop
 marked-requires c = search needs
@@ -90,13 +90,13 @@ loop-again c = let a = c .before .before .before .before .before .before .before
     let m = c .before .before .maybe in
     let none = ⊎-elim (λ w. asked (m .result) (w .1 .result) _ (w .0 .taken) (w .1 .ensures) ∙ w .2 .left) (λ w. unasked (m .result) _ (w .left))
     (c .before .if1 .came) in
-    passed-more fewSlotOf (rowKind (a .t)) 0 0 (now (a .rows)) (l .j) (h .result) (s .result) (v .result) (v .result) (m .result) (l .words) (search needs) (h .ensures) (v .ensures) (one-chosen (v .result) (h .result)) (s .ensures .0) (m .ensures) 64 (c .marked .result) (l .inv) (search needs)
+    passed-more fewSlotOf (rowTable (a .t)) 0 0 (now (a .rows)) (l .j) (h .result) (s .result) (v .result) (v .result) (m .result) (l .words) (search needs) (h .ensures) (v .ensures) (one-chosen (v .result) (h .result)) (s .ensures .0) (m .ensures) 64 (c .marked .result) (l .inv) (search needs)
     none (c .marked .ensures)
 
 returns-2 : tie.Need-returns-2 Inv-loop μ-loop
 returns-2 c = let a = c .before .before .args in
     let l = c .before .loop in
-    sym (all-class hashRow (rowTwins (a .t)) (now (a .rows)) (passed-all fewSlotOf (rowKind (a .t)) 0 0 (now (a .rows)) 64 (l .j) (l .words) (l .inv) (c .loop-test .left)))
+    sym (all-class hashRow (twinRows (a .t)) (now (a .rows)) (passed-all fewSlotOf (rowTable (a .t)) 0 0 (now (a .rows)) 64 (l .j) (l .words) (l .inv) (c .loop-test .left)))
 
 pub few-spec : {M : Type 1} → statement M
 few-spec = tie.close (tie.spec Inv-loop μ-loop loop-holds mul-hash-row shared-slice-copy-out-hash-row hash-row-requires mul-is-live shared-slice-copy-out-is-live is-live-requires few-slot-of-requires mul-w array-read-w maybe-requires scan-requires returns marked-requires mul-words array-write-words add-j loop-less loop-again returns-2)

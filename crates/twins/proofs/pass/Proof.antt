@@ -1,6 +1,6 @@
 pub mod Lts
 pub mod Tie
-use Rattle.filter.proofs.Joins.{rowKind}
+use Rattle.filter.proofs.Joins.{rowTable}
 use Prim.Native.Nat.{_-_}
 use mathlib.Core.Path.{sym, _∙_}
 use mathlib.Core.Logic.{⊎-elim}
@@ -14,13 +14,13 @@ use Rattle.twins.proofs.pass.Proof.Tie as tie
 
 -- No two of the first j rows are twins of the pass's class, and each of them that is of the class has its mark.
 abbrev Inv-loop : tie.InvT-loop
-Inv-loop rows t mask p words₀ j₀ words j = Passed slotOf (rowKind t) mask p rows 1536 j words
+Inv-loop rows t mask p words₀ j₀ words j = Passed slotOf (rowTable t) mask p rows 1536 j words
 
 abbrev μ-loop : tie.MeasureT-loop
 μ-loop rows t mask p words₀ j₀ words j = length rows - j
 
 loop-holds : tie.Need-loop-holds Inv-loop μ-loop
-loop-holds c = passed-none slotOf (rowKind (c .args .t)) (c .args .mask) (c .args .p) (now (c .args .rows)) 1536 _ (search needs)
+loop-holds c = passed-none slotOf (rowTable (c .args .t)) (c .args .mask) (c .args .p) (now (c .args .rows)) 1536 _ (search needs)
 
 mul-hash-row : tie.Need-mul-hash-row Inv-loop μ-loop
 mul-hash-row c = search needs
@@ -67,7 +67,7 @@ returns c = let a = c .before .before .before .before .before .before .before .b
     let s = c .before .before .before .before .slot-of in
     let m = c .before .before .before .maybe in
     let e = c .before .scan in
-    sym (passed-hit slotOf (rowKind (a .t)) (a .mask) (a .p) (now (a .rows)) (l .j) (h .result) (s .result) (v .result) (o .result) (m .result) (l .words) (search needs) (h .ensures) (v .ensures) (o .ensures) (s .ensures .0) (m .ensures) (e .result) (c .before .before .if1 .taken) (e .ensures) (c .if2 .taken))
+    sym (passed-hit slotOf (rowTable (a .t)) (a .mask) (a .p) (now (a .rows)) (l .j) (h .result) (s .result) (v .result) (o .result) (m .result) (l .words) (search needs) (h .ensures) (v .ensures) (o .ensures) (s .ensures .0) (m .ensures) (e .result) (c .before .before .if1 .taken) (e .ensures) (c .if2 .taken))
 
 marked-requires : tie.Need-marked-requires Inv-loop μ-loop
 marked-requires c = search needs
@@ -94,13 +94,13 @@ loop-again c = let a = c .before .before .before .before .before .before .before
     let m = c .before .before .maybe in
     let none = ⊎-elim (λ w. asked (m .result) (w .1 .result) _ (w .0 .taken) (w .1 .ensures) ∙ w .2 .left) (λ w. unasked (m .result) _ (w .left))
     (c .before .if1 .came) in
-    passed-more slotOf (rowKind (a .t)) (a .mask) (a .p) (now (a .rows)) (l .j) (h .result) (s .result) (v .result) (o .result) (m .result) (l .words) (search needs) (h .ensures) (v .ensures) (o .ensures) (s .ensures .0) (m .ensures) 1536 (c .marked .result) (l .inv) (search needs)
+    passed-more slotOf (rowTable (a .t)) (a .mask) (a .p) (now (a .rows)) (l .j) (h .result) (s .result) (v .result) (o .result) (m .result) (l .words) (search needs) (h .ensures) (v .ensures) (o .ensures) (s .ensures .0) (m .ensures) 1536 (c .marked .result) (l .inv) (search needs)
     none (c .marked .ensures)
 
 returns-2 : tie.Need-returns-2 Inv-loop μ-loop
 returns-2 c = let a = c .before .before .args in
     let l = c .before .loop in
-    sym (passed-all slotOf (rowKind (a .t)) (a .mask) (a .p) (now (a .rows)) 1536 (l .j) (l .words) (l .inv) (c .loop-test .left))
+    sym (passed-all slotOf (rowTable (a .t)) (a .mask) (a .p) (now (a .rows)) 1536 (l .j) (l .words) (l .inv) (c .loop-test .left))
 
 pub pass-spec : {M : Type 1} → statement M
 pass-spec = tie.close (tie.spec Inv-loop μ-loop loop-holds mul-hash-row shared-slice-copy-out-hash-row hash-row-requires mul-is-live shared-slice-copy-out-is-live is-live-requires is-chosen-requires slot-of-requires mul-w array-read-w maybe-requires scan-requires returns marked-requires mul-words array-write-words add-j loop-less loop-again returns-2)

@@ -1,6 +1,6 @@
 pub mod Lts
 pub mod Tie
-use Rattle.filter.proofs.Joins.{routeKind}
+use Rattle.filter.proofs.Joins.{routeTable}
 use Prim.Native.Nat.{_-_}
 use mathlib.Core.Path.{sym, _∙_}
 use mathlib.Core.Logic.{⊎-elim}
@@ -14,13 +14,13 @@ use Rattle.twins.proofs.pass_routes.Proof.Tie as tie
 
 -- No two of the first j rows are twins of the pass's class, and each of them that is of the class has its mark.
 abbrev Inv-loop : tie.InvT-loop
-Inv-loop routes t mask p words₀ j₀ words j = Passed slotOf (routeKind t) mask p routes 1536 j words
+Inv-loop routes t mask p words₀ j₀ words j = Passed slotOf (routeTable t) mask p routes 1536 j words
 
 abbrev μ-loop : tie.MeasureT-loop
 μ-loop routes t mask p words₀ j₀ words j = length routes - j
 
 loop-holds : tie.Need-loop-holds Inv-loop μ-loop
-loop-holds c = passed-none slotOf (routeKind (c .args .t)) (c .args .mask) (c .args .p) (now (c .args .routes)) 1536 _ (search needs)
+loop-holds c = passed-none slotOf (routeTable (c .args .t)) (c .args .mask) (c .args .p) (now (c .args .routes)) 1536 _ (search needs)
 
 mul-hash-route : tie.Need-mul-hash-route Inv-loop μ-loop
 mul-hash-route c = search needs
@@ -67,7 +67,7 @@ returns c = let a = c .before .before .before .before .before .before .before .b
     let s = c .before .before .before .before .slot-of in
     let m = c .before .before .before .maybe in
     let e = c .before .scan-routes in
-    sym (passed-hit slotOf (routeKind (a .t)) (a .mask) (a .p) (now (a .routes)) (l .j) (h .result) (s .result) (v .result) (o .result) (m .result) (l .words) (search needs) (h .ensures) (v .ensures) (o .ensures) (s .ensures .0) (m .ensures) (e .result) (c .before .before .if1 .taken) (e .ensures) (c .if2 .taken))
+    sym (passed-hit slotOf (routeTable (a .t)) (a .mask) (a .p) (now (a .routes)) (l .j) (h .result) (s .result) (v .result) (o .result) (m .result) (l .words) (search needs) (h .ensures) (v .ensures) (o .ensures) (s .ensures .0) (m .ensures) (e .result) (c .before .before .if1 .taken) (e .ensures) (c .if2 .taken))
 
 marked-requires : tie.Need-marked-requires Inv-loop μ-loop
 marked-requires c = search needs
@@ -94,13 +94,13 @@ loop-again c = let a = c .before .before .before .before .before .before .before
     let m = c .before .before .maybe in
     let none = ⊎-elim (λ w. asked (m .result) (w .1 .result) _ (w .0 .taken) (w .1 .ensures) ∙ w .2 .left) (λ w. unasked (m .result) _ (w .left))
     (c .before .if1 .came) in
-    passed-more slotOf (routeKind (a .t)) (a .mask) (a .p) (now (a .routes)) (l .j) (h .result) (s .result) (v .result) (o .result) (m .result) (l .words) (search needs) (h .ensures) (v .ensures) (o .ensures) (s .ensures .0) (m .ensures) 1536 (c .marked .result) (l .inv) (search needs)
+    passed-more slotOf (routeTable (a .t)) (a .mask) (a .p) (now (a .routes)) (l .j) (h .result) (s .result) (v .result) (o .result) (m .result) (l .words) (search needs) (h .ensures) (v .ensures) (o .ensures) (s .ensures .0) (m .ensures) 1536 (c .marked .result) (l .inv) (search needs)
     none (c .marked .ensures)
 
 returns-2 : tie.Need-returns-2 Inv-loop μ-loop
 returns-2 c = let a = c .before .before .args in
     let l = c .before .loop in
-    sym (passed-all slotOf (routeKind (a .t)) (a .mask) (a .p) (now (a .routes)) 1536 (l .j) (l .words) (l .inv) (c .loop-test .left))
+    sym (passed-all slotOf (routeTable (a .t)) (a .mask) (a .p) (now (a .routes)) 1536 (l .j) (l .words) (l .inv) (c .loop-test .left))
 
 pub pass-routes-spec : {M : Type 1} → statement M
 pass-routes-spec = tie.close (tie.spec Inv-loop μ-loop loop-holds mul-hash-route shared-slice-copy-out-hash-route hash-route-requires mul-is-live-route shared-slice-copy-out-is-live-route is-live-route-requires is-chosen-requires slot-of-requires mul-w array-read-w maybe-requires scan-routes-requires returns marked-requires mul-words array-write-words add-j loop-less loop-again returns-2)

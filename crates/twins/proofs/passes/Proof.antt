@@ -3,18 +3,18 @@ pub mod Tie
 use Prim.Native.Nat.{_+_, _-_, _≤_, _<_}
 use mathlib.Core.Path.{sym, _∙_}
 use denote.Ref.{now}
-use Rattle.key.specs.Pair.{rowTwins}
+use Rattle.key.specs.Pair.{twinRows}
 use borrow.Author.Count.{below-more}
 use Rattle.filter.specs.Filter.{hashRow}
 use Rattle.filter.proofs.Filter.{Below, below-first, below-all, one-class}
-use Rattle.filter.proofs.Joins.{rowKind}
+use Rattle.filter.proofs.Joins.{rowTable}
 use borrow.Author.Needs.{needs}
 use Rattle.twins.proofs.passes.Statement.{statement}
 use Rattle.twins.proofs.passes.Proof.Tie as tie
 
 -- No two rows are twins of a class below p.
 abbrev Inv-loop : tie.InvT-loop
-Inv-loop rows t mask p₀ p = (mask < 65536) × (p ≤ mask + 1) × Below (rowKind t) mask rows p
+Inv-loop rows t mask p₀ p = (mask < 65536) × (p ≤ mask + 1) × Below (rowTable t) mask rows p
 
 abbrev μ-loop : tie.MeasureT-loop
 μ-loop rows t mask p₀ p = mask + 1 - p
@@ -27,18 +27,18 @@ pass-requires c = search needs
 
 returns : tie.Need-returns Inv-loop μ-loop
 returns c = let a = c .before .before .before .args in
-    sym (one-class hashRow (rowTwins (a .t)) _ _ (now (a .rows)) (sym (c .before .pass .ensures) ∙ c .if1 .taken))
+    sym (one-class hashRow (twinRows (a .t)) _ _ (now (a .rows)) (sym (c .before .pass .ensures) ∙ c .if1 .taken))
 
 loop-holds : tie.Need-loop-holds Inv-loop μ-loop
 loop-holds c = let a = c .before .before .before .args in
-    (search needs, search needs, below-first (rowKind (a .t)) _ (now (a .rows)) (c .before .pass .result) (c .before .pass .ensures) (c .if1 .left))
+    (search needs, search needs, below-first (rowTable (a .t)) _ (now (a .rows)) (c .before .pass .result) (c .before .pass .ensures) (c .if1 .left))
 
 pass-requires-2 : tie.Need-pass-requires-2 Inv-loop μ-loop
 pass-requires-2 c = search needs
 
 returns-2 : tie.Need-returns-2 Inv-loop μ-loop
 returns-2 c = let a = c .before .before .before .before .before .before .before .args in
-    sym (one-class hashRow (rowTwins (a .t)) _ _ (now (a .rows)) (sym (c .before .pass2 .ensures) ∙ c .if2 .taken))
+    sym (one-class hashRow (twinRows (a .t)) _ _ (now (a .rows)) (sym (c .before .pass2 .ensures) ∙ c .if2 .taken))
 
 add-p : tie.Need-add-p Inv-loop μ-loop
 add-p c = search needs
@@ -53,7 +53,7 @@ loop-again c = let l = c .before .before .before .loop in
 returns-3 : tie.Need-returns-3 Inv-loop μ-loop
 returns-3 c = let a = c .before .before .before .before .before .args in
     let l = c .before .loop in
-    sym (below-all (rowKind (a .t)) _ (now (a .rows)) (l .p) (l .inv .2) (search needs))
+    sym (below-all (rowTable (a .t)) _ (now (a .rows)) (l .p) (l .inv .2) (search needs))
 
 pub passes-spec : {M : Type 1} → statement M
 passes-spec =

@@ -6,7 +6,7 @@ use denote.Ref.{now}
 use lib.ListN.{getD}
 use Rattle.row.specs.declared.RouteRow.{RouteRow}
 use Rattle.row.specs.Meaning.{noRoute}
-use Rattle.key.specs.Pair.{routePair}
+use Rattle.key.specs.Pair.{twinRoutes}
 use Rattle.lemmas.proofs.Front.{Unfound, is-found, not-here, nowhere}
 use borrow.Author.Needs.{needs}
 use Rattle.twins.proofs.scan_routes.Statement.{statement}
@@ -14,7 +14,7 @@ use Rattle.twins.proofs.scan_routes.Proof.Tie as tie
 
 -- One of the first j rows is a twin of row j if one of those from i on is.
 abbrev Inv-loop : tie.InvT-loop
-Inv-loop routes j t i₀ i = (i ≤ j) × Unfound (λ (x : RouteRow). routePair t x (getD routes j noRoute)) j routes i
+Inv-loop routes j t i₀ i = (i ≤ j) × Unfound (λ (x : RouteRow). twinRoutes t x (getD routes j noRoute)) j routes i
 
 abbrev μ-loop : tie.MeasureT-loop
 μ-loop routes j t i₀ i = j - i
@@ -40,7 +40,7 @@ are-twin-routes-requires c = search needs
 returns : tie.Need-returns Inv-loop μ-loop
 returns c = let a = c .before .before .before .before .before .before .args in
     let l = c .before .before .before .before .before .loop in
-    sym (is-found (λ (x : RouteRow). routePair (a .t) x (getD (now (a .routes)) (a .j) noRoute)) noRoute (a .j) (now (a .routes)) (search needs) (l .i) (l .inv .1) (search needs) (sym (c .before .are-twin-routes .ensures) ∙ c .if1 .taken))
+    sym (is-found (λ (x : RouteRow). twinRoutes (a .t) x (getD (now (a .routes)) (a .j) noRoute)) noRoute (a .j) (now (a .routes)) (search needs) (l .i) (l .inv .1) (search needs) (sym (c .before .are-twin-routes .ensures) ∙ c .if1 .taken))
 
 add-i : tie.Need-add-i Inv-loop μ-loop
 add-i c = search needs
@@ -51,12 +51,12 @@ loop-less c = search needs
 loop-again : tie.Need-loop-again Inv-loop μ-loop
 loop-again c = let a = c .before .before .before .before .before .before .args in
     let l = c .before .before .before .before .before .loop in
-    (search needs, not-here (λ (x : RouteRow). routePair (a .t) x (getD (now (a .routes)) (a .j) noRoute)) noRoute (a .j) (now (a .routes)) (search needs) (l .i) (l .inv .1) (search needs) (sym (c .before .are-twin-routes .ensures) ∙ c .if1 .left))
+    (search needs, not-here (λ (x : RouteRow). twinRoutes (a .t) x (getD (now (a .routes)) (a .j) noRoute)) noRoute (a .j) (now (a .routes)) (search needs) (l .i) (l .inv .1) (search needs) (sym (c .before .are-twin-routes .ensures) ∙ c .if1 .left))
 
 returns-2 : tie.Need-returns-2 Inv-loop μ-loop
 returns-2 c = let a = c .before .before .args in
     let l = c .before .loop in
-    sym (nowhere (λ (x : RouteRow). routePair (a .t) x (getD (now (a .routes)) (a .j) noRoute)) noRoute (a .j) (now (a .routes)) (search needs) (l .i) (l .inv .1) (search needs))
+    sym (nowhere (λ (x : RouteRow). twinRoutes (a .t) x (getD (now (a .routes)) (a .j) noRoute)) noRoute (a .j) (now (a .routes)) (search needs) (l .i) (l .inv .1) (search needs))
 
 pub scan-routes-spec : {M : Type 1} → statement M
 scan-routes-spec = tie.close (tie.spec Inv-loop μ-loop loop-holds mul-are-twin-routes shared-slice-copy-out-are-twin-routes mul-are-twin-routes-2
