@@ -46,12 +46,6 @@ fn has_own_dodagid(o: Own, r: Reading) -> bool
     own::is_ours(o, a)
 }
 
-fn is_reply(r: Reading) -> bool
-    ensures { λ b. ⌜ b ≡ r .discovery .reply ⌝ }
-{
-    r.discovery.reply
-}
-
 // 1, asked of a start: its targets and its fields.
 fn is_bad_start(g: Gathering, s: Asking) -> bool
     ensures { λ b. ⌜ Judged g (s .l) (s .compr) (s .limit) b ⌝ }
@@ -113,7 +107,7 @@ pub fn message(
     }
     let p = heard::parsed(r);
     let v = heard::vector_of(octets, r);
-    if is_reply(r) {
+    if heard::is_reply(r) {
         return node::take_reply(
             instances,
             routes,

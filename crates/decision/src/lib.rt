@@ -9,6 +9,8 @@ use plain::Target;
 use row::InstanceRow;
 use row::RouteRow;
 ghost use mathlib.Core.Path.{_≡_};
+ghost use mathlib.Core.Bool.{cond};
+ghost use Rattle.decision.specs.declared.What.the-variants.{Nothing, Dio};
 ghost use Rattle.decision.specs.Blank.{noPost, noReply};
 
 // What goes into a buffer.
@@ -108,4 +110,14 @@ pub fn no_reply() -> ReplyFields
         dodagid: [0u8; 16],
         deadline: 0,
     }
+}
+
+// A post is made as one, sent or not, so that no part of it is copied to where two ways of making it meet: this is what goes into its buffer.
+pub fn dio_if(on: bool) -> What
+    ensures { λ r. ⌜ r ≡ cond on Dio Nothing ⌝ }
+{
+    if on {
+        return What::Dio;
+    }
+    What::Nothing
 }

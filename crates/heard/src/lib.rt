@@ -59,3 +59,10 @@ pub fn octets_answer(r: Reading) -> Answer
         Refusal::TooMany => Answer::TooMany,
     }
 }
+
+// A reply, and not a request.
+pub fn is_reply(r: Reading) -> bool
+    ensures { λ b. ⌜ b ≡ r .discovery .reply ⌝ }
+{
+    r.discovery.reply
+}

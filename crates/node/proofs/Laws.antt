@@ -35,7 +35,8 @@ use Rattle.message.specs.declared.FreeDelta.{FreeDelta}
 use Rattle.decision.specs.Decision.{Fits, Posts, Stores, instanceMeant, instancesBy, replyIn, routesBy}
 use Rattle.decision.specs.declared.Decided.{Decided}
 use Rattle.decision.specs.declared.Post.{Post}
-use Rattle.search.specs.Seen.{requestSeen, replySeen, routeSeen, partnerSeen, deltaSeen, LiveRow, LiveRoute}
+use Rattle.search.specs.Seen.{requestSeen, replySeen, routeSeen, partnerSeen, LiveRow, LiveRoute}
+use Rattle.delta.specs.Delta.{deltaSeen}
 use Rattle.place.specs.Places.{hopChange}
 use Rattle.finish.specs.Gives.{stateOf, decisionOf, Ready, Settled}
 use Rattle.finish.specs.declared.Live.{Live}

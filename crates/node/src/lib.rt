@@ -100,12 +100,6 @@ fn none_live() -> Live
     }
 }
 
-fn asked_instance(s: Asking) -> u8
-    ensures { λ r. ⌜ r ≡ s .instance ⌝ }
-{
-    s.instance
-}
-
 // A start has no received addresses.
 fn no_vector() -> [[u8; 16]; 16]
     ensures { λ r. ⌜ r ≡ replicate 16 zeroAddress ⌝ }
@@ -152,22 +146,22 @@ pub fn take_request(
     requires { ⌜ Taken clock t (now instances) (now forward) (now reply) (now p) ⌝ }
     ensures { λ r. ⌜ Gives (enact t (stateOf clock seq (now (instances .entry)) (now (routes .entry))) (requestDecision (settingsOf o) (stateOf clock seq (now (instances .entry)) (now (routes .entry))) t (receivedBy k []) (messageIn (now (p .entry)) (now (vector .entry))))) (now (instances .entry)) (now (instances .exit)) (now (routes .entry)) (now (routes .exit)) (now (forward .entry)) (now (forward .exit)) (now (reply .entry)) (now (reply .exit)) r ⌝ }
 {
-    own::whole(vector);
+    addresses::whole(vector);
     let instance = instance_of(*p);
     let dodagid = dodagid_of(*p);
     let receiving = receiving_of(o);
     let f = search::search_request(instances, t, instance, dodagid);
     let g = search::search_route(routes, t, receiving, dodagid, instance);
     let targ = request_targets::is_targ_node(o, *p);
-    let free = search::free_delta_if(targ, instances, t, instance, receiving);
+    let free = delta::free_delta_if(targ, instances, t, instance, receiving);
     let a = request::gather(o, k, *p, targ, f, g, free);
     let answer = request_answer::judge(o, k, *p, vector, a);
     if answer::number(answer) != 0 {
         return outcome::refused(answer, clock, seq);
     }
     let d = request_stored::accepted(o, seq, t, k, *p, a);
-    let there = request_sent::forward_post(k, *p, a);
-    let back = request_sent::reply_post(o, k, *p, a, seq);
+    let there = request_forwarded::forward_post(k, *p, a);
+    let back = request_replied::reply_post(o, k, *p, a, seq);
     let l = live_of(f, g);
     finish::finish(
         instances,
@@ -203,7 +197,7 @@ pub fn take_reply(
     requires { ⌜ Taken clock t (now instances) (now forward) (now reply) (now p) ⌝ }
     ensures { λ r. ⌜ Gives (enact t (stateOf clock seq (now (instances .entry)) (now (routes .entry))) (replyDecision (settingsOf o) (stateOf clock seq (now (instances .entry)) (now (routes .entry))) t (receivedBy k []) (messageIn (now (p .entry)) (now (vector .entry))))) (now (instances .entry)) (now (instances .exit)) (now (routes .entry)) (now (routes .exit)) (now (forward .entry)) (now (forward .exit)) (now (reply .entry)) (now (reply .exit)) r ⌝ }
 {
-    own::whole(vector);
+    addresses::whole(vector);
     let number = reply::partner_number(*p);
     let orig = reply::orig_node(*p);
     let w = search::search_partner(instances, t, number, orig, h_of(*p));
@@ -216,8 +210,8 @@ pub fn take_reply(
         if answer::number(answer) != 0 {
             return outcome::refused(answer, clock, seq);
         }
-        let d = reply_accepted::accepted(seq, t, k, *p, a);
-        let there = reply_accepted::forward_post(o, *p, vector, a);
+        let d = reply_stored::accepted(seq, t, k, *p, a);
+        let there = reply_sent::forward_post(o, *p, vector, a);
         let back = decision::no_post();
         let l = live_of(f, g);
         return finish::finish(
@@ -256,7 +250,7 @@ pub fn take_start(
     ensures { λ r. ⌜ ((targets : List plain.Target) → Gives (enact t (stateOf clock seq (now (instances .entry)) (now (routes .entry))) (startDecision (settingsOf o) (stateOf clock seq (now (instances .entry)) (now (routes .entry))) t (startOf s targets) (listOf ts))) (now (instances .entry)) (now (instances .exit)) (now (routes .entry)) (now (routes .exit)) (now (forward .entry)) (now (forward .exit)) (now (reply .entry)) (now (reply .exit)) r) ⌝ }
 {
     let receiving = receiving_of(o);
-    let taken = search::has_request(instances, t, asked_instance(s), receiving);
+    let taken = search::has_request(instances, t, start::asked_instance(s), receiving);
     let answer = start::judge(o, s, taken);
     if answer::number(answer) != 0 {
         return outcome::refused(answer, clock, seq);

@@ -11,8 +11,8 @@ use Rattle.plain.specs.Address.{Address}
 use Rattle.plain.specs.Given.{Settings}
 use Rattle.plain.specs.Octets.{Message, octetsOf, elided}
 use Rattle.plain.specs.Request.{grown}
-use Rattle.own.specs.Settings.{grownCount}
-use Rattle.own.proofs.Growth.{grown-length}
+use Rattle.grown.specs.Grown.{grownCount}
+use Rattle.grown.proofs.Growth.{grown-length}
 use Rattle.plain.specs.declared.Base.{Base}
 use Rattle.plain.specs.declared.Discovery.{Discovery}
 use Rattle.plain.specs.declared.Target.{Target}

@@ -114,8 +114,8 @@ fn put_dio(out: &mut [u8], o: &Own, p: &Post, vector: &[[u8; 16]; 16]) -> usize
 {
     let received = addresses_of(*p);
     if is_grown(*p) {
-        let n = own::grown_count(*o, false, received);
-        let v = own::grown_vector(*o, false, received, n, vector);
+        let n = grown::grown_count(*o, false, received);
+        let v = grown::grown_vector(*o, false, received, n, vector);
         return put_parsed(out, p, n, &v);
     }
     put_parsed(out, p, received, vector)
@@ -128,7 +128,7 @@ fn put_route_path(out: &mut [u8], p: &Post, vector: &[[u8; 16]; 16]) -> usize
 {
     let n = addresses_of(*p);
     if is_turned(*p) {
-        let turned = writer_octets::reversed(n, vector);
+        let turned = addresses::reversed(n, vector);
         return writer_octets::put_path(out, n, &turned);
     }
     writer_octets::put_path(out, n, vector)

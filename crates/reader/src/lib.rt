@@ -158,7 +158,7 @@ pub fn read(msg: &[u8]) -> Reading
         return refused(Refusal::Unusable);
     }
     let base = read_base(msg);
-    let ts = scan::read_targets(msg);
+    let ts = arts::read_targets(msg);
     let r = fill(msg, s, base, ts);
     if fault::is_too_many(r.size, r.discovery.compr, ts.over) {
         return refused(Refusal::TooMany);

@@ -19,7 +19,7 @@ use Rattle.plain.specs.Octets.{elided}
 use Rattle.plain.specs.Request.{grown, cannotGrow, forwards, requestLines}
 use Rattle.rank.proofs.Refusal.{own-fits}
 use Rattle.lemmas.specs.Each.{WholeVector}
-use Rattle.own.proofs.Growth.{whole-grown}
+use Rattle.grown.proofs.Growth.{whole-grown}
 use Rattle.lemmas.proofs.Each.{each-take}
 use Rattle.lemmas.proofs.Rules.{elided-length}
 use Rattle.message.specs.Message.{configurationIn, messageIn, receivedBy, deltaFound}

@@ -49,7 +49,7 @@ pub fn cannot_add(o: Own, adds: bool, compr: u8, n: usize) -> bool
     ensures { λ r. ⌜ ((v : List Address) → length v ≡ n → WholeVector v → r ≡ adds && cannotGrow compr (grown (settingsOf o) false v)) ⌝ }
 {
     if adds {
-        return own::cannot_grow(o, compr, n);
+        return grown::cannot_grow(o, compr, n);
     }
     false
 }

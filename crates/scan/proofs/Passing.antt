@@ -17,7 +17,7 @@ use Rattle.scan.specs.declared.Found.{Found}
 use Rattle.scan.specs.declared.Scan.{Scan}
 use Rattle.scan.specs.Seen.{Seen, Told}
 use Rattle.scan.specs.Scanned.{freshScan, Ahead, OptionTaken, Outlined, Scanned}
-use Rattle.scan.proofs.Turn.{Turn, body-placed, end-next, cut-next, pad-next, body-next}
+use Rattle.option.proofs.Turn.{Turn, body-placed, end-next, cut-next, pad-next, body-next}
 
 -- what holds before each turn: the options from `at` on, read in `left` steps, are those that are to come
 pub record Passing (msg : List ℕ) (s : Scan) (at left : ℕ) : Type 0 where

@@ -1,34 +1,28 @@
 -- What a search answers is what the rules find.
-use Prim.Native.Nat.{ℕ, suc, _+_, _-_, _<_, _≤_}
+use Prim.Native.Nat.{ℕ, _-_, _<_, _≤_}
 use mathlib.Core.Path.{_≡_, refl, sym, _∙_}
-use mathlib.Core.Bool.{Bool, true, false, cond, not, Bool·beq, _&&_}
-use mathlib.Core.List.{List, [], map}
+use mathlib.Core.Bool.{Bool, true, false, Bool·beq, _&&_}
+use mathlib.Core.List.{List, map}
 use mathlib.Core.Option.{Option, some, none}
-use native.Mathlib.Omega.{arith}
-use native.Mathlib.Numerals.{add-one}
-use lib.Dec.{eqb, ltb}
+use lib.Dec.{eqb}
 use lib.ListN.{length, getD}
-use borrow.Author.Tests.{lt-ltb, le-ltb, ne-eqb}
 use Rattle.plain.specs.Lists.{firstOf, same}
 use Rattle.plain.specs.Address.{Address}
 use Rattle.plain.specs.Table.{Numbered, lasts, live, liveRows, instanceDeadline, routeDeadline}
 use Rattle.plain.specs.Answers.{ofKind, requests, replies, requestFor, replyFor, routeFor}
-use Rattle.plain.specs.Rank.{plusDelta}
-use Rattle.plain.specs.Request.{leastDelta, deltaTaken, freeDelta}
 use Rattle.lemmas.proofs.Rules.{every-kind}
 use Rattle.lemmas.proofs.Choice.{and-left, and-right, true-false}
-use Rattle.row.specs.Meaning.{flag, instanceOf, routeOf, requestOf, noRow, noRoute}
-use Rattle.live.specs.Look.{here, requestHere, replyHere}
-use Rattle.live.proofs.Laws.{Sort, requestSort, replySort, routeSort, sort-here}
+use Rattle.row.specs.Meaning.{instanceOf, routeOf, noRow, noRoute}
+use Rattle.live.specs.Look.{here}
+use Rattle.live.proofs.Laws.{Sort, requestSort, replySort, routeSort}
 use Rattle.row.specs.declared.InstanceRow.{InstanceRow}
 use Rattle.row.specs.declared.RouteRow.{RouteRow}
 use Rattle.first.specs.First.{first}
-use Rattle.first.proofs.Found.{sort-is, sort-live, sort-found, sort-missing, sort-any}
-use Rattle.message.specs.Message.{deltaFound}
+use Rattle.first.proofs.Found.{sort-is, sort-live, sort-found, sort-missing}
 use Rattle.message.specs.declared.Found.{Found}
 use Rattle.message.specs.declared.FoundRoute.{FoundRoute}
-use Rattle.message.specs.declared.FreeDelta.{FreeDelta}
-use Rattle.search.specs.Seen.{partnerFor, partnerHere, seenAt, deltaSeen, LiveRow, LiveRoute}
+use Rattle.partner.specs.Partner.{partnerFor}
+use Rattle.search.specs.Seen.{LiveRow, LiveRoute}
 
 -- ---- what a search hands on
 
@@ -122,100 +116,3 @@ routeAsk t source destination instance = record {
   all = λ ns. ns;
   all-are = every-kind;
 }
-
--- ---- the partner
-
--- one row: a request row of that key, and its H
-module _ (r : InstanceRow) (t instance : ℕ) (dodagid : Address) (h : Bool) where
-  pub partner-not : requestHere t instance dodagid (instanceOf r) ≡ false → partnerHere t instance dodagid h (instanceOf r) ≡ false
-  partner-not e =
-      sort-here requestSort (partnerFor t instance dodagid h) r
-      ∙ both (eqb (r .kind) 1) (requestFor t instance dodagid (requestOf r)) (sym (sort-here requestSort (requestFor t instance dodagid) r) ∙ e)
-    where
-      both : (k x : Bool) → cond k x false ≡ false → cond k (x && Bool·beq (requestOf r .h) h) false ≡ false
-      both true x e = rw e
-      both false x e = refl
-
-  partner-is : requestHere t instance dodagid (instanceOf r) ≡ true → partnerHere t instance dodagid h (instanceOf r) ≡ Bool·beq (flag (r .h)) h
-  unfolding requestOf
-  partner-is e =
-      sort-here requestSort (partnerFor t instance dodagid h) r
-      ∙ both (eqb (r .kind) 1) (requestFor t instance dodagid (requestOf r)) (sym (sort-here requestSort (requestFor t instance dodagid) r) ∙ e)
-    where
-      both : (k x : Bool) → cond k x false ≡ true → cond k (x && Bool·beq (flag (r .h)) h) false ≡ Bool·beq (flag (r .h)) h
-      both true x e = rw e
-      both false x e = true-false (sym e)
-
-  pub partner-off : requestHere t instance dodagid (instanceOf r) ≡ true → r .h ≡ 0 → partnerHere t instance dodagid h (instanceOf r) ≡ not h
-  partner-off e z = partner-is e ∙ rw z (off h)
-    where
-      off : (b : Bool) → Bool·beq false b ≡ not b
-      off true = refl
-      off false = refl
-
-  pub partner-on : requestHere t instance dodagid (instanceOf r) ≡ true → (r .h ≡ 0 → ⊥) → partnerHere t instance dodagid h (instanceOf r) ≡ h
-  partner-on e z = partner-is e ∙ rw (ne-eqb (r .h) 0 z) (on h)
-    where
-      on : (b : Bool) → Bool·beq true b ≡ b
-      on true = refl
-      on false = refl
-
--- ---- Delta
-
-module _ (taken : ℕ → Bool) (delta : ℕ) where
-  least-step : delta < 64 → taken delta ≡ true → leastDelta taken delta (64 - delta) ≡ leastDelta taken (delta + 1) (64 - (delta + 1))
-  unfolding leastDelta
-  least-step h e =
-      let n : 64 - delta ≡ suc (64 - (delta + 1)) = omega arith in
-      rw (n, e, add-one)
-
-  least-free : delta < 64 → taken delta ≡ false → leastDelta taken delta (64 - delta) ≡ some delta
-  unfolding leastDelta
-  least-free h e =
-      let n : 64 - delta ≡ suc (64 - (delta + 1)) = omega arith in
-      rw (n, e)
-
-  least-none : 64 ≤ delta → leastDelta taken delta (64 - delta) ≡ none
-  unfolding leastDelta
-  least-none h =
-      let n : 64 - delta ≡ 0 = omega arith in
-      rw n
-
--- the Deltas below `delta` are taken: what is left to try comes to the whole
-abbrev pub Tried : List InstanceRow → ℕ → ℕ → Address → ℕ → Type 0
-Tried rows t instance dodagid delta =
-    (clock : ℕ) → clock ≤ t
-    → deltaSeen clock rows t instance dodagid ≡ leastDelta (deltaTaken (seenAt clock rows []) t instance dodagid) delta (64 - delta)
-
-module _ (rows : List InstanceRow) (t instance : ℕ) (dodagid : Address) where
-  pub tried-none : Tried rows t instance dodagid 0
-  unfolding deltaSeen freeDelta
-  tried-none clock l = refl
-
-  module _ (delta k number : ℕ) (d : delta < 64) (n : number ≡ plusDelta instance delta) (e : k ≡ first (replyHere t number dodagid) (map instanceOf rows)) where
-    -- "not in use by a live reply row with that DODAGID": asked for each Delta by a search
-    delta-taken : (clock : ℕ) → clock ≤ t → deltaTaken (seenAt clock rows []) t instance dodagid delta ≡ ltb k (length rows)
-    unfolding deltaTaken
-    delta-taken clock l =
-        sort-any replySort (replyFor t (plusDelta instance delta) dodagid) t (replyAsk t (plusDelta instance delta) dodagid .lives) rows k (rw n at e)
-        clock l
-
-    pub tried-more : k < length rows → Tried rows t instance dodagid delta → Tried rows t instance dodagid (delta + 1)
-    tried-more h w clock l =
-        w clock l
-        ∙ least-step (deltaTaken (seenAt clock rows []) t instance dodagid) delta d
-        (delta-taken clock l ∙ lt-ltb k (length rows) h)
-
-    pub tried-free : (f : FreeDelta) → length rows ≤ k → f ≡ record { is = true; delta = delta } → Tried rows t instance dodagid delta
-        → (clock : ℕ) → clock ≤ t → deltaFound f ≡ deltaSeen clock rows t instance dodagid
-    unfolding deltaFound
-    tried-free f h g w clock l =
-        rw g
-        (sym (w clock l
-        ∙ least-free (deltaTaken (seenAt clock rows []) t instance dodagid) delta d
-        (delta-taken clock l ∙ le-ltb k (length rows) h)))
-
-  pub tried-all : (delta : ℕ) (f : FreeDelta) → 64 ≤ delta → f ≡ record { is = false; delta = 0 } → Tried rows t instance dodagid delta
-      → (clock : ℕ) → clock ≤ t → deltaFound f ≡ deltaSeen clock rows t instance dodagid
-  unfolding deltaFound
-  tried-all delta f h g w clock l = rw g (sym (w clock l ∙ least-none (deltaTaken (seenAt clock rows []) t instance dodagid) delta h))

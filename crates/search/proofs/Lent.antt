@@ -1,6 +1,3 @@
-pub mod find_partner
-pub mod free_delta
-pub mod free_delta_if
 pub mod has_request
 pub mod search_partner
 pub mod search_reply

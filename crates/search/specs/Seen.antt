@@ -1,29 +1,21 @@
 -- What the rules see of lent tables, live at the clock: the live rows of a key at a call's time t.
 use Prim.Native.Nat.{ℕ, _<_}
 use mathlib.Core.Path.{_≡_}
-use mathlib.Core.Bool.{Bool, true, Bool·beq, _&&_}
+use mathlib.Core.Bool.{Bool, true}
 use mathlib.Core.List.{List, [], map}
 use mathlib.Core.Option.{Option}
 use lib.ListN.{length, getD}
 use Rattle.plain.specs.Lists.{firstOf}
 use Rattle.plain.specs.Address.{Address}
-use Rattle.plain.specs.Given.{RequestRow, ReplyRow, Instance, Route}
+use Rattle.plain.specs.Given.{RequestRow, ReplyRow, Route}
 use Rattle.plain.specs.Table.{Numbered, live, liveRows, instanceDeadline, routeDeadline}
-use Rattle.plain.specs.Answers.{View, asRequest, requests, requestFor, liveRequest, liveReply, liveRoute}
-use Rattle.plain.specs.Request.{freeDelta}
+use Rattle.plain.specs.Answers.{View, requests, liveRequest, liveReply, liveRoute}
 use Rattle.row.specs.Meaning.{instanceOf, routeOf, noRow, noRoute}
-use Rattle.live.specs.Look.{here}
+use Rattle.partner.specs.Partner.{partnerFor}
 use Rattle.row.specs.declared.InstanceRow.{InstanceRow}
 use Rattle.row.specs.declared.RouteRow.{RouteRow}
 use Rattle.message.specs.declared.Found.{Found}
 use Rattle.message.specs.declared.FoundRoute.{FoundRoute}
-
--- 8: "a live partner request row of the same H", one row of a table
-abbrev pub partnerFor : ℕ → ℕ → Address → Bool → RequestRow → Bool
-partnerFor t instance dodagid h r = requestFor t instance dodagid r && Bool·beq (r .h) h
-
-abbrev pub partnerHere : ℕ → ℕ → Address → Bool → Option Instance → Bool
-partnerHere t instance dodagid h = here asRequest (partnerFor t instance dodagid h)
 
 -- the view of the tables at a clock; it is asked for rows alone
 abbrev pub seenAt : ℕ → List InstanceRow → List RouteRow → View
@@ -46,9 +38,6 @@ routeSeen clock routes t source destination instance = liveRoute (seenAt clock [
 unfoldable pub partnerSeen : ℕ → List InstanceRow → ℕ → ℕ → Address → Bool → Option (Numbered RequestRow)
 partnerSeen clock rows t instance dodagid h =
     firstOf (λ (n : Numbered RequestRow). partnerFor t instance dodagid h (n .row)) (requests (seenAt clock rows [] .instances))
-
-unfoldable pub deltaSeen : ℕ → List InstanceRow → ℕ → ℕ → Address → Option ℕ
-deltaSeen clock rows t instance dodagid = freeDelta (seenAt clock rows []) t instance dodagid
 
 -- where a row was found, it stands there and is live
 pub record LiveRow (rows : List InstanceRow) (t : ℕ) (f : Found) : Type 0 where

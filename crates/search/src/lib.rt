@@ -1,37 +1,17 @@
-// What the tables hold for a call: the live rows of its keys, a partner, and a free Delta.
+// What the tables hold for a call: the live rows of its keys, and a partner.
 ghost use mathlib.Core.Path.{_≡_};
 ghost use mathlib.Core.Bool.{true, false};
-ghost use mathlib.Core.List.{map};
 ghost use Prim.Native.Nat.{ℕ, _≤_};
 ghost use Rattle.plain.specs.Lists.{given};
-ghost use Rattle.plain.specs.Table.{instanceDeadline, routeDeadline};
-ghost use Rattle.row.specs.Meaning.{instanceOf, routeOf, noRow, noRoute};
-ghost use Rattle.first.specs.First.{first};
-ghost use Rattle.search.specs.Seen.{requestSeen, replySeen, routeSeen, partnerSeen, deltaSeen, partnerHere, LiveRow, LiveRoute};
-ghost use Rattle.message.specs.Message.{requestFound, replyFound, routeFound, deltaFound};
+ghost use Rattle.row.specs.Meaning.{noRow, noRoute};
+ghost use Rattle.search.specs.Seen.{requestSeen, replySeen, routeSeen, partnerSeen, LiveRow, LiveRoute};
+ghost use Rattle.message.specs.Message.{requestFound, replyFound, routeFound};
 use message::Found;
 use message::FoundRoute;
-use message::FreeDelta;
 use row::InstanceRow;
 use row::RouteRow;
 
 // ---- by value
-
-// A request row of that key and that H, live at t.
-pub fn is_partner(r: InstanceRow, t: u64, instance: u8, dodagid: [u8; 16], h: bool) -> bool
-    ensures { λ b. ⌜ b ≡ partnerHere t instance dodagid h (instanceOf r) ⌝ }
-{
-    if live::is_request(r, t, instance, dodagid) {
-        if r.h == 0 {
-            if h {
-                return false;
-            }
-            return true;
-        }
-        return h;
-    }
-    false
-}
 
 fn found(at: usize, row: InstanceRow) -> Found
     ensures { λ r. ⌜ r ≡ record { is = true; at = at; row = row } ⌝ }
@@ -71,36 +51,7 @@ fn no_route_found(at: usize) -> FoundRoute
     }
 }
 
-fn free(delta: u8) -> FreeDelta
-    ensures { λ r. ⌜ r ≡ record { is = true; delta = delta } ⌝ }
-{
-    FreeDelta { is: true, delta }
-}
-
-fn none_free() -> FreeDelta
-    ensures { λ r. ⌜ r ≡ record { is = false; delta = 0 } ⌝ }
-{
-    FreeDelta {
-        is: false,
-        delta: 0,
-    }
-}
-
 // ---- over the lent tables
-
-// The first request row of that key and that H that is live at t, or the length.
-pub fn find_partner(rows: &[InstanceRow], t: u64, instance: u8, dodagid: [u8; 16], h: bool) -> usize
-    ensures { λ r. ⌜ r ≡ first (partnerHere t instance dodagid h) (map instanceOf (now (rows .entry))) ⌝ }
-{
-    let mut i: usize = 0;
-    while i < rows.len() {
-        if is_partner(rows[i], t, instance, dodagid, h) {
-            return i;
-        }
-        i += 1;
-    }
-    i
-}
 
 // The live request row of a key.
 pub fn search_request(rows: &[InstanceRow], t: u64, instance: u8, dodagid: [u8; 16]) -> Found
@@ -147,7 +98,7 @@ pub fn search_partner(
 ) -> Found
     ensures { λ r. ⌜ ((clock : ℕ) → clock ≤ t → requestFound r ≡ partnerSeen clock (now (rows .entry)) t instance dodagid h) ⌝ }
 {
-    let i = find_partner(rows, t, instance, dodagid, h);
+    let i = partner::find_partner(rows, t, instance, dodagid, h);
     if i < rows.len() {
         return found(i, rows[i]);
     }
@@ -170,37 +121,4 @@ pub fn search_route(
         return found_route(i, routes[i]);
     }
     no_route_found(i)
-}
-
-// "Delta is the least of 0..63 for which RPLInstanceID plus Delta .. is not in use by a live reply row with that DODAGID."
-fn free_delta(rows: &[InstanceRow], t: u64, instance: u8, dodagid: [u8; 16]) -> FreeDelta
-    ensures { λ r. ⌜ ((clock : ℕ) → clock ≤ t → deltaFound r ≡ deltaSeen clock (now (rows .entry)) t instance dodagid) ⌝ }
-{
-    let mut delta: u8 = 0;
-    while delta < 64 {
-        let number = sequence::plus_delta(instance, delta);
-        let i = find::find_reply(rows, t, number, dodagid);
-        if i < rows.len() {
-            delta += 1;
-        } else {
-            return free(delta);
-        }
-    }
-    none_free()
-}
-
-// The free Delta where one is needed: finding it is a pass over the table.
-pub fn free_delta_if(
-    needed: bool,
-    rows: &[InstanceRow],
-    t: u64,
-    instance: u8,
-    dodagid: [u8; 16],
-) -> FreeDelta
-    ensures { λ r. ⌜ (needed ≡ true → (clock : ℕ) → clock ≤ t → deltaFound r ≡ deltaSeen clock (now (rows .entry)) t instance dodagid) ⌝ }
-{
-    if needed {
-        return free_delta(rows, t, instance, dodagid);
-    }
-    none_free()
 }

@@ -36,6 +36,14 @@ pub struct Asking {
     pub limit: u8,
 }
 
+// For a caller that is lent tables, and so touches no field.
+pub fn asked_instance(s: Asking) -> u8
+    ensures { λ r. ⌜ r ≡ s .instance ⌝ }
+{
+    let instance = s.instance;
+    instance
+}
+
 // The answer of a start. `taken`: a row of its key is live.
 pub fn judge(o: Own, s: Asking, taken: bool) -> Answer
     requires { ⌜ s .compr ≤ 15 ⌝ }

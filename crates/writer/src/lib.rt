@@ -7,13 +7,13 @@ ghost use Rattle.lemmas.specs.Written.{Written};
 ghost use Rattle.plain.specs.Octets.{octetsOf};
 ghost use Rattle.writer_option.specs.Sendable.{Sendable, shortPrefixes};
 ghost use Rattle.writer.specs.Given.{messageFrom};
+use addresses::whole;
 use plain::Base;
 use plain::Discovery;
 use plain::Target;
 use writer_art::put_arts;
 use writer_base::put_base;
 use writer_base::put_configuration;
-use writer_octets::whole;
 use writer_option::put_discovery;
 
 // A whole message.

@@ -1,9 +1,6 @@
 // Writers of octets and addresses: each writes at the front of the part of the buffer that it is lent, and answers how many octets it wrote.
-ghost use mathlib.Core.Path.{_≡_};
-ghost use mathlib.Core.List.{reverse};
 ghost use Prim.Native.Nat.{_≤_};
 ghost use lib.ListN.{length, take};
-ghost use Rattle.lemmas.specs.Each.{WholeVector};
 ghost use Rattle.lemmas.specs.Written.{Written};
 ghost use Rattle.plain.specs.Address.{elide};
 ghost use Rattle.plain.specs.Octets.{elided};
@@ -46,40 +43,11 @@ pub fn put_vector(out: &mut [u8], compr: usize, n: usize, vector: &[[u8; 16]; 16
     at
 }
 
-// Sixteen addresses by value have sixteen octets each: nothing is done with them but to say so.
-fn known(vector: [[u8; 16]; 16])
-    ensures { λ r. ⌜ (length vector ≡ 16) × WholeVector vector ⌝ }
-{}
-
-// The same of addresses behind a reference, which by itself tells nothing of what it refers to. No code is left of it.
-pub fn whole(vector: &[[u8; 16]; 16])
-    ensures { λ r. ⌜ (length (now (vector .entry)) ≡ 16) × WholeVector (now (vector .entry)) ⌝ }
-{
-    known(*vector);
-}
-
 // The whole addresses, one after the other.
 pub fn put_path(out: &mut [u8], n: usize, vector: &[[u8; 16]; 16]) -> usize
     requires { ⌜ (n ≤ 16) × (256 ≤ length (now out)) ⌝ }
     ensures { λ r. ⌜ Written (elided 0 (take n (now (vector .entry)))) (now (out .entry)) (now (out .exit)) r ⌝ }
 {
-    whole(vector);
+    addresses::whole(vector);
     put_vector(out, 0, n, vector)
-}
-
-// The first n addresses turned round.
-pub fn reversed(n: usize, vector: &[[u8; 16]; 16]) -> [[u8; 16]; 16]
-    requires { ⌜ n ≤ 16 ⌝ }
-    ensures { λ r. ⌜ take n r ≡ reverse (take n (now (vector .entry))) ⌝ }
-{
-    let addresses = &vector[..];
-    let mut r = [[0u8; 16]; 16];
-    let mut i: usize = 0;
-    while i < n {
-        let from = n - i - 1;
-        let a = addresses[from];
-        r[i] = a;
-        i = i + 1;
-    }
-    r
 }

@@ -8,10 +8,10 @@ ghost use Rattle.lemmas.specs.Written.{Written};
 ghost use Rattle.plain.specs.Octets.{word, numberBits, rreqType, rrepType, routeOctets};
 ghost use Rattle.writer_option.specs.Heads.{routeWord, routeHead};
 ghost use Rattle.writer_option.specs.Sendable.{Sendable};
+use addresses::whole;
 use plain::Discovery;
 use writer_base::bit_of;
 use writer_octets::put_vector;
-use writer_octets::whole;
 
 // Compr as it is sent: 0 with H 1.
 fn compr_sent(d: Discovery) -> u8

@@ -1,7 +1,7 @@
 use mathlib.Core.Path.{sym, _∙_}
 use native.Mathlib.Omega.{arith}
 use Rattle.scan.proofs.Passing.{Passing, passing-first, scanned-bad, scanned-out, scanned-end, scanned-cut, passing-pad, bad-body, passing-body}
-use Rattle.scan.proofs.Turn.{Turn, pad-placed, body-placed}
+use Rattle.option.proofs.Turn.{Turn, pad-placed, body-placed}
 use Rattle.lemmas.proofs.Cases.{cases}
 use Rattle.scan.proofs.read_options.Statement.{statement}
 use Rattle.scan.proofs.read_options.Tie as tie

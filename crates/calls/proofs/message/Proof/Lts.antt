@@ -1546,7 +1546,7 @@ b51 =
 abbrev b52 : Syntax.Body
 b52 =
     Syntax.call
-    "calls::is_reply"
+    "heard::is_reply"
     (List._∷_ (Syntax.copy (Syntax.place 11 List.[])) List.[])
     (Syntax.place 32 List.[])
 
@@ -36012,7 +36012,7 @@ module _ (claims· : Claims) where
           𝓣 0 ps·10 r·10 (claims· .20) (claims· .21) "heard::parsed") (known11 : Plain.Known 𝓤 H A
           W 𝓣 1 ps·11 r·11 (claims· .22) (claims· .23) "heard::vector_of") (known12 : Plain.Known 𝓤
           H A W 𝓣 0 ps·12 r·12 (claims· .24) (claims· .25)
-          "calls::is_reply") (known13 : Plain.Known 𝓤 H A W 𝓣 6 ps·13 r·13 (claims· .26)
+          "heard::is_reply") (known13 : Plain.Known 𝓤 H A W 𝓣 6 ps·13 r·13 (claims· .26)
           (claims· .27) "node::take_reply") (known14 : Plain.Known 𝓤 H A W 𝓣 6 ps·14 r·14
           (claims· .28) (claims· .29) "node::take_request") → Statement.Triple 𝓤 (Wp.WpFn 𝓤 H
           (𝓣 .C) (𝓣 .Λ) (Function.fnOf 5 ps r xs m hs body)) (Function.plainOf 𝓤 H A 5 ps r Pre·
@@ -36671,7 +36671,7 @@ module _ (claims· : Claims) where
             Plain.Known 𝓤 H A W 𝓣 0 ps·9 r·9 (claims· .18) (claims· .19) "calls::own_dodagid" ×
             Plain.Known 𝓤 H A W 𝓣 0 ps·10 r·10 (claims· .20) (claims· .21) "heard::parsed" ×
             Plain.Known 𝓤 H A W 𝓣 1 ps·11 r·11 (claims· .22) (claims· .23) "heard::vector_of" ×
-            Plain.Known 𝓤 H A W 𝓣 0 ps·12 r·12 (claims· .24) (claims· .25) "calls::is_reply" ×
+            Plain.Known 𝓤 H A W 𝓣 0 ps·12 r·12 (claims· .24) (claims· .25) "heard::is_reply" ×
             Plain.Known 𝓤 H A W 𝓣 6 ps·13 r·13 (claims· .26) (claims· .27) "node::take_reply" ×
             Plain.Known 𝓤 H A W 𝓣 6 ps·14 r·14 (claims· .28) (claims· .29) "node::take_request"
 
@@ -68058,7 +68058,7 @@ module _ (claims· : Claims) where
               r·12
               (claims· .24)
               (claims· .25)
-              "calls::is_reply"
+              "heard::is_reply"
               (known .12)
               E
               (λ pos β. β)
@@ -74547,7 +74547,7 @@ module _ (claims· : Claims) where
             r·12
             (claims· .24)
             (claims· .25)
-            "calls::is_reply")
+            "heard::is_reply")
             (known13 : Plain.Known
             𝓤
             H

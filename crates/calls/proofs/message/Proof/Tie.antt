@@ -11,21 +11,21 @@ use Rattle.calls.proofs.bad_call.Symbol as Symbol''
 use Rattle.calls.proofs.has_own_dodagid.Met as Met'3
 use Rattle.calls.proofs.has_own_dodagid.Reads as Reads'3
 use Rattle.calls.proofs.has_own_dodagid.Symbol as Symbol'3
-use Rattle.calls.proofs.is_reply.Met as Met'4
-use Rattle.calls.proofs.is_reply.Reads as Reads'4
-use Rattle.calls.proofs.is_reply.Symbol as Symbol'4
 use Rattle.calls.proofs.message.Code
 use Rattle.calls.proofs.message.Key
 use Rattle.calls.proofs.Lent.message.Kinds
 use Rattle.calls.proofs.message.Proof.Lts
-use Rattle.calls.proofs.Lent.message.Reads as Reads'5
+use Rattle.calls.proofs.Lent.message.Reads as Reads'4
 use Rattle.calls.proofs.message.Statement
-use Rattle.calls.proofs.own_dodagid.Met as Met'5
-use Rattle.calls.proofs.own_dodagid.Reads as Reads'6
-use Rattle.calls.proofs.own_dodagid.Symbol as Symbol'5
-use Rattle.calls.proofs.wrong_state.Met as Met'6
-use Rattle.calls.proofs.wrong_state.Reads as Reads'7
-use Rattle.calls.proofs.wrong_state.Symbol as Symbol'6
+use Rattle.calls.proofs.own_dodagid.Met as Met'4
+use Rattle.calls.proofs.own_dodagid.Reads as Reads'5
+use Rattle.calls.proofs.own_dodagid.Symbol as Symbol'4
+use Rattle.calls.proofs.wrong_state.Met as Met'5
+use Rattle.calls.proofs.wrong_state.Reads as Reads'6
+use Rattle.calls.proofs.wrong_state.Symbol as Symbol'5
+use Rattle.heard.proofs.is_reply.Met as Met'6
+use Rattle.heard.proofs.is_reply.Reads as Reads'7
+use Rattle.heard.proofs.is_reply.Symbol as Symbol'6
 use Rattle.heard.proofs.octets_answer.Met as Met'7
 use Rattle.heard.proofs.octets_answer.Reads as Reads'8
 use Rattle.heard.proofs.octets_answer.Symbol as Symbol'7
@@ -64,8 +64,8 @@ Start = Lts.Start (
   Reads'14.Learnt,
   Reads'11.Asked,
   Reads'11.Learnt,
-  Reads'7.Asked,
-  Reads'7.Learnt,
+  Reads'6.Asked,
+  Reads'6.Learnt,
   Reads'15.Asked,
   Reads'15.Learnt,
   Reads'8.Asked,
@@ -74,19 +74,19 @@ Start = Lts.Start (
   Reads.Learnt,
   Reads'3.Asked,
   Reads'3.Learnt,
-  Reads'6.Asked,
-  Reads'6.Learnt,
+  Reads'5.Asked,
+  Reads'5.Learnt,
   Reads'9.Asked,
   Reads'9.Learnt,
   Reads'10.Asked,
   Reads'10.Learnt,
-  Reads'4.Asked,
-  Reads'4.Learnt,
+  Reads'7.Asked,
+  Reads'7.Learnt,
   Reads'12.Asked,
   Reads'12.Learnt,
   Reads'13.Asked,
   Reads'13.Learnt,
-) Reads'5.Pre Reads'5.Post
+) Reads'4.Pre Reads'4.Post
 
 abbrev pub After-slice-known : Type 0
 After-slice-known = Lts.After-slice-known (
@@ -98,8 +98,8 @@ After-slice-known = Lts.After-slice-known (
   Reads'14.Learnt,
   Reads'11.Asked,
   Reads'11.Learnt,
-  Reads'7.Asked,
-  Reads'7.Learnt,
+  Reads'6.Asked,
+  Reads'6.Learnt,
   Reads'15.Asked,
   Reads'15.Learnt,
   Reads'8.Asked,
@@ -108,19 +108,19 @@ After-slice-known = Lts.After-slice-known (
   Reads.Learnt,
   Reads'3.Asked,
   Reads'3.Learnt,
-  Reads'6.Asked,
-  Reads'6.Learnt,
+  Reads'5.Asked,
+  Reads'5.Learnt,
   Reads'9.Asked,
   Reads'9.Learnt,
   Reads'10.Asked,
   Reads'10.Learnt,
-  Reads'4.Asked,
-  Reads'4.Learnt,
+  Reads'7.Asked,
+  Reads'7.Learnt,
   Reads'12.Asked,
   Reads'12.Learnt,
   Reads'13.Asked,
   Reads'13.Learnt,
-) Reads'5.Pre Reads'5.Post
+) Reads'4.Pre Reads'4.Post
 
 abbrev pub After-slice-known2 : Type 0
 After-slice-known2 = Lts.After-slice-known2 (
@@ -132,8 +132,8 @@ After-slice-known2 = Lts.After-slice-known2 (
   Reads'14.Learnt,
   Reads'11.Asked,
   Reads'11.Learnt,
-  Reads'7.Asked,
-  Reads'7.Learnt,
+  Reads'6.Asked,
+  Reads'6.Learnt,
   Reads'15.Asked,
   Reads'15.Learnt,
   Reads'8.Asked,
@@ -142,19 +142,19 @@ After-slice-known2 = Lts.After-slice-known2 (
   Reads.Learnt,
   Reads'3.Asked,
   Reads'3.Learnt,
-  Reads'6.Asked,
-  Reads'6.Learnt,
+  Reads'5.Asked,
+  Reads'5.Learnt,
   Reads'9.Asked,
   Reads'9.Learnt,
   Reads'10.Asked,
   Reads'10.Learnt,
-  Reads'4.Asked,
-  Reads'4.Learnt,
+  Reads'7.Asked,
+  Reads'7.Learnt,
   Reads'12.Asked,
   Reads'12.Learnt,
   Reads'13.Asked,
   Reads'13.Learnt,
-) Reads'5.Pre Reads'5.Post
+) Reads'4.Pre Reads'4.Post
 
 abbrev pub After-shared-slice-known : Type 0
 After-shared-slice-known = Lts.After-shared-slice-known (
@@ -166,8 +166,8 @@ After-shared-slice-known = Lts.After-shared-slice-known (
   Reads'14.Learnt,
   Reads'11.Asked,
   Reads'11.Learnt,
-  Reads'7.Asked,
-  Reads'7.Learnt,
+  Reads'6.Asked,
+  Reads'6.Learnt,
   Reads'15.Asked,
   Reads'15.Learnt,
   Reads'8.Asked,
@@ -176,19 +176,19 @@ After-shared-slice-known = Lts.After-shared-slice-known (
   Reads.Learnt,
   Reads'3.Asked,
   Reads'3.Learnt,
-  Reads'6.Asked,
-  Reads'6.Learnt,
+  Reads'5.Asked,
+  Reads'5.Learnt,
   Reads'9.Asked,
   Reads'9.Learnt,
   Reads'10.Asked,
   Reads'10.Learnt,
-  Reads'4.Asked,
-  Reads'4.Learnt,
+  Reads'7.Asked,
+  Reads'7.Learnt,
   Reads'12.Asked,
   Reads'12.Learnt,
   Reads'13.Asked,
   Reads'13.Learnt,
-) Reads'5.Pre Reads'5.Post
+) Reads'4.Pre Reads'4.Post
 
 abbrev pub After-is-bad : Type 0
 After-is-bad = Lts.After-is-bad (
@@ -200,8 +200,8 @@ After-is-bad = Lts.After-is-bad (
   Reads'14.Learnt,
   Reads'11.Asked,
   Reads'11.Learnt,
-  Reads'7.Asked,
-  Reads'7.Learnt,
+  Reads'6.Asked,
+  Reads'6.Learnt,
   Reads'15.Asked,
   Reads'15.Learnt,
   Reads'8.Asked,
@@ -210,19 +210,19 @@ After-is-bad = Lts.After-is-bad (
   Reads.Learnt,
   Reads'3.Asked,
   Reads'3.Learnt,
-  Reads'6.Asked,
-  Reads'6.Learnt,
+  Reads'5.Asked,
+  Reads'5.Learnt,
   Reads'9.Asked,
   Reads'9.Learnt,
   Reads'10.Asked,
   Reads'10.Learnt,
-  Reads'4.Asked,
-  Reads'4.Learnt,
+  Reads'7.Asked,
+  Reads'7.Learnt,
   Reads'12.Asked,
   Reads'12.Learnt,
   Reads'13.Asked,
   Reads'13.Learnt,
-) Reads'5.Pre Reads'5.Post
+) Reads'4.Pre Reads'4.Post
 
 abbrev pub Then1 : Type 0
 Then1 = Lts.Then1 (
@@ -234,8 +234,8 @@ Then1 = Lts.Then1 (
   Reads'14.Learnt,
   Reads'11.Asked,
   Reads'11.Learnt,
-  Reads'7.Asked,
-  Reads'7.Learnt,
+  Reads'6.Asked,
+  Reads'6.Learnt,
   Reads'15.Asked,
   Reads'15.Learnt,
   Reads'8.Asked,
@@ -244,19 +244,19 @@ Then1 = Lts.Then1 (
   Reads.Learnt,
   Reads'3.Asked,
   Reads'3.Learnt,
-  Reads'6.Asked,
-  Reads'6.Learnt,
+  Reads'5.Asked,
+  Reads'5.Learnt,
   Reads'9.Asked,
   Reads'9.Learnt,
   Reads'10.Asked,
   Reads'10.Learnt,
-  Reads'4.Asked,
-  Reads'4.Learnt,
+  Reads'7.Asked,
+  Reads'7.Learnt,
   Reads'12.Asked,
   Reads'12.Learnt,
   Reads'13.Asked,
   Reads'13.Learnt,
-) Reads'5.Pre Reads'5.Post
+) Reads'4.Pre Reads'4.Post
 
 abbrev pub After-bad-call : Type 0
 After-bad-call = Lts.After-bad-call (
@@ -268,8 +268,8 @@ After-bad-call = Lts.After-bad-call (
   Reads'14.Learnt,
   Reads'11.Asked,
   Reads'11.Learnt,
-  Reads'7.Asked,
-  Reads'7.Learnt,
+  Reads'6.Asked,
+  Reads'6.Learnt,
   Reads'15.Asked,
   Reads'15.Learnt,
   Reads'8.Asked,
@@ -278,19 +278,19 @@ After-bad-call = Lts.After-bad-call (
   Reads.Learnt,
   Reads'3.Asked,
   Reads'3.Learnt,
-  Reads'6.Asked,
-  Reads'6.Learnt,
+  Reads'5.Asked,
+  Reads'5.Learnt,
   Reads'9.Asked,
   Reads'9.Learnt,
   Reads'10.Asked,
   Reads'10.Learnt,
-  Reads'4.Asked,
-  Reads'4.Learnt,
+  Reads'7.Asked,
+  Reads'7.Learnt,
   Reads'12.Asked,
   Reads'12.Learnt,
   Reads'13.Asked,
   Reads'13.Learnt,
-) Reads'5.Pre Reads'5.Post
+) Reads'4.Pre Reads'4.Post
 
 abbrev pub After-refused : Type 0
 After-refused = Lts.After-refused (
@@ -302,8 +302,8 @@ After-refused = Lts.After-refused (
   Reads'14.Learnt,
   Reads'11.Asked,
   Reads'11.Learnt,
-  Reads'7.Asked,
-  Reads'7.Learnt,
+  Reads'6.Asked,
+  Reads'6.Learnt,
   Reads'15.Asked,
   Reads'15.Learnt,
   Reads'8.Asked,
@@ -312,19 +312,19 @@ After-refused = Lts.After-refused (
   Reads.Learnt,
   Reads'3.Asked,
   Reads'3.Learnt,
-  Reads'6.Asked,
-  Reads'6.Learnt,
+  Reads'5.Asked,
+  Reads'5.Learnt,
   Reads'9.Asked,
   Reads'9.Learnt,
   Reads'10.Asked,
   Reads'10.Learnt,
-  Reads'4.Asked,
-  Reads'4.Learnt,
+  Reads'7.Asked,
+  Reads'7.Learnt,
   Reads'12.Asked,
   Reads'12.Learnt,
   Reads'13.Asked,
   Reads'13.Learnt,
-) Reads'5.Pre Reads'5.Post
+) Reads'4.Pre Reads'4.Post
 
 abbrev pub Else1 : Type 0
 Else1 = Lts.Else1 (
@@ -336,8 +336,8 @@ Else1 = Lts.Else1 (
   Reads'14.Learnt,
   Reads'11.Asked,
   Reads'11.Learnt,
-  Reads'7.Asked,
-  Reads'7.Learnt,
+  Reads'6.Asked,
+  Reads'6.Learnt,
   Reads'15.Asked,
   Reads'15.Learnt,
   Reads'8.Asked,
@@ -346,19 +346,19 @@ Else1 = Lts.Else1 (
   Reads.Learnt,
   Reads'3.Asked,
   Reads'3.Learnt,
-  Reads'6.Asked,
-  Reads'6.Learnt,
+  Reads'5.Asked,
+  Reads'5.Learnt,
   Reads'9.Asked,
   Reads'9.Learnt,
   Reads'10.Asked,
   Reads'10.Learnt,
-  Reads'4.Asked,
-  Reads'4.Learnt,
+  Reads'7.Asked,
+  Reads'7.Learnt,
   Reads'12.Asked,
   Reads'12.Learnt,
   Reads'13.Asked,
   Reads'13.Learnt,
-) Reads'5.Pre Reads'5.Post
+) Reads'4.Pre Reads'4.Post
 
 abbrev pub Then2 : Type 0
 Then2 = Lts.Then2 (
@@ -370,8 +370,8 @@ Then2 = Lts.Then2 (
   Reads'14.Learnt,
   Reads'11.Asked,
   Reads'11.Learnt,
-  Reads'7.Asked,
-  Reads'7.Learnt,
+  Reads'6.Asked,
+  Reads'6.Learnt,
   Reads'15.Asked,
   Reads'15.Learnt,
   Reads'8.Asked,
@@ -380,19 +380,19 @@ Then2 = Lts.Then2 (
   Reads.Learnt,
   Reads'3.Asked,
   Reads'3.Learnt,
-  Reads'6.Asked,
-  Reads'6.Learnt,
+  Reads'5.Asked,
+  Reads'5.Learnt,
   Reads'9.Asked,
   Reads'9.Learnt,
   Reads'10.Asked,
   Reads'10.Learnt,
-  Reads'4.Asked,
-  Reads'4.Learnt,
+  Reads'7.Asked,
+  Reads'7.Learnt,
   Reads'12.Asked,
   Reads'12.Learnt,
   Reads'13.Asked,
   Reads'13.Learnt,
-) Reads'5.Pre Reads'5.Post
+) Reads'4.Pre Reads'4.Post
 
 abbrev pub After-bad-call2 : Type 0
 After-bad-call2 = Lts.After-bad-call2 (
@@ -404,8 +404,8 @@ After-bad-call2 = Lts.After-bad-call2 (
   Reads'14.Learnt,
   Reads'11.Asked,
   Reads'11.Learnt,
-  Reads'7.Asked,
-  Reads'7.Learnt,
+  Reads'6.Asked,
+  Reads'6.Learnt,
   Reads'15.Asked,
   Reads'15.Learnt,
   Reads'8.Asked,
@@ -414,19 +414,19 @@ After-bad-call2 = Lts.After-bad-call2 (
   Reads.Learnt,
   Reads'3.Asked,
   Reads'3.Learnt,
-  Reads'6.Asked,
-  Reads'6.Learnt,
+  Reads'5.Asked,
+  Reads'5.Learnt,
   Reads'9.Asked,
   Reads'9.Learnt,
   Reads'10.Asked,
   Reads'10.Learnt,
-  Reads'4.Asked,
-  Reads'4.Learnt,
+  Reads'7.Asked,
+  Reads'7.Learnt,
   Reads'12.Asked,
   Reads'12.Learnt,
   Reads'13.Asked,
   Reads'13.Learnt,
-) Reads'5.Pre Reads'5.Post
+) Reads'4.Pre Reads'4.Post
 
 abbrev pub After-refused2 : Type 0
 After-refused2 = Lts.After-refused2 (
@@ -438,8 +438,8 @@ After-refused2 = Lts.After-refused2 (
   Reads'14.Learnt,
   Reads'11.Asked,
   Reads'11.Learnt,
-  Reads'7.Asked,
-  Reads'7.Learnt,
+  Reads'6.Asked,
+  Reads'6.Learnt,
   Reads'15.Asked,
   Reads'15.Learnt,
   Reads'8.Asked,
@@ -448,19 +448,19 @@ After-refused2 = Lts.After-refused2 (
   Reads.Learnt,
   Reads'3.Asked,
   Reads'3.Learnt,
-  Reads'6.Asked,
-  Reads'6.Learnt,
+  Reads'5.Asked,
+  Reads'5.Learnt,
   Reads'9.Asked,
   Reads'9.Learnt,
   Reads'10.Asked,
   Reads'10.Learnt,
-  Reads'4.Asked,
-  Reads'4.Learnt,
+  Reads'7.Asked,
+  Reads'7.Learnt,
   Reads'12.Asked,
   Reads'12.Learnt,
   Reads'13.Asked,
   Reads'13.Learnt,
-) Reads'5.Pre Reads'5.Post
+) Reads'4.Pre Reads'4.Post
 
 abbrev pub Else2 : Type 0
 Else2 = Lts.Else2 (
@@ -472,8 +472,8 @@ Else2 = Lts.Else2 (
   Reads'14.Learnt,
   Reads'11.Asked,
   Reads'11.Learnt,
-  Reads'7.Asked,
-  Reads'7.Learnt,
+  Reads'6.Asked,
+  Reads'6.Learnt,
   Reads'15.Asked,
   Reads'15.Learnt,
   Reads'8.Asked,
@@ -482,19 +482,19 @@ Else2 = Lts.Else2 (
   Reads.Learnt,
   Reads'3.Asked,
   Reads'3.Learnt,
-  Reads'6.Asked,
-  Reads'6.Learnt,
+  Reads'5.Asked,
+  Reads'5.Learnt,
   Reads'9.Asked,
   Reads'9.Learnt,
   Reads'10.Asked,
   Reads'10.Learnt,
-  Reads'4.Asked,
-  Reads'4.Learnt,
+  Reads'7.Asked,
+  Reads'7.Learnt,
   Reads'12.Asked,
   Reads'12.Learnt,
   Reads'13.Asked,
   Reads'13.Learnt,
-) Reads'5.Pre Reads'5.Post
+) Reads'4.Pre Reads'4.Post
 
 abbrev pub After-is-wrong-arg : Type 0
 After-is-wrong-arg = Lts.After-is-wrong-arg (
@@ -506,8 +506,8 @@ After-is-wrong-arg = Lts.After-is-wrong-arg (
   Reads'14.Learnt,
   Reads'11.Asked,
   Reads'11.Learnt,
-  Reads'7.Asked,
-  Reads'7.Learnt,
+  Reads'6.Asked,
+  Reads'6.Learnt,
   Reads'15.Asked,
   Reads'15.Learnt,
   Reads'8.Asked,
@@ -516,19 +516,19 @@ After-is-wrong-arg = Lts.After-is-wrong-arg (
   Reads.Learnt,
   Reads'3.Asked,
   Reads'3.Learnt,
-  Reads'6.Asked,
-  Reads'6.Learnt,
+  Reads'5.Asked,
+  Reads'5.Learnt,
   Reads'9.Asked,
   Reads'9.Learnt,
   Reads'10.Asked,
   Reads'10.Learnt,
-  Reads'4.Asked,
-  Reads'4.Learnt,
+  Reads'7.Asked,
+  Reads'7.Learnt,
   Reads'12.Asked,
   Reads'12.Learnt,
   Reads'13.Asked,
   Reads'13.Learnt,
-) Reads'5.Pre Reads'5.Post
+) Reads'4.Pre Reads'4.Post
 
 abbrev pub After-is-wrong-arg2 : Type 0
 After-is-wrong-arg2 = Lts.After-is-wrong-arg2 (
@@ -540,8 +540,8 @@ After-is-wrong-arg2 = Lts.After-is-wrong-arg2 (
   Reads'14.Learnt,
   Reads'11.Asked,
   Reads'11.Learnt,
-  Reads'7.Asked,
-  Reads'7.Learnt,
+  Reads'6.Asked,
+  Reads'6.Learnt,
   Reads'15.Asked,
   Reads'15.Learnt,
   Reads'8.Asked,
@@ -550,19 +550,19 @@ After-is-wrong-arg2 = Lts.After-is-wrong-arg2 (
   Reads.Learnt,
   Reads'3.Asked,
   Reads'3.Learnt,
-  Reads'6.Asked,
-  Reads'6.Learnt,
+  Reads'5.Asked,
+  Reads'5.Learnt,
   Reads'9.Asked,
   Reads'9.Learnt,
   Reads'10.Asked,
   Reads'10.Learnt,
-  Reads'4.Asked,
-  Reads'4.Learnt,
+  Reads'7.Asked,
+  Reads'7.Learnt,
   Reads'12.Asked,
   Reads'12.Learnt,
   Reads'13.Asked,
   Reads'13.Learnt,
-) Reads'5.Pre Reads'5.Post
+) Reads'4.Pre Reads'4.Post
 
 abbrev pub After-is-wrong : Type 0
 After-is-wrong = Lts.After-is-wrong (
@@ -574,8 +574,8 @@ After-is-wrong = Lts.After-is-wrong (
   Reads'14.Learnt,
   Reads'11.Asked,
   Reads'11.Learnt,
-  Reads'7.Asked,
-  Reads'7.Learnt,
+  Reads'6.Asked,
+  Reads'6.Learnt,
   Reads'15.Asked,
   Reads'15.Learnt,
   Reads'8.Asked,
@@ -584,19 +584,19 @@ After-is-wrong = Lts.After-is-wrong (
   Reads.Learnt,
   Reads'3.Asked,
   Reads'3.Learnt,
-  Reads'6.Asked,
-  Reads'6.Learnt,
+  Reads'5.Asked,
+  Reads'5.Learnt,
   Reads'9.Asked,
   Reads'9.Learnt,
   Reads'10.Asked,
   Reads'10.Learnt,
-  Reads'4.Asked,
-  Reads'4.Learnt,
+  Reads'7.Asked,
+  Reads'7.Learnt,
   Reads'12.Asked,
   Reads'12.Learnt,
   Reads'13.Asked,
   Reads'13.Learnt,
-) Reads'5.Pre Reads'5.Post
+) Reads'4.Pre Reads'4.Post
 
 abbrev pub Then3 : Type 0
 Then3 = Lts.Then3 (
@@ -608,8 +608,8 @@ Then3 = Lts.Then3 (
   Reads'14.Learnt,
   Reads'11.Asked,
   Reads'11.Learnt,
-  Reads'7.Asked,
-  Reads'7.Learnt,
+  Reads'6.Asked,
+  Reads'6.Learnt,
   Reads'15.Asked,
   Reads'15.Learnt,
   Reads'8.Asked,
@@ -618,19 +618,19 @@ Then3 = Lts.Then3 (
   Reads.Learnt,
   Reads'3.Asked,
   Reads'3.Learnt,
-  Reads'6.Asked,
-  Reads'6.Learnt,
+  Reads'5.Asked,
+  Reads'5.Learnt,
   Reads'9.Asked,
   Reads'9.Learnt,
   Reads'10.Asked,
   Reads'10.Learnt,
-  Reads'4.Asked,
-  Reads'4.Learnt,
+  Reads'7.Asked,
+  Reads'7.Learnt,
   Reads'12.Asked,
   Reads'12.Learnt,
   Reads'13.Asked,
   Reads'13.Learnt,
-) Reads'5.Pre Reads'5.Post
+) Reads'4.Pre Reads'4.Post
 
 abbrev pub After-wrong-state : Type 0
 After-wrong-state = Lts.After-wrong-state (
@@ -642,8 +642,8 @@ After-wrong-state = Lts.After-wrong-state (
   Reads'14.Learnt,
   Reads'11.Asked,
   Reads'11.Learnt,
-  Reads'7.Asked,
-  Reads'7.Learnt,
+  Reads'6.Asked,
+  Reads'6.Learnt,
   Reads'15.Asked,
   Reads'15.Learnt,
   Reads'8.Asked,
@@ -652,19 +652,19 @@ After-wrong-state = Lts.After-wrong-state (
   Reads.Learnt,
   Reads'3.Asked,
   Reads'3.Learnt,
-  Reads'6.Asked,
-  Reads'6.Learnt,
+  Reads'5.Asked,
+  Reads'5.Learnt,
   Reads'9.Asked,
   Reads'9.Learnt,
   Reads'10.Asked,
   Reads'10.Learnt,
-  Reads'4.Asked,
-  Reads'4.Learnt,
+  Reads'7.Asked,
+  Reads'7.Learnt,
   Reads'12.Asked,
   Reads'12.Learnt,
   Reads'13.Asked,
   Reads'13.Learnt,
-) Reads'5.Pre Reads'5.Post
+) Reads'4.Pre Reads'4.Post
 
 abbrev pub After-refused3 : Type 0
 After-refused3 = Lts.After-refused3 (
@@ -676,8 +676,8 @@ After-refused3 = Lts.After-refused3 (
   Reads'14.Learnt,
   Reads'11.Asked,
   Reads'11.Learnt,
-  Reads'7.Asked,
-  Reads'7.Learnt,
+  Reads'6.Asked,
+  Reads'6.Learnt,
   Reads'15.Asked,
   Reads'15.Learnt,
   Reads'8.Asked,
@@ -686,19 +686,19 @@ After-refused3 = Lts.After-refused3 (
   Reads.Learnt,
   Reads'3.Asked,
   Reads'3.Learnt,
-  Reads'6.Asked,
-  Reads'6.Learnt,
+  Reads'5.Asked,
+  Reads'5.Learnt,
   Reads'9.Asked,
   Reads'9.Learnt,
   Reads'10.Asked,
   Reads'10.Learnt,
-  Reads'4.Asked,
-  Reads'4.Learnt,
+  Reads'7.Asked,
+  Reads'7.Learnt,
   Reads'12.Asked,
   Reads'12.Learnt,
   Reads'13.Asked,
   Reads'13.Learnt,
-) Reads'5.Pre Reads'5.Post
+) Reads'4.Pre Reads'4.Post
 
 abbrev pub Else3 : Type 0
 Else3 = Lts.Else3 (
@@ -710,8 +710,8 @@ Else3 = Lts.Else3 (
   Reads'14.Learnt,
   Reads'11.Asked,
   Reads'11.Learnt,
-  Reads'7.Asked,
-  Reads'7.Learnt,
+  Reads'6.Asked,
+  Reads'6.Learnt,
   Reads'15.Asked,
   Reads'15.Learnt,
   Reads'8.Asked,
@@ -720,19 +720,19 @@ Else3 = Lts.Else3 (
   Reads.Learnt,
   Reads'3.Asked,
   Reads'3.Learnt,
-  Reads'6.Asked,
-  Reads'6.Learnt,
+  Reads'5.Asked,
+  Reads'5.Learnt,
   Reads'9.Asked,
   Reads'9.Learnt,
   Reads'10.Asked,
   Reads'10.Learnt,
-  Reads'4.Asked,
-  Reads'4.Learnt,
+  Reads'7.Asked,
+  Reads'7.Learnt,
   Reads'12.Asked,
   Reads'12.Learnt,
   Reads'13.Asked,
   Reads'13.Learnt,
-) Reads'5.Pre Reads'5.Post
+) Reads'4.Pre Reads'4.Post
 
 abbrev pub After-read : Type 0
 After-read = Lts.After-read (
@@ -744,8 +744,8 @@ After-read = Lts.After-read (
   Reads'14.Learnt,
   Reads'11.Asked,
   Reads'11.Learnt,
-  Reads'7.Asked,
-  Reads'7.Learnt,
+  Reads'6.Asked,
+  Reads'6.Learnt,
   Reads'15.Asked,
   Reads'15.Learnt,
   Reads'8.Asked,
@@ -754,19 +754,19 @@ After-read = Lts.After-read (
   Reads.Learnt,
   Reads'3.Asked,
   Reads'3.Learnt,
-  Reads'6.Asked,
-  Reads'6.Learnt,
+  Reads'5.Asked,
+  Reads'5.Learnt,
   Reads'9.Asked,
   Reads'9.Learnt,
   Reads'10.Asked,
   Reads'10.Learnt,
-  Reads'4.Asked,
-  Reads'4.Learnt,
+  Reads'7.Asked,
+  Reads'7.Learnt,
   Reads'12.Asked,
   Reads'12.Learnt,
   Reads'13.Asked,
   Reads'13.Learnt,
-) Reads'5.Pre Reads'5.Post
+) Reads'4.Pre Reads'4.Post
 
 abbrev pub After-octets-answer : Type 0
 After-octets-answer = Lts.After-octets-answer (
@@ -778,8 +778,8 @@ After-octets-answer = Lts.After-octets-answer (
   Reads'14.Learnt,
   Reads'11.Asked,
   Reads'11.Learnt,
-  Reads'7.Asked,
-  Reads'7.Learnt,
+  Reads'6.Asked,
+  Reads'6.Learnt,
   Reads'15.Asked,
   Reads'15.Learnt,
   Reads'8.Asked,
@@ -788,19 +788,19 @@ After-octets-answer = Lts.After-octets-answer (
   Reads.Learnt,
   Reads'3.Asked,
   Reads'3.Learnt,
-  Reads'6.Asked,
-  Reads'6.Learnt,
+  Reads'5.Asked,
+  Reads'5.Learnt,
   Reads'9.Asked,
   Reads'9.Learnt,
   Reads'10.Asked,
   Reads'10.Learnt,
-  Reads'4.Asked,
-  Reads'4.Learnt,
+  Reads'7.Asked,
+  Reads'7.Learnt,
   Reads'12.Asked,
   Reads'12.Learnt,
   Reads'13.Asked,
   Reads'13.Learnt,
-) Reads'5.Pre Reads'5.Post
+) Reads'4.Pre Reads'4.Post
 
 abbrev pub After-number : Type 0
 After-number = Lts.After-number (
@@ -812,8 +812,8 @@ After-number = Lts.After-number (
   Reads'14.Learnt,
   Reads'11.Asked,
   Reads'11.Learnt,
-  Reads'7.Asked,
-  Reads'7.Learnt,
+  Reads'6.Asked,
+  Reads'6.Learnt,
   Reads'15.Asked,
   Reads'15.Learnt,
   Reads'8.Asked,
@@ -822,19 +822,19 @@ After-number = Lts.After-number (
   Reads.Learnt,
   Reads'3.Asked,
   Reads'3.Learnt,
-  Reads'6.Asked,
-  Reads'6.Learnt,
+  Reads'5.Asked,
+  Reads'5.Learnt,
   Reads'9.Asked,
   Reads'9.Learnt,
   Reads'10.Asked,
   Reads'10.Learnt,
-  Reads'4.Asked,
-  Reads'4.Learnt,
+  Reads'7.Asked,
+  Reads'7.Learnt,
   Reads'12.Asked,
   Reads'12.Learnt,
   Reads'13.Asked,
   Reads'13.Learnt,
-) Reads'5.Pre Reads'5.Post
+) Reads'4.Pre Reads'4.Post
 
 abbrev pub Then4 : Type 0
 Then4 = Lts.Then4 (
@@ -846,8 +846,8 @@ Then4 = Lts.Then4 (
   Reads'14.Learnt,
   Reads'11.Asked,
   Reads'11.Learnt,
-  Reads'7.Asked,
-  Reads'7.Learnt,
+  Reads'6.Asked,
+  Reads'6.Learnt,
   Reads'15.Asked,
   Reads'15.Learnt,
   Reads'8.Asked,
@@ -856,19 +856,19 @@ Then4 = Lts.Then4 (
   Reads.Learnt,
   Reads'3.Asked,
   Reads'3.Learnt,
-  Reads'6.Asked,
-  Reads'6.Learnt,
+  Reads'5.Asked,
+  Reads'5.Learnt,
   Reads'9.Asked,
   Reads'9.Learnt,
   Reads'10.Asked,
   Reads'10.Learnt,
-  Reads'4.Asked,
-  Reads'4.Learnt,
+  Reads'7.Asked,
+  Reads'7.Learnt,
   Reads'12.Asked,
   Reads'12.Learnt,
   Reads'13.Asked,
   Reads'13.Learnt,
-) Reads'5.Pre Reads'5.Post
+) Reads'4.Pre Reads'4.Post
 
 abbrev pub After-refused4 : Type 0
 After-refused4 = Lts.After-refused4 (
@@ -880,8 +880,8 @@ After-refused4 = Lts.After-refused4 (
   Reads'14.Learnt,
   Reads'11.Asked,
   Reads'11.Learnt,
-  Reads'7.Asked,
-  Reads'7.Learnt,
+  Reads'6.Asked,
+  Reads'6.Learnt,
   Reads'15.Asked,
   Reads'15.Learnt,
   Reads'8.Asked,
@@ -890,19 +890,19 @@ After-refused4 = Lts.After-refused4 (
   Reads.Learnt,
   Reads'3.Asked,
   Reads'3.Learnt,
-  Reads'6.Asked,
-  Reads'6.Learnt,
+  Reads'5.Asked,
+  Reads'5.Learnt,
   Reads'9.Asked,
   Reads'9.Learnt,
   Reads'10.Asked,
   Reads'10.Learnt,
-  Reads'4.Asked,
-  Reads'4.Learnt,
+  Reads'7.Asked,
+  Reads'7.Learnt,
   Reads'12.Asked,
   Reads'12.Learnt,
   Reads'13.Asked,
   Reads'13.Learnt,
-) Reads'5.Pre Reads'5.Post
+) Reads'4.Pre Reads'4.Post
 
 abbrev pub Else4 : Type 0
 Else4 = Lts.Else4 (
@@ -914,8 +914,8 @@ Else4 = Lts.Else4 (
   Reads'14.Learnt,
   Reads'11.Asked,
   Reads'11.Learnt,
-  Reads'7.Asked,
-  Reads'7.Learnt,
+  Reads'6.Asked,
+  Reads'6.Learnt,
   Reads'15.Asked,
   Reads'15.Learnt,
   Reads'8.Asked,
@@ -924,19 +924,19 @@ Else4 = Lts.Else4 (
   Reads.Learnt,
   Reads'3.Asked,
   Reads'3.Learnt,
-  Reads'6.Asked,
-  Reads'6.Learnt,
+  Reads'5.Asked,
+  Reads'5.Learnt,
   Reads'9.Asked,
   Reads'9.Learnt,
   Reads'10.Asked,
   Reads'10.Learnt,
-  Reads'4.Asked,
-  Reads'4.Learnt,
+  Reads'7.Asked,
+  Reads'7.Learnt,
   Reads'12.Asked,
   Reads'12.Learnt,
   Reads'13.Asked,
   Reads'13.Learnt,
-) Reads'5.Pre Reads'5.Post
+) Reads'4.Pre Reads'4.Post
 
 abbrev pub After-has-own-dodagid : Type 0
 After-has-own-dodagid = Lts.After-has-own-dodagid (
@@ -948,8 +948,8 @@ After-has-own-dodagid = Lts.After-has-own-dodagid (
   Reads'14.Learnt,
   Reads'11.Asked,
   Reads'11.Learnt,
-  Reads'7.Asked,
-  Reads'7.Learnt,
+  Reads'6.Asked,
+  Reads'6.Learnt,
   Reads'15.Asked,
   Reads'15.Learnt,
   Reads'8.Asked,
@@ -958,19 +958,19 @@ After-has-own-dodagid = Lts.After-has-own-dodagid (
   Reads.Learnt,
   Reads'3.Asked,
   Reads'3.Learnt,
-  Reads'6.Asked,
-  Reads'6.Learnt,
+  Reads'5.Asked,
+  Reads'5.Learnt,
   Reads'9.Asked,
   Reads'9.Learnt,
   Reads'10.Asked,
   Reads'10.Learnt,
-  Reads'4.Asked,
-  Reads'4.Learnt,
+  Reads'7.Asked,
+  Reads'7.Learnt,
   Reads'12.Asked,
   Reads'12.Learnt,
   Reads'13.Asked,
   Reads'13.Learnt,
-) Reads'5.Pre Reads'5.Post
+) Reads'4.Pre Reads'4.Post
 
 abbrev pub Then5 : Type 0
 Then5 = Lts.Then5 (
@@ -982,8 +982,8 @@ Then5 = Lts.Then5 (
   Reads'14.Learnt,
   Reads'11.Asked,
   Reads'11.Learnt,
-  Reads'7.Asked,
-  Reads'7.Learnt,
+  Reads'6.Asked,
+  Reads'6.Learnt,
   Reads'15.Asked,
   Reads'15.Learnt,
   Reads'8.Asked,
@@ -992,19 +992,19 @@ Then5 = Lts.Then5 (
   Reads.Learnt,
   Reads'3.Asked,
   Reads'3.Learnt,
-  Reads'6.Asked,
-  Reads'6.Learnt,
+  Reads'5.Asked,
+  Reads'5.Learnt,
   Reads'9.Asked,
   Reads'9.Learnt,
   Reads'10.Asked,
   Reads'10.Learnt,
-  Reads'4.Asked,
-  Reads'4.Learnt,
+  Reads'7.Asked,
+  Reads'7.Learnt,
   Reads'12.Asked,
   Reads'12.Learnt,
   Reads'13.Asked,
   Reads'13.Learnt,
-) Reads'5.Pre Reads'5.Post
+) Reads'4.Pre Reads'4.Post
 
 abbrev pub After-own-dodagid : Type 0
 After-own-dodagid = Lts.After-own-dodagid (
@@ -1016,8 +1016,8 @@ After-own-dodagid = Lts.After-own-dodagid (
   Reads'14.Learnt,
   Reads'11.Asked,
   Reads'11.Learnt,
-  Reads'7.Asked,
-  Reads'7.Learnt,
+  Reads'6.Asked,
+  Reads'6.Learnt,
   Reads'15.Asked,
   Reads'15.Learnt,
   Reads'8.Asked,
@@ -1026,19 +1026,19 @@ After-own-dodagid = Lts.After-own-dodagid (
   Reads.Learnt,
   Reads'3.Asked,
   Reads'3.Learnt,
-  Reads'6.Asked,
-  Reads'6.Learnt,
+  Reads'5.Asked,
+  Reads'5.Learnt,
   Reads'9.Asked,
   Reads'9.Learnt,
   Reads'10.Asked,
   Reads'10.Learnt,
-  Reads'4.Asked,
-  Reads'4.Learnt,
+  Reads'7.Asked,
+  Reads'7.Learnt,
   Reads'12.Asked,
   Reads'12.Learnt,
   Reads'13.Asked,
   Reads'13.Learnt,
-) Reads'5.Pre Reads'5.Post
+) Reads'4.Pre Reads'4.Post
 
 abbrev pub After-refused5 : Type 0
 After-refused5 = Lts.After-refused5 (
@@ -1050,8 +1050,8 @@ After-refused5 = Lts.After-refused5 (
   Reads'14.Learnt,
   Reads'11.Asked,
   Reads'11.Learnt,
-  Reads'7.Asked,
-  Reads'7.Learnt,
+  Reads'6.Asked,
+  Reads'6.Learnt,
   Reads'15.Asked,
   Reads'15.Learnt,
   Reads'8.Asked,
@@ -1060,19 +1060,19 @@ After-refused5 = Lts.After-refused5 (
   Reads.Learnt,
   Reads'3.Asked,
   Reads'3.Learnt,
-  Reads'6.Asked,
-  Reads'6.Learnt,
+  Reads'5.Asked,
+  Reads'5.Learnt,
   Reads'9.Asked,
   Reads'9.Learnt,
   Reads'10.Asked,
   Reads'10.Learnt,
-  Reads'4.Asked,
-  Reads'4.Learnt,
+  Reads'7.Asked,
+  Reads'7.Learnt,
   Reads'12.Asked,
   Reads'12.Learnt,
   Reads'13.Asked,
   Reads'13.Learnt,
-) Reads'5.Pre Reads'5.Post
+) Reads'4.Pre Reads'4.Post
 
 abbrev pub Else5 : Type 0
 Else5 = Lts.Else5 (
@@ -1084,8 +1084,8 @@ Else5 = Lts.Else5 (
   Reads'14.Learnt,
   Reads'11.Asked,
   Reads'11.Learnt,
-  Reads'7.Asked,
-  Reads'7.Learnt,
+  Reads'6.Asked,
+  Reads'6.Learnt,
   Reads'15.Asked,
   Reads'15.Learnt,
   Reads'8.Asked,
@@ -1094,19 +1094,19 @@ Else5 = Lts.Else5 (
   Reads.Learnt,
   Reads'3.Asked,
   Reads'3.Learnt,
-  Reads'6.Asked,
-  Reads'6.Learnt,
+  Reads'5.Asked,
+  Reads'5.Learnt,
   Reads'9.Asked,
   Reads'9.Learnt,
   Reads'10.Asked,
   Reads'10.Learnt,
-  Reads'4.Asked,
-  Reads'4.Learnt,
+  Reads'7.Asked,
+  Reads'7.Learnt,
   Reads'12.Asked,
   Reads'12.Learnt,
   Reads'13.Asked,
   Reads'13.Learnt,
-) Reads'5.Pre Reads'5.Post
+) Reads'4.Pre Reads'4.Post
 
 abbrev pub After-parsed : Type 0
 After-parsed = Lts.After-parsed (
@@ -1118,8 +1118,8 @@ After-parsed = Lts.After-parsed (
   Reads'14.Learnt,
   Reads'11.Asked,
   Reads'11.Learnt,
-  Reads'7.Asked,
-  Reads'7.Learnt,
+  Reads'6.Asked,
+  Reads'6.Learnt,
   Reads'15.Asked,
   Reads'15.Learnt,
   Reads'8.Asked,
@@ -1128,19 +1128,19 @@ After-parsed = Lts.After-parsed (
   Reads.Learnt,
   Reads'3.Asked,
   Reads'3.Learnt,
-  Reads'6.Asked,
-  Reads'6.Learnt,
+  Reads'5.Asked,
+  Reads'5.Learnt,
   Reads'9.Asked,
   Reads'9.Learnt,
   Reads'10.Asked,
   Reads'10.Learnt,
-  Reads'4.Asked,
-  Reads'4.Learnt,
+  Reads'7.Asked,
+  Reads'7.Learnt,
   Reads'12.Asked,
   Reads'12.Learnt,
   Reads'13.Asked,
   Reads'13.Learnt,
-) Reads'5.Pre Reads'5.Post
+) Reads'4.Pre Reads'4.Post
 
 abbrev pub After-vector-of : Type 0
 After-vector-of = Lts.After-vector-of (
@@ -1152,8 +1152,8 @@ After-vector-of = Lts.After-vector-of (
   Reads'14.Learnt,
   Reads'11.Asked,
   Reads'11.Learnt,
-  Reads'7.Asked,
-  Reads'7.Learnt,
+  Reads'6.Asked,
+  Reads'6.Learnt,
   Reads'15.Asked,
   Reads'15.Learnt,
   Reads'8.Asked,
@@ -1162,19 +1162,19 @@ After-vector-of = Lts.After-vector-of (
   Reads.Learnt,
   Reads'3.Asked,
   Reads'3.Learnt,
-  Reads'6.Asked,
-  Reads'6.Learnt,
+  Reads'5.Asked,
+  Reads'5.Learnt,
   Reads'9.Asked,
   Reads'9.Learnt,
   Reads'10.Asked,
   Reads'10.Learnt,
-  Reads'4.Asked,
-  Reads'4.Learnt,
+  Reads'7.Asked,
+  Reads'7.Learnt,
   Reads'12.Asked,
   Reads'12.Learnt,
   Reads'13.Asked,
   Reads'13.Learnt,
-) Reads'5.Pre Reads'5.Post
+) Reads'4.Pre Reads'4.Post
 
 abbrev pub After-is-reply : Type 0
 After-is-reply = Lts.After-is-reply (
@@ -1186,8 +1186,8 @@ After-is-reply = Lts.After-is-reply (
   Reads'14.Learnt,
   Reads'11.Asked,
   Reads'11.Learnt,
-  Reads'7.Asked,
-  Reads'7.Learnt,
+  Reads'6.Asked,
+  Reads'6.Learnt,
   Reads'15.Asked,
   Reads'15.Learnt,
   Reads'8.Asked,
@@ -1196,19 +1196,19 @@ After-is-reply = Lts.After-is-reply (
   Reads.Learnt,
   Reads'3.Asked,
   Reads'3.Learnt,
-  Reads'6.Asked,
-  Reads'6.Learnt,
+  Reads'5.Asked,
+  Reads'5.Learnt,
   Reads'9.Asked,
   Reads'9.Learnt,
   Reads'10.Asked,
   Reads'10.Learnt,
-  Reads'4.Asked,
-  Reads'4.Learnt,
+  Reads'7.Asked,
+  Reads'7.Learnt,
   Reads'12.Asked,
   Reads'12.Learnt,
   Reads'13.Asked,
   Reads'13.Learnt,
-) Reads'5.Pre Reads'5.Post
+) Reads'4.Pre Reads'4.Post
 
 abbrev pub Then6 : Type 0
 Then6 = Lts.Then6 (
@@ -1220,8 +1220,8 @@ Then6 = Lts.Then6 (
   Reads'14.Learnt,
   Reads'11.Asked,
   Reads'11.Learnt,
-  Reads'7.Asked,
-  Reads'7.Learnt,
+  Reads'6.Asked,
+  Reads'6.Learnt,
   Reads'15.Asked,
   Reads'15.Learnt,
   Reads'8.Asked,
@@ -1230,19 +1230,19 @@ Then6 = Lts.Then6 (
   Reads.Learnt,
   Reads'3.Asked,
   Reads'3.Learnt,
-  Reads'6.Asked,
-  Reads'6.Learnt,
+  Reads'5.Asked,
+  Reads'5.Learnt,
   Reads'9.Asked,
   Reads'9.Learnt,
   Reads'10.Asked,
   Reads'10.Learnt,
-  Reads'4.Asked,
-  Reads'4.Learnt,
+  Reads'7.Asked,
+  Reads'7.Learnt,
   Reads'12.Asked,
   Reads'12.Learnt,
   Reads'13.Asked,
   Reads'13.Learnt,
-) Reads'5.Pre Reads'5.Post
+) Reads'4.Pre Reads'4.Post
 
 abbrev pub After-take-reply-arg : Type 0
 After-take-reply-arg = Lts.After-take-reply-arg (
@@ -1254,8 +1254,8 @@ After-take-reply-arg = Lts.After-take-reply-arg (
   Reads'14.Learnt,
   Reads'11.Asked,
   Reads'11.Learnt,
-  Reads'7.Asked,
-  Reads'7.Learnt,
+  Reads'6.Asked,
+  Reads'6.Learnt,
   Reads'15.Asked,
   Reads'15.Learnt,
   Reads'8.Asked,
@@ -1264,19 +1264,19 @@ After-take-reply-arg = Lts.After-take-reply-arg (
   Reads.Learnt,
   Reads'3.Asked,
   Reads'3.Learnt,
-  Reads'6.Asked,
-  Reads'6.Learnt,
+  Reads'5.Asked,
+  Reads'5.Learnt,
   Reads'9.Asked,
   Reads'9.Learnt,
   Reads'10.Asked,
   Reads'10.Learnt,
-  Reads'4.Asked,
-  Reads'4.Learnt,
+  Reads'7.Asked,
+  Reads'7.Learnt,
   Reads'12.Asked,
   Reads'12.Learnt,
   Reads'13.Asked,
   Reads'13.Learnt,
-) Reads'5.Pre Reads'5.Post
+) Reads'4.Pre Reads'4.Post
 
 abbrev pub After-take-reply-arg2 : Type 0
 After-take-reply-arg2 = Lts.After-take-reply-arg2 (
@@ -1288,8 +1288,8 @@ After-take-reply-arg2 = Lts.After-take-reply-arg2 (
   Reads'14.Learnt,
   Reads'11.Asked,
   Reads'11.Learnt,
-  Reads'7.Asked,
-  Reads'7.Learnt,
+  Reads'6.Asked,
+  Reads'6.Learnt,
   Reads'15.Asked,
   Reads'15.Learnt,
   Reads'8.Asked,
@@ -1298,19 +1298,19 @@ After-take-reply-arg2 = Lts.After-take-reply-arg2 (
   Reads.Learnt,
   Reads'3.Asked,
   Reads'3.Learnt,
-  Reads'6.Asked,
-  Reads'6.Learnt,
+  Reads'5.Asked,
+  Reads'5.Learnt,
   Reads'9.Asked,
   Reads'9.Learnt,
   Reads'10.Asked,
   Reads'10.Learnt,
-  Reads'4.Asked,
-  Reads'4.Learnt,
+  Reads'7.Asked,
+  Reads'7.Learnt,
   Reads'12.Asked,
   Reads'12.Learnt,
   Reads'13.Asked,
   Reads'13.Learnt,
-) Reads'5.Pre Reads'5.Post
+) Reads'4.Pre Reads'4.Post
 
 abbrev pub After-take-reply-arg3 : Type 0
 After-take-reply-arg3 = Lts.After-take-reply-arg3 (
@@ -1322,8 +1322,8 @@ After-take-reply-arg3 = Lts.After-take-reply-arg3 (
   Reads'14.Learnt,
   Reads'11.Asked,
   Reads'11.Learnt,
-  Reads'7.Asked,
-  Reads'7.Learnt,
+  Reads'6.Asked,
+  Reads'6.Learnt,
   Reads'15.Asked,
   Reads'15.Learnt,
   Reads'8.Asked,
@@ -1332,19 +1332,19 @@ After-take-reply-arg3 = Lts.After-take-reply-arg3 (
   Reads.Learnt,
   Reads'3.Asked,
   Reads'3.Learnt,
-  Reads'6.Asked,
-  Reads'6.Learnt,
+  Reads'5.Asked,
+  Reads'5.Learnt,
   Reads'9.Asked,
   Reads'9.Learnt,
   Reads'10.Asked,
   Reads'10.Learnt,
-  Reads'4.Asked,
-  Reads'4.Learnt,
+  Reads'7.Asked,
+  Reads'7.Learnt,
   Reads'12.Asked,
   Reads'12.Learnt,
   Reads'13.Asked,
   Reads'13.Learnt,
-) Reads'5.Pre Reads'5.Post
+) Reads'4.Pre Reads'4.Post
 
 abbrev pub After-take-reply-arg4 : Type 0
 After-take-reply-arg4 = Lts.After-take-reply-arg4 (
@@ -1356,8 +1356,8 @@ After-take-reply-arg4 = Lts.After-take-reply-arg4 (
   Reads'14.Learnt,
   Reads'11.Asked,
   Reads'11.Learnt,
-  Reads'7.Asked,
-  Reads'7.Learnt,
+  Reads'6.Asked,
+  Reads'6.Learnt,
   Reads'15.Asked,
   Reads'15.Learnt,
   Reads'8.Asked,
@@ -1366,19 +1366,19 @@ After-take-reply-arg4 = Lts.After-take-reply-arg4 (
   Reads.Learnt,
   Reads'3.Asked,
   Reads'3.Learnt,
-  Reads'6.Asked,
-  Reads'6.Learnt,
+  Reads'5.Asked,
+  Reads'5.Learnt,
   Reads'9.Asked,
   Reads'9.Learnt,
   Reads'10.Asked,
   Reads'10.Learnt,
-  Reads'4.Asked,
-  Reads'4.Learnt,
+  Reads'7.Asked,
+  Reads'7.Learnt,
   Reads'12.Asked,
   Reads'12.Learnt,
   Reads'13.Asked,
   Reads'13.Learnt,
-) Reads'5.Pre Reads'5.Post
+) Reads'4.Pre Reads'4.Post
 
 abbrev pub After-p : Type 0
 After-p = Lts.After-p (
@@ -1390,8 +1390,8 @@ After-p = Lts.After-p (
   Reads'14.Learnt,
   Reads'11.Asked,
   Reads'11.Learnt,
-  Reads'7.Asked,
-  Reads'7.Learnt,
+  Reads'6.Asked,
+  Reads'6.Learnt,
   Reads'15.Asked,
   Reads'15.Learnt,
   Reads'8.Asked,
@@ -1400,19 +1400,19 @@ After-p = Lts.After-p (
   Reads.Learnt,
   Reads'3.Asked,
   Reads'3.Learnt,
-  Reads'6.Asked,
-  Reads'6.Learnt,
+  Reads'5.Asked,
+  Reads'5.Learnt,
   Reads'9.Asked,
   Reads'9.Learnt,
   Reads'10.Asked,
   Reads'10.Learnt,
-  Reads'4.Asked,
-  Reads'4.Learnt,
+  Reads'7.Asked,
+  Reads'7.Learnt,
   Reads'12.Asked,
   Reads'12.Learnt,
   Reads'13.Asked,
   Reads'13.Learnt,
-) Reads'5.Pre Reads'5.Post
+) Reads'4.Pre Reads'4.Post
 
 abbrev pub After-v : Type 0
 After-v = Lts.After-v (
@@ -1424,8 +1424,8 @@ After-v = Lts.After-v (
   Reads'14.Learnt,
   Reads'11.Asked,
   Reads'11.Learnt,
-  Reads'7.Asked,
-  Reads'7.Learnt,
+  Reads'6.Asked,
+  Reads'6.Learnt,
   Reads'15.Asked,
   Reads'15.Learnt,
   Reads'8.Asked,
@@ -1434,19 +1434,19 @@ After-v = Lts.After-v (
   Reads.Learnt,
   Reads'3.Asked,
   Reads'3.Learnt,
-  Reads'6.Asked,
-  Reads'6.Learnt,
+  Reads'5.Asked,
+  Reads'5.Learnt,
   Reads'9.Asked,
   Reads'9.Learnt,
   Reads'10.Asked,
   Reads'10.Learnt,
-  Reads'4.Asked,
-  Reads'4.Learnt,
+  Reads'7.Asked,
+  Reads'7.Learnt,
   Reads'12.Asked,
   Reads'12.Learnt,
   Reads'13.Asked,
   Reads'13.Learnt,
-) Reads'5.Pre Reads'5.Post
+) Reads'4.Pre Reads'4.Post
 
 abbrev pub After-take-reply : Type 0
 After-take-reply = Lts.After-take-reply (
@@ -1458,8 +1458,8 @@ After-take-reply = Lts.After-take-reply (
   Reads'14.Learnt,
   Reads'11.Asked,
   Reads'11.Learnt,
-  Reads'7.Asked,
-  Reads'7.Learnt,
+  Reads'6.Asked,
+  Reads'6.Learnt,
   Reads'15.Asked,
   Reads'15.Learnt,
   Reads'8.Asked,
@@ -1468,19 +1468,19 @@ After-take-reply = Lts.After-take-reply (
   Reads.Learnt,
   Reads'3.Asked,
   Reads'3.Learnt,
-  Reads'6.Asked,
-  Reads'6.Learnt,
+  Reads'5.Asked,
+  Reads'5.Learnt,
   Reads'9.Asked,
   Reads'9.Learnt,
   Reads'10.Asked,
   Reads'10.Learnt,
-  Reads'4.Asked,
-  Reads'4.Learnt,
+  Reads'7.Asked,
+  Reads'7.Learnt,
   Reads'12.Asked,
   Reads'12.Learnt,
   Reads'13.Asked,
   Reads'13.Learnt,
-) Reads'5.Pre Reads'5.Post
+) Reads'4.Pre Reads'4.Post
 
 abbrev pub After-instances : Type 0
 After-instances = Lts.After-instances (
@@ -1492,8 +1492,8 @@ After-instances = Lts.After-instances (
   Reads'14.Learnt,
   Reads'11.Asked,
   Reads'11.Learnt,
-  Reads'7.Asked,
-  Reads'7.Learnt,
+  Reads'6.Asked,
+  Reads'6.Learnt,
   Reads'15.Asked,
   Reads'15.Learnt,
   Reads'8.Asked,
@@ -1502,19 +1502,19 @@ After-instances = Lts.After-instances (
   Reads.Learnt,
   Reads'3.Asked,
   Reads'3.Learnt,
-  Reads'6.Asked,
-  Reads'6.Learnt,
+  Reads'5.Asked,
+  Reads'5.Learnt,
   Reads'9.Asked,
   Reads'9.Learnt,
   Reads'10.Asked,
   Reads'10.Learnt,
-  Reads'4.Asked,
-  Reads'4.Learnt,
+  Reads'7.Asked,
+  Reads'7.Learnt,
   Reads'12.Asked,
   Reads'12.Learnt,
   Reads'13.Asked,
   Reads'13.Learnt,
-) Reads'5.Pre Reads'5.Post
+) Reads'4.Pre Reads'4.Post
 
 abbrev pub After-routes : Type 0
 After-routes = Lts.After-routes (
@@ -1526,8 +1526,8 @@ After-routes = Lts.After-routes (
   Reads'14.Learnt,
   Reads'11.Asked,
   Reads'11.Learnt,
-  Reads'7.Asked,
-  Reads'7.Learnt,
+  Reads'6.Asked,
+  Reads'6.Learnt,
   Reads'15.Asked,
   Reads'15.Learnt,
   Reads'8.Asked,
@@ -1536,19 +1536,19 @@ After-routes = Lts.After-routes (
   Reads.Learnt,
   Reads'3.Asked,
   Reads'3.Learnt,
-  Reads'6.Asked,
-  Reads'6.Learnt,
+  Reads'5.Asked,
+  Reads'5.Learnt,
   Reads'9.Asked,
   Reads'9.Learnt,
   Reads'10.Asked,
   Reads'10.Learnt,
-  Reads'4.Asked,
-  Reads'4.Learnt,
+  Reads'7.Asked,
+  Reads'7.Learnt,
   Reads'12.Asked,
   Reads'12.Learnt,
   Reads'13.Asked,
   Reads'13.Learnt,
-) Reads'5.Pre Reads'5.Post
+) Reads'4.Pre Reads'4.Post
 
 abbrev pub After-forward : Type 0
 After-forward = Lts.After-forward (
@@ -1560,8 +1560,8 @@ After-forward = Lts.After-forward (
   Reads'14.Learnt,
   Reads'11.Asked,
   Reads'11.Learnt,
-  Reads'7.Asked,
-  Reads'7.Learnt,
+  Reads'6.Asked,
+  Reads'6.Learnt,
   Reads'15.Asked,
   Reads'15.Learnt,
   Reads'8.Asked,
@@ -1570,19 +1570,19 @@ After-forward = Lts.After-forward (
   Reads.Learnt,
   Reads'3.Asked,
   Reads'3.Learnt,
-  Reads'6.Asked,
-  Reads'6.Learnt,
+  Reads'5.Asked,
+  Reads'5.Learnt,
   Reads'9.Asked,
   Reads'9.Learnt,
   Reads'10.Asked,
   Reads'10.Learnt,
-  Reads'4.Asked,
-  Reads'4.Learnt,
+  Reads'7.Asked,
+  Reads'7.Learnt,
   Reads'12.Asked,
   Reads'12.Learnt,
   Reads'13.Asked,
   Reads'13.Learnt,
-) Reads'5.Pre Reads'5.Post
+) Reads'4.Pre Reads'4.Post
 
 abbrev pub After-slice-known3 : Type 0
 After-slice-known3 = Lts.After-slice-known3 (
@@ -1594,8 +1594,8 @@ After-slice-known3 = Lts.After-slice-known3 (
   Reads'14.Learnt,
   Reads'11.Asked,
   Reads'11.Learnt,
-  Reads'7.Asked,
-  Reads'7.Learnt,
+  Reads'6.Asked,
+  Reads'6.Learnt,
   Reads'15.Asked,
   Reads'15.Learnt,
   Reads'8.Asked,
@@ -1604,19 +1604,19 @@ After-slice-known3 = Lts.After-slice-known3 (
   Reads.Learnt,
   Reads'3.Asked,
   Reads'3.Learnt,
-  Reads'6.Asked,
-  Reads'6.Learnt,
+  Reads'5.Asked,
+  Reads'5.Learnt,
   Reads'9.Asked,
   Reads'9.Learnt,
   Reads'10.Asked,
   Reads'10.Learnt,
-  Reads'4.Asked,
-  Reads'4.Learnt,
+  Reads'7.Asked,
+  Reads'7.Learnt,
   Reads'12.Asked,
   Reads'12.Learnt,
   Reads'13.Asked,
   Reads'13.Learnt,
-) Reads'5.Pre Reads'5.Post
+) Reads'4.Pre Reads'4.Post
 
 abbrev pub After-reply : Type 0
 After-reply = Lts.After-reply (
@@ -1628,8 +1628,8 @@ After-reply = Lts.After-reply (
   Reads'14.Learnt,
   Reads'11.Asked,
   Reads'11.Learnt,
-  Reads'7.Asked,
-  Reads'7.Learnt,
+  Reads'6.Asked,
+  Reads'6.Learnt,
   Reads'15.Asked,
   Reads'15.Learnt,
   Reads'8.Asked,
@@ -1638,19 +1638,19 @@ After-reply = Lts.After-reply (
   Reads.Learnt,
   Reads'3.Asked,
   Reads'3.Learnt,
-  Reads'6.Asked,
-  Reads'6.Learnt,
+  Reads'5.Asked,
+  Reads'5.Learnt,
   Reads'9.Asked,
   Reads'9.Learnt,
   Reads'10.Asked,
   Reads'10.Learnt,
-  Reads'4.Asked,
-  Reads'4.Learnt,
+  Reads'7.Asked,
+  Reads'7.Learnt,
   Reads'12.Asked,
   Reads'12.Learnt,
   Reads'13.Asked,
   Reads'13.Learnt,
-) Reads'5.Pre Reads'5.Post
+) Reads'4.Pre Reads'4.Post
 
 abbrev pub After-slice-known4 : Type 0
 After-slice-known4 = Lts.After-slice-known4 (
@@ -1662,8 +1662,8 @@ After-slice-known4 = Lts.After-slice-known4 (
   Reads'14.Learnt,
   Reads'11.Asked,
   Reads'11.Learnt,
-  Reads'7.Asked,
-  Reads'7.Learnt,
+  Reads'6.Asked,
+  Reads'6.Learnt,
   Reads'15.Asked,
   Reads'15.Learnt,
   Reads'8.Asked,
@@ -1672,19 +1672,19 @@ After-slice-known4 = Lts.After-slice-known4 (
   Reads.Learnt,
   Reads'3.Asked,
   Reads'3.Learnt,
-  Reads'6.Asked,
-  Reads'6.Learnt,
+  Reads'5.Asked,
+  Reads'5.Learnt,
   Reads'9.Asked,
   Reads'9.Learnt,
   Reads'10.Asked,
   Reads'10.Learnt,
-  Reads'4.Asked,
-  Reads'4.Learnt,
+  Reads'7.Asked,
+  Reads'7.Learnt,
   Reads'12.Asked,
   Reads'12.Learnt,
   Reads'13.Asked,
   Reads'13.Learnt,
-) Reads'5.Pre Reads'5.Post
+) Reads'4.Pre Reads'4.Post
 
 abbrev pub Else6 : Type 0
 Else6 = Lts.Else6 (
@@ -1696,8 +1696,8 @@ Else6 = Lts.Else6 (
   Reads'14.Learnt,
   Reads'11.Asked,
   Reads'11.Learnt,
-  Reads'7.Asked,
-  Reads'7.Learnt,
+  Reads'6.Asked,
+  Reads'6.Learnt,
   Reads'15.Asked,
   Reads'15.Learnt,
   Reads'8.Asked,
@@ -1706,19 +1706,19 @@ Else6 = Lts.Else6 (
   Reads.Learnt,
   Reads'3.Asked,
   Reads'3.Learnt,
-  Reads'6.Asked,
-  Reads'6.Learnt,
+  Reads'5.Asked,
+  Reads'5.Learnt,
   Reads'9.Asked,
   Reads'9.Learnt,
   Reads'10.Asked,
   Reads'10.Learnt,
-  Reads'4.Asked,
-  Reads'4.Learnt,
+  Reads'7.Asked,
+  Reads'7.Learnt,
   Reads'12.Asked,
   Reads'12.Learnt,
   Reads'13.Asked,
   Reads'13.Learnt,
-) Reads'5.Pre Reads'5.Post
+) Reads'4.Pre Reads'4.Post
 
 abbrev pub After-take-request-arg : Type 0
 After-take-request-arg = Lts.After-take-request-arg (
@@ -1730,8 +1730,8 @@ After-take-request-arg = Lts.After-take-request-arg (
   Reads'14.Learnt,
   Reads'11.Asked,
   Reads'11.Learnt,
-  Reads'7.Asked,
-  Reads'7.Learnt,
+  Reads'6.Asked,
+  Reads'6.Learnt,
   Reads'15.Asked,
   Reads'15.Learnt,
   Reads'8.Asked,
@@ -1740,19 +1740,19 @@ After-take-request-arg = Lts.After-take-request-arg (
   Reads.Learnt,
   Reads'3.Asked,
   Reads'3.Learnt,
-  Reads'6.Asked,
-  Reads'6.Learnt,
+  Reads'5.Asked,
+  Reads'5.Learnt,
   Reads'9.Asked,
   Reads'9.Learnt,
   Reads'10.Asked,
   Reads'10.Learnt,
-  Reads'4.Asked,
-  Reads'4.Learnt,
+  Reads'7.Asked,
+  Reads'7.Learnt,
   Reads'12.Asked,
   Reads'12.Learnt,
   Reads'13.Asked,
   Reads'13.Learnt,
-) Reads'5.Pre Reads'5.Post
+) Reads'4.Pre Reads'4.Post
 
 abbrev pub After-take-request-arg2 : Type 0
 After-take-request-arg2 = Lts.After-take-request-arg2 (
@@ -1764,8 +1764,8 @@ After-take-request-arg2 = Lts.After-take-request-arg2 (
   Reads'14.Learnt,
   Reads'11.Asked,
   Reads'11.Learnt,
-  Reads'7.Asked,
-  Reads'7.Learnt,
+  Reads'6.Asked,
+  Reads'6.Learnt,
   Reads'15.Asked,
   Reads'15.Learnt,
   Reads'8.Asked,
@@ -1774,19 +1774,19 @@ After-take-request-arg2 = Lts.After-take-request-arg2 (
   Reads.Learnt,
   Reads'3.Asked,
   Reads'3.Learnt,
-  Reads'6.Asked,
-  Reads'6.Learnt,
+  Reads'5.Asked,
+  Reads'5.Learnt,
   Reads'9.Asked,
   Reads'9.Learnt,
   Reads'10.Asked,
   Reads'10.Learnt,
-  Reads'4.Asked,
-  Reads'4.Learnt,
+  Reads'7.Asked,
+  Reads'7.Learnt,
   Reads'12.Asked,
   Reads'12.Learnt,
   Reads'13.Asked,
   Reads'13.Learnt,
-) Reads'5.Pre Reads'5.Post
+) Reads'4.Pre Reads'4.Post
 
 abbrev pub After-take-request-arg3 : Type 0
 After-take-request-arg3 = Lts.After-take-request-arg3 (
@@ -1798,8 +1798,8 @@ After-take-request-arg3 = Lts.After-take-request-arg3 (
   Reads'14.Learnt,
   Reads'11.Asked,
   Reads'11.Learnt,
-  Reads'7.Asked,
-  Reads'7.Learnt,
+  Reads'6.Asked,
+  Reads'6.Learnt,
   Reads'15.Asked,
   Reads'15.Learnt,
   Reads'8.Asked,
@@ -1808,19 +1808,19 @@ After-take-request-arg3 = Lts.After-take-request-arg3 (
   Reads.Learnt,
   Reads'3.Asked,
   Reads'3.Learnt,
-  Reads'6.Asked,
-  Reads'6.Learnt,
+  Reads'5.Asked,
+  Reads'5.Learnt,
   Reads'9.Asked,
   Reads'9.Learnt,
   Reads'10.Asked,
   Reads'10.Learnt,
-  Reads'4.Asked,
-  Reads'4.Learnt,
+  Reads'7.Asked,
+  Reads'7.Learnt,
   Reads'12.Asked,
   Reads'12.Learnt,
   Reads'13.Asked,
   Reads'13.Learnt,
-) Reads'5.Pre Reads'5.Post
+) Reads'4.Pre Reads'4.Post
 
 abbrev pub After-take-request-arg4 : Type 0
 After-take-request-arg4 = Lts.After-take-request-arg4 (
@@ -1832,8 +1832,8 @@ After-take-request-arg4 = Lts.After-take-request-arg4 (
   Reads'14.Learnt,
   Reads'11.Asked,
   Reads'11.Learnt,
-  Reads'7.Asked,
-  Reads'7.Learnt,
+  Reads'6.Asked,
+  Reads'6.Learnt,
   Reads'15.Asked,
   Reads'15.Learnt,
   Reads'8.Asked,
@@ -1842,19 +1842,19 @@ After-take-request-arg4 = Lts.After-take-request-arg4 (
   Reads.Learnt,
   Reads'3.Asked,
   Reads'3.Learnt,
-  Reads'6.Asked,
-  Reads'6.Learnt,
+  Reads'5.Asked,
+  Reads'5.Learnt,
   Reads'9.Asked,
   Reads'9.Learnt,
   Reads'10.Asked,
   Reads'10.Learnt,
-  Reads'4.Asked,
-  Reads'4.Learnt,
+  Reads'7.Asked,
+  Reads'7.Learnt,
   Reads'12.Asked,
   Reads'12.Learnt,
   Reads'13.Asked,
   Reads'13.Learnt,
-) Reads'5.Pre Reads'5.Post
+) Reads'4.Pre Reads'4.Post
 
 abbrev pub After-p2 : Type 0
 After-p2 = Lts.After-p2 (
@@ -1866,8 +1866,8 @@ After-p2 = Lts.After-p2 (
   Reads'14.Learnt,
   Reads'11.Asked,
   Reads'11.Learnt,
-  Reads'7.Asked,
-  Reads'7.Learnt,
+  Reads'6.Asked,
+  Reads'6.Learnt,
   Reads'15.Asked,
   Reads'15.Learnt,
   Reads'8.Asked,
@@ -1876,19 +1876,19 @@ After-p2 = Lts.After-p2 (
   Reads.Learnt,
   Reads'3.Asked,
   Reads'3.Learnt,
-  Reads'6.Asked,
-  Reads'6.Learnt,
+  Reads'5.Asked,
+  Reads'5.Learnt,
   Reads'9.Asked,
   Reads'9.Learnt,
   Reads'10.Asked,
   Reads'10.Learnt,
-  Reads'4.Asked,
-  Reads'4.Learnt,
+  Reads'7.Asked,
+  Reads'7.Learnt,
   Reads'12.Asked,
   Reads'12.Learnt,
   Reads'13.Asked,
   Reads'13.Learnt,
-) Reads'5.Pre Reads'5.Post
+) Reads'4.Pre Reads'4.Post
 
 abbrev pub After-v2 : Type 0
 After-v2 = Lts.After-v2 (
@@ -1900,8 +1900,8 @@ After-v2 = Lts.After-v2 (
   Reads'14.Learnt,
   Reads'11.Asked,
   Reads'11.Learnt,
-  Reads'7.Asked,
-  Reads'7.Learnt,
+  Reads'6.Asked,
+  Reads'6.Learnt,
   Reads'15.Asked,
   Reads'15.Learnt,
   Reads'8.Asked,
@@ -1910,19 +1910,19 @@ After-v2 = Lts.After-v2 (
   Reads.Learnt,
   Reads'3.Asked,
   Reads'3.Learnt,
-  Reads'6.Asked,
-  Reads'6.Learnt,
+  Reads'5.Asked,
+  Reads'5.Learnt,
   Reads'9.Asked,
   Reads'9.Learnt,
   Reads'10.Asked,
   Reads'10.Learnt,
-  Reads'4.Asked,
-  Reads'4.Learnt,
+  Reads'7.Asked,
+  Reads'7.Learnt,
   Reads'12.Asked,
   Reads'12.Learnt,
   Reads'13.Asked,
   Reads'13.Learnt,
-) Reads'5.Pre Reads'5.Post
+) Reads'4.Pre Reads'4.Post
 
 abbrev pub After-take-request : Type 0
 After-take-request = Lts.After-take-request (
@@ -1934,8 +1934,8 @@ After-take-request = Lts.After-take-request (
   Reads'14.Learnt,
   Reads'11.Asked,
   Reads'11.Learnt,
-  Reads'7.Asked,
-  Reads'7.Learnt,
+  Reads'6.Asked,
+  Reads'6.Learnt,
   Reads'15.Asked,
   Reads'15.Learnt,
   Reads'8.Asked,
@@ -1944,19 +1944,19 @@ After-take-request = Lts.After-take-request (
   Reads.Learnt,
   Reads'3.Asked,
   Reads'3.Learnt,
-  Reads'6.Asked,
-  Reads'6.Learnt,
+  Reads'5.Asked,
+  Reads'5.Learnt,
   Reads'9.Asked,
   Reads'9.Learnt,
   Reads'10.Asked,
   Reads'10.Learnt,
-  Reads'4.Asked,
-  Reads'4.Learnt,
+  Reads'7.Asked,
+  Reads'7.Learnt,
   Reads'12.Asked,
   Reads'12.Learnt,
   Reads'13.Asked,
   Reads'13.Learnt,
-) Reads'5.Pre Reads'5.Post
+) Reads'4.Pre Reads'4.Post
 
 abbrev pub After-instances2 : Type 0
 After-instances2 = Lts.After-instances2 (
@@ -1968,8 +1968,8 @@ After-instances2 = Lts.After-instances2 (
   Reads'14.Learnt,
   Reads'11.Asked,
   Reads'11.Learnt,
-  Reads'7.Asked,
-  Reads'7.Learnt,
+  Reads'6.Asked,
+  Reads'6.Learnt,
   Reads'15.Asked,
   Reads'15.Learnt,
   Reads'8.Asked,
@@ -1978,19 +1978,19 @@ After-instances2 = Lts.After-instances2 (
   Reads.Learnt,
   Reads'3.Asked,
   Reads'3.Learnt,
-  Reads'6.Asked,
-  Reads'6.Learnt,
+  Reads'5.Asked,
+  Reads'5.Learnt,
   Reads'9.Asked,
   Reads'9.Learnt,
   Reads'10.Asked,
   Reads'10.Learnt,
-  Reads'4.Asked,
-  Reads'4.Learnt,
+  Reads'7.Asked,
+  Reads'7.Learnt,
   Reads'12.Asked,
   Reads'12.Learnt,
   Reads'13.Asked,
   Reads'13.Learnt,
-) Reads'5.Pre Reads'5.Post
+) Reads'4.Pre Reads'4.Post
 
 abbrev pub After-routes2 : Type 0
 After-routes2 = Lts.After-routes2 (
@@ -2002,8 +2002,8 @@ After-routes2 = Lts.After-routes2 (
   Reads'14.Learnt,
   Reads'11.Asked,
   Reads'11.Learnt,
-  Reads'7.Asked,
-  Reads'7.Learnt,
+  Reads'6.Asked,
+  Reads'6.Learnt,
   Reads'15.Asked,
   Reads'15.Learnt,
   Reads'8.Asked,
@@ -2012,19 +2012,19 @@ After-routes2 = Lts.After-routes2 (
   Reads.Learnt,
   Reads'3.Asked,
   Reads'3.Learnt,
-  Reads'6.Asked,
-  Reads'6.Learnt,
+  Reads'5.Asked,
+  Reads'5.Learnt,
   Reads'9.Asked,
   Reads'9.Learnt,
   Reads'10.Asked,
   Reads'10.Learnt,
-  Reads'4.Asked,
-  Reads'4.Learnt,
+  Reads'7.Asked,
+  Reads'7.Learnt,
   Reads'12.Asked,
   Reads'12.Learnt,
   Reads'13.Asked,
   Reads'13.Learnt,
-) Reads'5.Pre Reads'5.Post
+) Reads'4.Pre Reads'4.Post
 
 abbrev pub After-forward2 : Type 0
 After-forward2 = Lts.After-forward2 (
@@ -2036,8 +2036,8 @@ After-forward2 = Lts.After-forward2 (
   Reads'14.Learnt,
   Reads'11.Asked,
   Reads'11.Learnt,
-  Reads'7.Asked,
-  Reads'7.Learnt,
+  Reads'6.Asked,
+  Reads'6.Learnt,
   Reads'15.Asked,
   Reads'15.Learnt,
   Reads'8.Asked,
@@ -2046,19 +2046,19 @@ After-forward2 = Lts.After-forward2 (
   Reads.Learnt,
   Reads'3.Asked,
   Reads'3.Learnt,
-  Reads'6.Asked,
-  Reads'6.Learnt,
+  Reads'5.Asked,
+  Reads'5.Learnt,
   Reads'9.Asked,
   Reads'9.Learnt,
   Reads'10.Asked,
   Reads'10.Learnt,
-  Reads'4.Asked,
-  Reads'4.Learnt,
+  Reads'7.Asked,
+  Reads'7.Learnt,
   Reads'12.Asked,
   Reads'12.Learnt,
   Reads'13.Asked,
   Reads'13.Learnt,
-) Reads'5.Pre Reads'5.Post
+) Reads'4.Pre Reads'4.Post
 
 abbrev pub After-slice-known5 : Type 0
 After-slice-known5 = Lts.After-slice-known5 (
@@ -2070,8 +2070,8 @@ After-slice-known5 = Lts.After-slice-known5 (
   Reads'14.Learnt,
   Reads'11.Asked,
   Reads'11.Learnt,
-  Reads'7.Asked,
-  Reads'7.Learnt,
+  Reads'6.Asked,
+  Reads'6.Learnt,
   Reads'15.Asked,
   Reads'15.Learnt,
   Reads'8.Asked,
@@ -2080,19 +2080,19 @@ After-slice-known5 = Lts.After-slice-known5 (
   Reads.Learnt,
   Reads'3.Asked,
   Reads'3.Learnt,
-  Reads'6.Asked,
-  Reads'6.Learnt,
+  Reads'5.Asked,
+  Reads'5.Learnt,
   Reads'9.Asked,
   Reads'9.Learnt,
   Reads'10.Asked,
   Reads'10.Learnt,
-  Reads'4.Asked,
-  Reads'4.Learnt,
+  Reads'7.Asked,
+  Reads'7.Learnt,
   Reads'12.Asked,
   Reads'12.Learnt,
   Reads'13.Asked,
   Reads'13.Learnt,
-) Reads'5.Pre Reads'5.Post
+) Reads'4.Pre Reads'4.Post
 
 abbrev pub After-reply2 : Type 0
 After-reply2 = Lts.After-reply2 (
@@ -2104,8 +2104,8 @@ After-reply2 = Lts.After-reply2 (
   Reads'14.Learnt,
   Reads'11.Asked,
   Reads'11.Learnt,
-  Reads'7.Asked,
-  Reads'7.Learnt,
+  Reads'6.Asked,
+  Reads'6.Learnt,
   Reads'15.Asked,
   Reads'15.Learnt,
   Reads'8.Asked,
@@ -2114,19 +2114,19 @@ After-reply2 = Lts.After-reply2 (
   Reads.Learnt,
   Reads'3.Asked,
   Reads'3.Learnt,
-  Reads'6.Asked,
-  Reads'6.Learnt,
+  Reads'5.Asked,
+  Reads'5.Learnt,
   Reads'9.Asked,
   Reads'9.Learnt,
   Reads'10.Asked,
   Reads'10.Learnt,
-  Reads'4.Asked,
-  Reads'4.Learnt,
+  Reads'7.Asked,
+  Reads'7.Learnt,
   Reads'12.Asked,
   Reads'12.Learnt,
   Reads'13.Asked,
   Reads'13.Learnt,
-) Reads'5.Pre Reads'5.Post
+) Reads'4.Pre Reads'4.Post
 
 abbrev pub After-slice-known6 : Type 0
 After-slice-known6 = Lts.After-slice-known6 (
@@ -2138,8 +2138,8 @@ After-slice-known6 = Lts.After-slice-known6 (
   Reads'14.Learnt,
   Reads'11.Asked,
   Reads'11.Learnt,
-  Reads'7.Asked,
-  Reads'7.Learnt,
+  Reads'6.Asked,
+  Reads'6.Learnt,
   Reads'15.Asked,
   Reads'15.Learnt,
   Reads'8.Asked,
@@ -2148,19 +2148,19 @@ After-slice-known6 = Lts.After-slice-known6 (
   Reads.Learnt,
   Reads'3.Asked,
   Reads'3.Learnt,
-  Reads'6.Asked,
-  Reads'6.Learnt,
+  Reads'5.Asked,
+  Reads'5.Learnt,
   Reads'9.Asked,
   Reads'9.Learnt,
   Reads'10.Asked,
   Reads'10.Learnt,
-  Reads'4.Asked,
-  Reads'4.Learnt,
+  Reads'7.Asked,
+  Reads'7.Learnt,
   Reads'12.Asked,
   Reads'12.Learnt,
   Reads'13.Asked,
   Reads'13.Learnt,
-) Reads'5.Pre Reads'5.Post
+) Reads'4.Pre Reads'4.Post
 
 abbrev pub Need-is-bad-requires : Type 0
 Need-is-bad-requires = Lts.Need-is-bad-requires (
@@ -2172,8 +2172,8 @@ Need-is-bad-requires = Lts.Need-is-bad-requires (
   Reads'14.Learnt,
   Reads'11.Asked,
   Reads'11.Learnt,
-  Reads'7.Asked,
-  Reads'7.Learnt,
+  Reads'6.Asked,
+  Reads'6.Learnt,
   Reads'15.Asked,
   Reads'15.Learnt,
   Reads'8.Asked,
@@ -2182,19 +2182,19 @@ Need-is-bad-requires = Lts.Need-is-bad-requires (
   Reads.Learnt,
   Reads'3.Asked,
   Reads'3.Learnt,
-  Reads'6.Asked,
-  Reads'6.Learnt,
+  Reads'5.Asked,
+  Reads'5.Learnt,
   Reads'9.Asked,
   Reads'9.Learnt,
   Reads'10.Asked,
   Reads'10.Learnt,
-  Reads'4.Asked,
-  Reads'4.Learnt,
+  Reads'7.Asked,
+  Reads'7.Learnt,
   Reads'12.Asked,
   Reads'12.Learnt,
   Reads'13.Asked,
   Reads'13.Learnt,
-) Reads'5.Pre Reads'5.Post
+) Reads'4.Pre Reads'4.Post
 
 abbrev pub Need-bad-call-requires : Type 0
 Need-bad-call-requires = Lts.Need-bad-call-requires (
@@ -2206,8 +2206,8 @@ Need-bad-call-requires = Lts.Need-bad-call-requires (
   Reads'14.Learnt,
   Reads'11.Asked,
   Reads'11.Learnt,
-  Reads'7.Asked,
-  Reads'7.Learnt,
+  Reads'6.Asked,
+  Reads'6.Learnt,
   Reads'15.Asked,
   Reads'15.Learnt,
   Reads'8.Asked,
@@ -2216,19 +2216,19 @@ Need-bad-call-requires = Lts.Need-bad-call-requires (
   Reads.Learnt,
   Reads'3.Asked,
   Reads'3.Learnt,
-  Reads'6.Asked,
-  Reads'6.Learnt,
+  Reads'5.Asked,
+  Reads'5.Learnt,
   Reads'9.Asked,
   Reads'9.Learnt,
   Reads'10.Asked,
   Reads'10.Learnt,
-  Reads'4.Asked,
-  Reads'4.Learnt,
+  Reads'7.Asked,
+  Reads'7.Learnt,
   Reads'12.Asked,
   Reads'12.Learnt,
   Reads'13.Asked,
   Reads'13.Learnt,
-) Reads'5.Pre Reads'5.Post
+) Reads'4.Pre Reads'4.Post
 
 abbrev pub Need-refused-requires : Type 0
 Need-refused-requires = Lts.Need-refused-requires (
@@ -2240,8 +2240,8 @@ Need-refused-requires = Lts.Need-refused-requires (
   Reads'14.Learnt,
   Reads'11.Asked,
   Reads'11.Learnt,
-  Reads'7.Asked,
-  Reads'7.Learnt,
+  Reads'6.Asked,
+  Reads'6.Learnt,
   Reads'15.Asked,
   Reads'15.Learnt,
   Reads'8.Asked,
@@ -2250,19 +2250,19 @@ Need-refused-requires = Lts.Need-refused-requires (
   Reads.Learnt,
   Reads'3.Asked,
   Reads'3.Learnt,
-  Reads'6.Asked,
-  Reads'6.Learnt,
+  Reads'5.Asked,
+  Reads'5.Learnt,
   Reads'9.Asked,
   Reads'9.Learnt,
   Reads'10.Asked,
   Reads'10.Learnt,
-  Reads'4.Asked,
-  Reads'4.Learnt,
+  Reads'7.Asked,
+  Reads'7.Learnt,
   Reads'12.Asked,
   Reads'12.Learnt,
   Reads'13.Asked,
   Reads'13.Learnt,
-) Reads'5.Pre Reads'5.Post
+) Reads'4.Pre Reads'4.Post
 
 abbrev pub Need-returns : Type 0
 Need-returns = Lts.Need-returns (
@@ -2274,8 +2274,8 @@ Need-returns = Lts.Need-returns (
   Reads'14.Learnt,
   Reads'11.Asked,
   Reads'11.Learnt,
-  Reads'7.Asked,
-  Reads'7.Learnt,
+  Reads'6.Asked,
+  Reads'6.Learnt,
   Reads'15.Asked,
   Reads'15.Learnt,
   Reads'8.Asked,
@@ -2284,19 +2284,19 @@ Need-returns = Lts.Need-returns (
   Reads.Learnt,
   Reads'3.Asked,
   Reads'3.Learnt,
-  Reads'6.Asked,
-  Reads'6.Learnt,
+  Reads'5.Asked,
+  Reads'5.Learnt,
   Reads'9.Asked,
   Reads'9.Learnt,
   Reads'10.Asked,
   Reads'10.Learnt,
-  Reads'4.Asked,
-  Reads'4.Learnt,
+  Reads'7.Asked,
+  Reads'7.Learnt,
   Reads'12.Asked,
   Reads'12.Learnt,
   Reads'13.Asked,
   Reads'13.Learnt,
-) Reads'5.Pre Reads'5.Post
+) Reads'4.Pre Reads'4.Post
 
 abbrev pub Need-bad-call-requires-2 : Type 0
 Need-bad-call-requires-2 = Lts.Need-bad-call-requires-2 (
@@ -2308,8 +2308,8 @@ Need-bad-call-requires-2 = Lts.Need-bad-call-requires-2 (
   Reads'14.Learnt,
   Reads'11.Asked,
   Reads'11.Learnt,
-  Reads'7.Asked,
-  Reads'7.Learnt,
+  Reads'6.Asked,
+  Reads'6.Learnt,
   Reads'15.Asked,
   Reads'15.Learnt,
   Reads'8.Asked,
@@ -2318,19 +2318,19 @@ Need-bad-call-requires-2 = Lts.Need-bad-call-requires-2 (
   Reads.Learnt,
   Reads'3.Asked,
   Reads'3.Learnt,
-  Reads'6.Asked,
-  Reads'6.Learnt,
+  Reads'5.Asked,
+  Reads'5.Learnt,
   Reads'9.Asked,
   Reads'9.Learnt,
   Reads'10.Asked,
   Reads'10.Learnt,
-  Reads'4.Asked,
-  Reads'4.Learnt,
+  Reads'7.Asked,
+  Reads'7.Learnt,
   Reads'12.Asked,
   Reads'12.Learnt,
   Reads'13.Asked,
   Reads'13.Learnt,
-) Reads'5.Pre Reads'5.Post
+) Reads'4.Pre Reads'4.Post
 
 abbrev pub Need-refused-requires-2 : Type 0
 Need-refused-requires-2 = Lts.Need-refused-requires-2 (
@@ -2342,8 +2342,8 @@ Need-refused-requires-2 = Lts.Need-refused-requires-2 (
   Reads'14.Learnt,
   Reads'11.Asked,
   Reads'11.Learnt,
-  Reads'7.Asked,
-  Reads'7.Learnt,
+  Reads'6.Asked,
+  Reads'6.Learnt,
   Reads'15.Asked,
   Reads'15.Learnt,
   Reads'8.Asked,
@@ -2352,19 +2352,19 @@ Need-refused-requires-2 = Lts.Need-refused-requires-2 (
   Reads.Learnt,
   Reads'3.Asked,
   Reads'3.Learnt,
-  Reads'6.Asked,
-  Reads'6.Learnt,
+  Reads'5.Asked,
+  Reads'5.Learnt,
   Reads'9.Asked,
   Reads'9.Learnt,
   Reads'10.Asked,
   Reads'10.Learnt,
-  Reads'4.Asked,
-  Reads'4.Learnt,
+  Reads'7.Asked,
+  Reads'7.Learnt,
   Reads'12.Asked,
   Reads'12.Learnt,
   Reads'13.Asked,
   Reads'13.Learnt,
-) Reads'5.Pre Reads'5.Post
+) Reads'4.Pre Reads'4.Post
 
 abbrev pub Need-returns-2 : Type 0
 Need-returns-2 = Lts.Need-returns-2 (
@@ -2376,8 +2376,8 @@ Need-returns-2 = Lts.Need-returns-2 (
   Reads'14.Learnt,
   Reads'11.Asked,
   Reads'11.Learnt,
-  Reads'7.Asked,
-  Reads'7.Learnt,
+  Reads'6.Asked,
+  Reads'6.Learnt,
   Reads'15.Asked,
   Reads'15.Learnt,
   Reads'8.Asked,
@@ -2386,19 +2386,19 @@ Need-returns-2 = Lts.Need-returns-2 (
   Reads.Learnt,
   Reads'3.Asked,
   Reads'3.Learnt,
-  Reads'6.Asked,
-  Reads'6.Learnt,
+  Reads'5.Asked,
+  Reads'5.Learnt,
   Reads'9.Asked,
   Reads'9.Learnt,
   Reads'10.Asked,
   Reads'10.Learnt,
-  Reads'4.Asked,
-  Reads'4.Learnt,
+  Reads'7.Asked,
+  Reads'7.Learnt,
   Reads'12.Asked,
   Reads'12.Learnt,
   Reads'13.Asked,
   Reads'13.Learnt,
-) Reads'5.Pre Reads'5.Post
+) Reads'4.Pre Reads'4.Post
 
 abbrev pub Need-is-wrong-requires : Type 0
 Need-is-wrong-requires = Lts.Need-is-wrong-requires (
@@ -2410,8 +2410,8 @@ Need-is-wrong-requires = Lts.Need-is-wrong-requires (
   Reads'14.Learnt,
   Reads'11.Asked,
   Reads'11.Learnt,
-  Reads'7.Asked,
-  Reads'7.Learnt,
+  Reads'6.Asked,
+  Reads'6.Learnt,
   Reads'15.Asked,
   Reads'15.Learnt,
   Reads'8.Asked,
@@ -2420,19 +2420,19 @@ Need-is-wrong-requires = Lts.Need-is-wrong-requires (
   Reads.Learnt,
   Reads'3.Asked,
   Reads'3.Learnt,
-  Reads'6.Asked,
-  Reads'6.Learnt,
+  Reads'5.Asked,
+  Reads'5.Learnt,
   Reads'9.Asked,
   Reads'9.Learnt,
   Reads'10.Asked,
   Reads'10.Learnt,
-  Reads'4.Asked,
-  Reads'4.Learnt,
+  Reads'7.Asked,
+  Reads'7.Learnt,
   Reads'12.Asked,
   Reads'12.Learnt,
   Reads'13.Asked,
   Reads'13.Learnt,
-) Reads'5.Pre Reads'5.Post
+) Reads'4.Pre Reads'4.Post
 
 abbrev pub Need-wrong-state-requires : Type 0
 Need-wrong-state-requires = Lts.Need-wrong-state-requires (
@@ -2444,8 +2444,8 @@ Need-wrong-state-requires = Lts.Need-wrong-state-requires (
   Reads'14.Learnt,
   Reads'11.Asked,
   Reads'11.Learnt,
-  Reads'7.Asked,
-  Reads'7.Learnt,
+  Reads'6.Asked,
+  Reads'6.Learnt,
   Reads'15.Asked,
   Reads'15.Learnt,
   Reads'8.Asked,
@@ -2454,19 +2454,19 @@ Need-wrong-state-requires = Lts.Need-wrong-state-requires (
   Reads.Learnt,
   Reads'3.Asked,
   Reads'3.Learnt,
-  Reads'6.Asked,
-  Reads'6.Learnt,
+  Reads'5.Asked,
+  Reads'5.Learnt,
   Reads'9.Asked,
   Reads'9.Learnt,
   Reads'10.Asked,
   Reads'10.Learnt,
-  Reads'4.Asked,
-  Reads'4.Learnt,
+  Reads'7.Asked,
+  Reads'7.Learnt,
   Reads'12.Asked,
   Reads'12.Learnt,
   Reads'13.Asked,
   Reads'13.Learnt,
-) Reads'5.Pre Reads'5.Post
+) Reads'4.Pre Reads'4.Post
 
 abbrev pub Need-refused-requires-3 : Type 0
 Need-refused-requires-3 = Lts.Need-refused-requires-3 (
@@ -2478,8 +2478,8 @@ Need-refused-requires-3 = Lts.Need-refused-requires-3 (
   Reads'14.Learnt,
   Reads'11.Asked,
   Reads'11.Learnt,
-  Reads'7.Asked,
-  Reads'7.Learnt,
+  Reads'6.Asked,
+  Reads'6.Learnt,
   Reads'15.Asked,
   Reads'15.Learnt,
   Reads'8.Asked,
@@ -2488,19 +2488,19 @@ Need-refused-requires-3 = Lts.Need-refused-requires-3 (
   Reads.Learnt,
   Reads'3.Asked,
   Reads'3.Learnt,
-  Reads'6.Asked,
-  Reads'6.Learnt,
+  Reads'5.Asked,
+  Reads'5.Learnt,
   Reads'9.Asked,
   Reads'9.Learnt,
   Reads'10.Asked,
   Reads'10.Learnt,
-  Reads'4.Asked,
-  Reads'4.Learnt,
+  Reads'7.Asked,
+  Reads'7.Learnt,
   Reads'12.Asked,
   Reads'12.Learnt,
   Reads'13.Asked,
   Reads'13.Learnt,
-) Reads'5.Pre Reads'5.Post
+) Reads'4.Pre Reads'4.Post
 
 abbrev pub Need-same-length : Type 0
 Need-same-length = Lts.Need-same-length (
@@ -2512,8 +2512,8 @@ Need-same-length = Lts.Need-same-length (
   Reads'14.Learnt,
   Reads'11.Asked,
   Reads'11.Learnt,
-  Reads'7.Asked,
-  Reads'7.Learnt,
+  Reads'6.Asked,
+  Reads'6.Learnt,
   Reads'15.Asked,
   Reads'15.Learnt,
   Reads'8.Asked,
@@ -2522,19 +2522,19 @@ Need-same-length = Lts.Need-same-length (
   Reads.Learnt,
   Reads'3.Asked,
   Reads'3.Learnt,
-  Reads'6.Asked,
-  Reads'6.Learnt,
+  Reads'5.Asked,
+  Reads'5.Learnt,
   Reads'9.Asked,
   Reads'9.Learnt,
   Reads'10.Asked,
   Reads'10.Learnt,
-  Reads'4.Asked,
-  Reads'4.Learnt,
+  Reads'7.Asked,
+  Reads'7.Learnt,
   Reads'12.Asked,
   Reads'12.Learnt,
   Reads'13.Asked,
   Reads'13.Learnt,
-) Reads'5.Pre Reads'5.Post
+) Reads'4.Pre Reads'4.Post
 
 abbrev pub Need-same-length-2 : Type 0
 Need-same-length-2 = Lts.Need-same-length-2 (
@@ -2546,8 +2546,8 @@ Need-same-length-2 = Lts.Need-same-length-2 (
   Reads'14.Learnt,
   Reads'11.Asked,
   Reads'11.Learnt,
-  Reads'7.Asked,
-  Reads'7.Learnt,
+  Reads'6.Asked,
+  Reads'6.Learnt,
   Reads'15.Asked,
   Reads'15.Learnt,
   Reads'8.Asked,
@@ -2556,19 +2556,19 @@ Need-same-length-2 = Lts.Need-same-length-2 (
   Reads.Learnt,
   Reads'3.Asked,
   Reads'3.Learnt,
-  Reads'6.Asked,
-  Reads'6.Learnt,
+  Reads'5.Asked,
+  Reads'5.Learnt,
   Reads'9.Asked,
   Reads'9.Learnt,
   Reads'10.Asked,
   Reads'10.Learnt,
-  Reads'4.Asked,
-  Reads'4.Learnt,
+  Reads'7.Asked,
+  Reads'7.Learnt,
   Reads'12.Asked,
   Reads'12.Learnt,
   Reads'13.Asked,
   Reads'13.Learnt,
-) Reads'5.Pre Reads'5.Post
+) Reads'4.Pre Reads'4.Post
 
 abbrev pub Need-returns-3 : Type 0
 Need-returns-3 = Lts.Need-returns-3 (
@@ -2580,8 +2580,8 @@ Need-returns-3 = Lts.Need-returns-3 (
   Reads'14.Learnt,
   Reads'11.Asked,
   Reads'11.Learnt,
-  Reads'7.Asked,
-  Reads'7.Learnt,
+  Reads'6.Asked,
+  Reads'6.Learnt,
   Reads'15.Asked,
   Reads'15.Learnt,
   Reads'8.Asked,
@@ -2590,19 +2590,19 @@ Need-returns-3 = Lts.Need-returns-3 (
   Reads.Learnt,
   Reads'3.Asked,
   Reads'3.Learnt,
-  Reads'6.Asked,
-  Reads'6.Learnt,
+  Reads'5.Asked,
+  Reads'5.Learnt,
   Reads'9.Asked,
   Reads'9.Learnt,
   Reads'10.Asked,
   Reads'10.Learnt,
-  Reads'4.Asked,
-  Reads'4.Learnt,
+  Reads'7.Asked,
+  Reads'7.Learnt,
   Reads'12.Asked,
   Reads'12.Learnt,
   Reads'13.Asked,
   Reads'13.Learnt,
-) Reads'5.Pre Reads'5.Post
+) Reads'4.Pre Reads'4.Post
 
 abbrev pub Need-read-requires : Type 0
 Need-read-requires = Lts.Need-read-requires (
@@ -2614,8 +2614,8 @@ Need-read-requires = Lts.Need-read-requires (
   Reads'14.Learnt,
   Reads'11.Asked,
   Reads'11.Learnt,
-  Reads'7.Asked,
-  Reads'7.Learnt,
+  Reads'6.Asked,
+  Reads'6.Learnt,
   Reads'15.Asked,
   Reads'15.Learnt,
   Reads'8.Asked,
@@ -2624,19 +2624,19 @@ Need-read-requires = Lts.Need-read-requires (
   Reads.Learnt,
   Reads'3.Asked,
   Reads'3.Learnt,
-  Reads'6.Asked,
-  Reads'6.Learnt,
+  Reads'5.Asked,
+  Reads'5.Learnt,
   Reads'9.Asked,
   Reads'9.Learnt,
   Reads'10.Asked,
   Reads'10.Learnt,
-  Reads'4.Asked,
-  Reads'4.Learnt,
+  Reads'7.Asked,
+  Reads'7.Learnt,
   Reads'12.Asked,
   Reads'12.Learnt,
   Reads'13.Asked,
   Reads'13.Learnt,
-) Reads'5.Pre Reads'5.Post
+) Reads'4.Pre Reads'4.Post
 
 abbrev pub Need-octets-answer-requires : Type 0
 Need-octets-answer-requires = Lts.Need-octets-answer-requires (
@@ -2648,8 +2648,8 @@ Need-octets-answer-requires = Lts.Need-octets-answer-requires (
   Reads'14.Learnt,
   Reads'11.Asked,
   Reads'11.Learnt,
-  Reads'7.Asked,
-  Reads'7.Learnt,
+  Reads'6.Asked,
+  Reads'6.Learnt,
   Reads'15.Asked,
   Reads'15.Learnt,
   Reads'8.Asked,
@@ -2658,19 +2658,19 @@ Need-octets-answer-requires = Lts.Need-octets-answer-requires (
   Reads.Learnt,
   Reads'3.Asked,
   Reads'3.Learnt,
-  Reads'6.Asked,
-  Reads'6.Learnt,
+  Reads'5.Asked,
+  Reads'5.Learnt,
   Reads'9.Asked,
   Reads'9.Learnt,
   Reads'10.Asked,
   Reads'10.Learnt,
-  Reads'4.Asked,
-  Reads'4.Learnt,
+  Reads'7.Asked,
+  Reads'7.Learnt,
   Reads'12.Asked,
   Reads'12.Learnt,
   Reads'13.Asked,
   Reads'13.Learnt,
-) Reads'5.Pre Reads'5.Post
+) Reads'4.Pre Reads'4.Post
 
 abbrev pub Need-number-requires : Type 0
 Need-number-requires = Lts.Need-number-requires (
@@ -2682,8 +2682,8 @@ Need-number-requires = Lts.Need-number-requires (
   Reads'14.Learnt,
   Reads'11.Asked,
   Reads'11.Learnt,
-  Reads'7.Asked,
-  Reads'7.Learnt,
+  Reads'6.Asked,
+  Reads'6.Learnt,
   Reads'15.Asked,
   Reads'15.Learnt,
   Reads'8.Asked,
@@ -2692,19 +2692,19 @@ Need-number-requires = Lts.Need-number-requires (
   Reads.Learnt,
   Reads'3.Asked,
   Reads'3.Learnt,
-  Reads'6.Asked,
-  Reads'6.Learnt,
+  Reads'5.Asked,
+  Reads'5.Learnt,
   Reads'9.Asked,
   Reads'9.Learnt,
   Reads'10.Asked,
   Reads'10.Learnt,
-  Reads'4.Asked,
-  Reads'4.Learnt,
+  Reads'7.Asked,
+  Reads'7.Learnt,
   Reads'12.Asked,
   Reads'12.Learnt,
   Reads'13.Asked,
   Reads'13.Learnt,
-) Reads'5.Pre Reads'5.Post
+) Reads'4.Pre Reads'4.Post
 
 abbrev pub Need-refused-requires-4 : Type 0
 Need-refused-requires-4 = Lts.Need-refused-requires-4 (
@@ -2716,8 +2716,8 @@ Need-refused-requires-4 = Lts.Need-refused-requires-4 (
   Reads'14.Learnt,
   Reads'11.Asked,
   Reads'11.Learnt,
-  Reads'7.Asked,
-  Reads'7.Learnt,
+  Reads'6.Asked,
+  Reads'6.Learnt,
   Reads'15.Asked,
   Reads'15.Learnt,
   Reads'8.Asked,
@@ -2726,19 +2726,19 @@ Need-refused-requires-4 = Lts.Need-refused-requires-4 (
   Reads.Learnt,
   Reads'3.Asked,
   Reads'3.Learnt,
-  Reads'6.Asked,
-  Reads'6.Learnt,
+  Reads'5.Asked,
+  Reads'5.Learnt,
   Reads'9.Asked,
   Reads'9.Learnt,
   Reads'10.Asked,
   Reads'10.Learnt,
-  Reads'4.Asked,
-  Reads'4.Learnt,
+  Reads'7.Asked,
+  Reads'7.Learnt,
   Reads'12.Asked,
   Reads'12.Learnt,
   Reads'13.Asked,
   Reads'13.Learnt,
-) Reads'5.Pre Reads'5.Post
+) Reads'4.Pre Reads'4.Post
 
 abbrev pub Need-same-length-3 : Type 0
 Need-same-length-3 = Lts.Need-same-length-3 (
@@ -2750,8 +2750,8 @@ Need-same-length-3 = Lts.Need-same-length-3 (
   Reads'14.Learnt,
   Reads'11.Asked,
   Reads'11.Learnt,
-  Reads'7.Asked,
-  Reads'7.Learnt,
+  Reads'6.Asked,
+  Reads'6.Learnt,
   Reads'15.Asked,
   Reads'15.Learnt,
   Reads'8.Asked,
@@ -2760,19 +2760,19 @@ Need-same-length-3 = Lts.Need-same-length-3 (
   Reads.Learnt,
   Reads'3.Asked,
   Reads'3.Learnt,
-  Reads'6.Asked,
-  Reads'6.Learnt,
+  Reads'5.Asked,
+  Reads'5.Learnt,
   Reads'9.Asked,
   Reads'9.Learnt,
   Reads'10.Asked,
   Reads'10.Learnt,
-  Reads'4.Asked,
-  Reads'4.Learnt,
+  Reads'7.Asked,
+  Reads'7.Learnt,
   Reads'12.Asked,
   Reads'12.Learnt,
   Reads'13.Asked,
   Reads'13.Learnt,
-) Reads'5.Pre Reads'5.Post
+) Reads'4.Pre Reads'4.Post
 
 abbrev pub Need-same-length-4 : Type 0
 Need-same-length-4 = Lts.Need-same-length-4 (
@@ -2784,8 +2784,8 @@ Need-same-length-4 = Lts.Need-same-length-4 (
   Reads'14.Learnt,
   Reads'11.Asked,
   Reads'11.Learnt,
-  Reads'7.Asked,
-  Reads'7.Learnt,
+  Reads'6.Asked,
+  Reads'6.Learnt,
   Reads'15.Asked,
   Reads'15.Learnt,
   Reads'8.Asked,
@@ -2794,19 +2794,19 @@ Need-same-length-4 = Lts.Need-same-length-4 (
   Reads.Learnt,
   Reads'3.Asked,
   Reads'3.Learnt,
-  Reads'6.Asked,
-  Reads'6.Learnt,
+  Reads'5.Asked,
+  Reads'5.Learnt,
   Reads'9.Asked,
   Reads'9.Learnt,
   Reads'10.Asked,
   Reads'10.Learnt,
-  Reads'4.Asked,
-  Reads'4.Learnt,
+  Reads'7.Asked,
+  Reads'7.Learnt,
   Reads'12.Asked,
   Reads'12.Learnt,
   Reads'13.Asked,
   Reads'13.Learnt,
-) Reads'5.Pre Reads'5.Post
+) Reads'4.Pre Reads'4.Post
 
 abbrev pub Need-returns-4 : Type 0
 Need-returns-4 = Lts.Need-returns-4 (
@@ -2818,8 +2818,8 @@ Need-returns-4 = Lts.Need-returns-4 (
   Reads'14.Learnt,
   Reads'11.Asked,
   Reads'11.Learnt,
-  Reads'7.Asked,
-  Reads'7.Learnt,
+  Reads'6.Asked,
+  Reads'6.Learnt,
   Reads'15.Asked,
   Reads'15.Learnt,
   Reads'8.Asked,
@@ -2828,19 +2828,19 @@ Need-returns-4 = Lts.Need-returns-4 (
   Reads.Learnt,
   Reads'3.Asked,
   Reads'3.Learnt,
-  Reads'6.Asked,
-  Reads'6.Learnt,
+  Reads'5.Asked,
+  Reads'5.Learnt,
   Reads'9.Asked,
   Reads'9.Learnt,
   Reads'10.Asked,
   Reads'10.Learnt,
-  Reads'4.Asked,
-  Reads'4.Learnt,
+  Reads'7.Asked,
+  Reads'7.Learnt,
   Reads'12.Asked,
   Reads'12.Learnt,
   Reads'13.Asked,
   Reads'13.Learnt,
-) Reads'5.Pre Reads'5.Post
+) Reads'4.Pre Reads'4.Post
 
 abbrev pub Need-has-own-dodagid-requires : Type 0
 Need-has-own-dodagid-requires = Lts.Need-has-own-dodagid-requires (
@@ -2852,8 +2852,8 @@ Need-has-own-dodagid-requires = Lts.Need-has-own-dodagid-requires (
   Reads'14.Learnt,
   Reads'11.Asked,
   Reads'11.Learnt,
-  Reads'7.Asked,
-  Reads'7.Learnt,
+  Reads'6.Asked,
+  Reads'6.Learnt,
   Reads'15.Asked,
   Reads'15.Learnt,
   Reads'8.Asked,
@@ -2862,19 +2862,19 @@ Need-has-own-dodagid-requires = Lts.Need-has-own-dodagid-requires (
   Reads.Learnt,
   Reads'3.Asked,
   Reads'3.Learnt,
-  Reads'6.Asked,
-  Reads'6.Learnt,
+  Reads'5.Asked,
+  Reads'5.Learnt,
   Reads'9.Asked,
   Reads'9.Learnt,
   Reads'10.Asked,
   Reads'10.Learnt,
-  Reads'4.Asked,
-  Reads'4.Learnt,
+  Reads'7.Asked,
+  Reads'7.Learnt,
   Reads'12.Asked,
   Reads'12.Learnt,
   Reads'13.Asked,
   Reads'13.Learnt,
-) Reads'5.Pre Reads'5.Post
+) Reads'4.Pre Reads'4.Post
 
 abbrev pub Need-own-dodagid-requires : Type 0
 Need-own-dodagid-requires = Lts.Need-own-dodagid-requires (
@@ -2886,8 +2886,8 @@ Need-own-dodagid-requires = Lts.Need-own-dodagid-requires (
   Reads'14.Learnt,
   Reads'11.Asked,
   Reads'11.Learnt,
-  Reads'7.Asked,
-  Reads'7.Learnt,
+  Reads'6.Asked,
+  Reads'6.Learnt,
   Reads'15.Asked,
   Reads'15.Learnt,
   Reads'8.Asked,
@@ -2896,19 +2896,19 @@ Need-own-dodagid-requires = Lts.Need-own-dodagid-requires (
   Reads.Learnt,
   Reads'3.Asked,
   Reads'3.Learnt,
-  Reads'6.Asked,
-  Reads'6.Learnt,
+  Reads'5.Asked,
+  Reads'5.Learnt,
   Reads'9.Asked,
   Reads'9.Learnt,
   Reads'10.Asked,
   Reads'10.Learnt,
-  Reads'4.Asked,
-  Reads'4.Learnt,
+  Reads'7.Asked,
+  Reads'7.Learnt,
   Reads'12.Asked,
   Reads'12.Learnt,
   Reads'13.Asked,
   Reads'13.Learnt,
-) Reads'5.Pre Reads'5.Post
+) Reads'4.Pre Reads'4.Post
 
 abbrev pub Need-refused-requires-5 : Type 0
 Need-refused-requires-5 = Lts.Need-refused-requires-5 (
@@ -2920,8 +2920,8 @@ Need-refused-requires-5 = Lts.Need-refused-requires-5 (
   Reads'14.Learnt,
   Reads'11.Asked,
   Reads'11.Learnt,
-  Reads'7.Asked,
-  Reads'7.Learnt,
+  Reads'6.Asked,
+  Reads'6.Learnt,
   Reads'15.Asked,
   Reads'15.Learnt,
   Reads'8.Asked,
@@ -2930,19 +2930,19 @@ Need-refused-requires-5 = Lts.Need-refused-requires-5 (
   Reads.Learnt,
   Reads'3.Asked,
   Reads'3.Learnt,
-  Reads'6.Asked,
-  Reads'6.Learnt,
+  Reads'5.Asked,
+  Reads'5.Learnt,
   Reads'9.Asked,
   Reads'9.Learnt,
   Reads'10.Asked,
   Reads'10.Learnt,
-  Reads'4.Asked,
-  Reads'4.Learnt,
+  Reads'7.Asked,
+  Reads'7.Learnt,
   Reads'12.Asked,
   Reads'12.Learnt,
   Reads'13.Asked,
   Reads'13.Learnt,
-) Reads'5.Pre Reads'5.Post
+) Reads'4.Pre Reads'4.Post
 
 abbrev pub Need-same-length-5 : Type 0
 Need-same-length-5 = Lts.Need-same-length-5 (
@@ -2954,8 +2954,8 @@ Need-same-length-5 = Lts.Need-same-length-5 (
   Reads'14.Learnt,
   Reads'11.Asked,
   Reads'11.Learnt,
-  Reads'7.Asked,
-  Reads'7.Learnt,
+  Reads'6.Asked,
+  Reads'6.Learnt,
   Reads'15.Asked,
   Reads'15.Learnt,
   Reads'8.Asked,
@@ -2964,19 +2964,19 @@ Need-same-length-5 = Lts.Need-same-length-5 (
   Reads.Learnt,
   Reads'3.Asked,
   Reads'3.Learnt,
-  Reads'6.Asked,
-  Reads'6.Learnt,
+  Reads'5.Asked,
+  Reads'5.Learnt,
   Reads'9.Asked,
   Reads'9.Learnt,
   Reads'10.Asked,
   Reads'10.Learnt,
-  Reads'4.Asked,
-  Reads'4.Learnt,
+  Reads'7.Asked,
+  Reads'7.Learnt,
   Reads'12.Asked,
   Reads'12.Learnt,
   Reads'13.Asked,
   Reads'13.Learnt,
-) Reads'5.Pre Reads'5.Post
+) Reads'4.Pre Reads'4.Post
 
 abbrev pub Need-same-length-6 : Type 0
 Need-same-length-6 = Lts.Need-same-length-6 (
@@ -2988,8 +2988,8 @@ Need-same-length-6 = Lts.Need-same-length-6 (
   Reads'14.Learnt,
   Reads'11.Asked,
   Reads'11.Learnt,
-  Reads'7.Asked,
-  Reads'7.Learnt,
+  Reads'6.Asked,
+  Reads'6.Learnt,
   Reads'15.Asked,
   Reads'15.Learnt,
   Reads'8.Asked,
@@ -2998,19 +2998,19 @@ Need-same-length-6 = Lts.Need-same-length-6 (
   Reads.Learnt,
   Reads'3.Asked,
   Reads'3.Learnt,
-  Reads'6.Asked,
-  Reads'6.Learnt,
+  Reads'5.Asked,
+  Reads'5.Learnt,
   Reads'9.Asked,
   Reads'9.Learnt,
   Reads'10.Asked,
   Reads'10.Learnt,
-  Reads'4.Asked,
-  Reads'4.Learnt,
+  Reads'7.Asked,
+  Reads'7.Learnt,
   Reads'12.Asked,
   Reads'12.Learnt,
   Reads'13.Asked,
   Reads'13.Learnt,
-) Reads'5.Pre Reads'5.Post
+) Reads'4.Pre Reads'4.Post
 
 abbrev pub Need-returns-5 : Type 0
 Need-returns-5 = Lts.Need-returns-5 (
@@ -3022,8 +3022,8 @@ Need-returns-5 = Lts.Need-returns-5 (
   Reads'14.Learnt,
   Reads'11.Asked,
   Reads'11.Learnt,
-  Reads'7.Asked,
-  Reads'7.Learnt,
+  Reads'6.Asked,
+  Reads'6.Learnt,
   Reads'15.Asked,
   Reads'15.Learnt,
   Reads'8.Asked,
@@ -3032,19 +3032,19 @@ Need-returns-5 = Lts.Need-returns-5 (
   Reads.Learnt,
   Reads'3.Asked,
   Reads'3.Learnt,
-  Reads'6.Asked,
-  Reads'6.Learnt,
+  Reads'5.Asked,
+  Reads'5.Learnt,
   Reads'9.Asked,
   Reads'9.Learnt,
   Reads'10.Asked,
   Reads'10.Learnt,
-  Reads'4.Asked,
-  Reads'4.Learnt,
+  Reads'7.Asked,
+  Reads'7.Learnt,
   Reads'12.Asked,
   Reads'12.Learnt,
   Reads'13.Asked,
   Reads'13.Learnt,
-) Reads'5.Pre Reads'5.Post
+) Reads'4.Pre Reads'4.Post
 
 abbrev pub Need-parsed-requires : Type 0
 Need-parsed-requires = Lts.Need-parsed-requires (
@@ -3056,8 +3056,8 @@ Need-parsed-requires = Lts.Need-parsed-requires (
   Reads'14.Learnt,
   Reads'11.Asked,
   Reads'11.Learnt,
-  Reads'7.Asked,
-  Reads'7.Learnt,
+  Reads'6.Asked,
+  Reads'6.Learnt,
   Reads'15.Asked,
   Reads'15.Learnt,
   Reads'8.Asked,
@@ -3066,19 +3066,19 @@ Need-parsed-requires = Lts.Need-parsed-requires (
   Reads.Learnt,
   Reads'3.Asked,
   Reads'3.Learnt,
-  Reads'6.Asked,
-  Reads'6.Learnt,
+  Reads'5.Asked,
+  Reads'5.Learnt,
   Reads'9.Asked,
   Reads'9.Learnt,
   Reads'10.Asked,
   Reads'10.Learnt,
-  Reads'4.Asked,
-  Reads'4.Learnt,
+  Reads'7.Asked,
+  Reads'7.Learnt,
   Reads'12.Asked,
   Reads'12.Learnt,
   Reads'13.Asked,
   Reads'13.Learnt,
-) Reads'5.Pre Reads'5.Post
+) Reads'4.Pre Reads'4.Post
 
 abbrev pub Need-vector-of-requires : Type 0
 Need-vector-of-requires = Lts.Need-vector-of-requires (
@@ -3090,8 +3090,8 @@ Need-vector-of-requires = Lts.Need-vector-of-requires (
   Reads'14.Learnt,
   Reads'11.Asked,
   Reads'11.Learnt,
-  Reads'7.Asked,
-  Reads'7.Learnt,
+  Reads'6.Asked,
+  Reads'6.Learnt,
   Reads'15.Asked,
   Reads'15.Learnt,
   Reads'8.Asked,
@@ -3100,19 +3100,19 @@ Need-vector-of-requires = Lts.Need-vector-of-requires (
   Reads.Learnt,
   Reads'3.Asked,
   Reads'3.Learnt,
-  Reads'6.Asked,
-  Reads'6.Learnt,
+  Reads'5.Asked,
+  Reads'5.Learnt,
   Reads'9.Asked,
   Reads'9.Learnt,
   Reads'10.Asked,
   Reads'10.Learnt,
-  Reads'4.Asked,
-  Reads'4.Learnt,
+  Reads'7.Asked,
+  Reads'7.Learnt,
   Reads'12.Asked,
   Reads'12.Learnt,
   Reads'13.Asked,
   Reads'13.Learnt,
-) Reads'5.Pre Reads'5.Post
+) Reads'4.Pre Reads'4.Post
 
 abbrev pub Need-is-reply-requires : Type 0
 Need-is-reply-requires = Lts.Need-is-reply-requires (
@@ -3124,8 +3124,8 @@ Need-is-reply-requires = Lts.Need-is-reply-requires (
   Reads'14.Learnt,
   Reads'11.Asked,
   Reads'11.Learnt,
-  Reads'7.Asked,
-  Reads'7.Learnt,
+  Reads'6.Asked,
+  Reads'6.Learnt,
   Reads'15.Asked,
   Reads'15.Learnt,
   Reads'8.Asked,
@@ -3134,19 +3134,19 @@ Need-is-reply-requires = Lts.Need-is-reply-requires (
   Reads.Learnt,
   Reads'3.Asked,
   Reads'3.Learnt,
-  Reads'6.Asked,
-  Reads'6.Learnt,
+  Reads'5.Asked,
+  Reads'5.Learnt,
   Reads'9.Asked,
   Reads'9.Learnt,
   Reads'10.Asked,
   Reads'10.Learnt,
-  Reads'4.Asked,
-  Reads'4.Learnt,
+  Reads'7.Asked,
+  Reads'7.Learnt,
   Reads'12.Asked,
   Reads'12.Learnt,
   Reads'13.Asked,
   Reads'13.Learnt,
-) Reads'5.Pre Reads'5.Post
+) Reads'4.Pre Reads'4.Post
 
 abbrev pub Need-take-reply-requires : Type 0
 Need-take-reply-requires = Lts.Need-take-reply-requires (
@@ -3158,8 +3158,8 @@ Need-take-reply-requires = Lts.Need-take-reply-requires (
   Reads'14.Learnt,
   Reads'11.Asked,
   Reads'11.Learnt,
-  Reads'7.Asked,
-  Reads'7.Learnt,
+  Reads'6.Asked,
+  Reads'6.Learnt,
   Reads'15.Asked,
   Reads'15.Learnt,
   Reads'8.Asked,
@@ -3168,19 +3168,19 @@ Need-take-reply-requires = Lts.Need-take-reply-requires (
   Reads.Learnt,
   Reads'3.Asked,
   Reads'3.Learnt,
-  Reads'6.Asked,
-  Reads'6.Learnt,
+  Reads'5.Asked,
+  Reads'5.Learnt,
   Reads'9.Asked,
   Reads'9.Learnt,
   Reads'10.Asked,
   Reads'10.Learnt,
-  Reads'4.Asked,
-  Reads'4.Learnt,
+  Reads'7.Asked,
+  Reads'7.Learnt,
   Reads'12.Asked,
   Reads'12.Learnt,
   Reads'13.Asked,
   Reads'13.Learnt,
-) Reads'5.Pre Reads'5.Post
+) Reads'4.Pre Reads'4.Post
 
 abbrev pub Need-same-length-7 : Type 0
 Need-same-length-7 = Lts.Need-same-length-7 (
@@ -3192,8 +3192,8 @@ Need-same-length-7 = Lts.Need-same-length-7 (
   Reads'14.Learnt,
   Reads'11.Asked,
   Reads'11.Learnt,
-  Reads'7.Asked,
-  Reads'7.Learnt,
+  Reads'6.Asked,
+  Reads'6.Learnt,
   Reads'15.Asked,
   Reads'15.Learnt,
   Reads'8.Asked,
@@ -3202,19 +3202,19 @@ Need-same-length-7 = Lts.Need-same-length-7 (
   Reads.Learnt,
   Reads'3.Asked,
   Reads'3.Learnt,
-  Reads'6.Asked,
-  Reads'6.Learnt,
+  Reads'5.Asked,
+  Reads'5.Learnt,
   Reads'9.Asked,
   Reads'9.Learnt,
   Reads'10.Asked,
   Reads'10.Learnt,
-  Reads'4.Asked,
-  Reads'4.Learnt,
+  Reads'7.Asked,
+  Reads'7.Learnt,
   Reads'12.Asked,
   Reads'12.Learnt,
   Reads'13.Asked,
   Reads'13.Learnt,
-) Reads'5.Pre Reads'5.Post
+) Reads'4.Pre Reads'4.Post
 
 abbrev pub Need-same-length-8 : Type 0
 Need-same-length-8 = Lts.Need-same-length-8 (
@@ -3226,8 +3226,8 @@ Need-same-length-8 = Lts.Need-same-length-8 (
   Reads'14.Learnt,
   Reads'11.Asked,
   Reads'11.Learnt,
-  Reads'7.Asked,
-  Reads'7.Learnt,
+  Reads'6.Asked,
+  Reads'6.Learnt,
   Reads'15.Asked,
   Reads'15.Learnt,
   Reads'8.Asked,
@@ -3236,19 +3236,19 @@ Need-same-length-8 = Lts.Need-same-length-8 (
   Reads.Learnt,
   Reads'3.Asked,
   Reads'3.Learnt,
-  Reads'6.Asked,
-  Reads'6.Learnt,
+  Reads'5.Asked,
+  Reads'5.Learnt,
   Reads'9.Asked,
   Reads'9.Learnt,
   Reads'10.Asked,
   Reads'10.Learnt,
-  Reads'4.Asked,
-  Reads'4.Learnt,
+  Reads'7.Asked,
+  Reads'7.Learnt,
   Reads'12.Asked,
   Reads'12.Learnt,
   Reads'13.Asked,
   Reads'13.Learnt,
-) Reads'5.Pre Reads'5.Post
+) Reads'4.Pre Reads'4.Post
 
 abbrev pub Need-same-length-9 : Type 0
 Need-same-length-9 = Lts.Need-same-length-9 (
@@ -3260,8 +3260,8 @@ Need-same-length-9 = Lts.Need-same-length-9 (
   Reads'14.Learnt,
   Reads'11.Asked,
   Reads'11.Learnt,
-  Reads'7.Asked,
-  Reads'7.Learnt,
+  Reads'6.Asked,
+  Reads'6.Learnt,
   Reads'15.Asked,
   Reads'15.Learnt,
   Reads'8.Asked,
@@ -3270,19 +3270,19 @@ Need-same-length-9 = Lts.Need-same-length-9 (
   Reads.Learnt,
   Reads'3.Asked,
   Reads'3.Learnt,
-  Reads'6.Asked,
-  Reads'6.Learnt,
+  Reads'5.Asked,
+  Reads'5.Learnt,
   Reads'9.Asked,
   Reads'9.Learnt,
   Reads'10.Asked,
   Reads'10.Learnt,
-  Reads'4.Asked,
-  Reads'4.Learnt,
+  Reads'7.Asked,
+  Reads'7.Learnt,
   Reads'12.Asked,
   Reads'12.Learnt,
   Reads'13.Asked,
   Reads'13.Learnt,
-) Reads'5.Pre Reads'5.Post
+) Reads'4.Pre Reads'4.Post
 
 abbrev pub Need-same-length-10 : Type 0
 Need-same-length-10 = Lts.Need-same-length-10 (
@@ -3294,8 +3294,8 @@ Need-same-length-10 = Lts.Need-same-length-10 (
   Reads'14.Learnt,
   Reads'11.Asked,
   Reads'11.Learnt,
-  Reads'7.Asked,
-  Reads'7.Learnt,
+  Reads'6.Asked,
+  Reads'6.Learnt,
   Reads'15.Asked,
   Reads'15.Learnt,
   Reads'8.Asked,
@@ -3304,19 +3304,19 @@ Need-same-length-10 = Lts.Need-same-length-10 (
   Reads.Learnt,
   Reads'3.Asked,
   Reads'3.Learnt,
-  Reads'6.Asked,
-  Reads'6.Learnt,
+  Reads'5.Asked,
+  Reads'5.Learnt,
   Reads'9.Asked,
   Reads'9.Learnt,
   Reads'10.Asked,
   Reads'10.Learnt,
-  Reads'4.Asked,
-  Reads'4.Learnt,
+  Reads'7.Asked,
+  Reads'7.Learnt,
   Reads'12.Asked,
   Reads'12.Learnt,
   Reads'13.Asked,
   Reads'13.Learnt,
-) Reads'5.Pre Reads'5.Post
+) Reads'4.Pre Reads'4.Post
 
 abbrev pub Need-returns-6 : Type 0
 Need-returns-6 = Lts.Need-returns-6 (
@@ -3328,8 +3328,8 @@ Need-returns-6 = Lts.Need-returns-6 (
   Reads'14.Learnt,
   Reads'11.Asked,
   Reads'11.Learnt,
-  Reads'7.Asked,
-  Reads'7.Learnt,
+  Reads'6.Asked,
+  Reads'6.Learnt,
   Reads'15.Asked,
   Reads'15.Learnt,
   Reads'8.Asked,
@@ -3338,19 +3338,19 @@ Need-returns-6 = Lts.Need-returns-6 (
   Reads.Learnt,
   Reads'3.Asked,
   Reads'3.Learnt,
-  Reads'6.Asked,
-  Reads'6.Learnt,
+  Reads'5.Asked,
+  Reads'5.Learnt,
   Reads'9.Asked,
   Reads'9.Learnt,
   Reads'10.Asked,
   Reads'10.Learnt,
-  Reads'4.Asked,
-  Reads'4.Learnt,
+  Reads'7.Asked,
+  Reads'7.Learnt,
   Reads'12.Asked,
   Reads'12.Learnt,
   Reads'13.Asked,
   Reads'13.Learnt,
-) Reads'5.Pre Reads'5.Post
+) Reads'4.Pre Reads'4.Post
 
 abbrev pub Need-take-request-requires : Type 0
 Need-take-request-requires = Lts.Need-take-request-requires (
@@ -3362,8 +3362,8 @@ Need-take-request-requires = Lts.Need-take-request-requires (
   Reads'14.Learnt,
   Reads'11.Asked,
   Reads'11.Learnt,
-  Reads'7.Asked,
-  Reads'7.Learnt,
+  Reads'6.Asked,
+  Reads'6.Learnt,
   Reads'15.Asked,
   Reads'15.Learnt,
   Reads'8.Asked,
@@ -3372,19 +3372,19 @@ Need-take-request-requires = Lts.Need-take-request-requires (
   Reads.Learnt,
   Reads'3.Asked,
   Reads'3.Learnt,
-  Reads'6.Asked,
-  Reads'6.Learnt,
+  Reads'5.Asked,
+  Reads'5.Learnt,
   Reads'9.Asked,
   Reads'9.Learnt,
   Reads'10.Asked,
   Reads'10.Learnt,
-  Reads'4.Asked,
-  Reads'4.Learnt,
+  Reads'7.Asked,
+  Reads'7.Learnt,
   Reads'12.Asked,
   Reads'12.Learnt,
   Reads'13.Asked,
   Reads'13.Learnt,
-) Reads'5.Pre Reads'5.Post
+) Reads'4.Pre Reads'4.Post
 
 abbrev pub Need-same-length-11 : Type 0
 Need-same-length-11 = Lts.Need-same-length-11 (
@@ -3396,8 +3396,8 @@ Need-same-length-11 = Lts.Need-same-length-11 (
   Reads'14.Learnt,
   Reads'11.Asked,
   Reads'11.Learnt,
-  Reads'7.Asked,
-  Reads'7.Learnt,
+  Reads'6.Asked,
+  Reads'6.Learnt,
   Reads'15.Asked,
   Reads'15.Learnt,
   Reads'8.Asked,
@@ -3406,19 +3406,19 @@ Need-same-length-11 = Lts.Need-same-length-11 (
   Reads.Learnt,
   Reads'3.Asked,
   Reads'3.Learnt,
-  Reads'6.Asked,
-  Reads'6.Learnt,
+  Reads'5.Asked,
+  Reads'5.Learnt,
   Reads'9.Asked,
   Reads'9.Learnt,
   Reads'10.Asked,
   Reads'10.Learnt,
-  Reads'4.Asked,
-  Reads'4.Learnt,
+  Reads'7.Asked,
+  Reads'7.Learnt,
   Reads'12.Asked,
   Reads'12.Learnt,
   Reads'13.Asked,
   Reads'13.Learnt,
-) Reads'5.Pre Reads'5.Post
+) Reads'4.Pre Reads'4.Post
 
 abbrev pub Need-same-length-12 : Type 0
 Need-same-length-12 = Lts.Need-same-length-12 (
@@ -3430,8 +3430,8 @@ Need-same-length-12 = Lts.Need-same-length-12 (
   Reads'14.Learnt,
   Reads'11.Asked,
   Reads'11.Learnt,
-  Reads'7.Asked,
-  Reads'7.Learnt,
+  Reads'6.Asked,
+  Reads'6.Learnt,
   Reads'15.Asked,
   Reads'15.Learnt,
   Reads'8.Asked,
@@ -3440,19 +3440,19 @@ Need-same-length-12 = Lts.Need-same-length-12 (
   Reads.Learnt,
   Reads'3.Asked,
   Reads'3.Learnt,
-  Reads'6.Asked,
-  Reads'6.Learnt,
+  Reads'5.Asked,
+  Reads'5.Learnt,
   Reads'9.Asked,
   Reads'9.Learnt,
   Reads'10.Asked,
   Reads'10.Learnt,
-  Reads'4.Asked,
-  Reads'4.Learnt,
+  Reads'7.Asked,
+  Reads'7.Learnt,
   Reads'12.Asked,
   Reads'12.Learnt,
   Reads'13.Asked,
   Reads'13.Learnt,
-) Reads'5.Pre Reads'5.Post
+) Reads'4.Pre Reads'4.Post
 
 abbrev pub Need-same-length-13 : Type 0
 Need-same-length-13 = Lts.Need-same-length-13 (
@@ -3464,8 +3464,8 @@ Need-same-length-13 = Lts.Need-same-length-13 (
   Reads'14.Learnt,
   Reads'11.Asked,
   Reads'11.Learnt,
-  Reads'7.Asked,
-  Reads'7.Learnt,
+  Reads'6.Asked,
+  Reads'6.Learnt,
   Reads'15.Asked,
   Reads'15.Learnt,
   Reads'8.Asked,
@@ -3474,19 +3474,19 @@ Need-same-length-13 = Lts.Need-same-length-13 (
   Reads.Learnt,
   Reads'3.Asked,
   Reads'3.Learnt,
-  Reads'6.Asked,
-  Reads'6.Learnt,
+  Reads'5.Asked,
+  Reads'5.Learnt,
   Reads'9.Asked,
   Reads'9.Learnt,
   Reads'10.Asked,
   Reads'10.Learnt,
-  Reads'4.Asked,
-  Reads'4.Learnt,
+  Reads'7.Asked,
+  Reads'7.Learnt,
   Reads'12.Asked,
   Reads'12.Learnt,
   Reads'13.Asked,
   Reads'13.Learnt,
-) Reads'5.Pre Reads'5.Post
+) Reads'4.Pre Reads'4.Post
 
 abbrev pub Need-same-length-14 : Type 0
 Need-same-length-14 = Lts.Need-same-length-14 (
@@ -3498,8 +3498,8 @@ Need-same-length-14 = Lts.Need-same-length-14 (
   Reads'14.Learnt,
   Reads'11.Asked,
   Reads'11.Learnt,
-  Reads'7.Asked,
-  Reads'7.Learnt,
+  Reads'6.Asked,
+  Reads'6.Learnt,
   Reads'15.Asked,
   Reads'15.Learnt,
   Reads'8.Asked,
@@ -3508,19 +3508,19 @@ Need-same-length-14 = Lts.Need-same-length-14 (
   Reads.Learnt,
   Reads'3.Asked,
   Reads'3.Learnt,
-  Reads'6.Asked,
-  Reads'6.Learnt,
+  Reads'5.Asked,
+  Reads'5.Learnt,
   Reads'9.Asked,
   Reads'9.Learnt,
   Reads'10.Asked,
   Reads'10.Learnt,
-  Reads'4.Asked,
-  Reads'4.Learnt,
+  Reads'7.Asked,
+  Reads'7.Learnt,
   Reads'12.Asked,
   Reads'12.Learnt,
   Reads'13.Asked,
   Reads'13.Learnt,
-) Reads'5.Pre Reads'5.Post
+) Reads'4.Pre Reads'4.Post
 
 abbrev pub Need-returns-7 : Type 0
 Need-returns-7 = Lts.Need-returns-7 (
@@ -3532,8 +3532,8 @@ Need-returns-7 = Lts.Need-returns-7 (
   Reads'14.Learnt,
   Reads'11.Asked,
   Reads'11.Learnt,
-  Reads'7.Asked,
-  Reads'7.Learnt,
+  Reads'6.Asked,
+  Reads'6.Learnt,
   Reads'15.Asked,
   Reads'15.Learnt,
   Reads'8.Asked,
@@ -3542,19 +3542,19 @@ Need-returns-7 = Lts.Need-returns-7 (
   Reads.Learnt,
   Reads'3.Asked,
   Reads'3.Learnt,
-  Reads'6.Asked,
-  Reads'6.Learnt,
+  Reads'5.Asked,
+  Reads'5.Learnt,
   Reads'9.Asked,
   Reads'9.Learnt,
   Reads'10.Asked,
   Reads'10.Learnt,
-  Reads'4.Asked,
-  Reads'4.Learnt,
+  Reads'7.Asked,
+  Reads'7.Learnt,
   Reads'12.Asked,
   Reads'12.Learnt,
   Reads'13.Asked,
   Reads'13.Learnt,
-) Reads'5.Pre Reads'5.Post
+) Reads'4.Pre Reads'4.Post
 
 module _ {M : Type 1} where
   pub spec :
@@ -3608,8 +3608,8 @@ module _ {M : Type 1} where
         Reads'14.Learnt,
         Reads'11.Asked,
         Reads'11.Learnt,
-        Reads'7.Asked,
-        Reads'7.Learnt,
+        Reads'6.Asked,
+        Reads'6.Learnt,
         Reads'15.Asked,
         Reads'15.Learnt,
         Reads'8.Asked,
@@ -3618,19 +3618,19 @@ module _ {M : Type 1} where
         Reads.Learnt,
         Reads'3.Asked,
         Reads'3.Learnt,
-        Reads'6.Asked,
-        Reads'6.Learnt,
+        Reads'5.Asked,
+        Reads'5.Learnt,
         Reads'9.Asked,
         Reads'9.Learnt,
         Reads'10.Asked,
         Reads'10.Learnt,
-        Reads'4.Asked,
-        Reads'4.Learnt,
+        Reads'7.Asked,
+        Reads'7.Learnt,
         Reads'12.Asked,
         Reads'12.Learnt,
         Reads'13.Asked,
         Reads'13.Learnt,
-      ) Reads'5.Pre Reads'5.Post M
+      ) Reads'4.Pre Reads'4.Post M
   spec =
       λ answer answer' answer'' answer'3 answer'4 answer'5 answer'6 answer'7 answer'8 answer'9
       answer'10 answer'11 answer'12 answer'13 answer'14 answer'15 answer'16 answer'17 answer'18
@@ -3645,8 +3645,8 @@ module _ {M : Type 1} where
         Reads'14.Learnt,
         Reads'11.Asked,
         Reads'11.Learnt,
-        Reads'7.Asked,
-        Reads'7.Learnt,
+        Reads'6.Asked,
+        Reads'6.Learnt,
         Reads'15.Asked,
         Reads'15.Learnt,
         Reads'8.Asked,
@@ -3655,21 +3655,21 @@ module _ {M : Type 1} where
         Reads.Learnt,
         Reads'3.Asked,
         Reads'3.Learnt,
-        Reads'6.Asked,
-        Reads'6.Learnt,
+        Reads'5.Asked,
+        Reads'5.Learnt,
         Reads'9.Asked,
         Reads'9.Learnt,
         Reads'10.Asked,
         Reads'10.Learnt,
-        Reads'4.Asked,
-        Reads'4.Learnt,
+        Reads'7.Asked,
+        Reads'7.Learnt,
         Reads'12.Asked,
         Reads'12.Learnt,
         Reads'13.Asked,
         Reads'13.Learnt,
       )
-      Reads'5.Pre
-      Reads'5.Post
+      Reads'4.Pre
+      Reads'4.Post
       answer
       answer'
       answer''
@@ -3721,8 +3721,8 @@ module _ {M : Type 1} where
     Reads'14.Learnt,
     Reads'11.Asked,
     Reads'11.Learnt,
-    Reads'7.Asked,
-    Reads'7.Learnt,
+    Reads'6.Asked,
+    Reads'6.Learnt,
     Reads'15.Asked,
     Reads'15.Learnt,
     Reads'8.Asked,
@@ -3731,40 +3731,40 @@ module _ {M : Type 1} where
     Reads.Learnt,
     Reads'3.Asked,
     Reads'3.Learnt,
-    Reads'6.Asked,
-    Reads'6.Learnt,
+    Reads'5.Asked,
+    Reads'5.Learnt,
     Reads'9.Asked,
     Reads'9.Learnt,
     Reads'10.Asked,
     Reads'10.Learnt,
-    Reads'4.Asked,
-    Reads'4.Learnt,
+    Reads'7.Asked,
+    Reads'7.Learnt,
     Reads'12.Asked,
     Reads'12.Learnt,
     Reads'13.Asked,
     Reads'13.Learnt,
-  ) Reads'5.Pre Reads'5.Post M → Statement.statement M
+  ) Reads'4.Pre Reads'4.Post M → Statement.statement M
   unfolding Code.routine Running.tablesOf
   close =
       λ closed 𝓤 H 𝓜 𝓖 𝓡. Written.close
       5
       Kinds.ps
       Kinds.r
-      Reads'5.Ghost
-      Reads'5.requires
-      Reads'5.ensures
-      Reads'5.pre-read
-      Reads'5.Pinned
-      Reads'5.Owned
-      Reads'5.post-read
+      Reads'4.Ghost
+      Reads'4.requires
+      Reads'4.ensures
+      Reads'4.pre-read
+      Reads'4.Pinned
+      Reads'4.Owned
+      Reads'4.post-read
       record { M = M; 𝓤 = 𝓤; H = H; 𝓜 = 𝓜; 𝓖 = 𝓖; 𝓡 = 𝓡 }
       Code.env
       Key.name
       Code.function
       (Code.unfolded 𝓤 H 𝓜 𝓡)
       (λ κs a g. tt)
-      (λ κs. Reads'5.owns κs record { M = M; 𝓤 = 𝓤; H = H; 𝓜 = 𝓜; 𝓖 = 𝓖; 𝓡 = 𝓡 })
-      (Reads'5.passes record { M = M; 𝓤 = 𝓤; H = H; 𝓜 = 𝓜; 𝓖 = 𝓖; 𝓡 = 𝓡 })
+      (λ κs. Reads'4.owns κs record { M = M; 𝓤 = 𝓤; H = H; 𝓜 = 𝓜; 𝓖 = 𝓖; 𝓡 = 𝓡 })
+      (Reads'4.passes record { M = M; 𝓤 = 𝓤; H = H; 𝓜 = 𝓜; 𝓖 = 𝓖; 𝓡 = 𝓡 })
       λ g. closed
       𝓤
       H
@@ -3799,13 +3799,13 @@ module _ {M : Type 1} where
       Symbol'10.routine
       Code.calls-node·is-wrong
       (Met'10.met 𝓤 H 𝓜 𝓖 𝓡))
-      (Reads'7.known
+      (Reads'6.known
       record { M = M; 𝓤 = 𝓤; H = H; 𝓜 = 𝓜; 𝓖 = 𝓖; 𝓡 = 𝓡 }
       Code.env
-      Symbol'6.name
-      Symbol'6.routine
+      Symbol'5.name
+      Symbol'5.routine
       Code.calls-calls·wrong-state
-      (Met'6.met 𝓤 H 𝓜 𝓖 𝓡))
+      (Met'5.met 𝓤 H 𝓜 𝓖 𝓡))
       (Reads'15.known
       record { M = M; 𝓤 = 𝓤; H = H; 𝓜 = 𝓜; 𝓖 = 𝓖; 𝓡 = 𝓡 }
       Code.env
@@ -3834,13 +3834,13 @@ module _ {M : Type 1} where
       Symbol'3.routine
       Code.calls-calls·has-own-dodagid
       (Met'3.met 𝓤 H 𝓜 𝓖 𝓡))
-      (Reads'6.known
+      (Reads'5.known
       record { M = M; 𝓤 = 𝓤; H = H; 𝓜 = 𝓜; 𝓖 = 𝓖; 𝓡 = 𝓡 }
       Code.env
-      Symbol'5.name
-      Symbol'5.routine
+      Symbol'4.name
+      Symbol'4.routine
       Code.calls-calls·own-dodagid
-      (Met'5.met 𝓤 H 𝓜 𝓖 𝓡))
+      (Met'4.met 𝓤 H 𝓜 𝓖 𝓡))
       (Reads'9.known
       record { M = M; 𝓤 = 𝓤; H = H; 𝓜 = 𝓜; 𝓖 = 𝓖; 𝓡 = 𝓡 }
       Code.env
@@ -3855,13 +3855,13 @@ module _ {M : Type 1} where
       Symbol'9.routine
       Code.calls-heard·vector-of
       (Met'9.met 𝓤 H 𝓜 𝓖 𝓡))
-      (Reads'4.known
+      (Reads'7.known
       record { M = M; 𝓤 = 𝓤; H = H; 𝓜 = 𝓜; 𝓖 = 𝓖; 𝓡 = 𝓡 }
       Code.env
-      Symbol'4.name
-      Symbol'4.routine
-      Code.calls-calls·is-reply
-      (Met'4.met 𝓤 H 𝓜 𝓖 𝓡))
+      Symbol'6.name
+      Symbol'6.routine
+      Code.calls-heard·is-reply
+      (Met'6.met 𝓤 H 𝓜 𝓖 𝓡))
       (Reads'12.known
       record { M = M; 𝓤 = 𝓤; H = H; 𝓜 = 𝓜; 𝓖 = 𝓖; 𝓡 = 𝓡 }
       Code.env

@@ -1321,7 +1321,7 @@ hs =
 abbrev b0 : Syntax.Body
 b0 =
     Syntax.call
-    "own::whole"
+    "addresses::whole"
     (List._∷_ (Syntax.copy (Syntax.place 11 List.[])) List.[])
     (Syntax.place 24 List.[])
 
@@ -1628,7 +1628,7 @@ b33 =
 abbrev b34 : Syntax.Body
 b34 =
     Syntax.call
-    "reply_accepted::accepted"
+    "reply_stored::accepted"
     (List._∷_
     (Syntax.copy (Syntax.place 7 List.[]))
     (List._∷_
@@ -1657,7 +1657,7 @@ b36 =
 abbrev b37 : Syntax.Body
 b37 =
     Syntax.call
-    "reply_accepted::forward_post"
+    "reply_sent::forward_post"
     (List._∷_
     (Syntax.copy (Syntax.place 5 List.[]))
     (List._∷_
@@ -26326,7 +26326,7 @@ module _ (claims· : Claims) where
       Closed =
           (𝓤 : URA.URA M) (H : Wp.Heap 𝓤) (A : Atoms.Atoms 𝓤) (W : Kit.Given 𝓤 H A) (𝓣 : Wp.Tables
           𝓤 H) (known0 : Plain.Known 𝓤 H A W 𝓣 1 ps·0 r·0 (claims· .0) (claims· .1)
-          "own::whole") (known1 : Plain.Known 𝓤 H A W 𝓣 0 ps·1 r·1 (claims· .2) (claims· .3)
+          "addresses::whole") (known1 : Plain.Known 𝓤 H A W 𝓣 0 ps·1 r·1 (claims· .2) (claims· .3)
           "reply::partner_number") (known2 : Plain.Known 𝓤 H A W 𝓣 0 ps·2 r·2 (claims· .4)
           (claims· .5) "reply::orig_node") (known3 : Plain.Known 𝓤 H A W 𝓣 0 ps·3 r·3 (claims· .6)
           (claims· .7) "node::h_of") (known4 : Plain.Known 𝓤 H A W 𝓣 1 ps·4 r·4 (claims· .8)
@@ -26343,12 +26343,12 @@ module _ (claims· : Claims) where
           ps·13 r·13 (claims· .26) (claims· .27) "answer::number") (known14 : Plain.Known 𝓤 H A W 𝓣
           0 ps·14 r·14 (claims· .28) (claims· .29) "outcome::refused") (known15 : Plain.Known 𝓤 H A
           W 𝓣 0 ps·15 r·15 (claims· .30) (claims· .31)
-          "reply_accepted::accepted") (known16 : Plain.Known 𝓤 H A W 𝓣 1 ps·16 r·16 (claims· .32)
-          (claims· .33) "reply_accepted::forward_post") (known17 : Plain.Known 𝓤 H A W 𝓣 0 ps·17
-          r·17 (claims· .34) (claims· .35) "decision::no_post") (known18 : Plain.Known 𝓤 H A W 𝓣 0
-          ps·18 r·18 (claims· .36) (claims· .37) "node::live_of") (known19 : Plain.Known 𝓤 H A W 𝓣
-          8 ps·19 r·19 (claims· .38) (claims· .39) "finish::finish") (known20 : Plain.Known 𝓤 H A W
-          𝓣 0 ps·20 r·20 (claims· .40) (claims· .41) "node::no_partner") → Statement.Triple 𝓤
+          "reply_stored::accepted") (known16 : Plain.Known 𝓤 H A W 𝓣 1 ps·16 r·16 (claims· .32)
+          (claims· .33) "reply_sent::forward_post") (known17 : Plain.Known 𝓤 H A W 𝓣 0 ps·17 r·17
+          (claims· .34) (claims· .35) "decision::no_post") (known18 : Plain.Known 𝓤 H A W 𝓣 0 ps·18
+          r·18 (claims· .36) (claims· .37) "node::live_of") (known19 : Plain.Known 𝓤 H A W 𝓣 8
+          ps·19 r·19 (claims· .38) (claims· .39) "finish::finish") (known20 : Plain.Known 𝓤 H A W 𝓣
+          0 ps·20 r·20 (claims· .40) (claims· .41) "node::no_partner") → Statement.Triple 𝓤
           (Wp.WpFn 𝓤 H (𝓣 .C) (𝓣 .Λ) (Function.fnOf 6 ps r xs m hs body)) (Function.plainOf 𝓤 H A 6
           ps r Pre· Post·)
 
@@ -26864,7 +26864,7 @@ module _ (claims· : Claims) where
           (W : Kit.Given 𝓤 H A) (𝓣 : Wp.Tables 𝓤 H) where
         abbrev Knowns : Type 1
         Knowns =
-            Plain.Known 𝓤 H A W 𝓣 1 ps·0 r·0 (claims· .0) (claims· .1) "own::whole" ×
+            Plain.Known 𝓤 H A W 𝓣 1 ps·0 r·0 (claims· .0) (claims· .1) "addresses::whole" ×
             Plain.Known 𝓤 H A W 𝓣 0 ps·1 r·1 (claims· .2) (claims· .3) "reply::partner_number" ×
             Plain.Known 𝓤 H A W 𝓣 0 ps·2 r·2 (claims· .4) (claims· .5) "reply::orig_node" ×
             Plain.Known 𝓤 H A W 𝓣 0 ps·3 r·3 (claims· .6) (claims· .7) "node::h_of" ×
@@ -26890,7 +26890,7 @@ module _ (claims· : Claims) where
             r·15
             (claims· .30)
             (claims· .31)
-            "reply_accepted::accepted" ×
+            "reply_stored::accepted" ×
             Plain.Known
             𝓤
             H
@@ -26902,7 +26902,7 @@ module _ (claims· : Claims) where
             r·16
             (claims· .32)
             (claims· .33)
-            "reply_accepted::forward_post" ×
+            "reply_sent::forward_post" ×
             Plain.Known 𝓤 H A W 𝓣 0 ps·17 r·17 (claims· .34) (claims· .35) "decision::no_post" ×
             Plain.Known 𝓤 H A W 𝓣 0 ps·18 r·18 (claims· .36) (claims· .37) "node::live_of" ×
             Plain.Known 𝓤 H A W 𝓣 8 ps·19 r·19 (claims· .38) (claims· .39) "finish::finish" ×
@@ -42239,7 +42239,7 @@ module _ (claims· : Claims) where
               r·16
               (claims· .32)
               (claims· .33)
-              "reply_accepted::forward_post"
+              "reply_sent::forward_post"
               (known .16)
               E
               (λ pos β. β)
@@ -42696,7 +42696,7 @@ module _ (claims· : Claims) where
               r·15
               (claims· .30)
               (claims· .31)
-              "reply_accepted::accepted"
+              "reply_stored::accepted"
               (known .15)
               E
               (λ pos β. β)
@@ -47744,7 +47744,7 @@ module _ (claims· : Claims) where
               r·0
               (claims· .0)
               (claims· .1)
-              "own::whole"
+              "addresses::whole"
               (known .0)
               E
               (λ pos β. β)
@@ -51104,7 +51104,18 @@ module _ (claims· : Claims) where
 
         module _ {M : Type 1} (𝓤 : URA.URA M) (H : Wp.Heap 𝓤) (A : Atoms.Atoms 𝓤)
             (W : Kit.Given 𝓤 H A) (𝓣 : Wp.Tables 𝓤 H)
-            (known0 : Plain.Known 𝓤 H A W 𝓣 1 ps·0 r·0 (claims· .0) (claims· .1) "own::whole")
+            (known0 : Plain.Known
+            𝓤
+            H
+            A
+            W
+            𝓣
+            1
+            ps·0
+            r·0
+            (claims· .0)
+            (claims· .1)
+            "addresses::whole")
             (known1 : Plain.Known
             𝓤
             H
@@ -51273,7 +51284,7 @@ module _ (claims· : Claims) where
             r·15
             (claims· .30)
             (claims· .31)
-            "reply_accepted::accepted")
+            "reply_stored::accepted")
             (known16 : Plain.Known
             𝓤
             H
@@ -51285,7 +51296,7 @@ module _ (claims· : Claims) where
             r·16
             (claims· .32)
             (claims· .33)
-            "reply_accepted::forward_post")
+            "reply_sent::forward_post")
             (known17 : Plain.Known
             𝓤
             H

@@ -1382,7 +1382,7 @@ hs =
 abbrev b0 : Syntax.Body
 b0 =
     Syntax.call
-    "own::whole"
+    "addresses::whole"
     (List._∷_ (Syntax.copy (Syntax.place 11 List.[])) List.[])
     (Syntax.place 25 List.[])
 
@@ -1537,7 +1537,7 @@ b15 =
 abbrev b16 : Syntax.Body
 b16 =
     Syntax.call
-    "search::free_delta_if"
+    "delta::free_delta_if"
     (List._∷_
     (Syntax.copy (Syntax.place 17 List.[]))
     (List._∷_
@@ -1683,7 +1683,7 @@ b31 =
 abbrev b32 : Syntax.Body
 b32 =
     Syntax.call
-    "request_sent::forward_post"
+    "request_forwarded::forward_post"
     (List._∷_
     (Syntax.copy (Syntax.place 9 List.[]))
     (List._∷_
@@ -1708,7 +1708,7 @@ b34 =
 abbrev b35 : Syntax.Body
 b35 =
     Syntax.call
-    "request_sent::reply_post"
+    "request_replied::reply_post"
     (List._∷_
     (Syntax.copy (Syntax.place 5 List.[]))
     (List._∷_
@@ -29601,7 +29601,7 @@ module _ (claims· : Claims) where
       Closed =
           (𝓤 : URA.URA M) (H : Wp.Heap 𝓤) (A : Atoms.Atoms 𝓤) (W : Kit.Given 𝓤 H A) (𝓣 : Wp.Tables
           𝓤 H) (known0 : Plain.Known 𝓤 H A W 𝓣 1 ps·0 r·0 (claims· .0) (claims· .1)
-          "own::whole") (known1 : Plain.Known 𝓤 H A W 𝓣 0 ps·1 r·1 (claims· .2) (claims· .3)
+          "addresses::whole") (known1 : Plain.Known 𝓤 H A W 𝓣 0 ps·1 r·1 (claims· .2) (claims· .3)
           "node::instance_of") (known2 : Plain.Known 𝓤 H A W 𝓣 0 ps·2 r·2 (claims· .4) (claims· .5)
           "node::dodagid_of") (known3 : Plain.Known 𝓤 H A W 𝓣 0 ps·3 r·3 (claims· .6) (claims· .7)
           "node::receiving_of") (known4 : Plain.Known 𝓤 H A W 𝓣 1 ps·4 r·4 (claims· .8)
@@ -29609,17 +29609,17 @@ module _ (claims· : Claims) where
           (claims· .10) (claims· .11) "search::search_route") (known6 : Plain.Known 𝓤 H A W 𝓣 0
           ps·6 r·6 (claims· .12) (claims· .13)
           "request_targets::is_targ_node") (known7 : Plain.Known 𝓤 H A W 𝓣 1 ps·7 r·7 (claims· .14)
-          (claims· .15) "search::free_delta_if") (known8 : Plain.Known 𝓤 H A W 𝓣 0 ps·8 r·8
+          (claims· .15) "delta::free_delta_if") (known8 : Plain.Known 𝓤 H A W 𝓣 0 ps·8 r·8
           (claims· .16) (claims· .17) "request::gather") (known9 : Plain.Known 𝓤 H A W 𝓣 1 ps·9 r·9
           (claims· .18) (claims· .19) "request_answer::judge") (known10 : Plain.Known 𝓤 H A W 𝓣 0
           ps·10 r·10 (claims· .20) (claims· .21) "answer::number") (known11 : Plain.Known 𝓤 H A W 𝓣
           0 ps·11 r·11 (claims· .22) (claims· .23) "outcome::refused") (known12 : Plain.Known 𝓤 H A
           W 𝓣 0 ps·12 r·12 (claims· .24) (claims· .25)
           "request_stored::accepted") (known13 : Plain.Known 𝓤 H A W 𝓣 0 ps·13 r·13 (claims· .26)
-          (claims· .27) "request_sent::forward_post") (known14 : Plain.Known 𝓤 H A W 𝓣 0 ps·14 r·14
-          (claims· .28) (claims· .29) "request_sent::reply_post") (known15 : Plain.Known 𝓤 H A W 𝓣
-          0 ps·15 r·15 (claims· .30) (claims· .31) "node::live_of") (known16 : Plain.Known 𝓤 H A W
-          𝓣 8 ps·16 r·16 (claims· .32) (claims· .33) "finish::finish") → Statement.Triple 𝓤
+          (claims· .27) "request_forwarded::forward_post") (known14 : Plain.Known 𝓤 H A W 𝓣 0 ps·14
+          r·14 (claims· .28) (claims· .29) "request_replied::reply_post") (known15 : Plain.Known 𝓤
+          H A W 𝓣 0 ps·15 r·15 (claims· .30) (claims· .31) "node::live_of") (known16 : Plain.Known
+          𝓤 H A W 𝓣 8 ps·16 r·16 (claims· .32) (claims· .33) "finish::finish") → Statement.Triple 𝓤
           (Wp.WpFn 𝓤 H (𝓣 .C) (𝓣 .Λ) (Function.fnOf 6 ps r xs m hs body)) (Function.plainOf 𝓤 H A 6
           ps r Pre· Post·)
 
@@ -30066,7 +30066,7 @@ module _ (claims· : Claims) where
           (W : Kit.Given 𝓤 H A) (𝓣 : Wp.Tables 𝓤 H) where
         abbrev Knowns : Type 1
         Knowns =
-            Plain.Known 𝓤 H A W 𝓣 1 ps·0 r·0 (claims· .0) (claims· .1) "own::whole" ×
+            Plain.Known 𝓤 H A W 𝓣 1 ps·0 r·0 (claims· .0) (claims· .1) "addresses::whole" ×
             Plain.Known 𝓤 H A W 𝓣 0 ps·1 r·1 (claims· .2) (claims· .3) "node::instance_of" ×
             Plain.Known 𝓤 H A W 𝓣 0 ps·2 r·2 (claims· .4) (claims· .5) "node::dodagid_of" ×
             Plain.Known 𝓤 H A W 𝓣 0 ps·3 r·3 (claims· .6) (claims· .7) "node::receiving_of" ×
@@ -30084,7 +30084,7 @@ module _ (claims· : Claims) where
             (claims· .12)
             (claims· .13)
             "request_targets::is_targ_node" ×
-            Plain.Known 𝓤 H A W 𝓣 1 ps·7 r·7 (claims· .14) (claims· .15) "search::free_delta_if" ×
+            Plain.Known 𝓤 H A W 𝓣 1 ps·7 r·7 (claims· .14) (claims· .15) "delta::free_delta_if" ×
             Plain.Known 𝓤 H A W 𝓣 0 ps·8 r·8 (claims· .16) (claims· .17) "request::gather" ×
             Plain.Known 𝓤 H A W 𝓣 1 ps·9 r·9 (claims· .18) (claims· .19) "request_answer::judge" ×
             Plain.Known 𝓤 H A W 𝓣 0 ps·10 r·10 (claims· .20) (claims· .21) "answer::number" ×
@@ -30112,7 +30112,7 @@ module _ (claims· : Claims) where
             r·13
             (claims· .26)
             (claims· .27)
-            "request_sent::forward_post" ×
+            "request_forwarded::forward_post" ×
             Plain.Known
             𝓤
             H
@@ -30124,7 +30124,7 @@ module _ (claims· : Claims) where
             r·14
             (claims· .28)
             (claims· .29)
-            "request_sent::reply_post" ×
+            "request_replied::reply_post" ×
             Plain.Known 𝓤 H A W 𝓣 0 ps·15 r·15 (claims· .30) (claims· .31) "node::live_of" ×
             Plain.Known 𝓤 H A W 𝓣 8 ps·16 r·16 (claims· .32) (claims· .33) "finish::finish"
 
@@ -45205,7 +45205,7 @@ module _ (claims· : Claims) where
               r·14
               (claims· .28)
               (claims· .29)
-              "request_sent::reply_post"
+              "request_replied::reply_post"
               (known .14)
               E
               (λ pos β. β)
@@ -45575,7 +45575,7 @@ module _ (claims· : Claims) where
               r·13
               (claims· .26)
               (claims· .27)
-              "request_sent::forward_post"
+              "request_forwarded::forward_post"
               (known .13)
               E
               (λ pos β. β)
@@ -47462,7 +47462,7 @@ module _ (claims· : Claims) where
               r·7
               (claims· .14)
               (claims· .15)
-              "search::free_delta_if"
+              "delta::free_delta_if"
               (known .7)
               E
               (λ pos β. β)
@@ -49670,7 +49670,7 @@ module _ (claims· : Claims) where
               r·0
               (claims· .0)
               (claims· .1)
-              "own::whole"
+              "addresses::whole"
               (known .0)
               E
               (λ pos β. β)
@@ -52607,7 +52607,18 @@ module _ (claims· : Claims) where
 
         module _ {M : Type 1} (𝓤 : URA.URA M) (H : Wp.Heap 𝓤) (A : Atoms.Atoms 𝓤)
             (W : Kit.Given 𝓤 H A) (𝓣 : Wp.Tables 𝓤 H)
-            (known0 : Plain.Known 𝓤 H A W 𝓣 1 ps·0 r·0 (claims· .0) (claims· .1) "own::whole")
+            (known0 : Plain.Known
+            𝓤
+            H
+            A
+            W
+            𝓣
+            1
+            ps·0
+            r·0
+            (claims· .0)
+            (claims· .1)
+            "addresses::whole")
             (known1 : Plain.Known
             𝓤
             H
@@ -52691,7 +52702,7 @@ module _ (claims· : Claims) where
             r·7
             (claims· .14)
             (claims· .15)
-            "search::free_delta_if")
+            "delta::free_delta_if")
             (known8 : Plain.Known
             𝓤
             H
@@ -52763,7 +52774,7 @@ module _ (claims· : Claims) where
             r·13
             (claims· .26)
             (claims· .27)
-            "request_sent::forward_post")
+            "request_forwarded::forward_post")
             (known14 : Plain.Known
             𝓤
             H
@@ -52775,7 +52786,7 @@ module _ (claims· : Claims) where
             r·14
             (claims· .28)
             (claims· .29)
-            "request_sent::reply_post")
+            "request_replied::reply_post")
             (known15 : Plain.Known
             𝓤
             H

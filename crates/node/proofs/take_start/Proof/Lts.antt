@@ -792,7 +792,7 @@ b2 =
 abbrev b3 : Syntax.Body
 b3 =
     Syntax.call
-    "node::asked_instance"
+    "start::asked_instance"
     (List._∷_ (Syntax.copy (Syntax.place 9 List.[])) List.[])
     (Syntax.place 20 List.[])
 
@@ -16682,7 +16682,7 @@ module _ (claims· : Claims) where
           (𝓤 : URA.URA M) (H : Wp.Heap 𝓤) (A : Atoms.Atoms 𝓤) (W : Kit.Given 𝓤 H A) (𝓣 : Wp.Tables
           𝓤 H) (known0 : Plain.Known 𝓤 H A W 𝓣 0 ps·0 r·0 (claims· .0) (claims· .1)
           "node::receiving_of") (known1 : Plain.Known 𝓤 H A W 𝓣 0 ps·1 r·1 (claims· .2)
-          (claims· .3) "node::asked_instance") (known2 : Plain.Known 𝓤 H A W 𝓣 1 ps·2 r·2
+          (claims· .3) "start::asked_instance") (known2 : Plain.Known 𝓤 H A W 𝓣 1 ps·2 r·2
           (claims· .4) (claims· .5) "search::has_request") (known3 : Plain.Known 𝓤 H A W 𝓣 0 ps·3
           r·3 (claims· .6) (claims· .7) "start::judge") (known4 : Plain.Known 𝓤 H A W 𝓣 0 ps·4 r·4
           (claims· .8) (claims· .9) "answer::number") (known5 : Plain.Known 𝓤 H A W 𝓣 0 ps·5 r·5
@@ -17038,7 +17038,7 @@ module _ (claims· : Claims) where
         abbrev Knowns : Type 1
         Knowns =
             Plain.Known 𝓤 H A W 𝓣 0 ps·0 r·0 (claims· .0) (claims· .1) "node::receiving_of" ×
-            Plain.Known 𝓤 H A W 𝓣 0 ps·1 r·1 (claims· .2) (claims· .3) "node::asked_instance" ×
+            Plain.Known 𝓤 H A W 𝓣 0 ps·1 r·1 (claims· .2) (claims· .3) "start::asked_instance" ×
             Plain.Known 𝓤 H A W 𝓣 1 ps·2 r·2 (claims· .4) (claims· .5) "search::has_request" ×
             Plain.Known 𝓤 H A W 𝓣 0 ps·3 r·3 (claims· .6) (claims· .7) "start::judge" ×
             Plain.Known 𝓤 H A W 𝓣 0 ps·4 r·4 (claims· .8) (claims· .9) "answer::number" ×
@@ -31494,7 +31494,7 @@ module _ (claims· : Claims) where
               r·1
               (claims· .2)
               (claims· .3)
-              "node::asked_instance"
+              "start::asked_instance"
               (known .1)
               E
               (λ pos β. β)
@@ -33957,7 +33957,7 @@ module _ (claims· : Claims) where
             r·1
             (claims· .2)
             (claims· .3)
-            "node::asked_instance")
+            "start::asked_instance")
             (known2 : Plain.Known
             𝓤
             H

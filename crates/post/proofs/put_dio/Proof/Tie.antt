@@ -1,10 +1,10 @@
 -- Made by tools/lend.py of the twin of `put_dio`: do not edit.
-use Rattle.own.proofs.grown_count.Met
-use Rattle.own.proofs.grown_count.Reads
-use Rattle.own.proofs.grown_count.Symbol
-use Rattle.own.proofs.grown_vector.Met as Met'
-use Rattle.own.proofs.grown_vector.Reads as Reads'
-use Rattle.own.proofs.grown_vector.Symbol as Symbol'
+use Rattle.grown.proofs.grown_count.Met
+use Rattle.grown.proofs.grown_count.Reads
+use Rattle.grown.proofs.grown_count.Symbol
+use Rattle.grown.proofs.grown_vector.Met as Met'
+use Rattle.grown.proofs.grown_vector.Reads as Reads'
+use Rattle.grown.proofs.grown_vector.Symbol as Symbol'
 use Rattle.post.proofs.addresses_of.Met as Met''
 use Rattle.post.proofs.addresses_of.Reads as Reads''
 use Rattle.post.proofs.addresses_of.Symbol as Symbol''
@@ -567,14 +567,14 @@ module _ {M : Type 1} where
       Code.env
       Symbol.name
       Symbol.routine
-      Code.calls-own·grown-count
+      Code.calls-grown·grown-count
       (Met.met 𝓤 H 𝓜 𝓖 𝓡))
       (Reads'.known
       record { M = M; 𝓤 = 𝓤; H = H; 𝓜 = 𝓜; 𝓖 = 𝓖; 𝓡 = 𝓡 }
       Code.env
       Symbol'.name
       Symbol'.routine
-      Code.calls-own·grown-vector
+      Code.calls-grown·grown-vector
       (Met'.met 𝓤 H 𝓜 𝓖 𝓡))
       (Reads'5.known
       record { M = M; 𝓤 = 𝓤; H = H; 𝓜 = 𝓜; 𝓖 = 𝓖; 𝓡 = 𝓡 }

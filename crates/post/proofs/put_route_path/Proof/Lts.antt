@@ -206,7 +206,7 @@ b3 =
 abbrev b4 : Syntax.Body
 b4 =
     Syntax.call
-    "writer_octets::reversed"
+    "addresses::reversed"
     (List._∷_
     (Syntax.copy (Syntax.place 4 List.[]))
     (List._∷_ (Syntax.copy (Syntax.place 3 List.[])) List.[]))
@@ -2138,7 +2138,7 @@ module _ (claims· : Claims) where
           𝓤 H) (known0 : Plain.Known 𝓤 H A W 𝓣 0 ps·0 r·0 (claims· .0) (claims· .1)
           "post::addresses_of") (known1 : Plain.Known 𝓤 H A W 𝓣 0 ps·1 r·1 (claims· .2)
           (claims· .3) "post::is_turned") (known2 : Plain.Known 𝓤 H A W 𝓣 1 ps·2 r·2 (claims· .4)
-          (claims· .5) "writer_octets::reversed") (known3 : Plain.Known 𝓤 H A W 𝓣 2 ps·3 r·3
+          (claims· .5) "addresses::reversed") (known3 : Plain.Known 𝓤 H A W 𝓣 2 ps·3 r·3
           (claims· .6) (claims· .7) "writer_octets::put_path") → Statement.Triple 𝓤 (Wp.WpFn 𝓤 H
           (𝓣 .C) (𝓣 .Λ) (Function.fnOf 3 ps r xs m hs body)) (Function.plainOf 𝓤 H A 3 ps r Pre·
           Post·)
@@ -2279,7 +2279,7 @@ module _ (claims· : Claims) where
         Knowns =
             Plain.Known 𝓤 H A W 𝓣 0 ps·0 r·0 (claims· .0) (claims· .1) "post::addresses_of" ×
             Plain.Known 𝓤 H A W 𝓣 0 ps·1 r·1 (claims· .2) (claims· .3) "post::is_turned" ×
-            Plain.Known 𝓤 H A W 𝓣 1 ps·2 r·2 (claims· .4) (claims· .5) "writer_octets::reversed" ×
+            Plain.Known 𝓤 H A W 𝓣 1 ps·2 r·2 (claims· .4) (claims· .5) "addresses::reversed" ×
             Plain.Known 𝓤 H A W 𝓣 2 ps·3 r·3 (claims· .6) (claims· .7) "writer_octets::put_path"
 
       module _ (κs : Lifetimes.Lfts 3) (qs : Lifetimes.Shares 3) where
@@ -4223,7 +4223,7 @@ module _ (claims· : Claims) where
               r·2
               (claims· .4)
               (claims· .5)
-              "writer_octets::reversed"
+              "addresses::reversed"
               (known .2)
               E
               (λ pos β. β)
@@ -6019,7 +6019,7 @@ module _ (claims· : Claims) where
             r·2
             (claims· .4)
             (claims· .5)
-            "writer_octets::reversed")
+            "addresses::reversed")
             (known3 : Plain.Known
             𝓤
             H

@@ -184,7 +184,7 @@ hs =
 abbrev b0 : Syntax.Body
 b0 =
     Syntax.call
-    "search::find_partner"
+    "partner::find_partner"
     (List._∷_
     (Syntax.copy (Syntax.place 1 List.[]))
     (List._∷_
@@ -1389,7 +1389,7 @@ module _ (claims· : Claims) where
       Closed =
           (𝓤 : URA.URA M) (H : Wp.Heap 𝓤) (A : Atoms.Atoms 𝓤) (W : Kit.Given 𝓤 H A) (𝓣 : Wp.Tables
           𝓤 H) (known0 : Plain.Known 𝓤 H A W 𝓣 1 ps·0 r·0 (claims· .0) (claims· .1)
-          "search::find_partner") (known1 : Plain.Known 𝓤 H A W 𝓣 0 ps·1 r·1 (claims· .2)
+          "partner::find_partner") (known1 : Plain.Known 𝓤 H A W 𝓣 0 ps·1 r·1 (claims· .2)
           (claims· .3) "search::found") (known2 : Plain.Known 𝓤 H A W 𝓣 0 ps·2 r·2 (claims· .4)
           (claims· .5) "search::not_found") → Statement.Triple 𝓤 (Wp.WpFn 𝓤 H (𝓣 .C) (𝓣 .Λ)
           (Function.fnOf 1 ps r xs m hs body)) (Function.plainOf 𝓤 H A 1 ps r Pre· Post·)
@@ -1486,7 +1486,7 @@ module _ (claims· : Claims) where
           (W : Kit.Given 𝓤 H A) (𝓣 : Wp.Tables 𝓤 H) where
         abbrev Knowns : Type 1
         Knowns =
-            Plain.Known 𝓤 H A W 𝓣 1 ps·0 r·0 (claims· .0) (claims· .1) "search::find_partner" ×
+            Plain.Known 𝓤 H A W 𝓣 1 ps·0 r·0 (claims· .0) (claims· .1) "partner::find_partner" ×
             Plain.Known 𝓤 H A W 𝓣 0 ps·1 r·1 (claims· .2) (claims· .3) "search::found" ×
             Plain.Known 𝓤 H A W 𝓣 0 ps·2 r·2 (claims· .4) (claims· .5) "search::not_found"
 
@@ -2453,7 +2453,7 @@ module _ (claims· : Claims) where
               r·0
               (claims· .0)
               (claims· .1)
-              "search::find_partner"
+              "partner::find_partner"
               (known .0)
               E
               (λ pos β. β)
@@ -3047,7 +3047,7 @@ module _ (claims· : Claims) where
             r·0
             (claims· .0)
             (claims· .1)
-            "search::find_partner")
+            "partner::find_partner")
             (known1 : Plain.Known 𝓤 H A W 𝓣 0 ps·1 r·1 (claims· .2) (claims· .3) "search::found")
             (known2 : Plain.Known
             𝓤

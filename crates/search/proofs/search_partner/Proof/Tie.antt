@@ -1,7 +1,7 @@
 -- Made by tools/lend.py of the twin of `search_partner`: do not edit.
-use Rattle.search.proofs.find_partner.Met
-use Rattle.search.proofs.Lent.find_partner.Reads
-use Rattle.search.proofs.find_partner.Symbol
+use Rattle.partner.proofs.find_partner.Met
+use Rattle.partner.proofs.Lent.find_partner.Reads
+use Rattle.partner.proofs.find_partner.Symbol
 use Rattle.search.proofs.found.Met as Met'
 use Rattle.search.proofs.found.Reads as Reads'
 use Rattle.search.proofs.found.Symbol as Symbol'
@@ -224,7 +224,7 @@ module _ {M : Type 1} where
       Code.env
       Symbol.name
       Symbol.routine
-      Code.calls-search·find-partner
+      Code.calls-partner·find-partner
       (Met.met 𝓤 H 𝓜 𝓖 𝓡))
       (Reads'.known
       record { M = M; 𝓤 = 𝓤; H = H; 𝓜 = 𝓜; 𝓖 = 𝓖; 𝓡 = 𝓡 }

@@ -1,0 +1,4 @@
+-- how long addresses are
+pub mod Long
+-- turned round
+pub mod Turned

@@ -1,0 +1,2 @@
+pub mod free_delta
+pub mod free_delta_if

@@ -1,4 +1,0 @@
--- what is sent
-pub mod Sends
--- what is stored
-pub mod Outcome

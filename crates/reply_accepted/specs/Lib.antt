@@ -1,2 +1,0 @@
--- the route and the message that it makes
-pub mod Made

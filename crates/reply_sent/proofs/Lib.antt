@@ -1,0 +1,2 @@
+-- what is sent
+pub mod Sends

@@ -1,0 +1,2 @@
+-- what goes on, and which way
+pub mod Goes

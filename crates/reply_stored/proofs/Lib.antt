@@ -1,0 +1,2 @@
+-- what is stored
+pub mod Outcome

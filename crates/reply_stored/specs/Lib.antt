@@ -1,0 +1,2 @@
+-- the route that it makes
+pub mod Made
