@@ -1,13 +1,7 @@
 pub mod call
-pub mod hand_in
-pub mod hand_in_count
 pub mod list
 pub mod message
 pub mod print_call
-pub mod print_routes
-pub mod print_rows
-pub mod put_route
-pub mod put_row
 pub mod serve
 pub mod start
 pub mod tell

@@ -25,14 +25,14 @@ reply-size-requires c = search needs
 buffer-requires-2 : tie.Need-buffer-requires-2
 buffer-requires-2 c = search needs
 
-print-rows-requires : tie.Need-print-rows-requires
-print-rows-requires c = search needs
+rows-requires : tie.Need-rows-requires
+rows-requires c = search needs
 
-print-routes-requires : tie.Need-print-routes-requires
-print-routes-requires c = search needs
+routes-requires : tie.Need-routes-requires
+routes-requires c = search needs
 
 returns : tie.Need-returns
 returns c = search needs
 
 pub print-call-spec : {M : Type 1} → statement M
-print-call-spec = tie.close (tie.spec outcome-requires slice-aggregate-buffer forward-size-requires buffer-requires slice-aggregate-buffer-2 reply-size-requires buffer-requires-2 print-rows-requires print-routes-requires returns)
+print-call-spec = tie.close (tie.spec outcome-requires slice-aggregate-buffer forward-size-requires buffer-requires slice-aggregate-buffer-2 reply-size-requires buffer-requires-2 rows-requires routes-requires returns)

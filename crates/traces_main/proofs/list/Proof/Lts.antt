@@ -6,8 +6,8 @@ use Rattle.tally.proofs.Elem.Tally as KTally
 use Prim.Native.Nat
 use Rattle.own.proofs.Own
 use Rattle.own.proofs.Own.Laws
-use Rattle.traces_main.proofs.input.Head
-use Rattle.traces_main.proofs.input.Head.Laws as Laws'
+use Rattle.trace_input.proofs.Head
+use Rattle.trace_input.proofs.Head.Laws as Laws'
 use borrow.Author.Called
 use borrow.Author.Tests
 use borrow.Fn.Any
@@ -93,21 +93,7 @@ xs =
     (List._∷_
     101
     (List._∷_
-    115
-    (List._∷_
     95
-    (List._∷_
-    109
-    (List._∷_
-    97
-    (List._∷_
-    105
-    (List._∷_
-    110
-    (List._∷_
-    58
-    (List._∷_
-    58
     (List._∷_
     105
     (List._∷_
@@ -120,9 +106,7 @@ xs =
     116
     (List._∷_
     58
-    (List._∷_
-    58
-    (List._∷_ 72 (List._∷_ 101 (List._∷_ 97 (List._∷_ 100 List.[]))))))))))))))))))))))))
+    (List._∷_ 58 (List._∷_ 72 (List._∷_ 101 (List._∷_ 97 (List._∷_ 100 List.[])))))))))))))))))
     (Syntax.tcons (Syntax.tyInt Syntax.w8) (Syntax.tcons (Syntax.tyInt Syntax.w64) Syntax.tnil)))
     (List._∷_
     (Syntax.tyInt Syntax.w64)
@@ -429,7 +413,7 @@ b4 =
 abbrev b5 : Syntax.Body
 b5 =
     Syntax.call
-    "traces_main::input::read_record"
+    "trace_input::read_record"
     (List._∷_ (Syntax.copy (Syntax.place 11 List.[])) List.[])
     (Syntax.place 3 List.[])
 
@@ -472,7 +456,7 @@ b13 =
 abbrev b14 : Syntax.Body
 b14 =
     Syntax.call
-    "traces_main::input::rows_at"
+    "trace_input::rows_at"
     (List._∷_
     (Syntax.copy (Syntax.place 14 List.[]))
     (List._∷_ (Syntax.int Syntax.w64 32) List.[]))
@@ -493,14 +477,14 @@ b16 =
 abbrev b17 : Syntax.Body
 b17 =
     Syntax.call
-    "traces_main::input::rows_at"
+    "trace_input::rows_at"
     (List._∷_
     (Syntax.copy (Syntax.place 16 List.[]))
     (List._∷_ (Syntax.int Syntax.w64 34) List.[]))
     (Syntax.place 5 List.[])
 
 abbrev b18 : Syntax.Body
-b18 = Syntax.call "traces_main::no_row" List.[] (Syntax.place 17 List.[])
+b18 = Syntax.call "trace_input::no_row" List.[] (Syntax.place 17 List.[])
 
 abbrev b19 : Syntax.Body
 b19 =
@@ -509,7 +493,7 @@ b19 =
     (Syntax.repeat (Syntax.copy (Syntax.place 17 List.[])) 80)
 
 abbrev b20 : Syntax.Body
-b20 = Syntax.call "traces_main::no_route" List.[] (Syntax.place 18 List.[])
+b20 = Syntax.call "trace_input::no_route" List.[] (Syntax.place 18 List.[])
 
 abbrev b21 : Syntax.Body
 b21 =
@@ -532,14 +516,14 @@ b23 =
 abbrev b24 : Syntax.Body
 b24 =
     Syntax.call
-    "traces_main::print::words"
+    "trace_print::words"
     (List._∷_ (Syntax.copy (Syntax.place 21 List.[])) List.[])
     (Syntax.place 19 List.[])
 
 abbrev b25 : Syntax.Body
 b25 =
     Syntax.call
-    "traces_main::print::decimal"
+    "trace_print::decimal"
     (List._∷_ (Syntax.copy (Syntax.place 1 List.[])) List.[])
     (Syntax.place 19 List.[])
 
@@ -558,7 +542,7 @@ b27 =
 abbrev b28 : Syntax.Body
 b28 =
     Syntax.call
-    "traces_main::print::words"
+    "trace_print::words"
     (List._∷_ (Syntax.copy (Syntax.place 23 List.[])) List.[])
     (Syntax.place 19 List.[])
 
@@ -601,7 +585,7 @@ b34 =
 abbrev b35 : Syntax.Body
 b35 =
     Syntax.call
-    "traces_main::input::own_at"
+    "trace_input::own_at"
     (List._∷_ (Syntax.copy (Syntax.place 30 List.[])) List.[])
     (Syntax.place 28 List.[])
 
@@ -765,21 +749,7 @@ t0 = List._∷_ (0, Rows'.any-gone Syntax.tyBool) (List._∷_ (
       (List._∷_
       101
       (List._∷_
-      115
-      (List._∷_
       95
-      (List._∷_
-      109
-      (List._∷_
-      97
-      (List._∷_
-      105
-      (List._∷_
-      110
-      (List._∷_
-      58
-      (List._∷_
-      58
       (List._∷_
       105
       (List._∷_
@@ -792,9 +762,7 @@ t0 = List._∷_ (0, Rows'.any-gone Syntax.tyBool) (List._∷_ (
       116
       (List._∷_
       58
-      (List._∷_
-      58
-      (List._∷_ 72 (List._∷_ 101 (List._∷_ 97 (List._∷_ 100 List.[]))))))))))))))))))))))))
+      (List._∷_ 58 (List._∷_ 72 (List._∷_ 101 (List._∷_ 97 (List._∷_ 100 List.[])))))))))))))))))
       (Syntax.tcons (Syntax.tyInt Syntax.w8) (Syntax.tcons (Syntax.tyInt Syntax.w64) Syntax.tnil))),
 ) (List._∷_ (4, Rows'.any-gone (Syntax.tyInt Syntax.w64)) (List._∷_ (
   5,
@@ -952,21 +920,7 @@ t2 = List._∷_ (0, Rows'.sc-here Row.sBool) (List._∷_ (
       (List._∷_
       101
       (List._∷_
-      115
-      (List._∷_
       95
-      (List._∷_
-      109
-      (List._∷_
-      97
-      (List._∷_
-      105
-      (List._∷_
-      110
-      (List._∷_
-      58
-      (List._∷_
-      58
       (List._∷_
       105
       (List._∷_
@@ -979,9 +933,7 @@ t2 = List._∷_ (0, Rows'.sc-here Row.sBool) (List._∷_ (
       116
       (List._∷_
       58
-      (List._∷_
-      58
-      (List._∷_ 72 (List._∷_ 101 (List._∷_ 97 (List._∷_ 100 List.[]))))))))))))))))))))))))
+      (List._∷_ 58 (List._∷_ 72 (List._∷_ 101 (List._∷_ 97 (List._∷_ 100 List.[])))))))))))))))))
       (Syntax.tcons (Syntax.tyInt Syntax.w8) (Syntax.tcons (Syntax.tyInt Syntax.w64) Syntax.tnil))),
 ) (List._∷_ (4, Rows'.any-gone (Syntax.tyInt Syntax.w64)) (List._∷_ (
   5,
@@ -1045,21 +997,7 @@ t3 = List._∷_ (0, Rows'.any-gone Syntax.tyBool) (List._∷_ (
       (List._∷_
       101
       (List._∷_
-      115
-      (List._∷_
       95
-      (List._∷_
-      109
-      (List._∷_
-      97
-      (List._∷_
-      105
-      (List._∷_
-      110
-      (List._∷_
-      58
-      (List._∷_
-      58
       (List._∷_
       105
       (List._∷_
@@ -1072,9 +1010,7 @@ t3 = List._∷_ (0, Rows'.any-gone Syntax.tyBool) (List._∷_ (
       116
       (List._∷_
       58
-      (List._∷_
-      58
-      (List._∷_ 72 (List._∷_ 101 (List._∷_ 97 (List._∷_ 100 List.[]))))))))))))))))))))))))
+      (List._∷_ 58 (List._∷_ 72 (List._∷_ 101 (List._∷_ 97 (List._∷_ 100 List.[])))))))))))))))))
       (Syntax.tcons (Syntax.tyInt Syntax.w8) (Syntax.tcons (Syntax.tyInt Syntax.w64) Syntax.tnil))),
 ) (List._∷_ (4, Rows'.any-gone (Syntax.tyInt Syntax.w64)) (List._∷_ (
   5,
@@ -1138,21 +1074,7 @@ t4 = List._∷_ (0, Rows'.any-gone Syntax.tyBool) (List._∷_ (
       (List._∷_
       101
       (List._∷_
-      115
-      (List._∷_
       95
-      (List._∷_
-      109
-      (List._∷_
-      97
-      (List._∷_
-      105
-      (List._∷_
-      110
-      (List._∷_
-      58
-      (List._∷_
-      58
       (List._∷_
       105
       (List._∷_
@@ -1165,9 +1087,7 @@ t4 = List._∷_ (0, Rows'.any-gone Syntax.tyBool) (List._∷_ (
       116
       (List._∷_
       58
-      (List._∷_
-      58
-      (List._∷_ 72 (List._∷_ 101 (List._∷_ 97 (List._∷_ 100 List.[]))))))))))))))))))))))))
+      (List._∷_ 58 (List._∷_ 72 (List._∷_ 101 (List._∷_ 97 (List._∷_ 100 List.[])))))))))))))))))
       (Syntax.tcons (Syntax.tyInt Syntax.w8) (Syntax.tcons (Syntax.tyInt Syntax.w64) Syntax.tnil))),
 ) (List._∷_ (4, Rows'.any-gone (Syntax.tyInt Syntax.w64)) (List._∷_ (
   5,
@@ -1231,21 +1151,7 @@ t5 = List._∷_ (0, Rows'.any-gone Syntax.tyBool) (List._∷_ (
       (List._∷_
       101
       (List._∷_
-      115
-      (List._∷_
       95
-      (List._∷_
-      109
-      (List._∷_
-      97
-      (List._∷_
-      105
-      (List._∷_
-      110
-      (List._∷_
-      58
-      (List._∷_
-      58
       (List._∷_
       105
       (List._∷_
@@ -1258,9 +1164,7 @@ t5 = List._∷_ (0, Rows'.any-gone Syntax.tyBool) (List._∷_ (
       116
       (List._∷_
       58
-      (List._∷_
-      58
-      (List._∷_ 72 (List._∷_ 101 (List._∷_ 97 (List._∷_ 100 List.[]))))))))))))))))))))))))
+      (List._∷_ 58 (List._∷_ 72 (List._∷_ 101 (List._∷_ 97 (List._∷_ 100 List.[])))))))))))))))))
       (Syntax.tcons (Syntax.tyInt Syntax.w8) (Syntax.tcons (Syntax.tyInt Syntax.w64) Syntax.tnil))),
 ) (List._∷_ (4, Rows'.any-gone (Syntax.tyInt Syntax.w64)) (List._∷_ (
   5,
@@ -1324,21 +1228,7 @@ t6 = List._∷_ (0, Rows'.any-gone Syntax.tyBool) (List._∷_ (
       (List._∷_
       101
       (List._∷_
-      115
-      (List._∷_
       95
-      (List._∷_
-      109
-      (List._∷_
-      97
-      (List._∷_
-      105
-      (List._∷_
-      110
-      (List._∷_
-      58
-      (List._∷_
-      58
       (List._∷_
       105
       (List._∷_
@@ -1351,9 +1241,7 @@ t6 = List._∷_ (0, Rows'.any-gone Syntax.tyBool) (List._∷_ (
       116
       (List._∷_
       58
-      (List._∷_
-      58
-      (List._∷_ 72 (List._∷_ 101 (List._∷_ 97 (List._∷_ 100 List.[]))))))))))))))))))))))))
+      (List._∷_ 58 (List._∷_ 72 (List._∷_ 101 (List._∷_ 97 (List._∷_ 100 List.[])))))))))))))))))
       (Syntax.tcons (Syntax.tyInt Syntax.w8) (Syntax.tcons (Syntax.tyInt Syntax.w64) Syntax.tnil))),
 ) (List._∷_ (4, Rows'.any-gone (Syntax.tyInt Syntax.w64)) (List._∷_ (
   5,
@@ -1420,21 +1308,7 @@ t7 = List._∷_ (0, Rows'.any-gone Syntax.tyBool) (List._∷_ (
           (List._∷_
           101
           (List._∷_
-          115
-          (List._∷_
           95
-          (List._∷_
-          109
-          (List._∷_
-          97
-          (List._∷_
-          105
-          (List._∷_
-          110
-          (List._∷_
-          58
-          (List._∷_
-          58
           (List._∷_
           105
           (List._∷_
@@ -1449,7 +1323,7 @@ t7 = List._∷_ (0, Rows'.any-gone Syntax.tyBool) (List._∷_ (
           58
           (List._∷_
           58
-          (List._∷_ 72 (List._∷_ 101 (List._∷_ 97 (List._∷_ 100 List.[]))))))))))))))))))))))))
+          (List._∷_ 72 (List._∷_ 101 (List._∷_ 97 (List._∷_ 100 List.[])))))))))))))))))
           (Syntax.tcons
           (Syntax.tyInt Syntax.w8)
           (Syntax.tcons (Syntax.tyInt Syntax.w64) Syntax.tnil))),
@@ -1514,21 +1388,7 @@ t8 = List._∷_ (0, Rows'.any-gone Syntax.tyBool) (List._∷_ (
       (List._∷_
       101
       (List._∷_
-      115
-      (List._∷_
       95
-      (List._∷_
-      109
-      (List._∷_
-      97
-      (List._∷_
-      105
-      (List._∷_
-      110
-      (List._∷_
-      58
-      (List._∷_
-      58
       (List._∷_
       105
       (List._∷_
@@ -1541,9 +1401,7 @@ t8 = List._∷_ (0, Rows'.any-gone Syntax.tyBool) (List._∷_ (
       116
       (List._∷_
       58
-      (List._∷_
-      58
-      (List._∷_ 72 (List._∷_ 101 (List._∷_ 97 (List._∷_ 100 List.[]))))))))))))))))))))))))
+      (List._∷_ 58 (List._∷_ 72 (List._∷_ 101 (List._∷_ 97 (List._∷_ 100 List.[])))))))))))))))))
       (Syntax.tcons (Syntax.tyInt Syntax.w8) (Syntax.tcons (Syntax.tyInt Syntax.w64) Syntax.tnil))),
 ) (List._∷_ (4, Rows'.any-gone (Syntax.tyInt Syntax.w64)) (List._∷_ (
   5,
@@ -1607,21 +1465,7 @@ t9 = List._∷_ (0, Rows'.any-gone Syntax.tyBool) (List._∷_ (
       (List._∷_
       101
       (List._∷_
-      115
-      (List._∷_
       95
-      (List._∷_
-      109
-      (List._∷_
-      97
-      (List._∷_
-      105
-      (List._∷_
-      110
-      (List._∷_
-      58
-      (List._∷_
-      58
       (List._∷_
       105
       (List._∷_
@@ -1634,9 +1478,7 @@ t9 = List._∷_ (0, Rows'.any-gone Syntax.tyBool) (List._∷_ (
       116
       (List._∷_
       58
-      (List._∷_
-      58
-      (List._∷_ 72 (List._∷_ 101 (List._∷_ 97 (List._∷_ 100 List.[]))))))))))))))))))))))))
+      (List._∷_ 58 (List._∷_ 72 (List._∷_ 101 (List._∷_ 97 (List._∷_ 100 List.[])))))))))))))))))
       (Syntax.tcons (Syntax.tyInt Syntax.w8) (Syntax.tcons (Syntax.tyInt Syntax.w64) Syntax.tnil))),
 ) (List._∷_ (4, Rows'.any-gone (Syntax.tyInt Syntax.w64)) (List._∷_ (
   5,
@@ -1702,21 +1544,7 @@ t10 = List._∷_ (0, Rows'.any-gone Syntax.tyBool) (List._∷_ (
       (List._∷_
       101
       (List._∷_
-      115
-      (List._∷_
       95
-      (List._∷_
-      109
-      (List._∷_
-      97
-      (List._∷_
-      105
-      (List._∷_
-      110
-      (List._∷_
-      58
-      (List._∷_
-      58
       (List._∷_
       105
       (List._∷_
@@ -1729,9 +1557,7 @@ t10 = List._∷_ (0, Rows'.any-gone Syntax.tyBool) (List._∷_ (
       116
       (List._∷_
       58
-      (List._∷_
-      58
-      (List._∷_ 72 (List._∷_ 101 (List._∷_ 97 (List._∷_ 100 List.[]))))))))))))))))))))))))
+      (List._∷_ 58 (List._∷_ 72 (List._∷_ 101 (List._∷_ 97 (List._∷_ 100 List.[])))))))))))))))))
       (Syntax.tcons (Syntax.tyInt Syntax.w8) (Syntax.tcons (Syntax.tyInt Syntax.w64) Syntax.tnil))),
 ) (List._∷_ (4, Rows'.any-gone (Syntax.tyInt Syntax.w64)) (List._∷_ (
   5,
@@ -1940,21 +1766,7 @@ t14 = List._∷_ (0, Rows'.any-gone Syntax.tyBool) (List._∷_ (
       (List._∷_
       101
       (List._∷_
-      115
-      (List._∷_
       95
-      (List._∷_
-      109
-      (List._∷_
-      97
-      (List._∷_
-      105
-      (List._∷_
-      110
-      (List._∷_
-      58
-      (List._∷_
-      58
       (List._∷_
       105
       (List._∷_
@@ -1967,9 +1779,7 @@ t14 = List._∷_ (0, Rows'.any-gone Syntax.tyBool) (List._∷_ (
       116
       (List._∷_
       58
-      (List._∷_
-      58
-      (List._∷_ 72 (List._∷_ 101 (List._∷_ 97 (List._∷_ 100 List.[]))))))))))))))))))))))))
+      (List._∷_ 58 (List._∷_ 72 (List._∷_ 101 (List._∷_ 97 (List._∷_ 100 List.[])))))))))))))))))
       (Syntax.tcons (Syntax.tyInt Syntax.w8) (Syntax.tcons (Syntax.tyInt Syntax.w64) Syntax.tnil))),
 ) (List._∷_ (4, Rows'.any-gone (Syntax.tyInt Syntax.w64)) (List._∷_ (
   5,
@@ -2033,21 +1843,7 @@ t15 = List._∷_ (0, Rows'.any-gone Syntax.tyBool) (List._∷_ (
       (List._∷_
       101
       (List._∷_
-      115
-      (List._∷_
       95
-      (List._∷_
-      109
-      (List._∷_
-      97
-      (List._∷_
-      105
-      (List._∷_
-      110
-      (List._∷_
-      58
-      (List._∷_
-      58
       (List._∷_
       105
       (List._∷_
@@ -2060,9 +1856,7 @@ t15 = List._∷_ (0, Rows'.any-gone Syntax.tyBool) (List._∷_ (
       116
       (List._∷_
       58
-      (List._∷_
-      58
-      (List._∷_ 72 (List._∷_ 101 (List._∷_ 97 (List._∷_ 100 List.[]))))))))))))))))))))))))
+      (List._∷_ 58 (List._∷_ 72 (List._∷_ 101 (List._∷_ 97 (List._∷_ 100 List.[])))))))))))))))))
       (Syntax.tcons (Syntax.tyInt Syntax.w8) (Syntax.tcons (Syntax.tyInt Syntax.w64) Syntax.tnil))),
 ) (List._∷_ (4, Rows'.any-gone (Syntax.tyInt Syntax.w64)) (List._∷_ (
   5,
@@ -2126,21 +1920,7 @@ t16 = List._∷_ (0, Rows'.any-gone Syntax.tyBool) (List._∷_ (
       (List._∷_
       101
       (List._∷_
-      115
-      (List._∷_
       95
-      (List._∷_
-      109
-      (List._∷_
-      97
-      (List._∷_
-      105
-      (List._∷_
-      110
-      (List._∷_
-      58
-      (List._∷_
-      58
       (List._∷_
       105
       (List._∷_
@@ -2153,9 +1933,7 @@ t16 = List._∷_ (0, Rows'.any-gone Syntax.tyBool) (List._∷_ (
       116
       (List._∷_
       58
-      (List._∷_
-      58
-      (List._∷_ 72 (List._∷_ 101 (List._∷_ 97 (List._∷_ 100 List.[]))))))))))))))))))))))))
+      (List._∷_ 58 (List._∷_ 72 (List._∷_ 101 (List._∷_ 97 (List._∷_ 100 List.[])))))))))))))))))
       (Syntax.tcons (Syntax.tyInt Syntax.w8) (Syntax.tcons (Syntax.tyInt Syntax.w64) Syntax.tnil))),
 ) (List._∷_ (4, Rows'.any-gone (Syntax.tyInt Syntax.w64)) (List._∷_ (
   5,
@@ -2219,21 +1997,7 @@ t17 = List._∷_ (0, Rows'.any-gone Syntax.tyBool) (List._∷_ (
       (List._∷_
       101
       (List._∷_
-      115
-      (List._∷_
       95
-      (List._∷_
-      109
-      (List._∷_
-      97
-      (List._∷_
-      105
-      (List._∷_
-      110
-      (List._∷_
-      58
-      (List._∷_
-      58
       (List._∷_
       105
       (List._∷_
@@ -2246,9 +2010,7 @@ t17 = List._∷_ (0, Rows'.any-gone Syntax.tyBool) (List._∷_ (
       116
       (List._∷_
       58
-      (List._∷_
-      58
-      (List._∷_ 72 (List._∷_ 101 (List._∷_ 97 (List._∷_ 100 List.[]))))))))))))))))))))))))
+      (List._∷_ 58 (List._∷_ 72 (List._∷_ 101 (List._∷_ 97 (List._∷_ 100 List.[])))))))))))))))))
       (Syntax.tcons (Syntax.tyInt Syntax.w8) (Syntax.tcons (Syntax.tyInt Syntax.w64) Syntax.tnil))),
 ) (List._∷_ (4, Rows'.any-gone (Syntax.tyInt Syntax.w64)) (List._∷_ (
   5,
@@ -2315,21 +2077,7 @@ t18 =
           (List._∷_
           101
           (List._∷_
-          115
-          (List._∷_
           95
-          (List._∷_
-          109
-          (List._∷_
-          97
-          (List._∷_
-          105
-          (List._∷_
-          110
-          (List._∷_
-          58
-          (List._∷_
-          58
           (List._∷_
           105
           (List._∷_
@@ -2344,7 +2092,7 @@ t18 =
           58
           (List._∷_
           58
-          (List._∷_ 72 (List._∷_ 101 (List._∷_ 97 (List._∷_ 100 List.[]))))))))))))))))))))))))
+          (List._∷_ 72 (List._∷_ 101 (List._∷_ 97 (List._∷_ 100 List.[])))))))))))))))))
           (Syntax.tcons
           (Syntax.tyInt Syntax.w8)
           (Syntax.tcons (Syntax.tyInt Syntax.w64) Syntax.tnil))),
@@ -2409,21 +2157,7 @@ t19 = List._∷_ (0, Rows'.any-gone Syntax.tyBool) (List._∷_ (
       (List._∷_
       101
       (List._∷_
-      115
-      (List._∷_
       95
-      (List._∷_
-      109
-      (List._∷_
-      97
-      (List._∷_
-      105
-      (List._∷_
-      110
-      (List._∷_
-      58
-      (List._∷_
-      58
       (List._∷_
       105
       (List._∷_
@@ -2436,9 +2170,7 @@ t19 = List._∷_ (0, Rows'.any-gone Syntax.tyBool) (List._∷_ (
       116
       (List._∷_
       58
-      (List._∷_
-      58
-      (List._∷_ 72 (List._∷_ 101 (List._∷_ 97 (List._∷_ 100 List.[]))))))))))))))))))))))))
+      (List._∷_ 58 (List._∷_ 72 (List._∷_ 101 (List._∷_ 97 (List._∷_ 100 List.[])))))))))))))))))
       (Syntax.tcons (Syntax.tyInt Syntax.w8) (Syntax.tcons (Syntax.tyInt Syntax.w64) Syntax.tnil))),
 ) (List._∷_ (4, Rows'.any-gone (Syntax.tyInt Syntax.w64)) (List._∷_ (
   5,
@@ -2504,21 +2236,7 @@ t20 = List._∷_ (0, Rows'.any-gone Syntax.tyBool) (List._∷_ (
       (List._∷_
       101
       (List._∷_
-      115
-      (List._∷_
       95
-      (List._∷_
-      109
-      (List._∷_
-      97
-      (List._∷_
-      105
-      (List._∷_
-      110
-      (List._∷_
-      58
-      (List._∷_
-      58
       (List._∷_
       105
       (List._∷_
@@ -2531,9 +2249,7 @@ t20 = List._∷_ (0, Rows'.any-gone Syntax.tyBool) (List._∷_ (
       116
       (List._∷_
       58
-      (List._∷_
-      58
-      (List._∷_ 72 (List._∷_ 101 (List._∷_ 97 (List._∷_ 100 List.[]))))))))))))))))))))))))
+      (List._∷_ 58 (List._∷_ 72 (List._∷_ 101 (List._∷_ 97 (List._∷_ 100 List.[])))))))))))))))))
       (Syntax.tcons (Syntax.tyInt Syntax.w8) (Syntax.tcons (Syntax.tyInt Syntax.w64) Syntax.tnil))),
 ) (List._∷_ (4, Rows'.any-gone (Syntax.tyInt Syntax.w64)) (List._∷_ (
   5,
@@ -2595,21 +2311,7 @@ t21 = List._∷_ (0, Rows'.any-gone Syntax.tyBool) (List._∷_ (
       (List._∷_
       101
       (List._∷_
-      115
-      (List._∷_
       95
-      (List._∷_
-      109
-      (List._∷_
-      97
-      (List._∷_
-      105
-      (List._∷_
-      110
-      (List._∷_
-      58
-      (List._∷_
-      58
       (List._∷_
       105
       (List._∷_
@@ -2622,9 +2324,7 @@ t21 = List._∷_ (0, Rows'.any-gone Syntax.tyBool) (List._∷_ (
       116
       (List._∷_
       58
-      (List._∷_
-      58
-      (List._∷_ 72 (List._∷_ 101 (List._∷_ 97 (List._∷_ 100 List.[]))))))))))))))))))))))))
+      (List._∷_ 58 (List._∷_ 72 (List._∷_ 101 (List._∷_ 97 (List._∷_ 100 List.[])))))))))))))))))
       (Syntax.tcons (Syntax.tyInt Syntax.w8) (Syntax.tcons (Syntax.tyInt Syntax.w64) Syntax.tnil))),
 ) (List._∷_ (4, Rows'.sc-here (Row.sInt Syntax.w64)) (List._∷_ (
   5,
@@ -2686,21 +2386,7 @@ t22 = List._∷_ (0, Rows'.any-gone Syntax.tyBool) (List._∷_ (
       (List._∷_
       101
       (List._∷_
-      115
-      (List._∷_
       95
-      (List._∷_
-      109
-      (List._∷_
-      97
-      (List._∷_
-      105
-      (List._∷_
-      110
-      (List._∷_
-      58
-      (List._∷_
-      58
       (List._∷_
       105
       (List._∷_
@@ -2713,9 +2399,7 @@ t22 = List._∷_ (0, Rows'.any-gone Syntax.tyBool) (List._∷_ (
       116
       (List._∷_
       58
-      (List._∷_
-      58
-      (List._∷_ 72 (List._∷_ 101 (List._∷_ 97 (List._∷_ 100 List.[]))))))))))))))))))))))))
+      (List._∷_ 58 (List._∷_ 72 (List._∷_ 101 (List._∷_ 97 (List._∷_ 100 List.[])))))))))))))))))
       (Syntax.tcons (Syntax.tyInt Syntax.w8) (Syntax.tcons (Syntax.tyInt Syntax.w64) Syntax.tnil))),
 ) (List._∷_ (4, Rows'.sc-here (Row.sInt Syntax.w64)) (List._∷_ (
   5,
@@ -2779,21 +2463,7 @@ t23 = List._∷_ (0, Rows'.any-gone Syntax.tyBool) (List._∷_ (
       (List._∷_
       101
       (List._∷_
-      115
-      (List._∷_
       95
-      (List._∷_
-      109
-      (List._∷_
-      97
-      (List._∷_
-      105
-      (List._∷_
-      110
-      (List._∷_
-      58
-      (List._∷_
-      58
       (List._∷_
       105
       (List._∷_
@@ -2806,9 +2476,7 @@ t23 = List._∷_ (0, Rows'.any-gone Syntax.tyBool) (List._∷_ (
       116
       (List._∷_
       58
-      (List._∷_
-      58
-      (List._∷_ 72 (List._∷_ 101 (List._∷_ 97 (List._∷_ 100 List.[]))))))))))))))))))))))))
+      (List._∷_ 58 (List._∷_ 72 (List._∷_ 101 (List._∷_ 97 (List._∷_ 100 List.[])))))))))))))))))
       (Syntax.tcons (Syntax.tyInt Syntax.w8) (Syntax.tcons (Syntax.tyInt Syntax.w64) Syntax.tnil))),
 ) (List._∷_ (4, Rows'.sc-here (Row.sInt Syntax.w64)) (List._∷_ (
   5,
@@ -2872,21 +2540,7 @@ t24 = List._∷_ (0, Rows'.any-gone Syntax.tyBool) (List._∷_ (
       (List._∷_
       101
       (List._∷_
-      115
-      (List._∷_
       95
-      (List._∷_
-      109
-      (List._∷_
-      97
-      (List._∷_
-      105
-      (List._∷_
-      110
-      (List._∷_
-      58
-      (List._∷_
-      58
       (List._∷_
       105
       (List._∷_
@@ -2899,9 +2553,7 @@ t24 = List._∷_ (0, Rows'.any-gone Syntax.tyBool) (List._∷_ (
       116
       (List._∷_
       58
-      (List._∷_
-      58
-      (List._∷_ 72 (List._∷_ 101 (List._∷_ 97 (List._∷_ 100 List.[]))))))))))))))))))))))))
+      (List._∷_ 58 (List._∷_ 72 (List._∷_ 101 (List._∷_ 97 (List._∷_ 100 List.[])))))))))))))))))
       (Syntax.tcons (Syntax.tyInt Syntax.w8) (Syntax.tcons (Syntax.tyInt Syntax.w64) Syntax.tnil))),
 ) (List._∷_ (4, Rows'.sc-here (Row.sInt Syntax.w64)) (List._∷_ (
   5,
@@ -2967,21 +2619,7 @@ t25 = List._∷_ (0, Rows'.any-gone Syntax.tyBool) (List._∷_ (
       (List._∷_
       101
       (List._∷_
-      115
-      (List._∷_
       95
-      (List._∷_
-      109
-      (List._∷_
-      97
-      (List._∷_
-      105
-      (List._∷_
-      110
-      (List._∷_
-      58
-      (List._∷_
-      58
       (List._∷_
       105
       (List._∷_
@@ -2994,9 +2632,7 @@ t25 = List._∷_ (0, Rows'.any-gone Syntax.tyBool) (List._∷_ (
       116
       (List._∷_
       58
-      (List._∷_
-      58
-      (List._∷_ 72 (List._∷_ 101 (List._∷_ 97 (List._∷_ 100 List.[]))))))))))))))))))))))))
+      (List._∷_ 58 (List._∷_ 72 (List._∷_ 101 (List._∷_ 97 (List._∷_ 100 List.[])))))))))))))))))
       (Syntax.tcons (Syntax.tyInt Syntax.w8) (Syntax.tcons (Syntax.tyInt Syntax.w64) Syntax.tnil))),
 ) (List._∷_ (4, Rows'.sc-here (Row.sInt Syntax.w64)) (List._∷_ (
   5,
@@ -3152,21 +2788,7 @@ t27 = List._∷_ (0, Rows'.any-gone Syntax.tyBool) (List._∷_ (
       (List._∷_
       101
       (List._∷_
-      115
-      (List._∷_
       95
-      (List._∷_
-      109
-      (List._∷_
-      97
-      (List._∷_
-      105
-      (List._∷_
-      110
-      (List._∷_
-      58
-      (List._∷_
-      58
       (List._∷_
       105
       (List._∷_
@@ -3179,9 +2801,7 @@ t27 = List._∷_ (0, Rows'.any-gone Syntax.tyBool) (List._∷_ (
       116
       (List._∷_
       58
-      (List._∷_
-      58
-      (List._∷_ 72 (List._∷_ 101 (List._∷_ 97 (List._∷_ 100 List.[]))))))))))))))))))))))))
+      (List._∷_ 58 (List._∷_ 72 (List._∷_ 101 (List._∷_ 97 (List._∷_ 100 List.[])))))))))))))))))
       (Syntax.tcons (Syntax.tyInt Syntax.w8) (Syntax.tcons (Syntax.tyInt Syntax.w64) Syntax.tnil))),
 ) (List._∷_ (4, Rows'.sc-here (Row.sInt Syntax.w64)) (List._∷_ (
   5,
@@ -3245,21 +2865,7 @@ t28 = List._∷_ (0, Rows'.any-gone Syntax.tyBool) (List._∷_ (
       (List._∷_
       101
       (List._∷_
-      115
-      (List._∷_
       95
-      (List._∷_
-      109
-      (List._∷_
-      97
-      (List._∷_
-      105
-      (List._∷_
-      110
-      (List._∷_
-      58
-      (List._∷_
-      58
       (List._∷_
       105
       (List._∷_
@@ -3272,9 +2878,7 @@ t28 = List._∷_ (0, Rows'.any-gone Syntax.tyBool) (List._∷_ (
       116
       (List._∷_
       58
-      (List._∷_
-      58
-      (List._∷_ 72 (List._∷_ 101 (List._∷_ 97 (List._∷_ 100 List.[]))))))))))))))))))))))))
+      (List._∷_ 58 (List._∷_ 72 (List._∷_ 101 (List._∷_ 97 (List._∷_ 100 List.[])))))))))))))))))
       (Syntax.tcons (Syntax.tyInt Syntax.w8) (Syntax.tcons (Syntax.tyInt Syntax.w64) Syntax.tnil))),
 ) (List._∷_ (4, Rows'.sc-here (Row.sInt Syntax.w64)) (List._∷_ (
   5,
@@ -3432,21 +3036,7 @@ t30 = List._∷_ (0, Rows'.any-gone Syntax.tyBool) (List._∷_ (
       (List._∷_
       101
       (List._∷_
-      115
-      (List._∷_
       95
-      (List._∷_
-      109
-      (List._∷_
-      97
-      (List._∷_
-      105
-      (List._∷_
-      110
-      (List._∷_
-      58
-      (List._∷_
-      58
       (List._∷_
       105
       (List._∷_
@@ -3459,9 +3049,7 @@ t30 = List._∷_ (0, Rows'.any-gone Syntax.tyBool) (List._∷_ (
       116
       (List._∷_
       58
-      (List._∷_
-      58
-      (List._∷_ 72 (List._∷_ 101 (List._∷_ 97 (List._∷_ 100 List.[]))))))))))))))))))))))))
+      (List._∷_ 58 (List._∷_ 72 (List._∷_ 101 (List._∷_ 97 (List._∷_ 100 List.[])))))))))))))))))
       (Syntax.tcons (Syntax.tyInt Syntax.w8) (Syntax.tcons (Syntax.tyInt Syntax.w64) Syntax.tnil))),
 ) (List._∷_ (4, Rows'.sc-here (Row.sInt Syntax.w64)) (List._∷_ (
   5,
@@ -3524,21 +3112,7 @@ t31 = List._∷_ (0, Rows'.any-gone Syntax.tyBool) (List._∷_ (
       (List._∷_
       101
       (List._∷_
-      115
-      (List._∷_
       95
-      (List._∷_
-      109
-      (List._∷_
-      97
-      (List._∷_
-      105
-      (List._∷_
-      110
-      (List._∷_
-      58
-      (List._∷_
-      58
       (List._∷_
       105
       (List._∷_
@@ -3551,9 +3125,7 @@ t31 = List._∷_ (0, Rows'.any-gone Syntax.tyBool) (List._∷_ (
       116
       (List._∷_
       58
-      (List._∷_
-      58
-      (List._∷_ 72 (List._∷_ 101 (List._∷_ 97 (List._∷_ 100 List.[]))))))))))))))))))))))))
+      (List._∷_ 58 (List._∷_ 72 (List._∷_ 101 (List._∷_ 97 (List._∷_ 100 List.[])))))))))))))))))
       (Syntax.tcons (Syntax.tyInt Syntax.w8) (Syntax.tcons (Syntax.tyInt Syntax.w64) Syntax.tnil))),
 ) (List._∷_ (4, Rows'.sc-here (Row.sInt Syntax.w64)) (List._∷_ (
   5,
@@ -3709,21 +3281,7 @@ t33 = List._∷_ (0, Rows'.any-gone Syntax.tyBool) (List._∷_ (
       (List._∷_
       101
       (List._∷_
-      115
-      (List._∷_
       95
-      (List._∷_
-      109
-      (List._∷_
-      97
-      (List._∷_
-      105
-      (List._∷_
-      110
-      (List._∷_
-      58
-      (List._∷_
-      58
       (List._∷_
       105
       (List._∷_
@@ -3736,9 +3294,7 @@ t33 = List._∷_ (0, Rows'.any-gone Syntax.tyBool) (List._∷_ (
       116
       (List._∷_
       58
-      (List._∷_
-      58
-      (List._∷_ 72 (List._∷_ 101 (List._∷_ 97 (List._∷_ 100 List.[]))))))))))))))))))))))))
+      (List._∷_ 58 (List._∷_ 72 (List._∷_ 101 (List._∷_ 97 (List._∷_ 100 List.[])))))))))))))))))
       (Syntax.tcons (Syntax.tyInt Syntax.w8) (Syntax.tcons (Syntax.tyInt Syntax.w64) Syntax.tnil))),
 ) (List._∷_ (4, Rows'.sc-here (Row.sInt Syntax.w64)) (List._∷_ (
   5,
@@ -3801,21 +3357,7 @@ t34 = List._∷_ (0, Rows'.any-gone Syntax.tyBool) (List._∷_ (
       (List._∷_
       101
       (List._∷_
-      115
-      (List._∷_
       95
-      (List._∷_
-      109
-      (List._∷_
-      97
-      (List._∷_
-      105
-      (List._∷_
-      110
-      (List._∷_
-      58
-      (List._∷_
-      58
       (List._∷_
       105
       (List._∷_
@@ -3828,9 +3370,7 @@ t34 = List._∷_ (0, Rows'.any-gone Syntax.tyBool) (List._∷_ (
       116
       (List._∷_
       58
-      (List._∷_
-      58
-      (List._∷_ 72 (List._∷_ 101 (List._∷_ 97 (List._∷_ 100 List.[]))))))))))))))))))))))))
+      (List._∷_ 58 (List._∷_ 72 (List._∷_ 101 (List._∷_ 97 (List._∷_ 100 List.[])))))))))))))))))
       (Syntax.tcons (Syntax.tyInt Syntax.w8) (Syntax.tcons (Syntax.tyInt Syntax.w64) Syntax.tnil))),
 ) (List._∷_ (4, Rows'.sc-here (Row.sInt Syntax.w64)) (List._∷_ (
   5,
@@ -3892,21 +3432,7 @@ t35 = List._∷_ (0, Rows'.any-gone Syntax.tyBool) (List._∷_ (
       (List._∷_
       101
       (List._∷_
-      115
-      (List._∷_
       95
-      (List._∷_
-      109
-      (List._∷_
-      97
-      (List._∷_
-      105
-      (List._∷_
-      110
-      (List._∷_
-      58
-      (List._∷_
-      58
       (List._∷_
       105
       (List._∷_
@@ -3919,9 +3445,7 @@ t35 = List._∷_ (0, Rows'.any-gone Syntax.tyBool) (List._∷_ (
       116
       (List._∷_
       58
-      (List._∷_
-      58
-      (List._∷_ 72 (List._∷_ 101 (List._∷_ 97 (List._∷_ 100 List.[]))))))))))))))))))))))))
+      (List._∷_ 58 (List._∷_ 72 (List._∷_ 101 (List._∷_ 97 (List._∷_ 100 List.[])))))))))))))))))
       (Syntax.tcons (Syntax.tyInt Syntax.w8) (Syntax.tcons (Syntax.tyInt Syntax.w64) Syntax.tnil))),
 ) (List._∷_ (4, Rows'.sc-here (Row.sInt Syntax.w64)) (List._∷_ (
   5,
@@ -4357,21 +3881,7 @@ t40 = List._∷_ (0, Rows'.any-gone Syntax.tyBool) (List._∷_ (
       (List._∷_
       101
       (List._∷_
-      115
-      (List._∷_
       95
-      (List._∷_
-      109
-      (List._∷_
-      97
-      (List._∷_
-      105
-      (List._∷_
-      110
-      (List._∷_
-      58
-      (List._∷_
-      58
       (List._∷_
       105
       (List._∷_
@@ -4384,9 +3894,7 @@ t40 = List._∷_ (0, Rows'.any-gone Syntax.tyBool) (List._∷_ (
       116
       (List._∷_
       58
-      (List._∷_
-      58
-      (List._∷_ 72 (List._∷_ 101 (List._∷_ 97 (List._∷_ 100 List.[]))))))))))))))))))))))))
+      (List._∷_ 58 (List._∷_ 72 (List._∷_ 101 (List._∷_ 97 (List._∷_ 100 List.[])))))))))))))))))
       (Syntax.tcons (Syntax.tyInt Syntax.w8) (Syntax.tcons (Syntax.tyInt Syntax.w64) Syntax.tnil))),
 ) (List._∷_ (4, Rows'.sc-here (Row.sInt Syntax.w64)) (List._∷_ (
   5,
@@ -4448,21 +3956,7 @@ t41 = List._∷_ (0, Rows'.any-gone Syntax.tyBool) (List._∷_ (
       (List._∷_
       101
       (List._∷_
-      115
-      (List._∷_
       95
-      (List._∷_
-      109
-      (List._∷_
-      97
-      (List._∷_
-      105
-      (List._∷_
-      110
-      (List._∷_
-      58
-      (List._∷_
-      58
       (List._∷_
       105
       (List._∷_
@@ -4475,9 +3969,7 @@ t41 = List._∷_ (0, Rows'.any-gone Syntax.tyBool) (List._∷_ (
       116
       (List._∷_
       58
-      (List._∷_
-      58
-      (List._∷_ 72 (List._∷_ 101 (List._∷_ 97 (List._∷_ 100 List.[]))))))))))))))))))))))))
+      (List._∷_ 58 (List._∷_ 72 (List._∷_ 101 (List._∷_ 97 (List._∷_ 100 List.[])))))))))))))))))
       (Syntax.tcons (Syntax.tyInt Syntax.w8) (Syntax.tcons (Syntax.tyInt Syntax.w64) Syntax.tnil))),
 ) (List._∷_ (4, Rows'.sc-here (Row.sInt Syntax.w64)) (List._∷_ (
   5,
@@ -4819,21 +4311,7 @@ t45 = List._∷_ (0, Rows'.any-gone Syntax.tyBool) (List._∷_ (
       (List._∷_
       101
       (List._∷_
-      115
-      (List._∷_
       95
-      (List._∷_
-      109
-      (List._∷_
-      97
-      (List._∷_
-      105
-      (List._∷_
-      110
-      (List._∷_
-      58
-      (List._∷_
-      58
       (List._∷_
       105
       (List._∷_
@@ -4846,9 +4324,7 @@ t45 = List._∷_ (0, Rows'.any-gone Syntax.tyBool) (List._∷_ (
       116
       (List._∷_
       58
-      (List._∷_
-      58
-      (List._∷_ 72 (List._∷_ 101 (List._∷_ 97 (List._∷_ 100 List.[]))))))))))))))))))))))))
+      (List._∷_ 58 (List._∷_ 72 (List._∷_ 101 (List._∷_ 97 (List._∷_ 100 List.[])))))))))))))))))
       (Syntax.tcons (Syntax.tyInt Syntax.w8) (Syntax.tcons (Syntax.tyInt Syntax.w64) Syntax.tnil))),
 ) (List._∷_ (4, Rows'.sc-here (Row.sInt Syntax.w64)) (List._∷_ (
   5,
@@ -4910,21 +4386,7 @@ t46 = List._∷_ (0, Rows'.any-gone Syntax.tyBool) (List._∷_ (
       (List._∷_
       101
       (List._∷_
-      115
-      (List._∷_
       95
-      (List._∷_
-      109
-      (List._∷_
-      97
-      (List._∷_
-      105
-      (List._∷_
-      110
-      (List._∷_
-      58
-      (List._∷_
-      58
       (List._∷_
       105
       (List._∷_
@@ -4937,9 +4399,7 @@ t46 = List._∷_ (0, Rows'.any-gone Syntax.tyBool) (List._∷_ (
       116
       (List._∷_
       58
-      (List._∷_
-      58
-      (List._∷_ 72 (List._∷_ 101 (List._∷_ 97 (List._∷_ 100 List.[]))))))))))))))))))))))))
+      (List._∷_ 58 (List._∷_ 72 (List._∷_ 101 (List._∷_ 97 (List._∷_ 100 List.[])))))))))))))))))
       (Syntax.tcons (Syntax.tyInt Syntax.w8) (Syntax.tcons (Syntax.tyInt Syntax.w64) Syntax.tnil))),
 ) (List._∷_ (4, Rows'.sc-here (Row.sInt Syntax.w64)) (List._∷_ (
   5,
@@ -5189,21 +4649,7 @@ t49 = List._∷_ (0, Rows'.any-gone Syntax.tyBool) (List._∷_ (
       (List._∷_
       101
       (List._∷_
-      115
-      (List._∷_
       95
-      (List._∷_
-      109
-      (List._∷_
-      97
-      (List._∷_
-      105
-      (List._∷_
-      110
-      (List._∷_
-      58
-      (List._∷_
-      58
       (List._∷_
       105
       (List._∷_
@@ -5216,9 +4662,7 @@ t49 = List._∷_ (0, Rows'.any-gone Syntax.tyBool) (List._∷_ (
       116
       (List._∷_
       58
-      (List._∷_
-      58
-      (List._∷_ 72 (List._∷_ 101 (List._∷_ 97 (List._∷_ 100 List.[]))))))))))))))))))))))))
+      (List._∷_ 58 (List._∷_ 72 (List._∷_ 101 (List._∷_ 97 (List._∷_ 100 List.[])))))))))))))))))
       (Syntax.tcons (Syntax.tyInt Syntax.w8) (Syntax.tcons (Syntax.tyInt Syntax.w64) Syntax.tnil))),
 ) (List._∷_ (4, Rows'.sc-here (Row.sInt Syntax.w64)) (List._∷_ (
   5,
@@ -5464,21 +4908,7 @@ t52 = List._∷_ (0, Rows'.any-gone Syntax.tyBool) (List._∷_ (
       (List._∷_
       101
       (List._∷_
-      115
-      (List._∷_
       95
-      (List._∷_
-      109
-      (List._∷_
-      97
-      (List._∷_
-      105
-      (List._∷_
-      110
-      (List._∷_
-      58
-      (List._∷_
-      58
       (List._∷_
       105
       (List._∷_
@@ -5491,9 +4921,7 @@ t52 = List._∷_ (0, Rows'.any-gone Syntax.tyBool) (List._∷_ (
       116
       (List._∷_
       58
-      (List._∷_
-      58
-      (List._∷_ 72 (List._∷_ 101 (List._∷_ 97 (List._∷_ 100 List.[]))))))))))))))))))))))))
+      (List._∷_ 58 (List._∷_ 72 (List._∷_ 101 (List._∷_ 97 (List._∷_ 100 List.[])))))))))))))))))
       (Syntax.tcons (Syntax.tyInt Syntax.w8) (Syntax.tcons (Syntax.tyInt Syntax.w64) Syntax.tnil))),
 ) (List._∷_ (4, Rows'.sc-here (Row.sInt Syntax.w64)) (List._∷_ (
   5,
@@ -5885,21 +5313,7 @@ t57 = List._∷_ (0, Rows'.any-gone Syntax.tyBool) (List._∷_ (
       (List._∷_
       101
       (List._∷_
-      115
-      (List._∷_
       95
-      (List._∷_
-      109
-      (List._∷_
-      97
-      (List._∷_
-      105
-      (List._∷_
-      110
-      (List._∷_
-      58
-      (List._∷_
-      58
       (List._∷_
       105
       (List._∷_
@@ -5912,9 +5326,7 @@ t57 = List._∷_ (0, Rows'.any-gone Syntax.tyBool) (List._∷_ (
       116
       (List._∷_
       58
-      (List._∷_
-      58
-      (List._∷_ 72 (List._∷_ 101 (List._∷_ 97 (List._∷_ 100 List.[]))))))))))))))))))))))))
+      (List._∷_ 58 (List._∷_ 72 (List._∷_ 101 (List._∷_ 97 (List._∷_ 100 List.[])))))))))))))))))
       (Syntax.tcons (Syntax.tyInt Syntax.w8) (Syntax.tcons (Syntax.tyInt Syntax.w64) Syntax.tnil))),
 ) (List._∷_ (4, Rows'.sc-here (Row.sInt Syntax.w64)) (List._∷_ (
   5,
@@ -6212,21 +5624,7 @@ t61 = List._∷_ (0, Rows'.any-gone Syntax.tyBool) (List._∷_ (
       (List._∷_
       101
       (List._∷_
-      115
-      (List._∷_
       95
-      (List._∷_
-      109
-      (List._∷_
-      97
-      (List._∷_
-      105
-      (List._∷_
-      110
-      (List._∷_
-      58
-      (List._∷_
-      58
       (List._∷_
       105
       (List._∷_
@@ -6239,9 +5637,7 @@ t61 = List._∷_ (0, Rows'.any-gone Syntax.tyBool) (List._∷_ (
       116
       (List._∷_
       58
-      (List._∷_
-      58
-      (List._∷_ 72 (List._∷_ 101 (List._∷_ 97 (List._∷_ 100 List.[]))))))))))))))))))))))))
+      (List._∷_ 58 (List._∷_ 72 (List._∷_ 101 (List._∷_ 97 (List._∷_ 100 List.[])))))))))))))))))
       (Syntax.tcons (Syntax.tyInt Syntax.w8) (Syntax.tcons (Syntax.tyInt Syntax.w64) Syntax.tnil))),
 ) (List._∷_ (4, Rows'.sc-here (Row.sInt Syntax.w64)) (List._∷_ (
   5,
@@ -6394,21 +5790,7 @@ t63 = List._∷_ (0, Rows'.any-gone Syntax.tyBool) (List._∷_ (
       (List._∷_
       101
       (List._∷_
-      115
-      (List._∷_
       95
-      (List._∷_
-      109
-      (List._∷_
-      97
-      (List._∷_
-      105
-      (List._∷_
-      110
-      (List._∷_
-      58
-      (List._∷_
-      58
       (List._∷_
       105
       (List._∷_
@@ -6421,9 +5803,7 @@ t63 = List._∷_ (0, Rows'.any-gone Syntax.tyBool) (List._∷_ (
       116
       (List._∷_
       58
-      (List._∷_
-      58
-      (List._∷_ 72 (List._∷_ 101 (List._∷_ 97 (List._∷_ 100 List.[]))))))))))))))))))))))))
+      (List._∷_ 58 (List._∷_ 72 (List._∷_ 101 (List._∷_ 97 (List._∷_ 100 List.[])))))))))))))))))
       (Syntax.tcons (Syntax.tyInt Syntax.w8) (Syntax.tcons (Syntax.tyInt Syntax.w64) Syntax.tnil))),
 ) (List._∷_ (4, Rows'.sc-here (Row.sInt Syntax.w64)) (List._∷_ (
   5,
@@ -6487,21 +5867,7 @@ t64 = List._∷_ (0, Rows'.any-gone Syntax.tyBool) (List._∷_ (
       (List._∷_
       101
       (List._∷_
-      115
-      (List._∷_
       95
-      (List._∷_
-      109
-      (List._∷_
-      97
-      (List._∷_
-      105
-      (List._∷_
-      110
-      (List._∷_
-      58
-      (List._∷_
-      58
       (List._∷_
       105
       (List._∷_
@@ -6514,9 +5880,7 @@ t64 = List._∷_ (0, Rows'.any-gone Syntax.tyBool) (List._∷_ (
       116
       (List._∷_
       58
-      (List._∷_
-      58
-      (List._∷_ 72 (List._∷_ 101 (List._∷_ 97 (List._∷_ 100 List.[]))))))))))))))))))))))))
+      (List._∷_ 58 (List._∷_ 72 (List._∷_ 101 (List._∷_ 97 (List._∷_ 100 List.[])))))))))))))))))
       (Syntax.tcons (Syntax.tyInt Syntax.w8) (Syntax.tcons (Syntax.tyInt Syntax.w64) Syntax.tnil))),
 ) (List._∷_ (4, Rows'.sc-here (Row.sInt Syntax.w64)) (List._∷_ (
   5,
@@ -6580,21 +5944,7 @@ t65 = List._∷_ (0, Rows'.any-gone Syntax.tyBool) (List._∷_ (
       (List._∷_
       101
       (List._∷_
-      115
-      (List._∷_
       95
-      (List._∷_
-      109
-      (List._∷_
-      97
-      (List._∷_
-      105
-      (List._∷_
-      110
-      (List._∷_
-      58
-      (List._∷_
-      58
       (List._∷_
       105
       (List._∷_
@@ -6607,9 +5957,7 @@ t65 = List._∷_ (0, Rows'.any-gone Syntax.tyBool) (List._∷_ (
       116
       (List._∷_
       58
-      (List._∷_
-      58
-      (List._∷_ 72 (List._∷_ 101 (List._∷_ 97 (List._∷_ 100 List.[]))))))))))))))))))))))))
+      (List._∷_ 58 (List._∷_ 72 (List._∷_ 101 (List._∷_ 97 (List._∷_ 100 List.[])))))))))))))))))
       (Syntax.tcons (Syntax.tyInt Syntax.w8) (Syntax.tcons (Syntax.tyInt Syntax.w64) Syntax.tnil))),
 ) (List._∷_ (4, Rows'.sc-here (Row.sInt Syntax.w64)) (List._∷_ (
   5,
@@ -6676,21 +6024,7 @@ t66 =
           (List._∷_
           101
           (List._∷_
-          115
-          (List._∷_
           95
-          (List._∷_
-          109
-          (List._∷_
-          97
-          (List._∷_
-          105
-          (List._∷_
-          110
-          (List._∷_
-          58
-          (List._∷_
-          58
           (List._∷_
           105
           (List._∷_
@@ -6705,7 +6039,7 @@ t66 =
           58
           (List._∷_
           58
-          (List._∷_ 72 (List._∷_ 101 (List._∷_ 97 (List._∷_ 100 List.[]))))))))))))))))))))))))
+          (List._∷_ 72 (List._∷_ 101 (List._∷_ 97 (List._∷_ 100 List.[])))))))))))))))))
           (Syntax.tcons
           (Syntax.tyInt Syntax.w8)
           (Syntax.tcons (Syntax.tyInt Syntax.w64) Syntax.tnil))),
@@ -6773,21 +6107,7 @@ t67 =
           (List._∷_
           101
           (List._∷_
-          115
-          (List._∷_
           95
-          (List._∷_
-          109
-          (List._∷_
-          97
-          (List._∷_
-          105
-          (List._∷_
-          110
-          (List._∷_
-          58
-          (List._∷_
-          58
           (List._∷_
           105
           (List._∷_
@@ -6802,7 +6122,7 @@ t67 =
           58
           (List._∷_
           58
-          (List._∷_ 72 (List._∷_ 101 (List._∷_ 97 (List._∷_ 100 List.[]))))))))))))))))))))))))
+          (List._∷_ 72 (List._∷_ 101 (List._∷_ 97 (List._∷_ 100 List.[])))))))))))))))))
           (Syntax.tcons
           (Syntax.tyInt Syntax.w8)
           (Syntax.tcons (Syntax.tyInt Syntax.w64) Syntax.tnil))),
@@ -7172,21 +6492,7 @@ module _ (claims· : Claims) where
       (List._∷_
       101
       (List._∷_
-      115
-      (List._∷_
       95
-      (List._∷_
-      109
-      (List._∷_
-      97
-      (List._∷_
-      105
-      (List._∷_
-      110
-      (List._∷_
-      58
-      (List._∷_
-      58
       (List._∷_
       105
       (List._∷_
@@ -7199,9 +6505,7 @@ module _ (claims· : Claims) where
       116
       (List._∷_
       58
-      (List._∷_
-      58
-      (List._∷_ 72 (List._∷_ 101 (List._∷_ 97 (List._∷_ 100 List.[]))))))))))))))))))))))))
+      (List._∷_ 58 (List._∷_ 72 (List._∷_ 101 (List._∷_ 97 (List._∷_ 100 List.[])))))))))))))))))
       (Syntax.tcons (Syntax.tyInt Syntax.w8) (Syntax.tcons (Syntax.tyInt Syntax.w64) Syntax.tnil)))
 
   abbrev s11 : (bs : List.List Nat.ℕ) → Typed.Both T11 T13
@@ -7253,21 +6557,7 @@ module _ (claims· : Claims) where
       (List._∷_
       101
       (List._∷_
-      115
-      (List._∷_
       95
-      (List._∷_
-      109
-      (List._∷_
-      97
-      (List._∷_
-      105
-      (List._∷_
-      110
-      (List._∷_
-      58
-      (List._∷_
-      58
       (List._∷_
       105
       (List._∷_
@@ -7280,9 +6570,7 @@ module _ (claims· : Claims) where
       116
       (List._∷_
       58
-      (List._∷_
-      58
-      (List._∷_ 72 (List._∷_ 101 (List._∷_ 97 (List._∷_ 100 List.[]))))))))))))))))))))))))
+      (List._∷_ 58 (List._∷_ 72 (List._∷_ 101 (List._∷_ 97 (List._∷_ 100 List.[])))))))))))))))))
       (Syntax.tcons (Syntax.tyInt Syntax.w8) (Syntax.tcons (Syntax.tyInt Syntax.w64) Syntax.tnil)))
 
   abbrev s16 : (bs : List.List Nat.ℕ) → Typed.Mo T18 → Typed.Mo T19
@@ -7822,17 +7110,16 @@ module _ (claims· : Claims) where
       Closed =
           (𝓤 : URA.URA M) (H : Wp.Heap 𝓤) (A : Atoms.Atoms 𝓤) (W : Kit.Given 𝓤 H A) (𝓣 : Wp.Tables
           𝓤 H) (known0 : Plain.Known 𝓤 H A W 𝓣 1 ps·0 r·0 (claims· .0) (claims· .1)
-          "traces_main::input::read_record") (known1 : Plain.Known 𝓤 H A W 𝓣 1 ps·1 r·1
-          (claims· .2) (claims· .3) "traces_main::input::rows_at") (known2 : Plain.Known 𝓤 H A W 𝓣
-          0 ps·2 r·2 (claims· .4) (claims· .5) "traces_main::no_row") (known3 : Plain.Known 𝓤 H A W
-          𝓣 0 ps·3 r·3 (claims· .6) (claims· .7) "traces_main::no_route") (known4 : Plain.Known 𝓤 H
-          A W 𝓣 1 ps·4 r·4 (claims· .8) (claims· .9)
-          "traces_main::print::words") (known5 : Plain.Known 𝓤 H A W 𝓣 0 ps·5 r·5 (claims· .10)
-          (claims· .11) "traces_main::print::decimal") (known6 : Plain.Known 𝓤 H A W 𝓣 1 ps·6 r·6
-          (claims· .12) (claims· .13) "traces_main::input::own_at") (known7 : Plain.Known 𝓤 H A W 𝓣
-          2 ps·7 r·7 (claims· .14) (claims· .15) "traces_main::serve") → Statement.Triple 𝓤
-          (Wp.WpFn 𝓤 H (𝓣 .C) (𝓣 .Λ) (Function.fnOf 0 ps r xs m hs body)) (Function.plainOf 𝓤 H A 0
-          ps r Pre· Post·)
+          "trace_input::read_record") (known1 : Plain.Known 𝓤 H A W 𝓣 1 ps·1 r·1 (claims· .2)
+          (claims· .3) "trace_input::rows_at") (known2 : Plain.Known 𝓤 H A W 𝓣 0 ps·2 r·2
+          (claims· .4) (claims· .5) "trace_input::no_row") (known3 : Plain.Known 𝓤 H A W 𝓣 0 ps·3
+          r·3 (claims· .6) (claims· .7) "trace_input::no_route") (known4 : Plain.Known 𝓤 H A W 𝓣 1
+          ps·4 r·4 (claims· .8) (claims· .9) "trace_print::words") (known5 : Plain.Known 𝓤 H A W 𝓣
+          0 ps·5 r·5 (claims· .10) (claims· .11) "trace_print::decimal") (known6 : Plain.Known 𝓤 H
+          A W 𝓣 1 ps·6 r·6 (claims· .12) (claims· .13) "trace_input::own_at") (known7 : Plain.Known
+          𝓤 H A W 𝓣 2 ps·7 r·7 (claims· .14) (claims· .15) "traces_main::serve") → Statement.Triple
+          𝓤 (Wp.WpFn 𝓤 H (𝓣 .C) (𝓣 .Λ) (Function.fnOf 0 ps r xs m hs body)) (Function.plainOf 𝓤 H A
+          0 ps r Pre· Post·)
 
     module _ where
       abbrev at0 : (bs : List.List Nat.ℕ) → Typed.TF T24 O1
@@ -8154,68 +7441,13 @@ module _ (claims· : Claims) where
           (W : Kit.Given 𝓤 H A) (𝓣 : Wp.Tables 𝓤 H) where
         abbrev Knowns : Type 1
         Knowns =
-            Plain.Known
-            𝓤
-            H
-            A
-            W
-            𝓣
-            1
-            ps·0
-            r·0
-            (claims· .0)
-            (claims· .1)
-            "traces_main::input::read_record" ×
-            Plain.Known
-            𝓤
-            H
-            A
-            W
-            𝓣
-            1
-            ps·1
-            r·1
-            (claims· .2)
-            (claims· .3)
-            "traces_main::input::rows_at" ×
-            Plain.Known 𝓤 H A W 𝓣 0 ps·2 r·2 (claims· .4) (claims· .5) "traces_main::no_row" ×
-            Plain.Known 𝓤 H A W 𝓣 0 ps·3 r·3 (claims· .6) (claims· .7) "traces_main::no_route" ×
-            Plain.Known
-            𝓤
-            H
-            A
-            W
-            𝓣
-            1
-            ps·4
-            r·4
-            (claims· .8)
-            (claims· .9)
-            "traces_main::print::words" ×
-            Plain.Known
-            𝓤
-            H
-            A
-            W
-            𝓣
-            0
-            ps·5
-            r·5
-            (claims· .10)
-            (claims· .11)
-            "traces_main::print::decimal" ×
-            Plain.Known
-            𝓤
-            H
-            A
-            W
-            𝓣
-            1
-            ps·6
-            r·6
-            (claims· .12)
-            (claims· .13)
-            "traces_main::input::own_at" ×
+            Plain.Known 𝓤 H A W 𝓣 1 ps·0 r·0 (claims· .0) (claims· .1) "trace_input::read_record" ×
+            Plain.Known 𝓤 H A W 𝓣 1 ps·1 r·1 (claims· .2) (claims· .3) "trace_input::rows_at" ×
+            Plain.Known 𝓤 H A W 𝓣 0 ps·2 r·2 (claims· .4) (claims· .5) "trace_input::no_row" ×
+            Plain.Known 𝓤 H A W 𝓣 0 ps·3 r·3 (claims· .6) (claims· .7) "trace_input::no_route" ×
+            Plain.Known 𝓤 H A W 𝓣 1 ps·4 r·4 (claims· .8) (claims· .9) "trace_print::words" ×
+            Plain.Known 𝓤 H A W 𝓣 0 ps·5 r·5 (claims· .10) (claims· .11) "trace_print::decimal" ×
+            Plain.Known 𝓤 H A W 𝓣 1 ps·6 r·6 (claims· .12) (claims· .13) "trace_input::own_at" ×
             Plain.Known 𝓤 H A W 𝓣 2 ps·7 r·7 (claims· .14) (claims· .15) "traces_main::serve"
 
       module _ (κs : Lifetimes.Lfts 0) (qs : Lifetimes.Shares 0) where
@@ -10117,21 +9349,7 @@ module _ (claims· : Claims) where
               (List._∷_
               101
               (List._∷_
-              115
-              (List._∷_
               95
-              (List._∷_
-              109
-              (List._∷_
-              97
-              (List._∷_
-              105
-              (List._∷_
-              110
-              (List._∷_
-              58
-              (List._∷_
-              58
               (List._∷_
               105
               (List._∷_
@@ -10146,7 +9364,7 @@ module _ (claims· : Claims) where
               58
               (List._∷_
               58
-              (List._∷_ 72 (List._∷_ 101 (List._∷_ 97 (List._∷_ 100 List.[]))))))))))))))))))))))))
+              (List._∷_ 72 (List._∷_ 101 (List._∷_ 97 (List._∷_ 100 List.[])))))))))))))))))
               (Syntax.tcons
               (Syntax.tyInt Syntax.w8)
               (Syntax.tcons (Syntax.tyInt Syntax.w64) Syntax.tnil)))
@@ -10168,21 +9386,7 @@ module _ (claims· : Claims) where
               (List._∷_
               101
               (List._∷_
-              115
-              (List._∷_
               95
-              (List._∷_
-              109
-              (List._∷_
-              97
-              (List._∷_
-              105
-              (List._∷_
-              110
-              (List._∷_
-              58
-              (List._∷_
-              58
               (List._∷_
               105
               (List._∷_
@@ -10197,7 +9401,7 @@ module _ (claims· : Claims) where
               58
               (List._∷_
               58
-              (List._∷_ 72 (List._∷_ 101 (List._∷_ 97 (List._∷_ 100 List.[]))))))))))))))))))))))))
+              (List._∷_ 72 (List._∷_ 101 (List._∷_ 97 (List._∷_ 100 List.[])))))))))))))))))
               (Syntax.tcons
               (Syntax.tyInt Syntax.w8)
               (Syntax.tcons (Syntax.tyInt Syntax.w64) Syntax.tnil)))
@@ -10941,7 +10145,7 @@ module _ (claims· : Claims) where
               r·6
               (claims· .12)
               (claims· .13)
-              "traces_main::input::own_at"
+              "trace_input::own_at"
               (known .6)
               E
               (λ pos β. β)
@@ -11808,7 +11012,7 @@ module _ (claims· : Claims) where
               r·4
               (claims· .8)
               (claims· .9)
-              "traces_main::print::words"
+              "trace_print::words"
               (known .4)
               E
               (λ pos β. β)
@@ -12089,7 +11293,7 @@ module _ (claims· : Claims) where
               r·5
               (claims· .10)
               (claims· .11)
-              "traces_main::print::decimal"
+              "trace_print::decimal"
               (known .5)
               E
               (λ pos β. β)
@@ -12281,7 +11485,7 @@ module _ (claims· : Claims) where
               r·4
               (claims· .8)
               (claims· .9)
-              "traces_main::print::words"
+              "trace_print::words"
               (known .4)
               E
               (λ pos β. β)
@@ -12700,7 +11904,7 @@ module _ (claims· : Claims) where
               r·3
               (claims· .6)
               (claims· .7)
-              "traces_main::no_route"
+              "trace_input::no_route"
               (known .3)
               E
               (λ pos β. β)
@@ -12898,7 +12102,7 @@ module _ (claims· : Claims) where
               r·2
               (claims· .4)
               (claims· .5)
-              "traces_main::no_row"
+              "trace_input::no_row"
               (known .2)
               E
               (λ pos β. β)
@@ -13045,7 +12249,7 @@ module _ (claims· : Claims) where
               r·1
               (claims· .2)
               (claims· .3)
-              "traces_main::input::rows_at"
+              "trace_input::rows_at"
               (known .1)
               E
               (λ pos β. β)
@@ -13425,7 +12629,7 @@ module _ (claims· : Claims) where
               r·1
               (claims· .2)
               (claims· .3)
-              "traces_main::input::rows_at"
+              "trace_input::rows_at"
               (known .1)
               E
               (λ pos β. β)
@@ -13867,7 +13071,7 @@ module _ (claims· : Claims) where
               r·0
               (claims· .0)
               (claims· .1)
-              "traces_main::input::read_record"
+              "trace_input::read_record"
               (known .0)
               E
               (λ pos β. β)
@@ -13917,21 +13121,7 @@ module _ (claims· : Claims) where
               (List._∷_
               101
               (List._∷_
-              115
-              (List._∷_
               95
-              (List._∷_
-              109
-              (List._∷_
-              97
-              (List._∷_
-              105
-              (List._∷_
-              110
-              (List._∷_
-              58
-              (List._∷_
-              58
               (List._∷_
               105
               (List._∷_
@@ -13946,7 +13136,7 @@ module _ (claims· : Claims) where
               58
               (List._∷_
               58
-              (List._∷_ 72 (List._∷_ 101 (List._∷_ 97 (List._∷_ 100 List.[]))))))))))))))))))))))))
+              (List._∷_ 72 (List._∷_ 101 (List._∷_ 97 (List._∷_ 100 List.[])))))))))))))))))
               (Syntax.tcons
               (Syntax.tyInt Syntax.w8)
               (Syntax.tcons (Syntax.tyInt Syntax.w64) Syntax.tnil))))
@@ -16363,7 +15553,7 @@ module _ (claims· : Claims) where
             r·0
             (claims· .0)
             (claims· .1)
-            "traces_main::input::read_record")
+            "trace_input::read_record")
             (known1 : Plain.Known
             𝓤
             H
@@ -16375,7 +15565,7 @@ module _ (claims· : Claims) where
             r·1
             (claims· .2)
             (claims· .3)
-            "traces_main::input::rows_at")
+            "trace_input::rows_at")
             (known2 : Plain.Known
             𝓤
             H
@@ -16387,7 +15577,7 @@ module _ (claims· : Claims) where
             r·2
             (claims· .4)
             (claims· .5)
-            "traces_main::no_row")
+            "trace_input::no_row")
             (known3 : Plain.Known
             𝓤
             H
@@ -16399,7 +15589,7 @@ module _ (claims· : Claims) where
             r·3
             (claims· .6)
             (claims· .7)
-            "traces_main::no_route")
+            "trace_input::no_route")
             (known4 : Plain.Known
             𝓤
             H
@@ -16411,7 +15601,7 @@ module _ (claims· : Claims) where
             r·4
             (claims· .8)
             (claims· .9)
-            "traces_main::print::words")
+            "trace_print::words")
             (known5 : Plain.Known
             𝓤
             H
@@ -16423,7 +15613,7 @@ module _ (claims· : Claims) where
             r·5
             (claims· .10)
             (claims· .11)
-            "traces_main::print::decimal")
+            "trace_print::decimal")
             (known6 : Plain.Known
             𝓤
             H
@@ -16435,7 +15625,7 @@ module _ (claims· : Claims) where
             r·6
             (claims· .12)
             (claims· .13)
-            "traces_main::input::own_at")
+            "trace_input::own_at")
             (known7 : Plain.Known
             𝓤
             H

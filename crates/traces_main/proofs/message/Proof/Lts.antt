@@ -357,7 +357,7 @@ hs =
 abbrev b0 : Syntax.Body
 b0 =
     Syntax.call
-    "traces_main::input::message_from"
+    "trace_input::message_from"
     (List._∷_ (Syntax.copy (Syntax.place 5 List.[])) List.[])
     (Syntax.place 7 List.[])
 
@@ -370,14 +370,14 @@ b1 =
 abbrev b2 : Syntax.Body
 b2 =
     Syntax.call
-    "traces_main::input::eight_at"
+    "trace_input::eight_at"
     (List._∷_ (Syntax.copy (Syntax.place 5 List.[])) (List._∷_ (Syntax.int Syntax.w64 0) List.[]))
     (Syntax.place 9 List.[])
 
 abbrev b3 : Syntax.Body
 b3 =
     Syntax.call
-    "traces_main::input::link_at"
+    "trace_input::link_at"
     (List._∷_ (Syntax.copy (Syntax.place 5 List.[])) List.[])
     (Syntax.place 10 List.[])
 
@@ -7050,12 +7050,11 @@ module _ (claims· : Claims) where
       Closed =
           (𝓤 : URA.URA M) (H : Wp.Heap 𝓤) (A : Atoms.Atoms 𝓤) (W : Kit.Given 𝓤 H A) (𝓣 : Wp.Tables
           𝓤 H) (known0 : Plain.Known 𝓤 H A W 𝓣 1 ps·0 r·0 (claims· .0) (claims· .1)
-          "traces_main::input::message_from") (known1 : Plain.Known 𝓤 H A W 𝓣 1 ps·1 r·1
-          (claims· .2) (claims· .3) "traces_main::input::eight_at") (known2 : Plain.Known 𝓤 H A W 𝓣
-          1 ps·2 r·2 (claims· .4) (claims· .5) "traces_main::input::link_at") (known3 : Plain.Known
-          𝓤 H A W 𝓣 5 ps·3 r·3 (claims· .6) (claims· .7) "calls::message") → Statement.Triple 𝓤
-          (Wp.WpFn 𝓤 H (𝓣 .C) (𝓣 .Λ) (Function.fnOf 5 ps r xs m hs body)) (Function.plainOf 𝓤 H A 5
-          ps r Pre· Post·)
+          "trace_input::message_from") (known1 : Plain.Known 𝓤 H A W 𝓣 1 ps·1 r·1 (claims· .2)
+          (claims· .3) "trace_input::eight_at") (known2 : Plain.Known 𝓤 H A W 𝓣 1 ps·2 r·2
+          (claims· .4) (claims· .5) "trace_input::link_at") (known3 : Plain.Known 𝓤 H A W 𝓣 5 ps·3
+          r·3 (claims· .6) (claims· .7) "calls::message") → Statement.Triple 𝓤 (Wp.WpFn 𝓤 H (𝓣 .C)
+          (𝓣 .Λ) (Function.fnOf 5 ps r xs m hs body)) (Function.plainOf 𝓤 H A 5 ps r Pre· Post·)
 
     module _ where
       abbrev at0 : (bs : List.List Nat.ℕ) → Typed.TF T46 O0
@@ -7217,31 +7216,9 @@ module _ (claims· : Claims) where
             r·0
             (claims· .0)
             (claims· .1)
-            "traces_main::input::message_from" ×
-            Plain.Known
-            𝓤
-            H
-            A
-            W
-            𝓣
-            1
-            ps·1
-            r·1
-            (claims· .2)
-            (claims· .3)
-            "traces_main::input::eight_at" ×
-            Plain.Known
-            𝓤
-            H
-            A
-            W
-            𝓣
-            1
-            ps·2
-            r·2
-            (claims· .4)
-            (claims· .5)
-            "traces_main::input::link_at" ×
+            "trace_input::message_from" ×
+            Plain.Known 𝓤 H A W 𝓣 1 ps·1 r·1 (claims· .2) (claims· .3) "trace_input::eight_at" ×
+            Plain.Known 𝓤 H A W 𝓣 1 ps·2 r·2 (claims· .4) (claims· .5) "trace_input::link_at" ×
             Plain.Known 𝓤 H A W 𝓣 5 ps·3 r·3 (claims· .6) (claims· .7) "calls::message"
 
       module _ (κs : Lifetimes.Lfts 5) (qs : Lifetimes.Shares 5) where
@@ -14098,7 +14075,7 @@ module _ (claims· : Claims) where
               r·2
               (claims· .4)
               (claims· .5)
-              "traces_main::input::link_at"
+              "trace_input::link_at"
               (known .2)
               E
               (λ pos β. β)
@@ -14196,7 +14173,7 @@ module _ (claims· : Claims) where
               r·1
               (claims· .2)
               (claims· .3)
-              "traces_main::input::eight_at"
+              "trace_input::eight_at"
               (known .1)
               E
               (λ pos β. β)
@@ -14513,7 +14490,7 @@ module _ (claims· : Claims) where
               r·0
               (claims· .0)
               (claims· .1)
-              "traces_main::input::message_from"
+              "trace_input::message_from"
               (known .0)
               E
               (λ pos β. β)
@@ -16319,7 +16296,7 @@ module _ (claims· : Claims) where
             r·0
             (claims· .0)
             (claims· .1)
-            "traces_main::input::message_from")
+            "trace_input::message_from")
             (known1 : Plain.Known
             𝓤
             H
@@ -16331,7 +16308,7 @@ module _ (claims· : Claims) where
             r·1
             (claims· .2)
             (claims· .3)
-            "traces_main::input::eight_at")
+            "trace_input::eight_at")
             (known2 : Plain.Known
             𝓤
             H
@@ -16343,7 +16320,7 @@ module _ (claims· : Claims) where
             r·2
             (claims· .4)
             (claims· .5)
-            "traces_main::input::link_at")
+            "trace_input::link_at")
             (known3 : Plain.Known
             𝓤
             H

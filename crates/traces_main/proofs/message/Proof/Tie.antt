@@ -2,15 +2,15 @@
 use Rattle.calls.proofs.message.Met
 use Rattle.calls.proofs.Lent.message.Reads
 use Rattle.calls.proofs.message.Symbol
-use Rattle.traces_main.proofs.input.eight_at.Met as Met'
-use Rattle.traces_main.proofs.input.eight_at.Reads as Reads'
-use Rattle.traces_main.proofs.input.eight_at.Symbol as Symbol'
-use Rattle.traces_main.proofs.input.link_at.Met as Met''
-use Rattle.traces_main.proofs.input.link_at.Reads as Reads''
-use Rattle.traces_main.proofs.input.link_at.Symbol as Symbol''
-use Rattle.traces_main.proofs.input.message_from.Met as Met'3
-use Rattle.traces_main.proofs.input.message_from.Reads as Reads'3
-use Rattle.traces_main.proofs.input.message_from.Symbol as Symbol'3
+use Rattle.trace_input.proofs.eight_at.Met as Met'
+use Rattle.trace_input.proofs.eight_at.Reads as Reads'
+use Rattle.trace_input.proofs.eight_at.Symbol as Symbol'
+use Rattle.trace_input.proofs.link_at.Met as Met''
+use Rattle.trace_input.proofs.link_at.Reads as Reads''
+use Rattle.trace_input.proofs.link_at.Symbol as Symbol''
+use Rattle.trace_input.proofs.message_from.Met as Met'3
+use Rattle.trace_input.proofs.message_from.Reads as Reads'3
+use Rattle.trace_input.proofs.message_from.Symbol as Symbol'3
 use Rattle.traces_main.proofs.message.Code
 use Rattle.traces_main.proofs.message.Key
 use Rattle.traces_main.proofs.Lent.message.Kinds
@@ -498,21 +498,21 @@ module _ {M : Type 1} where
       Code.env
       Symbol'3.name
       Symbol'3.routine
-      Code.calls-traces-main·input·message-from
+      Code.calls-trace-input·message-from
       (Met'3.met 𝓤 H 𝓜 𝓖 𝓡))
       (Reads'.known
       record { M = M; 𝓤 = 𝓤; H = H; 𝓜 = 𝓜; 𝓖 = 𝓖; 𝓡 = 𝓡 }
       Code.env
       Symbol'.name
       Symbol'.routine
-      Code.calls-traces-main·input·eight-at
+      Code.calls-trace-input·eight-at
       (Met'.met 𝓤 H 𝓜 𝓖 𝓡))
       (Reads''.known
       record { M = M; 𝓤 = 𝓤; H = H; 𝓜 = 𝓜; 𝓖 = 𝓖; 𝓡 = 𝓡 }
       Code.env
       Symbol''.name
       Symbol''.routine
-      Code.calls-traces-main·input·link-at
+      Code.calls-trace-input·link-at
       (Met''.met 𝓤 H 𝓜 𝓖 𝓡))
       (Reads.known
       record { M = M; 𝓤 = 𝓤; H = H; 𝓜 = 𝓜; 𝓖 = 𝓖; 𝓡 = 𝓡 }

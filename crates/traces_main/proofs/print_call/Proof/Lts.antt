@@ -296,7 +296,7 @@ b1 =
 abbrev b2 : Syntax.Body
 b2 =
     Syntax.call
-    "traces_main::print::outcome"
+    "trace_print::outcome"
     (List._∷_
     (Syntax.copy (Syntax.place 6 (List._∷_ (Syntax.field 5) List.[])))
     (List._∷_ (Syntax.copy (Syntax.place 5 List.[])) List.[]))
@@ -324,7 +324,7 @@ b5 =
 abbrev b6 : Syntax.Body
 b6 =
     Syntax.call
-    "traces_main::print::buffer"
+    "trace_print::buffer"
     (List._∷_
     (Syntax.copy (Syntax.place 11 List.[]))
     (List._∷_
@@ -354,7 +354,7 @@ b9 =
 abbrev b10 : Syntax.Body
 b10 =
     Syntax.call
-    "traces_main::print::buffer"
+    "trace_print::buffer"
     (List._∷_
     (Syntax.copy (Syntax.place 14 List.[]))
     (List._∷_
@@ -365,7 +365,7 @@ b10 =
 abbrev b11 : Syntax.Body
 b11 =
     Syntax.call
-    "traces_main::print_rows"
+    "trace_print::rows"
     (List._∷_
     (Syntax.copy (Syntax.place 1 List.[]))
     (List._∷_ (Syntax.copy (Syntax.place 6 (List._∷_ (Syntax.field 1) List.[]))) List.[]))
@@ -374,7 +374,7 @@ b11 =
 abbrev b12 : Syntax.Body
 b12 =
     Syntax.call
-    "traces_main::print_routes"
+    "trace_print::routes"
     (List._∷_
     (Syntax.copy (Syntax.place 2 List.[]))
     (List._∷_ (Syntax.copy (Syntax.place 6 (List._∷_ (Syntax.field 1) List.[]))) List.[]))
@@ -5418,14 +5418,14 @@ module _ (claims· : Claims) where
       Closed =
           (𝓤 : URA.URA M) (H : Wp.Heap 𝓤) (A : Atoms.Atoms 𝓤) (W : Kit.Given 𝓤 H A) (𝓣 : Wp.Tables
           𝓤 H) (known0 : Plain.Known 𝓤 H A W 𝓣 0 ps·0 r·0 (claims· .0) (claims· .1)
-          "traces_main::print::outcome") (known1 : Plain.Known 𝓤 H A W 𝓣 0 ps·1 r·1 (claims· .2)
+          "trace_print::outcome") (known1 : Plain.Known 𝓤 H A W 𝓣 0 ps·1 r·1 (claims· .2)
           (claims· .3) "traces_main::forward_size") (known2 : Plain.Known 𝓤 H A W 𝓣 2 ps·2 r·2
-          (claims· .4) (claims· .5) "traces_main::print::buffer") (known3 : Plain.Known 𝓤 H A W 𝓣 0
-          ps·3 r·3 (claims· .6) (claims· .7) "traces_main::reply_size") (known4 : Plain.Known 𝓤 H A
-          W 𝓣 1 ps·4 r·4 (claims· .8) (claims· .9) "traces_main::print_rows") (known5 : Plain.Known
-          𝓤 H A W 𝓣 1 ps·5 r·5 (claims· .10) (claims· .11) "traces_main::print_routes") →
-          Statement.Triple 𝓤 (Wp.WpFn 𝓤 H (𝓣 .C) (𝓣 .Λ) (Function.fnOf 4 ps r xs m hs body))
-          (Function.plainOf 𝓤 H A 4 ps r Pre· Post·)
+          (claims· .4) (claims· .5) "trace_print::buffer") (known3 : Plain.Known 𝓤 H A W 𝓣 0 ps·3
+          r·3 (claims· .6) (claims· .7) "traces_main::reply_size") (known4 : Plain.Known 𝓤 H A W 𝓣
+          1 ps·4 r·4 (claims· .8) (claims· .9) "trace_print::rows") (known5 : Plain.Known 𝓤 H A W 𝓣
+          1 ps·5 r·5 (claims· .10) (claims· .11) "trace_print::routes") → Statement.Triple 𝓤
+          (Wp.WpFn 𝓤 H (𝓣 .C) (𝓣 .Λ) (Function.fnOf 4 ps r xs m hs body)) (Function.plainOf 𝓤 H A 4
+          ps r Pre· Post·)
 
     module _ where
       abbrev at0 : Typed.TF T40 O0
@@ -5555,18 +5555,7 @@ module _ (claims· : Claims) where
           (W : Kit.Given 𝓤 H A) (𝓣 : Wp.Tables 𝓤 H) where
         abbrev Knowns : Type 1
         Knowns =
-            Plain.Known
-            𝓤
-            H
-            A
-            W
-            𝓣
-            0
-            ps·0
-            r·0
-            (claims· .0)
-            (claims· .1)
-            "traces_main::print::outcome" ×
+            Plain.Known 𝓤 H A W 𝓣 0 ps·0 r·0 (claims· .0) (claims· .1) "trace_print::outcome" ×
             Plain.Known
             𝓤
             H
@@ -5579,32 +5568,10 @@ module _ (claims· : Claims) where
             (claims· .2)
             (claims· .3)
             "traces_main::forward_size" ×
-            Plain.Known
-            𝓤
-            H
-            A
-            W
-            𝓣
-            2
-            ps·2
-            r·2
-            (claims· .4)
-            (claims· .5)
-            "traces_main::print::buffer" ×
+            Plain.Known 𝓤 H A W 𝓣 2 ps·2 r·2 (claims· .4) (claims· .5) "trace_print::buffer" ×
             Plain.Known 𝓤 H A W 𝓣 0 ps·3 r·3 (claims· .6) (claims· .7) "traces_main::reply_size" ×
-            Plain.Known 𝓤 H A W 𝓣 1 ps·4 r·4 (claims· .8) (claims· .9) "traces_main::print_rows" ×
-            Plain.Known
-            𝓤
-            H
-            A
-            W
-            𝓣
-            1
-            ps·5
-            r·5
-            (claims· .10)
-            (claims· .11)
-            "traces_main::print_routes"
+            Plain.Known 𝓤 H A W 𝓣 1 ps·4 r·4 (claims· .8) (claims· .9) "trace_print::rows" ×
+            Plain.Known 𝓤 H A W 𝓣 1 ps·5 r·5 (claims· .10) (claims· .11) "trace_print::routes"
 
       module _ (κs : Lifetimes.Lfts 4) (qs : Lifetimes.Shares 4) where
         abbrev G0 : Row.Cx
@@ -6406,7 +6373,7 @@ module _ (claims· : Claims) where
               r·5
               (claims· .10)
               (claims· .11)
-              "traces_main::print_routes"
+              "trace_print::routes"
               (known .5)
               E
               (λ pos β. β)
@@ -6523,7 +6490,7 @@ module _ (claims· : Claims) where
               r·4
               (claims· .8)
               (claims· .9)
-              "traces_main::print_rows"
+              "trace_print::rows"
               (known .4)
               E
               (λ pos β. β)
@@ -6799,7 +6766,7 @@ module _ (claims· : Claims) where
               r·2
               (claims· .4)
               (claims· .5)
-              "traces_main::print::buffer"
+              "trace_print::buffer"
               (known .2)
               E
               (λ pos β. β)
@@ -7779,7 +7746,7 @@ module _ (claims· : Claims) where
               r·2
               (claims· .4)
               (claims· .5)
-              "traces_main::print::buffer"
+              "trace_print::buffer"
               (known .2)
               E
               (λ pos β. β)
@@ -8072,7 +8039,7 @@ module _ (claims· : Claims) where
               r·0
               (claims· .0)
               (claims· .1)
-              "traces_main::print::outcome"
+              "trace_print::outcome"
               (known .0)
               E
               (λ pos β. β)
@@ -8959,9 +8926,8 @@ module _ (claims· : Claims) where
           Typed.Mo T34
       m27 = λ before given. s32 (m26 before given)
 
-      abbrev pub Need-print-rows-requires : Type 0
-      Need-print-rows-requires =
-          (c : After-buffer2) → s33 .asks (m27 (c .before) (After-buffer2·gave c))
+      abbrev pub Need-rows-requires : Type 0
+      Need-rows-requires = (c : After-buffer2) → s33 .asks (m27 (c .before) (After-buffer2·gave c))
 
       abbrev pub m28 :
           (before : After-buffer2) →
@@ -8970,8 +8936,8 @@ module _ (claims· : Claims) where
       m28 = λ before given. s33 .next (m27 (before .before) (After-buffer2·gave before)) given
 
       module _ (before· : After-buffer2) where
-        abbrev pub After-print-rows·own : Type 0
-        After-print-rows·own = Called.Called ps·4 r·4 (claims· .9) T34 (
+        abbrev pub After-rows·own : Type 0
+        After-rows·own = Called.Called ps·4 r·4 (claims· .9) T34 (
           record {
             pos = 1;
             ty = Syntax.tyRef
@@ -8986,14 +8952,13 @@ module _ (claims· : Claims) where
           ),
         ) (m27 (before· .before) (After-buffer2·gave before·))
 
-      pub record After-print-rows : Type 0 where
+      pub record After-rows : Type 0 where
         pub before : After-buffer2
-        pub print-rows : After-print-rows·own before
+        pub rows : After-rows·own before
 
-      abbrev pub After-print-rows·gave :
-          (c : After-print-rows) →
-          s33 .gives (m27 (c .before .before) (After-buffer2·gave (c .before)))
-      After-print-rows·gave = λ c. Called.given ps·4 r·4 (claims· .9) T34 (
+      abbrev pub After-rows·gave :
+          (c : After-rows) → s33 .gives (m27 (c .before .before) (After-buffer2·gave (c .before)))
+      After-rows·gave = λ c. Called.given ps·4 r·4 (claims· .9) T34 (
         record {
           pos = 1;
           ty = Syntax.tyRef
@@ -9006,7 +8971,7 @@ module _ (claims· : Claims) where
           Num.vFld 6 (List._∷_ (Syntax.field 1) List.[]) 32 λ x. Host.struct .as-values x .1 .0,
           tt,
         ),
-      ) (m27 (c .before .before) (After-buffer2·gave (c .before))) (c .print-rows)
+      ) (m27 (c .before .before) (After-buffer2·gave (c .before))) (c .rows)
 
       abbrev pub m29 :
           (before : After-buffer2) →
@@ -9014,19 +8979,18 @@ module _ (claims· : Claims) where
           Typed.Mo T36
       m29 = λ before given. s34 (m28 before given)
 
-      abbrev pub Need-print-routes-requires : Type 0
-      Need-print-routes-requires =
-          (c : After-print-rows) → s35 .asks (m29 (c .before) (After-print-rows·gave c))
+      abbrev pub Need-routes-requires : Type 0
+      Need-routes-requires = (c : After-rows) → s35 .asks (m29 (c .before) (After-rows·gave c))
 
       abbrev pub m30 :
-          (before : After-print-rows) →
-          (given : s35 .gives (m29 (before .before) (After-print-rows·gave before))) →
+          (before : After-rows) →
+          (given : s35 .gives (m29 (before .before) (After-rows·gave before))) →
           Typed.Mo T37
-      m30 = λ before given. s35 .next (m29 (before .before) (After-print-rows·gave before)) given
+      m30 = λ before given. s35 .next (m29 (before .before) (After-rows·gave before)) given
 
-      module _ (before· : After-print-rows) where
-        abbrev pub After-print-routes·own : Type 0
-        After-print-routes·own = Called.Called ps·5 r·5 (claims· .11) T36 (
+      module _ (before· : After-rows) where
+        abbrev pub After-routes·own : Type 0
+        After-routes·own = Called.Called ps·5 r·5 (claims· .11) T36 (
           record {
             pos = 2;
             ty = Syntax.tyRef
@@ -9039,16 +9003,15 @@ module _ (claims· : Claims) where
             Num.vFld 6 (List._∷_ (Syntax.field 1) List.[]) 32 λ x. Host.struct .as-values x .1 .0,
             tt,
           ),
-        ) (m29 (before· .before) (After-print-rows·gave before·))
+        ) (m29 (before· .before) (After-rows·gave before·))
 
-      pub record After-print-routes : Type 0 where
-        pub before : After-print-rows
-        pub print-routes : After-print-routes·own before
+      pub record After-routes : Type 0 where
+        pub before : After-rows
+        pub routes : After-routes·own before
 
-      abbrev pub After-print-routes·gave :
-          (c : After-print-routes) →
-          s35 .gives (m29 (c .before .before) (After-print-rows·gave (c .before)))
-      After-print-routes·gave = λ c. Called.given ps·5 r·5 (claims· .11) T36 (
+      abbrev pub After-routes·gave :
+          (c : After-routes) → s35 .gives (m29 (c .before .before) (After-rows·gave (c .before)))
+      After-routes·gave = λ c. Called.given ps·5 r·5 (claims· .11) T36 (
         record {
           pos = 2;
           ty = Syntax.tyRef
@@ -9061,29 +9024,29 @@ module _ (claims· : Claims) where
           Num.vFld 6 (List._∷_ (Syntax.field 1) List.[]) 32 λ x. Host.struct .as-values x .1 .0,
           tt,
         ),
-      ) (m29 (c .before .before) (After-print-rows·gave (c .before))) (c .print-routes)
+      ) (m29 (c .before .before) (After-rows·gave (c .before))) (c .routes)
 
       abbrev pub m31 :
-          (before : After-print-rows) →
-          (given : s35 .gives (m29 (before .before) (After-print-rows·gave before))) →
+          (before : After-rows) →
+          (given : s35 .gives (m29 (before .before) (After-rows·gave before))) →
           Typed.Mo T38
       m31 = λ before given. s36 (m30 before given)
 
       abbrev pub m32 :
-          (before : After-print-rows) →
-          (given : s35 .gives (m29 (before .before) (After-print-rows·gave before))) →
+          (before : After-rows) →
+          (given : s35 .gives (m29 (before .before) (After-rows·gave before))) →
           Typed.Mo T39
       m32 = λ before given. s37 (m31 before given)
 
       abbrev pub m33 :
-          (before : After-print-rows) →
-          (given : s35 .gives (m29 (before .before) (After-print-rows·gave before))) →
+          (before : After-rows) →
+          (given : s35 .gives (m29 (before .before) (After-rows·gave before))) →
           Typed.Mo T40
       m33 = λ before given. s38 (m32 before given)
 
       abbrev pub Need-returns : Type 0
       Need-returns =
-          (c : After-print-routes) → Post·
+          (c : After-routes) → Post·
           (c .before .before .before .before .before .before .before .before .before .before
           .before .κs) (dens
           (c .before .before .before .before .before .before .before .before .before .before
@@ -9091,8 +9054,8 @@ module _ (claims· : Claims) where
           (c .before .before .before .before .before .before .before .before .before .before
           .before .args)) (Function.resV r
           (c .before .before .before .before .before .before .before .before .before .before
-          .before .κs) (m33 (c .before) (After-print-routes·gave c) .0)) (Clauses.atExit
-          (Kinds.endedOf 4 ps r)
+          .before .κs) (m33 (c .before) (After-routes·gave c) .0)) (Clauses.atExit (Kinds.endedOf 4
+          ps r)
           (c .before .before .before .before .before .before .before .before .before .before
           .before .κs) (dens
           (c .before .before .before .before .before .before .before .before .before .before
@@ -9104,7 +9067,7 @@ module _ (claims· : Claims) where
           (c .before .before .before .before .before .before .before .before .before .before
           .before .κs)
           (c .before .before .before .before .before .before .before .before .before .before
-          .before .args)) (m33 (c .before) (After-print-routes·gave c) .1)))
+          .before .args)) (m33 (c .before) (After-routes·gave c) .1)))
 
       module _ (outcome-requires : Need-outcome-requires)
           (slice-aggregate-buffer : Need-slice-aggregate-buffer)
@@ -9112,30 +9075,29 @@ module _ (claims· : Claims) where
           (buffer-requires : Need-buffer-requires)
           (slice-aggregate-buffer-2 : Need-slice-aggregate-buffer-2)
           (reply-size-requires : Need-reply-size-requires)
-          (buffer-requires-2 : Need-buffer-requires-2)
-          (print-rows-requires : Need-print-rows-requires)
-          (print-routes-requires : Need-print-routes-requires) (returns : Need-returns) where
+          (buffer-requires-2 : Need-buffer-requires-2) (rows-requires : Need-rows-requires)
+          (routes-requires : Need-routes-requires) (returns : Need-returns) where
         lay7 :
-            (c : After-print-routes) → at3 (W0
+            (c : After-routes) → at3 (W0
             (c .before .before .before .before .before .before .before .before .before .before
             .before .κs)
             (c .before .before .before .before .before .before .before .before .before .before
-            .before .args)) (m30 (c .before) (After-print-routes·gave c))
+            .before .args)) (m30 (c .before) (After-routes·gave c))
         lay7 = λ c. (
           (Path'.refl, (Path'.refl, (Path'.refl, (Path'.refl, (tt, (tt, tt)))))),
-          returns record { before = c .before; print-routes = c .print-routes },
+          returns record { before = c .before; routes = c .routes },
         )
 
         lay6 :
-            (c : After-print-rows) → at5 (W0
+            (c : After-rows) → at5 (W0
             (c .before .before .before .before .before .before .before .before .before .before .κs)
             (c .before .before .before .before .before .before .before .before .before .before
-            .args)) (m28 (c .before) (After-print-rows·gave c))
+            .args)) (m28 (c .before) (After-rows·gave c))
         lay6 = λ c. (
-          print-routes-requires record { before = c .before; print-rows = c .print-rows },
+          routes-requires record { before = c .before; rows = c .rows },
           λ g. lay7 record {
-            before = record { before = c .before; print-rows = c .print-rows };
-            print-routes = Called.called ps·5 r·5 (claims· .11) T36 (
+            before = record { before = c .before; rows = c .rows };
+            routes = Called.called ps·5 r·5 (claims· .11) T36 (
               record {
                 pos = 2;
                 ty = Syntax.tyRef
@@ -9153,7 +9115,7 @@ module _ (claims· : Claims) where
                     x .1 .0,
                 tt,
               ),
-            ) (m29 (c .before) (After-print-rows·gave c)) g;
+            ) (m29 (c .before) (After-rows·gave c)) g;
           },
         )
 
@@ -9165,10 +9127,10 @@ module _ (claims· : Claims) where
             (c .before .before .before .before .before .before .before .before .before .args))
             (m22 (c .before) (After-buffer2·gave c))
         lay5 = λ c. (
-          print-rows-requires record { before = c .before; buffer2 = c .buffer2 },
+          rows-requires record { before = c .before; buffer2 = c .buffer2 },
           λ g. lay6 record {
             before = record { before = c .before; buffer2 = c .buffer2 };
-            print-rows = Called.called ps·4 r·4 (claims· .9) T34 (
+            rows = Called.called ps·4 r·4 (claims· .9) T34 (
               record {
                 pos = 1;
                 ty = Syntax.tyRef
@@ -9369,7 +9331,7 @@ module _ (claims· : Claims) where
             r·0
             (claims· .0)
             (claims· .1)
-            "traces_main::print::outcome")
+            "trace_print::outcome")
             (known1 : Plain.Known
             𝓤
             H
@@ -9393,7 +9355,7 @@ module _ (claims· : Claims) where
             r·2
             (claims· .4)
             (claims· .5)
-            "traces_main::print::buffer")
+            "trace_print::buffer")
             (known3 : Plain.Known
             𝓤
             H
@@ -9417,7 +9379,7 @@ module _ (claims· : Claims) where
             r·4
             (claims· .8)
             (claims· .9)
-            "traces_main::print_rows")
+            "trace_print::rows")
             (known5 : Plain.Known
             𝓤
             H
@@ -9429,7 +9391,7 @@ module _ (claims· : Claims) where
             r·5
             (claims· .10)
             (claims· .11)
-            "traces_main::print_routes") where
+            "trace_print::routes") where
           pub spec :
               Statement.Triple
               𝓤

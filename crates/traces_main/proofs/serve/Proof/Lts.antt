@@ -6,10 +6,10 @@ use Rattle.tally.proofs.Elem.Tally as KTally
 use Prim.Native.Nat
 use Rattle.own.proofs.Own
 use Rattle.own.proofs.Own.Laws
+use Rattle.trace_input.proofs.Head
+use Rattle.trace_input.proofs.Head.Laws as Laws'
 use Rattle.traces_main.proofs.Host
-use Rattle.traces_main.proofs.Host.Laws as Laws'
-use Rattle.traces_main.proofs.input.Head
-use Rattle.traces_main.proofs.input.Head.Laws as Laws''
+use Rattle.traces_main.proofs.Host.Laws as Laws''
 use borrow.Author.Called
 use borrow.Author.Tests
 use borrow.Fn.Any
@@ -166,21 +166,7 @@ xs =
     (List._∷_
     101
     (List._∷_
-    115
-    (List._∷_
     95
-    (List._∷_
-    109
-    (List._∷_
-    97
-    (List._∷_
-    105
-    (List._∷_
-    110
-    (List._∷_
-    58
-    (List._∷_
-    58
     (List._∷_
     105
     (List._∷_
@@ -193,9 +179,7 @@ xs =
     116
     (List._∷_
     58
-    (List._∷_
-    58
-    (List._∷_ 72 (List._∷_ 101 (List._∷_ 97 (List._∷_ 100 List.[]))))))))))))))))))))))))
+    (List._∷_ 58 (List._∷_ 72 (List._∷_ 101 (List._∷_ 97 (List._∷_ 100 List.[])))))))))))))))))
     (Syntax.tcons (Syntax.tyInt Syntax.w8) (Syntax.tcons (Syntax.tyInt Syntax.w64) Syntax.tnil)))
     (List._∷_
     (Syntax.tyInt Syntax.w64)
@@ -290,16 +274,16 @@ abbrev pub r·1 : Kinds.RK 0
 r·1 = Value.rVal record {
   ty = Declared.row Host.the-type;
   one = Path'.refl;
-  val = Laws'3.val Host.the-type Laws'.the-laws;
-  tells = Laws'3.tells Host.the-type Laws'.the-laws;
-  still = Laws'3.still Host.the-type Laws'.the-copy Exit.yes;
+  val = Laws'3.val Host.the-type Laws''.the-laws;
+  tells = Laws'3.tells Host.the-type Laws''.the-laws;
+  still = Laws'3.still Host.the-type Laws''.the-copy Exit.yes;
   row = Rows'.whole (Declared.row Host.the-type);
   rd = λ x. x;
   mk = λ x. x;
 } λ M 𝓤 H A W. record {
-  copies = Laws'3.copy Host.the-type Laws'.the-copy 𝓤 H A W;
-  lawful = Laws'3.lawful Host.the-type Laws'.the-laws 𝓤 H A W;
-  makes = Laws'3.makes Host.the-type Laws'.the-plain 𝓤 H A;
+  copies = Laws'3.copy Host.the-type Laws''.the-copy 𝓤 H A W;
+  lawful = Laws'3.lawful Host.the-type Laws''.the-laws 𝓤 H A W;
+  makes = Laws'3.makes Host.the-type Laws''.the-plain 𝓤 H A;
   in-mem = Local.mem-whole 𝓤 H A W (Declared.row Host.the-type);
   of-mem = Local.whole-mem 𝓤 H A W (Declared.row Host.the-type);
 }
@@ -311,16 +295,16 @@ abbrev pub r·2 : Kinds.RK 1
 r·2 = Value.rVal record {
   ty = Declared.row Head.the-type;
   one = Path'.refl;
-  val = Laws'3.val Head.the-type Laws''.the-laws;
-  tells = Laws'3.tells Head.the-type Laws''.the-laws;
-  still = Laws'3.still Head.the-type Laws''.the-copy Exit.yes;
+  val = Laws'3.val Head.the-type Laws'.the-laws;
+  tells = Laws'3.tells Head.the-type Laws'.the-laws;
+  still = Laws'3.still Head.the-type Laws'.the-copy Exit.yes;
   row = Rows'.whole (Declared.row Head.the-type);
   rd = λ x. x;
   mk = λ x. x;
 } λ M 𝓤 H A W. record {
-  copies = Laws'3.copy Head.the-type Laws''.the-copy 𝓤 H A W;
-  lawful = Laws'3.lawful Head.the-type Laws''.the-laws 𝓤 H A W;
-  makes = Laws'3.makes Head.the-type Laws''.the-plain 𝓤 H A;
+  copies = Laws'3.copy Head.the-type Laws'.the-copy 𝓤 H A W;
+  lawful = Laws'3.lawful Head.the-type Laws'.the-laws 𝓤 H A W;
+  makes = Laws'3.makes Head.the-type Laws'.the-plain 𝓤 H A;
   in-mem = Local.mem-whole 𝓤 H A W (Declared.row Head.the-type);
   of-mem = Local.whole-mem 𝓤 H A W (Declared.row Head.the-type);
 }
@@ -350,16 +334,16 @@ ps·4 =
     (List._∷_ (Value.pVal record {
       ty = Declared.row Host.the-type;
       one = Path'.refl;
-      val = Laws'3.val Host.the-type Laws'.the-laws;
-      tells = Laws'3.tells Host.the-type Laws'.the-laws;
-      still = Laws'3.still Host.the-type Laws'.the-copy Exit.yes;
+      val = Laws'3.val Host.the-type Laws''.the-laws;
+      tells = Laws'3.tells Host.the-type Laws''.the-laws;
+      still = Laws'3.still Host.the-type Laws''.the-copy Exit.yes;
       row = Rows'.whole (Declared.row Host.the-type);
       rd = λ x. x;
       mk = λ x. x;
     } λ M 𝓤 H A W. record {
-      copies = Laws'3.copy Host.the-type Laws'.the-copy 𝓤 H A W;
-      lawful = Laws'3.lawful Host.the-type Laws'.the-laws 𝓤 H A W;
-      makes = Laws'3.makes Host.the-type Laws'.the-plain 𝓤 H A;
+      copies = Laws'3.copy Host.the-type Laws''.the-copy 𝓤 H A W;
+      lawful = Laws'3.lawful Host.the-type Laws''.the-laws 𝓤 H A W;
+      makes = Laws'3.makes Host.the-type Laws''.the-plain 𝓤 H A;
       in-mem = Local.mem-whole 𝓤 H A W (Declared.row Host.the-type);
       of-mem = Local.whole-mem 𝓤 H A W (Declared.row Host.the-type);
     }) List.[])))))))
@@ -368,16 +352,16 @@ abbrev pub r·4 : Kinds.RK 6
 r·4 = Value.rVal record {
   ty = Declared.row Host.the-type;
   one = Path'.refl;
-  val = Laws'3.val Host.the-type Laws'.the-laws;
-  tells = Laws'3.tells Host.the-type Laws'.the-laws;
-  still = Laws'3.still Host.the-type Laws'.the-copy Exit.yes;
+  val = Laws'3.val Host.the-type Laws''.the-laws;
+  tells = Laws'3.tells Host.the-type Laws''.the-laws;
+  still = Laws'3.still Host.the-type Laws''.the-copy Exit.yes;
   row = Rows'.whole (Declared.row Host.the-type);
   rd = λ x. x;
   mk = λ x. x;
 } λ M 𝓤 H A W. record {
-  copies = Laws'3.copy Host.the-type Laws'.the-copy 𝓤 H A W;
-  lawful = Laws'3.lawful Host.the-type Laws'.the-laws 𝓤 H A W;
-  makes = Laws'3.makes Host.the-type Laws'.the-plain 𝓤 H A;
+  copies = Laws'3.copy Host.the-type Laws''.the-copy 𝓤 H A W;
+  lawful = Laws'3.lawful Host.the-type Laws''.the-laws 𝓤 H A W;
+  makes = Laws'3.makes Host.the-type Laws''.the-plain 𝓤 H A;
   in-mem = Local.mem-whole 𝓤 H A W (Declared.row Host.the-type);
   of-mem = Local.whole-mem 𝓤 H A W (Declared.row Host.the-type);
 }
@@ -507,7 +491,7 @@ b13 =
 abbrev b14 : Syntax.Body
 b14 =
     Syntax.call
-    "traces_main::input::read_record"
+    "trace_input::read_record"
     (List._∷_ (Syntax.copy (Syntax.place 15 List.[])) List.[])
     (Syntax.place 10 List.[])
 
@@ -556,7 +540,7 @@ b23 = Syntax.assign (Syntax.place 17 List.[]) (Syntax.rvOpd (Syntax.copy (Syntax
 abbrev b24 : Syntax.Body
 b24 =
     Syntax.call
-    "traces_main::print::tally"
+    "trace_print::tally"
     (List._∷_ (Syntax.copy (Syntax.place 17 List.[])) List.[])
     (Syntax.place 16 List.[])
 
@@ -886,21 +870,7 @@ t0 = List._∷_ (0, Rows'.any-gone Syntax.tyUnit) (List._∷_ (
       (List._∷_
       101
       (List._∷_
-      115
-      (List._∷_
       95
-      (List._∷_
-      109
-      (List._∷_
-      97
-      (List._∷_
-      105
-      (List._∷_
-      110
-      (List._∷_
-      58
-      (List._∷_
-      58
       (List._∷_
       105
       (List._∷_
@@ -913,9 +883,7 @@ t0 = List._∷_ (0, Rows'.any-gone Syntax.tyUnit) (List._∷_ (
       116
       (List._∷_
       58
-      (List._∷_
-      58
-      (List._∷_ 72 (List._∷_ 101 (List._∷_ 97 (List._∷_ 100 List.[]))))))))))))))))))))))))
+      (List._∷_ 58 (List._∷_ 72 (List._∷_ 101 (List._∷_ 97 (List._∷_ 100 List.[])))))))))))))))))
       (Syntax.tcons (Syntax.tyInt Syntax.w8) (Syntax.tcons (Syntax.tyInt Syntax.w64) Syntax.tnil))),
 ) (List._∷_ (11, Rows'.any-gone (Syntax.tyInt Syntax.w64)) (List._∷_ (
   12,
@@ -1102,21 +1070,7 @@ t2 = List._∷_ (0, Rows'.sc-here Row.sUnit) (List._∷_ (
       (List._∷_
       101
       (List._∷_
-      115
-      (List._∷_
       95
-      (List._∷_
-      109
-      (List._∷_
-      97
-      (List._∷_
-      105
-      (List._∷_
-      110
-      (List._∷_
-      58
-      (List._∷_
-      58
       (List._∷_
       105
       (List._∷_
@@ -1129,9 +1083,7 @@ t2 = List._∷_ (0, Rows'.sc-here Row.sUnit) (List._∷_ (
       116
       (List._∷_
       58
-      (List._∷_
-      58
-      (List._∷_ 72 (List._∷_ 101 (List._∷_ 97 (List._∷_ 100 List.[]))))))))))))))))))))))))
+      (List._∷_ 58 (List._∷_ 72 (List._∷_ 101 (List._∷_ 97 (List._∷_ 100 List.[])))))))))))))))))
       (Syntax.tcons (Syntax.tyInt Syntax.w8) (Syntax.tcons (Syntax.tyInt Syntax.w64) Syntax.tnil))),
 ) (List._∷_ (11, Rows'.any-gone (Syntax.tyInt Syntax.w64)) (List._∷_ (
   12,
@@ -1234,21 +1186,7 @@ t3 = List._∷_ (0, Rows'.any-gone Syntax.tyUnit) (List._∷_ (
       (List._∷_
       101
       (List._∷_
-      115
-      (List._∷_
       95
-      (List._∷_
-      109
-      (List._∷_
-      97
-      (List._∷_
-      105
-      (List._∷_
-      110
-      (List._∷_
-      58
-      (List._∷_
-      58
       (List._∷_
       105
       (List._∷_
@@ -1261,9 +1199,7 @@ t3 = List._∷_ (0, Rows'.any-gone Syntax.tyUnit) (List._∷_ (
       116
       (List._∷_
       58
-      (List._∷_
-      58
-      (List._∷_ 72 (List._∷_ 101 (List._∷_ 97 (List._∷_ 100 List.[]))))))))))))))))))))))))
+      (List._∷_ 58 (List._∷_ 72 (List._∷_ 101 (List._∷_ 97 (List._∷_ 100 List.[])))))))))))))))))
       (Syntax.tcons (Syntax.tyInt Syntax.w8) (Syntax.tcons (Syntax.tyInt Syntax.w64) Syntax.tnil))),
 ) (List._∷_ (11, Rows'.any-gone (Syntax.tyInt Syntax.w64)) (List._∷_ (
   12,
@@ -1366,21 +1302,7 @@ t4 = List._∷_ (0, Rows'.any-gone Syntax.tyUnit) (List._∷_ (
       (List._∷_
       101
       (List._∷_
-      115
-      (List._∷_
       95
-      (List._∷_
-      109
-      (List._∷_
-      97
-      (List._∷_
-      105
-      (List._∷_
-      110
-      (List._∷_
-      58
-      (List._∷_
-      58
       (List._∷_
       105
       (List._∷_
@@ -1393,9 +1315,7 @@ t4 = List._∷_ (0, Rows'.any-gone Syntax.tyUnit) (List._∷_ (
       116
       (List._∷_
       58
-      (List._∷_
-      58
-      (List._∷_ 72 (List._∷_ 101 (List._∷_ 97 (List._∷_ 100 List.[]))))))))))))))))))))))))
+      (List._∷_ 58 (List._∷_ 72 (List._∷_ 101 (List._∷_ 97 (List._∷_ 100 List.[])))))))))))))))))
       (Syntax.tcons (Syntax.tyInt Syntax.w8) (Syntax.tcons (Syntax.tyInt Syntax.w64) Syntax.tnil))),
 ) (List._∷_ (11, Rows'.any-gone (Syntax.tyInt Syntax.w64)) (List._∷_ (
   12,
@@ -1503,21 +1423,7 @@ t5 = List._∷_ (0, Rows'.any-gone Syntax.tyUnit) (List._∷_ (
           (List._∷_
           101
           (List._∷_
-          115
-          (List._∷_
           95
-          (List._∷_
-          109
-          (List._∷_
-          97
-          (List._∷_
-          105
-          (List._∷_
-          110
-          (List._∷_
-          58
-          (List._∷_
-          58
           (List._∷_
           105
           (List._∷_
@@ -1532,7 +1438,7 @@ t5 = List._∷_ (0, Rows'.any-gone Syntax.tyUnit) (List._∷_ (
           58
           (List._∷_
           58
-          (List._∷_ 72 (List._∷_ 101 (List._∷_ 97 (List._∷_ 100 List.[]))))))))))))))))))))))))
+          (List._∷_ 72 (List._∷_ 101 (List._∷_ 97 (List._∷_ 100 List.[])))))))))))))))))
           (Syntax.tcons
           (Syntax.tyInt Syntax.w8)
           (Syntax.tcons (Syntax.tyInt Syntax.w64) Syntax.tnil))),
@@ -1637,21 +1543,7 @@ t6 = List._∷_ (0, Rows'.any-gone Syntax.tyUnit) (List._∷_ (
       (List._∷_
       101
       (List._∷_
-      115
-      (List._∷_
       95
-      (List._∷_
-      109
-      (List._∷_
-      97
-      (List._∷_
-      105
-      (List._∷_
-      110
-      (List._∷_
-      58
-      (List._∷_
-      58
       (List._∷_
       105
       (List._∷_
@@ -1664,9 +1556,7 @@ t6 = List._∷_ (0, Rows'.any-gone Syntax.tyUnit) (List._∷_ (
       116
       (List._∷_
       58
-      (List._∷_
-      58
-      (List._∷_ 72 (List._∷_ 101 (List._∷_ 97 (List._∷_ 100 List.[]))))))))))))))))))))))))
+      (List._∷_ 58 (List._∷_ 72 (List._∷_ 101 (List._∷_ 97 (List._∷_ 100 List.[])))))))))))))))))
       (Syntax.tcons (Syntax.tyInt Syntax.w8) (Syntax.tcons (Syntax.tyInt Syntax.w64) Syntax.tnil))),
 ) (List._∷_ (11, Rows'.any-gone (Syntax.tyInt Syntax.w64)) (List._∷_ (
   12,
@@ -1769,21 +1659,7 @@ t7 = List._∷_ (0, Rows'.any-gone Syntax.tyUnit) (List._∷_ (
       (List._∷_
       101
       (List._∷_
-      115
-      (List._∷_
       95
-      (List._∷_
-      109
-      (List._∷_
-      97
-      (List._∷_
-      105
-      (List._∷_
-      110
-      (List._∷_
-      58
-      (List._∷_
-      58
       (List._∷_
       105
       (List._∷_
@@ -1796,9 +1672,7 @@ t7 = List._∷_ (0, Rows'.any-gone Syntax.tyUnit) (List._∷_ (
       116
       (List._∷_
       58
-      (List._∷_
-      58
-      (List._∷_ 72 (List._∷_ 101 (List._∷_ 97 (List._∷_ 100 List.[]))))))))))))))))))))))))
+      (List._∷_ 58 (List._∷_ 72 (List._∷_ 101 (List._∷_ 97 (List._∷_ 100 List.[])))))))))))))))))
       (Syntax.tcons (Syntax.tyInt Syntax.w8) (Syntax.tcons (Syntax.tyInt Syntax.w64) Syntax.tnil))),
 ) (List._∷_ (11, Rows'.any-gone (Syntax.tyInt Syntax.w64)) (List._∷_ (
   12,
@@ -1901,21 +1775,7 @@ t8 = List._∷_ (0, Rows'.any-gone Syntax.tyUnit) (List._∷_ (
       (List._∷_
       101
       (List._∷_
-      115
-      (List._∷_
       95
-      (List._∷_
-      109
-      (List._∷_
-      97
-      (List._∷_
-      105
-      (List._∷_
-      110
-      (List._∷_
-      58
-      (List._∷_
-      58
       (List._∷_
       105
       (List._∷_
@@ -1928,9 +1788,7 @@ t8 = List._∷_ (0, Rows'.any-gone Syntax.tyUnit) (List._∷_ (
       116
       (List._∷_
       58
-      (List._∷_
-      58
-      (List._∷_ 72 (List._∷_ 101 (List._∷_ 97 (List._∷_ 100 List.[]))))))))))))))))))))))))
+      (List._∷_ 58 (List._∷_ 72 (List._∷_ 101 (List._∷_ 97 (List._∷_ 100 List.[])))))))))))))))))
       (Syntax.tcons (Syntax.tyInt Syntax.w8) (Syntax.tcons (Syntax.tyInt Syntax.w64) Syntax.tnil))),
 ) (List._∷_ (11, Rows'.any-gone (Syntax.tyInt Syntax.w64)) (List._∷_ (
   12,
@@ -2033,21 +1891,7 @@ t9 = List._∷_ (0, Rows'.any-gone Syntax.tyUnit) (List._∷_ (
       (List._∷_
       101
       (List._∷_
-      115
-      (List._∷_
       95
-      (List._∷_
-      109
-      (List._∷_
-      97
-      (List._∷_
-      105
-      (List._∷_
-      110
-      (List._∷_
-      58
-      (List._∷_
-      58
       (List._∷_
       105
       (List._∷_
@@ -2060,9 +1904,7 @@ t9 = List._∷_ (0, Rows'.any-gone Syntax.tyUnit) (List._∷_ (
       116
       (List._∷_
       58
-      (List._∷_
-      58
-      (List._∷_ 72 (List._∷_ 101 (List._∷_ 97 (List._∷_ 100 List.[]))))))))))))))))))))))))
+      (List._∷_ 58 (List._∷_ 72 (List._∷_ 101 (List._∷_ 97 (List._∷_ 100 List.[])))))))))))))))))
       (Syntax.tcons (Syntax.tyInt Syntax.w8) (Syntax.tcons (Syntax.tyInt Syntax.w64) Syntax.tnil))),
 ) (List._∷_ (11, Rows'.any-gone (Syntax.tyInt Syntax.w64)) (List._∷_ (
   12,
@@ -2165,21 +2007,7 @@ t10 = List._∷_ (0, Rows'.any-gone Syntax.tyUnit) (List._∷_ (
       (List._∷_
       101
       (List._∷_
-      115
-      (List._∷_
       95
-      (List._∷_
-      109
-      (List._∷_
-      97
-      (List._∷_
-      105
-      (List._∷_
-      110
-      (List._∷_
-      58
-      (List._∷_
-      58
       (List._∷_
       105
       (List._∷_
@@ -2192,9 +2020,7 @@ t10 = List._∷_ (0, Rows'.any-gone Syntax.tyUnit) (List._∷_ (
       116
       (List._∷_
       58
-      (List._∷_
-      58
-      (List._∷_ 72 (List._∷_ 101 (List._∷_ 97 (List._∷_ 100 List.[]))))))))))))))))))))))))
+      (List._∷_ 58 (List._∷_ 72 (List._∷_ 101 (List._∷_ 97 (List._∷_ 100 List.[])))))))))))))))))
       (Syntax.tcons (Syntax.tyInt Syntax.w8) (Syntax.tcons (Syntax.tyInt Syntax.w64) Syntax.tnil))),
 ) (List._∷_ (11, Rows'.any-gone (Syntax.tyInt Syntax.w64)) (List._∷_ (
   12,
@@ -2297,21 +2123,7 @@ t11 = List._∷_ (0, Rows'.any-gone Syntax.tyUnit) (List._∷_ (
       (List._∷_
       101
       (List._∷_
-      115
-      (List._∷_
       95
-      (List._∷_
-      109
-      (List._∷_
-      97
-      (List._∷_
-      105
-      (List._∷_
-      110
-      (List._∷_
-      58
-      (List._∷_
-      58
       (List._∷_
       105
       (List._∷_
@@ -2324,9 +2136,7 @@ t11 = List._∷_ (0, Rows'.any-gone Syntax.tyUnit) (List._∷_ (
       116
       (List._∷_
       58
-      (List._∷_
-      58
-      (List._∷_ 72 (List._∷_ 101 (List._∷_ 97 (List._∷_ 100 List.[]))))))))))))))))))))))))
+      (List._∷_ 58 (List._∷_ 72 (List._∷_ 101 (List._∷_ 97 (List._∷_ 100 List.[])))))))))))))))))
       (Syntax.tcons (Syntax.tyInt Syntax.w8) (Syntax.tcons (Syntax.tyInt Syntax.w64) Syntax.tnil))),
 ) (List._∷_ (11, Rows'.any-gone (Syntax.tyInt Syntax.w64)) (List._∷_ (
   12,
@@ -2382,21 +2192,7 @@ t12 = List._∷_ (0, Rows'.any-gone Syntax.tyUnit) (List._∷_ (
       (List._∷_
       101
       (List._∷_
-      115
-      (List._∷_
       95
-      (List._∷_
-      109
-      (List._∷_
-      97
-      (List._∷_
-      105
-      (List._∷_
-      110
-      (List._∷_
-      58
-      (List._∷_
-      58
       (List._∷_
       105
       (List._∷_
@@ -2409,9 +2205,7 @@ t12 = List._∷_ (0, Rows'.any-gone Syntax.tyUnit) (List._∷_ (
       116
       (List._∷_
       58
-      (List._∷_
-      58
-      (List._∷_ 72 (List._∷_ 101 (List._∷_ 97 (List._∷_ 100 List.[]))))))))))))))))))))))))
+      (List._∷_ 58 (List._∷_ 72 (List._∷_ 101 (List._∷_ 97 (List._∷_ 100 List.[])))))))))))))))))
       (Syntax.tcons (Syntax.tyInt Syntax.w8) (Syntax.tcons (Syntax.tyInt Syntax.w64) Syntax.tnil))),
 ) (List._∷_ (11, Rows'.any-gone (Syntax.tyInt Syntax.w64)) (List._∷_ (
   12,
@@ -2481,21 +2275,7 @@ t13 = List._∷_ (0, Rows'.any-gone Syntax.tyUnit) (List._∷_ (
       (List._∷_
       101
       (List._∷_
-      115
-      (List._∷_
       95
-      (List._∷_
-      109
-      (List._∷_
-      97
-      (List._∷_
-      105
-      (List._∷_
-      110
-      (List._∷_
-      58
-      (List._∷_
-      58
       (List._∷_
       105
       (List._∷_
@@ -2508,9 +2288,7 @@ t13 = List._∷_ (0, Rows'.any-gone Syntax.tyUnit) (List._∷_ (
       116
       (List._∷_
       58
-      (List._∷_
-      58
-      (List._∷_ 72 (List._∷_ 101 (List._∷_ 97 (List._∷_ 100 List.[]))))))))))))))))))))))))
+      (List._∷_ 58 (List._∷_ 72 (List._∷_ 101 (List._∷_ 97 (List._∷_ 100 List.[])))))))))))))))))
       (Syntax.tcons (Syntax.tyInt Syntax.w8) (Syntax.tcons (Syntax.tyInt Syntax.w64) Syntax.tnil))),
 ) (List._∷_ (11, Rows'.any-gone (Syntax.tyInt Syntax.w64)) (List._∷_ (
   12,
@@ -2580,21 +2358,7 @@ t14 = List._∷_ (0, Rows'.any-gone Syntax.tyUnit) (List._∷_ (
       (List._∷_
       101
       (List._∷_
-      115
-      (List._∷_
       95
-      (List._∷_
-      109
-      (List._∷_
-      97
-      (List._∷_
-      105
-      (List._∷_
-      110
-      (List._∷_
-      58
-      (List._∷_
-      58
       (List._∷_
       105
       (List._∷_
@@ -2607,9 +2371,7 @@ t14 = List._∷_ (0, Rows'.any-gone Syntax.tyUnit) (List._∷_ (
       116
       (List._∷_
       58
-      (List._∷_
-      58
-      (List._∷_ 72 (List._∷_ 101 (List._∷_ 97 (List._∷_ 100 List.[]))))))))))))))))))))))))
+      (List._∷_ 58 (List._∷_ 72 (List._∷_ 101 (List._∷_ 97 (List._∷_ 100 List.[])))))))))))))))))
       (Syntax.tcons (Syntax.tyInt Syntax.w8) (Syntax.tcons (Syntax.tyInt Syntax.w64) Syntax.tnil))),
 ) (List._∷_ (11, Rows'.any-gone (Syntax.tyInt Syntax.w64)) (List._∷_ (
   12,
@@ -2726,21 +2488,7 @@ t15 = List._∷_ (0, Rows'.any-gone Syntax.tyUnit) (List._∷_ (
       (List._∷_
       101
       (List._∷_
-      115
-      (List._∷_
       95
-      (List._∷_
-      109
-      (List._∷_
-      97
-      (List._∷_
-      105
-      (List._∷_
-      110
-      (List._∷_
-      58
-      (List._∷_
-      58
       (List._∷_
       105
       (List._∷_
@@ -2753,9 +2501,7 @@ t15 = List._∷_ (0, Rows'.any-gone Syntax.tyUnit) (List._∷_ (
       116
       (List._∷_
       58
-      (List._∷_
-      58
-      (List._∷_ 72 (List._∷_ 101 (List._∷_ 97 (List._∷_ 100 List.[]))))))))))))))))))))))))
+      (List._∷_ 58 (List._∷_ 72 (List._∷_ 101 (List._∷_ 97 (List._∷_ 100 List.[])))))))))))))))))
       (Syntax.tcons (Syntax.tyInt Syntax.w8) (Syntax.tcons (Syntax.tyInt Syntax.w64) Syntax.tnil))),
 ) (List._∷_ (11, Rows'.any-gone (Syntax.tyInt Syntax.w64)) (List._∷_ (
   12,
@@ -2825,21 +2571,7 @@ t16 = List._∷_ (0, Rows'.any-gone Syntax.tyUnit) (List._∷_ (
       (List._∷_
       101
       (List._∷_
-      115
-      (List._∷_
       95
-      (List._∷_
-      109
-      (List._∷_
-      97
-      (List._∷_
-      105
-      (List._∷_
-      110
-      (List._∷_
-      58
-      (List._∷_
-      58
       (List._∷_
       105
       (List._∷_
@@ -2852,9 +2584,7 @@ t16 = List._∷_ (0, Rows'.any-gone Syntax.tyUnit) (List._∷_ (
       116
       (List._∷_
       58
-      (List._∷_
-      58
-      (List._∷_ 72 (List._∷_ 101 (List._∷_ 97 (List._∷_ 100 List.[]))))))))))))))))))))))))
+      (List._∷_ 58 (List._∷_ 72 (List._∷_ 101 (List._∷_ 97 (List._∷_ 100 List.[])))))))))))))))))
       (Syntax.tcons (Syntax.tyInt Syntax.w8) (Syntax.tcons (Syntax.tyInt Syntax.w64) Syntax.tnil))),
 ) (List._∷_ (11, Rows'.any-gone (Syntax.tyInt Syntax.w64)) (List._∷_ (
   12,
@@ -2924,21 +2654,7 @@ t17 = List._∷_ (0, Rows'.any-gone Syntax.tyUnit) (List._∷_ (
       (List._∷_
       101
       (List._∷_
-      115
-      (List._∷_
       95
-      (List._∷_
-      109
-      (List._∷_
-      97
-      (List._∷_
-      105
-      (List._∷_
-      110
-      (List._∷_
-      58
-      (List._∷_
-      58
       (List._∷_
       105
       (List._∷_
@@ -2951,9 +2667,7 @@ t17 = List._∷_ (0, Rows'.any-gone Syntax.tyUnit) (List._∷_ (
       116
       (List._∷_
       58
-      (List._∷_
-      58
-      (List._∷_ 72 (List._∷_ 101 (List._∷_ 97 (List._∷_ 100 List.[]))))))))))))))))))))))))
+      (List._∷_ 58 (List._∷_ 72 (List._∷_ 101 (List._∷_ 97 (List._∷_ 100 List.[])))))))))))))))))
       (Syntax.tcons (Syntax.tyInt Syntax.w8) (Syntax.tcons (Syntax.tyInt Syntax.w64) Syntax.tnil))),
 ) (List._∷_ (11, Rows'.any-gone (Syntax.tyInt Syntax.w64)) (List._∷_ (
   12,
@@ -3023,21 +2737,7 @@ t18 = List._∷_ (0, Rows'.any-gone Syntax.tyUnit) (List._∷_ (
       (List._∷_
       101
       (List._∷_
-      115
-      (List._∷_
       95
-      (List._∷_
-      109
-      (List._∷_
-      97
-      (List._∷_
-      105
-      (List._∷_
-      110
-      (List._∷_
-      58
-      (List._∷_
-      58
       (List._∷_
       105
       (List._∷_
@@ -3050,9 +2750,7 @@ t18 = List._∷_ (0, Rows'.any-gone Syntax.tyUnit) (List._∷_ (
       116
       (List._∷_
       58
-      (List._∷_
-      58
-      (List._∷_ 72 (List._∷_ 101 (List._∷_ 97 (List._∷_ 100 List.[]))))))))))))))))))))))))
+      (List._∷_ 58 (List._∷_ 72 (List._∷_ 101 (List._∷_ 97 (List._∷_ 100 List.[])))))))))))))))))
       (Syntax.tcons (Syntax.tyInt Syntax.w8) (Syntax.tcons (Syntax.tyInt Syntax.w64) Syntax.tnil))),
 ) (List._∷_ (11, Rows'.any-gone (Syntax.tyInt Syntax.w64)) (List._∷_ (
   12,
@@ -3122,21 +2820,7 @@ t19 = List._∷_ (0, Rows'.any-gone Syntax.tyUnit) (List._∷_ (
       (List._∷_
       101
       (List._∷_
-      115
-      (List._∷_
       95
-      (List._∷_
-      109
-      (List._∷_
-      97
-      (List._∷_
-      105
-      (List._∷_
-      110
-      (List._∷_
-      58
-      (List._∷_
-      58
       (List._∷_
       105
       (List._∷_
@@ -3149,9 +2833,7 @@ t19 = List._∷_ (0, Rows'.any-gone Syntax.tyUnit) (List._∷_ (
       116
       (List._∷_
       58
-      (List._∷_
-      58
-      (List._∷_ 72 (List._∷_ 101 (List._∷_ 97 (List._∷_ 100 List.[]))))))))))))))))))))))))
+      (List._∷_ 58 (List._∷_ 72 (List._∷_ 101 (List._∷_ 97 (List._∷_ 100 List.[])))))))))))))))))
       (Syntax.tcons (Syntax.tyInt Syntax.w8) (Syntax.tcons (Syntax.tyInt Syntax.w64) Syntax.tnil))),
 ) (List._∷_ (11, Rows'.any-gone (Syntax.tyInt Syntax.w64)) (List._∷_ (
   12,
@@ -3221,21 +2903,7 @@ t20 = List._∷_ (0, Rows'.any-gone Syntax.tyUnit) (List._∷_ (
       (List._∷_
       101
       (List._∷_
-      115
-      (List._∷_
       95
-      (List._∷_
-      109
-      (List._∷_
-      97
-      (List._∷_
-      105
-      (List._∷_
-      110
-      (List._∷_
-      58
-      (List._∷_
-      58
       (List._∷_
       105
       (List._∷_
@@ -3248,9 +2916,7 @@ t20 = List._∷_ (0, Rows'.any-gone Syntax.tyUnit) (List._∷_ (
       116
       (List._∷_
       58
-      (List._∷_
-      58
-      (List._∷_ 72 (List._∷_ 101 (List._∷_ 97 (List._∷_ 100 List.[]))))))))))))))))))))))))
+      (List._∷_ 58 (List._∷_ 72 (List._∷_ 101 (List._∷_ 97 (List._∷_ 100 List.[])))))))))))))))))
       (Syntax.tcons (Syntax.tyInt Syntax.w8) (Syntax.tcons (Syntax.tyInt Syntax.w64) Syntax.tnil))),
 ) (List._∷_ (11, Rows'.any-gone (Syntax.tyInt Syntax.w64)) (List._∷_ (
   12,
@@ -3367,21 +3033,7 @@ t21 = List._∷_ (0, Rows'.any-gone Syntax.tyUnit) (List._∷_ (
       (List._∷_
       101
       (List._∷_
-      115
-      (List._∷_
       95
-      (List._∷_
-      109
-      (List._∷_
-      97
-      (List._∷_
-      105
-      (List._∷_
-      110
-      (List._∷_
-      58
-      (List._∷_
-      58
       (List._∷_
       105
       (List._∷_
@@ -3394,9 +3046,7 @@ t21 = List._∷_ (0, Rows'.any-gone Syntax.tyUnit) (List._∷_ (
       116
       (List._∷_
       58
-      (List._∷_
-      58
-      (List._∷_ 72 (List._∷_ 101 (List._∷_ 97 (List._∷_ 100 List.[]))))))))))))))))))))))))
+      (List._∷_ 58 (List._∷_ 72 (List._∷_ 101 (List._∷_ 97 (List._∷_ 100 List.[])))))))))))))))))
       (Syntax.tcons (Syntax.tyInt Syntax.w8) (Syntax.tcons (Syntax.tyInt Syntax.w64) Syntax.tnil))),
 ) (List._∷_ (11, Rows'.any-gone (Syntax.tyInt Syntax.w64)) (List._∷_ (
   12,
@@ -3466,21 +3116,7 @@ t22 = List._∷_ (0, Rows'.any-gone Syntax.tyUnit) (List._∷_ (
       (List._∷_
       101
       (List._∷_
-      115
-      (List._∷_
       95
-      (List._∷_
-      109
-      (List._∷_
-      97
-      (List._∷_
-      105
-      (List._∷_
-      110
-      (List._∷_
-      58
-      (List._∷_
-      58
       (List._∷_
       105
       (List._∷_
@@ -3493,9 +3129,7 @@ t22 = List._∷_ (0, Rows'.any-gone Syntax.tyUnit) (List._∷_ (
       116
       (List._∷_
       58
-      (List._∷_
-      58
-      (List._∷_ 72 (List._∷_ 101 (List._∷_ 97 (List._∷_ 100 List.[]))))))))))))))))))))))))
+      (List._∷_ 58 (List._∷_ 72 (List._∷_ 101 (List._∷_ 97 (List._∷_ 100 List.[])))))))))))))))))
       (Syntax.tcons (Syntax.tyInt Syntax.w8) (Syntax.tcons (Syntax.tyInt Syntax.w64) Syntax.tnil))),
 ) (List._∷_ (11, Rows'.any-gone (Syntax.tyInt Syntax.w64)) (List._∷_ (
   12,
@@ -3567,21 +3201,7 @@ t23 = List._∷_ (0, Rows'.any-gone Syntax.tyUnit) (List._∷_ (
       (List._∷_
       101
       (List._∷_
-      115
-      (List._∷_
       95
-      (List._∷_
-      109
-      (List._∷_
-      97
-      (List._∷_
-      105
-      (List._∷_
-      110
-      (List._∷_
-      58
-      (List._∷_
-      58
       (List._∷_
       105
       (List._∷_
@@ -3594,9 +3214,7 @@ t23 = List._∷_ (0, Rows'.any-gone Syntax.tyUnit) (List._∷_ (
       116
       (List._∷_
       58
-      (List._∷_
-      58
-      (List._∷_ 72 (List._∷_ 101 (List._∷_ 97 (List._∷_ 100 List.[]))))))))))))))))))))))))
+      (List._∷_ 58 (List._∷_ 72 (List._∷_ 101 (List._∷_ 97 (List._∷_ 100 List.[])))))))))))))))))
       (Syntax.tcons (Syntax.tyInt Syntax.w8) (Syntax.tcons (Syntax.tyInt Syntax.w64) Syntax.tnil))),
 ) (List._∷_ (11, Rows'.any-gone (Syntax.tyInt Syntax.w64)) (List._∷_ (
   12,
@@ -4259,21 +3877,7 @@ t33 = List._∷_ (0, Rows'.any-gone Syntax.tyUnit) (List._∷_ (
       (List._∷_
       101
       (List._∷_
-      115
-      (List._∷_
       95
-      (List._∷_
-      109
-      (List._∷_
-      97
-      (List._∷_
-      105
-      (List._∷_
-      110
-      (List._∷_
-      58
-      (List._∷_
-      58
       (List._∷_
       105
       (List._∷_
@@ -4286,9 +3890,7 @@ t33 = List._∷_ (0, Rows'.any-gone Syntax.tyUnit) (List._∷_ (
       116
       (List._∷_
       58
-      (List._∷_
-      58
-      (List._∷_ 72 (List._∷_ 101 (List._∷_ 97 (List._∷_ 100 List.[]))))))))))))))))))))))))
+      (List._∷_ 58 (List._∷_ 72 (List._∷_ 101 (List._∷_ 97 (List._∷_ 100 List.[])))))))))))))))))
       (Syntax.tcons (Syntax.tyInt Syntax.w8) (Syntax.tcons (Syntax.tyInt Syntax.w64) Syntax.tnil))),
 ) (List._∷_ (11, Rows'.sc-here (Row.sInt Syntax.w64)) (List._∷_ (
   12,
@@ -4405,21 +4007,7 @@ t34 = List._∷_ (0, Rows'.any-gone Syntax.tyUnit) (List._∷_ (
       (List._∷_
       101
       (List._∷_
-      115
-      (List._∷_
       95
-      (List._∷_
-      109
-      (List._∷_
-      97
-      (List._∷_
-      105
-      (List._∷_
-      110
-      (List._∷_
-      58
-      (List._∷_
-      58
       (List._∷_
       105
       (List._∷_
@@ -4432,9 +4020,7 @@ t34 = List._∷_ (0, Rows'.any-gone Syntax.tyUnit) (List._∷_ (
       116
       (List._∷_
       58
-      (List._∷_
-      58
-      (List._∷_ 72 (List._∷_ 101 (List._∷_ 97 (List._∷_ 100 List.[]))))))))))))))))))))))))
+      (List._∷_ 58 (List._∷_ 72 (List._∷_ 101 (List._∷_ 97 (List._∷_ 100 List.[])))))))))))))))))
       (Syntax.tcons (Syntax.tyInt Syntax.w8) (Syntax.tcons (Syntax.tyInt Syntax.w64) Syntax.tnil))),
 ) (List._∷_ (11, Rows'.sc-here (Row.sInt Syntax.w64)) (List._∷_ (
   12,
@@ -4551,21 +4137,7 @@ t35 = List._∷_ (0, Rows'.sc-here Row.sUnit) (List._∷_ (
       (List._∷_
       101
       (List._∷_
-      115
-      (List._∷_
       95
-      (List._∷_
-      109
-      (List._∷_
-      97
-      (List._∷_
-      105
-      (List._∷_
-      110
-      (List._∷_
-      58
-      (List._∷_
-      58
       (List._∷_
       105
       (List._∷_
@@ -4578,9 +4150,7 @@ t35 = List._∷_ (0, Rows'.sc-here Row.sUnit) (List._∷_ (
       116
       (List._∷_
       58
-      (List._∷_
-      58
-      (List._∷_ 72 (List._∷_ 101 (List._∷_ 97 (List._∷_ 100 List.[]))))))))))))))))))))))))
+      (List._∷_ 58 (List._∷_ 72 (List._∷_ 101 (List._∷_ 97 (List._∷_ 100 List.[])))))))))))))))))
       (Syntax.tcons (Syntax.tyInt Syntax.w8) (Syntax.tcons (Syntax.tyInt Syntax.w64) Syntax.tnil))),
 ) (List._∷_ (11, Rows'.sc-here (Row.sInt Syntax.w64)) (List._∷_ (
   12,
@@ -4697,21 +4267,7 @@ t36 = List._∷_ (0, Rows'.sc-here Row.sUnit) (List._∷_ (
       (List._∷_
       101
       (List._∷_
-      115
-      (List._∷_
       95
-      (List._∷_
-      109
-      (List._∷_
-      97
-      (List._∷_
-      105
-      (List._∷_
-      110
-      (List._∷_
-      58
-      (List._∷_
-      58
       (List._∷_
       105
       (List._∷_
@@ -4724,9 +4280,7 @@ t36 = List._∷_ (0, Rows'.sc-here Row.sUnit) (List._∷_ (
       116
       (List._∷_
       58
-      (List._∷_
-      58
-      (List._∷_ 72 (List._∷_ 101 (List._∷_ 97 (List._∷_ 100 List.[]))))))))))))))))))))))))
+      (List._∷_ 58 (List._∷_ 72 (List._∷_ 101 (List._∷_ 97 (List._∷_ 100 List.[])))))))))))))))))
       (Syntax.tcons (Syntax.tyInt Syntax.w8) (Syntax.tcons (Syntax.tyInt Syntax.w64) Syntax.tnil))),
 ) (List._∷_ (11, Rows'.sc-here (Row.sInt Syntax.w64)) (List._∷_ (
   12,
@@ -4946,21 +4500,7 @@ t38 = List._∷_ (0, Rows'.any-gone Syntax.tyUnit) (List._∷_ (
       (List._∷_
       101
       (List._∷_
-      115
-      (List._∷_
       95
-      (List._∷_
-      109
-      (List._∷_
-      97
-      (List._∷_
-      105
-      (List._∷_
-      110
-      (List._∷_
-      58
-      (List._∷_
-      58
       (List._∷_
       105
       (List._∷_
@@ -4973,9 +4513,7 @@ t38 = List._∷_ (0, Rows'.any-gone Syntax.tyUnit) (List._∷_ (
       116
       (List._∷_
       58
-      (List._∷_
-      58
-      (List._∷_ 72 (List._∷_ 101 (List._∷_ 97 (List._∷_ 100 List.[]))))))))))))))))))))))))
+      (List._∷_ 58 (List._∷_ 72 (List._∷_ 101 (List._∷_ 97 (List._∷_ 100 List.[])))))))))))))))))
       (Syntax.tcons (Syntax.tyInt Syntax.w8) (Syntax.tcons (Syntax.tyInt Syntax.w64) Syntax.tnil))),
 ) (List._∷_ (11, Rows'.sc-here (Row.sInt Syntax.w64)) (List._∷_ (
   12,
@@ -5092,21 +4630,7 @@ t39 = List._∷_ (0, Rows'.any-gone Syntax.tyUnit) (List._∷_ (
       (List._∷_
       101
       (List._∷_
-      115
-      (List._∷_
       95
-      (List._∷_
-      109
-      (List._∷_
-      97
-      (List._∷_
-      105
-      (List._∷_
-      110
-      (List._∷_
-      58
-      (List._∷_
-      58
       (List._∷_
       105
       (List._∷_
@@ -5119,9 +4643,7 @@ t39 = List._∷_ (0, Rows'.any-gone Syntax.tyUnit) (List._∷_ (
       116
       (List._∷_
       58
-      (List._∷_
-      58
-      (List._∷_ 72 (List._∷_ 101 (List._∷_ 97 (List._∷_ 100 List.[]))))))))))))))))))))))))
+      (List._∷_ 58 (List._∷_ 72 (List._∷_ 101 (List._∷_ 97 (List._∷_ 100 List.[])))))))))))))))))
       (Syntax.tcons (Syntax.tyInt Syntax.w8) (Syntax.tcons (Syntax.tyInt Syntax.w64) Syntax.tnil))),
 ) (List._∷_ (11, Rows'.sc-here (Row.sInt Syntax.w64)) (List._∷_ (
   12,
@@ -6537,21 +6059,7 @@ t61 = List._∷_ (0, Rows'.any-gone Syntax.tyUnit) (List._∷_ (
       (List._∷_
       101
       (List._∷_
-      115
-      (List._∷_
       95
-      (List._∷_
-      109
-      (List._∷_
-      97
-      (List._∷_
-      105
-      (List._∷_
-      110
-      (List._∷_
-      58
-      (List._∷_
-      58
       (List._∷_
       105
       (List._∷_
@@ -6564,9 +6072,7 @@ t61 = List._∷_ (0, Rows'.any-gone Syntax.tyUnit) (List._∷_ (
       116
       (List._∷_
       58
-      (List._∷_
-      58
-      (List._∷_ 72 (List._∷_ 101 (List._∷_ 97 (List._∷_ 100 List.[]))))))))))))))))))))))))
+      (List._∷_ 58 (List._∷_ 72 (List._∷_ 101 (List._∷_ 97 (List._∷_ 100 List.[])))))))))))))))))
       (Syntax.tcons (Syntax.tyInt Syntax.w8) (Syntax.tcons (Syntax.tyInt Syntax.w64) Syntax.tnil))),
 ) (List._∷_ (11, Rows'.sc-here (Row.sInt Syntax.w64)) (List._∷_ (
   12,
@@ -6640,21 +6146,7 @@ t62 = List._∷_ (0, Rows'.any-gone Syntax.tyUnit) (List._∷_ (
       (List._∷_
       101
       (List._∷_
-      115
-      (List._∷_
       95
-      (List._∷_
-      109
-      (List._∷_
-      97
-      (List._∷_
-      105
-      (List._∷_
-      110
-      (List._∷_
-      58
-      (List._∷_
-      58
       (List._∷_
       105
       (List._∷_
@@ -6667,9 +6159,7 @@ t62 = List._∷_ (0, Rows'.any-gone Syntax.tyUnit) (List._∷_ (
       116
       (List._∷_
       58
-      (List._∷_
-      58
-      (List._∷_ 72 (List._∷_ 101 (List._∷_ 97 (List._∷_ 100 List.[]))))))))))))))))))))))))
+      (List._∷_ 58 (List._∷_ 72 (List._∷_ 101 (List._∷_ 97 (List._∷_ 100 List.[])))))))))))))))))
       (Syntax.tcons (Syntax.tyInt Syntax.w8) (Syntax.tcons (Syntax.tyInt Syntax.w64) Syntax.tnil))),
 ) (List._∷_ (11, Rows'.any-gone (Syntax.tyInt Syntax.w64)) (List._∷_ (
   12,
@@ -6741,21 +6231,7 @@ t63 = List._∷_ (0, Rows'.any-gone Syntax.tyUnit) (List._∷_ (
       (List._∷_
       101
       (List._∷_
-      115
-      (List._∷_
       95
-      (List._∷_
-      109
-      (List._∷_
-      97
-      (List._∷_
-      105
-      (List._∷_
-      110
-      (List._∷_
-      58
-      (List._∷_
-      58
       (List._∷_
       105
       (List._∷_
@@ -6768,9 +6244,7 @@ t63 = List._∷_ (0, Rows'.any-gone Syntax.tyUnit) (List._∷_ (
       116
       (List._∷_
       58
-      (List._∷_
-      58
-      (List._∷_ 72 (List._∷_ 101 (List._∷_ 97 (List._∷_ 100 List.[]))))))))))))))))))))))))
+      (List._∷_ 58 (List._∷_ 72 (List._∷_ 101 (List._∷_ 97 (List._∷_ 100 List.[])))))))))))))))))
       (Syntax.tcons (Syntax.tyInt Syntax.w8) (Syntax.tcons (Syntax.tyInt Syntax.w64) Syntax.tnil))),
 ) (List._∷_ (11, Rows'.any-gone (Syntax.tyInt Syntax.w64)) (List._∷_ (
   12,
@@ -6902,21 +6376,7 @@ t65 = List._∷_ (0, Rows'.any-gone Syntax.tyUnit) (List._∷_ (
       (List._∷_
       101
       (List._∷_
-      115
-      (List._∷_
       95
-      (List._∷_
-      109
-      (List._∷_
-      97
-      (List._∷_
-      105
-      (List._∷_
-      110
-      (List._∷_
-      58
-      (List._∷_
-      58
       (List._∷_
       105
       (List._∷_
@@ -6929,9 +6389,7 @@ t65 = List._∷_ (0, Rows'.any-gone Syntax.tyUnit) (List._∷_ (
       116
       (List._∷_
       58
-      (List._∷_
-      58
-      (List._∷_ 72 (List._∷_ 101 (List._∷_ 97 (List._∷_ 100 List.[]))))))))))))))))))))))))
+      (List._∷_ 58 (List._∷_ 72 (List._∷_ 101 (List._∷_ 97 (List._∷_ 100 List.[])))))))))))))))))
       (Syntax.tcons (Syntax.tyInt Syntax.w8) (Syntax.tcons (Syntax.tyInt Syntax.w64) Syntax.tnil))),
 ) (List._∷_ (11, Rows'.any-gone (Syntax.tyInt Syntax.w64)) (List._∷_ (
   12,
@@ -7066,21 +6524,7 @@ t67 = List._∷_ (0, Rows'.any-gone Syntax.tyUnit) (List._∷_ (
       (List._∷_
       101
       (List._∷_
-      115
-      (List._∷_
       95
-      (List._∷_
-      109
-      (List._∷_
-      97
-      (List._∷_
-      105
-      (List._∷_
-      110
-      (List._∷_
-      58
-      (List._∷_
-      58
       (List._∷_
       105
       (List._∷_
@@ -7093,9 +6537,7 @@ t67 = List._∷_ (0, Rows'.any-gone Syntax.tyUnit) (List._∷_ (
       116
       (List._∷_
       58
-      (List._∷_
-      58
-      (List._∷_ 72 (List._∷_ 101 (List._∷_ 97 (List._∷_ 100 List.[]))))))))))))))))))))))))
+      (List._∷_ 58 (List._∷_ 72 (List._∷_ 101 (List._∷_ 97 (List._∷_ 100 List.[])))))))))))))))))
       (Syntax.tcons (Syntax.tyInt Syntax.w8) (Syntax.tcons (Syntax.tyInt Syntax.w64) Syntax.tnil))),
 ) (List._∷_ (11, Rows'.any-gone (Syntax.tyInt Syntax.w64)) (List._∷_ (
   12,
@@ -7233,21 +6675,7 @@ t69 = List._∷_ (0, Rows'.any-gone Syntax.tyUnit) (List._∷_ (
       (List._∷_
       101
       (List._∷_
-      115
-      (List._∷_
       95
-      (List._∷_
-      109
-      (List._∷_
-      97
-      (List._∷_
-      105
-      (List._∷_
-      110
-      (List._∷_
-      58
-      (List._∷_
-      58
       (List._∷_
       105
       (List._∷_
@@ -7260,9 +6688,7 @@ t69 = List._∷_ (0, Rows'.any-gone Syntax.tyUnit) (List._∷_ (
       116
       (List._∷_
       58
-      (List._∷_
-      58
-      (List._∷_ 72 (List._∷_ 101 (List._∷_ 97 (List._∷_ 100 List.[]))))))))))))))))))))))))
+      (List._∷_ 58 (List._∷_ 72 (List._∷_ 101 (List._∷_ 97 (List._∷_ 100 List.[])))))))))))))))))
       (Syntax.tcons (Syntax.tyInt Syntax.w8) (Syntax.tcons (Syntax.tyInt Syntax.w64) Syntax.tnil))),
 ) (List._∷_ (11, Rows'.any-gone (Syntax.tyInt Syntax.w64)) (List._∷_ (
   12,
@@ -7403,21 +6829,7 @@ t71 = List._∷_ (0, Rows'.any-gone Syntax.tyUnit) (List._∷_ (
       (List._∷_
       101
       (List._∷_
-      115
-      (List._∷_
       95
-      (List._∷_
-      109
-      (List._∷_
-      97
-      (List._∷_
-      105
-      (List._∷_
-      110
-      (List._∷_
-      58
-      (List._∷_
-      58
       (List._∷_
       105
       (List._∷_
@@ -7430,9 +6842,7 @@ t71 = List._∷_ (0, Rows'.any-gone Syntax.tyUnit) (List._∷_ (
       116
       (List._∷_
       58
-      (List._∷_
-      58
-      (List._∷_ 72 (List._∷_ 101 (List._∷_ 97 (List._∷_ 100 List.[]))))))))))))))))))))))))
+      (List._∷_ 58 (List._∷_ 72 (List._∷_ 101 (List._∷_ 97 (List._∷_ 100 List.[])))))))))))))))))
       (Syntax.tcons (Syntax.tyInt Syntax.w8) (Syntax.tcons (Syntax.tyInt Syntax.w64) Syntax.tnil))),
 ) (List._∷_ (11, Rows'.any-gone (Syntax.tyInt Syntax.w64)) (List._∷_ (
   12,
@@ -7549,21 +6959,7 @@ t72 = List._∷_ (0, Rows'.sc-here Row.sUnit) (List._∷_ (
       (List._∷_
       101
       (List._∷_
-      115
-      (List._∷_
       95
-      (List._∷_
-      109
-      (List._∷_
-      97
-      (List._∷_
-      105
-      (List._∷_
-      110
-      (List._∷_
-      58
-      (List._∷_
-      58
       (List._∷_
       105
       (List._∷_
@@ -7576,9 +6972,7 @@ t72 = List._∷_ (0, Rows'.sc-here Row.sUnit) (List._∷_ (
       116
       (List._∷_
       58
-      (List._∷_
-      58
-      (List._∷_ 72 (List._∷_ 101 (List._∷_ 97 (List._∷_ 100 List.[]))))))))))))))))))))))))
+      (List._∷_ 58 (List._∷_ 72 (List._∷_ 101 (List._∷_ 97 (List._∷_ 100 List.[])))))))))))))))))
       (Syntax.tcons (Syntax.tyInt Syntax.w8) (Syntax.tcons (Syntax.tyInt Syntax.w64) Syntax.tnil))),
 ) (List._∷_ (11, Rows'.any-gone (Syntax.tyInt Syntax.w64)) (List._∷_ (
   12,
@@ -8188,21 +7582,7 @@ module _ (claims· : Claims) where
       (List._∷_
       101
       (List._∷_
-      115
-      (List._∷_
       95
-      (List._∷_
-      109
-      (List._∷_
-      97
-      (List._∷_
-      105
-      (List._∷_
-      110
-      (List._∷_
-      58
-      (List._∷_
-      58
       (List._∷_
       105
       (List._∷_
@@ -8215,9 +7595,7 @@ module _ (claims· : Claims) where
       116
       (List._∷_
       58
-      (List._∷_
-      58
-      (List._∷_ 72 (List._∷_ 101 (List._∷_ 97 (List._∷_ 100 List.[]))))))))))))))))))))))))
+      (List._∷_ 58 (List._∷_ 72 (List._∷_ 101 (List._∷_ 97 (List._∷_ 100 List.[])))))))))))))))))
       (Syntax.tcons (Syntax.tyInt Syntax.w8) (Syntax.tcons (Syntax.tyInt Syntax.w64) Syntax.tnil)))
 
   abbrev s26 : (bs : List.List Nat.ℕ) → Typed.Both T28 T30
@@ -8242,13 +7620,13 @@ module _ (claims· : Claims) where
       (List._∷_ (Syntax.field 1) List.[])
       (Syntax.tyInt Syntax.w64)
       8
-      (Reads.fieldV Head.the-type Laws''.the-laws 1))
+      (Reads.fieldV Head.the-type Laws'.the-laws 1))
       11
       (Rows'.sc-here (Row.sInt Syntax.w64))
       (Row.sInt Syntax.w64 .of)
 
   abbrev s29 : (bs : List.List Nat.ℕ) → Typed.Gives T32 T33
-  s29 = λ bs. Know.k-struct-known Head.the-type Laws''.the-laws T32 10 λ x. x
+  s29 = λ bs. Know.k-struct-known Head.the-type Laws'.the-laws T32 10 λ x. x
 
   abbrev s30 : (bs : List.List Nat.ℕ) → Typed.Asks T33 T34
   s30 =
@@ -8260,7 +7638,7 @@ module _ (claims· : Claims) where
       (List._∷_ (Syntax.field 0) List.[])
       (Syntax.tyInt Syntax.w8)
       0
-      (Reads.fieldV Head.the-type Laws''.the-laws 0))
+      (Reads.fieldV Head.the-type Laws'.the-laws 0))
       (Scalar.oInt Syntax.w8 0)
       13
       (Rows'.sc-here Row.sBool)
@@ -8348,21 +7726,7 @@ module _ (claims· : Claims) where
       (List._∷_
       101
       (List._∷_
-      115
-      (List._∷_
       95
-      (List._∷_
-      109
-      (List._∷_
-      97
-      (List._∷_
-      105
-      (List._∷_
-      110
-      (List._∷_
-      58
-      (List._∷_
-      58
       (List._∷_
       105
       (List._∷_
@@ -8375,9 +7739,7 @@ module _ (claims· : Claims) where
       116
       (List._∷_
       58
-      (List._∷_
-      58
-      (List._∷_ 72 (List._∷_ 101 (List._∷_ 97 (List._∷_ 100 List.[]))))))))))))))))))))))))
+      (List._∷_ 58 (List._∷_ 72 (List._∷_ 101 (List._∷_ 97 (List._∷_ 100 List.[])))))))))))))))))
       (Syntax.tcons (Syntax.tyInt Syntax.w8) (Syntax.tcons (Syntax.tyInt Syntax.w64) Syntax.tnil)))
 
   abbrev s37 : (bs : List.List Nat.ℕ) → Typed.Mo T41 → Typed.Mo T42
@@ -8396,7 +7758,7 @@ module _ (claims· : Claims) where
   s41 = λ bs. Scalar.n-room T34 13 Syntax.tyBool
 
   abbrev s42 : (bs : List.List Nat.ℕ) → Typed.Gives T35 T47
-  s42 = λ bs. Know.k-struct-known Head.the-type Laws''.the-laws T35 10 λ x. x
+  s42 = λ bs. Know.k-struct-known Head.the-type Laws'.the-laws T35 10 λ x. x
 
   abbrev s43 : (bs : List.List Nat.ℕ) → Typed.Asks T47 T48
   s43 =
@@ -8408,7 +7770,7 @@ module _ (claims· : Claims) where
       (List._∷_ (Syntax.field 0) List.[])
       (Syntax.tyInt Syntax.w8)
       0
-      (Reads.fieldV Head.the-type Laws''.the-laws 0))
+      (Reads.fieldV Head.the-type Laws'.the-laws 0))
       (Scalar.oInt Syntax.w8 101)
       13
       (Rows'.sc-here Row.sBool)
@@ -8493,21 +7855,7 @@ module _ (claims· : Claims) where
       (List._∷_
       101
       (List._∷_
-      115
-      (List._∷_
       95
-      (List._∷_
-      109
-      (List._∷_
-      97
-      (List._∷_
-      105
-      (List._∷_
-      110
-      (List._∷_
-      58
-      (List._∷_
-      58
       (List._∷_
       105
       (List._∷_
@@ -8520,9 +7868,7 @@ module _ (claims· : Claims) where
       116
       (List._∷_
       58
-      (List._∷_
-      58
-      (List._∷_ 72 (List._∷_ 101 (List._∷_ 97 (List._∷_ 100 List.[]))))))))))))))))))))))))
+      (List._∷_ 58 (List._∷_ 72 (List._∷_ 101 (List._∷_ 97 (List._∷_ 100 List.[])))))))))))))))))
       (Syntax.tcons (Syntax.tyInt Syntax.w8) (Syntax.tcons (Syntax.tyInt Syntax.w64) Syntax.tnil)))
 
   abbrev s49 : (bs : List.List Nat.ℕ) → Typed.Mo T54 → Typed.Mo T55
@@ -8856,21 +8202,7 @@ module _ (claims· : Claims) where
       (List._∷_
       101
       (List._∷_
-      115
-      (List._∷_
       95
-      (List._∷_
-      109
-      (List._∷_
-      97
-      (List._∷_
-      105
-      (List._∷_
-      110
-      (List._∷_
-      58
-      (List._∷_
-      58
       (List._∷_
       105
       (List._∷_
@@ -8883,9 +8215,7 @@ module _ (claims· : Claims) where
       116
       (List._∷_
       58
-      (List._∷_
-      58
-      (List._∷_ 72 (List._∷_ 101 (List._∷_ 97 (List._∷_ 100 List.[]))))))))))))))))))))))))
+      (List._∷_ 58 (List._∷_ 72 (List._∷_ 101 (List._∷_ 97 (List._∷_ 100 List.[])))))))))))))))))
       (Syntax.tcons (Syntax.tyInt Syntax.w8) (Syntax.tcons (Syntax.tyInt Syntax.w64) Syntax.tnil)))
 
   abbrev s79 : (bs : List.List Nat.ℕ) → Typed.Mo T84 → Typed.Mo T85
@@ -9031,11 +8361,11 @@ module _ (claims· : Claims) where
           𝓤 H) (known0 : Plain.Known 𝓤 H A W 𝓣 0 ps·0 r·0 (claims· .0) (claims· .1)
           "traces_main::no_tally") (known1 : Plain.Known 𝓤 H A W 𝓣 0 ps·1 r·1 (claims· .2)
           (claims· .3) "traces_main::fresh") (known2 : Plain.Known 𝓤 H A W 𝓣 1 ps·2 r·2
-          (claims· .4) (claims· .5) "traces_main::input::read_record") (known3 : Plain.Known 𝓤 H A
-          W 𝓣 0 ps·3 r·3 (claims· .6) (claims· .7)
-          "traces_main::print::tally") (known4 : Plain.Known 𝓤 H A W 𝓣 6 ps·4 r·4 (claims· .8)
-          (claims· .9) "traces_main::turn") → Statement.Triple 𝓤 (Wp.WpFn 𝓤 H (𝓣 .C) (𝓣 .Λ)
-          (Function.fnOf 2 ps r xs m hs body)) (Function.plainOf 𝓤 H A 2 ps r Pre· Post·)
+          (claims· .4) (claims· .5) "trace_input::read_record") (known3 : Plain.Known 𝓤 H A W 𝓣 0
+          ps·3 r·3 (claims· .6) (claims· .7) "trace_print::tally") (known4 : Plain.Known 𝓤 H A W 𝓣
+          6 ps·4 r·4 (claims· .8) (claims· .9) "traces_main::turn") → Statement.Triple 𝓤 (Wp.WpFn 𝓤
+          H (𝓣 .C) (𝓣 .Λ) (Function.fnOf 2 ps r xs m hs body)) (Function.plainOf 𝓤 H A 2 ps r Pre·
+          Post·)
 
     module _ (Inv·0 : InvT-loop) (μ·0 : MeasureT-loop) where
       abbrev at0 : (bs : List.List Nat.ℕ) → Typed.TF T17 O4
@@ -9394,30 +8724,8 @@ module _ (claims· : Claims) where
         Knowns =
             Plain.Known 𝓤 H A W 𝓣 0 ps·0 r·0 (claims· .0) (claims· .1) "traces_main::no_tally" ×
             Plain.Known 𝓤 H A W 𝓣 0 ps·1 r·1 (claims· .2) (claims· .3) "traces_main::fresh" ×
-            Plain.Known
-            𝓤
-            H
-            A
-            W
-            𝓣
-            1
-            ps·2
-            r·2
-            (claims· .4)
-            (claims· .5)
-            "traces_main::input::read_record" ×
-            Plain.Known
-            𝓤
-            H
-            A
-            W
-            𝓣
-            0
-            ps·3
-            r·3
-            (claims· .6)
-            (claims· .7)
-            "traces_main::print::tally" ×
+            Plain.Known 𝓤 H A W 𝓣 1 ps·2 r·2 (claims· .4) (claims· .5) "trace_input::read_record" ×
+            Plain.Known 𝓤 H A W 𝓣 0 ps·3 r·3 (claims· .6) (claims· .7) "trace_print::tally" ×
             Plain.Known 𝓤 H A W 𝓣 6 ps·4 r·4 (claims· .8) (claims· .9) "traces_main::turn"
 
       module _ (κs : Lifetimes.Lfts 2) (qs : Lifetimes.Shares 2) where
@@ -9894,21 +9202,7 @@ module _ (claims· : Claims) where
               (List._∷_
               101
               (List._∷_
-              115
-              (List._∷_
               95
-              (List._∷_
-              109
-              (List._∷_
-              97
-              (List._∷_
-              105
-              (List._∷_
-              110
-              (List._∷_
-              58
-              (List._∷_
-              58
               (List._∷_
               105
               (List._∷_
@@ -9923,7 +9217,7 @@ module _ (claims· : Claims) where
               58
               (List._∷_
               58
-              (List._∷_ 72 (List._∷_ 101 (List._∷_ 97 (List._∷_ 100 List.[]))))))))))))))))))))))))
+              (List._∷_ 72 (List._∷_ 101 (List._∷_ 97 (List._∷_ 100 List.[])))))))))))))))))
               (Syntax.tcons
               (Syntax.tyInt Syntax.w8)
               (Syntax.tcons (Syntax.tyInt Syntax.w64) Syntax.tnil))),
@@ -10008,21 +9302,7 @@ module _ (claims· : Claims) where
               (List._∷_
               101
               (List._∷_
-              115
-              (List._∷_
               95
-              (List._∷_
-              109
-              (List._∷_
-              97
-              (List._∷_
-              105
-              (List._∷_
-              110
-              (List._∷_
-              58
-              (List._∷_
-              58
               (List._∷_
               105
               (List._∷_
@@ -10037,7 +9317,7 @@ module _ (claims· : Claims) where
               58
               (List._∷_
               58
-              (List._∷_ 72 (List._∷_ 101 (List._∷_ 97 (List._∷_ 100 List.[]))))))))))))))))))))))))
+              (List._∷_ 72 (List._∷_ 101 (List._∷_ 97 (List._∷_ 100 List.[])))))))))))))))))
               (Syntax.tcons
               (Syntax.tyInt Syntax.w8)
               (Syntax.tcons (Syntax.tyInt Syntax.w64) Syntax.tnil))),
@@ -10120,21 +9400,7 @@ module _ (claims· : Claims) where
               (List._∷_
               101
               (List._∷_
-              115
-              (List._∷_
               95
-              (List._∷_
-              109
-              (List._∷_
-              97
-              (List._∷_
-              105
-              (List._∷_
-              110
-              (List._∷_
-              58
-              (List._∷_
-              58
               (List._∷_
               105
               (List._∷_
@@ -10149,7 +9415,7 @@ module _ (claims· : Claims) where
               58
               (List._∷_
               58
-              (List._∷_ 72 (List._∷_ 101 (List._∷_ 97 (List._∷_ 100 List.[]))))))))))))))))))))))))
+              (List._∷_ 72 (List._∷_ 101 (List._∷_ 97 (List._∷_ 100 List.[])))))))))))))))))
               (Syntax.tcons
               (Syntax.tyInt Syntax.w8)
               (Syntax.tcons (Syntax.tyInt Syntax.w64) Syntax.tnil))),
@@ -12585,21 +11851,7 @@ module _ (claims· : Claims) where
               (List._∷_
               101
               (List._∷_
-              115
-              (List._∷_
               95
-              (List._∷_
-              109
-              (List._∷_
-              97
-              (List._∷_
-              105
-              (List._∷_
-              110
-              (List._∷_
-              58
-              (List._∷_
-              58
               (List._∷_
               105
               (List._∷_
@@ -12614,7 +11866,7 @@ module _ (claims· : Claims) where
               58
               (List._∷_
               58
-              (List._∷_ 72 (List._∷_ 101 (List._∷_ 97 (List._∷_ 100 List.[]))))))))))))))))))))))))
+              (List._∷_ 72 (List._∷_ 101 (List._∷_ 97 (List._∷_ 100 List.[])))))))))))))))))
               (Syntax.tcons
               (Syntax.tyInt Syntax.w8)
               (Syntax.tcons (Syntax.tyInt Syntax.w64) Syntax.tnil)))
@@ -12636,21 +11888,7 @@ module _ (claims· : Claims) where
               (List._∷_
               101
               (List._∷_
-              115
-              (List._∷_
               95
-              (List._∷_
-              109
-              (List._∷_
-              97
-              (List._∷_
-              105
-              (List._∷_
-              110
-              (List._∷_
-              58
-              (List._∷_
-              58
               (List._∷_
               105
               (List._∷_
@@ -12665,7 +11903,7 @@ module _ (claims· : Claims) where
               58
               (List._∷_
               58
-              (List._∷_ 72 (List._∷_ 101 (List._∷_ 97 (List._∷_ 100 List.[]))))))))))))))))))))))))
+              (List._∷_ 72 (List._∷_ 101 (List._∷_ 97 (List._∷_ 100 List.[])))))))))))))))))
               (Syntax.tcons
               (Syntax.tyInt Syntax.w8)
               (Syntax.tcons (Syntax.tyInt Syntax.w64) Syntax.tnil)))
@@ -13147,7 +12385,7 @@ module _ (claims· : Claims) where
               r·3
               (claims· .6)
               (claims· .7)
-              "traces_main::print::tally"
+              "trace_print::tally"
               (known .3)
               E
               (λ pos β. β)
@@ -13320,21 +12558,7 @@ module _ (claims· : Claims) where
               (List._∷_
               101
               (List._∷_
-              115
-              (List._∷_
               95
-              (List._∷_
-              109
-              (List._∷_
-              97
-              (List._∷_
-              105
-              (List._∷_
-              110
-              (List._∷_
-              58
-              (List._∷_
-              58
               (List._∷_
               105
               (List._∷_
@@ -13349,7 +12573,7 @@ module _ (claims· : Claims) where
               58
               (List._∷_
               58
-              (List._∷_ 72 (List._∷_ 101 (List._∷_ 97 (List._∷_ 100 List.[]))))))))))))))))))))))))
+              (List._∷_ 72 (List._∷_ 101 (List._∷_ 97 (List._∷_ 100 List.[])))))))))))))))))
               (Syntax.tcons
               (Syntax.tyInt Syntax.w8)
               (Syntax.tcons (Syntax.tyInt Syntax.w64) Syntax.tnil)))
@@ -13371,21 +12595,7 @@ module _ (claims· : Claims) where
               (List._∷_
               101
               (List._∷_
-              115
-              (List._∷_
               95
-              (List._∷_
-              109
-              (List._∷_
-              97
-              (List._∷_
-              105
-              (List._∷_
-              110
-              (List._∷_
-              58
-              (List._∷_
-              58
               (List._∷_
               105
               (List._∷_
@@ -13400,7 +12610,7 @@ module _ (claims· : Claims) where
               58
               (List._∷_
               58
-              (List._∷_ 72 (List._∷_ 101 (List._∷_ 97 (List._∷_ 100 List.[]))))))))))))))))))))))))
+              (List._∷_ 72 (List._∷_ 101 (List._∷_ 97 (List._∷_ 100 List.[])))))))))))))))))
               (Syntax.tcons
               (Syntax.tyInt Syntax.w8)
               (Syntax.tcons (Syntax.tyInt Syntax.w64) Syntax.tnil)))
@@ -14414,7 +13624,7 @@ module _ (claims· : Claims) where
                                 A
                                 W
                                 Head.the-type
-                                Laws''.the-laws
+                                Laws'.the-laws
                                 0
                                 (Syntax.tyInt Syntax.w8)
                                 0
@@ -14451,8 +13661,8 @@ module _ (claims· : Claims) where
                                     Path'.refl
                                     (Copies.cStruct
                                     Host.the-type
-                                    Laws'.the-laws
-                                    Laws'.the-copy .copy
+                                    Laws''.the-laws
+                                    Laws''.the-copy .copy
                                     𝓤
                                     H
                                     A
@@ -14584,21 +13794,7 @@ module _ (claims· : Claims) where
               (List._∷_
               101
               (List._∷_
-              115
-              (List._∷_
               95
-              (List._∷_
-              109
-              (List._∷_
-              97
-              (List._∷_
-              105
-              (List._∷_
-              110
-              (List._∷_
-              58
-              (List._∷_
-              58
               (List._∷_
               105
               (List._∷_
@@ -14613,7 +13809,7 @@ module _ (claims· : Claims) where
               58
               (List._∷_
               58
-              (List._∷_ 72 (List._∷_ 101 (List._∷_ 97 (List._∷_ 100 List.[]))))))))))))))))))))))))
+              (List._∷_ 72 (List._∷_ 101 (List._∷_ 97 (List._∷_ 100 List.[])))))))))))))))))
               (Syntax.tcons
               (Syntax.tyInt Syntax.w8)
               (Syntax.tcons (Syntax.tyInt Syntax.w64) Syntax.tnil)))
@@ -14635,21 +13831,7 @@ module _ (claims· : Claims) where
               (List._∷_
               101
               (List._∷_
-              115
-              (List._∷_
               95
-              (List._∷_
-              109
-              (List._∷_
-              97
-              (List._∷_
-              105
-              (List._∷_
-              110
-              (List._∷_
-              58
-              (List._∷_
-              58
               (List._∷_
               105
               (List._∷_
@@ -14664,7 +13846,7 @@ module _ (claims· : Claims) where
               58
               (List._∷_
               58
-              (List._∷_ 72 (List._∷_ 101 (List._∷_ 97 (List._∷_ 100 List.[]))))))))))))))))))))))))
+              (List._∷_ 72 (List._∷_ 101 (List._∷_ 97 (List._∷_ 100 List.[])))))))))))))))))
               (Syntax.tcons
               (Syntax.tyInt Syntax.w8)
               (Syntax.tcons (Syntax.tyInt Syntax.w64) Syntax.tnil)))
@@ -16102,7 +15284,7 @@ module _ (claims· : Claims) where
               (List._∷_ (Syntax.field 0) List.[])
               (Syntax.tyInt Syntax.w8)
               0
-              (Reads.fieldV Head.the-type Laws''.the-laws 0))
+              (Reads.fieldV Head.the-type Laws'.the-laws 0))
               (Scalar.oInt Syntax.w8 101)
               13
               (Rows'.sc-here Row.sBool)
@@ -16115,7 +15297,7 @@ module _ (claims· : Claims) where
                     A
                     W
                     Head.the-type
-                    Laws''.the-laws
+                    Laws'.the-laws
                     0
                     (Syntax.tyInt Syntax.w8)
                     0
@@ -16152,7 +15334,7 @@ module _ (claims· : Claims) where
               W
               E
               Head.the-type
-              Laws''.the-laws
+              Laws'.the-laws
               G35
               10
               (λ x. x)
@@ -16192,7 +15374,7 @@ module _ (claims· : Claims) where
               (List._∷_ (Syntax.field 0) List.[])
               (Syntax.tyInt Syntax.w8)
               0
-              (Reads.fieldV Head.the-type Laws''.the-laws 0))
+              (Reads.fieldV Head.the-type Laws'.the-laws 0))
               (Scalar.oInt Syntax.w8 0)
               13
               (Rows'.sc-here Row.sBool)
@@ -16205,7 +15387,7 @@ module _ (claims· : Claims) where
                     A
                     W
                     Head.the-type
-                    Laws''.the-laws
+                    Laws'.the-laws
                     0
                     (Syntax.tyInt Syntax.w8)
                     0
@@ -16242,7 +15424,7 @@ module _ (claims· : Claims) where
               W
               E
               Head.the-type
-              Laws''.the-laws
+              Laws'.the-laws
               G32
               10
               (λ x. x)
@@ -16278,7 +15460,7 @@ module _ (claims· : Claims) where
               (List._∷_ (Syntax.field 1) List.[])
               (Syntax.tyInt Syntax.w64)
               8
-              (Reads.fieldV Head.the-type Laws''.the-laws 1))
+              (Reads.fieldV Head.the-type Laws'.the-laws 1))
               11
               (Rows'.sc-here (Row.sInt Syntax.w64))
               (Syntax.tyInt Syntax.w64)
@@ -16290,7 +15472,7 @@ module _ (claims· : Claims) where
                     A
                     W
                     Head.the-type
-                    Laws''.the-laws
+                    Laws'.the-laws
                     1
                     (Syntax.tyInt Syntax.w64)
                     8
@@ -16408,7 +15590,7 @@ module _ (claims· : Claims) where
               r·2
               (claims· .4)
               (claims· .5)
-              "traces_main::input::read_record"
+              "trace_input::read_record"
               (known .2)
               E
               (λ pos β. β)
@@ -16458,21 +15640,7 @@ module _ (claims· : Claims) where
               (List._∷_
               101
               (List._∷_
-              115
-              (List._∷_
               95
-              (List._∷_
-              109
-              (List._∷_
-              97
-              (List._∷_
-              105
-              (List._∷_
-              110
-              (List._∷_
-              58
-              (List._∷_
-              58
               (List._∷_
               105
               (List._∷_
@@ -16487,7 +15655,7 @@ module _ (claims· : Claims) where
               58
               (List._∷_
               58
-              (List._∷_ 72 (List._∷_ 101 (List._∷_ 97 (List._∷_ 100 List.[]))))))))))))))))))))))))
+              (List._∷_ 72 (List._∷_ 101 (List._∷_ 97 (List._∷_ 100 List.[])))))))))))))))))
               (Syntax.tcons
               (Syntax.tyInt Syntax.w8)
               (Syntax.tcons (Syntax.tyInt Syntax.w64) Syntax.tnil))))
@@ -23325,7 +22493,7 @@ module _ (claims· : Claims) where
             r·2
             (claims· .4)
             (claims· .5)
-            "traces_main::input::read_record")
+            "trace_input::read_record")
             (known3 : Plain.Known
             𝓤
             H
@@ -23337,7 +22505,7 @@ module _ (claims· : Claims) where
             r·3
             (claims· .6)
             (claims· .7)
-            "traces_main::print::tally")
+            "trace_print::tally")
             (known4 : Plain.Known
             𝓤
             H

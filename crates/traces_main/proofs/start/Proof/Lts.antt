@@ -373,7 +373,7 @@ hs =
 abbrev b0 : Syntax.Body
 b0 =
     Syntax.call
-    "traces_main::input::targets_at"
+    "trace_input::targets_at"
     (List._∷_ (Syntax.copy (Syntax.place 5 List.[])) List.[])
     (Syntax.place 12 List.[])
 
@@ -383,7 +383,7 @@ b1 = Syntax.assign (Syntax.place 7 List.[]) (Syntax.rvOpd (Syntax.copy (Syntax.p
 abbrev b2 : Syntax.Body
 b2 =
     Syntax.call
-    "traces_main::input::target_count"
+    "trace_input::target_count"
     (List._∷_ (Syntax.copy (Syntax.place 5 List.[])) List.[])
     (Syntax.place 8 List.[])
 
@@ -396,14 +396,14 @@ b3 =
 abbrev b4 : Syntax.Body
 b4 =
     Syntax.call
-    "traces_main::input::eight_at"
+    "trace_input::eight_at"
     (List._∷_ (Syntax.copy (Syntax.place 5 List.[])) (List._∷_ (Syntax.int Syntax.w64 0) List.[]))
     (Syntax.place 10 List.[])
 
 abbrev b5 : Syntax.Body
 b5 =
     Syntax.call
-    "traces_main::input::asking_at"
+    "traces_main::asking_at"
     (List._∷_ (Syntax.copy (Syntax.place 5 List.[])) List.[])
     (Syntax.place 11 List.[])
 
@@ -8439,13 +8439,13 @@ module _ (claims· : Claims) where
       Closed =
           (𝓤 : URA.URA M) (H : Wp.Heap 𝓤) (A : Atoms.Atoms 𝓤) (W : Kit.Given 𝓤 H A) (𝓣 : Wp.Tables
           𝓤 H) (known0 : Plain.Known 𝓤 H A W 𝓣 1 ps·0 r·0 (claims· .0) (claims· .1)
-          "traces_main::input::targets_at") (known1 : Plain.Known 𝓤 H A W 𝓣 1 ps·1 r·1 (claims· .2)
-          (claims· .3) "traces_main::input::target_count") (known2 : Plain.Known 𝓤 H A W 𝓣 1 ps·2
-          r·2 (claims· .4) (claims· .5) "traces_main::input::eight_at") (known3 : Plain.Known 𝓤 H A
-          W 𝓣 1 ps·3 r·3 (claims· .6) (claims· .7)
-          "traces_main::input::asking_at") (known4 : Plain.Known 𝓤 H A W 𝓣 5 ps·4 r·4 (claims· .8)
-          (claims· .9) "calls::start") → Statement.Triple 𝓤 (Wp.WpFn 𝓤 H (𝓣 .C) (𝓣 .Λ)
-          (Function.fnOf 5 ps r xs m hs body)) (Function.plainOf 𝓤 H A 5 ps r Pre· Post·)
+          "trace_input::targets_at") (known1 : Plain.Known 𝓤 H A W 𝓣 1 ps·1 r·1 (claims· .2)
+          (claims· .3) "trace_input::target_count") (known2 : Plain.Known 𝓤 H A W 𝓣 1 ps·2 r·2
+          (claims· .4) (claims· .5) "trace_input::eight_at") (known3 : Plain.Known 𝓤 H A W 𝓣 1 ps·3
+          r·3 (claims· .6) (claims· .7) "traces_main::asking_at") (known4 : Plain.Known 𝓤 H A W 𝓣 5
+          ps·4 r·4 (claims· .8) (claims· .9) "calls::start") → Statement.Triple 𝓤 (Wp.WpFn 𝓤 H
+          (𝓣 .C) (𝓣 .Λ) (Function.fnOf 5 ps r xs m hs body)) (Function.plainOf 𝓤 H A 5 ps r Pre·
+          Post·)
 
     module _ where
       abbrev at0 : (bs : List.List Nat.ℕ) → Typed.TF T51 O0
@@ -8608,18 +8608,7 @@ module _ (claims· : Claims) where
           (W : Kit.Given 𝓤 H A) (𝓣 : Wp.Tables 𝓤 H) where
         abbrev Knowns : Type 1
         Knowns =
-            Plain.Known
-            𝓤
-            H
-            A
-            W
-            𝓣
-            1
-            ps·0
-            r·0
-            (claims· .0)
-            (claims· .1)
-            "traces_main::input::targets_at" ×
+            Plain.Known 𝓤 H A W 𝓣 1 ps·0 r·0 (claims· .0) (claims· .1) "trace_input::targets_at" ×
             Plain.Known
             𝓤
             H
@@ -8631,31 +8620,9 @@ module _ (claims· : Claims) where
             r·1
             (claims· .2)
             (claims· .3)
-            "traces_main::input::target_count" ×
-            Plain.Known
-            𝓤
-            H
-            A
-            W
-            𝓣
-            1
-            ps·2
-            r·2
-            (claims· .4)
-            (claims· .5)
-            "traces_main::input::eight_at" ×
-            Plain.Known
-            𝓤
-            H
-            A
-            W
-            𝓣
-            1
-            ps·3
-            r·3
-            (claims· .6)
-            (claims· .7)
-            "traces_main::input::asking_at" ×
+            "trace_input::target_count" ×
+            Plain.Known 𝓤 H A W 𝓣 1 ps·2 r·2 (claims· .4) (claims· .5) "trace_input::eight_at" ×
+            Plain.Known 𝓤 H A W 𝓣 1 ps·3 r·3 (claims· .6) (claims· .7) "traces_main::asking_at" ×
             Plain.Known 𝓤 H A W 𝓣 5 ps·4 r·4 (claims· .8) (claims· .9) "calls::start"
 
       module _ (κs : Lifetimes.Lfts 5) (qs : Lifetimes.Shares 5) where
@@ -15669,7 +15636,7 @@ module _ (claims· : Claims) where
               r·3
               (claims· .6)
               (claims· .7)
-              "traces_main::input::asking_at"
+              "traces_main::asking_at"
               (known .3)
               E
               (λ pos β. β)
@@ -15767,7 +15734,7 @@ module _ (claims· : Claims) where
               r·2
               (claims· .4)
               (claims· .5)
-              "traces_main::input::eight_at"
+              "trace_input::eight_at"
               (known .2)
               E
               (λ pos β. β)
@@ -16084,7 +16051,7 @@ module _ (claims· : Claims) where
               r·1
               (claims· .2)
               (claims· .3)
-              "traces_main::input::target_count"
+              "trace_input::target_count"
               (known .1)
               E
               (λ pos β. β)
@@ -16287,7 +16254,7 @@ module _ (claims· : Claims) where
               r·0
               (claims· .0)
               (claims· .1)
-              "traces_main::input::targets_at"
+              "trace_input::targets_at"
               (known .0)
               E
               (λ pos β. β)
@@ -18146,7 +18113,7 @@ module _ (claims· : Claims) where
             r·0
             (claims· .0)
             (claims· .1)
-            "traces_main::input::targets_at")
+            "trace_input::targets_at")
             (known1 : Plain.Known
             𝓤
             H
@@ -18158,7 +18125,7 @@ module _ (claims· : Claims) where
             r·1
             (claims· .2)
             (claims· .3)
-            "traces_main::input::target_count")
+            "trace_input::target_count")
             (known2 : Plain.Known
             𝓤
             H
@@ -18170,7 +18137,7 @@ module _ (claims· : Claims) where
             r·2
             (claims· .4)
             (claims· .5)
-            "traces_main::input::eight_at")
+            "trace_input::eight_at")
             (known3 : Plain.Known
             𝓤
             H
@@ -18182,7 +18149,7 @@ module _ (claims· : Claims) where
             r·3
             (claims· .6)
             (claims· .7)
-            "traces_main::input::asking_at")
+            "traces_main::asking_at")
             (known4 : Plain.Known
             𝓤
             H

@@ -686,7 +686,7 @@ hs =
 abbrev b0 : Syntax.Body
 b0 =
     Syntax.call
-    "traces_main::is_call"
+    "trace_input::is_call"
     (List._∷_ (Syntax.copy (Syntax.place 6 List.[])) List.[])
     (Syntax.place 10 List.[])
 
@@ -998,7 +998,7 @@ b45 =
 abbrev b46 : Syntax.Body
 b46 =
     Syntax.call
-    "traces_main::hand_in"
+    "trace_input::hand_in"
     (List._∷_
     (Syntax.copy (Syntax.place 30 List.[]))
     (List._∷_
@@ -1020,7 +1020,7 @@ b47 =
 abbrev b48 : Syntax.Body
 b48 =
     Syntax.call
-    "traces_main::hand_in_count"
+    "trace_input::hand_in_count"
     (List._∷_
     (Syntax.copy (Syntax.place 33 List.[]))
     (List._∷_
@@ -13922,11 +13922,11 @@ module _ (claims· : Claims) where
       Closed =
           (𝓤 : URA.URA M) (H : Wp.Heap 𝓤) (A : Atoms.Atoms 𝓤) (W : Kit.Given 𝓤 H A) (𝓣 : Wp.Tables
           𝓤 H) (known0 : Plain.Known 𝓤 H A W 𝓣 0 ps·0 r·0 (claims· .0) (claims· .1)
-          "traces_main::is_call") (known1 : Plain.Known 𝓤 H A W 𝓣 5 ps·1 r·1 (claims· .2)
+          "trace_input::is_call") (known1 : Plain.Known 𝓤 H A W 𝓣 5 ps·1 r·1 (claims· .2)
           (claims· .3) "traces_main::call") (known2 : Plain.Known 𝓤 H A W 𝓣 5 ps·2 r·2 (claims· .4)
           (claims· .5) "traces_main::tell") (known3 : Plain.Known 𝓤 H A W 𝓣 3 ps·3 r·3 (claims· .6)
-          (claims· .7) "traces_main::hand_in") (known4 : Plain.Known 𝓤 H A W 𝓣 2 ps·4 r·4
-          (claims· .8) (claims· .9) "traces_main::hand_in_count") (known5 : Plain.Known 𝓤 H A W 𝓣 1
+          (claims· .7) "trace_input::hand_in") (known4 : Plain.Known 𝓤 H A W 𝓣 2 ps·4 r·4
+          (claims· .8) (claims· .9) "trace_input::hand_in_count") (known5 : Plain.Known 𝓤 H A W 𝓣 1
           ps·5 r·5 (claims· .10) (claims· .11) "traces_main::handed") → Statement.Triple 𝓤 (Wp.WpFn
           𝓤 H (𝓣 .C) (𝓣 .Λ) (Function.fnOf 6 ps r xs m hs body)) (Function.plainOf 𝓤 H A 6 ps r
           Pre· Post·)
@@ -14236,10 +14236,10 @@ module _ (claims· : Claims) where
           (W : Kit.Given 𝓤 H A) (𝓣 : Wp.Tables 𝓤 H) where
         abbrev Knowns : Type 1
         Knowns =
-            Plain.Known 𝓤 H A W 𝓣 0 ps·0 r·0 (claims· .0) (claims· .1) "traces_main::is_call" ×
+            Plain.Known 𝓤 H A W 𝓣 0 ps·0 r·0 (claims· .0) (claims· .1) "trace_input::is_call" ×
             Plain.Known 𝓤 H A W 𝓣 5 ps·1 r·1 (claims· .2) (claims· .3) "traces_main::call" ×
             Plain.Known 𝓤 H A W 𝓣 5 ps·2 r·2 (claims· .4) (claims· .5) "traces_main::tell" ×
-            Plain.Known 𝓤 H A W 𝓣 3 ps·3 r·3 (claims· .6) (claims· .7) "traces_main::hand_in" ×
+            Plain.Known 𝓤 H A W 𝓣 3 ps·3 r·3 (claims· .6) (claims· .7) "trace_input::hand_in" ×
             Plain.Known
             𝓤
             H
@@ -14251,7 +14251,7 @@ module _ (claims· : Claims) where
             r·4
             (claims· .8)
             (claims· .9)
-            "traces_main::hand_in_count" ×
+            "trace_input::hand_in_count" ×
             Plain.Known 𝓤 H A W 𝓣 1 ps·5 r·5 (claims· .10) (claims· .11) "traces_main::handed"
 
       module _ (κs : Lifetimes.Lfts 6) (qs : Lifetimes.Shares 6) where
@@ -30350,7 +30350,7 @@ module _ (claims· : Claims) where
               r·4
               (claims· .8)
               (claims· .9)
-              "traces_main::hand_in_count"
+              "trace_input::hand_in_count"
               (known .4)
               E
               (λ pos β. β)
@@ -30842,7 +30842,7 @@ module _ (claims· : Claims) where
               r·3
               (claims· .6)
               (claims· .7)
-              "traces_main::hand_in"
+              "trace_input::hand_in"
               (known .3)
               E
               (λ pos β. β)
@@ -31490,7 +31490,7 @@ module _ (claims· : Claims) where
               r·0
               (claims· .0)
               (claims· .1)
-              "traces_main::is_call"
+              "trace_input::is_call"
               (known .0)
               E
               (λ pos β. β)
@@ -33448,7 +33448,7 @@ module _ (claims· : Claims) where
             r·0
             (claims· .0)
             (claims· .1)
-            "traces_main::is_call")
+            "trace_input::is_call")
             (known1 : Plain.Known
             𝓤
             H
@@ -33484,7 +33484,7 @@ module _ (claims· : Claims) where
             r·3
             (claims· .6)
             (claims· .7)
-            "traces_main::hand_in")
+            "trace_input::hand_in")
             (known4 : Plain.Known
             𝓤
             H
@@ -33496,7 +33496,7 @@ module _ (claims· : Claims) where
             r·4
             (claims· .8)
             (claims· .9)
-            "traces_main::hand_in_count")
+            "trace_input::hand_in_count")
             (known5 : Plain.Known
             𝓤
             H
