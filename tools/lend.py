@@ -23,7 +23,7 @@ It writes, below crates/NAME/proofs/
     FN/Proof.antt                   only where there is none: a hole or `search needs` for each need
 and the `mod` lines of Lib.antt, Elem.antt, Lent.antt. LEND_TMP=DIR keeps the twin and its modules in DIR.
 """
-import os, re, subprocess, sys, shutil, tempfile
+import atexit, os, re, subprocess, sys, shutil, tempfile
 
 INTS = {'bool': 1, 'u8': 1, 'i8': 1, 'u16': 2, 'i16': 2, 'u32': 4, 'i32': 4, 'f32': 4, 'u64': 8, 'i64': 8, 'f64': 8, 'usize': 8, 'isize': 8}
 def root():
@@ -50,6 +50,13 @@ def write(path, text):
     os.makedirs(os.path.dirname(path), exist_ok=True)
     if os.path.exists(path) and read(path) == text: return
     with open(path, 'w') as f: f.write(text)
+
+
+def scratch():
+    """a folder that is gone when the script ends"""
+    d = tempfile.mkdtemp(prefix='lend')
+    atexit.register(shutil.rmtree, d, ignore_errors=True)
+    return d
 
 
 def balanced(s, i):
@@ -162,7 +169,7 @@ class World:
 
     def asked(self, name):
         """rattle's own answer, of a crate that has the declarations alone"""
-        tmp = tempfile.mkdtemp(prefix='lend')
+        tmp = scratch()
         text = ''
         for c in self.crates:
             for _, t in sources(c).values():
@@ -544,7 +551,7 @@ def main():
         marks[S] = {'rt': f'[u{w}; {n}]', 'w': f'w{w}', 'n': n, 'mod': mod, 'behind': only_behind}
         print(f'{S}: {size} bytes, stands as [u{w}; {n}]')
     # ---- the twin repository
-    tmp = os.environ.get('LEND_TMP') or tempfile.mkdtemp(prefix='lend')
+    tmp = os.environ.get('LEND_TMP') or scratch()
     twins, gen = os.path.join(tmp, 'twin'), os.path.join(tmp, 'gen')
     for d in (twins, gen): shutil.rmtree(d, ignore_errors=True)
     write(os.path.join(twins, 'crates.txt'), ''.join(f'{c}: {" ".join(deps[c])}\n' for c in need + [crate]))
