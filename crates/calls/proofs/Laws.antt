@@ -37,7 +37,8 @@ use Rattle.finish.specs.Gives.{stateOf, decisionOf, Gives}
 use Rattle.outcome.specs.declared.Outcome.{Outcome}
 use Rattle.finish.proofs.Laws.{refused-gives}
 use Rattle.bad_call.specs.Lent.{lentBy}
-use Rattle.node.specs.Taken.{Taken, TakenStart, requestDecision, replyDecision, startDecision}
+use Rattle.node.specs.Taken.{Taken, requestDecision, replyDecision}
+use Rattle.start_taken.specs.Taken.{TakenStart, startDecision}
 use Rattle.plain.specs.declared.Target.{Target}
 use Rattle.targets.specs.declared.Targets.{Targets}
 use Rattle.kept.specs.Kept.{listOf}

@@ -94,7 +94,7 @@ pub fn message(
     if 1236 < octets.len() {
         return outcome::refused(bad_call(), clock, seq);
     }
-    if node::is_wrong(instances, routes, clock, seq) {
+    if wrong_state::is_wrong(instances, routes, clock, seq) {
         return outcome::refused(wrong_state(), clock, seq);
     }
     let r = reader::read(octets);
@@ -170,10 +170,10 @@ pub fn start(
     if is_bad_start(g, s) {
         return outcome::refused(bad_call(), clock, seq);
     }
-    if node::is_wrong(instances, routes, clock, seq) {
+    if wrong_state::is_wrong(instances, routes, clock, seq) {
         return outcome::refused(wrong_state(), clock, seq);
     }
-    node::take_start(
+    start_taken::take_start(
         instances,
         routes,
         forward,

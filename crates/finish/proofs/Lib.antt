@@ -1,2 +1,4 @@
 pub mod Lent
 pub mod Laws
+-- for the proofs of callers
+pub mod Settles

@@ -71,8 +71,8 @@ pub fn asking_of(s: HostStart) -> Asking
 pub fn answer_of(r: Outcome) -> Answer
     ensures { λ a. ⌜ a ≡ r .answer ⌝ }
 {
-    let a = r.answer;
-    a
+    let answer = r.answer;
+    answer
 }
 
 fn way_number(d: Destination) -> u8

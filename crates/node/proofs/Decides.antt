@@ -27,7 +27,7 @@ use Rattle.outcome.specs.declared.Outcome.{Outcome}
 use Rattle.finish.specs.Gives.{stateOf, decisionOf, Settled, Gives}
 use Rattle.finish.specs.declared.Live.{Live}
 use Rattle.finish.proofs.Laws.{refused-gives}
-use Rattle.node.proofs.Laws.{settled}
+use Rattle.finish.proofs.Settles.{settled}
 
 module _ {Q : Type 0} (lines : Q → List Line) (accept : Q → Accepted) (told asking : Q) (means : told ≡ asking) where
   module _ (decision : plain.Decision) (decided : decision ≡ decisionOf (answerOf (lines asking)) (accept asking)) where

@@ -4,21 +4,16 @@ use mathlib.Core.Path.{_≡_}
 use mathlib.Core.Bool.{true}
 use mathlib.Core.List.{List, map}
 use lib.ListN.{length}
-use Rattle.plain.specs.Given.{Settings, Received, Start, State}
+use Rattle.plain.specs.Given.{Settings, Received, State}
 use Rattle.plain.specs.Answers.{answerOf, viewOf, goodInstance, allGood}
-use Rattle.plain.specs.Blank.{Padded}
 use Rattle.plain.specs.Octets.{Message}
-use Rattle.plain.specs.Request.{asked, requestLines, acceptRequest, startLines, acceptStart}
+use Rattle.plain.specs.Request.{asked, requestLines, acceptRequest}
 use Rattle.plain.specs.Reply.{partnerOf}
 use Rattle.plain.specs.Plain.{Decision, linesWith, acceptWith}
 use Rattle.row.specs.Meaning.{instanceOf}
 use Rattle.row.specs.declared.InstanceRow.{InstanceRow}
 use Rattle.message.specs.declared.Parsed.{Parsed}
 use Rattle.rule.specs.Heard.{Heard}
-use Rattle.plain.specs.declared.Target.{Target}
-use Rattle.targets.specs.declared.Targets.{Targets}
-use Rattle.start.specs.Start.{Sendable}
-use Rattle.start.specs.declared.Asking.{Asking}
 use Rattle.finish.specs.Gives.{decisionOf}
 
 -- What holds where neither 1 nor 2 to 6 is answered.
@@ -30,15 +25,6 @@ pub record Taken (clock t : ℕ) (rows : List InstanceRow) (forward reply : List
   pub replyRoom : 1236 ≤ length reply
   pub heard : Heard p
 
--- What holds of a start where neither 1 nor 2 is answered.
-pub record TakenStart (clock t : ℕ) (forward reply : List ℕ) (s : Asking) (ts : Targets) : Type 0 where
-  pub later : clock ≤ t
-  pub forwardRoom : 1236 ≤ length forward
-  pub replyRoom : 1236 ≤ length reply
-  pub time : t ≤ 2 ^ 40
-  pub sendable : Sendable s ts
-  pub padded : Padded (ts .count) (ts .list)
-
 -- "A request", from 9 on
 unfoldable pub requestDecision : Settings → State → ℕ → Received → Message → Decision
 requestDecision x s t c m =
@@ -48,7 +34,3 @@ requestDecision x s t c m =
 unfoldable pub replyDecision : Settings → State → ℕ → Received → Message → Decision
 replyDecision x s t c m =
     decisionOf (answerOf (linesWith x c m (viewOf s) t (partnerOf (viewOf s) t m))) (acceptWith x c m (viewOf s) t (partnerOf (viewOf s) t m))
-
--- "A start", from 10 on: `targets` are its targets without repeats
-unfoldable pub startDecision : Settings → State → ℕ → Start → List Target → Decision
-startDecision x s t c targets = decisionOf (answerOf (startLines x (viewOf s) t c)) (acceptStart x (s .own) t c targets)

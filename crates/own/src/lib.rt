@@ -12,6 +12,14 @@ pub struct Own {
     pub sending: [u8; 16],
 }
 
+// For a caller that is lent tables, and so touches no field.
+pub fn receiving_of(o: Own) -> [u8; 16]
+    ensures { λ r. ⌜ r ≡ o .receiving ⌝ }
+{
+    let a = o.receiving;
+    a
+}
+
 // Whether an address is our receiving or sending one.
 pub fn is_ours(o: Own, a: [u8; 16]) -> bool
     ensures { λ r. ⌜ r ≡ ours (settingsOf o) a ⌝ }

@@ -3,7 +3,7 @@
 // Up to 128 rows the filter has 512 octets, above 12 KiB, and one pass takes the rows of one class of hashes, so that the filter does not
 // fill up in a long table.
 ghost use mathlib.Core.Path.{_≡_};
-ghost use mathlib.Core.Bool.{cond, false, _||_};
+ghost use mathlib.Core.Bool.{false, _||_};
 ghost use mathlib.Core.List.{map};
 ghost use Prim.Native.Nat.{_<_};
 ghost use lib.Dec.{eqb};
@@ -13,7 +13,8 @@ ghost use Rattle.plain.specs.Table.{liveRows, instanceDeadline, routeDeadline};
 ghost use Rattle.plain.specs.Answers.{requests, replies, requestTwins, replyTwins, routeTwins};
 ghost use Rattle.row.specs.Meaning.{instanceOf, routeOf, noRow, noRoute};
 ghost use Rattle.key.specs.Pair.{twinRows, twinRoutes, endingOf};
-ghost use Rattle.filter.specs.Filter.{hashRow, hashRoute, inClass};
+ghost use Rattle.hash.specs.Hash.{hashRow, hashRoute};
+ghost use Rattle.filter.specs.Filter.{inClass};
 use row::InstanceRow;
 use row::RouteRow;
 
@@ -74,7 +75,7 @@ fn few(rows: &[InstanceRow], t: u64) -> bool
     let mut words: [u64; 64] = [0; 64];
     let mut j: usize = 0;
     while j < rows.len() {
-        let h = filter::hash_row(rows[j]);
+        let h = hash::hash_row(rows[j]);
         let on = live::is_live(rows[j], t);
         let s = filter::few_slot_of(h);
         let w = words[s];
@@ -96,7 +97,7 @@ fn pass(rows: &[InstanceRow], t: u64, mask: u64, p: u64) -> bool
     let mut words: [u64; 1536] = [0; 1536];
     let mut j: usize = 0;
     while j < rows.len() {
-        let h = filter::hash_row(rows[j]);
+        let h = hash::hash_row(rows[j]);
         let on = filter::is_chosen(mask, p, live::is_live(rows[j], t), h);
         let s = filter::slot_of(h);
         let w = words[s];
@@ -195,7 +196,7 @@ fn few_routes(routes: &[RouteRow], t: u64) -> bool
     let mut words: [u64; 64] = [0; 64];
     let mut j: usize = 0;
     while j < routes.len() {
-        let h = filter::hash_route(routes[j]);
+        let h = hash::hash_route(routes[j]);
         let on = live::is_live_route(routes[j], t);
         let s = filter::few_slot_of(h);
         let w = words[s];
@@ -216,7 +217,7 @@ fn pass_routes(routes: &[RouteRow], t: u64, mask: u64, p: u64) -> bool
     let mut words: [u64; 1536] = [0; 1536];
     let mut j: usize = 0;
     while j < routes.len() {
-        let h = filter::hash_route(routes[j]);
+        let h = hash::hash_route(routes[j]);
         let on = filter::is_chosen(mask, p, live::is_live_route(routes[j], t), h);
         let s = filter::slot_of(h);
         let w = words[s];

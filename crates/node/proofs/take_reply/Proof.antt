@@ -9,7 +9,6 @@ use Rattle.plain.specs.Given.{Settings, Destination}
 use Rattle.plain.specs.Answers.{viewOf, answerOf}
 use Rattle.plain.specs.Plain.{idle}
 use Rattle.answer.specs.Answer.{answerNumber}
-use Rattle.row.specs.Meaning.{replyOf}
 use Rattle.own.specs.Settings.{settingsOf}
 use Rattle.decision.specs.Decision.{Posts}
 use Rattle.rule.proofs.Laws.{posts-nothing}
@@ -161,7 +160,7 @@ finish-requires c κs =
     let there = c .before .before .before .before .before .before .before .before .before .forward-post in
     let back = c .before .before .before .before .before .before .before .before .no-post in
     let l = c .before .before .before .before .before .before .before .live-of in
-    ready (f .result) (replyOf (f .result .row)) (g .result) (l .result) (l .ensures) (settingsOf (a .o)) (a .t) (now (a .instances)) (now (a .routes))
+    ready (f .result) (g .result) (l .result) (l .ensures) (settingsOf (a .o)) (a .t) (now (a .instances)) (now (a .routes))
     (now (a .forward)) (now (a .reply)) vector (there .result) (back .result) (f .ensures .1) (g .ensures .1) (o .pre .forwardRoom) (o .pre .replyRoom)
     (v .ensures .0) (there .ensures .fits) (quiet (c .before .before .before .before .before .before .before .before) (settingsOf (a .o)) vector .fits)
 

@@ -4,7 +4,6 @@ use denote.Ref.{now}
 use mathlib.Core.Path.{_≡_, sym, _∙_}
 use mathlib.Core.List.{[]}
 use Rattle.plain.specs.Answers.{answerOf}
-use Rattle.row.specs.Meaning.{requestOf}
 use Rattle.own.specs.Settings.{settingsOf}
 use Rattle.decision.specs.Decision.{Posts}
 use Rattle.rule.proofs.Types.{own-sixteen}
@@ -142,7 +141,7 @@ finish-requires c κs =
     let there = c .before .before .before .before .before .before .before .before .before .before .forward-post in
     let back = c .before .before .before .before .before .before .before .before .reply-post in
     let l = c .before .before .before .before .before .before .before .live-of in
-    ready (f .result) (requestOf (f .result .row)) (g .result) (l .result) (l .ensures) (settingsOf (a .o)) (a .t) (now (a .instances)) (now (a .routes))
+    ready (f .result) (g .result) (l .result) (l .ensures) (settingsOf (a .o)) (a .t) (now (a .instances)) (now (a .routes))
     (now (a .forward)) (now (a .reply)) (now (a .vector)) (there .result) (back .result) (f .ensures .1) (g .ensures .1) (o .pre .forwardRoom)
     (o .pre .replyRoom) (w .ensures .0) (forwarded (c .before .before .before .before .before .before .before .before .before .before) .fits)
     (back .ensures (a .t) (now (a .vector)) (w .ensures .0) .fits)

@@ -7,7 +7,8 @@ use mathlib.Core.Logic.{⊎-elim}
 use denote.Ref.{now}
 use lib.ListN.{length}
 use Rattle.key.specs.Pair.{twinRoutes}
-use Rattle.filter.specs.Filter.{fewSlotOf, hashRoute}
+use Rattle.hash.specs.Hash.{hashRoute}
+use Rattle.filter.specs.Filter.{fewSlotOf}
 use Rattle.filter.proofs.Filter.{Passed, passed-none, passed-hit, passed-more, passed-all, asked, unasked, one-chosen, one-class, all-class}
 use borrow.Author.Needs.{needs}
 use Rattle.twins.proofs.few_routes.Statement.{statement}

@@ -5,7 +5,7 @@ use mathlib.Core.Path.{sym, _∙_}
 use denote.Ref.{now}
 use Rattle.key.specs.Pair.{twinRows}
 use borrow.Author.Count.{below-more}
-use Rattle.filter.specs.Filter.{hashRow}
+use Rattle.hash.specs.Hash.{hashRow}
 use Rattle.filter.proofs.Filter.{Below, below-first, below-all, one-class}
 use Rattle.filter.proofs.Joins.{rowTable}
 use borrow.Author.Needs.{needs}

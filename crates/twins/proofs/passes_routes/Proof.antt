@@ -5,7 +5,7 @@ use mathlib.Core.Path.{sym, _∙_}
 use denote.Ref.{now}
 use Rattle.key.specs.Pair.{twinRoutes}
 use borrow.Author.Count.{below-more}
-use Rattle.filter.specs.Filter.{hashRoute}
+use Rattle.hash.specs.Hash.{hashRoute}
 use Rattle.filter.proofs.Filter.{Below, below-first, below-all, one-class}
 use Rattle.filter.proofs.Joins.{routeTable}
 use borrow.Author.Needs.{needs}

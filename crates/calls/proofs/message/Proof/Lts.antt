@@ -1392,7 +1392,7 @@ b22 =
 abbrev b23 : Syntax.Body
 b23 =
     Syntax.call
-    "node::is_wrong"
+    "wrong_state::is_wrong"
     (List._∷_
     (Syntax.copy (Syntax.place 23 List.[]))
     (List._∷_
@@ -36002,21 +36002,21 @@ module _ (claims· : Claims) where
           "bad_call::is_bad") (known1 : Plain.Known 𝓤 H A W 𝓣 0 ps·1 r·1 (claims· .2) (claims· .3)
           "calls::bad_call") (known2 : Plain.Known 𝓤 H A W 𝓣 0 ps·2 r·2 (claims· .4) (claims· .5)
           "outcome::refused") (known3 : Plain.Known 𝓤 H A W 𝓣 2 ps·3 r·3 (claims· .6) (claims· .7)
-          "node::is_wrong") (known4 : Plain.Known 𝓤 H A W 𝓣 0 ps·4 r·4 (claims· .8) (claims· .9)
-          "calls::wrong_state") (known5 : Plain.Known 𝓤 H A W 𝓣 1 ps·5 r·5 (claims· .10)
-          (claims· .11) "reader::read") (known6 : Plain.Known 𝓤 H A W 𝓣 0 ps·6 r·6 (claims· .12)
-          (claims· .13) "heard::octets_answer") (known7 : Plain.Known 𝓤 H A W 𝓣 0 ps·7 r·7
-          (claims· .14) (claims· .15) "answer::number") (known8 : Plain.Known 𝓤 H A W 𝓣 0 ps·8 r·8
-          (claims· .16) (claims· .17) "calls::has_own_dodagid") (known9 : Plain.Known 𝓤 H A W 𝓣 0
-          ps·9 r·9 (claims· .18) (claims· .19) "calls::own_dodagid") (known10 : Plain.Known 𝓤 H A W
-          𝓣 0 ps·10 r·10 (claims· .20) (claims· .21) "heard::parsed") (known11 : Plain.Known 𝓤 H A
-          W 𝓣 1 ps·11 r·11 (claims· .22) (claims· .23) "heard::vector_of") (known12 : Plain.Known 𝓤
-          H A W 𝓣 0 ps·12 r·12 (claims· .24) (claims· .25)
-          "heard::is_reply") (known13 : Plain.Known 𝓤 H A W 𝓣 6 ps·13 r·13 (claims· .26)
-          (claims· .27) "node::take_reply") (known14 : Plain.Known 𝓤 H A W 𝓣 6 ps·14 r·14
-          (claims· .28) (claims· .29) "node::take_request") → Statement.Triple 𝓤 (Wp.WpFn 𝓤 H
-          (𝓣 .C) (𝓣 .Λ) (Function.fnOf 5 ps r xs m hs body)) (Function.plainOf 𝓤 H A 5 ps r Pre·
-          Post·)
+          "wrong_state::is_wrong") (known4 : Plain.Known 𝓤 H A W 𝓣 0 ps·4 r·4 (claims· .8)
+          (claims· .9) "calls::wrong_state") (known5 : Plain.Known 𝓤 H A W 𝓣 1 ps·5 r·5
+          (claims· .10) (claims· .11) "reader::read") (known6 : Plain.Known 𝓤 H A W 𝓣 0 ps·6 r·6
+          (claims· .12) (claims· .13) "heard::octets_answer") (known7 : Plain.Known 𝓤 H A W 𝓣 0
+          ps·7 r·7 (claims· .14) (claims· .15) "answer::number") (known8 : Plain.Known 𝓤 H A W 𝓣 0
+          ps·8 r·8 (claims· .16) (claims· .17) "calls::has_own_dodagid") (known9 : Plain.Known 𝓤 H
+          A W 𝓣 0 ps·9 r·9 (claims· .18) (claims· .19) "calls::own_dodagid") (known10 : Plain.Known
+          𝓤 H A W 𝓣 0 ps·10 r·10 (claims· .20) (claims· .21)
+          "heard::parsed") (known11 : Plain.Known 𝓤 H A W 𝓣 1 ps·11 r·11 (claims· .22)
+          (claims· .23) "heard::vector_of") (known12 : Plain.Known 𝓤 H A W 𝓣 0 ps·12 r·12
+          (claims· .24) (claims· .25) "heard::is_reply") (known13 : Plain.Known 𝓤 H A W 𝓣 6 ps·13
+          r·13 (claims· .26) (claims· .27) "node::take_reply") (known14 : Plain.Known 𝓤 H A W 𝓣 6
+          ps·14 r·14 (claims· .28) (claims· .29) "node::take_request") → Statement.Triple 𝓤
+          (Wp.WpFn 𝓤 H (𝓣 .C) (𝓣 .Λ) (Function.fnOf 5 ps r xs m hs body)) (Function.plainOf 𝓤 H A 5
+          ps r Pre· Post·)
 
     module _ where
       abbrev at0 : Typed.TF T19 O1
@@ -36662,7 +36662,7 @@ module _ (claims· : Claims) where
             Plain.Known 𝓤 H A W 𝓣 0 ps·0 r·0 (claims· .0) (claims· .1) "bad_call::is_bad" ×
             Plain.Known 𝓤 H A W 𝓣 0 ps·1 r·1 (claims· .2) (claims· .3) "calls::bad_call" ×
             Plain.Known 𝓤 H A W 𝓣 0 ps·2 r·2 (claims· .4) (claims· .5) "outcome::refused" ×
-            Plain.Known 𝓤 H A W 𝓣 2 ps·3 r·3 (claims· .6) (claims· .7) "node::is_wrong" ×
+            Plain.Known 𝓤 H A W 𝓣 2 ps·3 r·3 (claims· .6) (claims· .7) "wrong_state::is_wrong" ×
             Plain.Known 𝓤 H A W 𝓣 0 ps·4 r·4 (claims· .8) (claims· .9) "calls::wrong_state" ×
             Plain.Known 𝓤 H A W 𝓣 1 ps·5 r·5 (claims· .10) (claims· .11) "reader::read" ×
             Plain.Known 𝓤 H A W 𝓣 0 ps·6 r·6 (claims· .12) (claims· .13) "heard::octets_answer" ×
@@ -69125,7 +69125,7 @@ module _ (claims· : Claims) where
               r·3
               (claims· .6)
               (claims· .7)
-              "node::is_wrong"
+              "wrong_state::is_wrong"
               (known .3)
               E
               (λ pos β. β)
@@ -74450,7 +74450,18 @@ module _ (claims· : Claims) where
             (claims· .4)
             (claims· .5)
             "outcome::refused")
-            (known3 : Plain.Known 𝓤 H A W 𝓣 2 ps·3 r·3 (claims· .6) (claims· .7) "node::is_wrong")
+            (known3 : Plain.Known
+            𝓤
+            H
+            A
+            W
+            𝓣
+            2
+            ps·3
+            r·3
+            (claims· .6)
+            (claims· .7)
+            "wrong_state::is_wrong")
             (known4 : Plain.Known
             𝓤
             H

@@ -996,7 +996,7 @@ b22 =
 abbrev b23 : Syntax.Body
 b23 =
     Syntax.call
-    "node::is_wrong"
+    "wrong_state::is_wrong"
     (List._∷_
     (Syntax.copy (Syntax.place 20 List.[]))
     (List._∷_
@@ -1121,7 +1121,7 @@ b39 =
 abbrev b40 : Syntax.Body
 b40 =
     Syntax.call
-    "node::take_start"
+    "start_taken::take_start"
     (List._∷_
     (Syntax.copy (Syntax.place 25 List.[]))
     (List._∷_
@@ -18803,12 +18803,12 @@ module _ (claims· : Claims) where
           "outcome::refused") (known3 : Plain.Known 𝓤 H A W 𝓣 1 ps·3 r·3 (claims· .6) (claims· .7)
           "gather::gather") (known4 : Plain.Known 𝓤 H A W 𝓣 0 ps·4 r·4 (claims· .8) (claims· .9)
           "calls::is_bad_start") (known5 : Plain.Known 𝓤 H A W 𝓣 2 ps·5 r·5 (claims· .10)
-          (claims· .11) "node::is_wrong") (known6 : Plain.Known 𝓤 H A W 𝓣 0 ps·6 r·6 (claims· .12)
-          (claims· .13) "calls::wrong_state") (known7 : Plain.Known 𝓤 H A W 𝓣 0 ps·7 r·7
-          (claims· .14) (claims· .15) "calls::targets_of") (known8 : Plain.Known 𝓤 H A W 𝓣 4 ps·8
-          r·8 (claims· .16) (claims· .17) "node::take_start") → Statement.Triple 𝓤 (Wp.WpFn 𝓤 H
-          (𝓣 .C) (𝓣 .Λ) (Function.fnOf 5 ps r xs m hs body)) (Function.plainOf 𝓤 H A 5 ps r Pre·
-          Post·)
+          (claims· .11) "wrong_state::is_wrong") (known6 : Plain.Known 𝓤 H A W 𝓣 0 ps·6 r·6
+          (claims· .12) (claims· .13) "calls::wrong_state") (known7 : Plain.Known 𝓤 H A W 𝓣 0 ps·7
+          r·7 (claims· .14) (claims· .15) "calls::targets_of") (known8 : Plain.Known 𝓤 H A W 𝓣 4
+          ps·8 r·8 (claims· .16) (claims· .17) "start_taken::take_start") → Statement.Triple 𝓤
+          (Wp.WpFn 𝓤 H (𝓣 .C) (𝓣 .Λ) (Function.fnOf 5 ps r xs m hs body)) (Function.plainOf 𝓤 H A 5
+          ps r Pre· Post·)
 
     module _ where
       abbrev at0 : Typed.TF T18 O1
@@ -19135,10 +19135,10 @@ module _ (claims· : Claims) where
             Plain.Known 𝓤 H A W 𝓣 0 ps·2 r·2 (claims· .4) (claims· .5) "outcome::refused" ×
             Plain.Known 𝓤 H A W 𝓣 1 ps·3 r·3 (claims· .6) (claims· .7) "gather::gather" ×
             Plain.Known 𝓤 H A W 𝓣 0 ps·4 r·4 (claims· .8) (claims· .9) "calls::is_bad_start" ×
-            Plain.Known 𝓤 H A W 𝓣 2 ps·5 r·5 (claims· .10) (claims· .11) "node::is_wrong" ×
+            Plain.Known 𝓤 H A W 𝓣 2 ps·5 r·5 (claims· .10) (claims· .11) "wrong_state::is_wrong" ×
             Plain.Known 𝓤 H A W 𝓣 0 ps·6 r·6 (claims· .12) (claims· .13) "calls::wrong_state" ×
             Plain.Known 𝓤 H A W 𝓣 0 ps·7 r·7 (claims· .14) (claims· .15) "calls::targets_of" ×
-            Plain.Known 𝓤 H A W 𝓣 4 ps·8 r·8 (claims· .16) (claims· .17) "node::take_start"
+            Plain.Known 𝓤 H A W 𝓣 4 ps·8 r·8 (claims· .16) (claims· .17) "start_taken::take_start"
 
       module _ (κs : Lifetimes.Lfts 5) (qs : Lifetimes.Shares 5) where
         abbrev g22 : List.List Row.Entry
@@ -29799,7 +29799,7 @@ module _ (claims· : Claims) where
               r·8
               (claims· .16)
               (claims· .17)
-              "node::take_start"
+              "start_taken::take_start"
               (known .8)
               E
               (λ pos β. β)
@@ -31658,7 +31658,7 @@ module _ (claims· : Claims) where
               r·5
               (claims· .10)
               (claims· .11)
-              "node::is_wrong"
+              "wrong_state::is_wrong"
               (known .5)
               E
               (λ pos β. β)
@@ -34983,7 +34983,7 @@ module _ (claims· : Claims) where
             r·5
             (claims· .10)
             (claims· .11)
-            "node::is_wrong")
+            "wrong_state::is_wrong")
             (known6 : Plain.Known
             𝓤
             H
@@ -35019,7 +35019,7 @@ module _ (claims· : Claims) where
             r·8
             (claims· .16)
             (claims· .17)
-            "node::take_start") where
+            "start_taken::take_start") where
           pub spec :
               Statement.Triple
               𝓤

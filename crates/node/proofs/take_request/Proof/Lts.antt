@@ -1423,7 +1423,7 @@ b4 =
 abbrev b5 : Syntax.Body
 b5 =
     Syntax.call
-    "node::receiving_of"
+    "own::receiving_of"
     (List._∷_ (Syntax.copy (Syntax.place 5 List.[])) List.[])
     (Syntax.place 14 List.[])
 
@@ -29604,22 +29604,22 @@ module _ (claims· : Claims) where
           "addresses::whole") (known1 : Plain.Known 𝓤 H A W 𝓣 0 ps·1 r·1 (claims· .2) (claims· .3)
           "node::instance_of") (known2 : Plain.Known 𝓤 H A W 𝓣 0 ps·2 r·2 (claims· .4) (claims· .5)
           "node::dodagid_of") (known3 : Plain.Known 𝓤 H A W 𝓣 0 ps·3 r·3 (claims· .6) (claims· .7)
-          "node::receiving_of") (known4 : Plain.Known 𝓤 H A W 𝓣 1 ps·4 r·4 (claims· .8)
-          (claims· .9) "search::search_request") (known5 : Plain.Known 𝓤 H A W 𝓣 1 ps·5 r·5
-          (claims· .10) (claims· .11) "search::search_route") (known6 : Plain.Known 𝓤 H A W 𝓣 0
-          ps·6 r·6 (claims· .12) (claims· .13)
-          "request_targets::is_targ_node") (known7 : Plain.Known 𝓤 H A W 𝓣 1 ps·7 r·7 (claims· .14)
-          (claims· .15) "delta::free_delta_if") (known8 : Plain.Known 𝓤 H A W 𝓣 0 ps·8 r·8
-          (claims· .16) (claims· .17) "request::gather") (known9 : Plain.Known 𝓤 H A W 𝓣 1 ps·9 r·9
-          (claims· .18) (claims· .19) "request_answer::judge") (known10 : Plain.Known 𝓤 H A W 𝓣 0
-          ps·10 r·10 (claims· .20) (claims· .21) "answer::number") (known11 : Plain.Known 𝓤 H A W 𝓣
-          0 ps·11 r·11 (claims· .22) (claims· .23) "outcome::refused") (known12 : Plain.Known 𝓤 H A
-          W 𝓣 0 ps·12 r·12 (claims· .24) (claims· .25)
-          "request_stored::accepted") (known13 : Plain.Known 𝓤 H A W 𝓣 0 ps·13 r·13 (claims· .26)
-          (claims· .27) "request_forwarded::forward_post") (known14 : Plain.Known 𝓤 H A W 𝓣 0 ps·14
-          r·14 (claims· .28) (claims· .29) "request_replied::reply_post") (known15 : Plain.Known 𝓤
-          H A W 𝓣 0 ps·15 r·15 (claims· .30) (claims· .31) "node::live_of") (known16 : Plain.Known
-          𝓤 H A W 𝓣 8 ps·16 r·16 (claims· .32) (claims· .33) "finish::finish") → Statement.Triple 𝓤
+          "own::receiving_of") (known4 : Plain.Known 𝓤 H A W 𝓣 1 ps·4 r·4 (claims· .8) (claims· .9)
+          "search::search_request") (known5 : Plain.Known 𝓤 H A W 𝓣 1 ps·5 r·5 (claims· .10)
+          (claims· .11) "search::search_route") (known6 : Plain.Known 𝓤 H A W 𝓣 0 ps·6 r·6
+          (claims· .12) (claims· .13) "request_targets::is_targ_node") (known7 : Plain.Known 𝓤 H A
+          W 𝓣 1 ps·7 r·7 (claims· .14) (claims· .15) "delta::free_delta_if") (known8 : Plain.Known
+          𝓤 H A W 𝓣 0 ps·8 r·8 (claims· .16) (claims· .17) "request::gather") (known9 : Plain.Known
+          𝓤 H A W 𝓣 1 ps·9 r·9 (claims· .18) (claims· .19)
+          "request_answer::judge") (known10 : Plain.Known 𝓤 H A W 𝓣 0 ps·10 r·10 (claims· .20)
+          (claims· .21) "answer::number") (known11 : Plain.Known 𝓤 H A W 𝓣 0 ps·11 r·11
+          (claims· .22) (claims· .23) "outcome::refused") (known12 : Plain.Known 𝓤 H A W 𝓣 0 ps·12
+          r·12 (claims· .24) (claims· .25) "request_stored::accepted") (known13 : Plain.Known 𝓤 H A
+          W 𝓣 0 ps·13 r·13 (claims· .26) (claims· .27)
+          "request_forwarded::forward_post") (known14 : Plain.Known 𝓤 H A W 𝓣 0 ps·14 r·14
+          (claims· .28) (claims· .29) "request_replied::reply_post") (known15 : Plain.Known 𝓤 H A W
+          𝓣 0 ps·15 r·15 (claims· .30) (claims· .31) "node::live_of") (known16 : Plain.Known 𝓤 H A
+          W 𝓣 8 ps·16 r·16 (claims· .32) (claims· .33) "finish::finish") → Statement.Triple 𝓤
           (Wp.WpFn 𝓤 H (𝓣 .C) (𝓣 .Λ) (Function.fnOf 6 ps r xs m hs body)) (Function.plainOf 𝓤 H A 6
           ps r Pre· Post·)
 
@@ -30069,7 +30069,7 @@ module _ (claims· : Claims) where
             Plain.Known 𝓤 H A W 𝓣 1 ps·0 r·0 (claims· .0) (claims· .1) "addresses::whole" ×
             Plain.Known 𝓤 H A W 𝓣 0 ps·1 r·1 (claims· .2) (claims· .3) "node::instance_of" ×
             Plain.Known 𝓤 H A W 𝓣 0 ps·2 r·2 (claims· .4) (claims· .5) "node::dodagid_of" ×
-            Plain.Known 𝓤 H A W 𝓣 0 ps·3 r·3 (claims· .6) (claims· .7) "node::receiving_of" ×
+            Plain.Known 𝓤 H A W 𝓣 0 ps·3 r·3 (claims· .6) (claims· .7) "own::receiving_of" ×
             Plain.Known 𝓤 H A W 𝓣 1 ps·4 r·4 (claims· .8) (claims· .9) "search::search_request" ×
             Plain.Known 𝓤 H A W 𝓣 1 ps·5 r·5 (claims· .10) (claims· .11) "search::search_route" ×
             Plain.Known
@@ -49258,7 +49258,7 @@ module _ (claims· : Claims) where
               r·3
               (claims· .6)
               (claims· .7)
-              "node::receiving_of"
+              "own::receiving_of"
               (known .3)
               E
               (λ pos β. β)
@@ -52654,7 +52654,7 @@ module _ (claims· : Claims) where
             r·3
             (claims· .6)
             (claims· .7)
-            "node::receiving_of")
+            "own::receiving_of")
             (known4 : Plain.Known
             𝓤
             H

@@ -20,18 +20,18 @@ use Rattle.node.proofs.instance_of.Symbol as Symbol'5
 use Rattle.node.proofs.live_of.Met as Met'6
 use Rattle.node.proofs.live_of.Reads as Reads'6
 use Rattle.node.proofs.live_of.Symbol as Symbol'6
-use Rattle.node.proofs.receiving_of.Met as Met'7
-use Rattle.node.proofs.receiving_of.Reads as Reads'7
-use Rattle.node.proofs.receiving_of.Symbol as Symbol'7
 use Rattle.node.proofs.take_request.Code
 use Rattle.node.proofs.take_request.Key
 use Rattle.node.proofs.Lent.take_request.Kinds
 use Rattle.node.proofs.take_request.Proof.Lts
-use Rattle.node.proofs.Lent.take_request.Reads as Reads'8
+use Rattle.node.proofs.Lent.take_request.Reads as Reads'7
 use Rattle.node.proofs.take_request.Statement
-use Rattle.outcome.proofs.refused.Met as Met'8
-use Rattle.outcome.proofs.refused.Reads as Reads'9
-use Rattle.outcome.proofs.refused.Symbol as Symbol'8
+use Rattle.outcome.proofs.refused.Met as Met'7
+use Rattle.outcome.proofs.refused.Reads as Reads'8
+use Rattle.outcome.proofs.refused.Symbol as Symbol'7
+use Rattle.own.proofs.receiving_of.Met as Met'8
+use Rattle.own.proofs.receiving_of.Reads as Reads'9
+use Rattle.own.proofs.receiving_of.Symbol as Symbol'8
 use Rattle.request.proofs.gather.Met as Met'9
 use Rattle.request.proofs.gather.Reads as Reads'10
 use Rattle.request.proofs.gather.Symbol as Symbol'9
@@ -68,8 +68,8 @@ Start = Lts.Start (
   Reads'5.Learnt,
   Reads'4.Asked,
   Reads'4.Learnt,
-  Reads'7.Asked,
-  Reads'7.Learnt,
+  Reads'9.Asked,
+  Reads'9.Learnt,
   Reads'16.Asked,
   Reads'16.Learnt,
   Reads'17.Asked,
@@ -84,8 +84,8 @@ Start = Lts.Start (
   Reads'11.Learnt,
   Reads'.Asked,
   Reads'.Learnt,
-  Reads'9.Asked,
-  Reads'9.Learnt,
+  Reads'8.Asked,
+  Reads'8.Learnt,
   Reads'14.Asked,
   Reads'14.Learnt,
   Reads'12.Asked,
@@ -96,7 +96,7 @@ Start = Lts.Start (
   Reads'6.Learnt,
   Reads'3.Asked,
   Reads'3.Learnt,
-) Reads'8.Pre Reads'8.Post
+) Reads'7.Pre Reads'7.Post
 
 abbrev pub After-slice-known : Type 0
 After-slice-known = Lts.After-slice-known (
@@ -106,8 +106,8 @@ After-slice-known = Lts.After-slice-known (
   Reads'5.Learnt,
   Reads'4.Asked,
   Reads'4.Learnt,
-  Reads'7.Asked,
-  Reads'7.Learnt,
+  Reads'9.Asked,
+  Reads'9.Learnt,
   Reads'16.Asked,
   Reads'16.Learnt,
   Reads'17.Asked,
@@ -122,8 +122,8 @@ After-slice-known = Lts.After-slice-known (
   Reads'11.Learnt,
   Reads'.Asked,
   Reads'.Learnt,
-  Reads'9.Asked,
-  Reads'9.Learnt,
+  Reads'8.Asked,
+  Reads'8.Learnt,
   Reads'14.Asked,
   Reads'14.Learnt,
   Reads'12.Asked,
@@ -134,7 +134,7 @@ After-slice-known = Lts.After-slice-known (
   Reads'6.Learnt,
   Reads'3.Asked,
   Reads'3.Learnt,
-) Reads'8.Pre Reads'8.Post
+) Reads'7.Pre Reads'7.Post
 
 abbrev pub After-slice-known2 : Type 0
 After-slice-known2 = Lts.After-slice-known2 (
@@ -144,8 +144,8 @@ After-slice-known2 = Lts.After-slice-known2 (
   Reads'5.Learnt,
   Reads'4.Asked,
   Reads'4.Learnt,
-  Reads'7.Asked,
-  Reads'7.Learnt,
+  Reads'9.Asked,
+  Reads'9.Learnt,
   Reads'16.Asked,
   Reads'16.Learnt,
   Reads'17.Asked,
@@ -160,8 +160,8 @@ After-slice-known2 = Lts.After-slice-known2 (
   Reads'11.Learnt,
   Reads'.Asked,
   Reads'.Learnt,
-  Reads'9.Asked,
-  Reads'9.Learnt,
+  Reads'8.Asked,
+  Reads'8.Learnt,
   Reads'14.Asked,
   Reads'14.Learnt,
   Reads'12.Asked,
@@ -172,7 +172,7 @@ After-slice-known2 = Lts.After-slice-known2 (
   Reads'6.Learnt,
   Reads'3.Asked,
   Reads'3.Learnt,
-) Reads'8.Pre Reads'8.Post
+) Reads'7.Pre Reads'7.Post
 
 abbrev pub After-whole : Type 0
 After-whole = Lts.After-whole (
@@ -182,8 +182,8 @@ After-whole = Lts.After-whole (
   Reads'5.Learnt,
   Reads'4.Asked,
   Reads'4.Learnt,
-  Reads'7.Asked,
-  Reads'7.Learnt,
+  Reads'9.Asked,
+  Reads'9.Learnt,
   Reads'16.Asked,
   Reads'16.Learnt,
   Reads'17.Asked,
@@ -198,8 +198,8 @@ After-whole = Lts.After-whole (
   Reads'11.Learnt,
   Reads'.Asked,
   Reads'.Learnt,
-  Reads'9.Asked,
-  Reads'9.Learnt,
+  Reads'8.Asked,
+  Reads'8.Learnt,
   Reads'14.Asked,
   Reads'14.Learnt,
   Reads'12.Asked,
@@ -210,7 +210,7 @@ After-whole = Lts.After-whole (
   Reads'6.Learnt,
   Reads'3.Asked,
   Reads'3.Learnt,
-) Reads'8.Pre Reads'8.Post
+) Reads'7.Pre Reads'7.Post
 
 abbrev pub After-instance-of-arg : Type 0
 After-instance-of-arg = Lts.After-instance-of-arg (
@@ -220,8 +220,8 @@ After-instance-of-arg = Lts.After-instance-of-arg (
   Reads'5.Learnt,
   Reads'4.Asked,
   Reads'4.Learnt,
-  Reads'7.Asked,
-  Reads'7.Learnt,
+  Reads'9.Asked,
+  Reads'9.Learnt,
   Reads'16.Asked,
   Reads'16.Learnt,
   Reads'17.Asked,
@@ -236,8 +236,8 @@ After-instance-of-arg = Lts.After-instance-of-arg (
   Reads'11.Learnt,
   Reads'.Asked,
   Reads'.Learnt,
-  Reads'9.Asked,
-  Reads'9.Learnt,
+  Reads'8.Asked,
+  Reads'8.Learnt,
   Reads'14.Asked,
   Reads'14.Learnt,
   Reads'12.Asked,
@@ -248,7 +248,7 @@ After-instance-of-arg = Lts.After-instance-of-arg (
   Reads'6.Learnt,
   Reads'3.Asked,
   Reads'3.Learnt,
-) Reads'8.Pre Reads'8.Post
+) Reads'7.Pre Reads'7.Post
 
 abbrev pub After-instance-of : Type 0
 After-instance-of = Lts.After-instance-of (
@@ -258,8 +258,8 @@ After-instance-of = Lts.After-instance-of (
   Reads'5.Learnt,
   Reads'4.Asked,
   Reads'4.Learnt,
-  Reads'7.Asked,
-  Reads'7.Learnt,
+  Reads'9.Asked,
+  Reads'9.Learnt,
   Reads'16.Asked,
   Reads'16.Learnt,
   Reads'17.Asked,
@@ -274,8 +274,8 @@ After-instance-of = Lts.After-instance-of (
   Reads'11.Learnt,
   Reads'.Asked,
   Reads'.Learnt,
-  Reads'9.Asked,
-  Reads'9.Learnt,
+  Reads'8.Asked,
+  Reads'8.Learnt,
   Reads'14.Asked,
   Reads'14.Learnt,
   Reads'12.Asked,
@@ -286,7 +286,7 @@ After-instance-of = Lts.After-instance-of (
   Reads'6.Learnt,
   Reads'3.Asked,
   Reads'3.Learnt,
-) Reads'8.Pre Reads'8.Post
+) Reads'7.Pre Reads'7.Post
 
 abbrev pub After-dodagid-of-arg : Type 0
 After-dodagid-of-arg = Lts.After-dodagid-of-arg (
@@ -296,8 +296,8 @@ After-dodagid-of-arg = Lts.After-dodagid-of-arg (
   Reads'5.Learnt,
   Reads'4.Asked,
   Reads'4.Learnt,
-  Reads'7.Asked,
-  Reads'7.Learnt,
+  Reads'9.Asked,
+  Reads'9.Learnt,
   Reads'16.Asked,
   Reads'16.Learnt,
   Reads'17.Asked,
@@ -312,8 +312,8 @@ After-dodagid-of-arg = Lts.After-dodagid-of-arg (
   Reads'11.Learnt,
   Reads'.Asked,
   Reads'.Learnt,
-  Reads'9.Asked,
-  Reads'9.Learnt,
+  Reads'8.Asked,
+  Reads'8.Learnt,
   Reads'14.Asked,
   Reads'14.Learnt,
   Reads'12.Asked,
@@ -324,7 +324,7 @@ After-dodagid-of-arg = Lts.After-dodagid-of-arg (
   Reads'6.Learnt,
   Reads'3.Asked,
   Reads'3.Learnt,
-) Reads'8.Pre Reads'8.Post
+) Reads'7.Pre Reads'7.Post
 
 abbrev pub After-dodagid-of : Type 0
 After-dodagid-of = Lts.After-dodagid-of (
@@ -334,8 +334,8 @@ After-dodagid-of = Lts.After-dodagid-of (
   Reads'5.Learnt,
   Reads'4.Asked,
   Reads'4.Learnt,
-  Reads'7.Asked,
-  Reads'7.Learnt,
+  Reads'9.Asked,
+  Reads'9.Learnt,
   Reads'16.Asked,
   Reads'16.Learnt,
   Reads'17.Asked,
@@ -350,8 +350,8 @@ After-dodagid-of = Lts.After-dodagid-of (
   Reads'11.Learnt,
   Reads'.Asked,
   Reads'.Learnt,
-  Reads'9.Asked,
-  Reads'9.Learnt,
+  Reads'8.Asked,
+  Reads'8.Learnt,
   Reads'14.Asked,
   Reads'14.Learnt,
   Reads'12.Asked,
@@ -362,7 +362,7 @@ After-dodagid-of = Lts.After-dodagid-of (
   Reads'6.Learnt,
   Reads'3.Asked,
   Reads'3.Learnt,
-) Reads'8.Pre Reads'8.Post
+) Reads'7.Pre Reads'7.Post
 
 abbrev pub After-receiving-of : Type 0
 After-receiving-of = Lts.After-receiving-of (
@@ -372,8 +372,8 @@ After-receiving-of = Lts.After-receiving-of (
   Reads'5.Learnt,
   Reads'4.Asked,
   Reads'4.Learnt,
-  Reads'7.Asked,
-  Reads'7.Learnt,
+  Reads'9.Asked,
+  Reads'9.Learnt,
   Reads'16.Asked,
   Reads'16.Learnt,
   Reads'17.Asked,
@@ -388,8 +388,8 @@ After-receiving-of = Lts.After-receiving-of (
   Reads'11.Learnt,
   Reads'.Asked,
   Reads'.Learnt,
-  Reads'9.Asked,
-  Reads'9.Learnt,
+  Reads'8.Asked,
+  Reads'8.Learnt,
   Reads'14.Asked,
   Reads'14.Learnt,
   Reads'12.Asked,
@@ -400,7 +400,7 @@ After-receiving-of = Lts.After-receiving-of (
   Reads'6.Learnt,
   Reads'3.Asked,
   Reads'3.Learnt,
-) Reads'8.Pre Reads'8.Post
+) Reads'7.Pre Reads'7.Post
 
 abbrev pub After-search-request-arg : Type 0
 After-search-request-arg = Lts.After-search-request-arg (
@@ -410,8 +410,8 @@ After-search-request-arg = Lts.After-search-request-arg (
   Reads'5.Learnt,
   Reads'4.Asked,
   Reads'4.Learnt,
-  Reads'7.Asked,
-  Reads'7.Learnt,
+  Reads'9.Asked,
+  Reads'9.Learnt,
   Reads'16.Asked,
   Reads'16.Learnt,
   Reads'17.Asked,
@@ -426,8 +426,8 @@ After-search-request-arg = Lts.After-search-request-arg (
   Reads'11.Learnt,
   Reads'.Asked,
   Reads'.Learnt,
-  Reads'9.Asked,
-  Reads'9.Learnt,
+  Reads'8.Asked,
+  Reads'8.Learnt,
   Reads'14.Asked,
   Reads'14.Learnt,
   Reads'12.Asked,
@@ -438,7 +438,7 @@ After-search-request-arg = Lts.After-search-request-arg (
   Reads'6.Learnt,
   Reads'3.Asked,
   Reads'3.Learnt,
-) Reads'8.Pre Reads'8.Post
+) Reads'7.Pre Reads'7.Post
 
 abbrev pub After-search-request : Type 0
 After-search-request = Lts.After-search-request (
@@ -448,8 +448,8 @@ After-search-request = Lts.After-search-request (
   Reads'5.Learnt,
   Reads'4.Asked,
   Reads'4.Learnt,
-  Reads'7.Asked,
-  Reads'7.Learnt,
+  Reads'9.Asked,
+  Reads'9.Learnt,
   Reads'16.Asked,
   Reads'16.Learnt,
   Reads'17.Asked,
@@ -464,8 +464,8 @@ After-search-request = Lts.After-search-request (
   Reads'11.Learnt,
   Reads'.Asked,
   Reads'.Learnt,
-  Reads'9.Asked,
-  Reads'9.Learnt,
+  Reads'8.Asked,
+  Reads'8.Learnt,
   Reads'14.Asked,
   Reads'14.Learnt,
   Reads'12.Asked,
@@ -476,7 +476,7 @@ After-search-request = Lts.After-search-request (
   Reads'6.Learnt,
   Reads'3.Asked,
   Reads'3.Learnt,
-) Reads'8.Pre Reads'8.Post
+) Reads'7.Pre Reads'7.Post
 
 abbrev pub After-search-route-arg : Type 0
 After-search-route-arg = Lts.After-search-route-arg (
@@ -486,8 +486,8 @@ After-search-route-arg = Lts.After-search-route-arg (
   Reads'5.Learnt,
   Reads'4.Asked,
   Reads'4.Learnt,
-  Reads'7.Asked,
-  Reads'7.Learnt,
+  Reads'9.Asked,
+  Reads'9.Learnt,
   Reads'16.Asked,
   Reads'16.Learnt,
   Reads'17.Asked,
@@ -502,8 +502,8 @@ After-search-route-arg = Lts.After-search-route-arg (
   Reads'11.Learnt,
   Reads'.Asked,
   Reads'.Learnt,
-  Reads'9.Asked,
-  Reads'9.Learnt,
+  Reads'8.Asked,
+  Reads'8.Learnt,
   Reads'14.Asked,
   Reads'14.Learnt,
   Reads'12.Asked,
@@ -514,7 +514,7 @@ After-search-route-arg = Lts.After-search-route-arg (
   Reads'6.Learnt,
   Reads'3.Asked,
   Reads'3.Learnt,
-) Reads'8.Pre Reads'8.Post
+) Reads'7.Pre Reads'7.Post
 
 abbrev pub After-search-route : Type 0
 After-search-route = Lts.After-search-route (
@@ -524,8 +524,8 @@ After-search-route = Lts.After-search-route (
   Reads'5.Learnt,
   Reads'4.Asked,
   Reads'4.Learnt,
-  Reads'7.Asked,
-  Reads'7.Learnt,
+  Reads'9.Asked,
+  Reads'9.Learnt,
   Reads'16.Asked,
   Reads'16.Learnt,
   Reads'17.Asked,
@@ -540,8 +540,8 @@ After-search-route = Lts.After-search-route (
   Reads'11.Learnt,
   Reads'.Asked,
   Reads'.Learnt,
-  Reads'9.Asked,
-  Reads'9.Learnt,
+  Reads'8.Asked,
+  Reads'8.Learnt,
   Reads'14.Asked,
   Reads'14.Learnt,
   Reads'12.Asked,
@@ -552,7 +552,7 @@ After-search-route = Lts.After-search-route (
   Reads'6.Learnt,
   Reads'3.Asked,
   Reads'3.Learnt,
-) Reads'8.Pre Reads'8.Post
+) Reads'7.Pre Reads'7.Post
 
 abbrev pub After-is-targ-node-arg : Type 0
 After-is-targ-node-arg = Lts.After-is-targ-node-arg (
@@ -562,8 +562,8 @@ After-is-targ-node-arg = Lts.After-is-targ-node-arg (
   Reads'5.Learnt,
   Reads'4.Asked,
   Reads'4.Learnt,
-  Reads'7.Asked,
-  Reads'7.Learnt,
+  Reads'9.Asked,
+  Reads'9.Learnt,
   Reads'16.Asked,
   Reads'16.Learnt,
   Reads'17.Asked,
@@ -578,8 +578,8 @@ After-is-targ-node-arg = Lts.After-is-targ-node-arg (
   Reads'11.Learnt,
   Reads'.Asked,
   Reads'.Learnt,
-  Reads'9.Asked,
-  Reads'9.Learnt,
+  Reads'8.Asked,
+  Reads'8.Learnt,
   Reads'14.Asked,
   Reads'14.Learnt,
   Reads'12.Asked,
@@ -590,7 +590,7 @@ After-is-targ-node-arg = Lts.After-is-targ-node-arg (
   Reads'6.Learnt,
   Reads'3.Asked,
   Reads'3.Learnt,
-) Reads'8.Pre Reads'8.Post
+) Reads'7.Pre Reads'7.Post
 
 abbrev pub After-is-targ-node : Type 0
 After-is-targ-node = Lts.After-is-targ-node (
@@ -600,8 +600,8 @@ After-is-targ-node = Lts.After-is-targ-node (
   Reads'5.Learnt,
   Reads'4.Asked,
   Reads'4.Learnt,
-  Reads'7.Asked,
-  Reads'7.Learnt,
+  Reads'9.Asked,
+  Reads'9.Learnt,
   Reads'16.Asked,
   Reads'16.Learnt,
   Reads'17.Asked,
@@ -616,8 +616,8 @@ After-is-targ-node = Lts.After-is-targ-node (
   Reads'11.Learnt,
   Reads'.Asked,
   Reads'.Learnt,
-  Reads'9.Asked,
-  Reads'9.Learnt,
+  Reads'8.Asked,
+  Reads'8.Learnt,
   Reads'14.Asked,
   Reads'14.Learnt,
   Reads'12.Asked,
@@ -628,7 +628,7 @@ After-is-targ-node = Lts.After-is-targ-node (
   Reads'6.Learnt,
   Reads'3.Asked,
   Reads'3.Learnt,
-) Reads'8.Pre Reads'8.Post
+) Reads'7.Pre Reads'7.Post
 
 abbrev pub After-free-delta-if-arg : Type 0
 After-free-delta-if-arg = Lts.After-free-delta-if-arg (
@@ -638,8 +638,8 @@ After-free-delta-if-arg = Lts.After-free-delta-if-arg (
   Reads'5.Learnt,
   Reads'4.Asked,
   Reads'4.Learnt,
-  Reads'7.Asked,
-  Reads'7.Learnt,
+  Reads'9.Asked,
+  Reads'9.Learnt,
   Reads'16.Asked,
   Reads'16.Learnt,
   Reads'17.Asked,
@@ -654,8 +654,8 @@ After-free-delta-if-arg = Lts.After-free-delta-if-arg (
   Reads'11.Learnt,
   Reads'.Asked,
   Reads'.Learnt,
-  Reads'9.Asked,
-  Reads'9.Learnt,
+  Reads'8.Asked,
+  Reads'8.Learnt,
   Reads'14.Asked,
   Reads'14.Learnt,
   Reads'12.Asked,
@@ -666,7 +666,7 @@ After-free-delta-if-arg = Lts.After-free-delta-if-arg (
   Reads'6.Learnt,
   Reads'3.Asked,
   Reads'3.Learnt,
-) Reads'8.Pre Reads'8.Post
+) Reads'7.Pre Reads'7.Post
 
 abbrev pub After-free-delta-if : Type 0
 After-free-delta-if = Lts.After-free-delta-if (
@@ -676,8 +676,8 @@ After-free-delta-if = Lts.After-free-delta-if (
   Reads'5.Learnt,
   Reads'4.Asked,
   Reads'4.Learnt,
-  Reads'7.Asked,
-  Reads'7.Learnt,
+  Reads'9.Asked,
+  Reads'9.Learnt,
   Reads'16.Asked,
   Reads'16.Learnt,
   Reads'17.Asked,
@@ -692,8 +692,8 @@ After-free-delta-if = Lts.After-free-delta-if (
   Reads'11.Learnt,
   Reads'.Asked,
   Reads'.Learnt,
-  Reads'9.Asked,
-  Reads'9.Learnt,
+  Reads'8.Asked,
+  Reads'8.Learnt,
   Reads'14.Asked,
   Reads'14.Learnt,
   Reads'12.Asked,
@@ -704,7 +704,7 @@ After-free-delta-if = Lts.After-free-delta-if (
   Reads'6.Learnt,
   Reads'3.Asked,
   Reads'3.Learnt,
-) Reads'8.Pre Reads'8.Post
+) Reads'7.Pre Reads'7.Post
 
 abbrev pub After-gather-arg : Type 0
 After-gather-arg = Lts.After-gather-arg (
@@ -714,8 +714,8 @@ After-gather-arg = Lts.After-gather-arg (
   Reads'5.Learnt,
   Reads'4.Asked,
   Reads'4.Learnt,
-  Reads'7.Asked,
-  Reads'7.Learnt,
+  Reads'9.Asked,
+  Reads'9.Learnt,
   Reads'16.Asked,
   Reads'16.Learnt,
   Reads'17.Asked,
@@ -730,8 +730,8 @@ After-gather-arg = Lts.After-gather-arg (
   Reads'11.Learnt,
   Reads'.Asked,
   Reads'.Learnt,
-  Reads'9.Asked,
-  Reads'9.Learnt,
+  Reads'8.Asked,
+  Reads'8.Learnt,
   Reads'14.Asked,
   Reads'14.Learnt,
   Reads'12.Asked,
@@ -742,7 +742,7 @@ After-gather-arg = Lts.After-gather-arg (
   Reads'6.Learnt,
   Reads'3.Asked,
   Reads'3.Learnt,
-) Reads'8.Pre Reads'8.Post
+) Reads'7.Pre Reads'7.Post
 
 abbrev pub After-gather : Type 0
 After-gather = Lts.After-gather (
@@ -752,8 +752,8 @@ After-gather = Lts.After-gather (
   Reads'5.Learnt,
   Reads'4.Asked,
   Reads'4.Learnt,
-  Reads'7.Asked,
-  Reads'7.Learnt,
+  Reads'9.Asked,
+  Reads'9.Learnt,
   Reads'16.Asked,
   Reads'16.Learnt,
   Reads'17.Asked,
@@ -768,8 +768,8 @@ After-gather = Lts.After-gather (
   Reads'11.Learnt,
   Reads'.Asked,
   Reads'.Learnt,
-  Reads'9.Asked,
-  Reads'9.Learnt,
+  Reads'8.Asked,
+  Reads'8.Learnt,
   Reads'14.Asked,
   Reads'14.Learnt,
   Reads'12.Asked,
@@ -780,7 +780,7 @@ After-gather = Lts.After-gather (
   Reads'6.Learnt,
   Reads'3.Asked,
   Reads'3.Learnt,
-) Reads'8.Pre Reads'8.Post
+) Reads'7.Pre Reads'7.Post
 
 abbrev pub After-judge-arg : Type 0
 After-judge-arg = Lts.After-judge-arg (
@@ -790,8 +790,8 @@ After-judge-arg = Lts.After-judge-arg (
   Reads'5.Learnt,
   Reads'4.Asked,
   Reads'4.Learnt,
-  Reads'7.Asked,
-  Reads'7.Learnt,
+  Reads'9.Asked,
+  Reads'9.Learnt,
   Reads'16.Asked,
   Reads'16.Learnt,
   Reads'17.Asked,
@@ -806,8 +806,8 @@ After-judge-arg = Lts.After-judge-arg (
   Reads'11.Learnt,
   Reads'.Asked,
   Reads'.Learnt,
-  Reads'9.Asked,
-  Reads'9.Learnt,
+  Reads'8.Asked,
+  Reads'8.Learnt,
   Reads'14.Asked,
   Reads'14.Learnt,
   Reads'12.Asked,
@@ -818,7 +818,7 @@ After-judge-arg = Lts.After-judge-arg (
   Reads'6.Learnt,
   Reads'3.Asked,
   Reads'3.Learnt,
-) Reads'8.Pre Reads'8.Post
+) Reads'7.Pre Reads'7.Post
 
 abbrev pub After-judge : Type 0
 After-judge = Lts.After-judge (
@@ -828,8 +828,8 @@ After-judge = Lts.After-judge (
   Reads'5.Learnt,
   Reads'4.Asked,
   Reads'4.Learnt,
-  Reads'7.Asked,
-  Reads'7.Learnt,
+  Reads'9.Asked,
+  Reads'9.Learnt,
   Reads'16.Asked,
   Reads'16.Learnt,
   Reads'17.Asked,
@@ -844,8 +844,8 @@ After-judge = Lts.After-judge (
   Reads'11.Learnt,
   Reads'.Asked,
   Reads'.Learnt,
-  Reads'9.Asked,
-  Reads'9.Learnt,
+  Reads'8.Asked,
+  Reads'8.Learnt,
   Reads'14.Asked,
   Reads'14.Learnt,
   Reads'12.Asked,
@@ -856,7 +856,7 @@ After-judge = Lts.After-judge (
   Reads'6.Learnt,
   Reads'3.Asked,
   Reads'3.Learnt,
-) Reads'8.Pre Reads'8.Post
+) Reads'7.Pre Reads'7.Post
 
 abbrev pub After-number : Type 0
 After-number = Lts.After-number (
@@ -866,8 +866,8 @@ After-number = Lts.After-number (
   Reads'5.Learnt,
   Reads'4.Asked,
   Reads'4.Learnt,
-  Reads'7.Asked,
-  Reads'7.Learnt,
+  Reads'9.Asked,
+  Reads'9.Learnt,
   Reads'16.Asked,
   Reads'16.Learnt,
   Reads'17.Asked,
@@ -882,8 +882,8 @@ After-number = Lts.After-number (
   Reads'11.Learnt,
   Reads'.Asked,
   Reads'.Learnt,
-  Reads'9.Asked,
-  Reads'9.Learnt,
+  Reads'8.Asked,
+  Reads'8.Learnt,
   Reads'14.Asked,
   Reads'14.Learnt,
   Reads'12.Asked,
@@ -894,7 +894,7 @@ After-number = Lts.After-number (
   Reads'6.Learnt,
   Reads'3.Asked,
   Reads'3.Learnt,
-) Reads'8.Pre Reads'8.Post
+) Reads'7.Pre Reads'7.Post
 
 abbrev pub Then1 : Type 0
 Then1 = Lts.Then1 (
@@ -904,8 +904,8 @@ Then1 = Lts.Then1 (
   Reads'5.Learnt,
   Reads'4.Asked,
   Reads'4.Learnt,
-  Reads'7.Asked,
-  Reads'7.Learnt,
+  Reads'9.Asked,
+  Reads'9.Learnt,
   Reads'16.Asked,
   Reads'16.Learnt,
   Reads'17.Asked,
@@ -920,8 +920,8 @@ Then1 = Lts.Then1 (
   Reads'11.Learnt,
   Reads'.Asked,
   Reads'.Learnt,
-  Reads'9.Asked,
-  Reads'9.Learnt,
+  Reads'8.Asked,
+  Reads'8.Learnt,
   Reads'14.Asked,
   Reads'14.Learnt,
   Reads'12.Asked,
@@ -932,7 +932,7 @@ Then1 = Lts.Then1 (
   Reads'6.Learnt,
   Reads'3.Asked,
   Reads'3.Learnt,
-) Reads'8.Pre Reads'8.Post
+) Reads'7.Pre Reads'7.Post
 
 abbrev pub After-refused : Type 0
 After-refused = Lts.After-refused (
@@ -942,8 +942,8 @@ After-refused = Lts.After-refused (
   Reads'5.Learnt,
   Reads'4.Asked,
   Reads'4.Learnt,
-  Reads'7.Asked,
-  Reads'7.Learnt,
+  Reads'9.Asked,
+  Reads'9.Learnt,
   Reads'16.Asked,
   Reads'16.Learnt,
   Reads'17.Asked,
@@ -958,8 +958,8 @@ After-refused = Lts.After-refused (
   Reads'11.Learnt,
   Reads'.Asked,
   Reads'.Learnt,
-  Reads'9.Asked,
-  Reads'9.Learnt,
+  Reads'8.Asked,
+  Reads'8.Learnt,
   Reads'14.Asked,
   Reads'14.Learnt,
   Reads'12.Asked,
@@ -970,7 +970,7 @@ After-refused = Lts.After-refused (
   Reads'6.Learnt,
   Reads'3.Asked,
   Reads'3.Learnt,
-) Reads'8.Pre Reads'8.Post
+) Reads'7.Pre Reads'7.Post
 
 abbrev pub Else1 : Type 0
 Else1 = Lts.Else1 (
@@ -980,8 +980,8 @@ Else1 = Lts.Else1 (
   Reads'5.Learnt,
   Reads'4.Asked,
   Reads'4.Learnt,
-  Reads'7.Asked,
-  Reads'7.Learnt,
+  Reads'9.Asked,
+  Reads'9.Learnt,
   Reads'16.Asked,
   Reads'16.Learnt,
   Reads'17.Asked,
@@ -996,8 +996,8 @@ Else1 = Lts.Else1 (
   Reads'11.Learnt,
   Reads'.Asked,
   Reads'.Learnt,
-  Reads'9.Asked,
-  Reads'9.Learnt,
+  Reads'8.Asked,
+  Reads'8.Learnt,
   Reads'14.Asked,
   Reads'14.Learnt,
   Reads'12.Asked,
@@ -1008,7 +1008,7 @@ Else1 = Lts.Else1 (
   Reads'6.Learnt,
   Reads'3.Asked,
   Reads'3.Learnt,
-) Reads'8.Pre Reads'8.Post
+) Reads'7.Pre Reads'7.Post
 
 abbrev pub After-accepted-arg : Type 0
 After-accepted-arg = Lts.After-accepted-arg (
@@ -1018,8 +1018,8 @@ After-accepted-arg = Lts.After-accepted-arg (
   Reads'5.Learnt,
   Reads'4.Asked,
   Reads'4.Learnt,
-  Reads'7.Asked,
-  Reads'7.Learnt,
+  Reads'9.Asked,
+  Reads'9.Learnt,
   Reads'16.Asked,
   Reads'16.Learnt,
   Reads'17.Asked,
@@ -1034,8 +1034,8 @@ After-accepted-arg = Lts.After-accepted-arg (
   Reads'11.Learnt,
   Reads'.Asked,
   Reads'.Learnt,
-  Reads'9.Asked,
-  Reads'9.Learnt,
+  Reads'8.Asked,
+  Reads'8.Learnt,
   Reads'14.Asked,
   Reads'14.Learnt,
   Reads'12.Asked,
@@ -1046,7 +1046,7 @@ After-accepted-arg = Lts.After-accepted-arg (
   Reads'6.Learnt,
   Reads'3.Asked,
   Reads'3.Learnt,
-) Reads'8.Pre Reads'8.Post
+) Reads'7.Pre Reads'7.Post
 
 abbrev pub After-accepted : Type 0
 After-accepted = Lts.After-accepted (
@@ -1056,8 +1056,8 @@ After-accepted = Lts.After-accepted (
   Reads'5.Learnt,
   Reads'4.Asked,
   Reads'4.Learnt,
-  Reads'7.Asked,
-  Reads'7.Learnt,
+  Reads'9.Asked,
+  Reads'9.Learnt,
   Reads'16.Asked,
   Reads'16.Learnt,
   Reads'17.Asked,
@@ -1072,8 +1072,8 @@ After-accepted = Lts.After-accepted (
   Reads'11.Learnt,
   Reads'.Asked,
   Reads'.Learnt,
-  Reads'9.Asked,
-  Reads'9.Learnt,
+  Reads'8.Asked,
+  Reads'8.Learnt,
   Reads'14.Asked,
   Reads'14.Learnt,
   Reads'12.Asked,
@@ -1084,7 +1084,7 @@ After-accepted = Lts.After-accepted (
   Reads'6.Learnt,
   Reads'3.Asked,
   Reads'3.Learnt,
-) Reads'8.Pre Reads'8.Post
+) Reads'7.Pre Reads'7.Post
 
 abbrev pub After-forward-post-arg : Type 0
 After-forward-post-arg = Lts.After-forward-post-arg (
@@ -1094,8 +1094,8 @@ After-forward-post-arg = Lts.After-forward-post-arg (
   Reads'5.Learnt,
   Reads'4.Asked,
   Reads'4.Learnt,
-  Reads'7.Asked,
-  Reads'7.Learnt,
+  Reads'9.Asked,
+  Reads'9.Learnt,
   Reads'16.Asked,
   Reads'16.Learnt,
   Reads'17.Asked,
@@ -1110,8 +1110,8 @@ After-forward-post-arg = Lts.After-forward-post-arg (
   Reads'11.Learnt,
   Reads'.Asked,
   Reads'.Learnt,
-  Reads'9.Asked,
-  Reads'9.Learnt,
+  Reads'8.Asked,
+  Reads'8.Learnt,
   Reads'14.Asked,
   Reads'14.Learnt,
   Reads'12.Asked,
@@ -1122,7 +1122,7 @@ After-forward-post-arg = Lts.After-forward-post-arg (
   Reads'6.Learnt,
   Reads'3.Asked,
   Reads'3.Learnt,
-) Reads'8.Pre Reads'8.Post
+) Reads'7.Pre Reads'7.Post
 
 abbrev pub After-forward-post : Type 0
 After-forward-post = Lts.After-forward-post (
@@ -1132,8 +1132,8 @@ After-forward-post = Lts.After-forward-post (
   Reads'5.Learnt,
   Reads'4.Asked,
   Reads'4.Learnt,
-  Reads'7.Asked,
-  Reads'7.Learnt,
+  Reads'9.Asked,
+  Reads'9.Learnt,
   Reads'16.Asked,
   Reads'16.Learnt,
   Reads'17.Asked,
@@ -1148,8 +1148,8 @@ After-forward-post = Lts.After-forward-post (
   Reads'11.Learnt,
   Reads'.Asked,
   Reads'.Learnt,
-  Reads'9.Asked,
-  Reads'9.Learnt,
+  Reads'8.Asked,
+  Reads'8.Learnt,
   Reads'14.Asked,
   Reads'14.Learnt,
   Reads'12.Asked,
@@ -1160,7 +1160,7 @@ After-forward-post = Lts.After-forward-post (
   Reads'6.Learnt,
   Reads'3.Asked,
   Reads'3.Learnt,
-) Reads'8.Pre Reads'8.Post
+) Reads'7.Pre Reads'7.Post
 
 abbrev pub After-reply-post-arg : Type 0
 After-reply-post-arg = Lts.After-reply-post-arg (
@@ -1170,8 +1170,8 @@ After-reply-post-arg = Lts.After-reply-post-arg (
   Reads'5.Learnt,
   Reads'4.Asked,
   Reads'4.Learnt,
-  Reads'7.Asked,
-  Reads'7.Learnt,
+  Reads'9.Asked,
+  Reads'9.Learnt,
   Reads'16.Asked,
   Reads'16.Learnt,
   Reads'17.Asked,
@@ -1186,8 +1186,8 @@ After-reply-post-arg = Lts.After-reply-post-arg (
   Reads'11.Learnt,
   Reads'.Asked,
   Reads'.Learnt,
-  Reads'9.Asked,
-  Reads'9.Learnt,
+  Reads'8.Asked,
+  Reads'8.Learnt,
   Reads'14.Asked,
   Reads'14.Learnt,
   Reads'12.Asked,
@@ -1198,7 +1198,7 @@ After-reply-post-arg = Lts.After-reply-post-arg (
   Reads'6.Learnt,
   Reads'3.Asked,
   Reads'3.Learnt,
-) Reads'8.Pre Reads'8.Post
+) Reads'7.Pre Reads'7.Post
 
 abbrev pub After-reply-post : Type 0
 After-reply-post = Lts.After-reply-post (
@@ -1208,8 +1208,8 @@ After-reply-post = Lts.After-reply-post (
   Reads'5.Learnt,
   Reads'4.Asked,
   Reads'4.Learnt,
-  Reads'7.Asked,
-  Reads'7.Learnt,
+  Reads'9.Asked,
+  Reads'9.Learnt,
   Reads'16.Asked,
   Reads'16.Learnt,
   Reads'17.Asked,
@@ -1224,8 +1224,8 @@ After-reply-post = Lts.After-reply-post (
   Reads'11.Learnt,
   Reads'.Asked,
   Reads'.Learnt,
-  Reads'9.Asked,
-  Reads'9.Learnt,
+  Reads'8.Asked,
+  Reads'8.Learnt,
   Reads'14.Asked,
   Reads'14.Learnt,
   Reads'12.Asked,
@@ -1236,7 +1236,7 @@ After-reply-post = Lts.After-reply-post (
   Reads'6.Learnt,
   Reads'3.Asked,
   Reads'3.Learnt,
-) Reads'8.Pre Reads'8.Post
+) Reads'7.Pre Reads'7.Post
 
 abbrev pub After-live-of : Type 0
 After-live-of = Lts.After-live-of (
@@ -1246,8 +1246,8 @@ After-live-of = Lts.After-live-of (
   Reads'5.Learnt,
   Reads'4.Asked,
   Reads'4.Learnt,
-  Reads'7.Asked,
-  Reads'7.Learnt,
+  Reads'9.Asked,
+  Reads'9.Learnt,
   Reads'16.Asked,
   Reads'16.Learnt,
   Reads'17.Asked,
@@ -1262,8 +1262,8 @@ After-live-of = Lts.After-live-of (
   Reads'11.Learnt,
   Reads'.Asked,
   Reads'.Learnt,
-  Reads'9.Asked,
-  Reads'9.Learnt,
+  Reads'8.Asked,
+  Reads'8.Learnt,
   Reads'14.Asked,
   Reads'14.Learnt,
   Reads'12.Asked,
@@ -1274,7 +1274,7 @@ After-live-of = Lts.After-live-of (
   Reads'6.Learnt,
   Reads'3.Asked,
   Reads'3.Learnt,
-) Reads'8.Pre Reads'8.Post
+) Reads'7.Pre Reads'7.Post
 
 abbrev pub After-finish-arg : Type 0
 After-finish-arg = Lts.After-finish-arg (
@@ -1284,8 +1284,8 @@ After-finish-arg = Lts.After-finish-arg (
   Reads'5.Learnt,
   Reads'4.Asked,
   Reads'4.Learnt,
-  Reads'7.Asked,
-  Reads'7.Learnt,
+  Reads'9.Asked,
+  Reads'9.Learnt,
   Reads'16.Asked,
   Reads'16.Learnt,
   Reads'17.Asked,
@@ -1300,8 +1300,8 @@ After-finish-arg = Lts.After-finish-arg (
   Reads'11.Learnt,
   Reads'.Asked,
   Reads'.Learnt,
-  Reads'9.Asked,
-  Reads'9.Learnt,
+  Reads'8.Asked,
+  Reads'8.Learnt,
   Reads'14.Asked,
   Reads'14.Learnt,
   Reads'12.Asked,
@@ -1312,7 +1312,7 @@ After-finish-arg = Lts.After-finish-arg (
   Reads'6.Learnt,
   Reads'3.Asked,
   Reads'3.Learnt,
-) Reads'8.Pre Reads'8.Post
+) Reads'7.Pre Reads'7.Post
 
 abbrev pub After-finish-arg2 : Type 0
 After-finish-arg2 = Lts.After-finish-arg2 (
@@ -1322,8 +1322,8 @@ After-finish-arg2 = Lts.After-finish-arg2 (
   Reads'5.Learnt,
   Reads'4.Asked,
   Reads'4.Learnt,
-  Reads'7.Asked,
-  Reads'7.Learnt,
+  Reads'9.Asked,
+  Reads'9.Learnt,
   Reads'16.Asked,
   Reads'16.Learnt,
   Reads'17.Asked,
@@ -1338,8 +1338,8 @@ After-finish-arg2 = Lts.After-finish-arg2 (
   Reads'11.Learnt,
   Reads'.Asked,
   Reads'.Learnt,
-  Reads'9.Asked,
-  Reads'9.Learnt,
+  Reads'8.Asked,
+  Reads'8.Learnt,
   Reads'14.Asked,
   Reads'14.Learnt,
   Reads'12.Asked,
@@ -1350,7 +1350,7 @@ After-finish-arg2 = Lts.After-finish-arg2 (
   Reads'6.Learnt,
   Reads'3.Asked,
   Reads'3.Learnt,
-) Reads'8.Pre Reads'8.Post
+) Reads'7.Pre Reads'7.Post
 
 abbrev pub After-finish-arg3 : Type 0
 After-finish-arg3 = Lts.After-finish-arg3 (
@@ -1360,8 +1360,8 @@ After-finish-arg3 = Lts.After-finish-arg3 (
   Reads'5.Learnt,
   Reads'4.Asked,
   Reads'4.Learnt,
-  Reads'7.Asked,
-  Reads'7.Learnt,
+  Reads'9.Asked,
+  Reads'9.Learnt,
   Reads'16.Asked,
   Reads'16.Learnt,
   Reads'17.Asked,
@@ -1376,8 +1376,8 @@ After-finish-arg3 = Lts.After-finish-arg3 (
   Reads'11.Learnt,
   Reads'.Asked,
   Reads'.Learnt,
-  Reads'9.Asked,
-  Reads'9.Learnt,
+  Reads'8.Asked,
+  Reads'8.Learnt,
   Reads'14.Asked,
   Reads'14.Learnt,
   Reads'12.Asked,
@@ -1388,7 +1388,7 @@ After-finish-arg3 = Lts.After-finish-arg3 (
   Reads'6.Learnt,
   Reads'3.Asked,
   Reads'3.Learnt,
-) Reads'8.Pre Reads'8.Post
+) Reads'7.Pre Reads'7.Post
 
 abbrev pub After-finish-arg4 : Type 0
 After-finish-arg4 = Lts.After-finish-arg4 (
@@ -1398,8 +1398,8 @@ After-finish-arg4 = Lts.After-finish-arg4 (
   Reads'5.Learnt,
   Reads'4.Asked,
   Reads'4.Learnt,
-  Reads'7.Asked,
-  Reads'7.Learnt,
+  Reads'9.Asked,
+  Reads'9.Learnt,
   Reads'16.Asked,
   Reads'16.Learnt,
   Reads'17.Asked,
@@ -1414,8 +1414,8 @@ After-finish-arg4 = Lts.After-finish-arg4 (
   Reads'11.Learnt,
   Reads'.Asked,
   Reads'.Learnt,
-  Reads'9.Asked,
-  Reads'9.Learnt,
+  Reads'8.Asked,
+  Reads'8.Learnt,
   Reads'14.Asked,
   Reads'14.Learnt,
   Reads'12.Asked,
@@ -1426,7 +1426,7 @@ After-finish-arg4 = Lts.After-finish-arg4 (
   Reads'6.Learnt,
   Reads'3.Asked,
   Reads'3.Learnt,
-) Reads'8.Pre Reads'8.Post
+) Reads'7.Pre Reads'7.Post
 
 abbrev pub After-d : Type 0
 After-d = Lts.After-d (
@@ -1436,8 +1436,8 @@ After-d = Lts.After-d (
   Reads'5.Learnt,
   Reads'4.Asked,
   Reads'4.Learnt,
-  Reads'7.Asked,
-  Reads'7.Learnt,
+  Reads'9.Asked,
+  Reads'9.Learnt,
   Reads'16.Asked,
   Reads'16.Learnt,
   Reads'17.Asked,
@@ -1452,8 +1452,8 @@ After-d = Lts.After-d (
   Reads'11.Learnt,
   Reads'.Asked,
   Reads'.Learnt,
-  Reads'9.Asked,
-  Reads'9.Learnt,
+  Reads'8.Asked,
+  Reads'8.Learnt,
   Reads'14.Asked,
   Reads'14.Learnt,
   Reads'12.Asked,
@@ -1464,7 +1464,7 @@ After-d = Lts.After-d (
   Reads'6.Learnt,
   Reads'3.Asked,
   Reads'3.Learnt,
-) Reads'8.Pre Reads'8.Post
+) Reads'7.Pre Reads'7.Post
 
 abbrev pub After-there : Type 0
 After-there = Lts.After-there (
@@ -1474,8 +1474,8 @@ After-there = Lts.After-there (
   Reads'5.Learnt,
   Reads'4.Asked,
   Reads'4.Learnt,
-  Reads'7.Asked,
-  Reads'7.Learnt,
+  Reads'9.Asked,
+  Reads'9.Learnt,
   Reads'16.Asked,
   Reads'16.Learnt,
   Reads'17.Asked,
@@ -1490,8 +1490,8 @@ After-there = Lts.After-there (
   Reads'11.Learnt,
   Reads'.Asked,
   Reads'.Learnt,
-  Reads'9.Asked,
-  Reads'9.Learnt,
+  Reads'8.Asked,
+  Reads'8.Learnt,
   Reads'14.Asked,
   Reads'14.Learnt,
   Reads'12.Asked,
@@ -1502,7 +1502,7 @@ After-there = Lts.After-there (
   Reads'6.Learnt,
   Reads'3.Asked,
   Reads'3.Learnt,
-) Reads'8.Pre Reads'8.Post
+) Reads'7.Pre Reads'7.Post
 
 abbrev pub After-back : Type 0
 After-back = Lts.After-back (
@@ -1512,8 +1512,8 @@ After-back = Lts.After-back (
   Reads'5.Learnt,
   Reads'4.Asked,
   Reads'4.Learnt,
-  Reads'7.Asked,
-  Reads'7.Learnt,
+  Reads'9.Asked,
+  Reads'9.Learnt,
   Reads'16.Asked,
   Reads'16.Learnt,
   Reads'17.Asked,
@@ -1528,8 +1528,8 @@ After-back = Lts.After-back (
   Reads'11.Learnt,
   Reads'.Asked,
   Reads'.Learnt,
-  Reads'9.Asked,
-  Reads'9.Learnt,
+  Reads'8.Asked,
+  Reads'8.Learnt,
   Reads'14.Asked,
   Reads'14.Learnt,
   Reads'12.Asked,
@@ -1540,7 +1540,7 @@ After-back = Lts.After-back (
   Reads'6.Learnt,
   Reads'3.Asked,
   Reads'3.Learnt,
-) Reads'8.Pre Reads'8.Post
+) Reads'7.Pre Reads'7.Post
 
 abbrev pub After-finish : Type 0
 After-finish = Lts.After-finish (
@@ -1550,8 +1550,8 @@ After-finish = Lts.After-finish (
   Reads'5.Learnt,
   Reads'4.Asked,
   Reads'4.Learnt,
-  Reads'7.Asked,
-  Reads'7.Learnt,
+  Reads'9.Asked,
+  Reads'9.Learnt,
   Reads'16.Asked,
   Reads'16.Learnt,
   Reads'17.Asked,
@@ -1566,8 +1566,8 @@ After-finish = Lts.After-finish (
   Reads'11.Learnt,
   Reads'.Asked,
   Reads'.Learnt,
-  Reads'9.Asked,
-  Reads'9.Learnt,
+  Reads'8.Asked,
+  Reads'8.Learnt,
   Reads'14.Asked,
   Reads'14.Learnt,
   Reads'12.Asked,
@@ -1578,7 +1578,7 @@ After-finish = Lts.After-finish (
   Reads'6.Learnt,
   Reads'3.Asked,
   Reads'3.Learnt,
-) Reads'8.Pre Reads'8.Post
+) Reads'7.Pre Reads'7.Post
 
 abbrev pub After-instances : Type 0
 After-instances = Lts.After-instances (
@@ -1588,8 +1588,8 @@ After-instances = Lts.After-instances (
   Reads'5.Learnt,
   Reads'4.Asked,
   Reads'4.Learnt,
-  Reads'7.Asked,
-  Reads'7.Learnt,
+  Reads'9.Asked,
+  Reads'9.Learnt,
   Reads'16.Asked,
   Reads'16.Learnt,
   Reads'17.Asked,
@@ -1604,8 +1604,8 @@ After-instances = Lts.After-instances (
   Reads'11.Learnt,
   Reads'.Asked,
   Reads'.Learnt,
-  Reads'9.Asked,
-  Reads'9.Learnt,
+  Reads'8.Asked,
+  Reads'8.Learnt,
   Reads'14.Asked,
   Reads'14.Learnt,
   Reads'12.Asked,
@@ -1616,7 +1616,7 @@ After-instances = Lts.After-instances (
   Reads'6.Learnt,
   Reads'3.Asked,
   Reads'3.Learnt,
-) Reads'8.Pre Reads'8.Post
+) Reads'7.Pre Reads'7.Post
 
 abbrev pub After-routes : Type 0
 After-routes = Lts.After-routes (
@@ -1626,8 +1626,8 @@ After-routes = Lts.After-routes (
   Reads'5.Learnt,
   Reads'4.Asked,
   Reads'4.Learnt,
-  Reads'7.Asked,
-  Reads'7.Learnt,
+  Reads'9.Asked,
+  Reads'9.Learnt,
   Reads'16.Asked,
   Reads'16.Learnt,
   Reads'17.Asked,
@@ -1642,8 +1642,8 @@ After-routes = Lts.After-routes (
   Reads'11.Learnt,
   Reads'.Asked,
   Reads'.Learnt,
-  Reads'9.Asked,
-  Reads'9.Learnt,
+  Reads'8.Asked,
+  Reads'8.Learnt,
   Reads'14.Asked,
   Reads'14.Learnt,
   Reads'12.Asked,
@@ -1654,7 +1654,7 @@ After-routes = Lts.After-routes (
   Reads'6.Learnt,
   Reads'3.Asked,
   Reads'3.Learnt,
-) Reads'8.Pre Reads'8.Post
+) Reads'7.Pre Reads'7.Post
 
 abbrev pub After-forward : Type 0
 After-forward = Lts.After-forward (
@@ -1664,8 +1664,8 @@ After-forward = Lts.After-forward (
   Reads'5.Learnt,
   Reads'4.Asked,
   Reads'4.Learnt,
-  Reads'7.Asked,
-  Reads'7.Learnt,
+  Reads'9.Asked,
+  Reads'9.Learnt,
   Reads'16.Asked,
   Reads'16.Learnt,
   Reads'17.Asked,
@@ -1680,8 +1680,8 @@ After-forward = Lts.After-forward (
   Reads'11.Learnt,
   Reads'.Asked,
   Reads'.Learnt,
-  Reads'9.Asked,
-  Reads'9.Learnt,
+  Reads'8.Asked,
+  Reads'8.Learnt,
   Reads'14.Asked,
   Reads'14.Learnt,
   Reads'12.Asked,
@@ -1692,7 +1692,7 @@ After-forward = Lts.After-forward (
   Reads'6.Learnt,
   Reads'3.Asked,
   Reads'3.Learnt,
-) Reads'8.Pre Reads'8.Post
+) Reads'7.Pre Reads'7.Post
 
 abbrev pub After-slice-known3 : Type 0
 After-slice-known3 = Lts.After-slice-known3 (
@@ -1702,8 +1702,8 @@ After-slice-known3 = Lts.After-slice-known3 (
   Reads'5.Learnt,
   Reads'4.Asked,
   Reads'4.Learnt,
-  Reads'7.Asked,
-  Reads'7.Learnt,
+  Reads'9.Asked,
+  Reads'9.Learnt,
   Reads'16.Asked,
   Reads'16.Learnt,
   Reads'17.Asked,
@@ -1718,8 +1718,8 @@ After-slice-known3 = Lts.After-slice-known3 (
   Reads'11.Learnt,
   Reads'.Asked,
   Reads'.Learnt,
-  Reads'9.Asked,
-  Reads'9.Learnt,
+  Reads'8.Asked,
+  Reads'8.Learnt,
   Reads'14.Asked,
   Reads'14.Learnt,
   Reads'12.Asked,
@@ -1730,7 +1730,7 @@ After-slice-known3 = Lts.After-slice-known3 (
   Reads'6.Learnt,
   Reads'3.Asked,
   Reads'3.Learnt,
-) Reads'8.Pre Reads'8.Post
+) Reads'7.Pre Reads'7.Post
 
 abbrev pub After-reply : Type 0
 After-reply = Lts.After-reply (
@@ -1740,8 +1740,8 @@ After-reply = Lts.After-reply (
   Reads'5.Learnt,
   Reads'4.Asked,
   Reads'4.Learnt,
-  Reads'7.Asked,
-  Reads'7.Learnt,
+  Reads'9.Asked,
+  Reads'9.Learnt,
   Reads'16.Asked,
   Reads'16.Learnt,
   Reads'17.Asked,
@@ -1756,8 +1756,8 @@ After-reply = Lts.After-reply (
   Reads'11.Learnt,
   Reads'.Asked,
   Reads'.Learnt,
-  Reads'9.Asked,
-  Reads'9.Learnt,
+  Reads'8.Asked,
+  Reads'8.Learnt,
   Reads'14.Asked,
   Reads'14.Learnt,
   Reads'12.Asked,
@@ -1768,7 +1768,7 @@ After-reply = Lts.After-reply (
   Reads'6.Learnt,
   Reads'3.Asked,
   Reads'3.Learnt,
-) Reads'8.Pre Reads'8.Post
+) Reads'7.Pre Reads'7.Post
 
 abbrev pub After-slice-known4 : Type 0
 After-slice-known4 = Lts.After-slice-known4 (
@@ -1778,8 +1778,8 @@ After-slice-known4 = Lts.After-slice-known4 (
   Reads'5.Learnt,
   Reads'4.Asked,
   Reads'4.Learnt,
-  Reads'7.Asked,
-  Reads'7.Learnt,
+  Reads'9.Asked,
+  Reads'9.Learnt,
   Reads'16.Asked,
   Reads'16.Learnt,
   Reads'17.Asked,
@@ -1794,8 +1794,8 @@ After-slice-known4 = Lts.After-slice-known4 (
   Reads'11.Learnt,
   Reads'.Asked,
   Reads'.Learnt,
-  Reads'9.Asked,
-  Reads'9.Learnt,
+  Reads'8.Asked,
+  Reads'8.Learnt,
   Reads'14.Asked,
   Reads'14.Learnt,
   Reads'12.Asked,
@@ -1806,7 +1806,7 @@ After-slice-known4 = Lts.After-slice-known4 (
   Reads'6.Learnt,
   Reads'3.Asked,
   Reads'3.Learnt,
-) Reads'8.Pre Reads'8.Post
+) Reads'7.Pre Reads'7.Post
 
 abbrev pub Need-whole-requires : Type 0
 Need-whole-requires = Lts.Need-whole-requires (
@@ -1816,8 +1816,8 @@ Need-whole-requires = Lts.Need-whole-requires (
   Reads'5.Learnt,
   Reads'4.Asked,
   Reads'4.Learnt,
-  Reads'7.Asked,
-  Reads'7.Learnt,
+  Reads'9.Asked,
+  Reads'9.Learnt,
   Reads'16.Asked,
   Reads'16.Learnt,
   Reads'17.Asked,
@@ -1832,8 +1832,8 @@ Need-whole-requires = Lts.Need-whole-requires (
   Reads'11.Learnt,
   Reads'.Asked,
   Reads'.Learnt,
-  Reads'9.Asked,
-  Reads'9.Learnt,
+  Reads'8.Asked,
+  Reads'8.Learnt,
   Reads'14.Asked,
   Reads'14.Learnt,
   Reads'12.Asked,
@@ -1844,7 +1844,7 @@ Need-whole-requires = Lts.Need-whole-requires (
   Reads'6.Learnt,
   Reads'3.Asked,
   Reads'3.Learnt,
-) Reads'8.Pre Reads'8.Post
+) Reads'7.Pre Reads'7.Post
 
 abbrev pub Need-instance-of-requires : Type 0
 Need-instance-of-requires = Lts.Need-instance-of-requires (
@@ -1854,8 +1854,8 @@ Need-instance-of-requires = Lts.Need-instance-of-requires (
   Reads'5.Learnt,
   Reads'4.Asked,
   Reads'4.Learnt,
-  Reads'7.Asked,
-  Reads'7.Learnt,
+  Reads'9.Asked,
+  Reads'9.Learnt,
   Reads'16.Asked,
   Reads'16.Learnt,
   Reads'17.Asked,
@@ -1870,8 +1870,8 @@ Need-instance-of-requires = Lts.Need-instance-of-requires (
   Reads'11.Learnt,
   Reads'.Asked,
   Reads'.Learnt,
-  Reads'9.Asked,
-  Reads'9.Learnt,
+  Reads'8.Asked,
+  Reads'8.Learnt,
   Reads'14.Asked,
   Reads'14.Learnt,
   Reads'12.Asked,
@@ -1882,7 +1882,7 @@ Need-instance-of-requires = Lts.Need-instance-of-requires (
   Reads'6.Learnt,
   Reads'3.Asked,
   Reads'3.Learnt,
-) Reads'8.Pre Reads'8.Post
+) Reads'7.Pre Reads'7.Post
 
 abbrev pub Need-dodagid-of-requires : Type 0
 Need-dodagid-of-requires = Lts.Need-dodagid-of-requires (
@@ -1892,8 +1892,8 @@ Need-dodagid-of-requires = Lts.Need-dodagid-of-requires (
   Reads'5.Learnt,
   Reads'4.Asked,
   Reads'4.Learnt,
-  Reads'7.Asked,
-  Reads'7.Learnt,
+  Reads'9.Asked,
+  Reads'9.Learnt,
   Reads'16.Asked,
   Reads'16.Learnt,
   Reads'17.Asked,
@@ -1908,8 +1908,8 @@ Need-dodagid-of-requires = Lts.Need-dodagid-of-requires (
   Reads'11.Learnt,
   Reads'.Asked,
   Reads'.Learnt,
-  Reads'9.Asked,
-  Reads'9.Learnt,
+  Reads'8.Asked,
+  Reads'8.Learnt,
   Reads'14.Asked,
   Reads'14.Learnt,
   Reads'12.Asked,
@@ -1920,7 +1920,7 @@ Need-dodagid-of-requires = Lts.Need-dodagid-of-requires (
   Reads'6.Learnt,
   Reads'3.Asked,
   Reads'3.Learnt,
-) Reads'8.Pre Reads'8.Post
+) Reads'7.Pre Reads'7.Post
 
 abbrev pub Need-receiving-of-requires : Type 0
 Need-receiving-of-requires = Lts.Need-receiving-of-requires (
@@ -1930,8 +1930,8 @@ Need-receiving-of-requires = Lts.Need-receiving-of-requires (
   Reads'5.Learnt,
   Reads'4.Asked,
   Reads'4.Learnt,
-  Reads'7.Asked,
-  Reads'7.Learnt,
+  Reads'9.Asked,
+  Reads'9.Learnt,
   Reads'16.Asked,
   Reads'16.Learnt,
   Reads'17.Asked,
@@ -1946,8 +1946,8 @@ Need-receiving-of-requires = Lts.Need-receiving-of-requires (
   Reads'11.Learnt,
   Reads'.Asked,
   Reads'.Learnt,
-  Reads'9.Asked,
-  Reads'9.Learnt,
+  Reads'8.Asked,
+  Reads'8.Learnt,
   Reads'14.Asked,
   Reads'14.Learnt,
   Reads'12.Asked,
@@ -1958,7 +1958,7 @@ Need-receiving-of-requires = Lts.Need-receiving-of-requires (
   Reads'6.Learnt,
   Reads'3.Asked,
   Reads'3.Learnt,
-) Reads'8.Pre Reads'8.Post
+) Reads'7.Pre Reads'7.Post
 
 abbrev pub Need-search-request-requires : Type 0
 Need-search-request-requires = Lts.Need-search-request-requires (
@@ -1968,8 +1968,8 @@ Need-search-request-requires = Lts.Need-search-request-requires (
   Reads'5.Learnt,
   Reads'4.Asked,
   Reads'4.Learnt,
-  Reads'7.Asked,
-  Reads'7.Learnt,
+  Reads'9.Asked,
+  Reads'9.Learnt,
   Reads'16.Asked,
   Reads'16.Learnt,
   Reads'17.Asked,
@@ -1984,8 +1984,8 @@ Need-search-request-requires = Lts.Need-search-request-requires (
   Reads'11.Learnt,
   Reads'.Asked,
   Reads'.Learnt,
-  Reads'9.Asked,
-  Reads'9.Learnt,
+  Reads'8.Asked,
+  Reads'8.Learnt,
   Reads'14.Asked,
   Reads'14.Learnt,
   Reads'12.Asked,
@@ -1996,7 +1996,7 @@ Need-search-request-requires = Lts.Need-search-request-requires (
   Reads'6.Learnt,
   Reads'3.Asked,
   Reads'3.Learnt,
-) Reads'8.Pre Reads'8.Post
+) Reads'7.Pre Reads'7.Post
 
 abbrev pub Need-search-route-requires : Type 0
 Need-search-route-requires = Lts.Need-search-route-requires (
@@ -2006,8 +2006,8 @@ Need-search-route-requires = Lts.Need-search-route-requires (
   Reads'5.Learnt,
   Reads'4.Asked,
   Reads'4.Learnt,
-  Reads'7.Asked,
-  Reads'7.Learnt,
+  Reads'9.Asked,
+  Reads'9.Learnt,
   Reads'16.Asked,
   Reads'16.Learnt,
   Reads'17.Asked,
@@ -2022,8 +2022,8 @@ Need-search-route-requires = Lts.Need-search-route-requires (
   Reads'11.Learnt,
   Reads'.Asked,
   Reads'.Learnt,
-  Reads'9.Asked,
-  Reads'9.Learnt,
+  Reads'8.Asked,
+  Reads'8.Learnt,
   Reads'14.Asked,
   Reads'14.Learnt,
   Reads'12.Asked,
@@ -2034,7 +2034,7 @@ Need-search-route-requires = Lts.Need-search-route-requires (
   Reads'6.Learnt,
   Reads'3.Asked,
   Reads'3.Learnt,
-) Reads'8.Pre Reads'8.Post
+) Reads'7.Pre Reads'7.Post
 
 abbrev pub Need-is-targ-node-requires : Type 0
 Need-is-targ-node-requires = Lts.Need-is-targ-node-requires (
@@ -2044,8 +2044,8 @@ Need-is-targ-node-requires = Lts.Need-is-targ-node-requires (
   Reads'5.Learnt,
   Reads'4.Asked,
   Reads'4.Learnt,
-  Reads'7.Asked,
-  Reads'7.Learnt,
+  Reads'9.Asked,
+  Reads'9.Learnt,
   Reads'16.Asked,
   Reads'16.Learnt,
   Reads'17.Asked,
@@ -2060,8 +2060,8 @@ Need-is-targ-node-requires = Lts.Need-is-targ-node-requires (
   Reads'11.Learnt,
   Reads'.Asked,
   Reads'.Learnt,
-  Reads'9.Asked,
-  Reads'9.Learnt,
+  Reads'8.Asked,
+  Reads'8.Learnt,
   Reads'14.Asked,
   Reads'14.Learnt,
   Reads'12.Asked,
@@ -2072,7 +2072,7 @@ Need-is-targ-node-requires = Lts.Need-is-targ-node-requires (
   Reads'6.Learnt,
   Reads'3.Asked,
   Reads'3.Learnt,
-) Reads'8.Pre Reads'8.Post
+) Reads'7.Pre Reads'7.Post
 
 abbrev pub Need-free-delta-if-requires : Type 0
 Need-free-delta-if-requires = Lts.Need-free-delta-if-requires (
@@ -2082,8 +2082,8 @@ Need-free-delta-if-requires = Lts.Need-free-delta-if-requires (
   Reads'5.Learnt,
   Reads'4.Asked,
   Reads'4.Learnt,
-  Reads'7.Asked,
-  Reads'7.Learnt,
+  Reads'9.Asked,
+  Reads'9.Learnt,
   Reads'16.Asked,
   Reads'16.Learnt,
   Reads'17.Asked,
@@ -2098,8 +2098,8 @@ Need-free-delta-if-requires = Lts.Need-free-delta-if-requires (
   Reads'11.Learnt,
   Reads'.Asked,
   Reads'.Learnt,
-  Reads'9.Asked,
-  Reads'9.Learnt,
+  Reads'8.Asked,
+  Reads'8.Learnt,
   Reads'14.Asked,
   Reads'14.Learnt,
   Reads'12.Asked,
@@ -2110,7 +2110,7 @@ Need-free-delta-if-requires = Lts.Need-free-delta-if-requires (
   Reads'6.Learnt,
   Reads'3.Asked,
   Reads'3.Learnt,
-) Reads'8.Pre Reads'8.Post
+) Reads'7.Pre Reads'7.Post
 
 abbrev pub Need-gather-requires : Type 0
 Need-gather-requires = Lts.Need-gather-requires (
@@ -2120,8 +2120,8 @@ Need-gather-requires = Lts.Need-gather-requires (
   Reads'5.Learnt,
   Reads'4.Asked,
   Reads'4.Learnt,
-  Reads'7.Asked,
-  Reads'7.Learnt,
+  Reads'9.Asked,
+  Reads'9.Learnt,
   Reads'16.Asked,
   Reads'16.Learnt,
   Reads'17.Asked,
@@ -2136,8 +2136,8 @@ Need-gather-requires = Lts.Need-gather-requires (
   Reads'11.Learnt,
   Reads'.Asked,
   Reads'.Learnt,
-  Reads'9.Asked,
-  Reads'9.Learnt,
+  Reads'8.Asked,
+  Reads'8.Learnt,
   Reads'14.Asked,
   Reads'14.Learnt,
   Reads'12.Asked,
@@ -2148,7 +2148,7 @@ Need-gather-requires = Lts.Need-gather-requires (
   Reads'6.Learnt,
   Reads'3.Asked,
   Reads'3.Learnt,
-) Reads'8.Pre Reads'8.Post
+) Reads'7.Pre Reads'7.Post
 
 abbrev pub Need-judge-requires : Type 0
 Need-judge-requires = Lts.Need-judge-requires (
@@ -2158,8 +2158,8 @@ Need-judge-requires = Lts.Need-judge-requires (
   Reads'5.Learnt,
   Reads'4.Asked,
   Reads'4.Learnt,
-  Reads'7.Asked,
-  Reads'7.Learnt,
+  Reads'9.Asked,
+  Reads'9.Learnt,
   Reads'16.Asked,
   Reads'16.Learnt,
   Reads'17.Asked,
@@ -2174,8 +2174,8 @@ Need-judge-requires = Lts.Need-judge-requires (
   Reads'11.Learnt,
   Reads'.Asked,
   Reads'.Learnt,
-  Reads'9.Asked,
-  Reads'9.Learnt,
+  Reads'8.Asked,
+  Reads'8.Learnt,
   Reads'14.Asked,
   Reads'14.Learnt,
   Reads'12.Asked,
@@ -2186,7 +2186,7 @@ Need-judge-requires = Lts.Need-judge-requires (
   Reads'6.Learnt,
   Reads'3.Asked,
   Reads'3.Learnt,
-) Reads'8.Pre Reads'8.Post
+) Reads'7.Pre Reads'7.Post
 
 abbrev pub Need-number-requires : Type 0
 Need-number-requires = Lts.Need-number-requires (
@@ -2196,8 +2196,8 @@ Need-number-requires = Lts.Need-number-requires (
   Reads'5.Learnt,
   Reads'4.Asked,
   Reads'4.Learnt,
-  Reads'7.Asked,
-  Reads'7.Learnt,
+  Reads'9.Asked,
+  Reads'9.Learnt,
   Reads'16.Asked,
   Reads'16.Learnt,
   Reads'17.Asked,
@@ -2212,8 +2212,8 @@ Need-number-requires = Lts.Need-number-requires (
   Reads'11.Learnt,
   Reads'.Asked,
   Reads'.Learnt,
-  Reads'9.Asked,
-  Reads'9.Learnt,
+  Reads'8.Asked,
+  Reads'8.Learnt,
   Reads'14.Asked,
   Reads'14.Learnt,
   Reads'12.Asked,
@@ -2224,7 +2224,7 @@ Need-number-requires = Lts.Need-number-requires (
   Reads'6.Learnt,
   Reads'3.Asked,
   Reads'3.Learnt,
-) Reads'8.Pre Reads'8.Post
+) Reads'7.Pre Reads'7.Post
 
 abbrev pub Need-refused-requires : Type 0
 Need-refused-requires = Lts.Need-refused-requires (
@@ -2234,8 +2234,8 @@ Need-refused-requires = Lts.Need-refused-requires (
   Reads'5.Learnt,
   Reads'4.Asked,
   Reads'4.Learnt,
-  Reads'7.Asked,
-  Reads'7.Learnt,
+  Reads'9.Asked,
+  Reads'9.Learnt,
   Reads'16.Asked,
   Reads'16.Learnt,
   Reads'17.Asked,
@@ -2250,8 +2250,8 @@ Need-refused-requires = Lts.Need-refused-requires (
   Reads'11.Learnt,
   Reads'.Asked,
   Reads'.Learnt,
-  Reads'9.Asked,
-  Reads'9.Learnt,
+  Reads'8.Asked,
+  Reads'8.Learnt,
   Reads'14.Asked,
   Reads'14.Learnt,
   Reads'12.Asked,
@@ -2262,7 +2262,7 @@ Need-refused-requires = Lts.Need-refused-requires (
   Reads'6.Learnt,
   Reads'3.Asked,
   Reads'3.Learnt,
-) Reads'8.Pre Reads'8.Post
+) Reads'7.Pre Reads'7.Post
 
 abbrev pub Need-same-length : Type 0
 Need-same-length = Lts.Need-same-length (
@@ -2272,8 +2272,8 @@ Need-same-length = Lts.Need-same-length (
   Reads'5.Learnt,
   Reads'4.Asked,
   Reads'4.Learnt,
-  Reads'7.Asked,
-  Reads'7.Learnt,
+  Reads'9.Asked,
+  Reads'9.Learnt,
   Reads'16.Asked,
   Reads'16.Learnt,
   Reads'17.Asked,
@@ -2288,8 +2288,8 @@ Need-same-length = Lts.Need-same-length (
   Reads'11.Learnt,
   Reads'.Asked,
   Reads'.Learnt,
-  Reads'9.Asked,
-  Reads'9.Learnt,
+  Reads'8.Asked,
+  Reads'8.Learnt,
   Reads'14.Asked,
   Reads'14.Learnt,
   Reads'12.Asked,
@@ -2300,7 +2300,7 @@ Need-same-length = Lts.Need-same-length (
   Reads'6.Learnt,
   Reads'3.Asked,
   Reads'3.Learnt,
-) Reads'8.Pre Reads'8.Post
+) Reads'7.Pre Reads'7.Post
 
 abbrev pub Need-same-length-2 : Type 0
 Need-same-length-2 = Lts.Need-same-length-2 (
@@ -2310,8 +2310,8 @@ Need-same-length-2 = Lts.Need-same-length-2 (
   Reads'5.Learnt,
   Reads'4.Asked,
   Reads'4.Learnt,
-  Reads'7.Asked,
-  Reads'7.Learnt,
+  Reads'9.Asked,
+  Reads'9.Learnt,
   Reads'16.Asked,
   Reads'16.Learnt,
   Reads'17.Asked,
@@ -2326,8 +2326,8 @@ Need-same-length-2 = Lts.Need-same-length-2 (
   Reads'11.Learnt,
   Reads'.Asked,
   Reads'.Learnt,
-  Reads'9.Asked,
-  Reads'9.Learnt,
+  Reads'8.Asked,
+  Reads'8.Learnt,
   Reads'14.Asked,
   Reads'14.Learnt,
   Reads'12.Asked,
@@ -2338,7 +2338,7 @@ Need-same-length-2 = Lts.Need-same-length-2 (
   Reads'6.Learnt,
   Reads'3.Asked,
   Reads'3.Learnt,
-) Reads'8.Pre Reads'8.Post
+) Reads'7.Pre Reads'7.Post
 
 abbrev pub Need-returns : Type 0
 Need-returns = Lts.Need-returns (
@@ -2348,8 +2348,8 @@ Need-returns = Lts.Need-returns (
   Reads'5.Learnt,
   Reads'4.Asked,
   Reads'4.Learnt,
-  Reads'7.Asked,
-  Reads'7.Learnt,
+  Reads'9.Asked,
+  Reads'9.Learnt,
   Reads'16.Asked,
   Reads'16.Learnt,
   Reads'17.Asked,
@@ -2364,8 +2364,8 @@ Need-returns = Lts.Need-returns (
   Reads'11.Learnt,
   Reads'.Asked,
   Reads'.Learnt,
-  Reads'9.Asked,
-  Reads'9.Learnt,
+  Reads'8.Asked,
+  Reads'8.Learnt,
   Reads'14.Asked,
   Reads'14.Learnt,
   Reads'12.Asked,
@@ -2376,7 +2376,7 @@ Need-returns = Lts.Need-returns (
   Reads'6.Learnt,
   Reads'3.Asked,
   Reads'3.Learnt,
-) Reads'8.Pre Reads'8.Post
+) Reads'7.Pre Reads'7.Post
 
 abbrev pub Need-accepted-requires : Type 0
 Need-accepted-requires = Lts.Need-accepted-requires (
@@ -2386,8 +2386,8 @@ Need-accepted-requires = Lts.Need-accepted-requires (
   Reads'5.Learnt,
   Reads'4.Asked,
   Reads'4.Learnt,
-  Reads'7.Asked,
-  Reads'7.Learnt,
+  Reads'9.Asked,
+  Reads'9.Learnt,
   Reads'16.Asked,
   Reads'16.Learnt,
   Reads'17.Asked,
@@ -2402,8 +2402,8 @@ Need-accepted-requires = Lts.Need-accepted-requires (
   Reads'11.Learnt,
   Reads'.Asked,
   Reads'.Learnt,
-  Reads'9.Asked,
-  Reads'9.Learnt,
+  Reads'8.Asked,
+  Reads'8.Learnt,
   Reads'14.Asked,
   Reads'14.Learnt,
   Reads'12.Asked,
@@ -2414,7 +2414,7 @@ Need-accepted-requires = Lts.Need-accepted-requires (
   Reads'6.Learnt,
   Reads'3.Asked,
   Reads'3.Learnt,
-) Reads'8.Pre Reads'8.Post
+) Reads'7.Pre Reads'7.Post
 
 abbrev pub Need-forward-post-requires : Type 0
 Need-forward-post-requires = Lts.Need-forward-post-requires (
@@ -2424,8 +2424,8 @@ Need-forward-post-requires = Lts.Need-forward-post-requires (
   Reads'5.Learnt,
   Reads'4.Asked,
   Reads'4.Learnt,
-  Reads'7.Asked,
-  Reads'7.Learnt,
+  Reads'9.Asked,
+  Reads'9.Learnt,
   Reads'16.Asked,
   Reads'16.Learnt,
   Reads'17.Asked,
@@ -2440,8 +2440,8 @@ Need-forward-post-requires = Lts.Need-forward-post-requires (
   Reads'11.Learnt,
   Reads'.Asked,
   Reads'.Learnt,
-  Reads'9.Asked,
-  Reads'9.Learnt,
+  Reads'8.Asked,
+  Reads'8.Learnt,
   Reads'14.Asked,
   Reads'14.Learnt,
   Reads'12.Asked,
@@ -2452,7 +2452,7 @@ Need-forward-post-requires = Lts.Need-forward-post-requires (
   Reads'6.Learnt,
   Reads'3.Asked,
   Reads'3.Learnt,
-) Reads'8.Pre Reads'8.Post
+) Reads'7.Pre Reads'7.Post
 
 abbrev pub Need-reply-post-requires : Type 0
 Need-reply-post-requires = Lts.Need-reply-post-requires (
@@ -2462,8 +2462,8 @@ Need-reply-post-requires = Lts.Need-reply-post-requires (
   Reads'5.Learnt,
   Reads'4.Asked,
   Reads'4.Learnt,
-  Reads'7.Asked,
-  Reads'7.Learnt,
+  Reads'9.Asked,
+  Reads'9.Learnt,
   Reads'16.Asked,
   Reads'16.Learnt,
   Reads'17.Asked,
@@ -2478,8 +2478,8 @@ Need-reply-post-requires = Lts.Need-reply-post-requires (
   Reads'11.Learnt,
   Reads'.Asked,
   Reads'.Learnt,
-  Reads'9.Asked,
-  Reads'9.Learnt,
+  Reads'8.Asked,
+  Reads'8.Learnt,
   Reads'14.Asked,
   Reads'14.Learnt,
   Reads'12.Asked,
@@ -2490,7 +2490,7 @@ Need-reply-post-requires = Lts.Need-reply-post-requires (
   Reads'6.Learnt,
   Reads'3.Asked,
   Reads'3.Learnt,
-) Reads'8.Pre Reads'8.Post
+) Reads'7.Pre Reads'7.Post
 
 abbrev pub Need-live-of-requires : Type 0
 Need-live-of-requires = Lts.Need-live-of-requires (
@@ -2500,8 +2500,8 @@ Need-live-of-requires = Lts.Need-live-of-requires (
   Reads'5.Learnt,
   Reads'4.Asked,
   Reads'4.Learnt,
-  Reads'7.Asked,
-  Reads'7.Learnt,
+  Reads'9.Asked,
+  Reads'9.Learnt,
   Reads'16.Asked,
   Reads'16.Learnt,
   Reads'17.Asked,
@@ -2516,8 +2516,8 @@ Need-live-of-requires = Lts.Need-live-of-requires (
   Reads'11.Learnt,
   Reads'.Asked,
   Reads'.Learnt,
-  Reads'9.Asked,
-  Reads'9.Learnt,
+  Reads'8.Asked,
+  Reads'8.Learnt,
   Reads'14.Asked,
   Reads'14.Learnt,
   Reads'12.Asked,
@@ -2528,7 +2528,7 @@ Need-live-of-requires = Lts.Need-live-of-requires (
   Reads'6.Learnt,
   Reads'3.Asked,
   Reads'3.Learnt,
-) Reads'8.Pre Reads'8.Post
+) Reads'7.Pre Reads'7.Post
 
 abbrev pub Need-finish-requires : Type 0
 Need-finish-requires = Lts.Need-finish-requires (
@@ -2538,8 +2538,8 @@ Need-finish-requires = Lts.Need-finish-requires (
   Reads'5.Learnt,
   Reads'4.Asked,
   Reads'4.Learnt,
-  Reads'7.Asked,
-  Reads'7.Learnt,
+  Reads'9.Asked,
+  Reads'9.Learnt,
   Reads'16.Asked,
   Reads'16.Learnt,
   Reads'17.Asked,
@@ -2554,8 +2554,8 @@ Need-finish-requires = Lts.Need-finish-requires (
   Reads'11.Learnt,
   Reads'.Asked,
   Reads'.Learnt,
-  Reads'9.Asked,
-  Reads'9.Learnt,
+  Reads'8.Asked,
+  Reads'8.Learnt,
   Reads'14.Asked,
   Reads'14.Learnt,
   Reads'12.Asked,
@@ -2566,7 +2566,7 @@ Need-finish-requires = Lts.Need-finish-requires (
   Reads'6.Learnt,
   Reads'3.Asked,
   Reads'3.Learnt,
-) Reads'8.Pre Reads'8.Post
+) Reads'7.Pre Reads'7.Post
 
 abbrev pub Need-same-length-3 : Type 0
 Need-same-length-3 = Lts.Need-same-length-3 (
@@ -2576,8 +2576,8 @@ Need-same-length-3 = Lts.Need-same-length-3 (
   Reads'5.Learnt,
   Reads'4.Asked,
   Reads'4.Learnt,
-  Reads'7.Asked,
-  Reads'7.Learnt,
+  Reads'9.Asked,
+  Reads'9.Learnt,
   Reads'16.Asked,
   Reads'16.Learnt,
   Reads'17.Asked,
@@ -2592,8 +2592,8 @@ Need-same-length-3 = Lts.Need-same-length-3 (
   Reads'11.Learnt,
   Reads'.Asked,
   Reads'.Learnt,
-  Reads'9.Asked,
-  Reads'9.Learnt,
+  Reads'8.Asked,
+  Reads'8.Learnt,
   Reads'14.Asked,
   Reads'14.Learnt,
   Reads'12.Asked,
@@ -2604,7 +2604,7 @@ Need-same-length-3 = Lts.Need-same-length-3 (
   Reads'6.Learnt,
   Reads'3.Asked,
   Reads'3.Learnt,
-) Reads'8.Pre Reads'8.Post
+) Reads'7.Pre Reads'7.Post
 
 abbrev pub Need-same-length-4 : Type 0
 Need-same-length-4 = Lts.Need-same-length-4 (
@@ -2614,8 +2614,8 @@ Need-same-length-4 = Lts.Need-same-length-4 (
   Reads'5.Learnt,
   Reads'4.Asked,
   Reads'4.Learnt,
-  Reads'7.Asked,
-  Reads'7.Learnt,
+  Reads'9.Asked,
+  Reads'9.Learnt,
   Reads'16.Asked,
   Reads'16.Learnt,
   Reads'17.Asked,
@@ -2630,8 +2630,8 @@ Need-same-length-4 = Lts.Need-same-length-4 (
   Reads'11.Learnt,
   Reads'.Asked,
   Reads'.Learnt,
-  Reads'9.Asked,
-  Reads'9.Learnt,
+  Reads'8.Asked,
+  Reads'8.Learnt,
   Reads'14.Asked,
   Reads'14.Learnt,
   Reads'12.Asked,
@@ -2642,7 +2642,7 @@ Need-same-length-4 = Lts.Need-same-length-4 (
   Reads'6.Learnt,
   Reads'3.Asked,
   Reads'3.Learnt,
-) Reads'8.Pre Reads'8.Post
+) Reads'7.Pre Reads'7.Post
 
 abbrev pub Need-same-length-5 : Type 0
 Need-same-length-5 = Lts.Need-same-length-5 (
@@ -2652,8 +2652,8 @@ Need-same-length-5 = Lts.Need-same-length-5 (
   Reads'5.Learnt,
   Reads'4.Asked,
   Reads'4.Learnt,
-  Reads'7.Asked,
-  Reads'7.Learnt,
+  Reads'9.Asked,
+  Reads'9.Learnt,
   Reads'16.Asked,
   Reads'16.Learnt,
   Reads'17.Asked,
@@ -2668,8 +2668,8 @@ Need-same-length-5 = Lts.Need-same-length-5 (
   Reads'11.Learnt,
   Reads'.Asked,
   Reads'.Learnt,
-  Reads'9.Asked,
-  Reads'9.Learnt,
+  Reads'8.Asked,
+  Reads'8.Learnt,
   Reads'14.Asked,
   Reads'14.Learnt,
   Reads'12.Asked,
@@ -2680,7 +2680,7 @@ Need-same-length-5 = Lts.Need-same-length-5 (
   Reads'6.Learnt,
   Reads'3.Asked,
   Reads'3.Learnt,
-) Reads'8.Pre Reads'8.Post
+) Reads'7.Pre Reads'7.Post
 
 abbrev pub Need-same-length-6 : Type 0
 Need-same-length-6 = Lts.Need-same-length-6 (
@@ -2690,8 +2690,8 @@ Need-same-length-6 = Lts.Need-same-length-6 (
   Reads'5.Learnt,
   Reads'4.Asked,
   Reads'4.Learnt,
-  Reads'7.Asked,
-  Reads'7.Learnt,
+  Reads'9.Asked,
+  Reads'9.Learnt,
   Reads'16.Asked,
   Reads'16.Learnt,
   Reads'17.Asked,
@@ -2706,8 +2706,8 @@ Need-same-length-6 = Lts.Need-same-length-6 (
   Reads'11.Learnt,
   Reads'.Asked,
   Reads'.Learnt,
-  Reads'9.Asked,
-  Reads'9.Learnt,
+  Reads'8.Asked,
+  Reads'8.Learnt,
   Reads'14.Asked,
   Reads'14.Learnt,
   Reads'12.Asked,
@@ -2718,7 +2718,7 @@ Need-same-length-6 = Lts.Need-same-length-6 (
   Reads'6.Learnt,
   Reads'3.Asked,
   Reads'3.Learnt,
-) Reads'8.Pre Reads'8.Post
+) Reads'7.Pre Reads'7.Post
 
 abbrev pub Need-returns-2 : Type 0
 Need-returns-2 = Lts.Need-returns-2 (
@@ -2728,8 +2728,8 @@ Need-returns-2 = Lts.Need-returns-2 (
   Reads'5.Learnt,
   Reads'4.Asked,
   Reads'4.Learnt,
-  Reads'7.Asked,
-  Reads'7.Learnt,
+  Reads'9.Asked,
+  Reads'9.Learnt,
   Reads'16.Asked,
   Reads'16.Learnt,
   Reads'17.Asked,
@@ -2744,8 +2744,8 @@ Need-returns-2 = Lts.Need-returns-2 (
   Reads'11.Learnt,
   Reads'.Asked,
   Reads'.Learnt,
-  Reads'9.Asked,
-  Reads'9.Learnt,
+  Reads'8.Asked,
+  Reads'8.Learnt,
   Reads'14.Asked,
   Reads'14.Learnt,
   Reads'12.Asked,
@@ -2756,7 +2756,7 @@ Need-returns-2 = Lts.Need-returns-2 (
   Reads'6.Learnt,
   Reads'3.Asked,
   Reads'3.Learnt,
-) Reads'8.Pre Reads'8.Post
+) Reads'7.Pre Reads'7.Post
 
 module _ {M : Type 1} where
   pub spec :
@@ -2792,8 +2792,8 @@ module _ {M : Type 1} where
         Reads'5.Learnt,
         Reads'4.Asked,
         Reads'4.Learnt,
-        Reads'7.Asked,
-        Reads'7.Learnt,
+        Reads'9.Asked,
+        Reads'9.Learnt,
         Reads'16.Asked,
         Reads'16.Learnt,
         Reads'17.Asked,
@@ -2808,8 +2808,8 @@ module _ {M : Type 1} where
         Reads'11.Learnt,
         Reads'.Asked,
         Reads'.Learnt,
-        Reads'9.Asked,
-        Reads'9.Learnt,
+        Reads'8.Asked,
+        Reads'8.Learnt,
         Reads'14.Asked,
         Reads'14.Learnt,
         Reads'12.Asked,
@@ -2820,7 +2820,7 @@ module _ {M : Type 1} where
         Reads'6.Learnt,
         Reads'3.Asked,
         Reads'3.Learnt,
-      ) Reads'8.Pre Reads'8.Post M
+      ) Reads'7.Pre Reads'7.Post M
   spec =
       λ answer answer' answer'' answer'3 answer'4 answer'5 answer'6 answer'7 answer'8 answer'9
       answer'10 answer'11 answer'12 answer'13 answer'14 answer'15 answer'16 answer'17 answer'18
@@ -2831,8 +2831,8 @@ module _ {M : Type 1} where
         Reads'5.Learnt,
         Reads'4.Asked,
         Reads'4.Learnt,
-        Reads'7.Asked,
-        Reads'7.Learnt,
+        Reads'9.Asked,
+        Reads'9.Learnt,
         Reads'16.Asked,
         Reads'16.Learnt,
         Reads'17.Asked,
@@ -2847,8 +2847,8 @@ module _ {M : Type 1} where
         Reads'11.Learnt,
         Reads'.Asked,
         Reads'.Learnt,
-        Reads'9.Asked,
-        Reads'9.Learnt,
+        Reads'8.Asked,
+        Reads'8.Learnt,
         Reads'14.Asked,
         Reads'14.Learnt,
         Reads'12.Asked,
@@ -2860,8 +2860,8 @@ module _ {M : Type 1} where
         Reads'3.Asked,
         Reads'3.Learnt,
       )
-      Reads'8.Pre
-      Reads'8.Post
+      Reads'7.Pre
+      Reads'7.Post
       answer
       answer'
       answer''
@@ -2895,8 +2895,8 @@ module _ {M : Type 1} where
     Reads'5.Learnt,
     Reads'4.Asked,
     Reads'4.Learnt,
-    Reads'7.Asked,
-    Reads'7.Learnt,
+    Reads'9.Asked,
+    Reads'9.Learnt,
     Reads'16.Asked,
     Reads'16.Learnt,
     Reads'17.Asked,
@@ -2911,8 +2911,8 @@ module _ {M : Type 1} where
     Reads'11.Learnt,
     Reads'.Asked,
     Reads'.Learnt,
-    Reads'9.Asked,
-    Reads'9.Learnt,
+    Reads'8.Asked,
+    Reads'8.Learnt,
     Reads'14.Asked,
     Reads'14.Learnt,
     Reads'12.Asked,
@@ -2923,28 +2923,28 @@ module _ {M : Type 1} where
     Reads'6.Learnt,
     Reads'3.Asked,
     Reads'3.Learnt,
-  ) Reads'8.Pre Reads'8.Post M → Statement.statement M
+  ) Reads'7.Pre Reads'7.Post M → Statement.statement M
   unfolding Code.routine Running.tablesOf
   close =
       λ closed 𝓤 H 𝓜 𝓖 𝓡. Written.close
       6
       Kinds.ps
       Kinds.r
-      Reads'8.Ghost
-      Reads'8.requires
-      Reads'8.ensures
-      Reads'8.pre-read
-      Reads'8.Pinned
-      Reads'8.Owned
-      Reads'8.post-read
+      Reads'7.Ghost
+      Reads'7.requires
+      Reads'7.ensures
+      Reads'7.pre-read
+      Reads'7.Pinned
+      Reads'7.Owned
+      Reads'7.post-read
       record { M = M; 𝓤 = 𝓤; H = H; 𝓜 = 𝓜; 𝓖 = 𝓖; 𝓡 = 𝓡 }
       Code.env
       Key.name
       Code.function
       (Code.unfolded 𝓤 H 𝓜 𝓡)
       (λ κs a g. tt)
-      (λ κs. Reads'8.owns κs record { M = M; 𝓤 = 𝓤; H = H; 𝓜 = 𝓜; 𝓖 = 𝓖; 𝓡 = 𝓡 })
-      (Reads'8.passes record { M = M; 𝓤 = 𝓤; H = H; 𝓜 = 𝓜; 𝓖 = 𝓖; 𝓡 = 𝓡 })
+      (λ κs. Reads'7.owns κs record { M = M; 𝓤 = 𝓤; H = H; 𝓜 = 𝓜; 𝓖 = 𝓖; 𝓡 = 𝓡 })
+      (Reads'7.passes record { M = M; 𝓤 = 𝓤; H = H; 𝓜 = 𝓜; 𝓖 = 𝓖; 𝓡 = 𝓡 })
       λ g. closed
       𝓤
       H
@@ -2972,13 +2972,13 @@ module _ {M : Type 1} where
       Symbol'4.routine
       Code.calls-node·dodagid-of
       (Met'4.met 𝓤 H 𝓜 𝓖 𝓡))
-      (Reads'7.known
+      (Reads'9.known
       record { M = M; 𝓤 = 𝓤; H = H; 𝓜 = 𝓜; 𝓖 = 𝓖; 𝓡 = 𝓡 }
       Code.env
-      Symbol'7.name
-      Symbol'7.routine
-      Code.calls-node·receiving-of
-      (Met'7.met 𝓤 H 𝓜 𝓖 𝓡))
+      Symbol'8.name
+      Symbol'8.routine
+      Code.calls-own·receiving-of
+      (Met'8.met 𝓤 H 𝓜 𝓖 𝓡))
       (Reads'16.known
       record { M = M; 𝓤 = 𝓤; H = H; 𝓜 = 𝓜; 𝓖 = 𝓖; 𝓡 = 𝓡 }
       Code.env
@@ -3028,13 +3028,13 @@ module _ {M : Type 1} where
       Symbol'.routine
       Code.calls-answer·number
       (Met'.met 𝓤 H 𝓜 𝓖 𝓡))
-      (Reads'9.known
+      (Reads'8.known
       record { M = M; 𝓤 = 𝓤; H = H; 𝓜 = 𝓜; 𝓖 = 𝓖; 𝓡 = 𝓡 }
       Code.env
-      Symbol'8.name
-      Symbol'8.routine
+      Symbol'7.name
+      Symbol'7.routine
       Code.calls-outcome·refused
-      (Met'8.met 𝓤 H 𝓜 𝓖 𝓡))
+      (Met'7.met 𝓤 H 𝓜 𝓖 𝓡))
       (Reads'14.known
       record { M = M; 𝓤 = 𝓤; H = H; 𝓜 = 𝓜; 𝓖 = 𝓖; 𝓡 = 𝓡 }
       Code.env

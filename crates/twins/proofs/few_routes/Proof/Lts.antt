@@ -246,7 +246,7 @@ b9 =
 abbrev b10 : Syntax.Body
 b10 =
     Syntax.call
-    "filter::hash_route"
+    "hash::hash_route"
     (List._∷_ (Syntax.copy (Syntax.place 12 List.[])) List.[])
     (Syntax.place 5 List.[])
 
@@ -2597,10 +2597,10 @@ module _ (claims· : Claims) where
       Closed =
           (𝓤 : URA.URA M) (H : Wp.Heap 𝓤) (A : Atoms.Atoms 𝓤) (W : Kit.Given 𝓤 H A) (𝓣 : Wp.Tables
           𝓤 H) (known0 : Plain.Known 𝓤 H A W 𝓣 0 ps·0 r·0 (claims· .0) (claims· .1)
-          "filter::hash_route") (known1 : Plain.Known 𝓤 H A W 𝓣 0 ps·1 r·1 (claims· .2)
-          (claims· .3) "live::is_live_route") (known2 : Plain.Known 𝓤 H A W 𝓣 0 ps·2 r·2
-          (claims· .4) (claims· .5) "filter::few_slot_of") (known3 : Plain.Known 𝓤 H A W 𝓣 0 ps·3
-          r·3 (claims· .6) (claims· .7) "filter::maybe") (known4 : Plain.Known 𝓤 H A W 𝓣 1 ps·4 r·4
+          "hash::hash_route") (known1 : Plain.Known 𝓤 H A W 𝓣 0 ps·1 r·1 (claims· .2) (claims· .3)
+          "live::is_live_route") (known2 : Plain.Known 𝓤 H A W 𝓣 0 ps·2 r·2 (claims· .4)
+          (claims· .5) "filter::few_slot_of") (known3 : Plain.Known 𝓤 H A W 𝓣 0 ps·3 r·3
+          (claims· .6) (claims· .7) "filter::maybe") (known4 : Plain.Known 𝓤 H A W 𝓣 1 ps·4 r·4
           (claims· .8) (claims· .9) "twins::scan_routes") (known5 : Plain.Known 𝓤 H A W 𝓣 0 ps·5
           r·5 (claims· .10) (claims· .11) "filter::marked") → Statement.Triple 𝓤 (Wp.WpFn 𝓤 H
           (𝓣 .C) (𝓣 .Λ) (Function.fnOf 1 ps r xs m hs body)) (Function.plainOf 𝓤 H A 1 ps r Pre·
@@ -2866,7 +2866,7 @@ module _ (claims· : Claims) where
           (W : Kit.Given 𝓤 H A) (𝓣 : Wp.Tables 𝓤 H) where
         abbrev Knowns : Type 1
         Knowns =
-            Plain.Known 𝓤 H A W 𝓣 0 ps·0 r·0 (claims· .0) (claims· .1) "filter::hash_route" ×
+            Plain.Known 𝓤 H A W 𝓣 0 ps·0 r·0 (claims· .0) (claims· .1) "hash::hash_route" ×
             Plain.Known 𝓤 H A W 𝓣 0 ps·1 r·1 (claims· .2) (claims· .3) "live::is_live_route" ×
             Plain.Known 𝓤 H A W 𝓣 0 ps·2 r·2 (claims· .4) (claims· .5) "filter::few_slot_of" ×
             Plain.Known 𝓤 H A W 𝓣 0 ps·3 r·3 (claims· .6) (claims· .7) "filter::maybe" ×
@@ -5012,7 +5012,7 @@ module _ (claims· : Claims) where
               r·0
               (claims· .0)
               (claims· .1)
-              "filter::hash_route"
+              "hash::hash_route"
               (known .0)
               E
               (λ pos β. β)
@@ -7195,7 +7195,7 @@ module _ (claims· : Claims) where
             r·0
             (claims· .0)
             (claims· .1)
-            "filter::hash_route")
+            "hash::hash_route")
             (known1 : Plain.Known
             𝓤
             H

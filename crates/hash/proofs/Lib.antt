@@ -1,0 +1,2 @@
+-- for the proofs of callers
+pub mod Keyed
