@@ -1,6 +1,6 @@
 // The filter that the search for twins goes by: the words in which the hash of a key has its bits.
 ghost use mathlib.Core.Path.{_≡_};
-ghost use Prim.Native.Nat.{_<_, _*_};
+ghost use Prim.Native.Nat.{_<_};
 ghost use Rattle.filter.specs.Filter.{fewSlotOf, slotOf, bitsOf, maybeOf, markedOf, classOf, chosenOf};
 
 // The filter: 64 or 1,536 words. The high end of the hash's low half tells the word, other parts of the hash five bits of it.

@@ -8,7 +8,6 @@ use plain::Target;
 use row::InstanceRow;
 use row::RouteRow;
 use tally::Tally;
-ghost use mathlib.Core.Path.{_≡_};
 ghost use lib.ListN.{length};
 ghost use Rattle.plain.specs.Plain.{step};
 ghost use Rattle.own.specs.Settings.{settingsOf};

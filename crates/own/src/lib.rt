@@ -1,6 +1,5 @@
 // Our two addresses, against an address and against a DODAGID.
 ghost use mathlib.Core.Path.{_≡_};
-ghost use mathlib.Core.Bool.{false};
 ghost use Prim.Native.Nat.{_≤_};
 ghost use Rattle.plain.specs.Request.{ours, cannotElide};
 ghost use Rattle.own.specs.Settings.{settingsOf};

@@ -1,6 +1,5 @@
 // The partner of a reply: a live request row of its key and its H.
 ghost use mathlib.Core.Path.{_≡_};
-ghost use mathlib.Core.Bool.{true, false};
 ghost use mathlib.Core.List.{map};
 ghost use Rattle.row.specs.Meaning.{instanceOf};
 ghost use Rattle.first.specs.First.{first};

@@ -8,7 +8,6 @@ use row::InstanceRow;
 use row::RouteRow;
 ghost use Prim.Native.Nat.{_≤_, _^_};
 ghost use mathlib.Core.Path.{_≡_};
-ghost use mathlib.Core.Bool.{false};
 ghost use mathlib.Core.List.{List, []};
 ghost use Rattle.plain.specs.Address.{Address};
 ghost use Rattle.plain.specs.Given.{Settings, ReplyRow};

@@ -15,7 +15,6 @@ ghost use Rattle.plain.specs.Address.{Address};
 ghost use Rattle.plain.specs.Given as rules;
 ghost use Rattle.plain.specs.Request.{forwards, sOut, withRank, withFlag, toIf, acceptRequest};
 ghost use Rattle.answer.specs.Answer.{destinationOf};
-ghost use Rattle.answer.specs.declared.Way.the-variants.{Nowhere, Group};
 ghost use Rattle.message.specs.Message.{messageIn, receivedBy};
 ghost use Rattle.decision.specs.Decision.{Posts};
 ghost use Rattle.rule.specs.Heard.{Heard};

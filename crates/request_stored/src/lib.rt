@@ -9,7 +9,7 @@ use own::Own;
 use request::RequestFacts;
 use row::InstanceRow;
 use row::RouteRow;
-ghost use Prim.Native.Nat.{ℕ, _≤_, _^_};
+ghost use Prim.Native.Nat.{_≤_, _^_};
 ghost use mathlib.Core.Path.{_≡_};
 ghost use mathlib.Core.Bool.{cond};
 ghost use mathlib.Core.List.{List, []};

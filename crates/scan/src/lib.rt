@@ -1,7 +1,7 @@
 // A pass over the options of a message (01, "Octets on the air").
 ghost use Prim.Native.Nat.{ℕ};
 ghost use mathlib.Core.Path.{_≡_};
-ghost use mathlib.Core.Bool.{false, true};
+ghost use mathlib.Core.Bool.{true};
 ghost use Rattle.scan.specs.Seen.{Noted};
 ghost use Rattle.scan.specs.Scanned.{freshScan, OptionTaken, Scanned};
 use option::Next;

@@ -3,7 +3,7 @@
 // Up to 128 rows the filter has 512 octets, above 12 KiB, and one pass takes the rows of one class of hashes, so that the filter does not
 // fill up in a long table.
 ghost use mathlib.Core.Path.{_≡_};
-ghost use mathlib.Core.Bool.{false, _||_};
+ghost use mathlib.Core.Bool.{_||_};
 ghost use mathlib.Core.List.{map};
 ghost use Prim.Native.Nat.{_<_};
 ghost use lib.Dec.{eqb};
