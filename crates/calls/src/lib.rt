@@ -3,9 +3,8 @@
 ghost use mathlib.Core.Path.{_≡_};
 ghost use Rattle.plain.specs.Request.{ours};
 ghost use Rattle.own.specs.Settings.{settingsOf};
-ghost use Rattle.gather.specs.Gathers.{Judged};
 ghost use Rattle.calls.specs.Calls.{Asked, Promised};
-ghost use Rattle.answer.specs.declared.Answer.the-variants.{BadCall, WrongState, OwnDodagid};
+ghost use Rattle.answer.specs.declared.Answer.the-variants.{BadCall, OwnDodagid};
 use answer::Answer;
 use gather::Gathering;
 use message::Link;
@@ -26,12 +25,6 @@ fn bad_call() -> Answer
     Answer::BadCall
 }
 
-fn wrong_state() -> Answer
-    ensures { λ r. ⌜ r ≡ WrongState ⌝ }
-{
-    Answer::WrongState
-}
-
 fn own_dodagid() -> Answer
     ensures { λ r. ⌜ r ≡ OwnDodagid ⌝ }
 {
@@ -44,13 +37,6 @@ fn has_own_dodagid(o: Own, r: Reading) -> bool
     let b = r.base;
     let a = b.dodagid;
     own::is_ours(o, a)
-}
-
-// 1, asked of a start: its targets and its fields.
-fn is_bad_start(g: Gathering, s: Asking) -> bool
-    ensures { λ b. ⌜ Judged g (s .l) (s .compr) (s .limit) b ⌝ }
-{
-    gather::is_bad(g, s.l, s.compr, s.limit)
 }
 
 fn targets_of(g: Gathering) -> Targets
@@ -95,7 +81,7 @@ pub fn message(
         return outcome::refused(bad_call(), clock, seq);
     }
     if wrong_state::is_wrong(instances, routes, clock, seq) {
-        return outcome::refused(wrong_state(), clock, seq);
+        return outcome::refused(wrong_state::wrong_state(), clock, seq);
     }
     let r = reader::read(octets);
     let a = heard::octets_answer(r);
@@ -167,11 +153,11 @@ pub fn start(
         return outcome::refused(bad_call(), clock, seq);
     }
     let g = gather::gather(targets);
-    if is_bad_start(g, s) {
+    if start_taken::is_bad_start(g, s) {
         return outcome::refused(bad_call(), clock, seq);
     }
     if wrong_state::is_wrong(instances, routes, clock, seq) {
-        return outcome::refused(wrong_state(), clock, seq);
+        return outcome::refused(wrong_state::wrong_state(), clock, seq);
     }
     start_taken::take_start(
         instances,

@@ -1,1 +1,2 @@
 pub mod Elem
+pub mod Laws

@@ -1,5 +1,9 @@
 // What a call is about, by value: the message as it was read, the link that it came by, and the rows that the tables hold for it. What
-// each means is in specs/.
+// each means is in specs/. And what several rules ask of it.
+ghost use mathlib.Core.Path.{_≡_};
+ghost use mathlib.Core.List.{[]};
+ghost use Rattle.plain.specs.Request.{sOut, deltaOr0};
+ghost use Rattle.message.specs.Message.{messageIn, receivedBy, deltaFound};
 use plain::Base;
 use plain::Discovery;
 use plain::Target;
@@ -45,4 +49,18 @@ pub struct FoundRoute {
 pub struct FreeDelta {
     pub is: bool,
     pub delta: u8,
+}
+
+// S out: S in and downward good.
+pub fn s_out(k: Link, p: Parsed) -> bool
+    ensures { λ r. ⌜ r ≡ sOut (receivedBy k []) (messageIn p []) ⌝ }
+{
+    if p.discovery.flag { k.downward } else { false }
+}
+
+// Delta, where one is free.
+pub fn delta_or_0(d: FreeDelta) -> u8
+    ensures { λ r. ⌜ r ≡ deltaOr0 (deltaFound d) ⌝ }
+{
+    if d.is { d.delta } else { 0 }
 }

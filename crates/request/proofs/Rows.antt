@@ -3,15 +3,14 @@ use mir.Val.{Val}
 use denote.Laws.{Is}
 use denote.Struct.Declared.{row}
 use Rattle.request.proofs.RequestFacts as facts
-use mathlib.Core.Path.{_≡_, refl}
-use mathlib.Core.Bool.{Bool, true, false, cond}
+use mathlib.Core.Path.{_≡_}
+use mathlib.Core.Bool.{true, false}
 use mathlib.Core.List.{List, []}
-use mathlib.Core.Option.{some, none}
 use lib.ListN.{length, take}
 use Rattle.plain.specs.Address.{Address}
 use Rattle.plain.specs.Given.{Settings}
 use Rattle.plain.specs.Rank.{ownRank}
-use Rattle.plain.specs.Request.{deltaOr0, areTargNode, requestStanding, targetsKept, askedWith}
+use Rattle.plain.specs.Request.{areTargNode, requestStanding, targetsKept, askedWith}
 use Rattle.plain.specs.Answers.{shortPrefix}
 use Rattle.writer_option.specs.Sendable.{shortPrefixes}
 use Rattle.kept.specs.Kept.{listOf, Kept}
@@ -26,14 +25,6 @@ use Rattle.message.specs.declared.Link.{Link}
 use Rattle.request.specs.Facts.{askedOf, Gathered}
 use Rattle.request_targets.proofs.Rows.{list-eight}
 use Rattle.request_targets.proofs.Kept.{all-kept}
-
-pub delta-or : (d : FreeDelta) → deltaOr0 (deltaFound d) ≡ cond (d .is) (d .delta) 0
-unfolding deltaFound
-delta-or d = go (d .is)
-  where
-    go : (b : Bool) → deltaOr0 (cond b (some (d .delta)) none) ≡ cond b (d .delta) 0
-    go true = refl
-    go false = refl
 
 pub facts-eight : (a : RequestFacts) (vs : List Val) → Is (row facts.the-type) a vs → length (a .targets .list) ≡ 8
 facts-eight a vs g = list-eight (a .targets) _ (g .1 .1 .1 .1 .1 .1 .1 .0)

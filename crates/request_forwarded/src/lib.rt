@@ -44,7 +44,7 @@ fn forwarded(k: Link, p: Parsed, a: RequestFacts) -> Parsed
     let base = rule::with_rank(received, a.rank as u16);
     let configuration = p.configuration;
     let asked = p.discovery;
-    let discovery = with_flag(asked, request_stored::s_out(k, p));
+    let discovery = with_flag(asked, message::s_out(k, p));
     let kept = a.targets.list;
     Parsed {
         base,

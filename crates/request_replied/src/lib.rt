@@ -62,7 +62,7 @@ fn reply_discovery(p: Parsed, delta: u8) -> Discovery
 fn reply_count(k: Link, p: Parsed) -> usize
     ensures { λ r. ⌜ r ≡ cond (sOut (receivedBy k []) (messageIn p [])) (p .n) 0 ⌝ }
 {
-    if request_stored::s_out(k, p) { p.n } else { 0 }
+    if message::s_out(k, p) { p.n } else { 0 }
 }
 
 // The reply: one ART, OrigNode's, with our stepped number. The other places for targets are not the message's.
@@ -109,7 +109,7 @@ fn reply_to(on: bool, k: Link, p: Parsed) -> Destination
 {
     let neighbour = k.neighbour;
     Destination {
-        way: reply_way(on, request_stored::s_out(k, p)),
+        way: reply_way(on, message::s_out(k, p)),
         neighbour,
     }
 }
@@ -121,13 +121,7 @@ pub fn reply_post(o: Own, k: Link, p: Parsed, a: RequestFacts, seq: u8) -> Post
 {
     let free = a.delta;
     let on = request::replies_now(a);
-    let message = replied(
-        o,
-        k,
-        p,
-        sequence::step(seq),
-        request_stored::delta_or_0(free),
-    );
+    let message = replied(o, k, p, sequence::step(seq), message::delta_or_0(free));
     let to = reply_to(on, k, p);
     Post {
         what: decision::dio_if(on),

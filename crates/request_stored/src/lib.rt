@@ -2,7 +2,6 @@
 use deadline::Deadline;
 use decision::Decided;
 use decision::ReplyFields;
-use message::FreeDelta;
 use message::Link;
 use message::Parsed;
 use own::Own;
@@ -15,11 +14,11 @@ ghost use mathlib.Core.Bool.{cond};
 ghost use mathlib.Core.List.{List, []};
 ghost use Rattle.plain.specs.Address.{Address};
 ghost use Rattle.plain.specs.Given.{RequestRow};
-ghost use Rattle.plain.specs.Request.{sOut, keptDeadline, requestRow, ownReplyRow, routeRow, deltaOr0, acceptRequest};
+ghost use Rattle.plain.specs.Request.{keptDeadline, requestRow, ownReplyRow, routeRow, acceptRequest};
 ghost use Rattle.row.specs.Record.{requestRecord, routeRecord};
 ghost use Rattle.deadline.specs.Deadline.{deadlineOf};
 ghost use Rattle.own.specs.Settings.{settingsOf};
-ghost use Rattle.message.specs.Message.{configurationIn, messageIn, receivedBy, requestFound, routeFound, deltaFound};
+ghost use Rattle.message.specs.Message.{configurationIn, messageIn, receivedBy, requestFound, routeFound};
 ghost use Rattle.decision.specs.Decision.{replyIn, Stores};
 ghost use Rattle.request.specs.Facts.{askedOf, Sendable};
 
@@ -44,13 +43,6 @@ fn kept_deadline(t: u64, l: u8, a: RequestFacts) -> Deadline
     deadline::of_l(t, l)
 }
 
-// S out.
-pub fn s_out(k: Link, p: Parsed) -> bool
-    ensures { λ r. ⌜ r ≡ sOut (receivedBy k []) (messageIn p []) ⌝ }
-{
-    if p.discovery.flag { k.downward } else { false }
-}
-
 // The request row.
 fn request_row(t: u64, k: Link, p: Parsed, a: RequestFacts) -> InstanceRow
     requires { ⌜ t ≤ 2 ^ 40 ⌝ }
@@ -65,7 +57,7 @@ fn request_row(t: u64, k: Link, p: Parsed, a: RequestFacts) -> InstanceRow
         p.base.instance,
         dodagid,
         p.discovery.number,
-        s_out(k, p),
+        message::s_out(k, p),
         p.discovery.h,
         a.rank as u16,
         neighbour,
@@ -78,13 +70,6 @@ fn request_row(t: u64, k: Link, p: Parsed, a: RequestFacts) -> InstanceRow
 }
 
 // ---- The reply row, the route and our number
-
-// Delta, where one is free.
-pub fn delta_or_0(d: FreeDelta) -> u8
-    ensures { λ r. ⌜ r ≡ deltaOr0 (deltaFound d) ⌝ }
-{
-    if d.is { d.delta } else { 0 }
-}
 
 // What the row of our own reply holds, with our stepped number.
 fn reply_fields(o: Own, t: u64, seq: u8, p: Parsed, delta: u8) -> ReplyFields
@@ -141,7 +126,7 @@ pub fn accepted(o: Own, seq: u8, t: u64, k: Link, p: Parsed, a: RequestFacts) ->
 {
     let free = a.delta;
     let next = sequence::step(seq);
-    let delta = delta_or_0(free);
+    let delta = message::delta_or_0(free);
     let replies = request::replies_now(a);
     let row = request_row(t, k, p, a);
     let second = reply_fields(o, t, next, p, delta);

@@ -1403,7 +1403,7 @@ b23 =
     (Syntax.place 21 List.[])
 
 abbrev b24 : Syntax.Body
-b24 = Syntax.call "calls::wrong_state" List.[] (Syntax.place 26 List.[])
+b24 = Syntax.call "wrong_state::wrong_state" List.[] (Syntax.place 26 List.[])
 
 abbrev b25 : Syntax.Body
 b25 =
@@ -36003,7 +36003,7 @@ module _ (claims· : Claims) where
           "calls::bad_call") (known2 : Plain.Known 𝓤 H A W 𝓣 0 ps·2 r·2 (claims· .4) (claims· .5)
           "outcome::refused") (known3 : Plain.Known 𝓤 H A W 𝓣 2 ps·3 r·3 (claims· .6) (claims· .7)
           "wrong_state::is_wrong") (known4 : Plain.Known 𝓤 H A W 𝓣 0 ps·4 r·4 (claims· .8)
-          (claims· .9) "calls::wrong_state") (known5 : Plain.Known 𝓤 H A W 𝓣 1 ps·5 r·5
+          (claims· .9) "wrong_state::wrong_state") (known5 : Plain.Known 𝓤 H A W 𝓣 1 ps·5 r·5
           (claims· .10) (claims· .11) "reader::read") (known6 : Plain.Known 𝓤 H A W 𝓣 0 ps·6 r·6
           (claims· .12) (claims· .13) "heard::octets_answer") (known7 : Plain.Known 𝓤 H A W 𝓣 0
           ps·7 r·7 (claims· .14) (claims· .15) "answer::number") (known8 : Plain.Known 𝓤 H A W 𝓣 0
@@ -36663,7 +36663,7 @@ module _ (claims· : Claims) where
             Plain.Known 𝓤 H A W 𝓣 0 ps·1 r·1 (claims· .2) (claims· .3) "calls::bad_call" ×
             Plain.Known 𝓤 H A W 𝓣 0 ps·2 r·2 (claims· .4) (claims· .5) "outcome::refused" ×
             Plain.Known 𝓤 H A W 𝓣 2 ps·3 r·3 (claims· .6) (claims· .7) "wrong_state::is_wrong" ×
-            Plain.Known 𝓤 H A W 𝓣 0 ps·4 r·4 (claims· .8) (claims· .9) "calls::wrong_state" ×
+            Plain.Known 𝓤 H A W 𝓣 0 ps·4 r·4 (claims· .8) (claims· .9) "wrong_state::wrong_state" ×
             Plain.Known 𝓤 H A W 𝓣 1 ps·5 r·5 (claims· .10) (claims· .11) "reader::read" ×
             Plain.Known 𝓤 H A W 𝓣 0 ps·6 r·6 (claims· .12) (claims· .13) "heard::octets_answer" ×
             Plain.Known 𝓤 H A W 𝓣 0 ps·7 r·7 (claims· .14) (claims· .15) "answer::number" ×
@@ -58072,7 +58072,7 @@ module _ (claims· : Claims) where
               r·4
               (claims· .8)
               (claims· .9)
-              "calls::wrong_state"
+              "wrong_state::wrong_state"
               (known .4)
               E
               (λ pos β. β)
@@ -74473,7 +74473,7 @@ module _ (claims· : Claims) where
             r·4
             (claims· .8)
             (claims· .9)
-            "calls::wrong_state")
+            "wrong_state::wrong_state")
             (known5 : Plain.Known 𝓤 H A W 𝓣 1 ps·5 r·5 (claims· .10) (claims· .11) "reader::read")
             (known6 : Plain.Known
             𝓤

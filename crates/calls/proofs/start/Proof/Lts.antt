@@ -918,7 +918,7 @@ b10 =
 abbrev b11 : Syntax.Body
 b11 =
     Syntax.call
-    "calls::is_bad_start"
+    "start_taken::is_bad_start"
     (List._∷_
     (Syntax.copy (Syntax.place 11 List.[]))
     (List._∷_ (Syntax.copy (Syntax.place 10 List.[])) List.[]))
@@ -1007,7 +1007,7 @@ b23 =
     (Syntax.place 18 List.[])
 
 abbrev b24 : Syntax.Body
-b24 = Syntax.call "calls::wrong_state" List.[] (Syntax.place 23 List.[])
+b24 = Syntax.call "wrong_state::wrong_state" List.[] (Syntax.place 23 List.[])
 
 abbrev b25 : Syntax.Body
 b25 =
@@ -18802,11 +18802,11 @@ module _ (claims· : Claims) where
           "calls::bad_call") (known2 : Plain.Known 𝓤 H A W 𝓣 0 ps·2 r·2 (claims· .4) (claims· .5)
           "outcome::refused") (known3 : Plain.Known 𝓤 H A W 𝓣 1 ps·3 r·3 (claims· .6) (claims· .7)
           "gather::gather") (known4 : Plain.Known 𝓤 H A W 𝓣 0 ps·4 r·4 (claims· .8) (claims· .9)
-          "calls::is_bad_start") (known5 : Plain.Known 𝓤 H A W 𝓣 2 ps·5 r·5 (claims· .10)
+          "start_taken::is_bad_start") (known5 : Plain.Known 𝓤 H A W 𝓣 2 ps·5 r·5 (claims· .10)
           (claims· .11) "wrong_state::is_wrong") (known6 : Plain.Known 𝓤 H A W 𝓣 0 ps·6 r·6
-          (claims· .12) (claims· .13) "calls::wrong_state") (known7 : Plain.Known 𝓤 H A W 𝓣 0 ps·7
-          r·7 (claims· .14) (claims· .15) "calls::targets_of") (known8 : Plain.Known 𝓤 H A W 𝓣 4
-          ps·8 r·8 (claims· .16) (claims· .17) "start_taken::take_start") → Statement.Triple 𝓤
+          (claims· .12) (claims· .13) "wrong_state::wrong_state") (known7 : Plain.Known 𝓤 H A W 𝓣 0
+          ps·7 r·7 (claims· .14) (claims· .15) "calls::targets_of") (known8 : Plain.Known 𝓤 H A W 𝓣
+          4 ps·8 r·8 (claims· .16) (claims· .17) "start_taken::take_start") → Statement.Triple 𝓤
           (Wp.WpFn 𝓤 H (𝓣 .C) (𝓣 .Λ) (Function.fnOf 5 ps r xs m hs body)) (Function.plainOf 𝓤 H A 5
           ps r Pre· Post·)
 
@@ -19134,9 +19134,31 @@ module _ (claims· : Claims) where
             Plain.Known 𝓤 H A W 𝓣 0 ps·1 r·1 (claims· .2) (claims· .3) "calls::bad_call" ×
             Plain.Known 𝓤 H A W 𝓣 0 ps·2 r·2 (claims· .4) (claims· .5) "outcome::refused" ×
             Plain.Known 𝓤 H A W 𝓣 1 ps·3 r·3 (claims· .6) (claims· .7) "gather::gather" ×
-            Plain.Known 𝓤 H A W 𝓣 0 ps·4 r·4 (claims· .8) (claims· .9) "calls::is_bad_start" ×
+            Plain.Known
+            𝓤
+            H
+            A
+            W
+            𝓣
+            0
+            ps·4
+            r·4
+            (claims· .8)
+            (claims· .9)
+            "start_taken::is_bad_start" ×
             Plain.Known 𝓤 H A W 𝓣 2 ps·5 r·5 (claims· .10) (claims· .11) "wrong_state::is_wrong" ×
-            Plain.Known 𝓤 H A W 𝓣 0 ps·6 r·6 (claims· .12) (claims· .13) "calls::wrong_state" ×
+            Plain.Known
+            𝓤
+            H
+            A
+            W
+            𝓣
+            0
+            ps·6
+            r·6
+            (claims· .12)
+            (claims· .13)
+            "wrong_state::wrong_state" ×
             Plain.Known 𝓤 H A W 𝓣 0 ps·7 r·7 (claims· .14) (claims· .15) "calls::targets_of" ×
             Plain.Known 𝓤 H A W 𝓣 4 ps·8 r·8 (claims· .16) (claims· .17) "start_taken::take_start"
 
@@ -28200,7 +28222,7 @@ module _ (claims· : Claims) where
               r·6
               (claims· .12)
               (claims· .13)
-              "calls::wrong_state"
+              "wrong_state::wrong_state"
               (known .6)
               E
               (λ pos β. β)
@@ -32271,7 +32293,7 @@ module _ (claims· : Claims) where
               r·4
               (claims· .8)
               (claims· .9)
-              "calls::is_bad_start"
+              "start_taken::is_bad_start"
               (known .4)
               E
               (λ pos β. β)
@@ -34971,7 +34993,7 @@ module _ (claims· : Claims) where
             r·4
             (claims· .8)
             (claims· .9)
-            "calls::is_bad_start")
+            "start_taken::is_bad_start")
             (known5 : Plain.Known
             𝓤
             H
@@ -34995,7 +35017,7 @@ module _ (claims· : Claims) where
             r·6
             (claims· .12)
             (claims· .13)
-            "calls::wrong_state")
+            "wrong_state::wrong_state")
             (known7 : Plain.Known
             𝓤
             H

@@ -5,33 +5,33 @@ use Rattle.bad_call.proofs.is_bad.Symbol
 use Rattle.calls.proofs.bad_call.Met as Met'
 use Rattle.calls.proofs.bad_call.Reads as Reads'
 use Rattle.calls.proofs.bad_call.Symbol as Symbol'
-use Rattle.calls.proofs.is_bad_start.Met as Met''
-use Rattle.calls.proofs.is_bad_start.Reads as Reads''
-use Rattle.calls.proofs.is_bad_start.Symbol as Symbol''
 use Rattle.calls.proofs.start.Code
 use Rattle.calls.proofs.start.Key
 use Rattle.calls.proofs.Lent.start.Kinds
 use Rattle.calls.proofs.start.Proof.Lts
-use Rattle.calls.proofs.Lent.start.Reads as Reads'3
+use Rattle.calls.proofs.Lent.start.Reads as Reads''
 use Rattle.calls.proofs.start.Statement
-use Rattle.calls.proofs.targets_of.Met as Met'3
-use Rattle.calls.proofs.targets_of.Reads as Reads'4
-use Rattle.calls.proofs.targets_of.Symbol as Symbol'3
-use Rattle.calls.proofs.wrong_state.Met as Met'4
-use Rattle.calls.proofs.wrong_state.Reads as Reads'5
-use Rattle.calls.proofs.wrong_state.Symbol as Symbol'4
-use Rattle.gather.proofs.gather.Met as Met'5
-use Rattle.gather.proofs.Lent.gather.Reads as Reads'6
-use Rattle.gather.proofs.gather.Symbol as Symbol'5
-use Rattle.outcome.proofs.refused.Met as Met'6
-use Rattle.outcome.proofs.refused.Reads as Reads'7
-use Rattle.outcome.proofs.refused.Symbol as Symbol'6
-use Rattle.start_taken.proofs.take_start.Met as Met'7
-use Rattle.start_taken.proofs.Lent.take_start.Reads as Reads'8
-use Rattle.start_taken.proofs.take_start.Symbol as Symbol'7
-use Rattle.wrong_state.proofs.is_wrong.Met as Met'8
-use Rattle.wrong_state.proofs.Lent.is_wrong.Reads as Reads'9
-use Rattle.wrong_state.proofs.is_wrong.Symbol as Symbol'8
+use Rattle.calls.proofs.targets_of.Met as Met''
+use Rattle.calls.proofs.targets_of.Reads as Reads'3
+use Rattle.calls.proofs.targets_of.Symbol as Symbol''
+use Rattle.gather.proofs.gather.Met as Met'3
+use Rattle.gather.proofs.Lent.gather.Reads as Reads'4
+use Rattle.gather.proofs.gather.Symbol as Symbol'3
+use Rattle.outcome.proofs.refused.Met as Met'4
+use Rattle.outcome.proofs.refused.Reads as Reads'5
+use Rattle.outcome.proofs.refused.Symbol as Symbol'4
+use Rattle.start_taken.proofs.is_bad_start.Met as Met'5
+use Rattle.start_taken.proofs.is_bad_start.Reads as Reads'6
+use Rattle.start_taken.proofs.is_bad_start.Symbol as Symbol'5
+use Rattle.start_taken.proofs.take_start.Met as Met'6
+use Rattle.start_taken.proofs.Lent.take_start.Reads as Reads'7
+use Rattle.start_taken.proofs.take_start.Symbol as Symbol'6
+use Rattle.wrong_state.proofs.is_wrong.Met as Met'7
+use Rattle.wrong_state.proofs.Lent.is_wrong.Reads as Reads'8
+use Rattle.wrong_state.proofs.is_wrong.Symbol as Symbol'7
+use Rattle.wrong_state.proofs.wrong_state.Met as Met'8
+use Rattle.wrong_state.proofs.wrong_state.Reads as Reads'9
+use Rattle.wrong_state.proofs.wrong_state.Symbol as Symbol'8
 use borrow.Fn.Run
 use borrow.Fn.Written
 use contract.Running
@@ -42,21 +42,21 @@ Start = Lts.Start (
   Reads.Learnt,
   Reads'.Asked,
   Reads'.Learnt,
-  Reads'7.Asked,
-  Reads'7.Learnt,
-  Reads'6.Asked,
-  Reads'6.Learnt,
-  Reads''.Asked,
-  Reads''.Learnt,
-  Reads'9.Asked,
-  Reads'9.Learnt,
   Reads'5.Asked,
   Reads'5.Learnt,
   Reads'4.Asked,
   Reads'4.Learnt,
+  Reads'6.Asked,
+  Reads'6.Learnt,
   Reads'8.Asked,
   Reads'8.Learnt,
-) Reads'3.Pre Reads'3.Post
+  Reads'9.Asked,
+  Reads'9.Learnt,
+  Reads'3.Asked,
+  Reads'3.Learnt,
+  Reads'7.Asked,
+  Reads'7.Learnt,
+) Reads''.Pre Reads''.Post
 
 abbrev pub After-slice-known : Type 0
 After-slice-known = Lts.After-slice-known (
@@ -64,21 +64,21 @@ After-slice-known = Lts.After-slice-known (
   Reads.Learnt,
   Reads'.Asked,
   Reads'.Learnt,
-  Reads'7.Asked,
-  Reads'7.Learnt,
-  Reads'6.Asked,
-  Reads'6.Learnt,
-  Reads''.Asked,
-  Reads''.Learnt,
-  Reads'9.Asked,
-  Reads'9.Learnt,
   Reads'5.Asked,
   Reads'5.Learnt,
   Reads'4.Asked,
   Reads'4.Learnt,
+  Reads'6.Asked,
+  Reads'6.Learnt,
   Reads'8.Asked,
   Reads'8.Learnt,
-) Reads'3.Pre Reads'3.Post
+  Reads'9.Asked,
+  Reads'9.Learnt,
+  Reads'3.Asked,
+  Reads'3.Learnt,
+  Reads'7.Asked,
+  Reads'7.Learnt,
+) Reads''.Pre Reads''.Post
 
 abbrev pub After-slice-known2 : Type 0
 After-slice-known2 = Lts.After-slice-known2 (
@@ -86,21 +86,21 @@ After-slice-known2 = Lts.After-slice-known2 (
   Reads.Learnt,
   Reads'.Asked,
   Reads'.Learnt,
-  Reads'7.Asked,
-  Reads'7.Learnt,
-  Reads'6.Asked,
-  Reads'6.Learnt,
-  Reads''.Asked,
-  Reads''.Learnt,
-  Reads'9.Asked,
-  Reads'9.Learnt,
   Reads'5.Asked,
   Reads'5.Learnt,
   Reads'4.Asked,
   Reads'4.Learnt,
+  Reads'6.Asked,
+  Reads'6.Learnt,
   Reads'8.Asked,
   Reads'8.Learnt,
-) Reads'3.Pre Reads'3.Post
+  Reads'9.Asked,
+  Reads'9.Learnt,
+  Reads'3.Asked,
+  Reads'3.Learnt,
+  Reads'7.Asked,
+  Reads'7.Learnt,
+) Reads''.Pre Reads''.Post
 
 abbrev pub After-is-bad : Type 0
 After-is-bad = Lts.After-is-bad (
@@ -108,21 +108,21 @@ After-is-bad = Lts.After-is-bad (
   Reads.Learnt,
   Reads'.Asked,
   Reads'.Learnt,
-  Reads'7.Asked,
-  Reads'7.Learnt,
-  Reads'6.Asked,
-  Reads'6.Learnt,
-  Reads''.Asked,
-  Reads''.Learnt,
-  Reads'9.Asked,
-  Reads'9.Learnt,
   Reads'5.Asked,
   Reads'5.Learnt,
   Reads'4.Asked,
   Reads'4.Learnt,
+  Reads'6.Asked,
+  Reads'6.Learnt,
   Reads'8.Asked,
   Reads'8.Learnt,
-) Reads'3.Pre Reads'3.Post
+  Reads'9.Asked,
+  Reads'9.Learnt,
+  Reads'3.Asked,
+  Reads'3.Learnt,
+  Reads'7.Asked,
+  Reads'7.Learnt,
+) Reads''.Pre Reads''.Post
 
 abbrev pub Then1 : Type 0
 Then1 = Lts.Then1 (
@@ -130,21 +130,21 @@ Then1 = Lts.Then1 (
   Reads.Learnt,
   Reads'.Asked,
   Reads'.Learnt,
-  Reads'7.Asked,
-  Reads'7.Learnt,
-  Reads'6.Asked,
-  Reads'6.Learnt,
-  Reads''.Asked,
-  Reads''.Learnt,
-  Reads'9.Asked,
-  Reads'9.Learnt,
   Reads'5.Asked,
   Reads'5.Learnt,
   Reads'4.Asked,
   Reads'4.Learnt,
+  Reads'6.Asked,
+  Reads'6.Learnt,
   Reads'8.Asked,
   Reads'8.Learnt,
-) Reads'3.Pre Reads'3.Post
+  Reads'9.Asked,
+  Reads'9.Learnt,
+  Reads'3.Asked,
+  Reads'3.Learnt,
+  Reads'7.Asked,
+  Reads'7.Learnt,
+) Reads''.Pre Reads''.Post
 
 abbrev pub After-bad-call : Type 0
 After-bad-call = Lts.After-bad-call (
@@ -152,21 +152,21 @@ After-bad-call = Lts.After-bad-call (
   Reads.Learnt,
   Reads'.Asked,
   Reads'.Learnt,
-  Reads'7.Asked,
-  Reads'7.Learnt,
-  Reads'6.Asked,
-  Reads'6.Learnt,
-  Reads''.Asked,
-  Reads''.Learnt,
-  Reads'9.Asked,
-  Reads'9.Learnt,
   Reads'5.Asked,
   Reads'5.Learnt,
   Reads'4.Asked,
   Reads'4.Learnt,
+  Reads'6.Asked,
+  Reads'6.Learnt,
   Reads'8.Asked,
   Reads'8.Learnt,
-) Reads'3.Pre Reads'3.Post
+  Reads'9.Asked,
+  Reads'9.Learnt,
+  Reads'3.Asked,
+  Reads'3.Learnt,
+  Reads'7.Asked,
+  Reads'7.Learnt,
+) Reads''.Pre Reads''.Post
 
 abbrev pub After-refused : Type 0
 After-refused = Lts.After-refused (
@@ -174,21 +174,21 @@ After-refused = Lts.After-refused (
   Reads.Learnt,
   Reads'.Asked,
   Reads'.Learnt,
-  Reads'7.Asked,
-  Reads'7.Learnt,
-  Reads'6.Asked,
-  Reads'6.Learnt,
-  Reads''.Asked,
-  Reads''.Learnt,
-  Reads'9.Asked,
-  Reads'9.Learnt,
   Reads'5.Asked,
   Reads'5.Learnt,
   Reads'4.Asked,
   Reads'4.Learnt,
+  Reads'6.Asked,
+  Reads'6.Learnt,
   Reads'8.Asked,
   Reads'8.Learnt,
-) Reads'3.Pre Reads'3.Post
+  Reads'9.Asked,
+  Reads'9.Learnt,
+  Reads'3.Asked,
+  Reads'3.Learnt,
+  Reads'7.Asked,
+  Reads'7.Learnt,
+) Reads''.Pre Reads''.Post
 
 abbrev pub Else1 : Type 0
 Else1 = Lts.Else1 (
@@ -196,21 +196,21 @@ Else1 = Lts.Else1 (
   Reads.Learnt,
   Reads'.Asked,
   Reads'.Learnt,
-  Reads'7.Asked,
-  Reads'7.Learnt,
-  Reads'6.Asked,
-  Reads'6.Learnt,
-  Reads''.Asked,
-  Reads''.Learnt,
-  Reads'9.Asked,
-  Reads'9.Learnt,
   Reads'5.Asked,
   Reads'5.Learnt,
   Reads'4.Asked,
   Reads'4.Learnt,
+  Reads'6.Asked,
+  Reads'6.Learnt,
   Reads'8.Asked,
   Reads'8.Learnt,
-) Reads'3.Pre Reads'3.Post
+  Reads'9.Asked,
+  Reads'9.Learnt,
+  Reads'3.Asked,
+  Reads'3.Learnt,
+  Reads'7.Asked,
+  Reads'7.Learnt,
+) Reads''.Pre Reads''.Post
 
 abbrev pub After-gather : Type 0
 After-gather = Lts.After-gather (
@@ -218,21 +218,21 @@ After-gather = Lts.After-gather (
   Reads.Learnt,
   Reads'.Asked,
   Reads'.Learnt,
-  Reads'7.Asked,
-  Reads'7.Learnt,
-  Reads'6.Asked,
-  Reads'6.Learnt,
-  Reads''.Asked,
-  Reads''.Learnt,
-  Reads'9.Asked,
-  Reads'9.Learnt,
   Reads'5.Asked,
   Reads'5.Learnt,
   Reads'4.Asked,
   Reads'4.Learnt,
+  Reads'6.Asked,
+  Reads'6.Learnt,
   Reads'8.Asked,
   Reads'8.Learnt,
-) Reads'3.Pre Reads'3.Post
+  Reads'9.Asked,
+  Reads'9.Learnt,
+  Reads'3.Asked,
+  Reads'3.Learnt,
+  Reads'7.Asked,
+  Reads'7.Learnt,
+) Reads''.Pre Reads''.Post
 
 abbrev pub After-is-bad-start : Type 0
 After-is-bad-start = Lts.After-is-bad-start (
@@ -240,21 +240,21 @@ After-is-bad-start = Lts.After-is-bad-start (
   Reads.Learnt,
   Reads'.Asked,
   Reads'.Learnt,
-  Reads'7.Asked,
-  Reads'7.Learnt,
-  Reads'6.Asked,
-  Reads'6.Learnt,
-  Reads''.Asked,
-  Reads''.Learnt,
-  Reads'9.Asked,
-  Reads'9.Learnt,
   Reads'5.Asked,
   Reads'5.Learnt,
   Reads'4.Asked,
   Reads'4.Learnt,
+  Reads'6.Asked,
+  Reads'6.Learnt,
   Reads'8.Asked,
   Reads'8.Learnt,
-) Reads'3.Pre Reads'3.Post
+  Reads'9.Asked,
+  Reads'9.Learnt,
+  Reads'3.Asked,
+  Reads'3.Learnt,
+  Reads'7.Asked,
+  Reads'7.Learnt,
+) Reads''.Pre Reads''.Post
 
 abbrev pub Then2 : Type 0
 Then2 = Lts.Then2 (
@@ -262,21 +262,21 @@ Then2 = Lts.Then2 (
   Reads.Learnt,
   Reads'.Asked,
   Reads'.Learnt,
-  Reads'7.Asked,
-  Reads'7.Learnt,
-  Reads'6.Asked,
-  Reads'6.Learnt,
-  Reads''.Asked,
-  Reads''.Learnt,
-  Reads'9.Asked,
-  Reads'9.Learnt,
   Reads'5.Asked,
   Reads'5.Learnt,
   Reads'4.Asked,
   Reads'4.Learnt,
+  Reads'6.Asked,
+  Reads'6.Learnt,
   Reads'8.Asked,
   Reads'8.Learnt,
-) Reads'3.Pre Reads'3.Post
+  Reads'9.Asked,
+  Reads'9.Learnt,
+  Reads'3.Asked,
+  Reads'3.Learnt,
+  Reads'7.Asked,
+  Reads'7.Learnt,
+) Reads''.Pre Reads''.Post
 
 abbrev pub After-bad-call2 : Type 0
 After-bad-call2 = Lts.After-bad-call2 (
@@ -284,21 +284,21 @@ After-bad-call2 = Lts.After-bad-call2 (
   Reads.Learnt,
   Reads'.Asked,
   Reads'.Learnt,
-  Reads'7.Asked,
-  Reads'7.Learnt,
-  Reads'6.Asked,
-  Reads'6.Learnt,
-  Reads''.Asked,
-  Reads''.Learnt,
-  Reads'9.Asked,
-  Reads'9.Learnt,
   Reads'5.Asked,
   Reads'5.Learnt,
   Reads'4.Asked,
   Reads'4.Learnt,
+  Reads'6.Asked,
+  Reads'6.Learnt,
   Reads'8.Asked,
   Reads'8.Learnt,
-) Reads'3.Pre Reads'3.Post
+  Reads'9.Asked,
+  Reads'9.Learnt,
+  Reads'3.Asked,
+  Reads'3.Learnt,
+  Reads'7.Asked,
+  Reads'7.Learnt,
+) Reads''.Pre Reads''.Post
 
 abbrev pub After-refused2 : Type 0
 After-refused2 = Lts.After-refused2 (
@@ -306,21 +306,21 @@ After-refused2 = Lts.After-refused2 (
   Reads.Learnt,
   Reads'.Asked,
   Reads'.Learnt,
-  Reads'7.Asked,
-  Reads'7.Learnt,
-  Reads'6.Asked,
-  Reads'6.Learnt,
-  Reads''.Asked,
-  Reads''.Learnt,
-  Reads'9.Asked,
-  Reads'9.Learnt,
   Reads'5.Asked,
   Reads'5.Learnt,
   Reads'4.Asked,
   Reads'4.Learnt,
+  Reads'6.Asked,
+  Reads'6.Learnt,
   Reads'8.Asked,
   Reads'8.Learnt,
-) Reads'3.Pre Reads'3.Post
+  Reads'9.Asked,
+  Reads'9.Learnt,
+  Reads'3.Asked,
+  Reads'3.Learnt,
+  Reads'7.Asked,
+  Reads'7.Learnt,
+) Reads''.Pre Reads''.Post
 
 abbrev pub Else2 : Type 0
 Else2 = Lts.Else2 (
@@ -328,21 +328,21 @@ Else2 = Lts.Else2 (
   Reads.Learnt,
   Reads'.Asked,
   Reads'.Learnt,
-  Reads'7.Asked,
-  Reads'7.Learnt,
-  Reads'6.Asked,
-  Reads'6.Learnt,
-  Reads''.Asked,
-  Reads''.Learnt,
-  Reads'9.Asked,
-  Reads'9.Learnt,
   Reads'5.Asked,
   Reads'5.Learnt,
   Reads'4.Asked,
   Reads'4.Learnt,
+  Reads'6.Asked,
+  Reads'6.Learnt,
   Reads'8.Asked,
   Reads'8.Learnt,
-) Reads'3.Pre Reads'3.Post
+  Reads'9.Asked,
+  Reads'9.Learnt,
+  Reads'3.Asked,
+  Reads'3.Learnt,
+  Reads'7.Asked,
+  Reads'7.Learnt,
+) Reads''.Pre Reads''.Post
 
 abbrev pub After-is-wrong-arg : Type 0
 After-is-wrong-arg = Lts.After-is-wrong-arg (
@@ -350,21 +350,21 @@ After-is-wrong-arg = Lts.After-is-wrong-arg (
   Reads.Learnt,
   Reads'.Asked,
   Reads'.Learnt,
-  Reads'7.Asked,
-  Reads'7.Learnt,
-  Reads'6.Asked,
-  Reads'6.Learnt,
-  Reads''.Asked,
-  Reads''.Learnt,
-  Reads'9.Asked,
-  Reads'9.Learnt,
   Reads'5.Asked,
   Reads'5.Learnt,
   Reads'4.Asked,
   Reads'4.Learnt,
+  Reads'6.Asked,
+  Reads'6.Learnt,
   Reads'8.Asked,
   Reads'8.Learnt,
-) Reads'3.Pre Reads'3.Post
+  Reads'9.Asked,
+  Reads'9.Learnt,
+  Reads'3.Asked,
+  Reads'3.Learnt,
+  Reads'7.Asked,
+  Reads'7.Learnt,
+) Reads''.Pre Reads''.Post
 
 abbrev pub After-is-wrong-arg2 : Type 0
 After-is-wrong-arg2 = Lts.After-is-wrong-arg2 (
@@ -372,21 +372,21 @@ After-is-wrong-arg2 = Lts.After-is-wrong-arg2 (
   Reads.Learnt,
   Reads'.Asked,
   Reads'.Learnt,
-  Reads'7.Asked,
-  Reads'7.Learnt,
-  Reads'6.Asked,
-  Reads'6.Learnt,
-  Reads''.Asked,
-  Reads''.Learnt,
-  Reads'9.Asked,
-  Reads'9.Learnt,
   Reads'5.Asked,
   Reads'5.Learnt,
   Reads'4.Asked,
   Reads'4.Learnt,
+  Reads'6.Asked,
+  Reads'6.Learnt,
   Reads'8.Asked,
   Reads'8.Learnt,
-) Reads'3.Pre Reads'3.Post
+  Reads'9.Asked,
+  Reads'9.Learnt,
+  Reads'3.Asked,
+  Reads'3.Learnt,
+  Reads'7.Asked,
+  Reads'7.Learnt,
+) Reads''.Pre Reads''.Post
 
 abbrev pub After-is-wrong : Type 0
 After-is-wrong = Lts.After-is-wrong (
@@ -394,21 +394,21 @@ After-is-wrong = Lts.After-is-wrong (
   Reads.Learnt,
   Reads'.Asked,
   Reads'.Learnt,
-  Reads'7.Asked,
-  Reads'7.Learnt,
-  Reads'6.Asked,
-  Reads'6.Learnt,
-  Reads''.Asked,
-  Reads''.Learnt,
-  Reads'9.Asked,
-  Reads'9.Learnt,
   Reads'5.Asked,
   Reads'5.Learnt,
   Reads'4.Asked,
   Reads'4.Learnt,
+  Reads'6.Asked,
+  Reads'6.Learnt,
   Reads'8.Asked,
   Reads'8.Learnt,
-) Reads'3.Pre Reads'3.Post
+  Reads'9.Asked,
+  Reads'9.Learnt,
+  Reads'3.Asked,
+  Reads'3.Learnt,
+  Reads'7.Asked,
+  Reads'7.Learnt,
+) Reads''.Pre Reads''.Post
 
 abbrev pub Then3 : Type 0
 Then3 = Lts.Then3 (
@@ -416,21 +416,21 @@ Then3 = Lts.Then3 (
   Reads.Learnt,
   Reads'.Asked,
   Reads'.Learnt,
-  Reads'7.Asked,
-  Reads'7.Learnt,
-  Reads'6.Asked,
-  Reads'6.Learnt,
-  Reads''.Asked,
-  Reads''.Learnt,
-  Reads'9.Asked,
-  Reads'9.Learnt,
   Reads'5.Asked,
   Reads'5.Learnt,
   Reads'4.Asked,
   Reads'4.Learnt,
+  Reads'6.Asked,
+  Reads'6.Learnt,
   Reads'8.Asked,
   Reads'8.Learnt,
-) Reads'3.Pre Reads'3.Post
+  Reads'9.Asked,
+  Reads'9.Learnt,
+  Reads'3.Asked,
+  Reads'3.Learnt,
+  Reads'7.Asked,
+  Reads'7.Learnt,
+) Reads''.Pre Reads''.Post
 
 abbrev pub After-wrong-state : Type 0
 After-wrong-state = Lts.After-wrong-state (
@@ -438,21 +438,21 @@ After-wrong-state = Lts.After-wrong-state (
   Reads.Learnt,
   Reads'.Asked,
   Reads'.Learnt,
-  Reads'7.Asked,
-  Reads'7.Learnt,
-  Reads'6.Asked,
-  Reads'6.Learnt,
-  Reads''.Asked,
-  Reads''.Learnt,
-  Reads'9.Asked,
-  Reads'9.Learnt,
   Reads'5.Asked,
   Reads'5.Learnt,
   Reads'4.Asked,
   Reads'4.Learnt,
+  Reads'6.Asked,
+  Reads'6.Learnt,
   Reads'8.Asked,
   Reads'8.Learnt,
-) Reads'3.Pre Reads'3.Post
+  Reads'9.Asked,
+  Reads'9.Learnt,
+  Reads'3.Asked,
+  Reads'3.Learnt,
+  Reads'7.Asked,
+  Reads'7.Learnt,
+) Reads''.Pre Reads''.Post
 
 abbrev pub After-refused3 : Type 0
 After-refused3 = Lts.After-refused3 (
@@ -460,21 +460,21 @@ After-refused3 = Lts.After-refused3 (
   Reads.Learnt,
   Reads'.Asked,
   Reads'.Learnt,
-  Reads'7.Asked,
-  Reads'7.Learnt,
-  Reads'6.Asked,
-  Reads'6.Learnt,
-  Reads''.Asked,
-  Reads''.Learnt,
-  Reads'9.Asked,
-  Reads'9.Learnt,
   Reads'5.Asked,
   Reads'5.Learnt,
   Reads'4.Asked,
   Reads'4.Learnt,
+  Reads'6.Asked,
+  Reads'6.Learnt,
   Reads'8.Asked,
   Reads'8.Learnt,
-) Reads'3.Pre Reads'3.Post
+  Reads'9.Asked,
+  Reads'9.Learnt,
+  Reads'3.Asked,
+  Reads'3.Learnt,
+  Reads'7.Asked,
+  Reads'7.Learnt,
+) Reads''.Pre Reads''.Post
 
 abbrev pub Else3 : Type 0
 Else3 = Lts.Else3 (
@@ -482,21 +482,21 @@ Else3 = Lts.Else3 (
   Reads.Learnt,
   Reads'.Asked,
   Reads'.Learnt,
-  Reads'7.Asked,
-  Reads'7.Learnt,
-  Reads'6.Asked,
-  Reads'6.Learnt,
-  Reads''.Asked,
-  Reads''.Learnt,
-  Reads'9.Asked,
-  Reads'9.Learnt,
   Reads'5.Asked,
   Reads'5.Learnt,
   Reads'4.Asked,
   Reads'4.Learnt,
+  Reads'6.Asked,
+  Reads'6.Learnt,
   Reads'8.Asked,
   Reads'8.Learnt,
-) Reads'3.Pre Reads'3.Post
+  Reads'9.Asked,
+  Reads'9.Learnt,
+  Reads'3.Asked,
+  Reads'3.Learnt,
+  Reads'7.Asked,
+  Reads'7.Learnt,
+) Reads''.Pre Reads''.Post
 
 abbrev pub After-take-start-arg : Type 0
 After-take-start-arg = Lts.After-take-start-arg (
@@ -504,21 +504,21 @@ After-take-start-arg = Lts.After-take-start-arg (
   Reads.Learnt,
   Reads'.Asked,
   Reads'.Learnt,
-  Reads'7.Asked,
-  Reads'7.Learnt,
-  Reads'6.Asked,
-  Reads'6.Learnt,
-  Reads''.Asked,
-  Reads''.Learnt,
-  Reads'9.Asked,
-  Reads'9.Learnt,
   Reads'5.Asked,
   Reads'5.Learnt,
   Reads'4.Asked,
   Reads'4.Learnt,
+  Reads'6.Asked,
+  Reads'6.Learnt,
   Reads'8.Asked,
   Reads'8.Learnt,
-) Reads'3.Pre Reads'3.Post
+  Reads'9.Asked,
+  Reads'9.Learnt,
+  Reads'3.Asked,
+  Reads'3.Learnt,
+  Reads'7.Asked,
+  Reads'7.Learnt,
+) Reads''.Pre Reads''.Post
 
 abbrev pub After-take-start-arg2 : Type 0
 After-take-start-arg2 = Lts.After-take-start-arg2 (
@@ -526,21 +526,21 @@ After-take-start-arg2 = Lts.After-take-start-arg2 (
   Reads.Learnt,
   Reads'.Asked,
   Reads'.Learnt,
-  Reads'7.Asked,
-  Reads'7.Learnt,
-  Reads'6.Asked,
-  Reads'6.Learnt,
-  Reads''.Asked,
-  Reads''.Learnt,
-  Reads'9.Asked,
-  Reads'9.Learnt,
   Reads'5.Asked,
   Reads'5.Learnt,
   Reads'4.Asked,
   Reads'4.Learnt,
+  Reads'6.Asked,
+  Reads'6.Learnt,
   Reads'8.Asked,
   Reads'8.Learnt,
-) Reads'3.Pre Reads'3.Post
+  Reads'9.Asked,
+  Reads'9.Learnt,
+  Reads'3.Asked,
+  Reads'3.Learnt,
+  Reads'7.Asked,
+  Reads'7.Learnt,
+) Reads''.Pre Reads''.Post
 
 abbrev pub After-take-start-arg3 : Type 0
 After-take-start-arg3 = Lts.After-take-start-arg3 (
@@ -548,21 +548,21 @@ After-take-start-arg3 = Lts.After-take-start-arg3 (
   Reads.Learnt,
   Reads'.Asked,
   Reads'.Learnt,
-  Reads'7.Asked,
-  Reads'7.Learnt,
-  Reads'6.Asked,
-  Reads'6.Learnt,
-  Reads''.Asked,
-  Reads''.Learnt,
-  Reads'9.Asked,
-  Reads'9.Learnt,
   Reads'5.Asked,
   Reads'5.Learnt,
   Reads'4.Asked,
   Reads'4.Learnt,
+  Reads'6.Asked,
+  Reads'6.Learnt,
   Reads'8.Asked,
   Reads'8.Learnt,
-) Reads'3.Pre Reads'3.Post
+  Reads'9.Asked,
+  Reads'9.Learnt,
+  Reads'3.Asked,
+  Reads'3.Learnt,
+  Reads'7.Asked,
+  Reads'7.Learnt,
+) Reads''.Pre Reads''.Post
 
 abbrev pub After-take-start-arg4 : Type 0
 After-take-start-arg4 = Lts.After-take-start-arg4 (
@@ -570,21 +570,21 @@ After-take-start-arg4 = Lts.After-take-start-arg4 (
   Reads.Learnt,
   Reads'.Asked,
   Reads'.Learnt,
-  Reads'7.Asked,
-  Reads'7.Learnt,
-  Reads'6.Asked,
-  Reads'6.Learnt,
-  Reads''.Asked,
-  Reads''.Learnt,
-  Reads'9.Asked,
-  Reads'9.Learnt,
   Reads'5.Asked,
   Reads'5.Learnt,
   Reads'4.Asked,
   Reads'4.Learnt,
+  Reads'6.Asked,
+  Reads'6.Learnt,
   Reads'8.Asked,
   Reads'8.Learnt,
-) Reads'3.Pre Reads'3.Post
+  Reads'9.Asked,
+  Reads'9.Learnt,
+  Reads'3.Asked,
+  Reads'3.Learnt,
+  Reads'7.Asked,
+  Reads'7.Learnt,
+) Reads''.Pre Reads''.Post
 
 abbrev pub After-targets-of : Type 0
 After-targets-of = Lts.After-targets-of (
@@ -592,21 +592,21 @@ After-targets-of = Lts.After-targets-of (
   Reads.Learnt,
   Reads'.Asked,
   Reads'.Learnt,
-  Reads'7.Asked,
-  Reads'7.Learnt,
-  Reads'6.Asked,
-  Reads'6.Learnt,
-  Reads''.Asked,
-  Reads''.Learnt,
-  Reads'9.Asked,
-  Reads'9.Learnt,
   Reads'5.Asked,
   Reads'5.Learnt,
   Reads'4.Asked,
   Reads'4.Learnt,
+  Reads'6.Asked,
+  Reads'6.Learnt,
   Reads'8.Asked,
   Reads'8.Learnt,
-) Reads'3.Pre Reads'3.Post
+  Reads'9.Asked,
+  Reads'9.Learnt,
+  Reads'3.Asked,
+  Reads'3.Learnt,
+  Reads'7.Asked,
+  Reads'7.Learnt,
+) Reads''.Pre Reads''.Post
 
 abbrev pub After-take-start : Type 0
 After-take-start = Lts.After-take-start (
@@ -614,21 +614,21 @@ After-take-start = Lts.After-take-start (
   Reads.Learnt,
   Reads'.Asked,
   Reads'.Learnt,
-  Reads'7.Asked,
-  Reads'7.Learnt,
-  Reads'6.Asked,
-  Reads'6.Learnt,
-  Reads''.Asked,
-  Reads''.Learnt,
-  Reads'9.Asked,
-  Reads'9.Learnt,
   Reads'5.Asked,
   Reads'5.Learnt,
   Reads'4.Asked,
   Reads'4.Learnt,
+  Reads'6.Asked,
+  Reads'6.Learnt,
   Reads'8.Asked,
   Reads'8.Learnt,
-) Reads'3.Pre Reads'3.Post
+  Reads'9.Asked,
+  Reads'9.Learnt,
+  Reads'3.Asked,
+  Reads'3.Learnt,
+  Reads'7.Asked,
+  Reads'7.Learnt,
+) Reads''.Pre Reads''.Post
 
 abbrev pub After-instances : Type 0
 After-instances = Lts.After-instances (
@@ -636,21 +636,21 @@ After-instances = Lts.After-instances (
   Reads.Learnt,
   Reads'.Asked,
   Reads'.Learnt,
-  Reads'7.Asked,
-  Reads'7.Learnt,
-  Reads'6.Asked,
-  Reads'6.Learnt,
-  Reads''.Asked,
-  Reads''.Learnt,
-  Reads'9.Asked,
-  Reads'9.Learnt,
   Reads'5.Asked,
   Reads'5.Learnt,
   Reads'4.Asked,
   Reads'4.Learnt,
+  Reads'6.Asked,
+  Reads'6.Learnt,
   Reads'8.Asked,
   Reads'8.Learnt,
-) Reads'3.Pre Reads'3.Post
+  Reads'9.Asked,
+  Reads'9.Learnt,
+  Reads'3.Asked,
+  Reads'3.Learnt,
+  Reads'7.Asked,
+  Reads'7.Learnt,
+) Reads''.Pre Reads''.Post
 
 abbrev pub After-routes : Type 0
 After-routes = Lts.After-routes (
@@ -658,21 +658,21 @@ After-routes = Lts.After-routes (
   Reads.Learnt,
   Reads'.Asked,
   Reads'.Learnt,
-  Reads'7.Asked,
-  Reads'7.Learnt,
-  Reads'6.Asked,
-  Reads'6.Learnt,
-  Reads''.Asked,
-  Reads''.Learnt,
-  Reads'9.Asked,
-  Reads'9.Learnt,
   Reads'5.Asked,
   Reads'5.Learnt,
   Reads'4.Asked,
   Reads'4.Learnt,
+  Reads'6.Asked,
+  Reads'6.Learnt,
   Reads'8.Asked,
   Reads'8.Learnt,
-) Reads'3.Pre Reads'3.Post
+  Reads'9.Asked,
+  Reads'9.Learnt,
+  Reads'3.Asked,
+  Reads'3.Learnt,
+  Reads'7.Asked,
+  Reads'7.Learnt,
+) Reads''.Pre Reads''.Post
 
 abbrev pub After-forward : Type 0
 After-forward = Lts.After-forward (
@@ -680,21 +680,21 @@ After-forward = Lts.After-forward (
   Reads.Learnt,
   Reads'.Asked,
   Reads'.Learnt,
-  Reads'7.Asked,
-  Reads'7.Learnt,
-  Reads'6.Asked,
-  Reads'6.Learnt,
-  Reads''.Asked,
-  Reads''.Learnt,
-  Reads'9.Asked,
-  Reads'9.Learnt,
   Reads'5.Asked,
   Reads'5.Learnt,
   Reads'4.Asked,
   Reads'4.Learnt,
+  Reads'6.Asked,
+  Reads'6.Learnt,
   Reads'8.Asked,
   Reads'8.Learnt,
-) Reads'3.Pre Reads'3.Post
+  Reads'9.Asked,
+  Reads'9.Learnt,
+  Reads'3.Asked,
+  Reads'3.Learnt,
+  Reads'7.Asked,
+  Reads'7.Learnt,
+) Reads''.Pre Reads''.Post
 
 abbrev pub After-slice-known3 : Type 0
 After-slice-known3 = Lts.After-slice-known3 (
@@ -702,21 +702,21 @@ After-slice-known3 = Lts.After-slice-known3 (
   Reads.Learnt,
   Reads'.Asked,
   Reads'.Learnt,
-  Reads'7.Asked,
-  Reads'7.Learnt,
-  Reads'6.Asked,
-  Reads'6.Learnt,
-  Reads''.Asked,
-  Reads''.Learnt,
-  Reads'9.Asked,
-  Reads'9.Learnt,
   Reads'5.Asked,
   Reads'5.Learnt,
   Reads'4.Asked,
   Reads'4.Learnt,
+  Reads'6.Asked,
+  Reads'6.Learnt,
   Reads'8.Asked,
   Reads'8.Learnt,
-) Reads'3.Pre Reads'3.Post
+  Reads'9.Asked,
+  Reads'9.Learnt,
+  Reads'3.Asked,
+  Reads'3.Learnt,
+  Reads'7.Asked,
+  Reads'7.Learnt,
+) Reads''.Pre Reads''.Post
 
 abbrev pub After-reply : Type 0
 After-reply = Lts.After-reply (
@@ -724,21 +724,21 @@ After-reply = Lts.After-reply (
   Reads.Learnt,
   Reads'.Asked,
   Reads'.Learnt,
-  Reads'7.Asked,
-  Reads'7.Learnt,
-  Reads'6.Asked,
-  Reads'6.Learnt,
-  Reads''.Asked,
-  Reads''.Learnt,
-  Reads'9.Asked,
-  Reads'9.Learnt,
   Reads'5.Asked,
   Reads'5.Learnt,
   Reads'4.Asked,
   Reads'4.Learnt,
+  Reads'6.Asked,
+  Reads'6.Learnt,
   Reads'8.Asked,
   Reads'8.Learnt,
-) Reads'3.Pre Reads'3.Post
+  Reads'9.Asked,
+  Reads'9.Learnt,
+  Reads'3.Asked,
+  Reads'3.Learnt,
+  Reads'7.Asked,
+  Reads'7.Learnt,
+) Reads''.Pre Reads''.Post
 
 abbrev pub After-slice-known4 : Type 0
 After-slice-known4 = Lts.After-slice-known4 (
@@ -746,21 +746,21 @@ After-slice-known4 = Lts.After-slice-known4 (
   Reads.Learnt,
   Reads'.Asked,
   Reads'.Learnt,
-  Reads'7.Asked,
-  Reads'7.Learnt,
-  Reads'6.Asked,
-  Reads'6.Learnt,
-  Reads''.Asked,
-  Reads''.Learnt,
-  Reads'9.Asked,
-  Reads'9.Learnt,
   Reads'5.Asked,
   Reads'5.Learnt,
   Reads'4.Asked,
   Reads'4.Learnt,
+  Reads'6.Asked,
+  Reads'6.Learnt,
   Reads'8.Asked,
   Reads'8.Learnt,
-) Reads'3.Pre Reads'3.Post
+  Reads'9.Asked,
+  Reads'9.Learnt,
+  Reads'3.Asked,
+  Reads'3.Learnt,
+  Reads'7.Asked,
+  Reads'7.Learnt,
+) Reads''.Pre Reads''.Post
 
 abbrev pub Need-is-bad-requires : Type 0
 Need-is-bad-requires = Lts.Need-is-bad-requires (
@@ -768,21 +768,21 @@ Need-is-bad-requires = Lts.Need-is-bad-requires (
   Reads.Learnt,
   Reads'.Asked,
   Reads'.Learnt,
-  Reads'7.Asked,
-  Reads'7.Learnt,
-  Reads'6.Asked,
-  Reads'6.Learnt,
-  Reads''.Asked,
-  Reads''.Learnt,
-  Reads'9.Asked,
-  Reads'9.Learnt,
   Reads'5.Asked,
   Reads'5.Learnt,
   Reads'4.Asked,
   Reads'4.Learnt,
+  Reads'6.Asked,
+  Reads'6.Learnt,
   Reads'8.Asked,
   Reads'8.Learnt,
-) Reads'3.Pre Reads'3.Post
+  Reads'9.Asked,
+  Reads'9.Learnt,
+  Reads'3.Asked,
+  Reads'3.Learnt,
+  Reads'7.Asked,
+  Reads'7.Learnt,
+) Reads''.Pre Reads''.Post
 
 abbrev pub Need-bad-call-requires : Type 0
 Need-bad-call-requires = Lts.Need-bad-call-requires (
@@ -790,21 +790,21 @@ Need-bad-call-requires = Lts.Need-bad-call-requires (
   Reads.Learnt,
   Reads'.Asked,
   Reads'.Learnt,
-  Reads'7.Asked,
-  Reads'7.Learnt,
-  Reads'6.Asked,
-  Reads'6.Learnt,
-  Reads''.Asked,
-  Reads''.Learnt,
-  Reads'9.Asked,
-  Reads'9.Learnt,
   Reads'5.Asked,
   Reads'5.Learnt,
   Reads'4.Asked,
   Reads'4.Learnt,
+  Reads'6.Asked,
+  Reads'6.Learnt,
   Reads'8.Asked,
   Reads'8.Learnt,
-) Reads'3.Pre Reads'3.Post
+  Reads'9.Asked,
+  Reads'9.Learnt,
+  Reads'3.Asked,
+  Reads'3.Learnt,
+  Reads'7.Asked,
+  Reads'7.Learnt,
+) Reads''.Pre Reads''.Post
 
 abbrev pub Need-refused-requires : Type 0
 Need-refused-requires = Lts.Need-refused-requires (
@@ -812,21 +812,21 @@ Need-refused-requires = Lts.Need-refused-requires (
   Reads.Learnt,
   Reads'.Asked,
   Reads'.Learnt,
-  Reads'7.Asked,
-  Reads'7.Learnt,
-  Reads'6.Asked,
-  Reads'6.Learnt,
-  Reads''.Asked,
-  Reads''.Learnt,
-  Reads'9.Asked,
-  Reads'9.Learnt,
   Reads'5.Asked,
   Reads'5.Learnt,
   Reads'4.Asked,
   Reads'4.Learnt,
+  Reads'6.Asked,
+  Reads'6.Learnt,
   Reads'8.Asked,
   Reads'8.Learnt,
-) Reads'3.Pre Reads'3.Post
+  Reads'9.Asked,
+  Reads'9.Learnt,
+  Reads'3.Asked,
+  Reads'3.Learnt,
+  Reads'7.Asked,
+  Reads'7.Learnt,
+) Reads''.Pre Reads''.Post
 
 abbrev pub Need-returns : Type 0
 Need-returns = Lts.Need-returns (
@@ -834,21 +834,21 @@ Need-returns = Lts.Need-returns (
   Reads.Learnt,
   Reads'.Asked,
   Reads'.Learnt,
-  Reads'7.Asked,
-  Reads'7.Learnt,
-  Reads'6.Asked,
-  Reads'6.Learnt,
-  Reads''.Asked,
-  Reads''.Learnt,
-  Reads'9.Asked,
-  Reads'9.Learnt,
   Reads'5.Asked,
   Reads'5.Learnt,
   Reads'4.Asked,
   Reads'4.Learnt,
+  Reads'6.Asked,
+  Reads'6.Learnt,
   Reads'8.Asked,
   Reads'8.Learnt,
-) Reads'3.Pre Reads'3.Post
+  Reads'9.Asked,
+  Reads'9.Learnt,
+  Reads'3.Asked,
+  Reads'3.Learnt,
+  Reads'7.Asked,
+  Reads'7.Learnt,
+) Reads''.Pre Reads''.Post
 
 abbrev pub Need-gather-requires : Type 0
 Need-gather-requires = Lts.Need-gather-requires (
@@ -856,21 +856,21 @@ Need-gather-requires = Lts.Need-gather-requires (
   Reads.Learnt,
   Reads'.Asked,
   Reads'.Learnt,
-  Reads'7.Asked,
-  Reads'7.Learnt,
-  Reads'6.Asked,
-  Reads'6.Learnt,
-  Reads''.Asked,
-  Reads''.Learnt,
-  Reads'9.Asked,
-  Reads'9.Learnt,
   Reads'5.Asked,
   Reads'5.Learnt,
   Reads'4.Asked,
   Reads'4.Learnt,
+  Reads'6.Asked,
+  Reads'6.Learnt,
   Reads'8.Asked,
   Reads'8.Learnt,
-) Reads'3.Pre Reads'3.Post
+  Reads'9.Asked,
+  Reads'9.Learnt,
+  Reads'3.Asked,
+  Reads'3.Learnt,
+  Reads'7.Asked,
+  Reads'7.Learnt,
+) Reads''.Pre Reads''.Post
 
 abbrev pub Need-is-bad-start-requires : Type 0
 Need-is-bad-start-requires = Lts.Need-is-bad-start-requires (
@@ -878,21 +878,21 @@ Need-is-bad-start-requires = Lts.Need-is-bad-start-requires (
   Reads.Learnt,
   Reads'.Asked,
   Reads'.Learnt,
-  Reads'7.Asked,
-  Reads'7.Learnt,
-  Reads'6.Asked,
-  Reads'6.Learnt,
-  Reads''.Asked,
-  Reads''.Learnt,
-  Reads'9.Asked,
-  Reads'9.Learnt,
   Reads'5.Asked,
   Reads'5.Learnt,
   Reads'4.Asked,
   Reads'4.Learnt,
+  Reads'6.Asked,
+  Reads'6.Learnt,
   Reads'8.Asked,
   Reads'8.Learnt,
-) Reads'3.Pre Reads'3.Post
+  Reads'9.Asked,
+  Reads'9.Learnt,
+  Reads'3.Asked,
+  Reads'3.Learnt,
+  Reads'7.Asked,
+  Reads'7.Learnt,
+) Reads''.Pre Reads''.Post
 
 abbrev pub Need-bad-call-requires-2 : Type 0
 Need-bad-call-requires-2 = Lts.Need-bad-call-requires-2 (
@@ -900,21 +900,21 @@ Need-bad-call-requires-2 = Lts.Need-bad-call-requires-2 (
   Reads.Learnt,
   Reads'.Asked,
   Reads'.Learnt,
-  Reads'7.Asked,
-  Reads'7.Learnt,
-  Reads'6.Asked,
-  Reads'6.Learnt,
-  Reads''.Asked,
-  Reads''.Learnt,
-  Reads'9.Asked,
-  Reads'9.Learnt,
   Reads'5.Asked,
   Reads'5.Learnt,
   Reads'4.Asked,
   Reads'4.Learnt,
+  Reads'6.Asked,
+  Reads'6.Learnt,
   Reads'8.Asked,
   Reads'8.Learnt,
-) Reads'3.Pre Reads'3.Post
+  Reads'9.Asked,
+  Reads'9.Learnt,
+  Reads'3.Asked,
+  Reads'3.Learnt,
+  Reads'7.Asked,
+  Reads'7.Learnt,
+) Reads''.Pre Reads''.Post
 
 abbrev pub Need-refused-requires-2 : Type 0
 Need-refused-requires-2 = Lts.Need-refused-requires-2 (
@@ -922,21 +922,21 @@ Need-refused-requires-2 = Lts.Need-refused-requires-2 (
   Reads.Learnt,
   Reads'.Asked,
   Reads'.Learnt,
-  Reads'7.Asked,
-  Reads'7.Learnt,
-  Reads'6.Asked,
-  Reads'6.Learnt,
-  Reads''.Asked,
-  Reads''.Learnt,
-  Reads'9.Asked,
-  Reads'9.Learnt,
   Reads'5.Asked,
   Reads'5.Learnt,
   Reads'4.Asked,
   Reads'4.Learnt,
+  Reads'6.Asked,
+  Reads'6.Learnt,
   Reads'8.Asked,
   Reads'8.Learnt,
-) Reads'3.Pre Reads'3.Post
+  Reads'9.Asked,
+  Reads'9.Learnt,
+  Reads'3.Asked,
+  Reads'3.Learnt,
+  Reads'7.Asked,
+  Reads'7.Learnt,
+) Reads''.Pre Reads''.Post
 
 abbrev pub Need-returns-2 : Type 0
 Need-returns-2 = Lts.Need-returns-2 (
@@ -944,21 +944,21 @@ Need-returns-2 = Lts.Need-returns-2 (
   Reads.Learnt,
   Reads'.Asked,
   Reads'.Learnt,
-  Reads'7.Asked,
-  Reads'7.Learnt,
-  Reads'6.Asked,
-  Reads'6.Learnt,
-  Reads''.Asked,
-  Reads''.Learnt,
-  Reads'9.Asked,
-  Reads'9.Learnt,
   Reads'5.Asked,
   Reads'5.Learnt,
   Reads'4.Asked,
   Reads'4.Learnt,
+  Reads'6.Asked,
+  Reads'6.Learnt,
   Reads'8.Asked,
   Reads'8.Learnt,
-) Reads'3.Pre Reads'3.Post
+  Reads'9.Asked,
+  Reads'9.Learnt,
+  Reads'3.Asked,
+  Reads'3.Learnt,
+  Reads'7.Asked,
+  Reads'7.Learnt,
+) Reads''.Pre Reads''.Post
 
 abbrev pub Need-is-wrong-requires : Type 0
 Need-is-wrong-requires = Lts.Need-is-wrong-requires (
@@ -966,21 +966,21 @@ Need-is-wrong-requires = Lts.Need-is-wrong-requires (
   Reads.Learnt,
   Reads'.Asked,
   Reads'.Learnt,
-  Reads'7.Asked,
-  Reads'7.Learnt,
-  Reads'6.Asked,
-  Reads'6.Learnt,
-  Reads''.Asked,
-  Reads''.Learnt,
-  Reads'9.Asked,
-  Reads'9.Learnt,
   Reads'5.Asked,
   Reads'5.Learnt,
   Reads'4.Asked,
   Reads'4.Learnt,
+  Reads'6.Asked,
+  Reads'6.Learnt,
   Reads'8.Asked,
   Reads'8.Learnt,
-) Reads'3.Pre Reads'3.Post
+  Reads'9.Asked,
+  Reads'9.Learnt,
+  Reads'3.Asked,
+  Reads'3.Learnt,
+  Reads'7.Asked,
+  Reads'7.Learnt,
+) Reads''.Pre Reads''.Post
 
 abbrev pub Need-wrong-state-requires : Type 0
 Need-wrong-state-requires = Lts.Need-wrong-state-requires (
@@ -988,21 +988,21 @@ Need-wrong-state-requires = Lts.Need-wrong-state-requires (
   Reads.Learnt,
   Reads'.Asked,
   Reads'.Learnt,
-  Reads'7.Asked,
-  Reads'7.Learnt,
-  Reads'6.Asked,
-  Reads'6.Learnt,
-  Reads''.Asked,
-  Reads''.Learnt,
-  Reads'9.Asked,
-  Reads'9.Learnt,
   Reads'5.Asked,
   Reads'5.Learnt,
   Reads'4.Asked,
   Reads'4.Learnt,
+  Reads'6.Asked,
+  Reads'6.Learnt,
   Reads'8.Asked,
   Reads'8.Learnt,
-) Reads'3.Pre Reads'3.Post
+  Reads'9.Asked,
+  Reads'9.Learnt,
+  Reads'3.Asked,
+  Reads'3.Learnt,
+  Reads'7.Asked,
+  Reads'7.Learnt,
+) Reads''.Pre Reads''.Post
 
 abbrev pub Need-refused-requires-3 : Type 0
 Need-refused-requires-3 = Lts.Need-refused-requires-3 (
@@ -1010,21 +1010,21 @@ Need-refused-requires-3 = Lts.Need-refused-requires-3 (
   Reads.Learnt,
   Reads'.Asked,
   Reads'.Learnt,
-  Reads'7.Asked,
-  Reads'7.Learnt,
-  Reads'6.Asked,
-  Reads'6.Learnt,
-  Reads''.Asked,
-  Reads''.Learnt,
-  Reads'9.Asked,
-  Reads'9.Learnt,
   Reads'5.Asked,
   Reads'5.Learnt,
   Reads'4.Asked,
   Reads'4.Learnt,
+  Reads'6.Asked,
+  Reads'6.Learnt,
   Reads'8.Asked,
   Reads'8.Learnt,
-) Reads'3.Pre Reads'3.Post
+  Reads'9.Asked,
+  Reads'9.Learnt,
+  Reads'3.Asked,
+  Reads'3.Learnt,
+  Reads'7.Asked,
+  Reads'7.Learnt,
+) Reads''.Pre Reads''.Post
 
 abbrev pub Need-same-length : Type 0
 Need-same-length = Lts.Need-same-length (
@@ -1032,21 +1032,21 @@ Need-same-length = Lts.Need-same-length (
   Reads.Learnt,
   Reads'.Asked,
   Reads'.Learnt,
-  Reads'7.Asked,
-  Reads'7.Learnt,
-  Reads'6.Asked,
-  Reads'6.Learnt,
-  Reads''.Asked,
-  Reads''.Learnt,
-  Reads'9.Asked,
-  Reads'9.Learnt,
   Reads'5.Asked,
   Reads'5.Learnt,
   Reads'4.Asked,
   Reads'4.Learnt,
+  Reads'6.Asked,
+  Reads'6.Learnt,
   Reads'8.Asked,
   Reads'8.Learnt,
-) Reads'3.Pre Reads'3.Post
+  Reads'9.Asked,
+  Reads'9.Learnt,
+  Reads'3.Asked,
+  Reads'3.Learnt,
+  Reads'7.Asked,
+  Reads'7.Learnt,
+) Reads''.Pre Reads''.Post
 
 abbrev pub Need-same-length-2 : Type 0
 Need-same-length-2 = Lts.Need-same-length-2 (
@@ -1054,21 +1054,21 @@ Need-same-length-2 = Lts.Need-same-length-2 (
   Reads.Learnt,
   Reads'.Asked,
   Reads'.Learnt,
-  Reads'7.Asked,
-  Reads'7.Learnt,
-  Reads'6.Asked,
-  Reads'6.Learnt,
-  Reads''.Asked,
-  Reads''.Learnt,
-  Reads'9.Asked,
-  Reads'9.Learnt,
   Reads'5.Asked,
   Reads'5.Learnt,
   Reads'4.Asked,
   Reads'4.Learnt,
+  Reads'6.Asked,
+  Reads'6.Learnt,
   Reads'8.Asked,
   Reads'8.Learnt,
-) Reads'3.Pre Reads'3.Post
+  Reads'9.Asked,
+  Reads'9.Learnt,
+  Reads'3.Asked,
+  Reads'3.Learnt,
+  Reads'7.Asked,
+  Reads'7.Learnt,
+) Reads''.Pre Reads''.Post
 
 abbrev pub Need-returns-3 : Type 0
 Need-returns-3 = Lts.Need-returns-3 (
@@ -1076,21 +1076,21 @@ Need-returns-3 = Lts.Need-returns-3 (
   Reads.Learnt,
   Reads'.Asked,
   Reads'.Learnt,
-  Reads'7.Asked,
-  Reads'7.Learnt,
-  Reads'6.Asked,
-  Reads'6.Learnt,
-  Reads''.Asked,
-  Reads''.Learnt,
-  Reads'9.Asked,
-  Reads'9.Learnt,
   Reads'5.Asked,
   Reads'5.Learnt,
   Reads'4.Asked,
   Reads'4.Learnt,
+  Reads'6.Asked,
+  Reads'6.Learnt,
   Reads'8.Asked,
   Reads'8.Learnt,
-) Reads'3.Pre Reads'3.Post
+  Reads'9.Asked,
+  Reads'9.Learnt,
+  Reads'3.Asked,
+  Reads'3.Learnt,
+  Reads'7.Asked,
+  Reads'7.Learnt,
+) Reads''.Pre Reads''.Post
 
 abbrev pub Need-targets-of-requires : Type 0
 Need-targets-of-requires = Lts.Need-targets-of-requires (
@@ -1098,21 +1098,21 @@ Need-targets-of-requires = Lts.Need-targets-of-requires (
   Reads.Learnt,
   Reads'.Asked,
   Reads'.Learnt,
-  Reads'7.Asked,
-  Reads'7.Learnt,
-  Reads'6.Asked,
-  Reads'6.Learnt,
-  Reads''.Asked,
-  Reads''.Learnt,
-  Reads'9.Asked,
-  Reads'9.Learnt,
   Reads'5.Asked,
   Reads'5.Learnt,
   Reads'4.Asked,
   Reads'4.Learnt,
+  Reads'6.Asked,
+  Reads'6.Learnt,
   Reads'8.Asked,
   Reads'8.Learnt,
-) Reads'3.Pre Reads'3.Post
+  Reads'9.Asked,
+  Reads'9.Learnt,
+  Reads'3.Asked,
+  Reads'3.Learnt,
+  Reads'7.Asked,
+  Reads'7.Learnt,
+) Reads''.Pre Reads''.Post
 
 abbrev pub Need-take-start-requires : Type 0
 Need-take-start-requires = Lts.Need-take-start-requires (
@@ -1120,21 +1120,21 @@ Need-take-start-requires = Lts.Need-take-start-requires (
   Reads.Learnt,
   Reads'.Asked,
   Reads'.Learnt,
-  Reads'7.Asked,
-  Reads'7.Learnt,
-  Reads'6.Asked,
-  Reads'6.Learnt,
-  Reads''.Asked,
-  Reads''.Learnt,
-  Reads'9.Asked,
-  Reads'9.Learnt,
   Reads'5.Asked,
   Reads'5.Learnt,
   Reads'4.Asked,
   Reads'4.Learnt,
+  Reads'6.Asked,
+  Reads'6.Learnt,
   Reads'8.Asked,
   Reads'8.Learnt,
-) Reads'3.Pre Reads'3.Post
+  Reads'9.Asked,
+  Reads'9.Learnt,
+  Reads'3.Asked,
+  Reads'3.Learnt,
+  Reads'7.Asked,
+  Reads'7.Learnt,
+) Reads''.Pre Reads''.Post
 
 abbrev pub Need-same-length-3 : Type 0
 Need-same-length-3 = Lts.Need-same-length-3 (
@@ -1142,21 +1142,21 @@ Need-same-length-3 = Lts.Need-same-length-3 (
   Reads.Learnt,
   Reads'.Asked,
   Reads'.Learnt,
-  Reads'7.Asked,
-  Reads'7.Learnt,
-  Reads'6.Asked,
-  Reads'6.Learnt,
-  Reads''.Asked,
-  Reads''.Learnt,
-  Reads'9.Asked,
-  Reads'9.Learnt,
   Reads'5.Asked,
   Reads'5.Learnt,
   Reads'4.Asked,
   Reads'4.Learnt,
+  Reads'6.Asked,
+  Reads'6.Learnt,
   Reads'8.Asked,
   Reads'8.Learnt,
-) Reads'3.Pre Reads'3.Post
+  Reads'9.Asked,
+  Reads'9.Learnt,
+  Reads'3.Asked,
+  Reads'3.Learnt,
+  Reads'7.Asked,
+  Reads'7.Learnt,
+) Reads''.Pre Reads''.Post
 
 abbrev pub Need-same-length-4 : Type 0
 Need-same-length-4 = Lts.Need-same-length-4 (
@@ -1164,21 +1164,21 @@ Need-same-length-4 = Lts.Need-same-length-4 (
   Reads.Learnt,
   Reads'.Asked,
   Reads'.Learnt,
-  Reads'7.Asked,
-  Reads'7.Learnt,
-  Reads'6.Asked,
-  Reads'6.Learnt,
-  Reads''.Asked,
-  Reads''.Learnt,
-  Reads'9.Asked,
-  Reads'9.Learnt,
   Reads'5.Asked,
   Reads'5.Learnt,
   Reads'4.Asked,
   Reads'4.Learnt,
+  Reads'6.Asked,
+  Reads'6.Learnt,
   Reads'8.Asked,
   Reads'8.Learnt,
-) Reads'3.Pre Reads'3.Post
+  Reads'9.Asked,
+  Reads'9.Learnt,
+  Reads'3.Asked,
+  Reads'3.Learnt,
+  Reads'7.Asked,
+  Reads'7.Learnt,
+) Reads''.Pre Reads''.Post
 
 abbrev pub Need-same-length-5 : Type 0
 Need-same-length-5 = Lts.Need-same-length-5 (
@@ -1186,21 +1186,21 @@ Need-same-length-5 = Lts.Need-same-length-5 (
   Reads.Learnt,
   Reads'.Asked,
   Reads'.Learnt,
-  Reads'7.Asked,
-  Reads'7.Learnt,
-  Reads'6.Asked,
-  Reads'6.Learnt,
-  Reads''.Asked,
-  Reads''.Learnt,
-  Reads'9.Asked,
-  Reads'9.Learnt,
   Reads'5.Asked,
   Reads'5.Learnt,
   Reads'4.Asked,
   Reads'4.Learnt,
+  Reads'6.Asked,
+  Reads'6.Learnt,
   Reads'8.Asked,
   Reads'8.Learnt,
-) Reads'3.Pre Reads'3.Post
+  Reads'9.Asked,
+  Reads'9.Learnt,
+  Reads'3.Asked,
+  Reads'3.Learnt,
+  Reads'7.Asked,
+  Reads'7.Learnt,
+) Reads''.Pre Reads''.Post
 
 abbrev pub Need-same-length-6 : Type 0
 Need-same-length-6 = Lts.Need-same-length-6 (
@@ -1208,21 +1208,21 @@ Need-same-length-6 = Lts.Need-same-length-6 (
   Reads.Learnt,
   Reads'.Asked,
   Reads'.Learnt,
-  Reads'7.Asked,
-  Reads'7.Learnt,
-  Reads'6.Asked,
-  Reads'6.Learnt,
-  Reads''.Asked,
-  Reads''.Learnt,
-  Reads'9.Asked,
-  Reads'9.Learnt,
   Reads'5.Asked,
   Reads'5.Learnt,
   Reads'4.Asked,
   Reads'4.Learnt,
+  Reads'6.Asked,
+  Reads'6.Learnt,
   Reads'8.Asked,
   Reads'8.Learnt,
-) Reads'3.Pre Reads'3.Post
+  Reads'9.Asked,
+  Reads'9.Learnt,
+  Reads'3.Asked,
+  Reads'3.Learnt,
+  Reads'7.Asked,
+  Reads'7.Learnt,
+) Reads''.Pre Reads''.Post
 
 abbrev pub Need-returns-4 : Type 0
 Need-returns-4 = Lts.Need-returns-4 (
@@ -1230,21 +1230,21 @@ Need-returns-4 = Lts.Need-returns-4 (
   Reads.Learnt,
   Reads'.Asked,
   Reads'.Learnt,
-  Reads'7.Asked,
-  Reads'7.Learnt,
-  Reads'6.Asked,
-  Reads'6.Learnt,
-  Reads''.Asked,
-  Reads''.Learnt,
-  Reads'9.Asked,
-  Reads'9.Learnt,
   Reads'5.Asked,
   Reads'5.Learnt,
   Reads'4.Asked,
   Reads'4.Learnt,
+  Reads'6.Asked,
+  Reads'6.Learnt,
   Reads'8.Asked,
   Reads'8.Learnt,
-) Reads'3.Pre Reads'3.Post
+  Reads'9.Asked,
+  Reads'9.Learnt,
+  Reads'3.Asked,
+  Reads'3.Learnt,
+  Reads'7.Asked,
+  Reads'7.Learnt,
+) Reads''.Pre Reads''.Post
 
 module _ {M : Type 1} where
   pub spec :
@@ -1275,21 +1275,21 @@ module _ {M : Type 1} where
         Reads.Learnt,
         Reads'.Asked,
         Reads'.Learnt,
-        Reads'7.Asked,
-        Reads'7.Learnt,
-        Reads'6.Asked,
-        Reads'6.Learnt,
-        Reads''.Asked,
-        Reads''.Learnt,
-        Reads'9.Asked,
-        Reads'9.Learnt,
         Reads'5.Asked,
         Reads'5.Learnt,
         Reads'4.Asked,
         Reads'4.Learnt,
+        Reads'6.Asked,
+        Reads'6.Learnt,
         Reads'8.Asked,
         Reads'8.Learnt,
-      ) Reads'3.Pre Reads'3.Post M
+        Reads'9.Asked,
+        Reads'9.Learnt,
+        Reads'3.Asked,
+        Reads'3.Learnt,
+        Reads'7.Asked,
+        Reads'7.Learnt,
+      ) Reads''.Pre Reads''.Post M
   spec =
       λ answer answer' answer'' answer'3 answer'4 answer'5 answer'6 answer'7 answer'8 answer'9
       answer'10 answer'11 answer'12 answer'13 answer'14 answer'15 answer'16 answer'17 answer'18
@@ -1298,23 +1298,23 @@ module _ {M : Type 1} where
         Reads.Learnt,
         Reads'.Asked,
         Reads'.Learnt,
-        Reads'7.Asked,
-        Reads'7.Learnt,
-        Reads'6.Asked,
-        Reads'6.Learnt,
-        Reads''.Asked,
-        Reads''.Learnt,
-        Reads'9.Asked,
-        Reads'9.Learnt,
         Reads'5.Asked,
         Reads'5.Learnt,
         Reads'4.Asked,
         Reads'4.Learnt,
+        Reads'6.Asked,
+        Reads'6.Learnt,
         Reads'8.Asked,
         Reads'8.Learnt,
+        Reads'9.Asked,
+        Reads'9.Learnt,
+        Reads'3.Asked,
+        Reads'3.Learnt,
+        Reads'7.Asked,
+        Reads'7.Learnt,
       )
-      Reads'3.Pre
-      Reads'3.Post
+      Reads''.Pre
+      Reads''.Post
       answer
       answer'
       answer''
@@ -1343,42 +1343,42 @@ module _ {M : Type 1} where
     Reads.Learnt,
     Reads'.Asked,
     Reads'.Learnt,
-    Reads'7.Asked,
-    Reads'7.Learnt,
-    Reads'6.Asked,
-    Reads'6.Learnt,
-    Reads''.Asked,
-    Reads''.Learnt,
-    Reads'9.Asked,
-    Reads'9.Learnt,
     Reads'5.Asked,
     Reads'5.Learnt,
     Reads'4.Asked,
     Reads'4.Learnt,
+    Reads'6.Asked,
+    Reads'6.Learnt,
     Reads'8.Asked,
     Reads'8.Learnt,
-  ) Reads'3.Pre Reads'3.Post M → Statement.statement M
+    Reads'9.Asked,
+    Reads'9.Learnt,
+    Reads'3.Asked,
+    Reads'3.Learnt,
+    Reads'7.Asked,
+    Reads'7.Learnt,
+  ) Reads''.Pre Reads''.Post M → Statement.statement M
   unfolding Code.routine Running.tablesOf
   close =
       λ closed 𝓤 H 𝓜 𝓖 𝓡. Written.close
       5
       Kinds.ps
       Kinds.r
-      Reads'3.Ghost
-      Reads'3.requires
-      Reads'3.ensures
-      Reads'3.pre-read
-      Reads'3.Pinned
-      Reads'3.Owned
-      Reads'3.post-read
+      Reads''.Ghost
+      Reads''.requires
+      Reads''.ensures
+      Reads''.pre-read
+      Reads''.Pinned
+      Reads''.Owned
+      Reads''.post-read
       record { M = M; 𝓤 = 𝓤; H = H; 𝓜 = 𝓜; 𝓖 = 𝓖; 𝓡 = 𝓡 }
       Code.env
       Key.name
       Code.function
       (Code.unfolded 𝓤 H 𝓜 𝓡)
       (λ κs a g. tt)
-      (λ κs. Reads'3.owns κs record { M = M; 𝓤 = 𝓤; H = H; 𝓜 = 𝓜; 𝓖 = 𝓖; 𝓡 = 𝓡 })
-      (Reads'3.passes record { M = M; 𝓤 = 𝓤; H = H; 𝓜 = 𝓜; 𝓖 = 𝓖; 𝓡 = 𝓡 })
+      (λ κs. Reads''.owns κs record { M = M; 𝓤 = 𝓤; H = H; 𝓜 = 𝓜; 𝓖 = 𝓖; 𝓡 = 𝓡 })
+      (Reads''.passes record { M = M; 𝓤 = 𝓤; H = H; 𝓜 = 𝓜; 𝓖 = 𝓖; 𝓡 = 𝓡 })
       λ g. closed
       𝓤
       H
@@ -1399,52 +1399,52 @@ module _ {M : Type 1} where
       Symbol'.routine
       Code.calls-calls·bad-call
       (Met'.met 𝓤 H 𝓜 𝓖 𝓡))
-      (Reads'7.known
-      record { M = M; 𝓤 = 𝓤; H = H; 𝓜 = 𝓜; 𝓖 = 𝓖; 𝓡 = 𝓡 }
-      Code.env
-      Symbol'6.name
-      Symbol'6.routine
-      Code.calls-outcome·refused
-      (Met'6.met 𝓤 H 𝓜 𝓖 𝓡))
-      (Reads'6.known
-      record { M = M; 𝓤 = 𝓤; H = H; 𝓜 = 𝓜; 𝓖 = 𝓖; 𝓡 = 𝓡 }
-      Code.env
-      Symbol'5.name
-      Symbol'5.routine
-      Code.calls-gather·gather
-      (Met'5.met 𝓤 H 𝓜 𝓖 𝓡))
-      (Reads''.known
-      record { M = M; 𝓤 = 𝓤; H = H; 𝓜 = 𝓜; 𝓖 = 𝓖; 𝓡 = 𝓡 }
-      Code.env
-      Symbol''.name
-      Symbol''.routine
-      Code.calls-calls·is-bad-start
-      (Met''.met 𝓤 H 𝓜 𝓖 𝓡))
-      (Reads'9.known
-      record { M = M; 𝓤 = 𝓤; H = H; 𝓜 = 𝓜; 𝓖 = 𝓖; 𝓡 = 𝓡 }
-      Code.env
-      Symbol'8.name
-      Symbol'8.routine
-      Code.calls-wrong-state·is-wrong
-      (Met'8.met 𝓤 H 𝓜 𝓖 𝓡))
       (Reads'5.known
       record { M = M; 𝓤 = 𝓤; H = H; 𝓜 = 𝓜; 𝓖 = 𝓖; 𝓡 = 𝓡 }
       Code.env
       Symbol'4.name
       Symbol'4.routine
-      Code.calls-calls·wrong-state
+      Code.calls-outcome·refused
       (Met'4.met 𝓤 H 𝓜 𝓖 𝓡))
       (Reads'4.known
       record { M = M; 𝓤 = 𝓤; H = H; 𝓜 = 𝓜; 𝓖 = 𝓖; 𝓡 = 𝓡 }
       Code.env
       Symbol'3.name
       Symbol'3.routine
-      Code.calls-calls·targets-of
+      Code.calls-gather·gather
       (Met'3.met 𝓤 H 𝓜 𝓖 𝓡))
+      (Reads'6.known
+      record { M = M; 𝓤 = 𝓤; H = H; 𝓜 = 𝓜; 𝓖 = 𝓖; 𝓡 = 𝓡 }
+      Code.env
+      Symbol'5.name
+      Symbol'5.routine
+      Code.calls-start-taken·is-bad-start
+      (Met'5.met 𝓤 H 𝓜 𝓖 𝓡))
       (Reads'8.known
       record { M = M; 𝓤 = 𝓤; H = H; 𝓜 = 𝓜; 𝓖 = 𝓖; 𝓡 = 𝓡 }
       Code.env
       Symbol'7.name
       Symbol'7.routine
-      Code.calls-start-taken·take-start
+      Code.calls-wrong-state·is-wrong
       (Met'7.met 𝓤 H 𝓜 𝓖 𝓡))
+      (Reads'9.known
+      record { M = M; 𝓤 = 𝓤; H = H; 𝓜 = 𝓜; 𝓖 = 𝓖; 𝓡 = 𝓡 }
+      Code.env
+      Symbol'8.name
+      Symbol'8.routine
+      Code.calls-wrong-state·wrong-state
+      (Met'8.met 𝓤 H 𝓜 𝓖 𝓡))
+      (Reads'3.known
+      record { M = M; 𝓤 = 𝓤; H = H; 𝓜 = 𝓜; 𝓖 = 𝓖; 𝓡 = 𝓡 }
+      Code.env
+      Symbol''.name
+      Symbol''.routine
+      Code.calls-calls·targets-of
+      (Met''.met 𝓤 H 𝓜 𝓖 𝓡))
+      (Reads'7.known
+      record { M = M; 𝓤 = 𝓤; H = H; 𝓜 = 𝓜; 𝓖 = 𝓖; 𝓡 = 𝓡 }
+      Code.env
+      Symbol'6.name
+      Symbol'6.routine
+      Code.calls-start-taken·take-start
+      (Met'6.met 𝓤 H 𝓜 𝓖 𝓡))

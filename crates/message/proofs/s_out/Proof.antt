@@ -1,6 +1,6 @@
 use Rattle.message.specs.Message.{messageIn}
-use Rattle.request_stored.proofs.s_out.Statement.{statement}
-use Rattle.request_stored.proofs.s_out.Tie as tie
+use Rattle.message.proofs.s_out.Statement.{statement}
+use Rattle.message.proofs.s_out.Tie as tie
 
 returns : tie.Need-returns
 unfolding messageIn

@@ -1,6 +1,6 @@
-use Rattle.request.proofs.Rows.{delta-or}
-use Rattle.request_stored.proofs.delta_or_0.Statement.{statement}
-use Rattle.request_stored.proofs.delta_or_0.Tie as tie
+use Rattle.message.proofs.Laws.{delta-or}
+use Rattle.message.proofs.delta_or_0.Statement.{statement}
+use Rattle.message.proofs.delta_or_0.Tie as tie
 
 returns : tie.Need-returns
 returns c = rw (delta-or, c .if1 .taken)
