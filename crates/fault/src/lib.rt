@@ -1,12 +1,10 @@
-// What the octets of a message are refused for, each asked by itself (01, "Octets on the air"): 3, 4, 5 and 6.
+// What the octets of a message are refused for, each asked by itself (01, "Octets on the air"): 3, 4 and 6.
 ghost use mathlib.Core.Path.{_≡_};
 ghost use mathlib.Core.Bool.{_||_};
 ghost use mathlib.Core.List.{List};
 ghost use Prim.Native.Nat.{ℕ, _-_, _/_, _≤_};
 ghost use lib.Dec.{ltb};
-ghost use lib.ListN.{length};
-ghost use Rattle.plain.specs.Address.{unusable};
-ghost use Rattle.plain.specs.Octets.{optionsOf, requestCounts, replyCounts, malformed, unfit, baseOf};
+ghost use Rattle.plain.specs.Octets.{optionsOf, requestCounts, replyCounts, malformed, unfit};
 ghost use Rattle.scan.specs.Scanned.{Outlined, Scanned};
 use scan::Scan;
 
@@ -73,23 +71,6 @@ pub fn is_unfit(msg: &[u8], s: Scan) -> bool
         return false;
     }
     true
-}
-
-pub fn read_dodagid(msg: &[u8]) -> [u8; 16]
-    requires { ⌜ 24 ≤ length (now msg) ⌝ }
-    ensures { λ r. ⌜ r ≡ baseOf (now (msg .entry)) .dodagid ⌝ }
-{
-    let mut dodagid = [0u8; 16];
-    octets::put_over(&mut dodagid, 0, &msg[8..24]);
-    dodagid
-}
-
-// 5: the DODAGID is read for this by itself. One that is looked at octet by octet is kept octet by octet, and each copy of it waits.
-pub fn has_unusable_dodagid(msg: &[u8]) -> bool
-    requires { ⌜ 24 ≤ length (now msg) ⌝ }
-    ensures { λ r. ⌜ r ≡ unusable (baseOf (now (msg .entry)) .dodagid) ⌝ }
-{
-    unusable::is_unusable(read_dodagid(msg))
 }
 
 // Whether there are over 16 vector addresses or over 8 targets.

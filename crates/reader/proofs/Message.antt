@@ -1,16 +1,16 @@
 -- A message that is heard, and answers 5 and 6.
-use Prim.Native.Nat.{ℕ, zero, suc, _-_, _/_, _%_, _≤_, _<_}
+use Prim.Native.Nat.{ℕ, zero, suc, _-_, _/_, _≤_, _<_}
 use mathlib.Core.Path.{_≡_, refl, sym, ap, _∙_}
 use mathlib.Core.Bool.{true, false, _||_}
 use mathlib.Core.List.{List}
 use mathlib.Core.Option.{Option}
 use native.Mathlib.Omega.{arith}
-use lib.Dec.{eqb, ltb}
+use lib.Dec.{ltb}
 use lib.ListN.{length, take, drop, length-take, length-drop, length-map}
 use borrow.Author.Tests.{ltb-false, ne-eqb}
 use Rattle.lemmas.proofs.Choice.{or-left, or-right}
 use Rattle.plain.specs.Address.{Address, unusable}
-use Rattle.plain.specs.Octets.{octetAt, wordAt, optionsOf, ofType, artType, targetsOf, baseOf, fields, sum, parts, restored, addressOctets, routeBody, vectorOctets, comprOf, discoveryOf, messageOf, tooMany, malformed, unfit, hear}
+use Rattle.plain.specs.Octets.{optionsOf, ofType, artType, targetsOf, baseOf, parts, restored, addressOctets, routeBody, vectorOctets, comprOf, discoveryOf, messageOf, tooMany, malformed, unfit, hear}
 use Rattle.plain.specs.declared.Base.{Base}
 use Rattle.plain.specs.declared.Discovery.{Discovery}
 use Rattle.plain.specs.declared.Target.{Target}
@@ -22,23 +22,6 @@ use Rattle.reader.specs.declared.Refusal.{Refusal}
 use Rattle.reader.specs.Reading.{refusalNumber, messageRead, heardFrom, Bounded}
 use Rattle.reader.specs.Parts.{Filled}
 use Rattle.plain.specs.Octets as octets
-
--- ---- The base
-
-pub base-is : (msg d : List ℕ) (flags : ℕ) → flags ≡ octetAt msg 4 → flags < 256 → d ≡ take 16 (drop 8 msg)
-    → record {
-      instance = octetAt msg 0;
-      version = octetAt msg 1;
-      rank = wordAt msg 2;
-      g = eqb (flags / 128) 1;
-      prf = flags % 8;
-      dodagid = d;
-    } ≡ baseOf msg
-unfolding baseOf fields sum
-base-is msg d flags e h f =
-    let a : flags / 128 ≡ flags / 128 % 2 = omega arith in
-    let b : flags % 8 ≡ flags / 1 % 8 = omega arith in
-    rw (a, b, e, f)
 
 -- ---- The vector
 

@@ -4,7 +4,7 @@ use mathlib.Core.Path.{_≡_, _∙_}
 use mathlib.Core.List.{List}
 use native.Mathlib.Omega.{arith}
 use lib.ListN.{length, take, drop}
-use Rattle.fault.proofs.Part.{length-part}
+use Rattle.option.proofs.Part.{length-part}
 use Rattle.reader.specs.Reading.{Bounded}
 use Rattle.reader.specs.declared.Reading.{Reading}
 

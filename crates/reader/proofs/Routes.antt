@@ -18,7 +18,7 @@ use Rattle.scan.specs.declared.Scan.{Scan}
 use Rattle.scan.specs.Seen.{Right, Told}
 use Rattle.scan.specs.Scanned.{Outlined}
 use Rattle.reader.specs.Parts.{RouteAt}
-use Rattle.fault.proofs.Part.{length-part}
+use Rattle.option.proofs.Part.{length-part}
 use Rattle.fault.proofs.Counts.{request-is, reply-is, first-some}
 
 drop-take : {A : Type 0} (k n : ℕ) (xs : List A) → drop k (take n xs) ≡ take (n - k) (drop k xs)

@@ -2,9 +2,9 @@
 ghost use mathlib.Core.Path.{_≡_};
 ghost use mathlib.Core.Bool.{false};
 ghost use mathlib.Core.List.{List};
-ghost use Prim.Native.Nat.{ℕ, _≤_, _<_};
+ghost use Prim.Native.Nat.{ℕ, _<_};
 ghost use lib.ListN.{length};
-ghost use Rattle.plain.specs.Octets.{unfit, baseOf, hear};
+ghost use Rattle.plain.specs.Octets.{unfit, hear};
 ghost use Rattle.option.specs.Follows.{partOf};
 ghost use Rattle.scan.specs.Seen.{Told};
 ghost use Rattle.scan.specs.Scanned.{Outlined};
@@ -38,23 +38,6 @@ pub struct Reading {
     pub size: usize,
     pub count: usize,
     pub targets: [Target; 8],
-}
-
-// The base object.
-fn read_base(msg: &[u8]) -> Base
-    requires { ⌜ 24 ≤ length (now msg) ⌝ }
-    ensures { λ r. ⌜ r ≡ baseOf (now (msg .entry)) ⌝ }
-{
-    let flags = art::octet_at(msg, 4);
-    let dodagid = fault::read_dodagid(msg);
-    Base {
-        instance: art::octet_at(msg, 0),
-        version: art::octet_at(msg, 1),
-        rank: option_body::word_at(msg, 2),
-        g: flags / 128 == 1,
-        prf: flags % 8,
-        dodagid,
-    }
 }
 
 // The 14 octets of a Configuration, or zeros where there is none.
@@ -154,10 +137,10 @@ pub fn read(msg: &[u8]) -> Reading
     if fault::is_unfit(msg, s) {
         return refused(Refusal::Unfit);
     }
-    if fault::has_unusable_dodagid(msg) {
+    if base::has_unusable_dodagid(msg) {
         return refused(Refusal::Unusable);
     }
-    let base = read_base(msg);
+    let base = base::read_base(msg);
     let ts = arts::read_targets(msg);
     let r = fill(msg, s, base, ts);
     if fault::is_too_many(r.size, r.discovery.compr, ts.over) {

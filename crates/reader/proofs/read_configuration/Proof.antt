@@ -6,7 +6,7 @@ use Rattle.plain.specs.Octets.{configurationType}
 use Rattle.option.specs.Follows.{partOf}
 use Rattle.scan.specs.Seen.{Right}
 use Rattle.octets.proofs.Laws.{over-end}
-use Rattle.fault.proofs.Part.{length-part}
+use Rattle.option.proofs.Part.{length-part}
 use Rattle.reader.proofs.Routes.{configuration-size}
 use Rattle.reader.proofs.read_configuration.Statement.{statement}
 use Rattle.reader.proofs.read_configuration.Tie as tie

@@ -1,9 +1,9 @@
 use native.Mathlib.Omega.{arith}
 use borrow.Author.Needs.{needs}
 use Rattle.plain.specs.Octets.{baseOf}
-use Rattle.reader.proofs.Message.{base-is}
-use Rattle.reader.proofs.read_base.Statement.{statement}
-use Rattle.reader.proofs.read_base.Tie as tie
+use Rattle.base.proofs.Laws.{base-is}
+use Rattle.base.proofs.read_base.Statement.{statement}
+use Rattle.base.proofs.read_base.Tie as tie
 
 octet-at-requires : tie.Need-octet-at-requires
 octet-at-requires c κs = search needs

@@ -1,8 +1,8 @@
 use mathlib.Core.Path.{_∙_, ap}
 use Rattle.plain.specs.Address.{unusable}
 use borrow.Author.Needs.{needs}
-use Rattle.fault.proofs.has_unusable_dodagid.Statement.{statement}
-use Rattle.fault.proofs.has_unusable_dodagid.Tie as tie
+use Rattle.base.proofs.has_unusable_dodagid.Statement.{statement}
+use Rattle.base.proofs.has_unusable_dodagid.Tie as tie
 
 read-dodagid-requires : tie.Need-read-dodagid-requires
 read-dodagid-requires c κs = search needs

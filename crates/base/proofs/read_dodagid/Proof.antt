@@ -3,9 +3,9 @@ use native.Mathlib.Omega.{arith}
 use borrow.Author.Needs.{needs}
 use Rattle.octets.proofs.Laws.{over-end}
 use Rattle.plain.specs.Octets.{baseOf}
-use Rattle.fault.proofs.Part.{length-part}
-use Rattle.fault.proofs.read_dodagid.Statement.{statement}
-use Rattle.fault.proofs.read_dodagid.Tie as tie
+use Rattle.option.proofs.Part.{length-part}
+use Rattle.base.proofs.read_dodagid.Statement.{statement}
+use Rattle.base.proofs.read_dodagid.Tie as tie
 
 slice-aggregate-put-over : tie.Need-slice-aggregate-put-over
 slice-aggregate-put-over c = search needs
