@@ -142,8 +142,8 @@ pub fn take_reply(
     ensures { λ r. ⌜ Gives (enact t (stateOf clock seq (now (instances .entry)) (now (routes .entry))) (replyDecision (settingsOf o) (stateOf clock seq (now (instances .entry)) (now (routes .entry))) t (receivedBy k []) (messageIn (now (p .entry)) (now (vector .entry))))) (now (instances .entry)) (now (instances .exit)) (now (routes .entry)) (now (routes .exit)) (now (forward .entry)) (now (forward .exit)) (now (reply .entry)) (now (reply .exit)) r ⌝ }
 {
     addresses::whole(vector);
-    let number = reply::partner_number(*p);
-    let orig = reply::orig_node(*p);
+    let number = pairing::partner_number(*p);
+    let orig = pairing::orig_node(*p);
     let w = search::search_partner(instances, t, number, orig, h_of(*p));
     if is_found(w) {
         let dodagid = dodagid_of(*p);

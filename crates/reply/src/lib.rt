@@ -1,24 +1,22 @@
 // A received reply by value (01, "A reply"): the facts that it rests on, and whether its vector grows.
+ghost use Prim.Native.Nat.{_≤_};
+ghost use mathlib.Core.Path.{_≡_};
+ghost use mathlib.Core.Bool.{cond, true, not, _&&_};
+ghost use mathlib.Core.List.{List, []};
+ghost use Rattle.plain.specs.Address.{Address};
+ghost use Rattle.plain.specs.Rank.{ownRank};
+ghost use Rattle.plain.specs.Reply.{replyStanding, answeredWith, grows};
+ghost use Rattle.row.specs.Meaning.{requestOf};
+ghost use Rattle.message.specs.Message.{messageIn, receivedBy, replyFound, routeFound};
+ghost use Rattle.own.specs.Settings.{settingsOf};
+ghost use Rattle.reply.specs.Facts.{answeredOf, Gathered};
 use message::Found;
 use message::FoundRoute;
 use message::Link;
 use message::Parsed;
 use own::Own;
 use plain::Standing;
-use plain::Target;
 use row::InstanceRow;
-ghost use Prim.Native.Nat.{_≤_};
-ghost use mathlib.Core.Path.{_≡_};
-ghost use mathlib.Core.Bool.{cond, true, not, _&&_};
-ghost use mathlib.Core.List.{List, []};
-ghost use lib.ListN.{take};
-ghost use Rattle.plain.specs.Address.{Address};
-ghost use Rattle.plain.specs.Rank.{ownRank};
-ghost use Rattle.plain.specs.Reply.{onlyTarget, origNode, destSeq, partnerNumber, replyStanding, answeredWith, grows};
-ghost use Rattle.row.specs.Meaning.{requestOf};
-ghost use Rattle.message.specs.Message.{messageIn, receivedBy, replyFound, routeFound};
-ghost use Rattle.own.specs.Settings.{settingsOf};
-ghost use Rattle.reply.specs.Facts.{answeredOf, Gathered};
 
 // What the answer and the outcome of a reply rest on: the rows that the tables hold for it, whether it is symmetric, whether we are
 // OrigNode, our own rank, and how it stands to the live row. The rank is a sum that may not fit 16 bits.
@@ -31,49 +29,6 @@ pub struct ReplyFacts {
     pub rank: u32,
     pub standing: Standing,
 }
-
-// ---- The partner
-
-// A reply's one target. Without any it is all zero.
-fn only_target(count: usize, targets: [Target; 8]) -> Target
-    ensures { λ r. ⌜ r ≡ onlyTarget (take count targets) ⌝ }
-{
-    if count == 0 {
-        return Target {
-            seq: 0,
-            plen: 0,
-            addr: [0; 16],
-        };
-    }
-    targets[0]
-}
-
-// The address of OrigNode, which is the partner's DODAGID.
-pub fn orig_node(p: Parsed) -> [u8; 16]
-    ensures { λ r. ⌜ ((v : List Address) → r ≡ origNode (messageIn p v)) ⌝ }
-{
-    let targets = p.targets;
-    let t = only_target(p.count, targets);
-    t.addr
-}
-
-// Dest SeqNo.
-pub fn dest_seq(p: Parsed) -> u8
-    ensures { λ r. ⌜ ((v : List Address) → r ≡ destSeq (messageIn p v)) ⌝ }
-{
-    let targets = p.targets;
-    let t = only_target(p.count, targets);
-    t.seq
-}
-
-// The partner's RPLInstanceID.
-pub fn partner_number(p: Parsed) -> u8
-    ensures { λ r. ⌜ ((v : List Address) → r ≡ partnerNumber (messageIn p v)) ⌝ }
-{
-    sequence::minus_delta(p.base.instance, p.discovery.number)
-}
-
-// ---- The facts
 
 fn is_symmetric(k: Link, partner: InstanceRow) -> bool
     ensures { λ r. ⌜ r ≡ requestOf partner .s && not (k .group) ⌝ }
@@ -121,7 +76,7 @@ pub fn gather(
     let rank = own_rank(symmetric, p.base.rank, k.increase);
     let dodagid = partner.dodagid;
     let orig = own::is_ours(o, dodagid);
-    let seq = dest_seq(p);
+    let seq = pairing::dest_seq(p);
     let standing = how_it_stands(f, seq, rank);
     ReplyFacts {
         partner,

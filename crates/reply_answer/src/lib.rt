@@ -72,7 +72,7 @@ fn is_stale(p: Parsed, w: ReplyFacts) -> bool
         return true;
     }
     let g = w.route;
-    let seq = reply::dest_seq(p);
+    let seq = pairing::dest_seq(p);
     rule::is_route_stale(p.discovery.h, g, seq)
 }
 

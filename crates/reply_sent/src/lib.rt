@@ -50,7 +50,7 @@ fn next_node(o: Own, p: Parsed, vector: &[[u8; 16]; 16], w: ReplyFacts) -> [u8; 
         let partner = w.partner;
         return partner.neighbour;
     }
-    let first = reply::orig_node(p);
+    let first = pairing::orig_node(p);
     let receiving = o.receiving;
     path::address_before(first, receiving, p.n, vector)
 }

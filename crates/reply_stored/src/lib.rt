@@ -44,7 +44,7 @@ fn reply_row(t: u64, p: Parsed, w: ReplyFacts) -> InstanceRow
     ensures { λ r. ⌜ ((v : List Address) → r ≡ replyRecord (replyRow t (messageIn p v) (answeredOf w))) ⌝ }
 {
     let dodagid = p.base.dodagid;
-    let seq = reply::dest_seq(p);
+    let seq = pairing::dest_seq(p);
     let d = kept_deadline(t, p.discovery.l, w);
     row::reply_row(
         p.base.instance,
@@ -61,11 +61,11 @@ fn route(t: u64, k: Link, p: Parsed) -> RouteRow
     requires { ⌜ t ≤ 2 ^ 40 ⌝ }
     ensures { λ r. ⌜ ((v : List Address) → r ≡ routeRecord (replyRoute t (receivedBy k []) (messageIn p v))) ⌝ }
 {
-    let source = reply::orig_node(p);
+    let source = pairing::orig_node(p);
     let destination = p.base.dodagid;
-    let number = reply::partner_number(p);
+    let number = pairing::partner_number(p);
     let next = k.neighbour;
-    let seq = reply::dest_seq(p);
+    let seq = pairing::dest_seq(p);
     let configuration = p.configuration;
     rule::route(
         t,

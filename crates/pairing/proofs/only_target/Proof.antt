@@ -1,10 +1,10 @@
 use native.Mathlib.Omega.{arith}
 use lib.ListN.{length}
-use Rattle.reply.proofs.Laws.{only-first}
+use Rattle.pairing.proofs.Laws.{only-first}
 use mathlib.Core.Path.{_≡_, refl, sym}
 use borrow.Author.Needs.{needs}
-use Rattle.reply.proofs.only_target.Statement.{statement}
-use Rattle.reply.proofs.only_target.Tie as tie
+use Rattle.pairing.proofs.only_target.Statement.{statement}
+use Rattle.pairing.proofs.only_target.Tie as tie
 
 returns : tie.Need-returns
 returns c = rw (c .if1 .taken) refl

@@ -2,8 +2,8 @@ use Rattle.plain.specs.declared.Target.{Target}
 use Rattle.message.specs.Message.{messageIn}
 use mathlib.Core.Path.{ap}
 use borrow.Author.Needs.{needs}
-use Rattle.reply.proofs.orig_node.Statement.{statement}
-use Rattle.reply.proofs.orig_node.Tie as tie
+use Rattle.pairing.proofs.orig_node.Statement.{statement}
+use Rattle.pairing.proofs.orig_node.Tie as tie
 
 only-target-requires : tie.Need-only-target-requires
 only-target-requires c κs = search needs

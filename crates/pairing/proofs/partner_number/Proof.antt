@@ -1,7 +1,7 @@
 use Rattle.message.specs.Message.{messageIn}
 use borrow.Author.Needs.{needs}
-use Rattle.reply.proofs.partner_number.Statement.{statement}
-use Rattle.reply.proofs.partner_number.Tie as tie
+use Rattle.pairing.proofs.partner_number.Statement.{statement}
+use Rattle.pairing.proofs.partner_number.Tie as tie
 
 minus-delta-requires : tie.Need-minus-delta-requires
 minus-delta-requires c κs = search needs
