@@ -1,4 +1,4 @@
--- What a host's records mean, and what a call gives the host: the plain node's result, and its tally.
+-- What a host is told, and what a call gives it: the plain node's result, and its tally.
 use Prim.Native.Nat.{ℕ}
 use mathlib.Core.Path.{_≡_}
 use mathlib.Core.List.{List}
@@ -9,35 +9,11 @@ use Rattle.plain.specs.Given.{Destination}
 use Rattle.plain.specs.Plain as plain
 use Rattle.plain.specs.Tally.{raised}
 use Rattle.answer.specs.Answer.{answerNumber, destinationOf}
-use Rattle.row.specs.Meaning.{flag}
 use Rattle.row.specs.declared.InstanceRow.{InstanceRow}
 use Rattle.row.specs.declared.RouteRow.{RouteRow}
-use Rattle.message.specs.declared.Link.{Link}
 use Rattle.finish.specs.Gives.{stateOf, Records, RouteRecords}
 use Rattle.outcome.specs.declared.Outcome.{Outcome}
-use Rattle.start.specs.declared.Asking.{Asking}
-use Rattle.host.specs.declared.HostLink.{HostLink}
-use Rattle.host.specs.declared.HostStart.{HostStart}
 use Rattle.host.specs.declared.HostOutcome.{HostOutcome}
-
--- ---- What a host hands in
-
--- "link facts: the neighbour's address; whether the link is good upward and downward ..; the rank increase; and whether it came to the
--- group or to us alone"
-abbrev pub linkOf : HostLink → Link
-linkOf k = record {
-  neighbour = k .neighbour;
-  upward = flag (k .upward);
-  downward = flag (k .downward);
-  increase = k .increase;
-  group = flag (k .group);
-}
-
--- "A start brings RPLInstanceID, H, Compr, L, RankLimit and targets": all but the targets
-abbrev pub askingOf : HostStart → Asking
-askingOf s = record { instance = s .instance; h = flag (s .h); compr = s .compr; l = s .l; limit = s .limit }
-
--- ---- What a host is told
 
 -- "for each whether to the group, to which neighbour, to the caller (OrigNode's path) or, at length 0, nowhere": its number
 abbrev pub wayNumber : Destination → ℕ

@@ -1,8 +1,8 @@
 // The calls that a host makes, in C's form. A table, a buffer or a message is a pointer and a count. Each takes any arguments whatever, ends
 // with one outcome and raises the tally by its answer.
-use host::HostLink;
+use handed::HostLink;
+use handed::HostStart;
 use host::HostOutcome;
-use host::HostStart;
 use own::Own;
 use plain::Target;
 use row::InstanceRow;
@@ -13,7 +13,8 @@ ghost use Rattle.plain.specs.Plain.{step};
 ghost use Rattle.own.specs.Settings.{settingsOf};
 ghost use Rattle.finish.specs.Gives.{stateOf};
 ghost use Rattle.calls.specs.Calls.{messageCall, startCall};
-ghost use Rattle.host.specs.Host.{linkOf, askingOf, HostGives};
+ghost use Rattle.handed.specs.Handed.{linkOf, askingOf};
+ghost use Rattle.host.specs.Host.{HostGives};
 
 // A received message.
 #[no_mangle]
@@ -42,9 +43,9 @@ pub extern "C" fn kajakulm_message(
         clock,
         seq,
         time,
-        host::link_of(link),
+        handed::link_of(link),
     );
-    tally::raise(tally, host::answer_of(r));
+    tally::raise(tally, outcome::answer_of(r));
     host::host_outcome(r)
 }
 
@@ -75,8 +76,8 @@ pub extern "C" fn kajakulm_start(
         clock,
         seq,
         time,
-        host::asking_of(start),
+        handed::asking_of(start),
     );
-    tally::raise(tally, host::answer_of(r));
+    tally::raise(tally, outcome::answer_of(r));
     host::host_outcome(r)
 }

@@ -88,3 +88,11 @@ pub fn second_of(d: Decided) -> InstanceRow
     let dodagid = f.dodagid;
     row::reply_row(f.instance, dodagid, f.seq, f.rank, f.endless, f.deadline)
 }
+
+// The answer of a call.
+pub fn answer_of(r: Outcome) -> Answer
+    ensures { λ a. ⌜ a ≡ r .answer ⌝ }
+{
+    let answer = r.answer;
+    answer
+}

@@ -7,7 +7,6 @@
 //   r t k       and: an instance row, a route, the tally's count of one answer
 //   e           the end of the list
 ghost use Prim.Native.Nat.{_≤_};
-use answer::Answer;
 use outcome::Outcome;
 use own::Own;
 use row::InstanceRow;
@@ -92,11 +91,6 @@ fn least(a: usize, b: usize) -> usize
         return a;
     }
     b
-}
-
-fn answer_of(r: Outcome) -> Answer {
-    let a = r.answer;
-    a
 }
 
 fn forward_size(r: Outcome) -> usize {
@@ -195,7 +189,7 @@ fn tell(
     r: Outcome,
     h: Host,
 ) -> Host {
-    tally::raise(tally, answer_of(r));
+    tally::raise(tally, outcome::answer_of(r));
     let next = after(h, r);
     print_call(instances, routes, forward, reply, r, next);
     next

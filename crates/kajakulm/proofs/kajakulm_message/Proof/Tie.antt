@@ -2,15 +2,15 @@
 use Rattle.calls.proofs.message.Met
 use Rattle.calls.proofs.Lent.message.Reads
 use Rattle.calls.proofs.message.Symbol
-use Rattle.host.proofs.answer_of.Met as Met'
-use Rattle.host.proofs.answer_of.Reads as Reads'
-use Rattle.host.proofs.answer_of.Symbol as Symbol'
+use Rattle.outcome.proofs.answer_of.Met as Met'
+use Rattle.outcome.proofs.answer_of.Reads as Reads'
+use Rattle.outcome.proofs.answer_of.Symbol as Symbol'
 use Rattle.host.proofs.host_outcome.Met as Met''
 use Rattle.host.proofs.host_outcome.Reads as Reads''
 use Rattle.host.proofs.host_outcome.Symbol as Symbol''
-use Rattle.host.proofs.link_of.Met as Met'3
-use Rattle.host.proofs.link_of.Reads as Reads'3
-use Rattle.host.proofs.link_of.Symbol as Symbol'3
+use Rattle.handed.proofs.link_of.Met as Met'3
+use Rattle.handed.proofs.link_of.Reads as Reads'3
+use Rattle.handed.proofs.link_of.Symbol as Symbol'3
 use Rattle.kajakulm.proofs.kajakulm_message.Code
 use Rattle.kajakulm.proofs.kajakulm_message.Key
 use Rattle.kajakulm.proofs.Lent.kajakulm_message.Kinds

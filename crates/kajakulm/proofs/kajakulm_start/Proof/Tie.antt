@@ -2,12 +2,12 @@
 use Rattle.calls.proofs.start.Met
 use Rattle.calls.proofs.Lent.start.Reads
 use Rattle.calls.proofs.start.Symbol
-use Rattle.host.proofs.answer_of.Met as Met'
-use Rattle.host.proofs.answer_of.Reads as Reads'
-use Rattle.host.proofs.answer_of.Symbol as Symbol'
-use Rattle.host.proofs.asking_of.Met as Met''
-use Rattle.host.proofs.asking_of.Reads as Reads''
-use Rattle.host.proofs.asking_of.Symbol as Symbol''
+use Rattle.outcome.proofs.answer_of.Met as Met'
+use Rattle.outcome.proofs.answer_of.Reads as Reads'
+use Rattle.outcome.proofs.answer_of.Symbol as Symbol'
+use Rattle.handed.proofs.asking_of.Met as Met''
+use Rattle.handed.proofs.asking_of.Reads as Reads''
+use Rattle.handed.proofs.asking_of.Symbol as Symbol''
 use Rattle.host.proofs.host_outcome.Met as Met'3
 use Rattle.host.proofs.host_outcome.Reads as Reads'3
 use Rattle.host.proofs.host_outcome.Symbol as Symbol'3
