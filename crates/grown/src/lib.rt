@@ -1,9 +1,9 @@
-// A vector with our two addresses added, and whether it can grow by them.
+// How many addresses a vector has with our two added, and 16: whether it can grow by them.
 ghost use mathlib.Core.Path.{_≡_};
 ghost use mathlib.Core.Bool.{false};
 ghost use mathlib.Core.List.{List};
 ghost use Prim.Native.Nat.{_≤_};
-ghost use lib.ListN.{length, take};
+ghost use lib.ListN.{length};
 ghost use Rattle.lemmas.specs.Each.{WholeVector};
 ghost use Rattle.plain.specs.Address.{Address};
 ghost use Rattle.plain.specs.Request.{grown, cannotGrow};
@@ -25,34 +25,6 @@ pub fn grown_count(o: Own, h: bool, n: usize) -> usize
         return n + 1;
     }
     n + 2
-}
-
-// A vector with ours added: the receiving address, then the sending one if different, which `count` tells: addresses that are looked at octet
-// by octet are kept and copied octet by octet.
-pub fn grown_vector(
-    o: Own,
-    h: bool,
-    n: usize,
-    count: usize,
-    vector: &[[u8; 16]; 16],
-) -> [[u8; 16]; 16]
-    requires { ⌜ (count ≡ grownCount (settingsOf o) h n) × (count ≤ 16) ⌝ }
-    ensures { λ r. ⌜ take count r ≡ grown (settingsOf o) h (take n (now (vector .entry))) ⌝ }
-{
-    if h {
-        return *vector;
-    }
-    addresses::whole(vector);
-    let receiving = o.receiving;
-    let sending = o.sending;
-    let mut grown = *vector;
-    grown[n] = receiving;
-    let next = n + 1;
-    if count == next {
-        return grown;
-    }
-    grown[next] = sending;
-    grown
 }
 
 // 16: with ours added a vector of n addresses is past 16 addresses or 252 octets.

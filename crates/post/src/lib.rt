@@ -115,7 +115,7 @@ fn put_dio(out: &mut [u8], o: &Own, p: &Post, vector: &[[u8; 16]; 16]) -> usize
     let received = addresses_of(*p);
     if is_grown(*p) {
         let n = grown::grown_count(*o, false, received);
-        let v = grown::grown_vector(*o, false, received, n, vector);
+        let v = added::grown_vector(*o, false, received, n, vector);
         return put_parsed(out, p, n, &v);
     }
     put_parsed(out, p, received, vector)

@@ -2,9 +2,9 @@
 use Rattle.grown.proofs.grown_count.Met
 use Rattle.grown.proofs.grown_count.Reads
 use Rattle.grown.proofs.grown_count.Symbol
-use Rattle.grown.proofs.grown_vector.Met as Met'
-use Rattle.grown.proofs.grown_vector.Reads as Reads'
-use Rattle.grown.proofs.grown_vector.Symbol as Symbol'
+use Rattle.added.proofs.grown_vector.Met as Met'
+use Rattle.added.proofs.grown_vector.Reads as Reads'
+use Rattle.added.proofs.grown_vector.Symbol as Symbol'
 use Rattle.post.proofs.addresses_of.Met as Met''
 use Rattle.post.proofs.addresses_of.Reads as Reads''
 use Rattle.post.proofs.addresses_of.Symbol as Symbol''

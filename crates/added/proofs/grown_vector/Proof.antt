@@ -5,11 +5,11 @@ use native.Mathlib.Omega.{arith}
 use lib.ListN.{length}
 use Rattle.plain.specs.Lists.{same}
 use Rattle.own.specs.Settings.{settingsOf}
 use Rattle.grown.specs.Grown.{grownCount}
-use Rattle.grown.proofs.Growth.{same-told, different-told, grow-one, grow-two, room-one, room-two}
+use Rattle.added.proofs.Laws.{same-told, different-told, grow-one, grow-two, room-one, room-two}
 use borrow.Author.Needs.{needs}
-use Rattle.grown.proofs.grown_vector.Statement.{statement}
-use Rattle.grown.proofs.grown_vector.Tie as tie
+use Rattle.added.proofs.grown_vector.Statement.{statement}
+use Rattle.added.proofs.grown_vector.Tie as tie
 
 -- ---- what is known
 
