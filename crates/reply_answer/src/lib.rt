@@ -32,9 +32,9 @@ fn loops(o: Own, p: Parsed, vector: &[[u8; 16]; 16], w: ReplyFacts) -> bool
             return false;
         }
         let receiving = o.receiving;
-        return !path::stands_once(receiving, p.n, vector);
+        return !loops::stands_once(receiving, p.n, vector);
     }
-    path::has_ours(o, p.n, vector)
+    loops::has_ours(o, p.n, vector)
 }
 
 // Answer 11: the link towards TargNode is asked of an asymmetric reply.

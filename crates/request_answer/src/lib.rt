@@ -71,7 +71,7 @@ pub fn judge(o: Own, k: Link, p: Parsed, vector: &[[u8; 16]; 16], a: RequestFact
 {
     let dodagid = p.base.dodagid;
     let s = a.standing;
-    if path::has_ours(o, p.n, vector) {
+    if loops::has_ours(o, p.n, vector) {
         return Answer::Loop;
     }
     if own::cannot_elide(o, p.discovery.h, p.discovery.compr, dodagid) {

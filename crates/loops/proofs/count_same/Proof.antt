@@ -1,7 +1,7 @@
 use Rattle.plain.specs.Lists.{count}
 use borrow.Author.Needs.{needs}
-use Rattle.path.proofs.count_same.Statement.{statement}
-use Rattle.path.proofs.count_same.Tie as tie
+use Rattle.loops.proofs.count_same.Statement.{statement}
+use Rattle.loops.proofs.count_same.Tie as tie
 use Rattle.lemmas.proofs.Cases.{cases}
 
 is-same-requires : tie.Need-is-same-requires

@@ -6,9 +6,9 @@ use borrow.Author.Needs.{needs}
 use lib.Dec.{eqb}
 use mathlib.Core.List.{[]}
 use Rattle.plain.specs.Lists.{count, same}
-use Rattle.path.proofs.Walk.{count-one, count-more, count-end}
-use Rattle.path.proofs.stands_once.Statement.{statement}
-use Rattle.path.proofs.stands_once.Tie as tie
+use Rattle.loops.proofs.Count.{count-one, count-more, count-end}
+use Rattle.loops.proofs.stands_once.Statement.{statement}
+use Rattle.loops.proofs.stands_once.Tie as tie
 use Rattle.lemmas.proofs.Cases.{cases}
 
 abbrev Inv-loop : tie.InvT-loop

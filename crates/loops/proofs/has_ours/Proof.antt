@@ -7,8 +7,8 @@ use borrow.Author.Needs.{needs}
 use Rattle.plain.specs.Request.{ours}
 use Rattle.own.specs.Settings.{settingsOf}
 use Rattle.lemmas.proofs.Front.{Unfound, is-found, not-here, nowhere}
-use Rattle.path.proofs.has_ours.Statement.{statement}
-use Rattle.path.proofs.has_ours.Tie as tie
+use Rattle.loops.proofs.has_ours.Statement.{statement}
+use Rattle.loops.proofs.has_ours.Tie as tie
 use Rattle.lemmas.proofs.Cases.{cases}
 
 -- One of the first n addresses is ours if one of those from i on is.
