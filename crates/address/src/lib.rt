@@ -1,24 +1,7 @@
 // Addresses: sixteen octets by value (01, "Octets on the air").
 ghost use mathlib.Core.Path.{_≡_};
-ghost use Prim.Native.Nat.{_≤_};
 ghost use Rattle.plain.specs.Lists.{same};
-ghost use Rattle.plain.specs.Address.{firstBits, agree, sharesFirst};
-
-// Whether the first `compr` octets of `a` are those of the DODAGID.
-pub fn shares_first(compr: u8, dodagid: [u8; 16], a: [u8; 16]) -> bool
-    requires { ⌜ compr ≤ 16 ⌝ }
-    ensures { λ r. ⌜ r ≡ sharesFirst compr dodagid a ⌝ }
-{
-    let n = compr as usize;
-    let mut i: usize = 0;
-    while i < n {
-        if a[i] != dodagid[i] {
-            return false;
-        }
-        i = i + 1;
-    }
-    true
-}
+ghost use Rattle.plain.specs.Address.{firstBits, agree};
 
 // Whether two addresses are the same: they share all sixteen octets. Most differ in their last octet, so that one is compared first. A loop of
 // its own, and not `shares_first`, since it is compiled to one comparison of all octets.

@@ -40,9 +40,9 @@ pub fn cannot_elide(o: Own, h: bool, compr: u8, dodagid: [u8; 16]) -> bool
         return false;
     }
     let receiving = o.receiving;
-    if address::shares_first(compr, dodagid, receiving) {
+    if shared::shares_first(compr, dodagid, receiving) {
         let sending = o.sending;
-        return !address::shares_first(compr, dodagid, sending);
+        return !shared::shares_first(compr, dodagid, sending);
     }
     true
 }

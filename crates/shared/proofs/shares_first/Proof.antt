@@ -4,10 +4,10 @@ use native.Mathlib.Omega.{arith}
 use lib.ListN.{length}
 use borrow.Author.Needs.{needs}
 use borrow.Author.Tests.{eq-eqb, ne-eqb}
-use Rattle.address.proofs.Laws.{first-hit, first-end, Undecided, first-miss}
+use Rattle.shared.proofs.Laws.{first-hit, first-end, Undecided, first-miss}
 use Rattle.lemmas.proofs.Cases.{cases}
-use Rattle.address.proofs.shares_first.Statement.{statement}
-use Rattle.address.proofs.shares_first.Tie as tie
+use Rattle.shared.proofs.shares_first.Statement.{statement}
+use Rattle.shared.proofs.shares_first.Tie as tie
 
 abbrev Inv-loop : tie.InvT-loop
 Inv-loop compr dodagid a n i₀ i = (i ≤ n) × Undecided compr a dodagid i
