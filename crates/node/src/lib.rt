@@ -96,7 +96,7 @@ pub fn take_request(
     let receiving = own::receiving_of(o);
     let f = search::search_request(instances, t, instance, dodagid);
     let g = search::search_route(routes, t, receiving, dodagid, instance);
-    let targ = request_targets::is_targ_node(o, *p);
+    let targ = targ_node::is_targ_node(o, *p);
     let free = delta::free_delta_if(targ, instances, t, instance, receiving);
     let a = request::gather(o, k, *p, targ, f, g, free);
     let answer = request_answer::judge(o, k, *p, vector, a);

@@ -69,7 +69,7 @@ pub fn gather(
 {
     let rank = own_rank(p.base.rank, k.increase);
     let standing = how_it_stands(f, p.discovery.number, rank);
-    let targets = request_targets::targets_kept(o, standing, f, request_targets::named_in(p), targ);
+    let targets = request_targets::targets_kept(o, standing, f, targ_node::named_in(p), targ);
     RequestFacts {
         row: f,
         route: g,

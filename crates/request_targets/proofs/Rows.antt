@@ -11,14 +11,11 @@ use mathlib.Core.Bool.{true, false}
 use mathlib.Core.List.{List, []}
 use native.Mathlib.Omega.{arith}
 use lib.ListN.{length, take}
-use Rattle.plain.specs.Lists.{any}
-use Rattle.plain.specs.Address.{Address}
-use Rattle.plain.specs.Given.{Settings}
-use Rattle.plain.specs.Request.{rowTargets, matchesUs, areTargNode}
+use Rattle.plain.specs.Request.{rowTargets}
 use Rattle.row.specs.Meaning.{requestOf}
 use Rattle.row.proofs.Laws.{targets-within}
 use Rattle.kept.specs.Kept.{listOf, Kept}
-use Rattle.message.specs.Message.{messageIn, requestFound, rowFound}
+use Rattle.message.specs.Message.{requestFound, rowFound}
 use Rattle.row.specs.declared.InstanceRow.{InstanceRow}
 use Rattle.targets.specs.declared.Targets.{Targets}
 use Rattle.message.specs.declared.Found.{Found}
@@ -48,11 +45,6 @@ pub found-eight : (f : Found) (vs : List Val) → Is (row found.the-type) f vs �
 found-eight f vs g = row-eight (f .row) _ (g .1 .1 .1 .1 .0)
 
 -- ---- The targets of a message
-
-pub named-is : (x : Settings) (p : Parsed) (ts : Targets) → ts ≡ record { over = false; count = p .count; list = p .targets } → (v : List Address)
-    → any (matchesUs x) (listOf ts) ≡ areTargNode x (messageIn p v)
-unfolding messageIn
-named-is x p ts e v = rw e
 
 pub named-kept : (p : Parsed) (ts : Targets) → ts ≡ record { over = false; count = p .count; list = p .targets } → Heard p → Kept (listOf ts) ts
 named-kept p ts e h = rw e (record { held = record { whole = refl; few = h .targets; listed = refl }; padded = h .padded })

@@ -1,20 +1,16 @@
-// The targets of a received request, by value (01, "A request"): whether one is ours, and those that stay.
-use message::Found;
-use message::Parsed;
-use own::Own;
-use plain::Standing;
-use targets::Targets;
+// The targets of a received request that stay, by value (01, "A request").
 ghost use Prim.Native.Nat.{_≤_};
 ghost use mathlib.Core.Path.{_≡_};
 ghost use mathlib.Core.Bool.{true, false};
-ghost use mathlib.Core.List.{List};
-ghost use Rattle.plain.specs.Address.{Address};
 ghost use Rattle.plain.specs.Lists.{any};
-ghost use Rattle.plain.specs.Request.{matchesUs, areTargNode, rowTargets, targetsKept};
+ghost use Rattle.plain.specs.Request.{matchesUs, rowTargets, targetsKept};
 ghost use Rattle.kept.specs.Kept.{listOf, Held, Kept};
 ghost use Rattle.own.specs.Settings.{settingsOf};
-ghost use Rattle.message.specs.Message.{messageIn, requestFound};
-ghost use Rattle.rule.specs.Heard.{Heard};
+ghost use Rattle.message.specs.Message.{requestFound};
+use message::Found;
+use own::Own;
+use plain::Standing;
+use targets::Targets;
 
 // The targets of the live row. Past them its list may hold anything.
 fn row_targets(f: Found) -> Targets
@@ -55,26 +51,4 @@ pub fn targets_kept(o: Own, s: Standing, f: Found, ts: Targets, targ: bool) -> T
         return matching::not_ours(ts, receiving, sending);
     }
     ts
-}
-
-// The targets of a message.
-pub fn named_in(p: Parsed) -> Targets
-    ensures { λ r. ⌜ r ≡ record { over = false; count = p .count; list = p .targets } ⌝ }
-{
-    let list = p.targets;
-    Targets {
-        over: false,
-        count: p.count,
-        list,
-    }
-}
-
-// "We are TargNode if a target in the message equals one of our addresses, or shares its first Prefix Length bits."
-pub fn is_targ_node(o: Own, p: Parsed) -> bool
-    requires { ⌜ Heard p ⌝ }
-    ensures { λ r. ⌜ ((vector : List Address) → r ≡ areTargNode (settingsOf o) (messageIn p vector)) ⌝ }
-{
-    let receiving = o.receiving;
-    let sending = o.sending;
-    matching::is_named(named_in(p), receiving, sending)
 }

@@ -1,7 +1,8 @@
 use mathlib.Core.Path.{refl, sym, _∙_}
 use mathlib.Core.List.{[]}
 use Rattle.own.specs.Settings.{settingsOf}
-use Rattle.request_targets.proofs.Rows.{named-is, named-kept}
+use Rattle.targ_node.proofs.Rows.{named-is}
+use Rattle.request_targets.proofs.Rows.{named-kept}
 use Rattle.request.proofs.Rows.{gathered-is}
 use borrow.Author.Needs.{needs}
 use Rattle.request.proofs.gather.Statement.{statement}

@@ -47,9 +47,9 @@ use Rattle.request_replied.proofs.reply_post.Symbol as Symbol'12
 use Rattle.request_stored.proofs.accepted.Met as Met'13
 use Rattle.request_stored.proofs.accepted.Reads as Reads'14
 use Rattle.request_stored.proofs.accepted.Symbol as Symbol'13
-use Rattle.request_targets.proofs.is_targ_node.Met as Met'14
-use Rattle.request_targets.proofs.is_targ_node.Reads as Reads'15
-use Rattle.request_targets.proofs.is_targ_node.Symbol as Symbol'14
+use Rattle.targ_node.proofs.is_targ_node.Met as Met'14
+use Rattle.targ_node.proofs.is_targ_node.Reads as Reads'15
+use Rattle.targ_node.proofs.is_targ_node.Symbol as Symbol'14
 use Rattle.search.proofs.search_request.Met as Met'15
 use Rattle.search.proofs.Lent.search_request.Reads as Reads'16
 use Rattle.search.proofs.search_request.Symbol as Symbol'15

@@ -1,9 +1,9 @@
 use mathlib.Core.Path.{_∙_}
 use Rattle.own.specs.Settings.{settingsOf}
-use Rattle.request_targets.proofs.Rows.{named-is}
+use Rattle.targ_node.proofs.Rows.{named-is}
 use borrow.Author.Needs.{needs}
-use Rattle.request_targets.proofs.is_targ_node.Statement.{statement}
-use Rattle.request_targets.proofs.is_targ_node.Tie as tie
+use Rattle.targ_node.proofs.is_targ_node.Statement.{statement}
+use Rattle.targ_node.proofs.is_targ_node.Tie as tie
 
 named-in-requires : tie.Need-named-in-requires
 named-in-requires c κs = search needs
