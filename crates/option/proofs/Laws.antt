@@ -1,14 +1,11 @@
 -- What stands at a position of a message.
-use Prim.Native.Nat.{ℕ, _+_, _-_, _/_, _%_, _≤_, _<_}
+use Prim.Native.Nat.{ℕ, _+_, _-_, _≤_, _<_}
 use mathlib.Core.Path.{_≡_}
-use mathlib.Core.Bool.{Bool}
 use mathlib.Core.List.{List, _∷_}
 use native.Mathlib.Omega.{arith}
 use lib.ListN.{length, getD, drop, length-drop, drop-of-length-le}
 use lib.Seq.{drop-drop}
-use lib.Dec.{eqb}
 use borrow.Author.Tests.{ne-eqb, le-leb, lt-leb}
-use Rattle.plain.specs.Octets.{fields, sum, wordAt, comprOf, hOf, numberOf, discoveryOf}
 use Rattle.lemmas.proofs.Walk.{left-at}
 use Rattle.option.specs.declared.Next.the-variants.{Pad, Body, End, Cut}
 use Rattle.option.specs.Follows.{Follows}
@@ -48,12 +45,3 @@ module _ (msg : List ℕ) (at : ℕ) where
               reads = λ rest. rw (left-at msg at 0 h, ne-eqb (getD msg at 0) 0 k, after, length-drop (at + 2) msg, le-leb (getD msg (at + 1) 0) (length msg - (at + 2)) q, drop-drop (getD msg (at + 1) 0) (at + 2) msg, e);
               placed = omega arith;
             }
-
--- ---- The fields of an RREQ or RREP
-
-module _ (body : List ℕ) (w : ℕ) (e : w ≡ wordAt body 0) where
-  pub discovery-is : (reply h : Bool) (c n : ℕ) → h ≡ hOf body → c ≡ comprOf body → n ≡ numberOf reply body
-      → record { reply = reply; flag = eqb (w / 32768 % 2) 1; h = h; compr = c; l = w / 128 % 4; limit = w % 128; number = n }
-      ≡ discoveryOf reply body
-  unfolding discoveryOf fields sum
-  discovery-is reply h c n p q r = let l : w % 128 ≡ w / 1 % 128 = omega arith in rw (p, q, r, l, e)

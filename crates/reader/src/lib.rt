@@ -81,7 +81,7 @@ fn fill(msg: &[u8], s: Scan, base: Base, ts: Targets) -> Reading
         base,
         configured: 0 < configuration.count,
         configuration: octets,
-        discovery: option::discovery(fault::is_reply(s), &msg[start..end]),
+        discovery: discovery::discovery(fault::is_reply(s), &msg[start..end]),
         at: start + 3,
         size: end - start - 3,
         count: ts.count,

@@ -1,4 +1,3 @@
--- `addresses::known` meets its contract.
 use borrow.Author.Needs.{needs}
 use mir.Syntax.{w8}
 use Rattle.addresses.proofs.Long.{arrays-long}

@@ -1,4 +1,3 @@
--- `addresses::reversed` meets its contract.
 use Prim.Native.Nat.{_≤_, _-_}
 use mathlib.Core.List.{[], reverse}
 use mathlib.Core.Path.{_≡_, refl}

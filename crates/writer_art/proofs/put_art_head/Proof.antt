@@ -1,4 +1,3 @@
--- `writer_option::put_art_head` meets its contract.
 use lib.ListN.{length-set}
 use borrow.Author.Needs.{needs}
 use Rattle.writer_base.proofs.Stores.{stored}

@@ -1,4 +1,3 @@
--- `writer_option::put_arts` meets its contract.
 use Prim.Native.Nat.{_≤_, _-_, _+_}
 use mathlib.Core.List.{map, flatten}
 use mathlib.Core.Path.{_≡_, refl}

@@ -1,4 +1,3 @@
--- `writer_option::target_octets` meets its contract.
 use borrow.Author.Needs.{needs}
 use Rattle.lemmas.proofs.Cases.{cases}
 use Rattle.writer_art.proofs.target_octets.Statement.{statement}

@@ -1,4 +1,3 @@
--- `writer_option::put_base_head` meets its contract.
 use native.Mathlib.Omega.{arith}
 use lib.ListN.{length-set}
 use borrow.Author.Needs.{needs}

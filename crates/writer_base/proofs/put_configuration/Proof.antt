@@ -1,4 +1,3 @@
--- `writer_option::put_configuration` meets its contract.
 use Prim.Native.Nat.{_≤_}
 use mathlib.Core.List.{[], _∷_}
 use mathlib.Core.Path.{_≡_}

@@ -1,4 +1,3 @@
--- `writer_octets::put_address` meets its contract.
 use borrow.Author.Needs.{needs}
 use Rattle.writer_octets.proofs.Addresses.{elide-part}
 use Rattle.writer_octets.proofs.put_address.Statement.{statement}

@@ -1,4 +1,3 @@
--- `writer_octets::put_path` meets its contract.
 use Prim.Native.Nat.{_-_}
 use native.Mathlib.Omega.{arith}
 use borrow.Author.Needs.{needs}

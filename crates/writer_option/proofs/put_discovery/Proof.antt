@@ -1,4 +1,3 @@
--- `writer_option::put_discovery` meets its contract.
 use Prim.Native.Nat.{_+_, _≤_, _-_, _*_}
 use mathlib.Core.Path.{_≡_, ap}
 use native.Mathlib.Omega.{arith}

@@ -1,4 +1,3 @@
--- `writer_option::put_route_head` meets its contract.
 use lib.ListN.{length-set}
 use borrow.Author.Needs.{needs}
 use Rattle.writer_base.proofs.Stores.{high-octet, stored}

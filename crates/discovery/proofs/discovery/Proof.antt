@@ -1,7 +1,7 @@
 use borrow.Author.Needs.{needs}
-use Rattle.option.proofs.Laws.{discovery-is}
-use Rattle.option.proofs.discovery.Statement.{statement}
-use Rattle.option.proofs.discovery.Tie as tie
+use Rattle.discovery.proofs.Laws.{discovery-is}
+use Rattle.discovery.proofs.discovery.Statement.{statement}
+use Rattle.discovery.proofs.discovery.Tie as tie
 
 word-at-requires : tie.Need-word-at-requires
 word-at-requires c κs = search needs

@@ -1,8 +1,8 @@
 use native.Mathlib.Omega.{arith}
 use borrow.Author.Needs.{needs}
 use Rattle.plain.specs.Octets.{fields, sum}
-use Rattle.option.proofs.number_of.Statement.{statement}
-use Rattle.option.proofs.number_of.Tie as tie
+use Rattle.discovery.proofs.number_of.Statement.{statement}
+use Rattle.discovery.proofs.number_of.Tie as tie
 
 octet-at-requires : tie.Need-octet-at-requires
 octet-at-requires c κs = search needs
