@@ -28,7 +28,7 @@ fn free_delta(rows: &[InstanceRow], t: u64, instance: u8, dodagid: [u8; 16]) -> 
 {
     let mut delta: u8 = 0;
     while delta < 64 {
-        let number = sequence::plus_delta(instance, delta);
+        let number = rolling::plus_delta(instance, delta);
         let i = find::find_reply(rows, t, number, dodagid);
         if i < rows.len() {
             delta += 1;

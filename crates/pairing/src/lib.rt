@@ -44,5 +44,5 @@ pub fn dest_seq(p: Parsed) -> u8
 pub fn partner_number(p: Parsed) -> u8
     ensures { λ r. ⌜ ((v : List Address) → r ≡ partnerNumber (messageIn p v)) ⌝ }
 {
-    sequence::minus_delta(p.base.instance, p.discovery.number)
+    rolling::minus_delta(p.base.instance, p.discovery.number)
 }

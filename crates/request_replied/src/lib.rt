@@ -31,7 +31,7 @@ fn reply_base(o: Own, p: Parsed, delta: u8) -> Base
     ensures { λ r. ⌜ ((own : ℕ) (c : rules.Received) (vector : List Address) → r ≡ replyMessage (settingsOf o) own c (messageIn p vector) delta .base) ⌝ }
 {
     let receiving = o.receiving;
-    let instance = sequence::plus_delta(p.base.instance, delta);
+    let instance = rolling::plus_delta(p.base.instance, delta);
     let step = rule::step_of(p);
     Base {
         instance,
@@ -121,7 +121,7 @@ pub fn reply_post(o: Own, k: Link, p: Parsed, a: RequestFacts, seq: u8) -> Post
 {
     let free = a.delta;
     let on = request::replies_now(a);
-    let message = replied(o, k, p, sequence::step(seq), message::delta_or_0(free));
+    let message = replied(o, k, p, rolling::step(seq), message::delta_or_0(free));
     let to = reply_to(on, k, p);
     Post {
         what: decision::dio_if(on),

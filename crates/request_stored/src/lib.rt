@@ -77,7 +77,7 @@ fn reply_fields(o: Own, t: u64, seq: u8, p: Parsed, delta: u8) -> ReplyFields
     ensures { λ r. ⌜ replyIn r ≡ ownReplyRow (settingsOf o) t seq (messageIn p []) delta ⌝ }
 {
     let receiving = o.receiving;
-    let instance = sequence::plus_delta(p.base.instance, delta);
+    let instance = rolling::plus_delta(p.base.instance, delta);
     let rank = rule::step_of(p);
     let end = deadline::of_l(t, p.discovery.l);
     ReplyFields {
@@ -125,7 +125,7 @@ pub fn accepted(o: Own, seq: u8, t: u64, k: Link, p: Parsed, a: RequestFacts) ->
     ensures { λ r. ⌜ ((vector : List Address) → Stores (acceptRequest (settingsOf o) seq t (receivedBy k []) (messageIn p vector) (askedOf a)) (requestFound (a .row)) (routeFound (a .route)) r) ⌝ }
 {
     let free = a.delta;
-    let next = sequence::step(seq);
+    let next = rolling::step(seq);
     let delta = message::delta_or_0(free);
     let replies = request::replies_now(a);
     let row = request_row(t, k, p, a);

@@ -1,8 +1,8 @@
-// Sequence numbers (01, "Rank and freshness") and the pairing of instances by Delta (01, "A request", "A reply").
+// Sequence numbers (01, "Rank and freshness"): the order, and what follows from it for a row and for a route.
+ghost use mathlib.Core.Path.{_≡_};
+ghost use Rattle.plain.specs.Rank.{freshness, standing, outdated};
 use plain::Freshness;
 use plain::Standing;
-ghost use mathlib.Core.Path.{_≡_};
-ghost use Rattle.plain.specs.Rank.{freshness, stepped, standing, outdated, plusDelta, minusDelta};
 
 // How a stands to b: Newer where a is the newer one.
 pub fn compare(a: u8, b: u8) -> Freshness
@@ -25,16 +25,6 @@ pub fn compare(a: u8, b: u8) -> Freshness
     } else {
         Freshness::Older
     }
-}
-
-// The number after our own. 0 is never one of ours.
-pub fn step(own: u8) -> u8
-    ensures { λ r. ⌜ r ≡ stepped own ⌝ }
-{
-    if own == 127 {
-        return 1;
-    }
-    if own == 255 { 1 } else { own + 1 }
 }
 
 // How a message stands to the live row of its key, by how its number stands to the row's: `replied` is the row's, and `lower` tells
@@ -69,18 +59,4 @@ pub fn is_outdated(f: Freshness) -> bool
         Freshness::Equal => false,
         Freshness::Older => false,
     }
-}
-
-// The reply's RPLInstanceID, from its request's.
-pub fn plus_delta(instance: u8, delta: u8) -> u8
-    ensures { λ r. ⌜ r ≡ plusDelta instance delta ⌝ }
-{
-    std::num::wrapping_add_u8(instance, delta)
-}
-
-// The request's RPLInstanceID, from its reply's.
-pub fn minus_delta(instance: u8, delta: u8) -> u8
-    ensures { λ r. ⌜ r ≡ minusDelta instance delta ⌝ }
-{
-    std::num::wrapping_sub_u8(instance, delta)
 }

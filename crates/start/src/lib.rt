@@ -129,7 +129,7 @@ pub fn start_post(o: Own, seq: u8, s: Asking, ts: Targets) -> Post
     requires { ⌜ Sendable s ts ⌝ }
     ensures { λ r. ⌜ ((t : ℕ) (vector : List Address) (targets : List plain.Target) → Posts (settingsOf o) vector (acceptStart (settingsOf o) seq t (startOf s targets) (listOf ts) .sent .forward) (acceptStart (settingsOf o) seq t (startOf s targets) (listOf ts) .sent .forwardTo) r) ⌝ }
 {
-    let message = start_message(o, sequence::step(seq), s, ts);
+    let message = start_message(o, rolling::step(seq), s, ts);
     let to = answer::to_group();
     Post {
         what: What::Dio,
@@ -145,7 +145,7 @@ pub fn accepted(o: Own, seq: u8, t: u64, s: Asking, ts: Targets) -> Decided
     requires { ⌜ (t ≤ 2 ^ 40) × (ts .count ≤ 8) × Padded (ts .count) (ts .list) ⌝ }
     ensures { λ r. ⌜ ((targets : List plain.Target) → Stores {B = rules.RequestRow} (acceptStart (settingsOf o) seq t (startOf s targets) (listOf ts)) none none r) ⌝ }
 {
-    let next = sequence::step(seq);
+    let next = rolling::step(seq);
     let row = start_row(o, next, t, s, ts);
     let none = decision::no_reply();
     let route = row::no_route();

@@ -14,9 +14,9 @@ use Rattle.delta.proofs.none_free.Symbol as Symbol'
 use Rattle.find.proofs.find_reply.Met as Met''
 use Rattle.find.proofs.Lent.find_reply.Reads as Reads'3
 use Rattle.find.proofs.find_reply.Symbol as Symbol''
-use Rattle.sequence.proofs.plus_delta.Met as Met'3
-use Rattle.sequence.proofs.plus_delta.Reads as Reads'4
-use Rattle.sequence.proofs.plus_delta.Symbol as Symbol'3
+use Rattle.rolling.proofs.plus_delta.Met as Met'3
+use Rattle.rolling.proofs.plus_delta.Reads as Reads'4
+use Rattle.rolling.proofs.plus_delta.Symbol as Symbol'3
 use borrow.Fn.Run
 use borrow.Fn.Written
 use contract.Running
