@@ -8,7 +8,8 @@ ghost use Rattle.plain.specs.Lists.{any, anyTwo};
 ghost use Rattle.plain.specs.Table.{liveRows, routeDeadline};
 ghost use Rattle.plain.specs.Answers.{routeTwins};
 ghost use Rattle.row.specs.Meaning.{routeOf, noRoute};
-ghost use Rattle.key.specs.Pair.{twinRoutes, endingOf};
+ghost use Rattle.key.specs.Pair.{endingOf};
+ghost use Rattle.route_key.specs.Pair.{twinRoutes};
 ghost use Rattle.hash.specs.Hash.{hashRoute};
 ghost use Rattle.filter.specs.Filter.{inClass};
 use row::RouteRow;
@@ -19,7 +20,7 @@ fn scan_routes(routes: &[RouteRow], j: usize, t: u64) -> bool
 {
     let mut i: usize = 0;
     while i < j {
-        if key::are_twin_routes(routes[i], routes[j], t) {
+        if route_key::are_twin_routes(routes[i], routes[j], t) {
             return true;
         }
         i += 1;
@@ -31,10 +32,10 @@ fn has_route_ending(routes: &[RouteRow], j: usize) -> bool
     requires { ⌜ j < length (now routes) ⌝ }
     ensures { λ b. ⌜ b ≡ any (λ a. eqb (endingOf (a .destination)) (endingOf (getD (now (routes .entry)) j noRoute .destination))) (take j (now (routes .entry))) ⌝ }
 {
-    let e = key::route_ending(routes[j]);
+    let e = route_key::route_ending(routes[j]);
     let mut i: usize = 0;
     while i < j {
-        if key::does_route_end(routes[i], e) {
+        if route_key::does_route_end(routes[i], e) {
             return true;
         }
         i += 1;

@@ -10,10 +10,11 @@ use lib.ListN.{length, getD, take}
 use Rattle.plain.specs.Lists.{anyTwo}
 use Rattle.row.specs.declared.RouteRow.{RouteRow}
 use Rattle.row.specs.Meaning.{noRoute}
-use Rattle.key.specs.Pair.{sameThree, twinRoutes, endingOf, twinsBy}
+use Rattle.key.specs.Pair.{endingOf, twinsBy}
+use Rattle.route_key.specs.Pair.{sameThree, twinRoutes}
 use Rattle.key.proofs.Any.{two-start, two-hit, two-more, two-end, any-less}
 use Rattle.lemmas.proofs.Choice.{cond-true}
-use Rattle.key.proofs.Plain.{three-parts}
+use Rattle.route_key.proofs.Plain.{three-parts}
 use borrow.Author.Needs.{needs}
 use borrow.Author.Tests.{eq-eqb}
 use Rattle.route_twins.proofs.every_pair_of_routes.Statement.{statement}

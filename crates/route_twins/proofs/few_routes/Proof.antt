@@ -6,7 +6,7 @@ use mathlib.Core.Path.{sym, _∙_}
 use mathlib.Core.Logic.{⊎-elim}
 use denote.Ref.{now}
 use lib.ListN.{length}
-use Rattle.key.specs.Pair.{twinRoutes}
+use Rattle.route_key.specs.Pair.{twinRoutes}
 use Rattle.hash.specs.Hash.{hashRoute}
 use Rattle.filter.specs.Filter.{fewSlotOf}
 use Rattle.filter.proofs.Filter.{Passed, passed-none, passed-hit, passed-more, passed-all, asked, unasked, one-chosen, one-class, all-class}

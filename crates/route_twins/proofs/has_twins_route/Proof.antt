@@ -2,7 +2,7 @@ pub mod Lts
 pub mod Tie
 use mathlib.Core.Path.{_∙_}
 use denote.Ref.{now}
-use Rattle.key.proofs.Plain.{routes-twins}
+use Rattle.route_key.proofs.Plain.{routes-twins}
 use borrow.Author.Needs.{needs}
 use Rattle.route_twins.proofs.has_twins_route.Statement.{statement}
 use Rattle.route_twins.proofs.has_twins_route.Proof.Tie as tie

@@ -3,7 +3,7 @@ pub mod Tie
 use Prim.Native.Nat.{_+_, _-_, _≤_, _<_}
 use mathlib.Core.Path.{sym, _∙_}
 use denote.Ref.{now}
-use Rattle.key.specs.Pair.{twinRoutes}
+use Rattle.route_key.specs.Pair.{twinRoutes}
 use borrow.Author.Count.{below-more}
 use Rattle.hash.specs.Hash.{hashRoute}
 use Rattle.filter.proofs.Filter.{Below, below-first, below-all, one-class}

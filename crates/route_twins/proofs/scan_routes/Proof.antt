@@ -6,7 +6,7 @@ use denote.Ref.{now}
 use lib.ListN.{getD}
 use Rattle.row.specs.declared.RouteRow.{RouteRow}
 use Rattle.row.specs.Meaning.{noRoute}
-use Rattle.key.specs.Pair.{twinRoutes}
+use Rattle.route_key.specs.Pair.{twinRoutes}
 use Rattle.lemmas.proofs.Front.{Unfound, is-found, not-here, nowhere}
 use borrow.Author.Needs.{needs}
 use Rattle.route_twins.proofs.scan_routes.Statement.{statement}

@@ -149,7 +149,7 @@ b2 =
 abbrev b3 : Syntax.Body
 b3 =
     Syntax.call
-    "key::route_ending"
+    "route_key::route_ending"
     (List._∷_ (Syntax.copy (Syntax.place 7 List.[])) List.[])
     (Syntax.place 3 List.[])
 
@@ -205,7 +205,7 @@ b11 =
 abbrev b12 : Syntax.Body
 b12 =
     Syntax.call
-    "key::does_route_end"
+    "route_key::does_route_end"
     (List._∷_
     (Syntax.copy (Syntax.place 12 List.[]))
     (List._∷_ (Syntax.copy (Syntax.place 3 List.[])) List.[]))
@@ -1247,9 +1247,9 @@ module _ (claims· : Claims) where
       Closed =
           (𝓤 : URA.URA M) (H : Wp.Heap 𝓤) (A : Atoms.Atoms 𝓤) (W : Kit.Given 𝓤 H A) (𝓣 : Wp.Tables
           𝓤 H) (known0 : Plain.Known 𝓤 H A W 𝓣 0 ps·0 r·0 (claims· .0) (claims· .1)
-          "key::route_ending") (known1 : Plain.Known 𝓤 H A W 𝓣 0 ps·1 r·1 (claims· .2) (claims· .3)
-          "key::does_route_end") → Statement.Triple 𝓤 (Wp.WpFn 𝓤 H (𝓣 .C) (𝓣 .Λ) (Function.fnOf 1
-          ps r xs m hs body)) (Function.plainOf 𝓤 H A 1 ps r Pre· Post·)
+          "route_key::route_ending") (known1 : Plain.Known 𝓤 H A W 𝓣 0 ps·1 r·1 (claims· .2)
+          (claims· .3) "route_key::does_route_end") → Statement.Triple 𝓤 (Wp.WpFn 𝓤 H (𝓣 .C) (𝓣 .Λ)
+          (Function.fnOf 1 ps r xs m hs body)) (Function.plainOf 𝓤 H A 1 ps r Pre· Post·)
 
     module _ (Inv·0 : InvT-loop) (μ·0 : MeasureT-loop) where
       abbrev at0 : Typed.TF T13 O4
@@ -1399,8 +1399,8 @@ module _ (claims· : Claims) where
           (W : Kit.Given 𝓤 H A) (𝓣 : Wp.Tables 𝓤 H) where
         abbrev Knowns : Type 1
         Knowns =
-            Plain.Known 𝓤 H A W 𝓣 0 ps·0 r·0 (claims· .0) (claims· .1) "key::route_ending" ×
-            Plain.Known 𝓤 H A W 𝓣 0 ps·1 r·1 (claims· .2) (claims· .3) "key::does_route_end"
+            Plain.Known 𝓤 H A W 𝓣 0 ps·0 r·0 (claims· .0) (claims· .1) "route_key::route_ending" ×
+            Plain.Known 𝓤 H A W 𝓣 0 ps·1 r·1 (claims· .2) (claims· .3) "route_key::does_route_end"
 
       module _ (κs : Lifetimes.Lfts 1) (qs : Lifetimes.Shares 1) where
         abbrev G0 : Row.Cx
@@ -1871,7 +1871,7 @@ module _ (claims· : Claims) where
               r·1
               (claims· .2)
               (claims· .3)
-              "key::does_route_end"
+              "route_key::does_route_end"
               (known .1)
               E
               (λ pos β. β)
@@ -2429,7 +2429,7 @@ module _ (claims· : Claims) where
               r·0
               (claims· .0)
               (claims· .1)
-              "key::route_ending"
+              "route_key::route_ending"
               (known .0)
               E
               (λ pos β. β)
@@ -3475,7 +3475,7 @@ module _ (claims· : Claims) where
             r·0
             (claims· .0)
             (claims· .1)
-            "key::route_ending")
+            "route_key::route_ending")
             (known1 : Plain.Known
             𝓤
             H
@@ -3487,7 +3487,7 @@ module _ (claims· : Claims) where
             r·1
             (claims· .2)
             (claims· .3)
-            "key::does_route_end") where
+            "route_key::does_route_end") where
           pub spec :
               Statement.Triple
               𝓤

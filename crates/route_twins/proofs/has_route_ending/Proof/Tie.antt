@@ -1,10 +1,10 @@
 -- Made by tools/lend.py of the twin of `has_route_ending`: do not edit.
-use Rattle.key.proofs.does_route_end.Met
-use Rattle.key.proofs.does_route_end.Reads
-use Rattle.key.proofs.does_route_end.Symbol
-use Rattle.key.proofs.route_ending.Met as Met'
-use Rattle.key.proofs.route_ending.Reads as Reads'
-use Rattle.key.proofs.route_ending.Symbol as Symbol'
+use Rattle.route_key.proofs.does_route_end.Met
+use Rattle.route_key.proofs.does_route_end.Reads
+use Rattle.route_key.proofs.does_route_end.Symbol
+use Rattle.route_key.proofs.route_ending.Met as Met'
+use Rattle.route_key.proofs.route_ending.Reads as Reads'
+use Rattle.route_key.proofs.route_ending.Symbol as Symbol'
 use Rattle.route_twins.proofs.has_route_ending.Code
 use Rattle.route_twins.proofs.has_route_ending.Key
 use Rattle.route_twins.proofs.Lent.has_route_ending.Kinds
@@ -274,12 +274,12 @@ module _ {M : Type 1} where
       Code.env
       Symbol'.name
       Symbol'.routine
-      Code.calls-key·route-ending
+      Code.calls-route-key·route-ending
       (Met'.met 𝓤 H 𝓜 𝓖 𝓡))
       (Reads.known
       record { M = M; 𝓤 = 𝓤; H = H; 𝓜 = 𝓜; 𝓖 = 𝓖; 𝓡 = 𝓡 }
       Code.env
       Symbol.name
       Symbol.routine
-      Code.calls-key·does-route-end
+      Code.calls-route-key·does-route-end
       (Met.met 𝓤 H 𝓜 𝓖 𝓡))

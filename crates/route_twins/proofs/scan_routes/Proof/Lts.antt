@@ -192,7 +192,7 @@ b10 =
 abbrev b11 : Syntax.Body
 b11 =
     Syntax.call
-    "key::are_twin_routes"
+    "route_key::are_twin_routes"
     (List._∷_
     (Syntax.copy (Syntax.place 9 List.[]))
     (List._∷_
@@ -1199,8 +1199,8 @@ module _ (claims· : Claims) where
       Closed =
           (𝓤 : URA.URA M) (H : Wp.Heap 𝓤) (A : Atoms.Atoms 𝓤) (W : Kit.Given 𝓤 H A) (𝓣 : Wp.Tables
           𝓤 H) (known0 : Plain.Known 𝓤 H A W 𝓣 0 ps·0 r·0 (claims· .0) (claims· .1)
-          "key::are_twin_routes") → Statement.Triple 𝓤 (Wp.WpFn 𝓤 H (𝓣 .C) (𝓣 .Λ) (Function.fnOf 1
-          ps r xs m hs body)) (Function.plainOf 𝓤 H A 1 ps r Pre· Post·)
+          "route_key::are_twin_routes") → Statement.Triple 𝓤 (Wp.WpFn 𝓤 H (𝓣 .C) (𝓣 .Λ)
+          (Function.fnOf 1 ps r xs m hs body)) (Function.plainOf 𝓤 H A 1 ps r Pre· Post·)
 
     module _ (Inv·0 : InvT-loop) (μ·0 : MeasureT-loop) where
       abbrev at0 : Typed.TF T6 O4
@@ -1346,7 +1346,8 @@ module _ (claims· : Claims) where
       module _ {M : Type 1} (𝓤 : URA.URA M) (H : Wp.Heap 𝓤) (A : Atoms.Atoms 𝓤)
           (W : Kit.Given 𝓤 H A) (𝓣 : Wp.Tables 𝓤 H) where
         abbrev Knowns : Type 1
-        Knowns = Plain.Known 𝓤 H A W 𝓣 0 ps·0 r·0 (claims· .0) (claims· .1) "key::are_twin_routes"
+        Knowns =
+            Plain.Known 𝓤 H A W 𝓣 0 ps·0 r·0 (claims· .0) (claims· .1) "route_key::are_twin_routes"
 
       module _ (κs : Lifetimes.Lfts 1) (qs : Lifetimes.Shares 1) where
         abbrev G0 : Row.Cx
@@ -1841,7 +1842,7 @@ module _ (claims· : Claims) where
               r·0
               (claims· .0)
               (claims· .1)
-              "key::are_twin_routes"
+              "route_key::are_twin_routes"
               known
               E
               (λ pos β. β)
@@ -3342,7 +3343,7 @@ module _ (claims· : Claims) where
             r·0
             (claims· .0)
             (claims· .1)
-            "key::are_twin_routes") where
+            "route_key::are_twin_routes") where
           pub spec :
               Statement.Triple
               𝓤

@@ -1,7 +1,7 @@
 -- Made by tools/lend.py of the twin of `scan_routes`: do not edit.
-use Rattle.key.proofs.are_twin_routes.Met
-use Rattle.key.proofs.are_twin_routes.Reads
-use Rattle.key.proofs.are_twin_routes.Symbol
+use Rattle.route_key.proofs.are_twin_routes.Met
+use Rattle.route_key.proofs.are_twin_routes.Reads
+use Rattle.route_key.proofs.are_twin_routes.Symbol
 use Rattle.route_twins.proofs.scan_routes.Code
 use Rattle.route_twins.proofs.scan_routes.Key
 use Rattle.route_twins.proofs.Lent.scan_routes.Kinds
@@ -174,5 +174,5 @@ module _ {M : Type 1} where
       Code.env
       Symbol.name
       Symbol.routine
-      Code.calls-key·are-twin-routes
+      Code.calls-route-key·are-twin-routes
       (Met.met 𝓤 H 𝓜 𝓖 𝓡))

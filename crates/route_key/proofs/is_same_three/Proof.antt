@@ -1,9 +1,9 @@
 use mathlib.Core.Path.{sym, _∙_}
 use mathlib.Core.Bool.{and-false}
-use Rattle.key.specs.Pair.{sameThree}
+use Rattle.route_key.specs.Pair.{sameThree}
 use borrow.Author.Needs.{needs}
-use Rattle.key.proofs.is_same_three.Statement.{statement}
-use Rattle.key.proofs.is_same_three.Tie as tie
+use Rattle.route_key.proofs.is_same_three.Statement.{statement}
+use Rattle.route_key.proofs.is_same_three.Tie as tie
 use Rattle.lemmas.proofs.Cases.{cases}
 
 is-same-requires : tie.Need-is-same-requires

@@ -1,7 +1,7 @@
 use Rattle.key.specs.Pair.{twinsBy}
 use borrow.Author.Needs.{needs}
-use Rattle.key.proofs.are_twin_routes.Statement.{statement}
-use Rattle.key.proofs.are_twin_routes.Tie as tie
+use Rattle.route_key.proofs.are_twin_routes.Statement.{statement}
+use Rattle.route_key.proofs.are_twin_routes.Tie as tie
 use Rattle.lemmas.proofs.Cases.{cases}
 
 is-same-three-requires : tie.Need-is-same-three-requires
