@@ -66,7 +66,7 @@ fn few_routes(routes: &[RouteRow], t: u64) -> bool
     while j < routes.len() {
         let h = hash::hash_route(routes[j]);
         let on = live::is_live_route(routes[j], t);
-        let s = filter::few_slot_of(h);
+        let s = slot::few_slot_of(h);
         let w = words[s];
         if filter::maybe(on, w, h) {
             if scan_routes(routes, j, t) {
@@ -86,8 +86,8 @@ fn pass_routes(routes: &[RouteRow], t: u64, mask: u64, p: u64) -> bool
     let mut j: usize = 0;
     while j < routes.len() {
         let h = hash::hash_route(routes[j]);
-        let on = filter::is_chosen(mask, p, live::is_live_route(routes[j], t), h);
-        let s = filter::slot_of(h);
+        let on = slot::is_chosen(mask, p, live::is_live_route(routes[j], t), h);
+        let s = slot::slot_of(h);
         let w = words[s];
         if filter::maybe(on, w, h) {
             if scan_routes(routes, j, t) {

@@ -74,7 +74,7 @@ fn few(rows: &[InstanceRow], t: u64) -> bool
     while j < rows.len() {
         let h = hash::hash_row(rows[j]);
         let on = live::is_live(rows[j], t);
-        let s = filter::few_slot_of(h);
+        let s = slot::few_slot_of(h);
         let w = words[s];
         if filter::maybe(on, w, h) {
             if scan(rows, j, t) {
@@ -95,8 +95,8 @@ fn pass(rows: &[InstanceRow], t: u64, mask: u64, p: u64) -> bool
     let mut j: usize = 0;
     while j < rows.len() {
         let h = hash::hash_row(rows[j]);
-        let on = filter::is_chosen(mask, p, live::is_live(rows[j], t), h);
-        let s = filter::slot_of(h);
+        let on = slot::is_chosen(mask, p, live::is_live(rows[j], t), h);
+        let s = slot::slot_of(h);
         let w = words[s];
         if filter::maybe(on, w, h) {
             if scan(rows, j, t) {

@@ -8,7 +8,7 @@ use denote.Ref.{now}
 use lib.ListN.{length}
 use Rattle.route_key.specs.Pair.{twinRoutes}
 use Rattle.hash.specs.Hash.{hashRoute}
-use Rattle.filter.specs.Filter.{fewSlotOf}
+use Rattle.slot.specs.Slot.{fewSlotOf}
 use Rattle.filter.proofs.Filter.{Passed, passed-none, passed-hit, passed-more, passed-all, asked, unasked, one-chosen, one-class, all-class}
 use borrow.Author.Needs.{needs}
 use Rattle.route_twins.proofs.few_routes.Statement.{statement}

@@ -304,7 +304,7 @@ b14 =
 abbrev b15 : Syntax.Body
 b15 =
     Syntax.call
-    "filter::is_chosen"
+    "slot::is_chosen"
     (List._∷_
     (Syntax.copy (Syntax.place 3 List.[]))
     (List._∷_
@@ -317,7 +317,7 @@ b15 =
 abbrev b16 : Syntax.Body
 b16 =
     Syntax.call
-    "filter::slot_of"
+    "slot::slot_of"
     (List._∷_ (Syntax.copy (Syntax.place 7 List.[])) List.[])
     (Syntax.place 9 List.[])
 
@@ -2754,8 +2754,8 @@ module _ (claims· : Claims) where
           𝓤 H) (known0 : Plain.Known 𝓤 H A W 𝓣 0 ps·0 r·0 (claims· .0) (claims· .1)
           "hash::hash_route") (known1 : Plain.Known 𝓤 H A W 𝓣 0 ps·1 r·1 (claims· .2) (claims· .3)
           "live::is_live_route") (known2 : Plain.Known 𝓤 H A W 𝓣 0 ps·2 r·2 (claims· .4)
-          (claims· .5) "filter::is_chosen") (known3 : Plain.Known 𝓤 H A W 𝓣 0 ps·3 r·3 (claims· .6)
-          (claims· .7) "filter::slot_of") (known4 : Plain.Known 𝓤 H A W 𝓣 0 ps·4 r·4 (claims· .8)
+          (claims· .5) "slot::is_chosen") (known3 : Plain.Known 𝓤 H A W 𝓣 0 ps·3 r·3 (claims· .6)
+          (claims· .7) "slot::slot_of") (known4 : Plain.Known 𝓤 H A W 𝓣 0 ps·4 r·4 (claims· .8)
           (claims· .9) "filter::maybe") (known5 : Plain.Known 𝓤 H A W 𝓣 1 ps·5 r·5 (claims· .10)
           (claims· .11) "route_twins::scan_routes") (known6 : Plain.Known 𝓤 H A W 𝓣 0 ps·6 r·6
           (claims· .12) (claims· .13) "filter::marked") → Statement.Triple 𝓤 (Wp.WpFn 𝓤 H (𝓣 .C)
@@ -3045,8 +3045,8 @@ module _ (claims· : Claims) where
         Knowns =
             Plain.Known 𝓤 H A W 𝓣 0 ps·0 r·0 (claims· .0) (claims· .1) "hash::hash_route" ×
             Plain.Known 𝓤 H A W 𝓣 0 ps·1 r·1 (claims· .2) (claims· .3) "live::is_live_route" ×
-            Plain.Known 𝓤 H A W 𝓣 0 ps·2 r·2 (claims· .4) (claims· .5) "filter::is_chosen" ×
-            Plain.Known 𝓤 H A W 𝓣 0 ps·3 r·3 (claims· .6) (claims· .7) "filter::slot_of" ×
+            Plain.Known 𝓤 H A W 𝓣 0 ps·2 r·2 (claims· .4) (claims· .5) "slot::is_chosen" ×
+            Plain.Known 𝓤 H A W 𝓣 0 ps·3 r·3 (claims· .6) (claims· .7) "slot::slot_of" ×
             Plain.Known 𝓤 H A W 𝓣 0 ps·4 r·4 (claims· .8) (claims· .9) "filter::maybe" ×
             Plain.Known
             𝓤
@@ -4920,7 +4920,7 @@ module _ (claims· : Claims) where
               r·3
               (claims· .6)
               (claims· .7)
-              "filter::slot_of"
+              "slot::slot_of"
               (known .3)
               E
               (λ pos β. β)
@@ -4980,7 +4980,7 @@ module _ (claims· : Claims) where
               r·2
               (claims· .4)
               (claims· .5)
-              "filter::is_chosen"
+              "slot::is_chosen"
               (known .2)
               E
               (λ pos β. β)
@@ -7823,19 +7823,8 @@ module _ (claims· : Claims) where
             (claims· .2)
             (claims· .3)
             "live::is_live_route")
-            (known2 : Plain.Known
-            𝓤
-            H
-            A
-            W
-            𝓣
-            0
-            ps·2
-            r·2
-            (claims· .4)
-            (claims· .5)
-            "filter::is_chosen")
-            (known3 : Plain.Known 𝓤 H A W 𝓣 0 ps·3 r·3 (claims· .6) (claims· .7) "filter::slot_of")
+            (known2 : Plain.Known 𝓤 H A W 𝓣 0 ps·2 r·2 (claims· .4) (claims· .5) "slot::is_chosen")
+            (known3 : Plain.Known 𝓤 H A W 𝓣 0 ps·3 r·3 (claims· .6) (claims· .7) "slot::slot_of")
             (known4 : Plain.Known 𝓤 H A W 𝓣 0 ps·4 r·4 (claims· .8) (claims· .9) "filter::maybe")
             (known5 : Plain.Known
             𝓤

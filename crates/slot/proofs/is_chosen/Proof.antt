@@ -1,7 +1,7 @@
-use Rattle.filter.specs.Filter.{chosenOf}
+use Rattle.slot.specs.Slot.{chosenOf}
 use borrow.Author.Needs.{needs}
-use Rattle.filter.proofs.is_chosen.Statement.{statement}
-use Rattle.filter.proofs.is_chosen.Tie as tie
+use Rattle.slot.proofs.is_chosen.Statement.{statement}
+use Rattle.slot.proofs.is_chosen.Tie as tie
 use Rattle.lemmas.proofs.Cases.{cases}
 
 class-of-requires : tie.Need-class-of-requires

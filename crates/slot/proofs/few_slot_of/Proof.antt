@@ -1,6 +1,6 @@
-use Rattle.filter.specs.Filter.{fewSlotOf}
-use Rattle.filter.proofs.few_slot_of.Statement.{statement}
-use Rattle.filter.proofs.few_slot_of.Tie as tie
+use Rattle.slot.specs.Slot.{fewSlotOf}
+use Rattle.slot.proofs.few_slot_of.Statement.{statement}
+use Rattle.slot.proofs.few_slot_of.Tie as tie
 use Rattle.lemmas.proofs.Cases.{cases}
 
 returns : tie.Need-returns

@@ -1,6 +1,6 @@
-use Rattle.filter.specs.Filter.{classOf}
-use Rattle.filter.proofs.class_of.Statement.{statement}
-use Rattle.filter.proofs.class_of.Tie as tie
+use Rattle.slot.specs.Slot.{classOf}
+use Rattle.slot.proofs.class_of.Statement.{statement}
+use Rattle.slot.proofs.class_of.Tie as tie
 use Rattle.lemmas.proofs.Cases.{cases}
 
 returns : tie.Need-returns

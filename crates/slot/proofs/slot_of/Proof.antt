@@ -1,7 +1,7 @@
 use borrow.Author.Needs.{needs}
-use Rattle.filter.specs.Filter.{slotOf}
-use Rattle.filter.proofs.slot_of.Statement.{statement}
-use Rattle.filter.proofs.slot_of.Tie as tie
+use Rattle.slot.specs.Slot.{slotOf}
+use Rattle.slot.proofs.slot_of.Statement.{statement}
+use Rattle.slot.proofs.slot_of.Tie as tie
 use Rattle.lemmas.proofs.Cases.{cases}
 
 mul-result : tie.Need-mul-result
