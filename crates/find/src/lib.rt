@@ -3,7 +3,7 @@ ghost use mathlib.Core.Path.{_≡_};
 ghost use mathlib.Core.List.{map};
 ghost use Rattle.plain.specs.Table.{instanceDeadline, routeDeadline};
 ghost use Rattle.row.specs.Meaning.{instanceOf, routeOf};
-ghost use Rattle.live.specs.Look.{requestHere, replyHere, routeHere};
+ghost use Rattle.keyed.specs.Look.{requestHere, replyHere, routeHere};
 ghost use Rattle.first.specs.First.{first, firstFrom};
 ghost use Rattle.first.specs.Spare.{dead};
 use row::InstanceRow;
@@ -17,7 +17,7 @@ pub fn find_request(rows: &[InstanceRow], t: u64, instance: u8, dodagid: [u8; 16
 {
     let mut i: usize = 0;
     while i < rows.len() {
-        if live::is_request(rows[i], t, instance, dodagid) {
+        if keyed::is_request(rows[i], t, instance, dodagid) {
             return i;
         }
         i += 1;
@@ -31,7 +31,7 @@ pub fn find_reply(rows: &[InstanceRow], t: u64, instance: u8, dodagid: [u8; 16])
 {
     let mut i: usize = 0;
     while i < rows.len() {
-        if live::is_reply(rows[i], t, instance, dodagid) {
+        if keyed::is_reply(rows[i], t, instance, dodagid) {
             return i;
         }
         i += 1;
@@ -68,7 +68,7 @@ pub fn find_route(
 {
     let mut i: usize = 0;
     while i < routes.len() {
-        if live::is_route(routes[i], t, source, destination, instance) {
+        if keyed::is_route(routes[i], t, source, destination, instance) {
             return i;
         }
         i += 1;

@@ -14,8 +14,8 @@ use Rattle.plain.specs.Answers.{atNumber, ofKind, asRequest, asReply, requests,
 use Rattle.lemmas.proofs.Choice.{true-false, cond-true, cond-false, and-left, and-right}
 use Rattle.lemmas.proofs.Same.{same-equal}
 use Rattle.row.specs.Meaning.{instanceOf, requestOf, replyOf}
-use Rattle.live.specs.Look.{ofRow, held}
-use Rattle.live.proofs.Laws.{request-part, reply-part}
+use Rattle.keyed.specs.Look.{ofRow, held}
+use Rattle.keyed.proofs.Laws.{request-part, reply-part}
 use Rattle.row.specs.declared.InstanceRow.{InstanceRow}
 use Rattle.first.proofs.Found.{seen, kind-cons}
 use Rattle.key.specs.Pair.{sameKey, twinRows, twinsBy}

@@ -15,8 +15,8 @@ use Rattle.lemmas.proofs.Same.{same-equal}
 use Rattle.lemmas.proofs.Rules.{every-kind}
 use Rattle.row.specs.Meaning.{routeOf, routeIn}
 use Rattle.row.specs.declared.RouteRow.{RouteRow}
-use Rattle.live.specs.Look.{ofRow}
-use Rattle.live.proofs.Laws.{route-part}
+use Rattle.keyed.specs.Look.{ofRow}
+use Rattle.keyed.proofs.Laws.{route-part}
 use Rattle.first.proofs.Found.{seen}
 use Rattle.key.proofs.Any.{two-same}
 use Rattle.key.proofs.Plain.{both, two-seen, both-none, cond-self, pair-is}

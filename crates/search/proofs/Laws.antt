@@ -13,8 +13,8 @@ use Rattle.plain.specs.Answers.{ofKind, requests, replies, requestFor, replyFor
 use Rattle.lemmas.proofs.Rules.{every-kind}
 use Rattle.lemmas.proofs.Choice.{and-left, and-right, true-false}
 use Rattle.row.specs.Meaning.{instanceOf, routeOf, noRow, noRoute}
-use Rattle.live.specs.Look.{here}
-use Rattle.live.proofs.Laws.{Sort, requestSort, replySort, routeSort}
+use Rattle.keyed.specs.Look.{here}
+use Rattle.keyed.proofs.Laws.{Sort, requestSort, replySort, routeSort}
 use Rattle.row.specs.declared.InstanceRow.{InstanceRow}
 use Rattle.row.specs.declared.RouteRow.{RouteRow}
 use Rattle.first.specs.First.{first}

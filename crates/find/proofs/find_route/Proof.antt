@@ -7,7 +7,7 @@ use denote.Ref.{now}
 use lib.ListN.{length, drop}
 use Rattle.row.specs.Meaning.{routeOf, noRoute}
 use Rattle.first.specs.First.{first}
-use Rattle.live.specs.Look.{routeHere}
+use Rattle.keyed.specs.Look.{routeHere}
 use Rattle.first.proofs.Search.{at-start, at-hit, at-miss, at-end}
 use borrow.Author.Needs.{needs}
 use Rattle.find.proofs.find_route.Statement.{statement}

@@ -5,9 +5,9 @@ use Rattle.find.proofs.Lent.find_route.Kinds
 use Rattle.find.proofs.find_route.Proof.Lts
 use Rattle.find.proofs.Lent.find_route.Reads
 use Rattle.find.proofs.find_route.Statement
-use Rattle.live.proofs.is_route.Met
-use Rattle.live.proofs.is_route.Reads as Reads'
-use Rattle.live.proofs.is_route.Symbol
+use Rattle.keyed.proofs.is_route.Met
+use Rattle.keyed.proofs.is_route.Reads as Reads'
+use Rattle.keyed.proofs.is_route.Symbol
 use borrow.Fn.Run
 use borrow.Fn.Written
 use contract.Running
@@ -133,5 +133,5 @@ module _ {M : Type 1} where
       Code.env
       Symbol.name
       Symbol.routine
-      Code.calls-live·is-route
+      Code.calls-keyed·is-route
       (Met.met 𝓤 H 𝓜 𝓖 𝓡))

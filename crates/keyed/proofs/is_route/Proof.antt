@@ -1,8 +1,8 @@
 use Rattle.row.specs.Meaning.{routeIn}
-use Rattle.live.proofs.Laws.{routeSort, sort-here}
+use Rattle.keyed.proofs.Laws.{routeSort, sort-here}
 use borrow.Author.Needs.{needs}
-use Rattle.live.proofs.is_route.Statement.{statement}
-use Rattle.live.proofs.is_route.Tie as tie
+use Rattle.keyed.proofs.is_route.Statement.{statement}
+use Rattle.keyed.proofs.is_route.Tie as tie
 use Rattle.lemmas.proofs.Cases.{cases}
 use Rattle.lemmas.proofs.Choice.{and-false, cond-false}
 
