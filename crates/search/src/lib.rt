@@ -116,7 +116,7 @@ pub fn search_route(
     ensures found { λ r. ⌜ ((clock : ℕ) → clock ≤ t → routeFound r ≡ routeSeen clock (now (routes .entry)) t source destination instance) ⌝ }
     ensures here { λ r. ⌜ LiveRoute (now (routes .entry)) t r ⌝ }
 {
-    let i = find::find_route(routes, t, source, destination, instance);
+    let i = find_route::find_route(routes, t, source, destination, instance);
     if i < routes.len() {
         return found_route(i, routes[i]);
     }

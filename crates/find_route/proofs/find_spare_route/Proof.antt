@@ -12,8 +12,8 @@ use Rattle.first.specs.Spare.{dead}
 use Rattle.plain.specs.Table.{routeDeadline}
 use Rattle.first.proofs.Search.{at-start, at-hit, at-miss, at-end}
 use borrow.Author.Needs.{needs}
-use Rattle.find.proofs.find_spare_route.Statement.{statement}
-use Rattle.find.proofs.find_spare_route.Proof.Tie as tie
+use Rattle.find_route.proofs.find_spare_route.Statement.{statement}
+use Rattle.find_route.proofs.find_spare_route.Proof.Tie as tie
 
 -- The answer is i, and as many more as the search answers of the rows from i on.
 abbrev Inv-loop : tie.InvT-loop

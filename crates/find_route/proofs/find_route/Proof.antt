@@ -10,8 +10,8 @@ use Rattle.first.specs.First.{first}
 use Rattle.keyed.specs.Look.{routeHere}
 use Rattle.first.proofs.Search.{at-start, at-hit, at-miss, at-end}
 use borrow.Author.Needs.{needs}
-use Rattle.find.proofs.find_route.Statement.{statement}
-use Rattle.find.proofs.find_route.Proof.Tie as tie
+use Rattle.find_route.proofs.find_route.Statement.{statement}
+use Rattle.find_route.proofs.find_route.Proof.Tie as tie
 
 -- The answer is i, and as many more as the search answers of the rows from i on.
 abbrev Inv-loop : tie.InvT-loop
