@@ -1,5 +1,4 @@
 -- Made by tools/lend.py of the twin of `search_route`: do not edit.
-use Rattle.row.proofs.Elem.InstanceRow as KInstanceRow
 use Rattle.row.proofs.Elem.RouteRow as KRouteRow
 use Prim.Native.Nat
 use Rattle.message.proofs.FoundRoute
@@ -241,7 +240,7 @@ b5 =
 abbrev b6 : Syntax.Body
 b6 =
     Syntax.call
-    "search::found_route"
+    "search_route::found_route"
     (List._∷_
     (Syntax.copy (Syntax.place 6 List.[]))
     (List._∷_ (Syntax.copy (Syntax.place 11 List.[])) List.[]))
@@ -271,7 +270,7 @@ b13 = Syntax.cond (Syntax.copy (Syntax.place 8 List.[])) b11 b12
 abbrev b14 : Syntax.Body
 b14 =
     Syntax.call
-    "search::no_route_found"
+    "search_route::no_route_found"
     (List._∷_ (Syntax.copy (Syntax.place 6 List.[])) List.[])
     (Syntax.place 0 List.[])
 
@@ -1555,9 +1554,9 @@ module _ (claims· : Claims) where
           (𝓤 : URA.URA M) (H : Wp.Heap 𝓤) (A : Atoms.Atoms 𝓤) (W : Kit.Given 𝓤 H A) (𝓣 : Wp.Tables
           𝓤 H) (known0 : Plain.Known 𝓤 H A W 𝓣 1 ps·0 r·0 (claims· .0) (claims· .1)
           "find_route::find_route") (known1 : Plain.Known 𝓤 H A W 𝓣 0 ps·1 r·1 (claims· .2)
-          (claims· .3) "search::found_route") (known2 : Plain.Known 𝓤 H A W 𝓣 0 ps·2 r·2
-          (claims· .4) (claims· .5) "search::no_route_found") → Statement.Triple 𝓤 (Wp.WpFn 𝓤 H
-          (𝓣 .C) (𝓣 .Λ) (Function.fnOf 1 ps r xs m hs body)) (Function.plainOf 𝓤 H A 1 ps r Pre·
+          (claims· .3) "search_route::found_route") (known2 : Plain.Known 𝓤 H A W 𝓣 0 ps·2 r·2
+          (claims· .4) (claims· .5) "search_route::no_route_found") → Statement.Triple 𝓤 (Wp.WpFn 𝓤
+          H (𝓣 .C) (𝓣 .Λ) (Function.fnOf 1 ps r xs m hs body)) (Function.plainOf 𝓤 H A 1 ps r Pre·
           Post·)
 
     module _ where
@@ -1650,8 +1649,30 @@ module _ (claims· : Claims) where
         abbrev Knowns : Type 1
         Knowns =
             Plain.Known 𝓤 H A W 𝓣 1 ps·0 r·0 (claims· .0) (claims· .1) "find_route::find_route" ×
-            Plain.Known 𝓤 H A W 𝓣 0 ps·1 r·1 (claims· .2) (claims· .3) "search::found_route" ×
-            Plain.Known 𝓤 H A W 𝓣 0 ps·2 r·2 (claims· .4) (claims· .5) "search::no_route_found"
+            Plain.Known
+            𝓤
+            H
+            A
+            W
+            𝓣
+            0
+            ps·1
+            r·1
+            (claims· .2)
+            (claims· .3)
+            "search_route::found_route" ×
+            Plain.Known
+            𝓤
+            H
+            A
+            W
+            𝓣
+            0
+            ps·2
+            r·2
+            (claims· .4)
+            (claims· .5)
+            "search_route::no_route_found"
 
       module _ (κs : Lifetimes.Lfts 1) (qs : Lifetimes.Shares 1) where
         abbrev G0 : Row.Cx
@@ -1879,7 +1900,7 @@ module _ (claims· : Claims) where
               r·1
               (claims· .2)
               (claims· .3)
-              "search::found_route"
+              "search_route::found_route"
               (known .1)
               E
               (λ pos β. β)
@@ -2387,7 +2408,7 @@ module _ (claims· : Claims) where
               r·2
               (claims· .4)
               (claims· .5)
-              "search::no_route_found"
+              "search_route::no_route_found"
               (known .2)
               E
               (λ pos β. β)
@@ -3229,7 +3250,7 @@ module _ (claims· : Claims) where
             r·1
             (claims· .2)
             (claims· .3)
-            "search::found_route")
+            "search_route::found_route")
             (known2 : Plain.Known
             𝓤
             H
@@ -3241,7 +3262,7 @@ module _ (claims· : Claims) where
             r·2
             (claims· .4)
             (claims· .5)
-            "search::no_route_found") where
+            "search_route::no_route_found") where
           pub spec :
               Statement.Triple
               𝓤

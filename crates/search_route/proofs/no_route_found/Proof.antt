@@ -1,6 +1,6 @@
 use borrow.Author.Needs.{needs}
-use Rattle.search.proofs.no_route_found.Statement.{statement}
-use Rattle.search.proofs.no_route_found.Tie as tie
+use Rattle.search_route.proofs.no_route_found.Statement.{statement}
+use Rattle.search_route.proofs.no_route_found.Tie as tie
 use Rattle.lemmas.proofs.Cases.{cases}
 
 no-route-requires : tie.Need-no-route-requires

@@ -3,11 +3,12 @@ pub mod Tie
 use mathlib.Core.Path.{ap}
 use denote.Ref.{now}
 use Rattle.message.specs.Message.{routeFound}
-use Rattle.search.specs.Seen.{routeSeen}
-use Rattle.search.proofs.Laws.{routeAsk, hit, miss, hit-live, live-route-hit, live-route-miss}
+use Rattle.search_route.specs.Seen.{routeSeen}
+use Rattle.search.proofs.Laws.{hit, miss, hit-live}
+use Rattle.search_route.proofs.Laws.{routeAsk, live-route-hit, live-route-miss}
 use borrow.Author.Needs.{needs}
-use Rattle.search.proofs.search_route.Statement.{statement}
-use Rattle.search.proofs.search_route.Proof.Tie as tie
+use Rattle.search_route.proofs.search_route.Statement.{statement}
+use Rattle.search_route.proofs.search_route.Proof.Tie as tie
 
 find-route-requires : tie.Need-find-route-requires
 find-route-requires c = search needs

@@ -1,6 +1,6 @@
 -- Made by tools/lend.py of the twin of `search_route`: do not edit.
-use Rattle.search.proofs.search_route
-use Rattle.search.proofs.Lent.search_route.Kinds
+use Rattle.search_route.proofs.search_route
+use Rattle.search_route.proofs.Lent.search_route.Kinds
 use base.Logic
 use borrow.Fn.Kinds as Kinds'
 use borrow.Fn.Learn

@@ -1,5 +1,4 @@
 -- Made by tools/lend.py of the twin of `search_route`: do not edit.
-use Rattle.row.proofs.Elem.InstanceRow as KInstanceRow
 use Rattle.row.proofs.Elem.RouteRow as KRouteRow
 use Rattle.message.proofs.FoundRoute
 use Rattle.message.proofs.FoundRoute.Laws

@@ -2,18 +2,18 @@
 use Rattle.find_route.proofs.find_route.Met
 use Rattle.find_route.proofs.Lent.find_route.Reads
 use Rattle.find_route.proofs.find_route.Symbol
-use Rattle.search.proofs.found_route.Met as Met'
-use Rattle.search.proofs.found_route.Reads as Reads'
-use Rattle.search.proofs.found_route.Symbol as Symbol'
-use Rattle.search.proofs.no_route_found.Met as Met''
-use Rattle.search.proofs.no_route_found.Reads as Reads''
-use Rattle.search.proofs.no_route_found.Symbol as Symbol''
-use Rattle.search.proofs.search_route.Code
-use Rattle.search.proofs.search_route.Key
-use Rattle.search.proofs.Lent.search_route.Kinds
-use Rattle.search.proofs.search_route.Proof.Lts
-use Rattle.search.proofs.Lent.search_route.Reads as Reads'3
-use Rattle.search.proofs.search_route.Statement
+use Rattle.search_route.proofs.found_route.Met as Met'
+use Rattle.search_route.proofs.found_route.Reads as Reads'
+use Rattle.search_route.proofs.found_route.Symbol as Symbol'
+use Rattle.search_route.proofs.no_route_found.Met as Met''
+use Rattle.search_route.proofs.no_route_found.Reads as Reads''
+use Rattle.search_route.proofs.no_route_found.Symbol as Symbol''
+use Rattle.search_route.proofs.search_route.Code
+use Rattle.search_route.proofs.search_route.Key
+use Rattle.search_route.proofs.Lent.search_route.Kinds
+use Rattle.search_route.proofs.search_route.Proof.Lts
+use Rattle.search_route.proofs.Lent.search_route.Reads as Reads'3
+use Rattle.search_route.proofs.search_route.Statement
 use borrow.Fn.Run
 use borrow.Fn.Written
 use contract.Running
@@ -231,12 +231,12 @@ module _ {M : Type 1} where
       Code.env
       Symbol'.name
       Symbol'.routine
-      Code.calls-search·found-route
+      Code.calls-search-route·found-route
       (Met'.met 𝓤 H 𝓜 𝓖 𝓡))
       (Reads''.known
       record { M = M; 𝓤 = 𝓤; H = H; 𝓜 = 𝓜; 𝓖 = 𝓖; 𝓡 = 𝓡 }
       Code.env
       Symbol''.name
       Symbol''.routine
-      Code.calls-search·no-route-found
+      Code.calls-search-route·no-route-found
       (Met''.met 𝓤 H 𝓜 𝓖 𝓡))
