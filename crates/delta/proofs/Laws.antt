@@ -14,8 +14,8 @@ use Rattle.plain.specs.Answers.{replyFor}
 use Rattle.plain.specs.Rank.{plusDelta}
 use Rattle.plain.specs.Request.{leastDelta, deltaTaken, freeDelta}
 use Rattle.row.specs.Meaning.{instanceOf}
-use Rattle.live.specs.Look.{replyHere}
-use Rattle.live.proofs.Laws.{replySort}
+use Rattle.keyed.specs.Look.{replyHere}
+use Rattle.keyed.proofs.Laws.{replySort}
 use Rattle.row.specs.declared.InstanceRow.{InstanceRow}
 use Rattle.first.specs.First.{first}
 use Rattle.first.proofs.Found.{sort-any}

@@ -1,5 +1,5 @@
 -- The soundness of the filter: where it has no mark for a row's hash, no earlier row that was marked has the row's key.
-use Prim.Native.Nat.{ℕ, _+_, _<_, _≤_, _%_}
+use Prim.Native.Nat.{ℕ, _+_, _<_, _≤_}
 use mathlib.Core.Path.{_≡_, refl, sym, _∙_}
 use mathlib.Core.Bool.{Bool, true, false, cond, _||_}
 use mathlib.Core.List.{List, [], _∷_}
@@ -7,13 +7,15 @@ use mathlib.Core.Logic.{⊎-elim}
 use native.Mathlib.Omega.{arith}
 use native.Mathlib.Nat.{eq-or-lt-of-le}
 use lib.Dec.{eqb}
-use lib.Bits.{bitOr, bitAnd, and-le-r}
+use lib.Bits.{bitOr}
 use lib.ListN.{length, getD, set, take, length-take, length-set}
 use lib.Seq.{getD-set-same, getD-set-other, getD-take}
 use borrow.Author.Tests.{eqb-true, eqb-false, eq-eqb}
 use Rattle.plain.specs.Lists.{any, anyTwo}
 use Rattle.lemmas.proofs.Choice.{true-false, cond-true, or-left, or-right, or-neither}
-use Rattle.filter.specs.Filter.{bitsOf, hasBits, maybeOf, markedOf, classOf, chosenOf, inClass}
+use Rattle.filter.specs.Filter.{bitsOf, hasBits, maybeOf, markedOf, inClass}
+use Rattle.slot.specs.Slot.{classOf, chosenOf}
+use Rattle.slot.proofs.Laws.{class-le}
 use Rattle.key.specs.Pair.{twinsBy}
 use Rattle.key.proofs.Plain.{twins-are}
 use Rattle.key.proofs.Any.{not-so, so, any-false, any-not, two-start, two-hit, two-more, two-end, two-less}
@@ -175,12 +177,12 @@ module _ (slot : ℕ → ℕ) (T : Table) (mask p : ℕ) (rows : List (T .Row)) 
 
 module _ {R : Type 0} (hash : R → ℕ) (twins : R → R → Bool) (mask : ℕ) where
   any-class : (x : R) (ys : List R) → ((q : ℕ) → q < mask + 1 → any (inClass hash mask q twins x) ys ≡ false) → any (twins x) ys ≡ false
-  unfolding any inClass classOf
+  unfolding any inClass
   any-class x [] f = refl
   any-class x (y ∷ ys) f =
       let c = classOf mask (hash y) in
       let e : inClass hash mask c twins x y || any (inClass hash mask c twins x) ys ≡ false =
-      f c (omega (arith, and-le-r (hash y % 65536) mask)) in
+      f c (omega (arith, class-le mask (hash y))) in
       let g : inClass hash mask c twins x y ≡ false = or-left (inClass hash mask c twins x y) (any (inClass hash mask c twins x) ys) e in
       or-neither (twins x y) (any (twins x) ys) (rw (eq-eqb c c refl) at g)
       (any-class x ys (λ q l. or-right (inClass hash mask q twins x y) (any (inClass hash mask q twins x) ys) (f q l)))
@@ -217,8 +219,8 @@ module _ (T : Table) (mask : ℕ) (rows : List (T .Row)) where
 
 -- every row is of the one class
 pub one-chosen : (v : Bool) (h : ℕ) → v ≡ chosenOf 0 0 v h
-unfolding chosenOf classOf
-one-chosen true h = sym (eq-eqb (bitAnd (h % 65536) 0) 0 (omega (arith, and-le-r (h % 65536) 0)))
+unfolding chosenOf
+one-chosen true h = sym (eq-eqb (classOf 0 h) 0 (omega (arith, class-le 0 h)))
 one-chosen false h = refl
 
 pub all-class : {R : Type 0} (hash : R → ℕ) (twins : R → R → Bool) (rows : List R) → anyTwo (inClass hash 0 0 twins) rows ≡ false

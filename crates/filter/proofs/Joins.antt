@@ -4,7 +4,8 @@ use Rattle.plain.specs.Table.{live, instanceDeadline, routeDeadline}
 use Rattle.row.specs.Meaning.{instanceOf, routeOf, noRow, noRoute}
 use Rattle.row.specs.declared.InstanceRow.{InstanceRow}
 use Rattle.row.specs.declared.RouteRow.{RouteRow}
-use Rattle.key.specs.Pair.{sameKey, sameThree}
+use Rattle.key.specs.Pair.{sameKey}
+use Rattle.route_key.specs.Pair.{sameThree}
 use Rattle.hash.specs.Hash.{hashRow, hashRoute}
 use Rattle.hash.proofs.Keyed.{row-hashed, route-hashed}
 use Rattle.filter.proofs.Filter.{Table}

@@ -3,15 +3,10 @@
 use Prim.Native.Nat.{ℕ, _*_, _/_, _%_, _^_}
 use mathlib.Core.Bool.{Bool, false, cond}
 use lib.Dec.{eqb}
-use lib.Bits.{bitOr, bitAnd}
+use lib.Bits.{bitOr}
+use Rattle.slot.specs.Slot.{classOf}
 
 -- ---- the words
-
-unfoldable pub fewSlotOf : ℕ → ℕ
-fewSlotOf h = h % 4294967296 / 67108864
-
-unfoldable pub slotOf : ℕ → ℕ
-slotOf h = h % 4294967296 * 3 / 8388608
 
 abbrev pub bitAt : ℕ → ℕ
 bitAt k = 1 * 2 ^ k % 18446744073709551616
@@ -31,13 +26,6 @@ unfoldable pub markedOf : Bool → ℕ → ℕ → ℕ
 markedOf on w h = cond on (bitOr w (bitsOf h)) w
 
 -- ---- the passes
-
-unfoldable pub classOf : ℕ → ℕ → ℕ
-classOf mask h = bitAnd (h % 65536) mask
-
--- a row is looked at in a pass where it is live and its hash is of the pass's class
-unfoldable pub chosenOf : ℕ → ℕ → Bool → ℕ → Bool
-chosenOf mask p live h = cond live (eqb (classOf mask h) p) false
 
 -- twins of the pass's class
 unfoldable pub inClass : {R : Type 0} → (R → ℕ) → ℕ → ℕ → (R → R → Bool) → R → R → Bool

@@ -1,25 +1,9 @@
 // The filter that the search for twins goes by: the words in which the hash of a key has its bits.
 ghost use mathlib.Core.Path.{_≡_};
 ghost use Prim.Native.Nat.{_<_};
-ghost use Rattle.filter.specs.Filter.{fewSlotOf, slotOf, bitsOf, maybeOf, markedOf, classOf, chosenOf};
+ghost use Rattle.filter.specs.Filter.{bitsOf, maybeOf, markedOf};
 
-// The filter: 64 or 1,536 words. The high end of the hash's low half tells the word, other parts of the hash five bits of it.
-
-pub fn few_slot_of(h: u64) -> usize
-    ensures { λ r. ⌜ r ≡ fewSlotOf h ⌝ }
-    ensures { λ r. ⌜ r < 64 ⌝ }
-{
-    (h % 4294967296 / 67108864) as usize
-}
-
-// 1,536 times the part of 2^32 that the low half of the hash is: a remainder by 1,536 would cost more.
-pub fn slot_of(h: u64) -> usize
-    ensures { λ r. ⌜ r ≡ slotOf h ⌝ }
-    ensures { λ r. ⌜ r < 1536 ⌝ }
-{
-    (h % 4294967296 * 3 / 8388608) as usize
-}
-
+// The five bits are told by other parts of the hash than the word is (crates/slot).
 fn bits_of(h: u64) -> u64
     ensures { λ r. ⌜ r ≡ bitsOf h ⌝ }
 {
@@ -49,22 +33,6 @@ pub fn marked(on: bool, w: u64, h: u64) -> u64
         return w | b;
     }
     w
-}
-
-fn class_of(mask: u64, h: u64) -> u64
-    ensures { λ r. ⌜ r ≡ classOf mask h ⌝ }
-{
-    h % 65536 & mask
-}
-
-// A live row of the pass's class.
-pub fn is_chosen(mask: u64, p: u64, live: bool, h: u64) -> bool
-    ensures { λ r. ⌜ r ≡ chosenOf mask p live h ⌝ }
-{
-    if live {
-        return class_of(mask, h) == p;
-    }
-    false
 }
 
 // One class for each 4,096 rows, up to 64. Any mask gives the same answer, so no clause says which.

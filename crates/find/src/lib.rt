@@ -1,15 +1,12 @@
-// Searches over the two lent tables.
+// Searches over the lent table of instance rows.
 ghost use mathlib.Core.Path.{_≡_};
 ghost use mathlib.Core.List.{map};
-ghost use Rattle.plain.specs.Table.{instanceDeadline, routeDeadline};
-ghost use Rattle.row.specs.Meaning.{instanceOf, routeOf};
-ghost use Rattle.live.specs.Look.{requestHere, replyHere, routeHere};
+ghost use Rattle.plain.specs.Table.{instanceDeadline};
+ghost use Rattle.row.specs.Meaning.{instanceOf};
+ghost use Rattle.keyed.specs.Look.{requestHere, replyHere};
 ghost use Rattle.first.specs.First.{first, firstFrom};
 ghost use Rattle.first.specs.Spare.{dead};
 use row::InstanceRow;
-use row::RouteRow;
-
-// ---- instance rows
 
 // The first request row of that key that is live at t, or the length.
 pub fn find_request(rows: &[InstanceRow], t: u64, instance: u8, dodagid: [u8; 16]) -> usize
@@ -17,7 +14,7 @@ pub fn find_request(rows: &[InstanceRow], t: u64, instance: u8, dodagid: [u8; 16
 {
     let mut i: usize = 0;
     while i < rows.len() {
-        if live::is_request(rows[i], t, instance, dodagid) {
+        if keyed::is_request(rows[i], t, instance, dodagid) {
             return i;
         }
         i += 1;
@@ -31,7 +28,7 @@ pub fn find_reply(rows: &[InstanceRow], t: u64, instance: u8, dodagid: [u8; 16])
 {
     let mut i: usize = 0;
     while i < rows.len() {
-        if live::is_reply(rows[i], t, instance, dodagid) {
+        if keyed::is_reply(rows[i], t, instance, dodagid) {
             return i;
         }
         i += 1;
@@ -46,43 +43,6 @@ pub fn find_spare(rows: &[InstanceRow], t: u64, from: usize) -> usize
     let mut i: usize = from;
     while i < rows.len() {
         if live::is_live(rows[i], t) {
-            i += 1;
-        } else {
-            return i;
-        }
-    }
-    i
-}
-
-// ---- routes
-
-// The first route of those three that is live at t, or the length.
-pub fn find_route(
-    routes: &[RouteRow],
-    t: u64,
-    source: [u8; 16],
-    destination: [u8; 16],
-    instance: u8,
-) -> usize
-    ensures { λ r. ⌜ r ≡ first (routeHere t source destination instance) (map routeOf (now (routes .entry))) ⌝ }
-{
-    let mut i: usize = 0;
-    while i < routes.len() {
-        if live::is_route(routes[i], t, source, destination, instance) {
-            return i;
-        }
-        i += 1;
-    }
-    i
-}
-
-// The first route that is not live at t, or the length.
-pub fn find_spare_route(routes: &[RouteRow], t: u64) -> usize
-    ensures { λ r. ⌜ r ≡ first (dead routeDeadline t) (map routeOf (now (routes .entry))) ⌝ }
-{
-    let mut i: usize = 0;
-    while i < routes.len() {
-        if live::is_live_route(routes[i], t) {
             i += 1;
         } else {
             return i;

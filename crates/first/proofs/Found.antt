@@ -16,8 +16,8 @@ use Rattle.plain.specs.Table.{Numbered, lasts, live, liveFrom, liveRows}
 use Rattle.plain.specs.Answers.{atNumber, ofKind}
 use Rattle.lemmas.proofs.Choice.{true-false, cond-true}
 use Rattle.lemmas.proofs.Rules.{lasts-before}
-use Rattle.live.specs.Look.{ofRow, held, here}
-use Rattle.live.proofs.Laws.{Sort, sort-here}
+use Rattle.keyed.specs.Look.{ofRow, held, here}
+use Rattle.keyed.proofs.Laws.{Sort, sort-here}
 use Rattle.first.specs.First.{first}
 
 -- ---- the first of a kind that is so

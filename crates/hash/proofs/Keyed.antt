@@ -6,8 +6,10 @@ use lib.Bits.{bitXor}
 use Rattle.plain.specs.Address.{Address}
 use Rattle.row.specs.declared.InstanceRow.{InstanceRow}
 use Rattle.row.specs.declared.RouteRow.{RouteRow}
-use Rattle.key.specs.Pair.{sameKey, sameThree}
-use Rattle.key.proofs.Plain.{key-parts, three-parts}
+use Rattle.key.specs.Pair.{sameKey}
+use Rattle.key.proofs.Plain.{key-parts}
+use Rattle.route_key.specs.Pair.{sameThree}
+use Rattle.route_key.proofs.Plain.{three-parts}
 use Rattle.hash.specs.Hash.{finishOf, hashAddress, hashRow, hashRoute}
 
 of-three : {A B C : Type 0} (f : A → B → C → ℕ) {a x : A} {b y : B} {c z : C} → (a ≡ x) × (b ≡ y) × (c ≡ z) → f a b c ≡ f x y z

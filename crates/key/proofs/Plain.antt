@@ -1,4 +1,4 @@
--- Twins among records are twins among the live rows of the plain node's tables.
+-- Twins among instance rows are twins among the live rows of the plain node's table.
 use Prim.Native.Nat.{ℕ, suc}
 use mathlib.Core.Path.{_≡_, refl, sym, _∙_}
 use mathlib.Core.Bool.{Bool, true, false, cond, _&&_, _||_, and-true, or-false}
@@ -8,19 +8,17 @@ use mathlib.Core.Logic.{_⊎_, inl, inr}
 use lib.Dec.{eqb}
 use borrow.Author.Tests.{eqb-true}
 use Rattle.plain.specs.Lists.{any, anyTwo, same}
-use Rattle.plain.specs.Given.{RequestRow, ReplyRow, Instance, Route}
-use Rattle.plain.specs.Table.{Numbered, live, liveFrom, liveRows, instanceDeadline, routeDeadline}
-use Rattle.plain.specs.Answers.{atNumber, ofKind, asRequest, asReply, requests, replies, requestTwins, replyTwins, routeTwins}
+use Rattle.plain.specs.Given.{RequestRow, ReplyRow, Instance}
+use Rattle.plain.specs.Table.{Numbered, live, liveFrom, liveRows, instanceDeadline}
+use Rattle.plain.specs.Answers.{atNumber, ofKind, asRequest, asReply, requests, replies, requestTwins, replyTwins}
 use Rattle.lemmas.proofs.Choice.{true-false, cond-true, cond-false, and-left, and-right}
 use Rattle.lemmas.proofs.Same.{same-equal}
-use Rattle.row.specs.Meaning.{instanceOf, routeOf, requestOf, replyOf, routeIn}
-use Rattle.live.specs.Look.{ofRow, held}
-use Rattle.live.proofs.Laws.{request-part, reply-part, route-part}
+use Rattle.row.specs.Meaning.{instanceOf, requestOf, replyOf}
+use Rattle.keyed.specs.Look.{ofRow, held}
+use Rattle.keyed.proofs.Laws.{request-part, reply-part}
 use Rattle.row.specs.declared.InstanceRow.{InstanceRow}
-use Rattle.row.specs.declared.RouteRow.{RouteRow}
-use Rattle.lemmas.proofs.Rules.{every-kind}
 use Rattle.first.proofs.Found.{seen, kind-cons}
-use Rattle.key.specs.Pair.{sameKey, twinRows, sameThree, twinRoutes, twinsBy}
+use Rattle.key.specs.Pair.{sameKey, twinRows, twinsBy}
 use Rattle.key.proofs.Any.{two-same, two-either}
 
 pub key-near : (a b : InstanceRow) → eqb (a .kind) (b .kind) ≡ true → same (a .dodagid) (b .dodagid) ≡ true
@@ -40,17 +38,6 @@ key-parts a b e =
       same-equal (a .dodagid) (b .dodagid) (and-right (eqb (a .instance) (b .instance)) (same (a .dodagid) (b .dodagid)) r),
     )
 
-pub three-parts : (a b : RouteRow) → sameThree a b ≡ true
-    → (a .source ≡ b .source) × (a .destination ≡ b .destination) × (a .instance ≡ b .instance)
-unfolding sameThree
-three-parts a b e =
-    let two = same (a .source) (b .source) && same (a .destination) (b .destination) in
-    let r = and-left two (eqb (a .instance) (b .instance)) e in (
-      same-equal (a .source) (b .source) (and-left (same (a .source) (b .source)) (same (a .destination) (b .destination)) r),
-      same-equal (a .destination) (b .destination) (and-right (same (a .source) (b .source)) (same (a .destination) (b .destination)) r),
-      eqb-true (a .instance) (b .instance) (and-right two (eqb (a .instance) (b .instance)) e),
-    )
-
 -- twins are of one key, and both live
 pub twins-are : {A : Type 0} (key : A → A → Bool) (lives : A → Bool) (a b : A) → twinsBy key lives a b ≡ true
     → (key a b ≡ true) × (lives a ≡ true) × (lives b ≡ true)
@@ -63,7 +50,7 @@ twins-are key lives a b e =
 -- ---- what is said of the live rows of a kind is said of the records
 
 -- both are there, and are so
-abbrev both : {B : Type 0} → (B → B → Bool) → Option B → Option B → Bool
+abbrev pub both : {B : Type 0} → (B → B → Bool) → Option B → Option B → Bool
 both q none o = false
 both q (some a) o = held (q a) o
 
@@ -88,7 +75,7 @@ module _ {R A B : Type 0} (read : R → Option A) (deadline : A → Option ℕ) 
       go none e = e
       go (some b) e = rw e
 
-  two-seen : (q : B → B → Bool) (i : ℕ) (rows : List R)
+  pub two-seen : (q : B → B → Bool) (i : ℕ) (rows : List R)
       → anyTwo (λ (n m : Numbered B). q (n .row) (m .row)) (ofKind part (liveFrom deadline c i (map read rows)))
       ≡ anyTwo (λ (a b : R). both q (seen deadline part c (read a)) (seen deadline part c (read b))) rows
   unfolding anyTwo ofKind liveFrom
@@ -104,15 +91,26 @@ module _ {R A B : Type 0} (read : R → Option A) (deadline : A → Option ℕ) 
       go none e = rw (any-never rows) e
       go (some a) e = rw (any-seen (q a) (suc i) rows, e)
 
--- ---- instance rows
-
-both-none : {B : Type 0} (q : B → B → Bool) (o : Option B) → both q o none ≡ false
+pub both-none : {B : Type 0} (q : B → B → Bool) (o : Option B) → both q o none ≡ false
 both-none q none = refl
 both-none q (some b) = refl
 
-cond-self : (k : Bool) → k ≡ cond k true false
+pub cond-self : (k : Bool) → k ≡ cond k true false
 cond-self true = refl
 cond-self false = refl
+
+-- G says something of two rows that are seen, and of one that is not live nothing
+pub pair-is : {A : Type 0} (key : A → A → Bool) (lives : A → Bool) (a b : A) (G : Bool → Bool → Bool) → ((y : Bool) → G false y ≡ false)
+    → G true false ≡ false → (lives a ≡ true → lives b ≡ true → G true true ≡ cond (key a b) true false) → G (lives a) (lives b) ≡ twinsBy key lives a b
+unfolding twinsBy
+pair-is key lives a b G f g h = go (lives a) refl (lives b) refl
+  where
+    go : (x : Bool) → lives a ≡ x → (y : Bool) → lives b ≡ y → G x y ≡ cond (key a b) (cond x y false) false
+    go false e y d = f y ∙ sym (cond-false (key a b))
+    go true e false d = g ∙ sym (cond-false (key a b))
+    go true e true d = h e d
+
+-- ---- instance rows
 
 -- a live row is of one of the two kinds
 live-kind : (t : ℕ) (r : InstanceRow) → live instanceDeadline t (instanceOf r) ≡ true → (r .kind ≡ 1) ⊎ (r .kind ≡ 2)
@@ -125,25 +123,6 @@ live-kind t r = go (eqb (r .kind) 1) refl (eqb (r .kind) 2) refl
     go true e y f l = inl (eqb-true (r .kind) 1 e)
     go false e true f l = inr (eqb-true (r .kind) 2 f)
     go false e false f l = true-false (sym l)
-
-live-route : (t : ℕ) (r : RouteRow) → live routeDeadline t (routeOf r) ≡ true → r .kind ≡ 1
-unfolding routeOf
-live-route t r = go (eqb (r .kind) 1) refl
-  where
-    go : (x : Bool) → eqb (r .kind) 1 ≡ x → live routeDeadline t (cond x (some (routeIn r)) none) ≡ true → r .kind ≡ 1
-    go true e l = eqb-true (r .kind) 1 e
-    go false e l = true-false (sym l)
-
--- G says something of two rows that are seen, and of one that is not live nothing
-pair-is : {A : Type 0} (key : A → A → Bool) (lives : A → Bool) (a b : A) (G : Bool → Bool → Bool) → ((y : Bool) → G false y ≡ false)
-    → G true false ≡ false → (lives a ≡ true → lives b ≡ true → G true true ≡ cond (key a b) true false) → G (lives a) (lives b) ≡ twinsBy key lives a b
-unfolding twinsBy
-pair-is key lives a b G f g h = go (lives a) refl (lives b) refl
-  where
-    go : (x : Bool) → lives a ≡ x → (y : Bool) → lives b ≡ y → G x y ≡ cond (key a b) (cond x y false) false
-    go false e y d = f y ∙ sym (cond-false (key a b))
-    go true e false d = g ∙ sym (cond-false (key a b))
-    go true e true d = h e d
 
 abbrev sameRequest : RequestRow → RequestRow → Bool
 sameRequest a b = eqb (a .instance) (b .instance) && same (a .dodagid) (b .dodagid)
@@ -190,27 +169,3 @@ rows-twins t rows =
     (λ (a b : InstanceRow). both sameReply (seen instanceDeadline asReply t (instanceOf a)) (seen instanceDeadline asReply t (instanceOf b)))
     rows
     ∙ two-same _ (twinRows t) (row-pair t) rows))
-
--- ---- routes
-
-abbrev sameRoute : Route → Route → Bool
-sameRoute a b = same (a .source) (b .source) && same (a .destination) (b .destination) && eqb (a .instance) (b .instance)
-
-module _ (t : ℕ) (a b : RouteRow) where
-  both-live-routes : a .kind ≡ 1 → b .kind ≡ 1 → both sameRoute (ofRow some (routeOf a)) (ofRow some (routeOf b)) ≡ cond (sameThree a b) true false
-  unfolding sameThree routeIn
-  both-live-routes e f =
-      rw (route-part a, route-part b, e, f)
-      (cond-self (same (a .source) (b .source) && same (a .destination) (b .destination) && eqb (a .instance) (b .instance)))
-
-  route-pair : both sameRoute (seen routeDeadline some t (routeOf a)) (seen routeDeadline some t (routeOf b)) ≡ twinRoutes t a b
-  route-pair =
-      pair-is sameThree (λ (r : RouteRow). live routeDeadline t (routeOf r)) a b
-      (λ x y. both sameRoute (cond x (ofRow some (routeOf a)) none) (cond y (ofRow some (routeOf b)) none))
-      (λ y. refl) (both-none sameRoute (ofRow some (routeOf a))) (λ e f. both-live-routes (live-route t a e) (live-route t b f))
-
--- ".. or two routes of the same key, both live at the last accepted time"
-pub routes-twins : (t : ℕ) (routes : List RouteRow) → anyTwo (twinRoutes t) routes ≡ anyTwo routeTwins (liveRows routeDeadline t (map routeOf routes))
-routes-twins t routes =
-    rw (every-kind (liveRows routeDeadline t (map routeOf routes)))
-    (sym (two-seen routeOf routeDeadline some t sameRoute 0 routes ∙ two-same _ (twinRoutes t) (route-pair t) routes))

@@ -1,9 +1,8 @@
-// Two rows of a table, by value: whether they have one key, and are twins (01, answer 2).
+// Two instance rows, by value: whether they have one key, and are twins (01, answer 2).
 ghost use mathlib.Core.Path.{_≡_};
 ghost use lib.Dec.{eqb};
-ghost use Rattle.key.specs.Pair.{sameKey, sameThree, twinRows, twinRoutes, endingOf};
+ghost use Rattle.key.specs.Pair.{sameKey, twinRows, endingOf};
 use row::InstanceRow;
-use row::RouteRow;
 
 // The addresses are compared first: few are the same, while kinds and numbers often are.
 fn is_same_key(a: InstanceRow, b: InstanceRow) -> bool
@@ -33,34 +32,6 @@ pub fn are_twins(a: InstanceRow, b: InstanceRow, t: u64) -> bool
     false
 }
 
-fn is_same_three(a: RouteRow, b: RouteRow) -> bool
-    ensures { λ r. ⌜ r ≡ sameThree a b ⌝ }
-{
-    let d = a.destination;
-    let y = b.destination;
-    if address::is_same(d, y) {
-        let s = a.source;
-        let x = b.source;
-        if address::is_same(s, x) {
-            return a.instance == b.instance;
-        }
-        return false;
-    }
-    false
-}
-
-pub fn are_twin_routes(a: RouteRow, b: RouteRow, t: u64) -> bool
-    ensures { λ r. ⌜ r ≡ twinRoutes t a b ⌝ }
-{
-    if is_same_three(a, b) {
-        if live::is_live_route(a, t) {
-            return live::is_live_route(b, t);
-        }
-        return false;
-    }
-    false
-}
-
 // ---- the last octet of a key's address
 
 pub fn ending(r: InstanceRow) -> u8
@@ -74,19 +45,5 @@ pub fn does_end(r: InstanceRow, e: u8) -> bool
     ensures { λ b. ⌜ b ≡ eqb (endingOf (r .dodagid)) e ⌝ }
 {
     let d = r.dodagid;
-    d[15] == e
-}
-
-pub fn route_ending(r: RouteRow) -> u8
-    ensures { λ e. ⌜ e ≡ endingOf (r .destination) ⌝ }
-{
-    let d = r.destination;
-    d[15]
-}
-
-pub fn does_route_end(r: RouteRow, e: u8) -> bool
-    ensures { λ b. ⌜ b ≡ eqb (endingOf (r .destination)) e ⌝ }
-{
-    let d = r.destination;
     d[15] == e
 }

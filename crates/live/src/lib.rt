@@ -1,15 +1,14 @@
-// One row of each table, by value: whether it is live, and of a key.
+// One row of each table, by value: whether it is live.
 ghost use mathlib.Core.Path.{_≡_};
 ghost use mathlib.Core.Bool.{_||_};
 ghost use lib.Dec.{eqb};
 ghost use Rattle.plain.specs.Table.{lasts, live, instanceDeadline, routeDeadline};
 ghost use Rattle.row.specs.Meaning.{deadlineOf, instanceOf, routeOf};
-ghost use Rattle.live.specs.Look.{requestHere, replyHere, routeHere};
 use row::InstanceRow;
 use row::RouteRow;
 
 // Without a branch: in a mixed table no processor foretells which rows have a deadline.
-fn does_last(endless: u8, deadline: u64, t: u64) -> bool
+pub fn does_last(endless: u8, deadline: u64, t: u64) -> bool
     ensures { λ b. ⌜ b ≡ lasts t (deadlineOf endless deadline) ⌝ }
 {
     endless | row::bit(t < deadline) != 0
@@ -36,40 +35,6 @@ pub fn is_live(r: InstanceRow, t: u64) -> bool
     false
 }
 
-// A request row of that key, live at t. The address is compared first: few rows have it, while kinds and numbers are often the same.
-pub fn is_request(r: InstanceRow, t: u64, instance: u8, dodagid: [u8; 16]) -> bool
-    ensures { λ b. ⌜ b ≡ requestHere t instance dodagid (instanceOf r) ⌝ }
-{
-    let d = r.dodagid;
-    if address::is_same(d, dodagid) {
-        if r.kind != 1 {
-            return false;
-        }
-        if r.instance != instance {
-            return false;
-        }
-        return does_last(r.endless, r.deadline, t);
-    }
-    false
-}
-
-// A reply row of that key, live at t.
-pub fn is_reply(r: InstanceRow, t: u64, instance: u8, dodagid: [u8; 16]) -> bool
-    ensures { λ b. ⌜ b ≡ replyHere t instance dodagid (instanceOf r) ⌝ }
-{
-    let d = r.dodagid;
-    if address::is_same(d, dodagid) {
-        if r.kind != 2 {
-            return false;
-        }
-        if r.instance != instance {
-            return false;
-        }
-        return does_last(r.endless, r.deadline, t);
-    }
-    false
-}
-
 // ---- a route
 
 pub fn is_live_route(r: RouteRow, t: u64) -> bool
@@ -77,27 +42,6 @@ pub fn is_live_route(r: RouteRow, t: u64) -> bool
 {
     if r.kind == 1 {
         return does_last(r.endless, r.deadline, t);
-    }
-    false
-}
-
-// A route of those three, live at t. Many routes have one source, our own, so the destination is compared first.
-pub fn is_route(r: RouteRow, t: u64, source: [u8; 16], destination: [u8; 16], instance: u8) -> bool
-    ensures { λ b. ⌜ b ≡ routeHere t source destination instance (routeOf r) ⌝ }
-{
-    let d = r.destination;
-    if address::is_same(d, destination) {
-        if r.kind != 1 {
-            return false;
-        }
-        let s = r.source;
-        if address::is_same(s, source) {
-            if r.instance == instance {
-                return does_last(r.endless, r.deadline, t);
-            }
-            return false;
-        }
-        return false;
     }
     false
 }

@@ -33,7 +33,8 @@ use Rattle.message.specs.declared.FoundRoute.{FoundRoute}
 use Rattle.message.specs.declared.FreeDelta.{FreeDelta}
 use Rattle.decision.specs.Decision.{Fits}
 use Rattle.decision.specs.declared.Post.{Post}
-use Rattle.search.specs.Seen.{requestSeen, replySeen, routeSeen, partnerSeen, LiveRow, LiveRoute}
+use Rattle.search.specs.Seen.{requestSeen, replySeen, partnerSeen, LiveRow}
+use Rattle.search_route.specs.Seen.{routeSeen, LiveRoute}
 use Rattle.delta.specs.Delta.{deltaSeen}
 use Rattle.finish.specs.Gives.{stateOf, decisionOf, Ready}
 use Rattle.finish.specs.declared.Live.{Live}

@@ -95,7 +95,7 @@ pub fn take_request(
     let dodagid = dodagid_of(*p);
     let receiving = own::receiving_of(o);
     let f = search::search_request(instances, t, instance, dodagid);
-    let g = search::search_route(routes, t, receiving, dodagid, instance);
+    let g = search_route::search_route(routes, t, receiving, dodagid, instance);
     let targ = targ_node::is_targ_node(o, *p);
     let free = delta::free_delta_if(targ, instances, t, instance, receiving);
     let a = request::gather(o, k, *p, targ, f, g, free);
@@ -148,7 +148,7 @@ pub fn take_reply(
     if is_found(w) {
         let dodagid = dodagid_of(*p);
         let f = search::search_reply(instances, t, instance_of(*p), dodagid);
-        let g = search::search_route(routes, t, orig, dodagid, number);
+        let g = search_route::search_route(routes, t, orig, dodagid, number);
         let a = reply::gather(o, k, *p, found_row(w), f, g);
         let answer = reply_answer::judge(o, k, *p, vector, a);
         if answer::number(answer) != 0 {

@@ -8,8 +8,8 @@ use Rattle.plain.specs.Address.{Address}
 use Rattle.plain.specs.Answers.{requestFor}
 use Rattle.lemmas.proofs.Choice.{true-false}
 use Rattle.row.specs.Meaning.{flag, instanceOf, requestOf}
-use Rattle.live.specs.Look.{requestHere}
-use Rattle.live.proofs.Laws.{requestSort, sort-here}
+use Rattle.keyed.specs.Look.{requestHere}
+use Rattle.keyed.proofs.Laws.{requestSort, sort-here}
 use Rattle.row.specs.declared.InstanceRow.{InstanceRow}
 use Rattle.partner.specs.Partner.{partnerFor, partnerHere}
 

@@ -5,7 +5,7 @@ use mathlib.Core.Option.{Option}
 use Rattle.plain.specs.Address.{Address}
 use Rattle.plain.specs.Given.{RequestRow, Instance}
 use Rattle.plain.specs.Answers.{asRequest, requestFor}
-use Rattle.live.specs.Look.{here}
+use Rattle.keyed.specs.Look.{here}
 
 -- 8: "a live partner request row of the same H", one row of a table
 abbrev pub partnerFor : ℕ → ℕ → Address → Bool → RequestRow → Bool

@@ -10,7 +10,7 @@ use row::InstanceRow;
 pub fn is_partner(r: InstanceRow, t: u64, instance: u8, dodagid: [u8; 16], h: bool) -> bool
     ensures { λ b. ⌜ b ≡ partnerHere t instance dodagid h (instanceOf r) ⌝ }
 {
-    if live::is_request(r, t, instance, dodagid) {
+    if keyed::is_request(r, t, instance, dodagid) {
         if r.h == 0 {
             if h {
                 return false;

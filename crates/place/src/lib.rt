@@ -102,7 +102,7 @@ pub fn place_route(routes: &[RouteRow], t: u64, routed: bool, is: bool, at: usiz
         if is {
             return route_to(at, routes.len());
         }
-        return route_to(find::find_spare_route(routes, t), routes.len());
+        return route_to(find_route::find_spare_route(routes, t), routes.len());
     }
     no_route(routes.len())
 }

@@ -1,5 +1,5 @@
 -- What a search answers is what the rules find.
-use Prim.Native.Nat.{ℕ, _-_, _<_, _≤_}
+use Prim.Native.Nat.{ℕ, _<_, _≤_}
 use mathlib.Core.Path.{_≡_, refl, sym, _∙_}
 use mathlib.Core.Bool.{Bool, true, false, Bool·beq, _&&_}
 use mathlib.Core.List.{List, map}
@@ -8,21 +8,18 @@ use lib.Dec.{eqb}
 use lib.ListN.{length, getD}
 use Rattle.plain.specs.Lists.{firstOf, same}
 use Rattle.plain.specs.Address.{Address}
-use Rattle.plain.specs.Table.{Numbered, lasts, live, liveRows, instanceDeadline, routeDeadline}
-use Rattle.plain.specs.Answers.{ofKind, requests, replies, requestFor, replyFor, routeFor}
-use Rattle.lemmas.proofs.Rules.{every-kind}
+use Rattle.plain.specs.Table.{Numbered, lasts, live, liveRows, instanceDeadline}
+use Rattle.plain.specs.Answers.{ofKind, requests, replies, requestFor, replyFor}
 use Rattle.lemmas.proofs.Choice.{and-left, and-right, true-false}
-use Rattle.row.specs.Meaning.{instanceOf, routeOf, noRow, noRoute}
-use Rattle.live.specs.Look.{here}
-use Rattle.live.proofs.Laws.{Sort, requestSort, replySort, routeSort}
+use Rattle.row.specs.Meaning.{instanceOf, noRow}
+use Rattle.keyed.specs.Look.{here}
+use Rattle.keyed.proofs.Laws.{Sort, requestSort, replySort}
 use Rattle.row.specs.declared.InstanceRow.{InstanceRow}
-use Rattle.row.specs.declared.RouteRow.{RouteRow}
 use Rattle.first.specs.First.{first}
 use Rattle.first.proofs.Found.{sort-is, sort-live, sort-found, sort-missing}
 use Rattle.message.specs.declared.Found.{Found}
-use Rattle.message.specs.declared.FoundRoute.{FoundRoute}
 use Rattle.partner.specs.Partner.{partnerFor}
-use Rattle.search.specs.Seen.{LiveRow, LiveRoute}
+use Rattle.search.specs.Seen.{LiveRow}
 
 -- ---- what a search hands on
 
@@ -39,16 +36,7 @@ module _ (rows : List InstanceRow) (f : Found) (k : ℕ) where
       lives = rw e (λ q. true-false (sym q));
     }
 
-module _ (routes : List RouteRow) (f : FoundRoute) (k : ℕ) where
-  module _ (e : f ≡ record { is = true; at = k; route = getD routes k noRoute }) where
-    pub live-route-hit : (t : ℕ) → k < length routes → live routeDeadline t (routeOf (getD routes k noRoute)) ≡ true → LiveRoute routes t f
-    live-route-hit t h l = record { within = rw e (λ _. h); lives = rw e (λ _. l) }
-
-  module _ (e : f ≡ record { is = false; at = k; route = noRoute }) where
-    pub live-route-miss : (t : ℕ) → LiveRoute routes t f
-    live-route-miss t = record { within = rw e (λ q. true-false (sym q)); lives = rw e (λ q. true-false (sym q)) }
-
--- ---- request rows, reply rows, routes, and a partner
+-- ---- request rows, reply rows, a partner, and routes (crates/search_route)
 
 -- A search for a row of a kind that is so, which none is that is not live at t; and all rows of the kind, as the rules name them.
 pub record Ask (t : ℕ) : Type 1 where
@@ -106,13 +94,4 @@ replyAsk t instance dodagid = record {
   lives = λ b. and-right (eqb (b .instance) instance && same (b .dodagid) dodagid) (lasts t (b .deadline));
   all = replies;
   all-are = λ ns. refl;
-}
-
-abbrev pub routeAsk : (t : ℕ) → Address → Address → ℕ → Ask t
-routeAsk t source destination instance = record {
-  sort = routeSort;
-  test = routeFor t source destination instance;
-  lives = λ b. and-right (same (b .source) source && same (b .destination) destination && eqb (b .instance) instance) (lasts t (b .deadline));
-  all = λ ns. ns;
-  all-are = every-kind;
 }

@@ -7,15 +7,14 @@ use mathlib.Core.Option.{Option}
 use lib.ListN.{length, getD}
 use Rattle.plain.specs.Lists.{firstOf}
 use Rattle.plain.specs.Address.{Address}
-use Rattle.plain.specs.Given.{RequestRow, ReplyRow, Route}
+use Rattle.plain.specs.Given.{RequestRow, ReplyRow}
 use Rattle.plain.specs.Table.{Numbered, live, liveRows, instanceDeadline, routeDeadline}
-use Rattle.plain.specs.Answers.{View, requests, liveRequest, liveReply, liveRoute}
-use Rattle.row.specs.Meaning.{instanceOf, routeOf, noRow, noRoute}
+use Rattle.plain.specs.Answers.{View, requests, liveRequest, liveReply}
+use Rattle.row.specs.Meaning.{instanceOf, routeOf, noRow}
 use Rattle.partner.specs.Partner.{partnerFor}
 use Rattle.row.specs.declared.InstanceRow.{InstanceRow}
 use Rattle.row.specs.declared.RouteRow.{RouteRow}
 use Rattle.message.specs.declared.Found.{Found}
-use Rattle.message.specs.declared.FoundRoute.{FoundRoute}
 
 -- the view of the tables at a clock; it is asked for rows alone
 abbrev pub seenAt : ℕ → List InstanceRow → List RouteRow → View
@@ -32,9 +31,6 @@ requestSeen clock rows t instance dodagid = liveRequest (seenAt clock rows []) t
 unfoldable pub replySeen : ℕ → List InstanceRow → ℕ → ℕ → Address → Option (Numbered ReplyRow)
 replySeen clock rows t instance dodagid = liveReply (seenAt clock rows []) t instance dodagid
 
-unfoldable pub routeSeen : ℕ → List RouteRow → ℕ → Address → Address → ℕ → Option (Numbered Route)
-routeSeen clock routes t source destination instance = liveRoute (seenAt clock [] routes) t source destination instance
-
 unfoldable pub partnerSeen : ℕ → List InstanceRow → ℕ → ℕ → Address → Bool → Option (Numbered RequestRow)
 partnerSeen clock rows t instance dodagid h =
     firstOf (λ (n : Numbered RequestRow). partnerFor t instance dodagid h (n .row)) (requests (seenAt clock rows [] .instances))
@@ -44,7 +40,3 @@ pub record LiveRow (rows : List InstanceRow) (t : ℕ) (f : Found) : Type 0 wher
   pub within : f .is ≡ true → f .at < length rows
   pub stands : f .is ≡ true → f .row ≡ getD rows (f .at) noRow
   pub lives : f .is ≡ true → live instanceDeadline t (instanceOf (getD rows (f .at) noRow)) ≡ true
-
-pub record LiveRoute (routes : List RouteRow) (t : ℕ) (f : FoundRoute) : Type 0 where
-  pub within : f .is ≡ true → f .at < length routes
-  pub lives : f .is ≡ true → live routeDeadline t (routeOf (getD routes (f .at) noRoute)) ≡ true

@@ -1,15 +1,13 @@
-// What the tables hold for a call: the live rows of its keys, and a partner.
+// What the table of instance rows holds for a call: the live rows of its keys, and a partner.
 ghost use mathlib.Core.Path.{_≡_};
 ghost use mathlib.Core.Bool.{true, false};
 ghost use Prim.Native.Nat.{ℕ, _≤_};
 ghost use Rattle.plain.specs.Lists.{given};
-ghost use Rattle.row.specs.Meaning.{noRow, noRoute};
-ghost use Rattle.search.specs.Seen.{requestSeen, replySeen, routeSeen, partnerSeen, LiveRow, LiveRoute};
-ghost use Rattle.message.specs.Message.{requestFound, replyFound, routeFound};
+ghost use Rattle.row.specs.Meaning.{noRow};
+ghost use Rattle.search.specs.Seen.{requestSeen, replySeen, partnerSeen, LiveRow};
+ghost use Rattle.message.specs.Message.{requestFound, replyFound};
 use message::Found;
-use message::FoundRoute;
 use row::InstanceRow;
-use row::RouteRow;
 
 // ---- by value
 
@@ -30,28 +28,7 @@ fn not_found(at: usize) -> Found
     }
 }
 
-fn found_route(at: usize, route: RouteRow) -> FoundRoute
-    ensures { λ r. ⌜ r ≡ record { is = true; at = at; route = route } ⌝ }
-{
-    FoundRoute {
-        is: true,
-        at,
-        route,
-    }
-}
-
-fn no_route_found(at: usize) -> FoundRoute
-    ensures { λ r. ⌜ r ≡ record { is = false; at = at; route = noRoute } ⌝ }
-{
-    let none = row::no_route();
-    FoundRoute {
-        is: false,
-        at,
-        route: none,
-    }
-}
-
-// ---- over the lent tables
+// ---- over the lent table
 
 // The live request row of a key.
 pub fn search_request(rows: &[InstanceRow], t: u64, instance: u8, dodagid: [u8; 16]) -> Found
@@ -103,22 +80,4 @@ pub fn search_partner(
         return found(i, rows[i]);
     }
     not_found(i)
-}
-
-// The live route of a key.
-pub fn search_route(
-    routes: &[RouteRow],
-    t: u64,
-    source: [u8; 16],
-    destination: [u8; 16],
-    instance: u8,
-) -> FoundRoute
-    ensures found { λ r. ⌜ ((clock : ℕ) → clock ≤ t → routeFound r ≡ routeSeen clock (now (routes .entry)) t source destination instance) ⌝ }
-    ensures here { λ r. ⌜ LiveRoute (now (routes .entry)) t r ⌝ }
-{
-    let i = find::find_route(routes, t, source, destination, instance);
-    if i < routes.len() {
-        return found_route(i, routes[i]);
-    }
-    no_route_found(i)
 }

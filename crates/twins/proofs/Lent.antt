@@ -1,14 +1,7 @@
 pub mod every_pair
-pub mod every_pair_of_routes
 pub mod few
-pub mod few_routes
 pub mod has_ending
-pub mod has_route_ending
 pub mod has_twins
-pub mod has_twins_route
 pub mod pass
-pub mod pass_routes
 pub mod passes
-pub mod passes_routes
 pub mod scan
-pub mod scan_routes

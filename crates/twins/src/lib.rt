@@ -1,4 +1,4 @@
-// Whether two live rows of a table have one key (answer 2). Up to 16 rows every pair is compared, by the last octet of its addresses first.
+// Whether two live instance rows have one key (answer 2). Up to 16 rows every pair is compared, by the last octet of its addresses first.
 // Above, a filter on the stack tells most rows that no earlier row has their key; only where it does not are the earlier rows gone through.
 // Up to 128 rows the filter has 512 octets, above 12 KiB, and one pass takes the rows of one class of hashes, so that the filter does not
 // fill up in a long table.
@@ -9,16 +9,13 @@ ghost use Prim.Native.Nat.{_<_};
 ghost use lib.Dec.{eqb};
 ghost use lib.ListN.{length, getD, take};
 ghost use Rattle.plain.specs.Lists.{any, anyTwo};
-ghost use Rattle.plain.specs.Table.{liveRows, instanceDeadline, routeDeadline};
-ghost use Rattle.plain.specs.Answers.{requests, replies, requestTwins, replyTwins, routeTwins};
-ghost use Rattle.row.specs.Meaning.{instanceOf, routeOf, noRow, noRoute};
-ghost use Rattle.key.specs.Pair.{twinRows, twinRoutes, endingOf};
-ghost use Rattle.hash.specs.Hash.{hashRow, hashRoute};
+ghost use Rattle.plain.specs.Table.{liveRows, instanceDeadline};
+ghost use Rattle.plain.specs.Answers.{requests, replies, requestTwins, replyTwins};
+ghost use Rattle.row.specs.Meaning.{instanceOf, noRow};
+ghost use Rattle.key.specs.Pair.{twinRows, endingOf};
+ghost use Rattle.hash.specs.Hash.{hashRow};
 ghost use Rattle.filter.specs.Filter.{inClass};
 use row::InstanceRow;
-use row::RouteRow;
-
-// ---- instance rows
 
 // Whether the row at j has a twin before it. It is called for only where it is not clear that it has none, and from several places, so that
 // it is not compiled into any.
@@ -77,7 +74,7 @@ fn few(rows: &[InstanceRow], t: u64) -> bool
     while j < rows.len() {
         let h = hash::hash_row(rows[j]);
         let on = live::is_live(rows[j], t);
-        let s = filter::few_slot_of(h);
+        let s = slot::few_slot_of(h);
         let w = words[s];
         if filter::maybe(on, w, h) {
             if scan(rows, j, t) {
@@ -98,8 +95,8 @@ fn pass(rows: &[InstanceRow], t: u64, mask: u64, p: u64) -> bool
     let mut j: usize = 0;
     while j < rows.len() {
         let h = hash::hash_row(rows[j]);
-        let on = filter::is_chosen(mask, p, live::is_live(rows[j], t), h);
-        let s = filter::slot_of(h);
+        let on = slot::is_chosen(mask, p, live::is_live(rows[j], t), h);
+        let s = slot::slot_of(h);
         let w = words[s];
         if filter::maybe(on, w, h) {
             if scan(rows, j, t) {
@@ -142,122 +139,4 @@ pub fn has_twins(rows: &[InstanceRow], clock: u64) -> bool
         return few(rows, clock);
     }
     passes(rows, clock)
-}
-
-// ---- routes
-
-fn scan_routes(routes: &[RouteRow], j: usize, t: u64) -> bool
-    requires { ⌜ j < length (now routes) ⌝ }
-    ensures { λ b. ⌜ b ≡ any (λ a. twinRoutes t a (getD (now (routes .entry)) j noRoute)) (take j (now (routes .entry))) ⌝ }
-{
-    let mut i: usize = 0;
-    while i < j {
-        if key::are_twin_routes(routes[i], routes[j], t) {
-            return true;
-        }
-        i += 1;
-    }
-    false
-}
-
-fn has_route_ending(routes: &[RouteRow], j: usize) -> bool
-    requires { ⌜ j < length (now routes) ⌝ }
-    ensures { λ b. ⌜ b ≡ any (λ a. eqb (endingOf (a .destination)) (endingOf (getD (now (routes .entry)) j noRoute .destination))) (take j (now (routes .entry))) ⌝ }
-{
-    let e = key::route_ending(routes[j]);
-    let mut i: usize = 0;
-    while i < j {
-        if key::does_route_end(routes[i], e) {
-            return true;
-        }
-        i += 1;
-    }
-    false
-}
-
-fn every_pair_of_routes(routes: &[RouteRow], t: u64) -> bool
-    ensures { λ b. ⌜ b ≡ anyTwo (twinRoutes t) (now (routes .entry)) ⌝ }
-{
-    let mut j: usize = 0;
-    while j < routes.len() {
-        if has_route_ending(routes, j) {
-            if scan_routes(routes, j, t) {
-                return true;
-            }
-        }
-        j += 1;
-    }
-    false
-}
-
-fn few_routes(routes: &[RouteRow], t: u64) -> bool
-    ensures { λ b. ⌜ b ≡ anyTwo (twinRoutes t) (now (routes .entry)) ⌝ }
-{
-    let mut words: [u64; 64] = [0; 64];
-    let mut j: usize = 0;
-    while j < routes.len() {
-        let h = hash::hash_route(routes[j]);
-        let on = live::is_live_route(routes[j], t);
-        let s = filter::few_slot_of(h);
-        let w = words[s];
-        if filter::maybe(on, w, h) {
-            if scan_routes(routes, j, t) {
-                return true;
-            }
-        }
-        words[s] = filter::marked(on, w, h);
-        j += 1;
-    }
-    false
-}
-
-fn pass_routes(routes: &[RouteRow], t: u64, mask: u64, p: u64) -> bool
-    ensures { λ b. ⌜ b ≡ anyTwo (inClass hashRoute mask p (twinRoutes t)) (now (routes .entry)) ⌝ }
-{
-    let mut words: [u64; 1536] = [0; 1536];
-    let mut j: usize = 0;
-    while j < routes.len() {
-        let h = hash::hash_route(routes[j]);
-        let on = filter::is_chosen(mask, p, live::is_live_route(routes[j], t), h);
-        let s = filter::slot_of(h);
-        let w = words[s];
-        if filter::maybe(on, w, h) {
-            if scan_routes(routes, j, t) {
-                return true;
-            }
-        }
-        words[s] = filter::marked(on, w, h);
-        j += 1;
-    }
-    false
-}
-
-fn passes_routes(routes: &[RouteRow], t: u64) -> bool
-    ensures { λ b. ⌜ b ≡ anyTwo (twinRoutes t) (now (routes .entry)) ⌝ }
-{
-    let mask = filter::mask_for(routes.len());
-    if pass_routes(routes, t, mask, 0) {
-        return true;
-    }
-    let mut p: u64 = 1;
-    while p <= mask {
-        if pass_routes(routes, t, mask, p) {
-            return true;
-        }
-        p += 1;
-    }
-    false
-}
-
-// Two routes of one source, destination and RPLInstanceID, both live at the clock.
-pub fn has_twins_route(routes: &[RouteRow], clock: u64) -> bool
-    ensures { λ b. ⌜ b ≡ anyTwo routeTwins (liveRows routeDeadline clock (map routeOf (now (routes .entry)))) ⌝ }
-{
-    if routes.len() <= 16 {
-        return every_pair_of_routes(routes, clock);
-    }
-    if routes.len() <= 128 {
-        return few_routes(routes, clock);
-    }
-    passes_routes(routes, clock)
 }

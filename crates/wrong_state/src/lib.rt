@@ -25,7 +25,7 @@ pub fn is_wrong(instances: &[InstanceRow], routes: &[RouteRow], clock: u64, seq:
             if twins::has_twins(instances, clock) {
                 return true;
             }
-            return twins::has_twins_route(routes, clock);
+            return route_twins::has_twins_route(routes, clock);
         }
         return true;
     }

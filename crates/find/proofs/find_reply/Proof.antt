@@ -7,7 +7,7 @@ use denote.Ref.{now}
 use lib.ListN.{length, drop}
 use Rattle.row.specs.Meaning.{instanceOf, noRow}
 use Rattle.first.specs.First.{first}
-use Rattle.live.specs.Look.{replyHere}
+use Rattle.keyed.specs.Look.{replyHere}
 use Rattle.first.proofs.Search.{at-start, at-hit, at-miss, at-end}
 use borrow.Author.Needs.{needs}
 use Rattle.find.proofs.find_reply.Statement.{statement}

@@ -8,7 +8,7 @@ use denote.Ref.{now}
 use lib.ListN.{length}
 use Rattle.key.specs.Pair.{twinRows}
 use Rattle.hash.specs.Hash.{hashRow}
-use Rattle.filter.specs.Filter.{fewSlotOf}
+use Rattle.slot.specs.Slot.{fewSlotOf}
 use Rattle.filter.proofs.Filter.{Passed, passed-none, passed-hit, passed-more, passed-all, asked, unasked, one-chosen, one-class, all-class}
 use borrow.Author.Needs.{needs}
 use Rattle.twins.proofs.few.Statement.{statement}

@@ -6,7 +6,7 @@ use mathlib.Core.Path.{sym, _∙_}
 use mathlib.Core.Logic.{⊎-elim}
 use denote.Ref.{now}
 use lib.ListN.{length}
-use Rattle.filter.specs.Filter.{slotOf}
+use Rattle.slot.specs.Slot.{slotOf}
 use Rattle.filter.proofs.Filter.{Passed, passed-none, passed-hit, passed-more, passed-all, asked, unasked}
 use borrow.Author.Needs.{needs}
 use Rattle.twins.proofs.pass.Statement.{statement}

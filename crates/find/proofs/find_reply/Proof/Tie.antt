@@ -5,9 +5,9 @@ use Rattle.find.proofs.Lent.find_reply.Kinds
 use Rattle.find.proofs.find_reply.Proof.Lts
 use Rattle.find.proofs.Lent.find_reply.Reads
 use Rattle.find.proofs.find_reply.Statement
-use Rattle.live.proofs.is_reply.Met
-use Rattle.live.proofs.is_reply.Reads as Reads'
-use Rattle.live.proofs.is_reply.Symbol
+use Rattle.keyed.proofs.is_reply.Met
+use Rattle.keyed.proofs.is_reply.Reads as Reads'
+use Rattle.keyed.proofs.is_reply.Symbol
 use borrow.Fn.Run
 use borrow.Fn.Written
 use contract.Running
@@ -133,5 +133,5 @@ module _ {M : Type 1} where
       Code.env
       Symbol.name
       Symbol.routine
-      Code.calls-live·is-reply
+      Code.calls-keyed·is-reply
       (Met.met 𝓤 H 𝓜 𝓖 𝓡))

@@ -1,6 +1,5 @@
 -- Made by tools/lend.py of the twin of `find_request`: do not edit.
 use Rattle.row.proofs.Elem.InstanceRow as KInstanceRow
-use Rattle.row.proofs.Elem.RouteRow as KRouteRow
 use Prim.Native.Nat
 use borrow.Author.Called
 use borrow.Author.Tests
@@ -167,7 +166,7 @@ b8 =
 abbrev b9 : Syntax.Body
 b9 =
     Syntax.call
-    "live::is_request"
+    "keyed::is_request"
     (List._∷_
     (Syntax.copy (Syntax.place 10 List.[]))
     (List._∷_
@@ -1023,8 +1022,8 @@ module _ (claims· : Claims) where
       Closed =
           (𝓤 : URA.URA M) (H : Wp.Heap 𝓤) (A : Atoms.Atoms 𝓤) (W : Kit.Given 𝓤 H A) (𝓣 : Wp.Tables
           𝓤 H) (known0 : Plain.Known 𝓤 H A W 𝓣 0 ps·0 r·0 (claims· .0) (claims· .1)
-          "live::is_request") → Statement.Triple 𝓤 (Wp.WpFn 𝓤 H (𝓣 .C) (𝓣 .Λ) (Function.fnOf 1 ps r
-          xs m hs body)) (Function.plainOf 𝓤 H A 1 ps r Pre· Post·)
+          "keyed::is_request") → Statement.Triple 𝓤 (Wp.WpFn 𝓤 H (𝓣 .C) (𝓣 .Λ) (Function.fnOf 1 ps
+          r xs m hs body)) (Function.plainOf 𝓤 H A 1 ps r Pre· Post·)
 
     module _ (Inv·0 : InvT-loop) (μ·0 : MeasureT-loop) where
       abbrev at0 : Typed.TF T8 O4
@@ -1166,7 +1165,7 @@ module _ (claims· : Claims) where
       module _ {M : Type 1} (𝓤 : URA.URA M) (H : Wp.Heap 𝓤) (A : Atoms.Atoms 𝓤)
           (W : Kit.Given 𝓤 H A) (𝓣 : Wp.Tables 𝓤 H) where
         abbrev Knowns : Type 1
-        Knowns = Plain.Known 𝓤 H A W 𝓣 0 ps·0 r·0 (claims· .0) (claims· .1) "live::is_request"
+        Knowns = Plain.Known 𝓤 H A W 𝓣 0 ps·0 r·0 (claims· .0) (claims· .1) "keyed::is_request"
 
       module _ (κs : Lifetimes.Lfts 1) (qs : Lifetimes.Shares 1) where
         abbrev G0 : Row.Cx
@@ -1709,7 +1708,7 @@ module _ (claims· : Claims) where
               r·0
               (claims· .0)
               (claims· .1)
-              "live::is_request"
+              "keyed::is_request"
               known
               E
               (λ pos β. β)
@@ -3002,7 +3001,7 @@ module _ (claims· : Claims) where
             r·0
             (claims· .0)
             (claims· .1)
-            "live::is_request") where
+            "keyed::is_request") where
           pub spec :
               Statement.Triple
               𝓤

@@ -5,9 +5,9 @@ use Rattle.find.proofs.Lent.find_request.Kinds
 use Rattle.find.proofs.find_request.Proof.Lts
 use Rattle.find.proofs.Lent.find_request.Reads
 use Rattle.find.proofs.find_request.Statement
-use Rattle.live.proofs.is_request.Met
-use Rattle.live.proofs.is_request.Reads as Reads'
-use Rattle.live.proofs.is_request.Symbol
+use Rattle.keyed.proofs.is_request.Met
+use Rattle.keyed.proofs.is_request.Reads as Reads'
+use Rattle.keyed.proofs.is_request.Symbol
 use borrow.Fn.Run
 use borrow.Fn.Written
 use contract.Running
@@ -133,5 +133,5 @@ module _ {M : Type 1} where
       Code.env
       Symbol.name
       Symbol.routine
-      Code.calls-live·is-request
+      Code.calls-keyed·is-request
       (Met.met 𝓤 H 𝓜 𝓖 𝓡))

@@ -1508,7 +1508,7 @@ b19 =
 abbrev b20 : Syntax.Body
 b20 =
     Syntax.call
-    "search::search_route"
+    "search_route::search_route"
     (List._∷_
     (Syntax.copy (Syntax.place 35 List.[]))
     (List._∷_
@@ -26335,14 +26335,14 @@ module _ (claims· : Claims) where
           (claims· .12) (claims· .13) "node::dodagid_of") (known7 : Plain.Known 𝓤 H A W 𝓣 0 ps·7
           r·7 (claims· .14) (claims· .15) "node::instance_of") (known8 : Plain.Known 𝓤 H A W 𝓣 1
           ps·8 r·8 (claims· .16) (claims· .17) "search::search_reply") (known9 : Plain.Known 𝓤 H A
-          W 𝓣 1 ps·9 r·9 (claims· .18) (claims· .19) "search::search_route") (known10 : Plain.Known
-          𝓤 H A W 𝓣 0 ps·10 r·10 (claims· .20) (claims· .21)
-          "node::found_row") (known11 : Plain.Known 𝓤 H A W 𝓣 0 ps·11 r·11 (claims· .22)
-          (claims· .23) "reply::gather") (known12 : Plain.Known 𝓤 H A W 𝓣 1 ps·12 r·12
-          (claims· .24) (claims· .25) "reply_answer::judge") (known13 : Plain.Known 𝓤 H A W 𝓣 0
-          ps·13 r·13 (claims· .26) (claims· .27) "answer::number") (known14 : Plain.Known 𝓤 H A W 𝓣
-          0 ps·14 r·14 (claims· .28) (claims· .29) "outcome::refused") (known15 : Plain.Known 𝓤 H A
-          W 𝓣 0 ps·15 r·15 (claims· .30) (claims· .31)
+          W 𝓣 1 ps·9 r·9 (claims· .18) (claims· .19)
+          "search_route::search_route") (known10 : Plain.Known 𝓤 H A W 𝓣 0 ps·10 r·10 (claims· .20)
+          (claims· .21) "node::found_row") (known11 : Plain.Known 𝓤 H A W 𝓣 0 ps·11 r·11
+          (claims· .22) (claims· .23) "reply::gather") (known12 : Plain.Known 𝓤 H A W 𝓣 1 ps·12
+          r·12 (claims· .24) (claims· .25) "reply_answer::judge") (known13 : Plain.Known 𝓤 H A W 𝓣
+          0 ps·13 r·13 (claims· .26) (claims· .27) "answer::number") (known14 : Plain.Known 𝓤 H A W
+          𝓣 0 ps·14 r·14 (claims· .28) (claims· .29) "outcome::refused") (known15 : Plain.Known 𝓤 H
+          A W 𝓣 0 ps·15 r·15 (claims· .30) (claims· .31)
           "reply_stored::accepted") (known16 : Plain.Known 𝓤 H A W 𝓣 1 ps·16 r·16 (claims· .32)
           (claims· .33) "reply_sent::forward_post") (known17 : Plain.Known 𝓤 H A W 𝓣 0 ps·17 r·17
           (claims· .34) (claims· .35) "decision::no_post") (known18 : Plain.Known 𝓤 H A W 𝓣 0 ps·18
@@ -26873,7 +26873,18 @@ module _ (claims· : Claims) where
             Plain.Known 𝓤 H A W 𝓣 0 ps·6 r·6 (claims· .12) (claims· .13) "node::dodagid_of" ×
             Plain.Known 𝓤 H A W 𝓣 0 ps·7 r·7 (claims· .14) (claims· .15) "node::instance_of" ×
             Plain.Known 𝓤 H A W 𝓣 1 ps·8 r·8 (claims· .16) (claims· .17) "search::search_reply" ×
-            Plain.Known 𝓤 H A W 𝓣 1 ps·9 r·9 (claims· .18) (claims· .19) "search::search_route" ×
+            Plain.Known
+            𝓤
+            H
+            A
+            W
+            𝓣
+            1
+            ps·9
+            r·9
+            (claims· .18)
+            (claims· .19)
+            "search_route::search_route" ×
             Plain.Known 𝓤 H A W 𝓣 0 ps·10 r·10 (claims· .20) (claims· .21) "node::found_row" ×
             Plain.Known 𝓤 H A W 𝓣 0 ps·11 r·11 (claims· .22) (claims· .23) "reply::gather" ×
             Plain.Known 𝓤 H A W 𝓣 1 ps·12 r·12 (claims· .24) (claims· .25) "reply_answer::judge" ×
@@ -44201,7 +44212,7 @@ module _ (claims· : Claims) where
               r·9
               (claims· .18)
               (claims· .19)
-              "search::search_route"
+              "search_route::search_route"
               (known .9)
               E
               (λ pos β. β)
@@ -51212,7 +51223,7 @@ module _ (claims· : Claims) where
             r·9
             (claims· .18)
             (claims· .19)
-            "search::search_route")
+            "search_route::search_route")
             (known10 : Plain.Known
             𝓤
             H

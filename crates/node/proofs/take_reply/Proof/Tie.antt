@@ -65,9 +65,9 @@ use Rattle.search.proofs.search_partner.Symbol as Symbol'18
 use Rattle.search.proofs.search_reply.Met as Met'19
 use Rattle.search.proofs.Lent.search_reply.Reads as Reads'20
 use Rattle.search.proofs.search_reply.Symbol as Symbol'19
-use Rattle.search.proofs.search_route.Met as Met'20
-use Rattle.search.proofs.Lent.search_route.Reads as Reads'21
-use Rattle.search.proofs.search_route.Symbol as Symbol'20
+use Rattle.search_route.proofs.search_route.Met as Met'20
+use Rattle.search_route.proofs.Lent.search_route.Reads as Reads'21
+use Rattle.search_route.proofs.search_route.Symbol as Symbol'20
 use borrow.Fn.Run
 use borrow.Fn.Written
 use contract.Running
@@ -4328,7 +4328,7 @@ module _ {M : Type 1} where
       Code.env
       Symbol'20.name
       Symbol'20.routine
-      Code.calls-search·search-route
+      Code.calls-search-route·search-route
       (Met'20.met 𝓤 H 𝓜 𝓖 𝓡))
       (Reads'5.known
       record { M = M; 𝓤 = 𝓤; H = H; 𝓜 = 𝓜; 𝓖 = 𝓖; 𝓡 = 𝓡 }

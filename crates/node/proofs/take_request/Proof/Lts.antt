@@ -1483,7 +1483,7 @@ b10 =
 abbrev b11 : Syntax.Body
 b11 =
     Syntax.call
-    "search::search_route"
+    "search_route::search_route"
     (List._∷_
     (Syntax.copy (Syntax.place 30 List.[]))
     (List._∷_
@@ -29606,7 +29606,7 @@ module _ (claims· : Claims) where
           "node::dodagid_of") (known3 : Plain.Known 𝓤 H A W 𝓣 0 ps·3 r·3 (claims· .6) (claims· .7)
           "own::receiving_of") (known4 : Plain.Known 𝓤 H A W 𝓣 1 ps·4 r·4 (claims· .8) (claims· .9)
           "search::search_request") (known5 : Plain.Known 𝓤 H A W 𝓣 1 ps·5 r·5 (claims· .10)
-          (claims· .11) "search::search_route") (known6 : Plain.Known 𝓤 H A W 𝓣 0 ps·6 r·6
+          (claims· .11) "search_route::search_route") (known6 : Plain.Known 𝓤 H A W 𝓣 0 ps·6 r·6
           (claims· .12) (claims· .13) "request_targets::is_targ_node") (known7 : Plain.Known 𝓤 H A
           W 𝓣 1 ps·7 r·7 (claims· .14) (claims· .15) "delta::free_delta_if") (known8 : Plain.Known
           𝓤 H A W 𝓣 0 ps·8 r·8 (claims· .16) (claims· .17) "request::gather") (known9 : Plain.Known
@@ -30071,7 +30071,18 @@ module _ (claims· : Claims) where
             Plain.Known 𝓤 H A W 𝓣 0 ps·2 r·2 (claims· .4) (claims· .5) "node::dodagid_of" ×
             Plain.Known 𝓤 H A W 𝓣 0 ps·3 r·3 (claims· .6) (claims· .7) "own::receiving_of" ×
             Plain.Known 𝓤 H A W 𝓣 1 ps·4 r·4 (claims· .8) (claims· .9) "search::search_request" ×
-            Plain.Known 𝓤 H A W 𝓣 1 ps·5 r·5 (claims· .10) (claims· .11) "search::search_route" ×
+            Plain.Known
+            𝓤
+            H
+            A
+            W
+            𝓣
+            1
+            ps·5
+            r·5
+            (claims· .10)
+            (claims· .11)
+            "search_route::search_route" ×
             Plain.Known
             𝓤
             H
@@ -48247,7 +48258,7 @@ module _ (claims· : Claims) where
               r·5
               (claims· .10)
               (claims· .11)
-              "search::search_route"
+              "search_route::search_route"
               (known .5)
               E
               (λ pos β. β)
@@ -52678,7 +52689,7 @@ module _ (claims· : Claims) where
             r·5
             (claims· .10)
             (claims· .11)
-            "search::search_route")
+            "search_route::search_route")
             (known6 : Plain.Known
             𝓤
             H

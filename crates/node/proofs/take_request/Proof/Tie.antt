@@ -53,9 +53,9 @@ use Rattle.targ_node.proofs.is_targ_node.Symbol as Symbol'14
 use Rattle.search.proofs.search_request.Met as Met'15
 use Rattle.search.proofs.Lent.search_request.Reads as Reads'16
 use Rattle.search.proofs.search_request.Symbol as Symbol'15
-use Rattle.search.proofs.search_route.Met as Met'16
-use Rattle.search.proofs.Lent.search_route.Reads as Reads'17
-use Rattle.search.proofs.search_route.Symbol as Symbol'16
+use Rattle.search_route.proofs.search_route.Met as Met'16
+use Rattle.search_route.proofs.Lent.search_route.Reads as Reads'17
+use Rattle.search_route.proofs.search_route.Symbol as Symbol'16
 use borrow.Fn.Run
 use borrow.Fn.Written
 use contract.Running
@@ -2991,7 +2991,7 @@ module _ {M : Type 1} where
       Code.env
       Symbol'16.name
       Symbol'16.routine
-      Code.calls-search·search-route
+      Code.calls-search-route·search-route
       (Met'16.met 𝓤 H 𝓜 𝓖 𝓡))
       (Reads'15.known
       record { M = M; 𝓤 = 𝓤; H = H; 𝓜 = 𝓜; 𝓖 = 𝓖; 𝓡 = 𝓡 }

@@ -197,7 +197,7 @@ b8 = Syntax.cond (Syntax.copy (Syntax.place 7 List.[])) b6 b7
 abbrev b9 : Syntax.Body
 b9 =
     Syntax.call
-    "find::find_spare_route"
+    "find_route::find_spare_route"
     (List._∷_
     (Syntax.copy (Syntax.place 1 List.[]))
     (List._∷_ (Syntax.copy (Syntax.place 2 List.[])) List.[]))
@@ -1217,7 +1217,7 @@ module _ (claims· : Claims) where
           (𝓤 : URA.URA M) (H : Wp.Heap 𝓤) (A : Atoms.Atoms 𝓤) (W : Kit.Given 𝓤 H A) (𝓣 : Wp.Tables
           𝓤 H) (known0 : Plain.Known 𝓤 H A W 𝓣 0 ps·0 r·0 (claims· .0) (claims· .1)
           "place::route_to") (known1 : Plain.Known 𝓤 H A W 𝓣 1 ps·1 r·1 (claims· .2) (claims· .3)
-          "find::find_spare_route") (known2 : Plain.Known 𝓤 H A W 𝓣 0 ps·2 r·2 (claims· .4)
+          "find_route::find_spare_route") (known2 : Plain.Known 𝓤 H A W 𝓣 0 ps·2 r·2 (claims· .4)
           (claims· .5) "place::no_route") → Statement.Triple 𝓤 (Wp.WpFn 𝓤 H (𝓣 .C) (𝓣 .Λ)
           (Function.fnOf 1 ps r xs m hs body)) (Function.plainOf 𝓤 H A 1 ps r Pre· Post·)
 
@@ -1344,7 +1344,18 @@ module _ (claims· : Claims) where
         abbrev Knowns : Type 1
         Knowns =
             Plain.Known 𝓤 H A W 𝓣 0 ps·0 r·0 (claims· .0) (claims· .1) "place::route_to" ×
-            Plain.Known 𝓤 H A W 𝓣 1 ps·1 r·1 (claims· .2) (claims· .3) "find::find_spare_route" ×
+            Plain.Known
+            𝓤
+            H
+            A
+            W
+            𝓣
+            1
+            ps·1
+            r·1
+            (claims· .2)
+            (claims· .3)
+            "find_route::find_spare_route" ×
             Plain.Known 𝓤 H A W 𝓣 0 ps·2 r·2 (claims· .4) (claims· .5) "place::no_route"
 
       module _ (κs : Lifetimes.Lfts 1) (qs : Lifetimes.Shares 1) where
@@ -2083,7 +2094,7 @@ module _ (claims· : Claims) where
               r·1
               (claims· .2)
               (claims· .3)
-              "find::find_spare_route"
+              "find_route::find_spare_route"
               (known .1)
               E
               (λ pos β. β)
@@ -3072,7 +3083,7 @@ module _ (claims· : Claims) where
             r·1
             (claims· .2)
             (claims· .3)
-            "find::find_spare_route")
+            "find_route::find_spare_route")
             (known2 : Plain.Known
             𝓤
             H

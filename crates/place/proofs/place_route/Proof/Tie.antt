@@ -1,7 +1,7 @@
 -- Made by tools/lend.py of the twin of `place_route`: do not edit.
-use Rattle.find.proofs.find_spare_route.Met
-use Rattle.find.proofs.Lent.find_spare_route.Reads
-use Rattle.find.proofs.find_spare_route.Symbol
+use Rattle.find_route.proofs.find_spare_route.Met
+use Rattle.find_route.proofs.Lent.find_spare_route.Reads
+use Rattle.find_route.proofs.find_spare_route.Symbol
 use Rattle.place.proofs.no_route.Met as Met'
 use Rattle.place.proofs.no_route.Reads as Reads'
 use Rattle.place.proofs.no_route.Symbol as Symbol'
@@ -251,7 +251,7 @@ module _ {M : Type 1} where
       Code.env
       Symbol.name
       Symbol.routine
-      Code.calls-find·find-spare-route
+      Code.calls-find-route·find-spare-route
       (Met.met 𝓤 H 𝓜 𝓖 𝓡))
       (Reads'.known
       record { M = M; 𝓤 = 𝓤; H = H; 𝓜 = 𝓜; 𝓖 = 𝓖; 𝓡 = 𝓡 }

@@ -1,6 +1,5 @@
 -- Made by tools/lend.py of the twin of `search_reply`: do not edit.
 use Rattle.row.proofs.Elem.InstanceRow as KInstanceRow
-use Rattle.row.proofs.Elem.RouteRow as KRouteRow
 use Rattle.message.proofs.Found
 use Rattle.message.proofs.Found.Laws
 use borrow.Fn.Kinds

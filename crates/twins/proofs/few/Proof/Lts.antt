@@ -1,6 +1,5 @@
 -- Made by tools/lend.py of the twin of `few`: do not edit.
 use Rattle.row.proofs.Elem.InstanceRow as KInstanceRow
-use Rattle.row.proofs.Elem.RouteRow as KRouteRow
 use Prim.Native.Nat
 use borrow.Author.Called
 use borrow.Author.Tests
@@ -290,7 +289,7 @@ b14 =
 abbrev b15 : Syntax.Body
 b15 =
     Syntax.call
-    "filter::few_slot_of"
+    "slot::few_slot_of"
     (List._∷_ (Syntax.copy (Syntax.place 5 List.[])) List.[])
     (Syntax.place 7 List.[])
 
@@ -2599,11 +2598,11 @@ module _ (claims· : Claims) where
           𝓤 H) (known0 : Plain.Known 𝓤 H A W 𝓣 0 ps·0 r·0 (claims· .0) (claims· .1)
           "hash::hash_row") (known1 : Plain.Known 𝓤 H A W 𝓣 0 ps·1 r·1 (claims· .2) (claims· .3)
           "live::is_live") (known2 : Plain.Known 𝓤 H A W 𝓣 0 ps·2 r·2 (claims· .4) (claims· .5)
-          "filter::few_slot_of") (known3 : Plain.Known 𝓤 H A W 𝓣 0 ps·3 r·3 (claims· .6)
-          (claims· .7) "filter::maybe") (known4 : Plain.Known 𝓤 H A W 𝓣 1 ps·4 r·4 (claims· .8)
-          (claims· .9) "twins::scan") (known5 : Plain.Known 𝓤 H A W 𝓣 0 ps·5 r·5 (claims· .10)
-          (claims· .11) "filter::marked") → Statement.Triple 𝓤 (Wp.WpFn 𝓤 H (𝓣 .C) (𝓣 .Λ)
-          (Function.fnOf 1 ps r xs m hs body)) (Function.plainOf 𝓤 H A 1 ps r Pre· Post·)
+          "slot::few_slot_of") (known3 : Plain.Known 𝓤 H A W 𝓣 0 ps·3 r·3 (claims· .6) (claims· .7)
+          "filter::maybe") (known4 : Plain.Known 𝓤 H A W 𝓣 1 ps·4 r·4 (claims· .8) (claims· .9)
+          "twins::scan") (known5 : Plain.Known 𝓤 H A W 𝓣 0 ps·5 r·5 (claims· .10) (claims· .11)
+          "filter::marked") → Statement.Triple 𝓤 (Wp.WpFn 𝓤 H (𝓣 .C) (𝓣 .Λ) (Function.fnOf 1 ps r
+          xs m hs body)) (Function.plainOf 𝓤 H A 1 ps r Pre· Post·)
 
     module _ (Inv·0 : InvT-loop) (μ·0 : MeasureT-loop) where
       abbrev at0 : (bs : List.List Nat.ℕ) → Typed.TF T10 O4
@@ -2867,7 +2866,7 @@ module _ (claims· : Claims) where
         Knowns =
             Plain.Known 𝓤 H A W 𝓣 0 ps·0 r·0 (claims· .0) (claims· .1) "hash::hash_row" ×
             Plain.Known 𝓤 H A W 𝓣 0 ps·1 r·1 (claims· .2) (claims· .3) "live::is_live" ×
-            Plain.Known 𝓤 H A W 𝓣 0 ps·2 r·2 (claims· .4) (claims· .5) "filter::few_slot_of" ×
+            Plain.Known 𝓤 H A W 𝓣 0 ps·2 r·2 (claims· .4) (claims· .5) "slot::few_slot_of" ×
             Plain.Known 𝓤 H A W 𝓣 0 ps·3 r·3 (claims· .6) (claims· .7) "filter::maybe" ×
             Plain.Known 𝓤 H A W 𝓣 1 ps·4 r·4 (claims· .8) (claims· .9) "twins::scan" ×
             Plain.Known 𝓤 H A W 𝓣 0 ps·5 r·5 (claims· .10) (claims· .11) "filter::marked"
@@ -4622,7 +4621,7 @@ module _ (claims· : Claims) where
               r·2
               (claims· .4)
               (claims· .5)
-              "filter::few_slot_of"
+              "slot::few_slot_of"
               (known .2)
               E
               (λ pos β. β)
@@ -7187,7 +7186,7 @@ module _ (claims· : Claims) where
             r·2
             (claims· .4)
             (claims· .5)
-            "filter::few_slot_of")
+            "slot::few_slot_of")
             (known3 : Plain.Known 𝓤 H A W 𝓣 0 ps·3 r·3 (claims· .6) (claims· .7) "filter::maybe")
             (known4 : Plain.Known 𝓤 H A W 𝓣 1 ps·4 r·4 (claims· .8) (claims· .9) "twins::scan")
             (known5 : Plain.Known

@@ -1,6 +1,5 @@
 -- Made by tools/lend.py of the twin of `pass`: do not edit.
 use Rattle.row.proofs.Elem.InstanceRow as KInstanceRow
-use Rattle.row.proofs.Elem.RouteRow as KRouteRow
 use Prim.Native.Nat
 use borrow.Author.Called
 use borrow.Author.Tests
@@ -305,7 +304,7 @@ b14 =
 abbrev b15 : Syntax.Body
 b15 =
     Syntax.call
-    "filter::is_chosen"
+    "slot::is_chosen"
     (List._∷_
     (Syntax.copy (Syntax.place 3 List.[]))
     (List._∷_
@@ -318,7 +317,7 @@ b15 =
 abbrev b16 : Syntax.Body
 b16 =
     Syntax.call
-    "filter::slot_of"
+    "slot::slot_of"
     (List._∷_ (Syntax.copy (Syntax.place 7 List.[])) List.[])
     (Syntax.place 9 List.[])
 
@@ -2755,8 +2754,8 @@ module _ (claims· : Claims) where
           𝓤 H) (known0 : Plain.Known 𝓤 H A W 𝓣 0 ps·0 r·0 (claims· .0) (claims· .1)
           "hash::hash_row") (known1 : Plain.Known 𝓤 H A W 𝓣 0 ps·1 r·1 (claims· .2) (claims· .3)
           "live::is_live") (known2 : Plain.Known 𝓤 H A W 𝓣 0 ps·2 r·2 (claims· .4) (claims· .5)
-          "filter::is_chosen") (known3 : Plain.Known 𝓤 H A W 𝓣 0 ps·3 r·3 (claims· .6) (claims· .7)
-          "filter::slot_of") (known4 : Plain.Known 𝓤 H A W 𝓣 0 ps·4 r·4 (claims· .8) (claims· .9)
+          "slot::is_chosen") (known3 : Plain.Known 𝓤 H A W 𝓣 0 ps·3 r·3 (claims· .6) (claims· .7)
+          "slot::slot_of") (known4 : Plain.Known 𝓤 H A W 𝓣 0 ps·4 r·4 (claims· .8) (claims· .9)
           "filter::maybe") (known5 : Plain.Known 𝓤 H A W 𝓣 1 ps·5 r·5 (claims· .10) (claims· .11)
           "twins::scan") (known6 : Plain.Known 𝓤 H A W 𝓣 0 ps·6 r·6 (claims· .12) (claims· .13)
           "filter::marked") → Statement.Triple 𝓤 (Wp.WpFn 𝓤 H (𝓣 .C) (𝓣 .Λ) (Function.fnOf 1 ps r
@@ -3046,8 +3045,8 @@ module _ (claims· : Claims) where
         Knowns =
             Plain.Known 𝓤 H A W 𝓣 0 ps·0 r·0 (claims· .0) (claims· .1) "hash::hash_row" ×
             Plain.Known 𝓤 H A W 𝓣 0 ps·1 r·1 (claims· .2) (claims· .3) "live::is_live" ×
-            Plain.Known 𝓤 H A W 𝓣 0 ps·2 r·2 (claims· .4) (claims· .5) "filter::is_chosen" ×
-            Plain.Known 𝓤 H A W 𝓣 0 ps·3 r·3 (claims· .6) (claims· .7) "filter::slot_of" ×
+            Plain.Known 𝓤 H A W 𝓣 0 ps·2 r·2 (claims· .4) (claims· .5) "slot::is_chosen" ×
+            Plain.Known 𝓤 H A W 𝓣 0 ps·3 r·3 (claims· .6) (claims· .7) "slot::slot_of" ×
             Plain.Known 𝓤 H A W 𝓣 0 ps·4 r·4 (claims· .8) (claims· .9) "filter::maybe" ×
             Plain.Known 𝓤 H A W 𝓣 1 ps·5 r·5 (claims· .10) (claims· .11) "twins::scan" ×
             Plain.Known 𝓤 H A W 𝓣 0 ps·6 r·6 (claims· .12) (claims· .13) "filter::marked"
@@ -4910,7 +4909,7 @@ module _ (claims· : Claims) where
               r·3
               (claims· .6)
               (claims· .7)
-              "filter::slot_of"
+              "slot::slot_of"
               (known .3)
               E
               (λ pos β. β)
@@ -4970,7 +4969,7 @@ module _ (claims· : Claims) where
               r·2
               (claims· .4)
               (claims· .5)
-              "filter::is_chosen"
+              "slot::is_chosen"
               (known .2)
               E
               (λ pos β. β)
@@ -7782,19 +7781,8 @@ module _ (claims· : Claims) where
             (W : Kit.Given 𝓤 H A) (𝓣 : Wp.Tables 𝓤 H)
             (known0 : Plain.Known 𝓤 H A W 𝓣 0 ps·0 r·0 (claims· .0) (claims· .1) "hash::hash_row")
             (known1 : Plain.Known 𝓤 H A W 𝓣 0 ps·1 r·1 (claims· .2) (claims· .3) "live::is_live")
-            (known2 : Plain.Known
-            𝓤
-            H
-            A
-            W
-            𝓣
-            0
-            ps·2
-            r·2
-            (claims· .4)
-            (claims· .5)
-            "filter::is_chosen")
-            (known3 : Plain.Known 𝓤 H A W 𝓣 0 ps·3 r·3 (claims· .6) (claims· .7) "filter::slot_of")
+            (known2 : Plain.Known 𝓤 H A W 𝓣 0 ps·2 r·2 (claims· .4) (claims· .5) "slot::is_chosen")
+            (known3 : Plain.Known 𝓤 H A W 𝓣 0 ps·3 r·3 (claims· .6) (claims· .7) "slot::slot_of")
             (known4 : Plain.Known 𝓤 H A W 𝓣 0 ps·4 r·4 (claims· .8) (claims· .9) "filter::maybe")
             (known5 : Plain.Known 𝓤 H A W 𝓣 1 ps·5 r·5 (claims· .10) (claims· .11) "twins::scan")
             (known6 : Plain.Known

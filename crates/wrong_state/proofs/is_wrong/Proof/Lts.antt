@@ -172,7 +172,7 @@ b13 = Syntax.cond (Syntax.copy (Syntax.place 8 List.[])) b11 b12
 abbrev b14 : Syntax.Body
 b14 =
     Syntax.call
-    "twins::has_twins_route"
+    "route_twins::has_twins_route"
     (List._∷_
     (Syntax.copy (Syntax.place 2 List.[]))
     (List._∷_ (Syntax.copy (Syntax.place 3 List.[])) List.[]))
@@ -685,8 +685,8 @@ module _ (claims· : Claims) where
           "table::all_good") (known1 : Plain.Known 𝓤 H A W 𝓣 1 ps·1 r·1 (claims· .2) (claims· .3)
           "table::all_good_routes") (known2 : Plain.Known 𝓤 H A W 𝓣 1 ps·2 r·2 (claims· .4)
           (claims· .5) "twins::has_twins") (known3 : Plain.Known 𝓤 H A W 𝓣 1 ps·3 r·3 (claims· .6)
-          (claims· .7) "twins::has_twins_route") → Statement.Triple 𝓤 (Wp.WpFn 𝓤 H (𝓣 .C) (𝓣 .Λ)
-          (Function.fnOf 2 ps r xs m hs body)) (Function.plainOf 𝓤 H A 2 ps r Pre· Post·)
+          (claims· .7) "route_twins::has_twins_route") → Statement.Triple 𝓤 (Wp.WpFn 𝓤 H (𝓣 .C)
+          (𝓣 .Λ) (Function.fnOf 2 ps r xs m hs body)) (Function.plainOf 𝓤 H A 2 ps r Pre· Post·)
 
     module _ where
       abbrev at0 : Typed.TF T7 O1
@@ -831,7 +831,18 @@ module _ (claims· : Claims) where
             Plain.Known 𝓤 H A W 𝓣 1 ps·0 r·0 (claims· .0) (claims· .1) "table::all_good" ×
             Plain.Known 𝓤 H A W 𝓣 1 ps·1 r·1 (claims· .2) (claims· .3) "table::all_good_routes" ×
             Plain.Known 𝓤 H A W 𝓣 1 ps·2 r·2 (claims· .4) (claims· .5) "twins::has_twins" ×
-            Plain.Known 𝓤 H A W 𝓣 1 ps·3 r·3 (claims· .6) (claims· .7) "twins::has_twins_route"
+            Plain.Known
+            𝓤
+            H
+            A
+            W
+            𝓣
+            1
+            ps·3
+            r·3
+            (claims· .6)
+            (claims· .7)
+            "route_twins::has_twins_route"
 
       module _ (κs : Lifetimes.Lfts 2) (qs : Lifetimes.Shares 2) where
         abbrev G0 : Row.Cx
@@ -1515,7 +1526,7 @@ module _ (claims· : Claims) where
               r·3
               (claims· .6)
               (claims· .7)
-              "twins::has_twins_route"
+              "route_twins::has_twins_route"
               (known .3)
               E
               (λ pos β. β)
@@ -2927,7 +2938,7 @@ module _ (claims· : Claims) where
             r·3
             (claims· .6)
             (claims· .7)
-            "twins::has_twins_route") where
+            "route_twins::has_twins_route") where
           pub spec :
               Statement.Triple
               𝓤

@@ -1,0 +1,2 @@
+pub mod find_route
+pub mod find_spare_route
