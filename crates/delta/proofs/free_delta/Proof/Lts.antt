@@ -189,7 +189,7 @@ b4 = Syntax.cond (Syntax.copy (Syntax.place 8 List.[])) b2 b3
 abbrev b5 : Syntax.Body
 b5 =
     Syntax.call
-    "sequence::plus_delta"
+    "rolling::plus_delta"
     (List._∷_
     (Syntax.copy (Syntax.place 3 List.[]))
     (List._∷_ (Syntax.copy (Syntax.place 5 List.[])) List.[]))
@@ -1523,7 +1523,7 @@ module _ (claims· : Claims) where
       Closed =
           (𝓤 : URA.URA M) (H : Wp.Heap 𝓤) (A : Atoms.Atoms 𝓤) (W : Kit.Given 𝓤 H A) (𝓣 : Wp.Tables
           𝓤 H) (known0 : Plain.Known 𝓤 H A W 𝓣 0 ps·0 r·0 (claims· .0) (claims· .1)
-          "sequence::plus_delta") (known1 : Plain.Known 𝓤 H A W 𝓣 1 ps·1 r·1 (claims· .2)
+          "rolling::plus_delta") (known1 : Plain.Known 𝓤 H A W 𝓣 1 ps·1 r·1 (claims· .2)
           (claims· .3) "find::find_reply") (known2 : Plain.Known 𝓤 H A W 𝓣 0 ps·2 r·2 (claims· .4)
           (claims· .5) "delta::free") (known3 : Plain.Known 𝓤 H A W 𝓣 0 ps·3 r·3 (claims· .6)
           (claims· .7) "delta::none_free") → Statement.Triple 𝓤 (Wp.WpFn 𝓤 H (𝓣 .C) (𝓣 .Λ)
@@ -1659,7 +1659,7 @@ module _ (claims· : Claims) where
           (W : Kit.Given 𝓤 H A) (𝓣 : Wp.Tables 𝓤 H) where
         abbrev Knowns : Type 1
         Knowns =
-            Plain.Known 𝓤 H A W 𝓣 0 ps·0 r·0 (claims· .0) (claims· .1) "sequence::plus_delta" ×
+            Plain.Known 𝓤 H A W 𝓣 0 ps·0 r·0 (claims· .0) (claims· .1) "rolling::plus_delta" ×
             Plain.Known 𝓤 H A W 𝓣 1 ps·1 r·1 (claims· .2) (claims· .3) "find::find_reply" ×
             Plain.Known 𝓤 H A W 𝓣 0 ps·2 r·2 (claims· .4) (claims· .5) "delta::free" ×
             Plain.Known 𝓤 H A W 𝓣 0 ps·3 r·3 (claims· .6) (claims· .7) "delta::none_free"
@@ -2499,7 +2499,7 @@ module _ (claims· : Claims) where
               r·0
               (claims· .0)
               (claims· .1)
-              "sequence::plus_delta"
+              "rolling::plus_delta"
               (known .0)
               E
               (λ pos β. β)
@@ -3615,7 +3615,7 @@ module _ (claims· : Claims) where
             r·0
             (claims· .0)
             (claims· .1)
-            "sequence::plus_delta")
+            "rolling::plus_delta")
             (known1 : Plain.Known
             𝓤
             H

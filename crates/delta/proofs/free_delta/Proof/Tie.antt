@@ -360,7 +360,7 @@ module _ {M : Type 1} where
       Code.env
       Symbol'3.name
       Symbol'3.routine
-      Code.calls-sequence·plus-delta
+      Code.calls-rolling·plus-delta
       (Met'3.met 𝓤 H 𝓜 𝓖 𝓡))
       (Reads'3.known
       record { M = M; 𝓤 = 𝓤; H = H; 𝓜 = 𝓜; 𝓖 = 𝓖; 𝓡 = 𝓡 }
