@@ -37,7 +37,9 @@ use Rattle.finish.specs.Gives.{stateOf, decisionOf, Gives}
 use Rattle.outcome.specs.declared.Outcome.{Outcome}
 use Rattle.finish.proofs.Laws.{refused-gives}
 use Rattle.bad_call.specs.Lent.{lentBy}
-use Rattle.node.specs.Taken.{Taken, requestDecision, replyDecision}
+use Rattle.rule.specs.Taken.{Taken}
+use Rattle.request_taken.specs.Decision.{requestDecision}
+use Rattle.reply_taken.specs.Decision.{replyDecision}
 use Rattle.start_taken.specs.Taken.{TakenStart, startDecision}
 use Rattle.plain.specs.declared.Target.{Target}
 use Rattle.targets.specs.declared.Targets.{Targets}

@@ -94,7 +94,7 @@ pub fn message(
     let p = heard::parsed(r);
     let v = heard::vector_of(octets, r);
     if heard::is_reply(r) {
-        return node::take_reply(
+        return reply_taken::take_reply(
             instances,
             routes,
             forward,
@@ -108,7 +108,7 @@ pub fn message(
             &v,
         );
     }
-    node::take_request(
+    request_taken::take_request(
         instances,
         routes,
         forward,

@@ -6,8 +6,8 @@ use Rattle.decision.proofs.Elem.Post as KPost
 use Prim.Native.Nat
 use Rattle.answer.proofs.Answer
 use Rattle.answer.proofs.Answer.Laws
-use Rattle.finish.proofs.Live
-use Rattle.finish.proofs.Live.Laws as Laws'
+use Rattle.message.proofs.Live
+use Rattle.message.proofs.Live.Laws as Laws'
 use Rattle.outcome.proofs.Outcome
 use Rattle.outcome.proofs.Outcome.Laws as Laws''
 use Rattle.own.proofs.Own
@@ -282,20 +282,22 @@ xs =
     (List._∷_
     (Syntax.tyStruct
     (List._∷_
-    102
+    109
     (List._∷_
-    105
-    (List._∷_
-    110
-    (List._∷_
-    105
+    101
     (List._∷_
     115
     (List._∷_
-    104
+    115
+    (List._∷_
+    97
+    (List._∷_
+    103
+    (List._∷_
+    101
     (List._∷_
     58
-    (List._∷_ 58 (List._∷_ 76 (List._∷_ 105 (List._∷_ 118 (List._∷_ 101 List.[]))))))))))))
+    (List._∷_ 58 (List._∷_ 76 (List._∷_ 105 (List._∷_ 118 (List._∷_ 101 List.[])))))))))))))
     (Syntax.tcons
     Syntax.tyBool
     (Syntax.tcons
@@ -1586,20 +1588,22 @@ t2 = List._∷_ (
   Rows'.any-gone
       (Syntax.tyStruct
       (List._∷_
-      102
+      109
       (List._∷_
-      105
-      (List._∷_
-      110
-      (List._∷_
-      105
+      101
       (List._∷_
       115
       (List._∷_
-      104
+      115
+      (List._∷_
+      97
+      (List._∷_
+      103
+      (List._∷_
+      101
       (List._∷_
       58
-      (List._∷_ 58 (List._∷_ 76 (List._∷_ 105 (List._∷_ 118 (List._∷_ 101 List.[]))))))))))))
+      (List._∷_ 58 (List._∷_ 76 (List._∷_ 105 (List._∷_ 118 (List._∷_ 101 List.[])))))))))))))
       (Syntax.tcons
       Syntax.tyBool
       (Syntax.tcons
@@ -10224,20 +10228,22 @@ t46 = List._∷_ (
   Rows'.any-gone
       (Syntax.tyStruct
       (List._∷_
-      102
+      109
       (List._∷_
-      105
-      (List._∷_
-      110
-      (List._∷_
-      105
+      101
       (List._∷_
       115
       (List._∷_
-      104
+      115
+      (List._∷_
+      97
+      (List._∷_
+      103
+      (List._∷_
+      101
       (List._∷_
       58
-      (List._∷_ 58 (List._∷_ 76 (List._∷_ 105 (List._∷_ 118 (List._∷_ 101 List.[]))))))))))))
+      (List._∷_ 58 (List._∷_ 76 (List._∷_ 105 (List._∷_ 118 (List._∷_ 101 List.[])))))))))))))
       (Syntax.tcons
       Syntax.tyBool
       (Syntax.tcons
@@ -10342,20 +10348,22 @@ t48 = List._∷_ (
   Rows'.any-gone
       (Syntax.tyStruct
       (List._∷_
-      102
+      109
       (List._∷_
-      105
-      (List._∷_
-      110
-      (List._∷_
-      105
+      101
       (List._∷_
       115
       (List._∷_
-      104
+      115
+      (List._∷_
+      97
+      (List._∷_
+      103
+      (List._∷_
+      101
       (List._∷_
       58
-      (List._∷_ 58 (List._∷_ 76 (List._∷_ 105 (List._∷_ 118 (List._∷_ 101 List.[]))))))))))))
+      (List._∷_ 58 (List._∷_ 76 (List._∷_ 105 (List._∷_ 118 (List._∷_ 101 List.[])))))))))))))
       (Syntax.tcons
       Syntax.tyBool
       (Syntax.tcons
@@ -10829,20 +10837,22 @@ t50 = List._∷_ (
   Rows'.any-gone
       (Syntax.tyStruct
       (List._∷_
-      102
+      109
       (List._∷_
-      105
-      (List._∷_
-      110
-      (List._∷_
-      105
+      101
       (List._∷_
       115
       (List._∷_
-      104
+      115
+      (List._∷_
+      97
+      (List._∷_
+      103
+      (List._∷_
+      101
       (List._∷_
       58
-      (List._∷_ 58 (List._∷_ 76 (List._∷_ 105 (List._∷_ 118 (List._∷_ 101 List.[]))))))))))))
+      (List._∷_ 58 (List._∷_ 76 (List._∷_ 105 (List._∷_ 118 (List._∷_ 101 List.[])))))))))))))
       (Syntax.tcons
       Syntax.tyBool
       (Syntax.tcons
@@ -11325,20 +11335,22 @@ t52 = List._∷_ (
   Rows'.any-gone
       (Syntax.tyStruct
       (List._∷_
-      102
+      109
       (List._∷_
-      105
-      (List._∷_
-      110
-      (List._∷_
-      105
+      101
       (List._∷_
       115
       (List._∷_
-      104
+      115
+      (List._∷_
+      97
+      (List._∷_
+      103
+      (List._∷_
+      101
       (List._∷_
       58
-      (List._∷_ 58 (List._∷_ 76 (List._∷_ 105 (List._∷_ 118 (List._∷_ 101 List.[]))))))))))))
+      (List._∷_ 58 (List._∷_ 76 (List._∷_ 105 (List._∷_ 118 (List._∷_ 101 List.[])))))))))))))
       (Syntax.tcons
       Syntax.tyBool
       (Syntax.tcons
@@ -11456,20 +11468,22 @@ t54 = List._∷_ (
   Rows'.any-gone
       (Syntax.tyStruct
       (List._∷_
-      102
+      109
       (List._∷_
-      105
-      (List._∷_
-      110
-      (List._∷_
-      105
+      101
       (List._∷_
       115
       (List._∷_
-      104
+      115
+      (List._∷_
+      97
+      (List._∷_
+      103
+      (List._∷_
+      101
       (List._∷_
       58
-      (List._∷_ 58 (List._∷_ 76 (List._∷_ 105 (List._∷_ 118 (List._∷_ 101 List.[]))))))))))))
+      (List._∷_ 58 (List._∷_ 76 (List._∷_ 105 (List._∷_ 118 (List._∷_ 101 List.[])))))))))))))
       (Syntax.tcons
       Syntax.tyBool
       (Syntax.tcons
@@ -12394,20 +12408,22 @@ t65 = List._∷_ (
   Rows'.any-gone
       (Syntax.tyStruct
       (List._∷_
-      102
+      109
       (List._∷_
-      105
-      (List._∷_
-      110
-      (List._∷_
-      105
+      101
       (List._∷_
       115
       (List._∷_
-      104
+      115
+      (List._∷_
+      97
+      (List._∷_
+      103
+      (List._∷_
+      101
       (List._∷_
       58
-      (List._∷_ 58 (List._∷_ 76 (List._∷_ 105 (List._∷_ 118 (List._∷_ 101 List.[]))))))))))))
+      (List._∷_ 58 (List._∷_ 76 (List._∷_ 105 (List._∷_ 118 (List._∷_ 101 List.[])))))))))))))
       (Syntax.tcons
       Syntax.tyBool
       (Syntax.tcons
@@ -16127,20 +16143,22 @@ module _ (claims· : Claims) where
       List.[]
       (Syntax.tyStruct
       (List._∷_
-      102
+      109
       (List._∷_
-      105
-      (List._∷_
-      110
-      (List._∷_
-      105
+      101
       (List._∷_
       115
       (List._∷_
-      104
+      115
+      (List._∷_
+      97
+      (List._∷_
+      103
+      (List._∷_
+      101
       (List._∷_
       58
-      (List._∷_ 58 (List._∷_ 76 (List._∷_ 105 (List._∷_ 118 (List._∷_ 101 List.[]))))))))))))
+      (List._∷_ 58 (List._∷_ 76 (List._∷_ 105 (List._∷_ 118 (List._∷_ 101 List.[])))))))))))))
       (Syntax.tcons
       Syntax.tyBool
       (Syntax.tcons
@@ -16527,20 +16545,22 @@ module _ (claims· : Claims) where
       37
       (Syntax.tyStruct
       (List._∷_
-      102
+      109
       (List._∷_
-      105
-      (List._∷_
-      110
-      (List._∷_
-      105
+      101
       (List._∷_
       115
       (List._∷_
-      104
+      115
+      (List._∷_
+      97
+      (List._∷_
+      103
+      (List._∷_
+      101
       (List._∷_
       58
-      (List._∷_ 58 (List._∷_ 76 (List._∷_ 105 (List._∷_ 118 (List._∷_ 101 List.[]))))))))))))
+      (List._∷_ 58 (List._∷_ 76 (List._∷_ 105 (List._∷_ 118 (List._∷_ 101 List.[])))))))))))))
       (Syntax.tcons
       Syntax.tyBool
       (Syntax.tcons
@@ -27120,22 +27140,24 @@ module _ (claims· : Claims) where
               37
               (Syntax.tyStruct
               (List._∷_
-              102
+              109
               (List._∷_
-              105
-              (List._∷_
-              110
-              (List._∷_
-              105
+              101
               (List._∷_
               115
               (List._∷_
-              104
+              115
+              (List._∷_
+              97
+              (List._∷_
+              103
+              (List._∷_
+              101
               (List._∷_
               58
               (List._∷_
               58
-              (List._∷_ 76 (List._∷_ 105 (List._∷_ 118 (List._∷_ 101 List.[]))))))))))))
+              (List._∷_ 76 (List._∷_ 105 (List._∷_ 118 (List._∷_ 101 List.[])))))))))))))
               (Syntax.tcons
               Syntax.tyBool
               (Syntax.tcons
@@ -27149,22 +27171,24 @@ module _ (claims· : Claims) where
               (Declared'.row Live.the-type)
               (Syntax.tyStruct
               (List._∷_
-              102
+              109
               (List._∷_
-              105
-              (List._∷_
-              110
-              (List._∷_
-              105
+              101
               (List._∷_
               115
               (List._∷_
-              104
+              115
+              (List._∷_
+              97
+              (List._∷_
+              103
+              (List._∷_
+              101
               (List._∷_
               58
               (List._∷_
               58
-              (List._∷_ 76 (List._∷_ 105 (List._∷_ 118 (List._∷_ 101 List.[]))))))))))))
+              (List._∷_ 76 (List._∷_ 105 (List._∷_ 118 (List._∷_ 101 List.[])))))))))))))
               (Syntax.tcons
               Syntax.tyBool
               (Syntax.tcons
@@ -28095,22 +28119,24 @@ module _ (claims· : Claims) where
               A
               (Syntax.tyStruct
               (List._∷_
-              102
+              109
               (List._∷_
-              105
-              (List._∷_
-              110
-              (List._∷_
-              105
+              101
               (List._∷_
               115
               (List._∷_
-              104
+              115
+              (List._∷_
+              97
+              (List._∷_
+              103
+              (List._∷_
+              101
               (List._∷_
               58
               (List._∷_
               58
-              (List._∷_ 76 (List._∷_ 105 (List._∷_ 118 (List._∷_ 101 List.[]))))))))))))
+              (List._∷_ 76 (List._∷_ 105 (List._∷_ 118 (List._∷_ 101 List.[])))))))))))))
               (Syntax.tcons
               Syntax.tyBool
               (Syntax.tcons
