@@ -70,8 +70,8 @@ pub fn take_start(
     if answer::number(answer) != 0 {
         return outcome::refused(answer, clock, seq);
     }
-    let d = start::accepted(o, seq, t, s, ts);
-    let there = start::start_post(o, seq, s, ts);
+    let d = start_stored::accepted(o, seq, t, s, ts);
+    let there = start_sent::start_post(o, seq, s, ts);
     let back = decision::no_post();
     let vector = no_vector();
     finish::finish(

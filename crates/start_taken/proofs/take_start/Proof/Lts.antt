@@ -860,7 +860,7 @@ b12 = Syntax.cond (Syntax.copy (Syntax.place 21 List.[])) b10 b11
 abbrev b13 : Syntax.Body
 b13 =
     Syntax.call
-    "start::accepted"
+    "start_stored::accepted"
     (List._∷_
     (Syntax.copy (Syntax.place 5 List.[]))
     (List._∷_
@@ -879,7 +879,7 @@ b14 =
 abbrev b15 : Syntax.Body
 b15 =
     Syntax.call
-    "start::start_post"
+    "start_sent::start_post"
     (List._∷_
     (Syntax.copy (Syntax.place 5 List.[]))
     (List._∷_
@@ -16706,14 +16706,14 @@ module _ (claims· : Claims) where
           (claims· .6) (claims· .7) "start::judge") (known4 : Plain.Known 𝓤 H A W 𝓣 0 ps·4 r·4
           (claims· .8) (claims· .9) "answer::number") (known5 : Plain.Known 𝓤 H A W 𝓣 0 ps·5 r·5
           (claims· .10) (claims· .11) "outcome::refused") (known6 : Plain.Known 𝓤 H A W 𝓣 0 ps·6
-          r·6 (claims· .12) (claims· .13) "start::accepted") (known7 : Plain.Known 𝓤 H A W 𝓣 0 ps·7
-          r·7 (claims· .14) (claims· .15) "start::start_post") (known8 : Plain.Known 𝓤 H A W 𝓣 0
-          ps·8 r·8 (claims· .16) (claims· .17) "decision::no_post") (known9 : Plain.Known 𝓤 H A W 𝓣
-          0 ps·9 r·9 (claims· .18) (claims· .19) "start_taken::no_vector") (known10 : Plain.Known 𝓤
-          H A W 𝓣 0 ps·10 r·10 (claims· .20) (claims· .21)
-          "start_taken::none_live") (known11 : Plain.Known 𝓤 H A W 𝓣 8 ps·11 r·11 (claims· .22)
-          (claims· .23) "finish::finish") → Statement.Triple 𝓤 (Wp.WpFn 𝓤 H (𝓣 .C) (𝓣 .Λ)
-          (Function.fnOf 4 ps r xs m hs body)) (Function.plainOf 𝓤 H A 4 ps r Pre· Post·)
+          r·6 (claims· .12) (claims· .13) "start_stored::accepted") (known7 : Plain.Known 𝓤 H A W 𝓣
+          0 ps·7 r·7 (claims· .14) (claims· .15) "start_sent::start_post") (known8 : Plain.Known 𝓤
+          H A W 𝓣 0 ps·8 r·8 (claims· .16) (claims· .17) "decision::no_post") (known9 : Plain.Known
+          𝓤 H A W 𝓣 0 ps·9 r·9 (claims· .18) (claims· .19)
+          "start_taken::no_vector") (known10 : Plain.Known 𝓤 H A W 𝓣 0 ps·10 r·10 (claims· .20)
+          (claims· .21) "start_taken::none_live") (known11 : Plain.Known 𝓤 H A W 𝓣 8 ps·11 r·11
+          (claims· .22) (claims· .23) "finish::finish") → Statement.Triple 𝓤 (Wp.WpFn 𝓤 H (𝓣 .C)
+          (𝓣 .Λ) (Function.fnOf 4 ps r xs m hs body)) (Function.plainOf 𝓤 H A 4 ps r Pre· Post·)
 
     module _ where
       abbrev at0 : Typed.TF T30 O1
@@ -17062,8 +17062,8 @@ module _ (claims· : Claims) where
             Plain.Known 𝓤 H A W 𝓣 0 ps·3 r·3 (claims· .6) (claims· .7) "start::judge" ×
             Plain.Known 𝓤 H A W 𝓣 0 ps·4 r·4 (claims· .8) (claims· .9) "answer::number" ×
             Plain.Known 𝓤 H A W 𝓣 0 ps·5 r·5 (claims· .10) (claims· .11) "outcome::refused" ×
-            Plain.Known 𝓤 H A W 𝓣 0 ps·6 r·6 (claims· .12) (claims· .13) "start::accepted" ×
-            Plain.Known 𝓤 H A W 𝓣 0 ps·7 r·7 (claims· .14) (claims· .15) "start::start_post" ×
+            Plain.Known 𝓤 H A W 𝓣 0 ps·6 r·6 (claims· .12) (claims· .13) "start_stored::accepted" ×
+            Plain.Known 𝓤 H A W 𝓣 0 ps·7 r·7 (claims· .14) (claims· .15) "start_sent::start_post" ×
             Plain.Known 𝓤 H A W 𝓣 0 ps·8 r·8 (claims· .16) (claims· .17) "decision::no_post" ×
             Plain.Known 𝓤 H A W 𝓣 0 ps·9 r·9 (claims· .18) (claims· .19) "start_taken::no_vector" ×
             Plain.Known
@@ -30589,7 +30589,7 @@ module _ (claims· : Claims) where
               r·7
               (claims· .14)
               (claims· .15)
-              "start::start_post"
+              "start_sent::start_post"
               (known .7)
               E
               (λ pos β. β)
@@ -30830,7 +30830,7 @@ module _ (claims· : Claims) where
               r·6
               (claims· .12)
               (claims· .13)
-              "start::accepted"
+              "start_stored::accepted"
               (known .6)
               E
               (λ pos β. β)
@@ -34031,7 +34031,7 @@ module _ (claims· : Claims) where
             r·6
             (claims· .12)
             (claims· .13)
-            "start::accepted")
+            "start_stored::accepted")
             (known7 : Plain.Known
             𝓤
             H
@@ -34043,7 +34043,7 @@ module _ (claims· : Claims) where
             r·7
             (claims· .14)
             (claims· .15)
-            "start::start_post")
+            "start_sent::start_post")
             (known8 : Plain.Known
             𝓤
             H

@@ -1,9 +1,9 @@
 use mathlib.Core.Path.{_∙_}
 use Rattle.own.specs.Settings.{settingsOf}
-use Rattle.start.proofs.Started.{row-is}
+use Rattle.start_stored.proofs.Stored.{row-is}
 use borrow.Author.Needs.{needs}
-use Rattle.start.proofs.start_row.Statement.{statement}
-use Rattle.start.proofs.start_row.Tie as tie
+use Rattle.start_stored.proofs.start_row.Statement.{statement}
+use Rattle.start_stored.proofs.start_row.Tie as tie
 
 of-l-requires : tie.Need-of-l-requires
 of-l-requires c κs = search needs

@@ -1,9 +1,9 @@
 use mathlib.Core.Path.{refl}
 use Rattle.own.specs.Settings.{settingsOf}
-use Rattle.start.proofs.Started.{stored-is}
+use Rattle.start_stored.proofs.Stored.{stored-is}
 use borrow.Author.Needs.{needs}
-use Rattle.start.proofs.accepted.Statement.{statement}
-use Rattle.start.proofs.accepted.Tie as tie
+use Rattle.start_stored.proofs.accepted.Statement.{statement}
+use Rattle.start_stored.proofs.accepted.Tie as tie
 
 step-requires : tie.Need-step-requires
 step-requires c κs = search needs

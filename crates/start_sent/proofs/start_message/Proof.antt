@@ -2,8 +2,8 @@ use mathlib.Core.Path.{refl}
 use Rattle.plain.specs.Request.{startMessage}
 use Rattle.message.specs.Message.{messageIn}
 use borrow.Author.Needs.{needs}
-use Rattle.start.proofs.start_message.Statement.{statement}
-use Rattle.start.proofs.start_message.Tie as tie
+use Rattle.start_sent.proofs.start_message.Statement.{statement}
+use Rattle.start_sent.proofs.start_message.Tie as tie
 
 compr-sent-requires : tie.Need-compr-sent-requires
 compr-sent-requires c κs = search needs

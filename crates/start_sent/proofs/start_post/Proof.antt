@@ -1,9 +1,9 @@
 use Rattle.plain.specs.Request.{acceptStart, startMessage}
 use Rattle.own.specs.Settings.{settingsOf}
-use Rattle.start.proofs.Started.{start-posts}
+use Rattle.start_sent.proofs.Sent.{start-posts}
 use borrow.Author.Needs.{needs}
-use Rattle.start.proofs.start_post.Statement.{statement}
-use Rattle.start.proofs.start_post.Tie as tie
+use Rattle.start_sent.proofs.start_post.Statement.{statement}
+use Rattle.start_sent.proofs.start_post.Tie as tie
 
 step-requires : tie.Need-step-requires
 step-requires c κs = search needs
