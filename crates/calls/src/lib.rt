@@ -153,7 +153,7 @@ pub fn start(
         return outcome::refused(bad_call(), clock, seq);
     }
     let g = gather::gather(targets);
-    if start_taken::is_bad_start(g, s) {
+    if bad_start::is_bad_start(g, s) {
         return outcome::refused(bad_call(), clock, seq);
     }
     if wrong_state::is_wrong(instances, routes, clock, seq) {

@@ -8,11 +8,9 @@ ghost use Rattle.plain.specs.Plain.{enact};
 ghost use Rattle.plain.specs.declared.Target as plain;
 ghost use Rattle.own.specs.Settings.{settingsOf};
 ghost use Rattle.kept.specs.Kept.{listOf};
-ghost use Rattle.gather.specs.Gathers.{Judged};
 ghost use Rattle.start.specs.Start.{startOf};
 ghost use Rattle.finish.specs.Gives.{stateOf, Gives};
 ghost use Rattle.start_taken.specs.Taken.{TakenStart, startDecision};
-use gather::Gathering;
 use message::Live;
 use outcome::Outcome;
 use own::Own;
@@ -20,13 +18,6 @@ use row::InstanceRow;
 use row::RouteRow;
 use start::Asking;
 use targets::Targets;
-
-// 1, asked of a start: its targets and its fields.
-pub fn is_bad_start(g: Gathering, s: Asking) -> bool
-    ensures { λ b. ⌜ Judged g (s .l) (s .compr) (s .limit) b ⌝ }
-{
-    gather::is_bad(g, s.l, s.compr, s.limit)
-}
 
 // A start is about no live row.
 fn none_live() -> Live

@@ -1,8 +1,8 @@
 use borrow.Author.Tests.{ne-eqb, le-ltb}
 use Rattle.lemmas.proofs.Cases.{cases}
-use Rattle.gather.proofs.Judge.{judged}
-use Rattle.gather.proofs.is_bad.Statement.{statement}
-use Rattle.gather.proofs.is_bad.Tie as tie
+use Rattle.bad_start.proofs.Judge.{judged}
+use Rattle.bad_start.proofs.is_bad.Statement.{statement}
+use Rattle.bad_start.proofs.is_bad.Tie as tie
 
 returns : tie.Need-returns
 returns c = judged _ _ _ _ _ (search (cases))

@@ -17,8 +17,9 @@ use Rattle.plain.specs.declared.Target.{Target}
 use Rattle.lemmas.proofs.Choice.{or-left, or-right}
 use Rattle.lemmas.proofs.Each.{each-settles}
 use Rattle.lemmas.proofs.Targets.{start-short}
 use Rattle.gather.specs.declared.Gathering.{Gathering}
-use Rattle.gather.specs.Gathers.{Gathers, Judged, Fit}
+use Rattle.gather.specs.Gathers.{Gathers}
+use Rattle.bad_start.specs.Judged.{Judged, Fit}
 
 module _ (ts : List Target) (g : Gathering) (v : Gathers ts g) where
   abbrev S : List Target
