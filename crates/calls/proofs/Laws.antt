@@ -37,14 +37,17 @@ use Rattle.finish.specs.Gives.{stateOf, decisionOf, Gives}
 use Rattle.outcome.specs.declared.Outcome.{Outcome}
 use Rattle.finish.proofs.Laws.{refused-gives}
 use Rattle.bad_call.specs.Lent.{lentBy}
-use Rattle.node.specs.Taken.{Taken, requestDecision, replyDecision}
+use Rattle.rule.specs.Taken.{Taken}
+use Rattle.request_taken.specs.Decision.{requestDecision}
+use Rattle.reply_taken.specs.Decision.{replyDecision}
 use Rattle.start_taken.specs.Taken.{TakenStart, startDecision}
 use Rattle.plain.specs.declared.Target.{Target}
 use Rattle.targets.specs.declared.Targets.{Targets}
 use Rattle.kept.specs.Kept.{listOf}
-use Rattle.gather.specs.Gathers.{Gathers, Fit}
+use Rattle.gather.specs.Gathers.{Gathers}
 use Rattle.gather.specs.declared.Gathering.{Gathering}
-use Rattle.gather.proofs.Judge.{fit}
+use Rattle.bad_start.specs.Judged.{Fit}
+use Rattle.bad_start.proofs.Judge.{fit}
 use Rattle.start.specs.Start.{startOf}
 use Rattle.start.specs.declared.Asking.{Asking}
 use Rattle.calls.specs.Calls.{messageCall, startCall}

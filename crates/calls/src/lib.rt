@@ -94,7 +94,7 @@ pub fn message(
     let p = heard::parsed(r);
     let v = heard::vector_of(octets, r);
     if heard::is_reply(r) {
-        return node::take_reply(
+        return reply_taken::take_reply(
             instances,
             routes,
             forward,
@@ -108,7 +108,7 @@ pub fn message(
             &v,
         );
     }
-    node::take_request(
+    request_taken::take_request(
         instances,
         routes,
         forward,
@@ -153,7 +153,7 @@ pub fn start(
         return outcome::refused(bad_call(), clock, seq);
     }
     let g = gather::gather(targets);
-    if start_taken::is_bad_start(g, s) {
+    if bad_start::is_bad_start(g, s) {
         return outcome::refused(bad_call(), clock, seq);
     }
     if wrong_state::is_wrong(instances, routes, clock, seq) {

@@ -33,7 +33,7 @@ use Rattle.decision.specs.declared.Post.{Post}
 use Rattle.place.specs.Places.{Placed, RoutePlaced}
 use Rattle.place.specs.declared.Places as P
 use Rattle.place.specs.declared.RoutePlace.{RoutePlace}
-use Rattle.finish.specs.declared.Live.{Live}
+use Rattle.message.specs.declared.Live.{Live}
 use Rattle.outcome.specs.declared.Outcome.{Outcome}
 use Rattle.outcome.specs.Nothing.{nothingSent}
 use Rattle.finish.specs.Gives.{stateOf, decisionOf, Records, RouteRecords, Settled, Gives}

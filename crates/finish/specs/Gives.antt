@@ -20,7 +20,7 @@ use Rattle.decision.specs.Decision.{Fits, Posts, instanceMeant, recordOf, reply
 use Rattle.decision.specs.declared.Post.{Post}
 use Rattle.decision.specs.declared.Decided.{Decided}
 use Rattle.place.specs.Places.{HasRow, HasRoute, rowChange, hopChange}
-use Rattle.finish.specs.declared.Live.{Live}
+use Rattle.message.specs.declared.Live.{Live}
 use Rattle.outcome.specs.declared.Outcome.{Outcome}
 
 -- the state that clock, own number and the lent tables are

@@ -12,20 +12,13 @@ ghost use Rattle.plain.specs.Plain.Decision.{take};
 use answer::Destination;
 use decision::Decided;
 use decision::Post;
+use message::Live;
 use outcome::Outcome;
 use own::Own;
 use place::Places;
 use place::RoutePlace;
 use row::InstanceRow;
 use row::RouteRow;
-
-// The live row of a call's key and its number, and the live route, where there are any.
-pub struct Live {
-    pub is: bool,
-    pub at: usize,
-    pub routed: bool,
-    pub hop: usize,
-}
 
 // ---- by value
 

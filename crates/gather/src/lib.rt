@@ -7,7 +7,7 @@ ghost use mathlib.Core.Path.{_≡_};
 ghost use mathlib.Core.Bool.{_||_};
 ghost use Rattle.targets.specs.Collected.{targetsIn};
 ghost use Rattle.plain.specs.Answers.{longPrefix};
-ghost use Rattle.gather.specs.Gathers.{Gathers, Judged};
+ghost use Rattle.gather.specs.Gathers.{Gathers};
 
 // What is gathered: the targets, and whether a prefix is over 127.
 pub struct Gathering {
@@ -48,27 +48,4 @@ pub fn gather(given: &[Target]) -> Gathering
         i += 1;
     }
     gathered(list, c, long)
-}
-
-// Whether a start is a bad call: "a start with 0 or over 8 targets, a target prefix over 127, L over 3, Compr over 15, RankLimit over 127".
-pub fn is_bad(g: Gathering, l: u8, compr: u8, limit: u8) -> bool
-    ensures { λ r. ⌜ Judged g l compr limit r ⌝ }
-{
-    let ts = g.targets;
-    if ts.count == 0 {
-        return true;
-    }
-    if ts.over {
-        return true;
-    }
-    if g.long {
-        return true;
-    }
-    if 3 < l {
-        return true;
-    }
-    if 15 < compr {
-        return true;
-    }
-    127 < limit
 }

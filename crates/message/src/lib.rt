@@ -45,6 +45,14 @@ pub struct FoundRoute {
     pub route: RouteRow,
 }
 
+// The live row of a call's key and its number, and the live route, where there are any.
+pub struct Live {
+    pub is: bool,
+    pub at: usize,
+    pub routed: bool,
+    pub hop: usize,
+}
+
 // A Delta that is free, where there is one.
 pub struct FreeDelta {
     pub is: bool,
@@ -63,4 +71,31 @@ pub fn delta_or_0(d: FreeDelta) -> u8
     ensures { λ r. ⌜ r ≡ deltaOr0 (deltaFound d) ⌝ }
 {
     if d.is { d.delta } else { 0 }
+}
+
+// Its instance and its DODAGID.
+pub fn instance_of(p: Parsed) -> u8
+    ensures { λ r. ⌜ r ≡ p .base .instance ⌝ }
+{
+    p.base.instance
+}
+
+pub fn dodagid_of(p: Parsed) -> [u8; 16]
+    ensures { λ r. ⌜ r ≡ p .base .dodagid ⌝ }
+{
+    let b = p.base;
+    let a = b.dodagid;
+    a
+}
+
+// What a call is about in the tables, from what was found.
+pub fn live_of(f: Found, g: FoundRoute) -> Live
+    ensures { λ r. ⌜ r ≡ record { is = f .is; at = f .at; routed = g .is; hop = g .at } ⌝ }
+{
+    Live {
+        is: f.is,
+        at: f.at,
+        routed: g.is,
+        hop: g.at,
+    }
 }

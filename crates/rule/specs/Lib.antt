@@ -1,2 +1,3 @@
 -- what holds of every message that was heard
 pub mod Heard
+pub mod Taken

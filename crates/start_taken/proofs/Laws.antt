@@ -25,11 +25,11 @@ use Rattle.decision.specs.declared.Decided.{Decided}
 use Rattle.decision.specs.declared.Post.{Post}
 use Rattle.search.specs.Seen.{requestSeen}
 use Rattle.finish.specs.Gives.{stateOf, Ready, Settled}
-use Rattle.finish.specs.declared.Live.{Live}
+use Rattle.message.specs.declared.Live.{Live}
 use Rattle.start.specs.Start.{startOf, startAnswer}
 use Rattle.start.specs.declared.Asking.{Asking}
 use Rattle.start.proofs.Lines.{lines-of}
-use Rattle.finish.proofs.Settles.{settled}
+use Rattle.finish.proofs.Settles.{settled, ready}
 
 module _ (clock seq t : ℕ) (rows : List InstanceRow) (routes : List RouteRow) (o : Own) (s : Asking) (instance : ℕ) (receiving : Address)
     (e1 : instance ≡ s .instance) (e2 : receiving ≡ o .receiving) (is : Bool) (e3 : is ≡ given (requestSeen clock rows t instance receiving)) where
@@ -63,13 +63,5 @@ module _ (l : Live) (el : l ≡ record { is = false; at = 0; routed = false; hop
       → 1236 ≤ length forward → 1236 ≤ length reply → length vector ≡ 16 → Fits x there vector → Fits x back vector
       → Ready x t rows routes forward reply vector there back l
   new-ready x t rows routes forward reply vector there back p q n ff fr =
-      rw el
-      (record {
-        row = record { within = λ z. true-false (sym z); lives = λ z. true-false (sym z) };
-        route = record { within = λ z. true-false (sym z); lives = λ z. true-false (sym z) };
-        forwardRoom = p;
-        replyRoom = q;
-        places = n;
-        forwardFits = ff;
-        replyFits = fr;
-      })
+      ready noneFound noRouteFound l el x t rows routes forward reply vector there back (record { within = λ z. true-false (sym z); lives = λ z. true-false (sym z) })
+      (record { within = λ z. true-false (sym z); lives = λ z. true-false (sym z) }) p q n ff fr

@@ -8,25 +8,16 @@ ghost use Rattle.plain.specs.Plain.{enact};
 ghost use Rattle.plain.specs.declared.Target as plain;
 ghost use Rattle.own.specs.Settings.{settingsOf};
 ghost use Rattle.kept.specs.Kept.{listOf};
-ghost use Rattle.gather.specs.Gathers.{Judged};
 ghost use Rattle.start.specs.Start.{startOf};
 ghost use Rattle.finish.specs.Gives.{stateOf, Gives};
 ghost use Rattle.start_taken.specs.Taken.{TakenStart, startDecision};
-use finish::Live;
-use gather::Gathering;
+use message::Live;
 use outcome::Outcome;
 use own::Own;
 use row::InstanceRow;
 use row::RouteRow;
 use start::Asking;
 use targets::Targets;
-
-// 1, asked of a start: its targets and its fields.
-pub fn is_bad_start(g: Gathering, s: Asking) -> bool
-    ensures { λ b. ⌜ Judged g (s .l) (s .compr) (s .limit) b ⌝ }
-{
-    gather::is_bad(g, s.l, s.compr, s.limit)
-}
 
 // A start is about no live row.
 fn none_live() -> Live
@@ -70,8 +61,8 @@ pub fn take_start(
     if answer::number(answer) != 0 {
         return outcome::refused(answer, clock, seq);
     }
-    let d = start::accepted(o, seq, t, s, ts);
-    let there = start::start_post(o, seq, s, ts);
+    let d = start_stored::accepted(o, seq, t, s, ts);
+    let there = start_sent::start_post(o, seq, s, ts);
     let back = decision::no_post();
     let vector = no_vector();
     finish::finish(

@@ -1635,7 +1635,7 @@ b62 = Syntax.assign (Syntax.place 42 List.[]) (Syntax.addrOf (Syntax.place 14 Li
 abbrev b63 : Syntax.Body
 b63 =
     Syntax.call
-    "node::take_reply"
+    "reply_taken::take_reply"
     (List._∷_
     (Syntax.copy (Syntax.place 34 List.[]))
     (List._∷_
@@ -1786,7 +1786,7 @@ b87 = Syntax.assign (Syntax.place 52 List.[]) (Syntax.addrOf (Syntax.place 14 Li
 abbrev b88 : Syntax.Body
 b88 =
     Syntax.call
-    "node::take_request"
+    "request_taken::take_request"
     (List._∷_
     (Syntax.copy (Syntax.place 44 List.[]))
     (List._∷_
@@ -36013,10 +36013,10 @@ module _ (claims· : Claims) where
           "heard::parsed") (known11 : Plain.Known 𝓤 H A W 𝓣 1 ps·11 r·11 (claims· .22)
           (claims· .23) "heard::vector_of") (known12 : Plain.Known 𝓤 H A W 𝓣 0 ps·12 r·12
           (claims· .24) (claims· .25) "heard::is_reply") (known13 : Plain.Known 𝓤 H A W 𝓣 6 ps·13
-          r·13 (claims· .26) (claims· .27) "node::take_reply") (known14 : Plain.Known 𝓤 H A W 𝓣 6
-          ps·14 r·14 (claims· .28) (claims· .29) "node::take_request") → Statement.Triple 𝓤
-          (Wp.WpFn 𝓤 H (𝓣 .C) (𝓣 .Λ) (Function.fnOf 5 ps r xs m hs body)) (Function.plainOf 𝓤 H A 5
-          ps r Pre· Post·)
+          r·13 (claims· .26) (claims· .27) "reply_taken::take_reply") (known14 : Plain.Known 𝓤 H A
+          W 𝓣 6 ps·14 r·14 (claims· .28) (claims· .29) "request_taken::take_request") →
+          Statement.Triple 𝓤 (Wp.WpFn 𝓤 H (𝓣 .C) (𝓣 .Λ) (Function.fnOf 5 ps r xs m hs body))
+          (Function.plainOf 𝓤 H A 5 ps r Pre· Post·)
 
     module _ where
       abbrev at0 : Typed.TF T19 O1
@@ -36672,8 +36672,30 @@ module _ (claims· : Claims) where
             Plain.Known 𝓤 H A W 𝓣 0 ps·10 r·10 (claims· .20) (claims· .21) "heard::parsed" ×
             Plain.Known 𝓤 H A W 𝓣 1 ps·11 r·11 (claims· .22) (claims· .23) "heard::vector_of" ×
             Plain.Known 𝓤 H A W 𝓣 0 ps·12 r·12 (claims· .24) (claims· .25) "heard::is_reply" ×
-            Plain.Known 𝓤 H A W 𝓣 6 ps·13 r·13 (claims· .26) (claims· .27) "node::take_reply" ×
-            Plain.Known 𝓤 H A W 𝓣 6 ps·14 r·14 (claims· .28) (claims· .29) "node::take_request"
+            Plain.Known
+            𝓤
+            H
+            A
+            W
+            𝓣
+            6
+            ps·13
+            r·13
+            (claims· .26)
+            (claims· .27)
+            "reply_taken::take_reply" ×
+            Plain.Known
+            𝓤
+            H
+            A
+            W
+            𝓣
+            6
+            ps·14
+            r·14
+            (claims· .28)
+            (claims· .29)
+            "request_taken::take_request"
 
       module _ (κs : Lifetimes.Lfts 5) (qs : Lifetimes.Shares 5) where
         abbrev g20 : List.List Row.Entry
@@ -62088,7 +62110,7 @@ module _ (claims· : Claims) where
               r·13
               (claims· .26)
               (claims· .27)
-              "node::take_reply"
+              "reply_taken::take_reply"
               (known .13)
               E
               (λ pos β. β)
@@ -65781,7 +65803,7 @@ module _ (claims· : Claims) where
               r·14
               (claims· .28)
               (claims· .29)
-              "node::take_request"
+              "request_taken::take_request"
               (known .14)
               E
               (λ pos β. β)
@@ -74570,7 +74592,7 @@ module _ (claims· : Claims) where
             r·13
             (claims· .26)
             (claims· .27)
-            "node::take_reply")
+            "reply_taken::take_reply")
             (known14 : Plain.Known
             𝓤
             H
@@ -74582,7 +74604,7 @@ module _ (claims· : Claims) where
             r·14
             (claims· .28)
             (claims· .29)
-            "node::take_request") where
+            "request_taken::take_request") where
           pub spec :
               Statement.Triple
               𝓤

@@ -918,7 +918,7 @@ b10 =
 abbrev b11 : Syntax.Body
 b11 =
     Syntax.call
-    "start_taken::is_bad_start"
+    "bad_start::is_bad_start"
     (List._∷_
     (Syntax.copy (Syntax.place 11 List.[]))
     (List._∷_ (Syntax.copy (Syntax.place 10 List.[])) List.[]))
@@ -18802,7 +18802,7 @@ module _ (claims· : Claims) where
           "calls::bad_call") (known2 : Plain.Known 𝓤 H A W 𝓣 0 ps·2 r·2 (claims· .4) (claims· .5)
           "outcome::refused") (known3 : Plain.Known 𝓤 H A W 𝓣 1 ps·3 r·3 (claims· .6) (claims· .7)
           "gather::gather") (known4 : Plain.Known 𝓤 H A W 𝓣 0 ps·4 r·4 (claims· .8) (claims· .9)
-          "start_taken::is_bad_start") (known5 : Plain.Known 𝓤 H A W 𝓣 2 ps·5 r·5 (claims· .10)
+          "bad_start::is_bad_start") (known5 : Plain.Known 𝓤 H A W 𝓣 2 ps·5 r·5 (claims· .10)
           (claims· .11) "wrong_state::is_wrong") (known6 : Plain.Known 𝓤 H A W 𝓣 0 ps·6 r·6
           (claims· .12) (claims· .13) "wrong_state::wrong_state") (known7 : Plain.Known 𝓤 H A W 𝓣 0
           ps·7 r·7 (claims· .14) (claims· .15) "calls::targets_of") (known8 : Plain.Known 𝓤 H A W 𝓣
@@ -19134,18 +19134,7 @@ module _ (claims· : Claims) where
             Plain.Known 𝓤 H A W 𝓣 0 ps·1 r·1 (claims· .2) (claims· .3) "calls::bad_call" ×
             Plain.Known 𝓤 H A W 𝓣 0 ps·2 r·2 (claims· .4) (claims· .5) "outcome::refused" ×
             Plain.Known 𝓤 H A W 𝓣 1 ps·3 r·3 (claims· .6) (claims· .7) "gather::gather" ×
-            Plain.Known
-            𝓤
-            H
-            A
-            W
-            𝓣
-            0
-            ps·4
-            r·4
-            (claims· .8)
-            (claims· .9)
-            "start_taken::is_bad_start" ×
+            Plain.Known 𝓤 H A W 𝓣 0 ps·4 r·4 (claims· .8) (claims· .9) "bad_start::is_bad_start" ×
             Plain.Known 𝓤 H A W 𝓣 2 ps·5 r·5 (claims· .10) (claims· .11) "wrong_state::is_wrong" ×
             Plain.Known
             𝓤
@@ -32293,7 +32282,7 @@ module _ (claims· : Claims) where
               r·4
               (claims· .8)
               (claims· .9)
-              "start_taken::is_bad_start"
+              "bad_start::is_bad_start"
               (known .4)
               E
               (λ pos β. β)
@@ -34993,7 +34982,7 @@ module _ (claims· : Claims) where
             r·4
             (claims· .8)
             (claims· .9)
-            "start_taken::is_bad_start")
+            "bad_start::is_bad_start")
             (known5 : Plain.Known
             𝓤
             H

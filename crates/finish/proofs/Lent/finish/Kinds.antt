@@ -4,8 +4,8 @@ use Rattle.row.proofs.Elem.InstanceRow as KInstanceRow
 use Rattle.row.proofs.Elem.RouteRow as KRouteRow
 use Rattle.decision.proofs.Elem.Decided as KDecided
 use Rattle.decision.proofs.Elem.Post as KPost
-use Rattle.finish.proofs.Live
-use Rattle.finish.proofs.Live.Laws
+use Rattle.message.proofs.Live
+use Rattle.message.proofs.Live.Laws
 use Rattle.outcome.proofs.Outcome
 use Rattle.outcome.proofs.Outcome.Laws as Laws'
 use borrow.Fn.Kinds

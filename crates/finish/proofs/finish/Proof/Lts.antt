@@ -7,8 +7,8 @@ use Rattle.decision.proofs.Elem.Post as KPost
 use Prim.Native.Nat
 use Rattle.answer.proofs.Destination
 use Rattle.answer.proofs.Destination.Laws
-use Rattle.finish.proofs.Live
-use Rattle.finish.proofs.Live.Laws as Laws'
+use Rattle.message.proofs.Live
+use Rattle.message.proofs.Live.Laws as Laws'
 use Rattle.outcome.proofs.Outcome
 use Rattle.outcome.proofs.Outcome.Laws as Laws''
 use Rattle.place.proofs.Places
@@ -1792,20 +1792,22 @@ t3 = List._∷_ (0, Rows'.whole (Declared.row Outcome.the-type)) (List._∷_ (
   Rows'.any-gone
       (Syntax.tyStruct
       (List._∷_
-      102
+      109
       (List._∷_
-      105
-      (List._∷_
-      110
-      (List._∷_
-      105
+      101
       (List._∷_
       115
       (List._∷_
-      104
+      115
+      (List._∷_
+      97
+      (List._∷_
+      103
+      (List._∷_
+      101
       (List._∷_
       58
-      (List._∷_ 58 (List._∷_ 76 (List._∷_ 105 (List._∷_ 118 (List._∷_ 101 List.[]))))))))))))
+      (List._∷_ 58 (List._∷_ 76 (List._∷_ 105 (List._∷_ 118 (List._∷_ 101 List.[])))))))))))))
       (Syntax.tcons
       Syntax.tyBool
       (Syntax.tcons
@@ -5166,20 +5168,22 @@ t23 = List._∷_ (
   Rows'.any-gone
       (Syntax.tyStruct
       (List._∷_
-      102
+      109
       (List._∷_
-      105
-      (List._∷_
-      110
-      (List._∷_
-      105
+      101
       (List._∷_
       115
       (List._∷_
-      104
+      115
+      (List._∷_
+      97
+      (List._∷_
+      103
+      (List._∷_
+      101
       (List._∷_
       58
-      (List._∷_ 58 (List._∷_ 76 (List._∷_ 105 (List._∷_ 118 (List._∷_ 101 List.[]))))))))))))
+      (List._∷_ 58 (List._∷_ 76 (List._∷_ 105 (List._∷_ 118 (List._∷_ 101 List.[])))))))))))))
       (Syntax.tcons
       Syntax.tyBool
       (Syntax.tcons
@@ -5553,20 +5557,22 @@ t25 = List._∷_ (
   Rows'.any-gone
       (Syntax.tyStruct
       (List._∷_
-      102
+      109
       (List._∷_
-      105
-      (List._∷_
-      110
-      (List._∷_
-      105
+      101
       (List._∷_
       115
       (List._∷_
-      104
+      115
+      (List._∷_
+      97
+      (List._∷_
+      103
+      (List._∷_
+      101
       (List._∷_
       58
-      (List._∷_ 58 (List._∷_ 76 (List._∷_ 105 (List._∷_ 118 (List._∷_ 101 List.[]))))))))))))
+      (List._∷_ 58 (List._∷_ 76 (List._∷_ 105 (List._∷_ 118 (List._∷_ 101 List.[])))))))))))))
       (Syntax.tcons
       Syntax.tyBool
       (Syntax.tcons
@@ -5940,20 +5946,22 @@ t27 = List._∷_ (
   Rows'.any-gone
       (Syntax.tyStruct
       (List._∷_
-      102
+      109
       (List._∷_
-      105
-      (List._∷_
-      110
-      (List._∷_
-      105
+      101
       (List._∷_
       115
       (List._∷_
-      104
+      115
+      (List._∷_
+      97
+      (List._∷_
+      103
+      (List._∷_
+      101
       (List._∷_
       58
-      (List._∷_ 58 (List._∷_ 76 (List._∷_ 105 (List._∷_ 118 (List._∷_ 101 List.[]))))))))))))
+      (List._∷_ 58 (List._∷_ 76 (List._∷_ 105 (List._∷_ 118 (List._∷_ 101 List.[])))))))))))))
       (Syntax.tcons
       Syntax.tyBool
       (Syntax.tcons
@@ -6288,20 +6296,22 @@ t28 = List._∷_ (
   Rows'.any-gone
       (Syntax.tyStruct
       (List._∷_
-      102
+      109
       (List._∷_
-      105
-      (List._∷_
-      110
-      (List._∷_
-      105
+      101
       (List._∷_
       115
       (List._∷_
-      104
+      115
+      (List._∷_
+      97
+      (List._∷_
+      103
+      (List._∷_
+      101
       (List._∷_
       58
-      (List._∷_ 58 (List._∷_ 76 (List._∷_ 105 (List._∷_ 118 (List._∷_ 101 List.[]))))))))))))
+      (List._∷_ 58 (List._∷_ 76 (List._∷_ 105 (List._∷_ 118 (List._∷_ 101 List.[])))))))))))))
       (Syntax.tcons
       Syntax.tyBool
       (Syntax.tcons
@@ -6742,20 +6752,22 @@ t31 = List._∷_ (
   Rows'.any-gone
       (Syntax.tyStruct
       (List._∷_
-      102
+      109
       (List._∷_
-      105
-      (List._∷_
-      110
-      (List._∷_
-      105
+      101
       (List._∷_
       115
       (List._∷_
-      104
+      115
+      (List._∷_
+      97
+      (List._∷_
+      103
+      (List._∷_
+      101
       (List._∷_
       58
-      (List._∷_ 58 (List._∷_ 76 (List._∷_ 105 (List._∷_ 118 (List._∷_ 101 List.[]))))))))))))
+      (List._∷_ 58 (List._∷_ 76 (List._∷_ 105 (List._∷_ 118 (List._∷_ 101 List.[])))))))))))))
       (Syntax.tcons
       Syntax.tyBool
       (Syntax.tcons
@@ -7257,20 +7269,22 @@ t35 = List._∷_ (
   Rows'.any-gone
       (Syntax.tyStruct
       (List._∷_
-      102
+      109
       (List._∷_
-      105
-      (List._∷_
-      110
-      (List._∷_
-      105
+      101
       (List._∷_
       115
       (List._∷_
-      104
+      115
+      (List._∷_
+      97
+      (List._∷_
+      103
+      (List._∷_
+      101
       (List._∷_
       58
-      (List._∷_ 58 (List._∷_ 76 (List._∷_ 105 (List._∷_ 118 (List._∷_ 101 List.[]))))))))))))
+      (List._∷_ 58 (List._∷_ 76 (List._∷_ 105 (List._∷_ 118 (List._∷_ 101 List.[])))))))))))))
       (Syntax.tcons
       Syntax.tyBool
       (Syntax.tcons
@@ -7650,20 +7664,22 @@ t37 = List._∷_ (
   Rows'.any-gone
       (Syntax.tyStruct
       (List._∷_
-      102
+      109
       (List._∷_
-      105
-      (List._∷_
-      110
-      (List._∷_
-      105
+      101
       (List._∷_
       115
       (List._∷_
-      104
+      115
+      (List._∷_
+      97
+      (List._∷_
+      103
+      (List._∷_
+      101
       (List._∷_
       58
-      (List._∷_ 58 (List._∷_ 76 (List._∷_ 105 (List._∷_ 118 (List._∷_ 101 List.[]))))))))))))
+      (List._∷_ 58 (List._∷_ 76 (List._∷_ 105 (List._∷_ 118 (List._∷_ 101 List.[])))))))))))))
       (Syntax.tcons
       Syntax.tyBool
       (Syntax.tcons
@@ -8103,20 +8119,22 @@ t40 = List._∷_ (
   Rows'.any-gone
       (Syntax.tyStruct
       (List._∷_
-      102
+      109
       (List._∷_
-      105
-      (List._∷_
-      110
-      (List._∷_
-      105
+      101
       (List._∷_
       115
       (List._∷_
-      104
+      115
+      (List._∷_
+      97
+      (List._∷_
+      103
+      (List._∷_
+      101
       (List._∷_
       58
-      (List._∷_ 58 (List._∷_ 76 (List._∷_ 105 (List._∷_ 118 (List._∷_ 101 List.[]))))))))))))
+      (List._∷_ 58 (List._∷_ 76 (List._∷_ 105 (List._∷_ 118 (List._∷_ 101 List.[])))))))))))))
       (Syntax.tcons
       Syntax.tyBool
       (Syntax.tcons
@@ -8618,20 +8636,22 @@ t44 = List._∷_ (
   Rows'.any-gone
       (Syntax.tyStruct
       (List._∷_
-      102
+      109
       (List._∷_
-      105
-      (List._∷_
-      110
-      (List._∷_
-      105
+      101
       (List._∷_
       115
       (List._∷_
-      104
+      115
+      (List._∷_
+      97
+      (List._∷_
+      103
+      (List._∷_
+      101
       (List._∷_
       58
-      (List._∷_ 58 (List._∷_ 76 (List._∷_ 105 (List._∷_ 118 (List._∷_ 101 List.[]))))))))))))
+      (List._∷_ 58 (List._∷_ 76 (List._∷_ 105 (List._∷_ 118 (List._∷_ 101 List.[])))))))))))))
       (Syntax.tcons
       Syntax.tyBool
       (Syntax.tcons
@@ -9009,20 +9029,22 @@ t46 = List._∷_ (
   Rows'.any-gone
       (Syntax.tyStruct
       (List._∷_
-      102
+      109
       (List._∷_
-      105
-      (List._∷_
-      110
-      (List._∷_
-      105
+      101
       (List._∷_
       115
       (List._∷_
-      104
+      115
+      (List._∷_
+      97
+      (List._∷_
+      103
+      (List._∷_
+      101
       (List._∷_
       58
-      (List._∷_ 58 (List._∷_ 76 (List._∷_ 105 (List._∷_ 118 (List._∷_ 101 List.[]))))))))))))
+      (List._∷_ 58 (List._∷_ 76 (List._∷_ 105 (List._∷_ 118 (List._∷_ 101 List.[])))))))))))))
       (Syntax.tcons
       Syntax.tyBool
       (Syntax.tcons
@@ -9334,20 +9356,22 @@ t47 = List._∷_ (
   Rows'.any-gone
       (Syntax.tyStruct
       (List._∷_
-      102
+      109
       (List._∷_
-      105
-      (List._∷_
-      110
-      (List._∷_
-      105
+      101
       (List._∷_
       115
       (List._∷_
-      104
+      115
+      (List._∷_
+      97
+      (List._∷_
+      103
+      (List._∷_
+      101
       (List._∷_
       58
-      (List._∷_ 58 (List._∷_ 76 (List._∷_ 105 (List._∷_ 118 (List._∷_ 101 List.[]))))))))))))
+      (List._∷_ 58 (List._∷_ 76 (List._∷_ 105 (List._∷_ 118 (List._∷_ 101 List.[])))))))))))))
       (Syntax.tcons
       Syntax.tyBool
       (Syntax.tcons
@@ -9953,20 +9977,22 @@ t50 = List._∷_ (
   Rows'.any-gone
       (Syntax.tyStruct
       (List._∷_
-      102
+      109
       (List._∷_
-      105
-      (List._∷_
-      110
-      (List._∷_
-      105
+      101
       (List._∷_
       115
       (List._∷_
-      104
+      115
+      (List._∷_
+      97
+      (List._∷_
+      103
+      (List._∷_
+      101
       (List._∷_
       58
-      (List._∷_ 58 (List._∷_ 76 (List._∷_ 105 (List._∷_ 118 (List._∷_ 101 List.[]))))))))))))
+      (List._∷_ 58 (List._∷_ 76 (List._∷_ 105 (List._∷_ 118 (List._∷_ 101 List.[])))))))))))))
       (Syntax.tcons
       Syntax.tyBool
       (Syntax.tcons
@@ -10708,20 +10734,22 @@ t54 = List._∷_ (
   Rows'.any-gone
       (Syntax.tyStruct
       (List._∷_
-      102
+      109
       (List._∷_
-      105
-      (List._∷_
-      110
-      (List._∷_
-      105
+      101
       (List._∷_
       115
       (List._∷_
-      104
+      115
+      (List._∷_
+      97
+      (List._∷_
+      103
+      (List._∷_
+      101
       (List._∷_
       58
-      (List._∷_ 58 (List._∷_ 76 (List._∷_ 105 (List._∷_ 118 (List._∷_ 101 List.[]))))))))))))
+      (List._∷_ 58 (List._∷_ 76 (List._∷_ 105 (List._∷_ 118 (List._∷_ 101 List.[])))))))))))))
       (Syntax.tcons
       Syntax.tyBool
       (Syntax.tcons
@@ -11290,20 +11318,22 @@ t57 = List._∷_ (
   Rows'.any-gone
       (Syntax.tyStruct
       (List._∷_
-      102
+      109
       (List._∷_
-      105
-      (List._∷_
-      110
-      (List._∷_
-      105
+      101
       (List._∷_
       115
       (List._∷_
-      104
+      115
+      (List._∷_
+      97
+      (List._∷_
+      103
+      (List._∷_
+      101
       (List._∷_
       58
-      (List._∷_ 58 (List._∷_ 76 (List._∷_ 105 (List._∷_ 118 (List._∷_ 101 List.[]))))))))))))
+      (List._∷_ 58 (List._∷_ 76 (List._∷_ 105 (List._∷_ 118 (List._∷_ 101 List.[])))))))))))))
       (Syntax.tcons
       Syntax.tyBool
       (Syntax.tcons
@@ -12472,20 +12502,22 @@ t68 = List._∷_ (0, Rows'.whole (Declared.row Outcome.the-type)) (List._∷_ (
   Rows'.any-gone
       (Syntax.tyStruct
       (List._∷_
-      102
+      109
       (List._∷_
-      105
-      (List._∷_
-      110
-      (List._∷_
-      105
+      101
       (List._∷_
       115
       (List._∷_
-      104
+      115
+      (List._∷_
+      97
+      (List._∷_
+      103
+      (List._∷_
+      101
       (List._∷_
       58
-      (List._∷_ 58 (List._∷_ 76 (List._∷_ 105 (List._∷_ 118 (List._∷_ 101 List.[]))))))))))))
+      (List._∷_ 58 (List._∷_ 76 (List._∷_ 105 (List._∷_ 118 (List._∷_ 101 List.[])))))))))))))
       (Syntax.tcons
       Syntax.tyBool
       (Syntax.tcons
@@ -12709,20 +12741,22 @@ t71 = List._∷_ (0, Rows'.whole (Declared.row Outcome.the-type)) (List._∷_ (
   Rows'.any-gone
       (Syntax.tyStruct
       (List._∷_
-      102
+      109
       (List._∷_
-      105
-      (List._∷_
-      110
-      (List._∷_
-      105
+      101
       (List._∷_
       115
       (List._∷_
-      104
+      115
+      (List._∷_
+      97
+      (List._∷_
+      103
+      (List._∷_
+      101
       (List._∷_
       58
-      (List._∷_ 58 (List._∷_ 76 (List._∷_ 105 (List._∷_ 118 (List._∷_ 101 List.[]))))))))))))
+      (List._∷_ 58 (List._∷_ 76 (List._∷_ 105 (List._∷_ 118 (List._∷_ 101 List.[])))))))))))))
       (Syntax.tcons
       Syntax.tyBool
       (Syntax.tcons
@@ -12819,20 +12853,22 @@ t72 = List._∷_ (0, Rows'.whole (Declared.row Outcome.the-type)) (List._∷_ (
   Rows'.any-gone
       (Syntax.tyStruct
       (List._∷_
-      102
+      109
       (List._∷_
-      105
-      (List._∷_
-      110
-      (List._∷_
-      105
+      101
       (List._∷_
       115
       (List._∷_
-      104
+      115
+      (List._∷_
+      97
+      (List._∷_
+      103
+      (List._∷_
+      101
       (List._∷_
       58
-      (List._∷_ 58 (List._∷_ 76 (List._∷_ 105 (List._∷_ 118 (List._∷_ 101 List.[]))))))))))))
+      (List._∷_ 58 (List._∷_ 76 (List._∷_ 105 (List._∷_ 118 (List._∷_ 101 List.[])))))))))))))
       (Syntax.tcons
       Syntax.tyBool
       (Syntax.tcons
@@ -13617,20 +13653,22 @@ module _ (claims· : Claims) where
       13
       (Syntax.tyStruct
       (List._∷_
-      102
+      109
       (List._∷_
-      105
-      (List._∷_
-      110
-      (List._∷_
-      105
+      101
       (List._∷_
       115
       (List._∷_
-      104
+      115
+      (List._∷_
+      97
+      (List._∷_
+      103
+      (List._∷_
+      101
       (List._∷_
       58
-      (List._∷_ 58 (List._∷_ 76 (List._∷_ 105 (List._∷_ 118 (List._∷_ 101 List.[]))))))))))))
+      (List._∷_ 58 (List._∷_ 76 (List._∷_ 105 (List._∷_ 118 (List._∷_ 101 List.[])))))))))))))
       (Syntax.tcons
       Syntax.tyBool
       (Syntax.tcons
@@ -16693,22 +16731,24 @@ module _ (claims· : Claims) where
           Rows'.any-gone
               (Syntax.tyStruct
               (List._∷_
-              102
+              109
               (List._∷_
-              105
-              (List._∷_
-              110
-              (List._∷_
-              105
+              101
               (List._∷_
               115
               (List._∷_
-              104
+              115
+              (List._∷_
+              97
+              (List._∷_
+              103
+              (List._∷_
+              101
               (List._∷_
               58
               (List._∷_
               58
-              (List._∷_ 76 (List._∷_ 105 (List._∷_ 118 (List._∷_ 101 List.[]))))))))))))
+              (List._∷_ 76 (List._∷_ 105 (List._∷_ 118 (List._∷_ 101 List.[])))))))))))))
               (Syntax.tcons
               Syntax.tyBool
               (Syntax.tcons
@@ -17043,22 +17083,24 @@ module _ (claims· : Claims) where
           Rows'.any-gone
               (Syntax.tyStruct
               (List._∷_
-              102
+              109
               (List._∷_
-              105
-              (List._∷_
-              110
-              (List._∷_
-              105
+              101
               (List._∷_
               115
               (List._∷_
-              104
+              115
+              (List._∷_
+              97
+              (List._∷_
+              103
+              (List._∷_
+              101
               (List._∷_
               58
               (List._∷_
               58
-              (List._∷_ 76 (List._∷_ 105 (List._∷_ 118 (List._∷_ 101 List.[]))))))))))))
+              (List._∷_ 76 (List._∷_ 105 (List._∷_ 118 (List._∷_ 101 List.[])))))))))))))
               (Syntax.tcons
               Syntax.tyBool
               (Syntax.tcons
@@ -17393,22 +17435,24 @@ module _ (claims· : Claims) where
           Rows'.any-gone
               (Syntax.tyStruct
               (List._∷_
-              102
+              109
               (List._∷_
-              105
-              (List._∷_
-              110
-              (List._∷_
-              105
+              101
               (List._∷_
               115
               (List._∷_
-              104
+              115
+              (List._∷_
+              97
+              (List._∷_
+              103
+              (List._∷_
+              101
               (List._∷_
               58
               (List._∷_
               58
-              (List._∷_ 76 (List._∷_ 105 (List._∷_ 118 (List._∷_ 101 List.[]))))))))))))
+              (List._∷_ 76 (List._∷_ 105 (List._∷_ 118 (List._∷_ 101 List.[])))))))))))))
               (Syntax.tcons
               Syntax.tyBool
               (Syntax.tcons
@@ -17747,22 +17791,24 @@ module _ (claims· : Claims) where
           Rows'.any-gone
               (Syntax.tyStruct
               (List._∷_
-              102
+              109
               (List._∷_
-              105
-              (List._∷_
-              110
-              (List._∷_
-              105
+              101
               (List._∷_
               115
               (List._∷_
-              104
+              115
+              (List._∷_
+              97
+              (List._∷_
+              103
+              (List._∷_
+              101
               (List._∷_
               58
               (List._∷_
               58
-              (List._∷_ 76 (List._∷_ 105 (List._∷_ 118 (List._∷_ 101 List.[]))))))))))))
+              (List._∷_ 76 (List._∷_ 105 (List._∷_ 118 (List._∷_ 101 List.[])))))))))))))
               (Syntax.tcons
               Syntax.tyBool
               (Syntax.tcons
@@ -18097,22 +18143,24 @@ module _ (claims· : Claims) where
           Rows'.any-gone
               (Syntax.tyStruct
               (List._∷_
-              102
+              109
               (List._∷_
-              105
-              (List._∷_
-              110
-              (List._∷_
-              105
+              101
               (List._∷_
               115
               (List._∷_
-              104
+              115
+              (List._∷_
+              97
+              (List._∷_
+              103
+              (List._∷_
+              101
               (List._∷_
               58
               (List._∷_
               58
-              (List._∷_ 76 (List._∷_ 105 (List._∷_ 118 (List._∷_ 101 List.[]))))))))))))
+              (List._∷_ 76 (List._∷_ 105 (List._∷_ 118 (List._∷_ 101 List.[])))))))))))))
               (Syntax.tcons
               Syntax.tyBool
               (Syntax.tcons
@@ -18451,22 +18499,24 @@ module _ (claims· : Claims) where
           Rows'.any-gone
               (Syntax.tyStruct
               (List._∷_
-              102
+              109
               (List._∷_
-              105
-              (List._∷_
-              110
-              (List._∷_
-              105
+              101
               (List._∷_
               115
               (List._∷_
-              104
+              115
+              (List._∷_
+              97
+              (List._∷_
+              103
+              (List._∷_
+              101
               (List._∷_
               58
               (List._∷_
               58
-              (List._∷_ 76 (List._∷_ 105 (List._∷_ 118 (List._∷_ 101 List.[]))))))))))))
+              (List._∷_ 76 (List._∷_ 105 (List._∷_ 118 (List._∷_ 101 List.[])))))))))))))
               (Syntax.tcons
               Syntax.tyBool
               (Syntax.tcons
@@ -18803,22 +18853,24 @@ module _ (claims· : Claims) where
           Rows'.any-gone
               (Syntax.tyStruct
               (List._∷_
-              102
+              109
               (List._∷_
-              105
-              (List._∷_
-              110
-              (List._∷_
-              105
+              101
               (List._∷_
               115
               (List._∷_
-              104
+              115
+              (List._∷_
+              97
+              (List._∷_
+              103
+              (List._∷_
+              101
               (List._∷_
               58
               (List._∷_
               58
-              (List._∷_ 76 (List._∷_ 105 (List._∷_ 118 (List._∷_ 101 List.[]))))))))))))
+              (List._∷_ 76 (List._∷_ 105 (List._∷_ 118 (List._∷_ 101 List.[])))))))))))))
               (Syntax.tcons
               Syntax.tyBool
               (Syntax.tcons
@@ -19155,22 +19207,24 @@ module _ (claims· : Claims) where
           Rows'.any-gone
               (Syntax.tyStruct
               (List._∷_
-              102
+              109
               (List._∷_
-              105
-              (List._∷_
-              110
-              (List._∷_
-              105
+              101
               (List._∷_
               115
               (List._∷_
-              104
+              115
+              (List._∷_
+              97
+              (List._∷_
+              103
+              (List._∷_
+              101
               (List._∷_
               58
               (List._∷_
               58
-              (List._∷_ 76 (List._∷_ 105 (List._∷_ 118 (List._∷_ 101 List.[]))))))))))))
+              (List._∷_ 76 (List._∷_ 105 (List._∷_ 118 (List._∷_ 101 List.[])))))))))))))
               (Syntax.tcons
               Syntax.tyBool
               (Syntax.tcons
@@ -19530,22 +19584,24 @@ module _ (claims· : Claims) where
           Rows'.any-gone
               (Syntax.tyStruct
               (List._∷_
-              102
+              109
               (List._∷_
-              105
-              (List._∷_
-              110
-              (List._∷_
-              105
+              101
               (List._∷_
               115
               (List._∷_
-              104
+              115
+              (List._∷_
+              97
+              (List._∷_
+              103
+              (List._∷_
+              101
               (List._∷_
               58
               (List._∷_
               58
-              (List._∷_ 76 (List._∷_ 105 (List._∷_ 118 (List._∷_ 101 List.[]))))))))))))
+              (List._∷_ 76 (List._∷_ 105 (List._∷_ 118 (List._∷_ 101 List.[])))))))))))))
               (Syntax.tcons
               Syntax.tyBool
               (Syntax.tcons
@@ -28224,22 +28280,24 @@ module _ (claims· : Claims) where
               13
               (Syntax.tyStruct
               (List._∷_
-              102
+              109
               (List._∷_
-              105
-              (List._∷_
-              110
-              (List._∷_
-              105
+              101
               (List._∷_
               115
               (List._∷_
-              104
+              115
+              (List._∷_
+              97
+              (List._∷_
+              103
+              (List._∷_
+              101
               (List._∷_
               58
               (List._∷_
               58
-              (List._∷_ 76 (List._∷_ 105 (List._∷_ 118 (List._∷_ 101 List.[]))))))))))))
+              (List._∷_ 76 (List._∷_ 105 (List._∷_ 118 (List._∷_ 101 List.[])))))))))))))
               (Syntax.tcons
               Syntax.tyBool
               (Syntax.tcons
@@ -28253,22 +28311,24 @@ module _ (claims· : Claims) where
               (Declared.row Live.the-type)
               (Syntax.tyStruct
               (List._∷_
-              102
+              109
               (List._∷_
-              105
-              (List._∷_
-              110
-              (List._∷_
-              105
+              101
               (List._∷_
               115
               (List._∷_
-              104
+              115
+              (List._∷_
+              97
+              (List._∷_
+              103
+              (List._∷_
+              101
               (List._∷_
               58
               (List._∷_
               58
-              (List._∷_ 76 (List._∷_ 105 (List._∷_ 118 (List._∷_ 101 List.[]))))))))))))
+              (List._∷_ 76 (List._∷_ 105 (List._∷_ 118 (List._∷_ 101 List.[])))))))))))))
               (Syntax.tcons
               Syntax.tyBool
               (Syntax.tcons

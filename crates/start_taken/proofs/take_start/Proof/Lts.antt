@@ -6,8 +6,8 @@ use Rattle.decision.proofs.Elem.Post as KPost
 use Prim.Native.Nat
 use Rattle.answer.proofs.Answer
 use Rattle.answer.proofs.Answer.Laws
-use Rattle.finish.proofs.Live
-use Rattle.finish.proofs.Live.Laws as Laws'
+use Rattle.message.proofs.Live
+use Rattle.message.proofs.Live.Laws as Laws'
 use Rattle.outcome.proofs.Outcome
 use Rattle.outcome.proofs.Outcome.Laws as Laws''
 use Rattle.own.proofs.Own
@@ -282,20 +282,22 @@ xs =
     (List._∷_
     (Syntax.tyStruct
     (List._∷_
-    102
+    109
     (List._∷_
-    105
-    (List._∷_
-    110
-    (List._∷_
-    105
+    101
     (List._∷_
     115
     (List._∷_
-    104
+    115
+    (List._∷_
+    97
+    (List._∷_
+    103
+    (List._∷_
+    101
     (List._∷_
     58
-    (List._∷_ 58 (List._∷_ 76 (List._∷_ 105 (List._∷_ 118 (List._∷_ 101 List.[]))))))))))))
+    (List._∷_ 58 (List._∷_ 76 (List._∷_ 105 (List._∷_ 118 (List._∷_ 101 List.[])))))))))))))
     (Syntax.tcons
     Syntax.tyBool
     (Syntax.tcons
@@ -858,7 +860,7 @@ b12 = Syntax.cond (Syntax.copy (Syntax.place 21 List.[])) b10 b11
 abbrev b13 : Syntax.Body
 b13 =
     Syntax.call
-    "start::accepted"
+    "start_stored::accepted"
     (List._∷_
     (Syntax.copy (Syntax.place 5 List.[]))
     (List._∷_
@@ -877,7 +879,7 @@ b14 =
 abbrev b15 : Syntax.Body
 b15 =
     Syntax.call
-    "start::start_post"
+    "start_sent::start_post"
     (List._∷_
     (Syntax.copy (Syntax.place 5 List.[]))
     (List._∷_
@@ -1586,20 +1588,22 @@ t2 = List._∷_ (
   Rows'.any-gone
       (Syntax.tyStruct
       (List._∷_
-      102
+      109
       (List._∷_
-      105
-      (List._∷_
-      110
-      (List._∷_
-      105
+      101
       (List._∷_
       115
       (List._∷_
-      104
+      115
+      (List._∷_
+      97
+      (List._∷_
+      103
+      (List._∷_
+      101
       (List._∷_
       58
-      (List._∷_ 58 (List._∷_ 76 (List._∷_ 105 (List._∷_ 118 (List._∷_ 101 List.[]))))))))))))
+      (List._∷_ 58 (List._∷_ 76 (List._∷_ 105 (List._∷_ 118 (List._∷_ 101 List.[])))))))))))))
       (Syntax.tcons
       Syntax.tyBool
       (Syntax.tcons
@@ -10224,20 +10228,22 @@ t46 = List._∷_ (
   Rows'.any-gone
       (Syntax.tyStruct
       (List._∷_
-      102
+      109
       (List._∷_
-      105
-      (List._∷_
-      110
-      (List._∷_
-      105
+      101
       (List._∷_
       115
       (List._∷_
-      104
+      115
+      (List._∷_
+      97
+      (List._∷_
+      103
+      (List._∷_
+      101
       (List._∷_
       58
-      (List._∷_ 58 (List._∷_ 76 (List._∷_ 105 (List._∷_ 118 (List._∷_ 101 List.[]))))))))))))
+      (List._∷_ 58 (List._∷_ 76 (List._∷_ 105 (List._∷_ 118 (List._∷_ 101 List.[])))))))))))))
       (Syntax.tcons
       Syntax.tyBool
       (Syntax.tcons
@@ -10342,20 +10348,22 @@ t48 = List._∷_ (
   Rows'.any-gone
       (Syntax.tyStruct
       (List._∷_
-      102
+      109
       (List._∷_
-      105
-      (List._∷_
-      110
-      (List._∷_
-      105
+      101
       (List._∷_
       115
       (List._∷_
-      104
+      115
+      (List._∷_
+      97
+      (List._∷_
+      103
+      (List._∷_
+      101
       (List._∷_
       58
-      (List._∷_ 58 (List._∷_ 76 (List._∷_ 105 (List._∷_ 118 (List._∷_ 101 List.[]))))))))))))
+      (List._∷_ 58 (List._∷_ 76 (List._∷_ 105 (List._∷_ 118 (List._∷_ 101 List.[])))))))))))))
       (Syntax.tcons
       Syntax.tyBool
       (Syntax.tcons
@@ -10829,20 +10837,22 @@ t50 = List._∷_ (
   Rows'.any-gone
       (Syntax.tyStruct
       (List._∷_
-      102
+      109
       (List._∷_
-      105
-      (List._∷_
-      110
-      (List._∷_
-      105
+      101
       (List._∷_
       115
       (List._∷_
-      104
+      115
+      (List._∷_
+      97
+      (List._∷_
+      103
+      (List._∷_
+      101
       (List._∷_
       58
-      (List._∷_ 58 (List._∷_ 76 (List._∷_ 105 (List._∷_ 118 (List._∷_ 101 List.[]))))))))))))
+      (List._∷_ 58 (List._∷_ 76 (List._∷_ 105 (List._∷_ 118 (List._∷_ 101 List.[])))))))))))))
       (Syntax.tcons
       Syntax.tyBool
       (Syntax.tcons
@@ -11325,20 +11335,22 @@ t52 = List._∷_ (
   Rows'.any-gone
       (Syntax.tyStruct
       (List._∷_
-      102
+      109
       (List._∷_
-      105
-      (List._∷_
-      110
-      (List._∷_
-      105
+      101
       (List._∷_
       115
       (List._∷_
-      104
+      115
+      (List._∷_
+      97
+      (List._∷_
+      103
+      (List._∷_
+      101
       (List._∷_
       58
-      (List._∷_ 58 (List._∷_ 76 (List._∷_ 105 (List._∷_ 118 (List._∷_ 101 List.[]))))))))))))
+      (List._∷_ 58 (List._∷_ 76 (List._∷_ 105 (List._∷_ 118 (List._∷_ 101 List.[])))))))))))))
       (Syntax.tcons
       Syntax.tyBool
       (Syntax.tcons
@@ -11456,20 +11468,22 @@ t54 = List._∷_ (
   Rows'.any-gone
       (Syntax.tyStruct
       (List._∷_
-      102
+      109
       (List._∷_
-      105
-      (List._∷_
-      110
-      (List._∷_
-      105
+      101
       (List._∷_
       115
       (List._∷_
-      104
+      115
+      (List._∷_
+      97
+      (List._∷_
+      103
+      (List._∷_
+      101
       (List._∷_
       58
-      (List._∷_ 58 (List._∷_ 76 (List._∷_ 105 (List._∷_ 118 (List._∷_ 101 List.[]))))))))))))
+      (List._∷_ 58 (List._∷_ 76 (List._∷_ 105 (List._∷_ 118 (List._∷_ 101 List.[])))))))))))))
       (Syntax.tcons
       Syntax.tyBool
       (Syntax.tcons
@@ -12394,20 +12408,22 @@ t65 = List._∷_ (
   Rows'.any-gone
       (Syntax.tyStruct
       (List._∷_
-      102
+      109
       (List._∷_
-      105
-      (List._∷_
-      110
-      (List._∷_
-      105
+      101
       (List._∷_
       115
       (List._∷_
-      104
+      115
+      (List._∷_
+      97
+      (List._∷_
+      103
+      (List._∷_
+      101
       (List._∷_
       58
-      (List._∷_ 58 (List._∷_ 76 (List._∷_ 105 (List._∷_ 118 (List._∷_ 101 List.[]))))))))))))
+      (List._∷_ 58 (List._∷_ 76 (List._∷_ 105 (List._∷_ 118 (List._∷_ 101 List.[])))))))))))))
       (Syntax.tcons
       Syntax.tyBool
       (Syntax.tcons
@@ -16127,20 +16143,22 @@ module _ (claims· : Claims) where
       List.[]
       (Syntax.tyStruct
       (List._∷_
-      102
+      109
       (List._∷_
-      105
-      (List._∷_
-      110
-      (List._∷_
-      105
+      101
       (List._∷_
       115
       (List._∷_
-      104
+      115
+      (List._∷_
+      97
+      (List._∷_
+      103
+      (List._∷_
+      101
       (List._∷_
       58
-      (List._∷_ 58 (List._∷_ 76 (List._∷_ 105 (List._∷_ 118 (List._∷_ 101 List.[]))))))))))))
+      (List._∷_ 58 (List._∷_ 76 (List._∷_ 105 (List._∷_ 118 (List._∷_ 101 List.[])))))))))))))
       (Syntax.tcons
       Syntax.tyBool
       (Syntax.tcons
@@ -16527,20 +16545,22 @@ module _ (claims· : Claims) where
       37
       (Syntax.tyStruct
       (List._∷_
-      102
+      109
       (List._∷_
-      105
-      (List._∷_
-      110
-      (List._∷_
-      105
+      101
       (List._∷_
       115
       (List._∷_
-      104
+      115
+      (List._∷_
+      97
+      (List._∷_
+      103
+      (List._∷_
+      101
       (List._∷_
       58
-      (List._∷_ 58 (List._∷_ 76 (List._∷_ 105 (List._∷_ 118 (List._∷_ 101 List.[]))))))))))))
+      (List._∷_ 58 (List._∷_ 76 (List._∷_ 105 (List._∷_ 118 (List._∷_ 101 List.[])))))))))))))
       (Syntax.tcons
       Syntax.tyBool
       (Syntax.tcons
@@ -16686,14 +16706,14 @@ module _ (claims· : Claims) where
           (claims· .6) (claims· .7) "start::judge") (known4 : Plain.Known 𝓤 H A W 𝓣 0 ps·4 r·4
           (claims· .8) (claims· .9) "answer::number") (known5 : Plain.Known 𝓤 H A W 𝓣 0 ps·5 r·5
           (claims· .10) (claims· .11) "outcome::refused") (known6 : Plain.Known 𝓤 H A W 𝓣 0 ps·6
-          r·6 (claims· .12) (claims· .13) "start::accepted") (known7 : Plain.Known 𝓤 H A W 𝓣 0 ps·7
-          r·7 (claims· .14) (claims· .15) "start::start_post") (known8 : Plain.Known 𝓤 H A W 𝓣 0
-          ps·8 r·8 (claims· .16) (claims· .17) "decision::no_post") (known9 : Plain.Known 𝓤 H A W 𝓣
-          0 ps·9 r·9 (claims· .18) (claims· .19) "start_taken::no_vector") (known10 : Plain.Known 𝓤
-          H A W 𝓣 0 ps·10 r·10 (claims· .20) (claims· .21)
-          "start_taken::none_live") (known11 : Plain.Known 𝓤 H A W 𝓣 8 ps·11 r·11 (claims· .22)
-          (claims· .23) "finish::finish") → Statement.Triple 𝓤 (Wp.WpFn 𝓤 H (𝓣 .C) (𝓣 .Λ)
-          (Function.fnOf 4 ps r xs m hs body)) (Function.plainOf 𝓤 H A 4 ps r Pre· Post·)
+          r·6 (claims· .12) (claims· .13) "start_stored::accepted") (known7 : Plain.Known 𝓤 H A W 𝓣
+          0 ps·7 r·7 (claims· .14) (claims· .15) "start_sent::start_post") (known8 : Plain.Known 𝓤
+          H A W 𝓣 0 ps·8 r·8 (claims· .16) (claims· .17) "decision::no_post") (known9 : Plain.Known
+          𝓤 H A W 𝓣 0 ps·9 r·9 (claims· .18) (claims· .19)
+          "start_taken::no_vector") (known10 : Plain.Known 𝓤 H A W 𝓣 0 ps·10 r·10 (claims· .20)
+          (claims· .21) "start_taken::none_live") (known11 : Plain.Known 𝓤 H A W 𝓣 8 ps·11 r·11
+          (claims· .22) (claims· .23) "finish::finish") → Statement.Triple 𝓤 (Wp.WpFn 𝓤 H (𝓣 .C)
+          (𝓣 .Λ) (Function.fnOf 4 ps r xs m hs body)) (Function.plainOf 𝓤 H A 4 ps r Pre· Post·)
 
     module _ where
       abbrev at0 : Typed.TF T30 O1
@@ -17042,8 +17062,8 @@ module _ (claims· : Claims) where
             Plain.Known 𝓤 H A W 𝓣 0 ps·3 r·3 (claims· .6) (claims· .7) "start::judge" ×
             Plain.Known 𝓤 H A W 𝓣 0 ps·4 r·4 (claims· .8) (claims· .9) "answer::number" ×
             Plain.Known 𝓤 H A W 𝓣 0 ps·5 r·5 (claims· .10) (claims· .11) "outcome::refused" ×
-            Plain.Known 𝓤 H A W 𝓣 0 ps·6 r·6 (claims· .12) (claims· .13) "start::accepted" ×
-            Plain.Known 𝓤 H A W 𝓣 0 ps·7 r·7 (claims· .14) (claims· .15) "start::start_post" ×
+            Plain.Known 𝓤 H A W 𝓣 0 ps·6 r·6 (claims· .12) (claims· .13) "start_stored::accepted" ×
+            Plain.Known 𝓤 H A W 𝓣 0 ps·7 r·7 (claims· .14) (claims· .15) "start_sent::start_post" ×
             Plain.Known 𝓤 H A W 𝓣 0 ps·8 r·8 (claims· .16) (claims· .17) "decision::no_post" ×
             Plain.Known 𝓤 H A W 𝓣 0 ps·9 r·9 (claims· .18) (claims· .19) "start_taken::no_vector" ×
             Plain.Known
@@ -27120,22 +27140,24 @@ module _ (claims· : Claims) where
               37
               (Syntax.tyStruct
               (List._∷_
-              102
+              109
               (List._∷_
-              105
-              (List._∷_
-              110
-              (List._∷_
-              105
+              101
               (List._∷_
               115
               (List._∷_
-              104
+              115
+              (List._∷_
+              97
+              (List._∷_
+              103
+              (List._∷_
+              101
               (List._∷_
               58
               (List._∷_
               58
-              (List._∷_ 76 (List._∷_ 105 (List._∷_ 118 (List._∷_ 101 List.[]))))))))))))
+              (List._∷_ 76 (List._∷_ 105 (List._∷_ 118 (List._∷_ 101 List.[])))))))))))))
               (Syntax.tcons
               Syntax.tyBool
               (Syntax.tcons
@@ -27149,22 +27171,24 @@ module _ (claims· : Claims) where
               (Declared'.row Live.the-type)
               (Syntax.tyStruct
               (List._∷_
-              102
+              109
               (List._∷_
-              105
-              (List._∷_
-              110
-              (List._∷_
-              105
+              101
               (List._∷_
               115
               (List._∷_
-              104
+              115
+              (List._∷_
+              97
+              (List._∷_
+              103
+              (List._∷_
+              101
               (List._∷_
               58
               (List._∷_
               58
-              (List._∷_ 76 (List._∷_ 105 (List._∷_ 118 (List._∷_ 101 List.[]))))))))))))
+              (List._∷_ 76 (List._∷_ 105 (List._∷_ 118 (List._∷_ 101 List.[])))))))))))))
               (Syntax.tcons
               Syntax.tyBool
               (Syntax.tcons
@@ -28095,22 +28119,24 @@ module _ (claims· : Claims) where
               A
               (Syntax.tyStruct
               (List._∷_
-              102
+              109
               (List._∷_
-              105
-              (List._∷_
-              110
-              (List._∷_
-              105
+              101
               (List._∷_
               115
               (List._∷_
-              104
+              115
+              (List._∷_
+              97
+              (List._∷_
+              103
+              (List._∷_
+              101
               (List._∷_
               58
               (List._∷_
               58
-              (List._∷_ 76 (List._∷_ 105 (List._∷_ 118 (List._∷_ 101 List.[]))))))))))))
+              (List._∷_ 76 (List._∷_ 105 (List._∷_ 118 (List._∷_ 101 List.[])))))))))))))
               (Syntax.tcons
               Syntax.tyBool
               (Syntax.tcons
@@ -30563,7 +30589,7 @@ module _ (claims· : Claims) where
               r·7
               (claims· .14)
               (claims· .15)
-              "start::start_post"
+              "start_sent::start_post"
               (known .7)
               E
               (λ pos β. β)
@@ -30804,7 +30830,7 @@ module _ (claims· : Claims) where
               r·6
               (claims· .12)
               (claims· .13)
-              "start::accepted"
+              "start_stored::accepted"
               (known .6)
               E
               (λ pos β. β)
@@ -34005,7 +34031,7 @@ module _ (claims· : Claims) where
             r·6
             (claims· .12)
             (claims· .13)
-            "start::accepted")
+            "start_stored::accepted")
             (known7 : Plain.Known
             𝓤
             H
@@ -34017,7 +34043,7 @@ module _ (claims· : Claims) where
             r·7
             (claims· .14)
             (claims· .15)
-            "start::start_post")
+            "start_sent::start_post")
             (known8 : Plain.Known
             𝓤
             H

@@ -1,2 +1,0 @@
-pub mod take_reply
-pub mod take_request

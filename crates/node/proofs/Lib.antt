@@ -1,5 +1,0 @@
-pub mod Laws
-pub mod Decides
-pub mod Requested
-pub mod Answered
-pub mod Lent
