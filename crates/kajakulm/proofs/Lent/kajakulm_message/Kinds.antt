@@ -3,8 +3,8 @@ use Rattle.row.proofs.Elem.InstanceRow as KInstanceRow
 use Rattle.row.proofs.Elem.RouteRow as KRouteRow
 use Rattle.plain.proofs.Elem.Target as KTarget
 use Rattle.tally.proofs.Elem.Tally as KTally
-use Rattle.host.proofs.HostLink
-use Rattle.host.proofs.HostLink.Laws
+use Rattle.handed.proofs.HostLink
+use Rattle.handed.proofs.HostLink.Laws
 use Rattle.host.proofs.HostOutcome
 use Rattle.host.proofs.HostOutcome.Laws as Laws'
 use Rattle.own.proofs.Own

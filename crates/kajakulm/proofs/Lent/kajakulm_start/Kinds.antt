@@ -3,10 +3,10 @@ use Rattle.row.proofs.Elem.InstanceRow as KInstanceRow
 use Rattle.row.proofs.Elem.RouteRow as KRouteRow
 use Rattle.plain.proofs.Elem.Target as KTarget
 use Rattle.tally.proofs.Elem.Tally as KTally
+use Rattle.handed.proofs.HostStart
+use Rattle.handed.proofs.HostStart.Laws
 use Rattle.host.proofs.HostOutcome
-use Rattle.host.proofs.HostOutcome.Laws
-use Rattle.host.proofs.HostStart
-use Rattle.host.proofs.HostStart.Laws as Laws'
+use Rattle.host.proofs.HostOutcome.Laws as Laws'
 use Rattle.own.proofs.Own
 use Rattle.own.proofs.Own.Laws as Laws''
 use borrow.Fn.Kinds
@@ -59,16 +59,16 @@ ps =
     (List._∷_ (Kinds.pNum Syntax.w64) (List._∷_ (Value.pVal record {
       ty = Declared.row HostStart.the-type;
       one = Path'.refl;
-      val = Laws'3.val HostStart.the-type Laws'.the-laws;
-      tells = Laws'3.tells HostStart.the-type Laws'.the-laws;
-      still = Laws'3.still HostStart.the-type Laws'.the-copy Exit.yes;
+      val = Laws'3.val HostStart.the-type Laws.the-laws;
+      tells = Laws'3.tells HostStart.the-type Laws.the-laws;
+      still = Laws'3.still HostStart.the-type Laws.the-copy Exit.yes;
       row = Rows.whole (Declared.row HostStart.the-type);
       rd = λ x. x;
       mk = λ x. x;
     } λ M 𝓤 H A W. record {
-      copies = Laws'3.copy HostStart.the-type Laws'.the-copy 𝓤 H A W;
-      lawful = Laws'3.lawful HostStart.the-type Laws'.the-laws 𝓤 H A W;
-      makes = Laws'3.makes HostStart.the-type Laws'.the-plain 𝓤 H A;
+      copies = Laws'3.copy HostStart.the-type Laws.the-copy 𝓤 H A W;
+      lawful = Laws'3.lawful HostStart.the-type Laws.the-laws 𝓤 H A W;
+      makes = Laws'3.makes HostStart.the-type Laws.the-plain 𝓤 H A;
       in-mem = Local.mem-whole 𝓤 H A W (Declared.row HostStart.the-type);
       of-mem = Local.whole-mem 𝓤 H A W (Declared.row HostStart.the-type);
     })
@@ -80,16 +80,16 @@ abbrev pub r : Kinds.RK 6
 r = Value.rVal record {
   ty = Declared.row HostOutcome.the-type;
   one = Path'.refl;
-  val = Laws'3.val HostOutcome.the-type Laws.the-laws;
-  tells = Laws'3.tells HostOutcome.the-type Laws.the-laws;
-  still = Laws'3.still HostOutcome.the-type Laws.the-copy Exit.yes;
+  val = Laws'3.val HostOutcome.the-type Laws'.the-laws;
+  tells = Laws'3.tells HostOutcome.the-type Laws'.the-laws;
+  still = Laws'3.still HostOutcome.the-type Laws'.the-copy Exit.yes;
   row = Rows.whole (Declared.row HostOutcome.the-type);
   rd = λ x. x;
   mk = λ x. x;
 } λ M 𝓤 H A W. record {
-  copies = Laws'3.copy HostOutcome.the-type Laws.the-copy 𝓤 H A W;
-  lawful = Laws'3.lawful HostOutcome.the-type Laws.the-laws 𝓤 H A W;
-  makes = Laws'3.makes HostOutcome.the-type Laws.the-plain 𝓤 H A;
+  copies = Laws'3.copy HostOutcome.the-type Laws'.the-copy 𝓤 H A W;
+  lawful = Laws'3.lawful HostOutcome.the-type Laws'.the-laws 𝓤 H A W;
+  makes = Laws'3.makes HostOutcome.the-type Laws'.the-plain 𝓤 H A;
   in-mem = Local.mem-whole 𝓤 H A W (Declared.row HostOutcome.the-type);
   of-mem = Local.whole-mem 𝓤 H A W (Declared.row HostOutcome.the-type);
 }

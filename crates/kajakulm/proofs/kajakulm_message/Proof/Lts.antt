@@ -6,8 +6,8 @@ use Rattle.tally.proofs.Elem.Tally as KTally
 use Prim.Native.Nat
 use Rattle.answer.proofs.Answer
 use Rattle.answer.proofs.Answer.Laws
-use Rattle.host.proofs.HostLink
-use Rattle.host.proofs.HostLink.Laws as Laws'
+use Rattle.handed.proofs.HostLink
+use Rattle.handed.proofs.HostLink.Laws as Laws'
 use Rattle.host.proofs.HostOutcome
 use Rattle.host.proofs.HostOutcome.Laws as Laws''
 use Rattle.message.proofs.Link
@@ -811,7 +811,7 @@ b7 =
 abbrev b8 : Syntax.Body
 b8 =
     Syntax.call
-    "host::link_of"
+    "handed::link_of"
     (List._∷_ (Syntax.copy (Syntax.place 10 List.[])) List.[])
     (Syntax.place 21 List.[])
 
@@ -852,7 +852,7 @@ b10 =
 abbrev b11 : Syntax.Body
 b11 =
     Syntax.call
-    "host::answer_of"
+    "outcome::answer_of"
     (List._∷_ (Syntax.copy (Syntax.place 12 List.[])) List.[])
     (Syntax.place 24 List.[])
 
@@ -1454,11 +1454,15 @@ t2 = List._∷_ (0, Rows.whole (Declared'.row HostOutcome.the-type)) (List._∷_
       (List._∷_
       104
       (List._∷_
-      111
+      97
       (List._∷_
-      115
+      110
       (List._∷_
-      116
+      100
+      (List._∷_
+      101
+      (List._∷_
+      100
       (List._∷_
       58
       (List._∷_
@@ -1469,7 +1473,7 @@ t2 = List._∷_ (0, Rows.whole (Declared'.row HostOutcome.the-type)) (List._∷_
       111
       (List._∷_
       115
-      (List._∷_ 116 (List._∷_ 76 (List._∷_ 105 (List._∷_ 110 (List._∷_ 107 List.[]))))))))))))))
+      (List._∷_ 116 (List._∷_ 76 (List._∷_ 105 (List._∷_ 110 (List._∷_ 107 List.[]))))))))))))))))
       (Syntax.tcons
       (Syntax.tyArray (Syntax.tyInt Syntax.w8) 16)
       (Syntax.tcons
@@ -4610,11 +4614,15 @@ t15 = List._∷_ (
       (List._∷_
       104
       (List._∷_
-      111
+      97
       (List._∷_
-      115
+      110
       (List._∷_
-      116
+      100
+      (List._∷_
+      101
+      (List._∷_
+      100
       (List._∷_
       58
       (List._∷_
@@ -4625,7 +4633,7 @@ t15 = List._∷_ (
       111
       (List._∷_
       115
-      (List._∷_ 116 (List._∷_ 76 (List._∷_ 105 (List._∷_ 110 (List._∷_ 107 List.[]))))))))))))))
+      (List._∷_ 116 (List._∷_ 76 (List._∷_ 105 (List._∷_ 110 (List._∷_ 107 List.[]))))))))))))))))
       (Syntax.tcons
       (Syntax.tyArray (Syntax.tyInt Syntax.w8) 16)
       (Syntax.tcons
@@ -4991,11 +4999,15 @@ t16 = List._∷_ (
       (List._∷_
       104
       (List._∷_
-      111
+      97
       (List._∷_
-      115
+      110
       (List._∷_
-      116
+      100
+      (List._∷_
+      101
+      (List._∷_
+      100
       (List._∷_
       58
       (List._∷_
@@ -5006,7 +5018,7 @@ t16 = List._∷_ (
       111
       (List._∷_
       115
-      (List._∷_ 116 (List._∷_ 76 (List._∷_ 105 (List._∷_ 110 (List._∷_ 107 List.[]))))))))))))))
+      (List._∷_ 116 (List._∷_ 76 (List._∷_ 105 (List._∷_ 110 (List._∷_ 107 List.[]))))))))))))))))
       (Syntax.tcons
       (Syntax.tyArray (Syntax.tyInt Syntax.w8) 16)
       (Syntax.tcons
@@ -5235,11 +5247,15 @@ t18 = List._∷_ (
       (List._∷_
       104
       (List._∷_
-      111
+      97
       (List._∷_
-      115
+      110
       (List._∷_
-      116
+      100
+      (List._∷_
+      101
+      (List._∷_
+      100
       (List._∷_
       58
       (List._∷_
@@ -5250,7 +5266,7 @@ t18 = List._∷_ (
       111
       (List._∷_
       115
-      (List._∷_ 116 (List._∷_ 76 (List._∷_ 105 (List._∷_ 110 (List._∷_ 107 List.[]))))))))))))))
+      (List._∷_ 116 (List._∷_ 76 (List._∷_ 105 (List._∷_ 110 (List._∷_ 107 List.[]))))))))))))))))
       (Syntax.tcons
       (Syntax.tyArray (Syntax.tyInt Syntax.w8) 16)
       (Syntax.tcons
@@ -5502,11 +5518,15 @@ t20 = List._∷_ (
       (List._∷_
       104
       (List._∷_
-      111
+      97
       (List._∷_
-      115
+      110
       (List._∷_
-      116
+      100
+      (List._∷_
+      101
+      (List._∷_
+      100
       (List._∷_
       58
       (List._∷_
@@ -5517,7 +5537,7 @@ t20 = List._∷_ (
       111
       (List._∷_
       115
-      (List._∷_ 116 (List._∷_ 76 (List._∷_ 105 (List._∷_ 110 (List._∷_ 107 List.[]))))))))))))))
+      (List._∷_ 116 (List._∷_ 76 (List._∷_ 105 (List._∷_ 110 (List._∷_ 107 List.[]))))))))))))))))
       (Syntax.tcons
       (Syntax.tyArray (Syntax.tyInt Syntax.w8) 16)
       (Syntax.tcons
@@ -5656,11 +5676,15 @@ t21 = List._∷_ (
       (List._∷_
       104
       (List._∷_
-      111
+      97
       (List._∷_
-      115
+      110
       (List._∷_
-      116
+      100
+      (List._∷_
+      101
+      (List._∷_
+      100
       (List._∷_
       58
       (List._∷_
@@ -5671,7 +5695,7 @@ t21 = List._∷_ (
       111
       (List._∷_
       115
-      (List._∷_ 116 (List._∷_ 76 (List._∷_ 105 (List._∷_ 110 (List._∷_ 107 List.[]))))))))))))))
+      (List._∷_ 116 (List._∷_ 76 (List._∷_ 105 (List._∷_ 110 (List._∷_ 107 List.[]))))))))))))))))
       (Syntax.tcons
       (Syntax.tyArray (Syntax.tyInt Syntax.w8) 16)
       (Syntax.tcons
@@ -5925,11 +5949,15 @@ t23 = List._∷_ (
       (List._∷_
       104
       (List._∷_
-      111
+      97
       (List._∷_
-      115
+      110
       (List._∷_
-      116
+      100
+      (List._∷_
+      101
+      (List._∷_
+      100
       (List._∷_
       58
       (List._∷_
@@ -5940,7 +5968,7 @@ t23 = List._∷_ (
       111
       (List._∷_
       115
-      (List._∷_ 116 (List._∷_ 76 (List._∷_ 105 (List._∷_ 110 (List._∷_ 107 List.[]))))))))))))))
+      (List._∷_ 116 (List._∷_ 76 (List._∷_ 105 (List._∷_ 110 (List._∷_ 107 List.[]))))))))))))))))
       (Syntax.tcons
       (Syntax.tyArray (Syntax.tyInt Syntax.w8) 16)
       (Syntax.tcons
@@ -6195,11 +6223,15 @@ t25 = List._∷_ (
       (List._∷_
       104
       (List._∷_
-      111
+      97
       (List._∷_
-      115
+      110
       (List._∷_
-      116
+      100
+      (List._∷_
+      101
+      (List._∷_
+      100
       (List._∷_
       58
       (List._∷_
@@ -6210,7 +6242,7 @@ t25 = List._∷_ (
       111
       (List._∷_
       115
-      (List._∷_ 116 (List._∷_ 76 (List._∷_ 105 (List._∷_ 110 (List._∷_ 107 List.[]))))))))))))))
+      (List._∷_ 116 (List._∷_ 76 (List._∷_ 105 (List._∷_ 110 (List._∷_ 107 List.[]))))))))))))))))
       (Syntax.tcons
       (Syntax.tyArray (Syntax.tyInt Syntax.w8) 16)
       (Syntax.tcons
@@ -6345,11 +6377,15 @@ t26 = List._∷_ (
       (List._∷_
       104
       (List._∷_
-      111
+      97
       (List._∷_
-      115
+      110
       (List._∷_
-      116
+      100
+      (List._∷_
+      101
+      (List._∷_
+      100
       (List._∷_
       58
       (List._∷_
@@ -6360,7 +6396,7 @@ t26 = List._∷_ (
       111
       (List._∷_
       115
-      (List._∷_ 116 (List._∷_ 76 (List._∷_ 105 (List._∷_ 110 (List._∷_ 107 List.[]))))))))))))))
+      (List._∷_ 116 (List._∷_ 76 (List._∷_ 105 (List._∷_ 110 (List._∷_ 107 List.[]))))))))))))))))
       (Syntax.tcons
       (Syntax.tyArray (Syntax.tyInt Syntax.w8) 16)
       (Syntax.tcons
@@ -6899,11 +6935,15 @@ t32 = List._∷_ (0, Rows.whole (Declared'.row HostOutcome.the-type)) (List._∷
       (List._∷_
       104
       (List._∷_
-      111
+      97
       (List._∷_
-      115
+      110
       (List._∷_
-      116
+      100
+      (List._∷_
+      101
+      (List._∷_
+      100
       (List._∷_
       58
       (List._∷_
@@ -6914,7 +6954,7 @@ t32 = List._∷_ (0, Rows.whole (Declared'.row HostOutcome.the-type)) (List._∷
       111
       (List._∷_
       115
-      (List._∷_ 116 (List._∷_ 76 (List._∷_ 105 (List._∷_ 110 (List._∷_ 107 List.[]))))))))))))))
+      (List._∷_ 116 (List._∷_ 76 (List._∷_ 105 (List._∷_ 110 (List._∷_ 107 List.[]))))))))))))))))
       (Syntax.tcons
       (Syntax.tyArray (Syntax.tyInt Syntax.w8) 16)
       (Syntax.tcons
@@ -7003,11 +7043,15 @@ t33 = List._∷_ (0, Rows.whole (Declared'.row HostOutcome.the-type)) (List._∷
       (List._∷_
       104
       (List._∷_
-      111
+      97
       (List._∷_
-      115
+      110
       (List._∷_
-      116
+      100
+      (List._∷_
+      101
+      (List._∷_
+      100
       (List._∷_
       58
       (List._∷_
@@ -7018,7 +7062,7 @@ t33 = List._∷_ (0, Rows.whole (Declared'.row HostOutcome.the-type)) (List._∷
       111
       (List._∷_
       115
-      (List._∷_ 116 (List._∷_ 76 (List._∷_ 105 (List._∷_ 110 (List._∷_ 107 List.[]))))))))))))))
+      (List._∷_ 116 (List._∷_ 76 (List._∷_ 105 (List._∷_ 110 (List._∷_ 107 List.[]))))))))))))))))
       (Syntax.tcons
       (Syntax.tyArray (Syntax.tyInt Syntax.w8) 16)
       (Syntax.tcons
@@ -7343,11 +7387,15 @@ t34 = List._∷_ (0, Rows.whole (Declared'.row HostOutcome.the-type)) (List._∷
       (List._∷_
       104
       (List._∷_
-      111
+      97
       (List._∷_
-      115
+      110
       (List._∷_
-      116
+      100
+      (List._∷_
+      101
+      (List._∷_
+      100
       (List._∷_
       58
       (List._∷_
@@ -7358,7 +7406,7 @@ t34 = List._∷_ (0, Rows.whole (Declared'.row HostOutcome.the-type)) (List._∷
       111
       (List._∷_
       115
-      (List._∷_ 116 (List._∷_ 76 (List._∷_ 105 (List._∷_ 110 (List._∷_ 107 List.[]))))))))))))))
+      (List._∷_ 116 (List._∷_ 76 (List._∷_ 105 (List._∷_ 110 (List._∷_ 107 List.[]))))))))))))))))
       (Syntax.tcons
       (Syntax.tyArray (Syntax.tyInt Syntax.w8) 16)
       (Syntax.tcons
@@ -7683,11 +7731,15 @@ t35 = List._∷_ (0, Rows.whole (Declared'.row HostOutcome.the-type)) (List._∷
       (List._∷_
       104
       (List._∷_
-      111
+      97
       (List._∷_
-      115
+      110
       (List._∷_
-      116
+      100
+      (List._∷_
+      101
+      (List._∷_
+      100
       (List._∷_
       58
       (List._∷_
@@ -7698,7 +7750,7 @@ t35 = List._∷_ (0, Rows.whole (Declared'.row HostOutcome.the-type)) (List._∷
       111
       (List._∷_
       115
-      (List._∷_ 116 (List._∷_ 76 (List._∷_ 105 (List._∷_ 110 (List._∷_ 107 List.[]))))))))))))))
+      (List._∷_ 116 (List._∷_ 76 (List._∷_ 105 (List._∷_ 110 (List._∷_ 107 List.[]))))))))))))))))
       (Syntax.tcons
       (Syntax.tyArray (Syntax.tyInt Syntax.w8) 16)
       (Syntax.tcons
@@ -8291,11 +8343,15 @@ module _ (claims· : Claims) where
       (List._∷_
       104
       (List._∷_
-      111
+      97
       (List._∷_
-      115
+      110
       (List._∷_
-      116
+      100
+      (List._∷_
+      101
+      (List._∷_
+      100
       (List._∷_
       58
       (List._∷_
@@ -8306,7 +8362,7 @@ module _ (claims· : Claims) where
       111
       (List._∷_
       115
-      (List._∷_ 116 (List._∷_ 76 (List._∷_ 105 (List._∷_ 110 (List._∷_ 107 List.[]))))))))))))))
+      (List._∷_ 116 (List._∷_ 76 (List._∷_ 105 (List._∷_ 110 (List._∷_ 107 List.[]))))))))))))))))
       (Syntax.tcons
       (Syntax.tyArray (Syntax.tyInt Syntax.w8) 16)
       (Syntax.tcons
@@ -9202,12 +9258,12 @@ module _ (claims· : Claims) where
       Closed =
           (𝓤 : URA.URA M) (H : Wp.Heap 𝓤) (A : Atoms.Atoms 𝓤) (W : Kit.Given 𝓤 H A) (𝓣 : Wp.Tables
           𝓤 H) (known0 : Plain.Known 𝓤 H A W 𝓣 0 ps·0 r·0 (claims· .0) (claims· .1)
-          "host::link_of") (known1 : Plain.Known 𝓤 H A W 𝓣 5 ps·1 r·1 (claims· .2) (claims· .3)
+          "handed::link_of") (known1 : Plain.Known 𝓤 H A W 𝓣 5 ps·1 r·1 (claims· .2) (claims· .3)
           "calls::message") (known2 : Plain.Known 𝓤 H A W 𝓣 0 ps·2 r·2 (claims· .4) (claims· .5)
-          "host::answer_of") (known3 : Plain.Known 𝓤 H A W 𝓣 1 ps·3 r·3 (claims· .6) (claims· .7)
-          "tally::raise") (known4 : Plain.Known 𝓤 H A W 𝓣 0 ps·4 r·4 (claims· .8) (claims· .9)
-          "host::host_outcome") → Statement.Triple 𝓤 (Wp.WpFn 𝓤 H (𝓣 .C) (𝓣 .Λ) (Function.fnOf 6 ps
-          r xs m hs body)) (Function.plainOf 𝓤 H A 6 ps r Pre· Post·)
+          "outcome::answer_of") (known3 : Plain.Known 𝓤 H A W 𝓣 1 ps·3 r·3 (claims· .6)
+          (claims· .7) "tally::raise") (known4 : Plain.Known 𝓤 H A W 𝓣 0 ps·4 r·4 (claims· .8)
+          (claims· .9) "host::host_outcome") → Statement.Triple 𝓤 (Wp.WpFn 𝓤 H (𝓣 .C) (𝓣 .Λ)
+          (Function.fnOf 6 ps r xs m hs body)) (Function.plainOf 𝓤 H A 6 ps r Pre· Post·)
 
     module _ where
       abbrev at0 : Typed.TF T49 O0
@@ -9364,9 +9420,9 @@ module _ (claims· : Claims) where
           (W : Kit.Given 𝓤 H A) (𝓣 : Wp.Tables 𝓤 H) where
         abbrev Knowns : Type 1
         Knowns =
-            Plain.Known 𝓤 H A W 𝓣 0 ps·0 r·0 (claims· .0) (claims· .1) "host::link_of" ×
+            Plain.Known 𝓤 H A W 𝓣 0 ps·0 r·0 (claims· .0) (claims· .1) "handed::link_of" ×
             Plain.Known 𝓤 H A W 𝓣 5 ps·1 r·1 (claims· .2) (claims· .3) "calls::message" ×
-            Plain.Known 𝓤 H A W 𝓣 0 ps·2 r·2 (claims· .4) (claims· .5) "host::answer_of" ×
+            Plain.Known 𝓤 H A W 𝓣 0 ps·2 r·2 (claims· .4) (claims· .5) "outcome::answer_of" ×
             Plain.Known 𝓤 H A W 𝓣 1 ps·3 r·3 (claims· .6) (claims· .7) "tally::raise" ×
             Plain.Known 𝓤 H A W 𝓣 0 ps·4 r·4 (claims· .8) (claims· .9) "host::host_outcome"
 
@@ -11669,11 +11725,15 @@ module _ (claims· : Claims) where
               (List._∷_
               104
               (List._∷_
-              111
+              97
               (List._∷_
-              115
+              110
               (List._∷_
-              116
+              100
+              (List._∷_
+              101
+              (List._∷_
+              100
               (List._∷_
               58
               (List._∷_
@@ -11686,7 +11746,7 @@ module _ (claims· : Claims) where
               115
               (List._∷_
               116
-              (List._∷_ 76 (List._∷_ 105 (List._∷_ 110 (List._∷_ 107 List.[]))))))))))))))
+              (List._∷_ 76 (List._∷_ 105 (List._∷_ 110 (List._∷_ 107 List.[]))))))))))))))))
               (Syntax.tcons
               (Syntax.tyArray (Syntax.tyInt Syntax.w8) 16)
               (Syntax.tcons
@@ -12071,11 +12131,15 @@ module _ (claims· : Claims) where
               (List._∷_
               104
               (List._∷_
-              111
+              97
               (List._∷_
-              115
+              110
               (List._∷_
-              116
+              100
+              (List._∷_
+              101
+              (List._∷_
+              100
               (List._∷_
               58
               (List._∷_
@@ -12088,7 +12152,7 @@ module _ (claims· : Claims) where
               115
               (List._∷_
               116
-              (List._∷_ 76 (List._∷_ 105 (List._∷_ 110 (List._∷_ 107 List.[]))))))))))))))
+              (List._∷_ 76 (List._∷_ 105 (List._∷_ 110 (List._∷_ 107 List.[]))))))))))))))))
               (Syntax.tcons
               (Syntax.tyArray (Syntax.tyInt Syntax.w8) 16)
               (Syntax.tcons
@@ -12239,11 +12303,15 @@ module _ (claims· : Claims) where
               (List._∷_
               104
               (List._∷_
-              111
+              97
               (List._∷_
-              115
+              110
               (List._∷_
-              116
+              100
+              (List._∷_
+              101
+              (List._∷_
+              100
               (List._∷_
               58
               (List._∷_
@@ -12256,7 +12324,7 @@ module _ (claims· : Claims) where
               115
               (List._∷_
               116
-              (List._∷_ 76 (List._∷_ 105 (List._∷_ 110 (List._∷_ 107 List.[]))))))))))))))
+              (List._∷_ 76 (List._∷_ 105 (List._∷_ 110 (List._∷_ 107 List.[]))))))))))))))))
               (Syntax.tcons
               (Syntax.tyArray (Syntax.tyInt Syntax.w8) 16)
               (Syntax.tcons
@@ -12405,11 +12473,15 @@ module _ (claims· : Claims) where
               (List._∷_
               104
               (List._∷_
-              111
+              97
               (List._∷_
-              115
+              110
               (List._∷_
-              116
+              100
+              (List._∷_
+              101
+              (List._∷_
+              100
               (List._∷_
               58
               (List._∷_
@@ -12422,7 +12494,7 @@ module _ (claims· : Claims) where
               115
               (List._∷_
               116
-              (List._∷_ 76 (List._∷_ 105 (List._∷_ 110 (List._∷_ 107 List.[]))))))))))))))
+              (List._∷_ 76 (List._∷_ 105 (List._∷_ 110 (List._∷_ 107 List.[]))))))))))))))))
               (Syntax.tcons
               (Syntax.tyArray (Syntax.tyInt Syntax.w8) 16)
               (Syntax.tcons
@@ -12572,11 +12644,15 @@ module _ (claims· : Claims) where
               (List._∷_
               104
               (List._∷_
-              111
+              97
               (List._∷_
-              115
+              110
               (List._∷_
-              116
+              100
+              (List._∷_
+              101
+              (List._∷_
+              100
               (List._∷_
               58
               (List._∷_
@@ -12589,7 +12665,7 @@ module _ (claims· : Claims) where
               115
               (List._∷_
               116
-              (List._∷_ 76 (List._∷_ 105 (List._∷_ 110 (List._∷_ 107 List.[]))))))))))))))
+              (List._∷_ 76 (List._∷_ 105 (List._∷_ 110 (List._∷_ 107 List.[]))))))))))))))))
               (Syntax.tcons
               (Syntax.tyArray (Syntax.tyInt Syntax.w8) 16)
               (Syntax.tcons
@@ -12737,11 +12813,15 @@ module _ (claims· : Claims) where
               (List._∷_
               104
               (List._∷_
-              111
+              97
               (List._∷_
-              115
+              110
               (List._∷_
-              116
+              100
+              (List._∷_
+              101
+              (List._∷_
+              100
               (List._∷_
               58
               (List._∷_
@@ -12754,7 +12834,7 @@ module _ (claims· : Claims) where
               115
               (List._∷_
               116
-              (List._∷_ 76 (List._∷_ 105 (List._∷_ 110 (List._∷_ 107 List.[]))))))))))))))
+              (List._∷_ 76 (List._∷_ 105 (List._∷_ 110 (List._∷_ 107 List.[]))))))))))))))))
               (Syntax.tcons
               (Syntax.tyArray (Syntax.tyInt Syntax.w8) 16)
               (Syntax.tcons
@@ -12900,11 +12980,15 @@ module _ (claims· : Claims) where
               (List._∷_
               104
               (List._∷_
-              111
+              97
               (List._∷_
-              115
+              110
               (List._∷_
-              116
+              100
+              (List._∷_
+              101
+              (List._∷_
+              100
               (List._∷_
               58
               (List._∷_
@@ -12917,7 +13001,7 @@ module _ (claims· : Claims) where
               115
               (List._∷_
               116
-              (List._∷_ 76 (List._∷_ 105 (List._∷_ 110 (List._∷_ 107 List.[]))))))))))))))
+              (List._∷_ 76 (List._∷_ 105 (List._∷_ 110 (List._∷_ 107 List.[]))))))))))))))))
               (Syntax.tcons
               (Syntax.tyArray (Syntax.tyInt Syntax.w8) 16)
               (Syntax.tcons
@@ -15169,7 +15253,7 @@ module _ (claims· : Claims) where
               r·2
               (claims· .4)
               (claims· .5)
-              "host::answer_of"
+              "outcome::answer_of"
               (known .2)
               E
               (λ pos β. β)
@@ -16558,11 +16642,15 @@ module _ (claims· : Claims) where
               (List._∷_
               104
               (List._∷_
-              111
+              97
               (List._∷_
-              115
+              110
               (List._∷_
-              116
+              100
+              (List._∷_
+              101
+              (List._∷_
+              100
               (List._∷_
               58
               (List._∷_
@@ -16575,7 +16663,7 @@ module _ (claims· : Claims) where
               115
               (List._∷_
               116
-              (List._∷_ 76 (List._∷_ 105 (List._∷_ 110 (List._∷_ 107 List.[]))))))))))))))
+              (List._∷_ 76 (List._∷_ 105 (List._∷_ 110 (List._∷_ 107 List.[]))))))))))))))))
               (Syntax.tcons
               (Syntax.tyArray (Syntax.tyInt Syntax.w8) 16)
               (Syntax.tcons
@@ -16595,11 +16683,15 @@ module _ (claims· : Claims) where
               (List._∷_
               104
               (List._∷_
-              111
+              97
               (List._∷_
-              115
+              110
               (List._∷_
-              116
+              100
+              (List._∷_
+              101
+              (List._∷_
+              100
               (List._∷_
               58
               (List._∷_
@@ -16612,7 +16704,7 @@ module _ (claims· : Claims) where
               115
               (List._∷_
               116
-              (List._∷_ 76 (List._∷_ 105 (List._∷_ 110 (List._∷_ 107 List.[]))))))))))))))
+              (List._∷_ 76 (List._∷_ 105 (List._∷_ 110 (List._∷_ 107 List.[]))))))))))))))))
               (Syntax.tcons
               (Syntax.tyArray (Syntax.tyInt Syntax.w8) 16)
               (Syntax.tcons
@@ -16652,7 +16744,7 @@ module _ (claims· : Claims) where
               r·0
               (claims· .0)
               (claims· .1)
-              "host::link_of"
+              "handed::link_of"
               (known .0)
               E
               (λ pos β. β)
@@ -18768,9 +18860,20 @@ module _ (claims· : Claims) where
 
         module _ {M : Type 1} (𝓤 : URA.URA M) (H : Wp.Heap 𝓤) (A : Atoms.Atoms 𝓤)
             (W : Kit.Given 𝓤 H A) (𝓣 : Wp.Tables 𝓤 H)
-            (known0 : Plain.Known 𝓤 H A W 𝓣 0 ps·0 r·0 (claims· .0) (claims· .1) "host::link_of")
+            (known0 : Plain.Known 𝓤 H A W 𝓣 0 ps·0 r·0 (claims· .0) (claims· .1) "handed::link_of")
             (known1 : Plain.Known 𝓤 H A W 𝓣 5 ps·1 r·1 (claims· .2) (claims· .3) "calls::message")
-            (known2 : Plain.Known 𝓤 H A W 𝓣 0 ps·2 r·2 (claims· .4) (claims· .5) "host::answer_of")
+            (known2 : Plain.Known
+            𝓤
+            H
+            A
+            W
+            𝓣
+            0
+            ps·2
+            r·2
+            (claims· .4)
+            (claims· .5)
+            "outcome::answer_of")
             (known3 : Plain.Known 𝓤 H A W 𝓣 1 ps·3 r·3 (claims· .6) (claims· .7) "tally::raise")
             (known4 : Plain.Known
             𝓤

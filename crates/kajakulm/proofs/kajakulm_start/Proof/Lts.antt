@@ -6,10 +6,10 @@ use Rattle.tally.proofs.Elem.Tally as KTally
 use Prim.Native.Nat
 use Rattle.answer.proofs.Answer
 use Rattle.answer.proofs.Answer.Laws
+use Rattle.handed.proofs.HostStart
+use Rattle.handed.proofs.HostStart.Laws as Laws'
 use Rattle.host.proofs.HostOutcome
-use Rattle.host.proofs.HostOutcome.Laws as Laws'
-use Rattle.host.proofs.HostStart
-use Rattle.host.proofs.HostStart.Laws as Laws''
+use Rattle.host.proofs.HostOutcome.Laws as Laws''
 use Rattle.outcome.proofs.Outcome
 use Rattle.outcome.proofs.Outcome.Laws as Laws'3
 use Rattle.own.proofs.Own
@@ -97,16 +97,16 @@ ps =
     (List._∷_ (Num.pNum Syntax.w8) (List._∷_ (Num.pNum Syntax.w64) (List._∷_ (Value.pVal record {
       ty = Declared'.row HostStart.the-type;
       one = Path'.refl;
-      val = Laws'7.val HostStart.the-type Laws''.the-laws;
-      tells = Laws'7.tells HostStart.the-type Laws''.the-laws;
-      still = Laws'7.still HostStart.the-type Laws''.the-copy Exit.yes;
+      val = Laws'7.val HostStart.the-type Laws'.the-laws;
+      tells = Laws'7.tells HostStart.the-type Laws'.the-laws;
+      still = Laws'7.still HostStart.the-type Laws'.the-copy Exit.yes;
       row = Rows.whole (Declared'.row HostStart.the-type);
       rd = λ x. x;
       mk = λ x. x;
     } λ M 𝓤 H A W. record {
-      copies = Laws'7.copy HostStart.the-type Laws''.the-copy 𝓤 H A W;
-      lawful = Laws'7.lawful HostStart.the-type Laws''.the-laws 𝓤 H A W;
-      makes = Laws'7.makes HostStart.the-type Laws''.the-plain 𝓤 H A;
+      copies = Laws'7.copy HostStart.the-type Laws'.the-copy 𝓤 H A W;
+      lawful = Laws'7.lawful HostStart.the-type Laws'.the-laws 𝓤 H A W;
+      makes = Laws'7.makes HostStart.the-type Laws'.the-plain 𝓤 H A;
       in-mem = Local.mem-whole 𝓤 H A W (Declared'.row HostStart.the-type);
       of-mem = Local.whole-mem 𝓤 H A W (Declared'.row HostStart.the-type);
     })
@@ -118,16 +118,16 @@ abbrev pub r : Kinds.RK 6
 r = Value.rVal record {
   ty = Declared'.row HostOutcome.the-type;
   one = Path'.refl;
-  val = Laws'7.val HostOutcome.the-type Laws'.the-laws;
-  tells = Laws'7.tells HostOutcome.the-type Laws'.the-laws;
-  still = Laws'7.still HostOutcome.the-type Laws'.the-copy Exit.yes;
+  val = Laws'7.val HostOutcome.the-type Laws''.the-laws;
+  tells = Laws'7.tells HostOutcome.the-type Laws''.the-laws;
+  still = Laws'7.still HostOutcome.the-type Laws''.the-copy Exit.yes;
   row = Rows.whole (Declared'.row HostOutcome.the-type);
   rd = λ x. x;
   mk = λ x. x;
 } λ M 𝓤 H A W. record {
-  copies = Laws'7.copy HostOutcome.the-type Laws'.the-copy 𝓤 H A W;
-  lawful = Laws'7.lawful HostOutcome.the-type Laws'.the-laws 𝓤 H A W;
-  makes = Laws'7.makes HostOutcome.the-type Laws'.the-plain 𝓤 H A;
+  copies = Laws'7.copy HostOutcome.the-type Laws''.the-copy 𝓤 H A W;
+  lawful = Laws'7.lawful HostOutcome.the-type Laws''.the-laws 𝓤 H A W;
+  makes = Laws'7.makes HostOutcome.the-type Laws''.the-plain 𝓤 H A;
   in-mem = Local.mem-whole 𝓤 H A W (Declared'.row HostOutcome.the-type);
   of-mem = Local.whole-mem 𝓤 H A W (Declared'.row HostOutcome.the-type);
 }
@@ -489,16 +489,16 @@ abbrev pub ps·0 : List.List (Kinds.PK 0)
 ps·0 = List._∷_ (Value.pVal record {
   ty = Declared'.row HostStart.the-type;
   one = Path'.refl;
-  val = Laws'7.val HostStart.the-type Laws''.the-laws;
-  tells = Laws'7.tells HostStart.the-type Laws''.the-laws;
-  still = Laws'7.still HostStart.the-type Laws''.the-copy Exit.yes;
+  val = Laws'7.val HostStart.the-type Laws'.the-laws;
+  tells = Laws'7.tells HostStart.the-type Laws'.the-laws;
+  still = Laws'7.still HostStart.the-type Laws'.the-copy Exit.yes;
   row = Rows.whole (Declared'.row HostStart.the-type);
   rd = λ x. x;
   mk = λ x. x;
 } λ M 𝓤 H A W. record {
-  copies = Laws'7.copy HostStart.the-type Laws''.the-copy 𝓤 H A W;
-  lawful = Laws'7.lawful HostStart.the-type Laws''.the-laws 𝓤 H A W;
-  makes = Laws'7.makes HostStart.the-type Laws''.the-plain 𝓤 H A;
+  copies = Laws'7.copy HostStart.the-type Laws'.the-copy 𝓤 H A W;
+  lawful = Laws'7.lawful HostStart.the-type Laws'.the-laws 𝓤 H A W;
+  makes = Laws'7.makes HostStart.the-type Laws'.the-plain 𝓤 H A;
   in-mem = Local.mem-whole 𝓤 H A W (Declared'.row HostStart.the-type);
   of-mem = Local.whole-mem 𝓤 H A W (Declared'.row HostStart.the-type);
 }) List.[]
@@ -668,16 +668,16 @@ abbrev pub r·4 : Kinds.RK 0
 r·4 = Value.rVal record {
   ty = Declared'.row HostOutcome.the-type;
   one = Path'.refl;
-  val = Laws'7.val HostOutcome.the-type Laws'.the-laws;
-  tells = Laws'7.tells HostOutcome.the-type Laws'.the-laws;
-  still = Laws'7.still HostOutcome.the-type Laws'.the-copy Exit.yes;
+  val = Laws'7.val HostOutcome.the-type Laws''.the-laws;
+  tells = Laws'7.tells HostOutcome.the-type Laws''.the-laws;
+  still = Laws'7.still HostOutcome.the-type Laws''.the-copy Exit.yes;
   row = Rows.whole (Declared'.row HostOutcome.the-type);
   rd = λ x. x;
   mk = λ x. x;
 } λ M 𝓤 H A W. record {
-  copies = Laws'7.copy HostOutcome.the-type Laws'.the-copy 𝓤 H A W;
-  lawful = Laws'7.lawful HostOutcome.the-type Laws'.the-laws 𝓤 H A W;
-  makes = Laws'7.makes HostOutcome.the-type Laws'.the-plain 𝓤 H A;
+  copies = Laws'7.copy HostOutcome.the-type Laws''.the-copy 𝓤 H A W;
+  lawful = Laws'7.lawful HostOutcome.the-type Laws''.the-laws 𝓤 H A W;
+  makes = Laws'7.makes HostOutcome.the-type Laws''.the-plain 𝓤 H A;
   in-mem = Local.mem-whole 𝓤 H A W (Declared'.row HostOutcome.the-type);
   of-mem = Local.whole-mem 𝓤 H A W (Declared'.row HostOutcome.the-type);
 }
@@ -811,7 +811,7 @@ b7 =
 abbrev b8 : Syntax.Body
 b8 =
     Syntax.call
-    "host::asking_of"
+    "handed::asking_of"
     (List._∷_ (Syntax.copy (Syntax.place 10 List.[])) List.[])
     (Syntax.place 21 List.[])
 
@@ -852,7 +852,7 @@ b10 =
 abbrev b11 : Syntax.Body
 b11 =
     Syntax.call
-    "host::answer_of"
+    "outcome::answer_of"
     (List._∷_ (Syntax.copy (Syntax.place 12 List.[])) List.[])
     (Syntax.place 24 List.[])
 
@@ -1458,11 +1458,15 @@ t2 = List._∷_ (0, Rows.whole (Declared'.row HostOutcome.the-type)) (List._∷_
       (List._∷_
       104
       (List._∷_
-      111
+      97
       (List._∷_
-      115
+      110
       (List._∷_
-      116
+      100
+      (List._∷_
+      101
+      (List._∷_
+      100
       (List._∷_
       58
       (List._∷_
@@ -1475,7 +1479,7 @@ t2 = List._∷_ (0, Rows.whole (Declared'.row HostOutcome.the-type)) (List._∷_
       115
       (List._∷_
       116
-      (List._∷_ 83 (List._∷_ 116 (List._∷_ 97 (List._∷_ 114 (List._∷_ 116 List.[])))))))))))))))
+      (List._∷_ 83 (List._∷_ 116 (List._∷_ 97 (List._∷_ 114 (List._∷_ 116 List.[])))))))))))))))))
       (Syntax.tcons
       (Syntax.tyInt Syntax.w8)
       (Syntax.tcons
@@ -4636,11 +4640,15 @@ t15 = List._∷_ (
       (List._∷_
       104
       (List._∷_
-      111
+      97
       (List._∷_
-      115
+      110
       (List._∷_
-      116
+      100
+      (List._∷_
+      101
+      (List._∷_
+      100
       (List._∷_
       58
       (List._∷_
@@ -4653,7 +4661,7 @@ t15 = List._∷_ (
       115
       (List._∷_
       116
-      (List._∷_ 83 (List._∷_ 116 (List._∷_ 97 (List._∷_ 114 (List._∷_ 116 List.[])))))))))))))))
+      (List._∷_ 83 (List._∷_ 116 (List._∷_ 97 (List._∷_ 114 (List._∷_ 116 List.[])))))))))))))))))
       (Syntax.tcons
       (Syntax.tyInt Syntax.w8)
       (Syntax.tcons
@@ -5019,11 +5027,15 @@ t16 = List._∷_ (
       (List._∷_
       104
       (List._∷_
-      111
+      97
       (List._∷_
-      115
+      110
       (List._∷_
-      116
+      100
+      (List._∷_
+      101
+      (List._∷_
+      100
       (List._∷_
       58
       (List._∷_
@@ -5036,7 +5048,7 @@ t16 = List._∷_ (
       115
       (List._∷_
       116
-      (List._∷_ 83 (List._∷_ 116 (List._∷_ 97 (List._∷_ 114 (List._∷_ 116 List.[])))))))))))))))
+      (List._∷_ 83 (List._∷_ 116 (List._∷_ 97 (List._∷_ 114 (List._∷_ 116 List.[])))))))))))))))))
       (Syntax.tcons
       (Syntax.tyInt Syntax.w8)
       (Syntax.tcons
@@ -5265,11 +5277,15 @@ t18 = List._∷_ (
       (List._∷_
       104
       (List._∷_
-      111
+      97
       (List._∷_
-      115
+      110
       (List._∷_
-      116
+      100
+      (List._∷_
+      101
+      (List._∷_
+      100
       (List._∷_
       58
       (List._∷_
@@ -5282,7 +5298,7 @@ t18 = List._∷_ (
       115
       (List._∷_
       116
-      (List._∷_ 83 (List._∷_ 116 (List._∷_ 97 (List._∷_ 114 (List._∷_ 116 List.[])))))))))))))))
+      (List._∷_ 83 (List._∷_ 116 (List._∷_ 97 (List._∷_ 114 (List._∷_ 116 List.[])))))))))))))))))
       (Syntax.tcons
       (Syntax.tyInt Syntax.w8)
       (Syntax.tcons
@@ -5538,11 +5554,15 @@ t20 = List._∷_ (
       (List._∷_
       104
       (List._∷_
-      111
+      97
       (List._∷_
-      115
+      110
       (List._∷_
-      116
+      100
+      (List._∷_
+      101
+      (List._∷_
+      100
       (List._∷_
       58
       (List._∷_
@@ -5555,7 +5575,7 @@ t20 = List._∷_ (
       115
       (List._∷_
       116
-      (List._∷_ 83 (List._∷_ 116 (List._∷_ 97 (List._∷_ 114 (List._∷_ 116 List.[])))))))))))))))
+      (List._∷_ 83 (List._∷_ 116 (List._∷_ 97 (List._∷_ 114 (List._∷_ 116 List.[])))))))))))))))))
       (Syntax.tcons
       (Syntax.tyInt Syntax.w8)
       (Syntax.tcons
@@ -5694,11 +5714,15 @@ t21 = List._∷_ (
       (List._∷_
       104
       (List._∷_
-      111
+      97
       (List._∷_
-      115
+      110
       (List._∷_
-      116
+      100
+      (List._∷_
+      101
+      (List._∷_
+      100
       (List._∷_
       58
       (List._∷_
@@ -5711,7 +5735,7 @@ t21 = List._∷_ (
       115
       (List._∷_
       116
-      (List._∷_ 83 (List._∷_ 116 (List._∷_ 97 (List._∷_ 114 (List._∷_ 116 List.[])))))))))))))))
+      (List._∷_ 83 (List._∷_ 116 (List._∷_ 97 (List._∷_ 114 (List._∷_ 116 List.[])))))))))))))))))
       (Syntax.tcons
       (Syntax.tyInt Syntax.w8)
       (Syntax.tcons
@@ -5969,11 +5993,15 @@ t23 = List._∷_ (
       (List._∷_
       104
       (List._∷_
-      111
+      97
       (List._∷_
-      115
+      110
       (List._∷_
-      116
+      100
+      (List._∷_
+      101
+      (List._∷_
+      100
       (List._∷_
       58
       (List._∷_
@@ -5986,7 +6014,7 @@ t23 = List._∷_ (
       115
       (List._∷_
       116
-      (List._∷_ 83 (List._∷_ 116 (List._∷_ 97 (List._∷_ 114 (List._∷_ 116 List.[])))))))))))))))
+      (List._∷_ 83 (List._∷_ 116 (List._∷_ 97 (List._∷_ 114 (List._∷_ 116 List.[])))))))))))))))))
       (Syntax.tcons
       (Syntax.tyInt Syntax.w8)
       (Syntax.tcons
@@ -6245,11 +6273,15 @@ t25 = List._∷_ (
       (List._∷_
       104
       (List._∷_
-      111
+      97
       (List._∷_
-      115
+      110
       (List._∷_
-      116
+      100
+      (List._∷_
+      101
+      (List._∷_
+      100
       (List._∷_
       58
       (List._∷_
@@ -6262,7 +6294,7 @@ t25 = List._∷_ (
       115
       (List._∷_
       116
-      (List._∷_ 83 (List._∷_ 116 (List._∷_ 97 (List._∷_ 114 (List._∷_ 116 List.[])))))))))))))))
+      (List._∷_ 83 (List._∷_ 116 (List._∷_ 97 (List._∷_ 114 (List._∷_ 116 List.[])))))))))))))))))
       (Syntax.tcons
       (Syntax.tyInt Syntax.w8)
       (Syntax.tcons
@@ -6397,11 +6429,15 @@ t26 = List._∷_ (
       (List._∷_
       104
       (List._∷_
-      111
+      97
       (List._∷_
-      115
+      110
       (List._∷_
-      116
+      100
+      (List._∷_
+      101
+      (List._∷_
+      100
       (List._∷_
       58
       (List._∷_
@@ -6414,7 +6450,7 @@ t26 = List._∷_ (
       115
       (List._∷_
       116
-      (List._∷_ 83 (List._∷_ 116 (List._∷_ 97 (List._∷_ 114 (List._∷_ 116 List.[])))))))))))))))
+      (List._∷_ 83 (List._∷_ 116 (List._∷_ 97 (List._∷_ 114 (List._∷_ 116 List.[])))))))))))))))))
       (Syntax.tcons
       (Syntax.tyInt Syntax.w8)
       (Syntax.tcons
@@ -6973,11 +7009,15 @@ t32 = List._∷_ (0, Rows.whole (Declared'.row HostOutcome.the-type)) (List._∷
       (List._∷_
       104
       (List._∷_
-      111
+      97
       (List._∷_
-      115
+      110
       (List._∷_
-      116
+      100
+      (List._∷_
+      101
+      (List._∷_
+      100
       (List._∷_
       58
       (List._∷_
@@ -6990,7 +7030,7 @@ t32 = List._∷_ (0, Rows.whole (Declared'.row HostOutcome.the-type)) (List._∷
       115
       (List._∷_
       116
-      (List._∷_ 83 (List._∷_ 116 (List._∷_ 97 (List._∷_ 114 (List._∷_ 116 List.[])))))))))))))))
+      (List._∷_ 83 (List._∷_ 116 (List._∷_ 97 (List._∷_ 114 (List._∷_ 116 List.[])))))))))))))))))
       (Syntax.tcons
       (Syntax.tyInt Syntax.w8)
       (Syntax.tcons
@@ -7079,11 +7119,15 @@ t33 = List._∷_ (0, Rows.whole (Declared'.row HostOutcome.the-type)) (List._∷
       (List._∷_
       104
       (List._∷_
-      111
+      97
       (List._∷_
-      115
+      110
       (List._∷_
-      116
+      100
+      (List._∷_
+      101
+      (List._∷_
+      100
       (List._∷_
       58
       (List._∷_
@@ -7096,7 +7140,7 @@ t33 = List._∷_ (0, Rows.whole (Declared'.row HostOutcome.the-type)) (List._∷
       115
       (List._∷_
       116
-      (List._∷_ 83 (List._∷_ 116 (List._∷_ 97 (List._∷_ 114 (List._∷_ 116 List.[])))))))))))))))
+      (List._∷_ 83 (List._∷_ 116 (List._∷_ 97 (List._∷_ 114 (List._∷_ 116 List.[])))))))))))))))))
       (Syntax.tcons
       (Syntax.tyInt Syntax.w8)
       (Syntax.tcons
@@ -7421,11 +7465,15 @@ t34 = List._∷_ (0, Rows.whole (Declared'.row HostOutcome.the-type)) (List._∷
       (List._∷_
       104
       (List._∷_
-      111
+      97
       (List._∷_
-      115
+      110
       (List._∷_
-      116
+      100
+      (List._∷_
+      101
+      (List._∷_
+      100
       (List._∷_
       58
       (List._∷_
@@ -7438,7 +7486,7 @@ t34 = List._∷_ (0, Rows.whole (Declared'.row HostOutcome.the-type)) (List._∷
       115
       (List._∷_
       116
-      (List._∷_ 83 (List._∷_ 116 (List._∷_ 97 (List._∷_ 114 (List._∷_ 116 List.[])))))))))))))))
+      (List._∷_ 83 (List._∷_ 116 (List._∷_ 97 (List._∷_ 114 (List._∷_ 116 List.[])))))))))))))))))
       (Syntax.tcons
       (Syntax.tyInt Syntax.w8)
       (Syntax.tcons
@@ -7763,11 +7811,15 @@ t35 = List._∷_ (0, Rows.whole (Declared'.row HostOutcome.the-type)) (List._∷
       (List._∷_
       104
       (List._∷_
-      111
+      97
       (List._∷_
-      115
+      110
       (List._∷_
-      116
+      100
+      (List._∷_
+      101
+      (List._∷_
+      100
       (List._∷_
       58
       (List._∷_
@@ -7780,7 +7832,7 @@ t35 = List._∷_ (0, Rows.whole (Declared'.row HostOutcome.the-type)) (List._∷
       115
       (List._∷_
       116
-      (List._∷_ 83 (List._∷_ 116 (List._∷_ 97 (List._∷_ 114 (List._∷_ 116 List.[])))))))))))))))
+      (List._∷_ 83 (List._∷_ 116 (List._∷_ 97 (List._∷_ 114 (List._∷_ 116 List.[])))))))))))))))))
       (Syntax.tcons
       (Syntax.tyInt Syntax.w8)
       (Syntax.tcons
@@ -8360,11 +8412,15 @@ module _ (claims· : Claims) where
       (List._∷_
       104
       (List._∷_
-      111
+      97
       (List._∷_
-      115
+      110
       (List._∷_
-      116
+      100
+      (List._∷_
+      101
+      (List._∷_
+      100
       (List._∷_
       58
       (List._∷_
@@ -8377,7 +8433,7 @@ module _ (claims· : Claims) where
       115
       (List._∷_
       116
-      (List._∷_ 83 (List._∷_ 116 (List._∷_ 97 (List._∷_ 114 (List._∷_ 116 List.[])))))))))))))))
+      (List._∷_ 83 (List._∷_ 116 (List._∷_ 97 (List._∷_ 114 (List._∷_ 116 List.[])))))))))))))))))
       (Syntax.tcons
       (Syntax.tyInt Syntax.w8)
       (Syntax.tcons
@@ -9278,12 +9334,12 @@ module _ (claims· : Claims) where
       Closed =
           (𝓤 : URA.URA M) (H : Wp.Heap 𝓤) (A : Atoms.Atoms 𝓤) (W : Kit.Given 𝓤 H A) (𝓣 : Wp.Tables
           𝓤 H) (known0 : Plain.Known 𝓤 H A W 𝓣 0 ps·0 r·0 (claims· .0) (claims· .1)
-          "host::asking_of") (known1 : Plain.Known 𝓤 H A W 𝓣 5 ps·1 r·1 (claims· .2) (claims· .3)
+          "handed::asking_of") (known1 : Plain.Known 𝓤 H A W 𝓣 5 ps·1 r·1 (claims· .2) (claims· .3)
           "calls::start") (known2 : Plain.Known 𝓤 H A W 𝓣 0 ps·2 r·2 (claims· .4) (claims· .5)
-          "host::answer_of") (known3 : Plain.Known 𝓤 H A W 𝓣 1 ps·3 r·3 (claims· .6) (claims· .7)
-          "tally::raise") (known4 : Plain.Known 𝓤 H A W 𝓣 0 ps·4 r·4 (claims· .8) (claims· .9)
-          "host::host_outcome") → Statement.Triple 𝓤 (Wp.WpFn 𝓤 H (𝓣 .C) (𝓣 .Λ) (Function.fnOf 6 ps
-          r xs m hs body)) (Function.plainOf 𝓤 H A 6 ps r Pre· Post·)
+          "outcome::answer_of") (known3 : Plain.Known 𝓤 H A W 𝓣 1 ps·3 r·3 (claims· .6)
+          (claims· .7) "tally::raise") (known4 : Plain.Known 𝓤 H A W 𝓣 0 ps·4 r·4 (claims· .8)
+          (claims· .9) "host::host_outcome") → Statement.Triple 𝓤 (Wp.WpFn 𝓤 H (𝓣 .C) (𝓣 .Λ)
+          (Function.fnOf 6 ps r xs m hs body)) (Function.plainOf 𝓤 H A 6 ps r Pre· Post·)
 
     module _ where
       abbrev at0 : Typed.TF T48 O0
@@ -9437,9 +9493,9 @@ module _ (claims· : Claims) where
           (W : Kit.Given 𝓤 H A) (𝓣 : Wp.Tables 𝓤 H) where
         abbrev Knowns : Type 1
         Knowns =
-            Plain.Known 𝓤 H A W 𝓣 0 ps·0 r·0 (claims· .0) (claims· .1) "host::asking_of" ×
+            Plain.Known 𝓤 H A W 𝓣 0 ps·0 r·0 (claims· .0) (claims· .1) "handed::asking_of" ×
             Plain.Known 𝓤 H A W 𝓣 5 ps·1 r·1 (claims· .2) (claims· .3) "calls::start" ×
-            Plain.Known 𝓤 H A W 𝓣 0 ps·2 r·2 (claims· .4) (claims· .5) "host::answer_of" ×
+            Plain.Known 𝓤 H A W 𝓣 0 ps·2 r·2 (claims· .4) (claims· .5) "outcome::answer_of" ×
             Plain.Known 𝓤 H A W 𝓣 1 ps·3 r·3 (claims· .6) (claims· .7) "tally::raise" ×
             Plain.Known 𝓤 H A W 𝓣 0 ps·4 r·4 (claims· .8) (claims· .9) "host::host_outcome"
 
@@ -11763,11 +11819,15 @@ module _ (claims· : Claims) where
               (List._∷_
               104
               (List._∷_
-              111
+              97
               (List._∷_
-              115
+              110
               (List._∷_
-              116
+              100
+              (List._∷_
+              101
+              (List._∷_
+              100
               (List._∷_
               58
               (List._∷_
@@ -11782,7 +11842,7 @@ module _ (claims· : Claims) where
               116
               (List._∷_
               83
-              (List._∷_ 116 (List._∷_ 97 (List._∷_ 114 (List._∷_ 116 List.[])))))))))))))))
+              (List._∷_ 116 (List._∷_ 97 (List._∷_ 114 (List._∷_ 116 List.[])))))))))))))))))
               (Syntax.tcons
               (Syntax.tyInt Syntax.w8)
               (Syntax.tcons
@@ -12170,11 +12230,15 @@ module _ (claims· : Claims) where
               (List._∷_
               104
               (List._∷_
-              111
+              97
               (List._∷_
-              115
+              110
               (List._∷_
-              116
+              100
+              (List._∷_
+              101
+              (List._∷_
+              100
               (List._∷_
               58
               (List._∷_
@@ -12189,7 +12253,7 @@ module _ (claims· : Claims) where
               116
               (List._∷_
               83
-              (List._∷_ 116 (List._∷_ 97 (List._∷_ 114 (List._∷_ 116 List.[])))))))))))))))
+              (List._∷_ 116 (List._∷_ 97 (List._∷_ 114 (List._∷_ 116 List.[])))))))))))))))))
               (Syntax.tcons
               (Syntax.tyInt Syntax.w8)
               (Syntax.tcons
@@ -12343,11 +12407,15 @@ module _ (claims· : Claims) where
               (List._∷_
               104
               (List._∷_
-              111
+              97
               (List._∷_
-              115
+              110
               (List._∷_
-              116
+              100
+              (List._∷_
+              101
+              (List._∷_
+              100
               (List._∷_
               58
               (List._∷_
@@ -12362,7 +12430,7 @@ module _ (claims· : Claims) where
               116
               (List._∷_
               83
-              (List._∷_ 116 (List._∷_ 97 (List._∷_ 114 (List._∷_ 116 List.[])))))))))))))))
+              (List._∷_ 116 (List._∷_ 97 (List._∷_ 114 (List._∷_ 116 List.[])))))))))))))))))
               (Syntax.tcons
               (Syntax.tyInt Syntax.w8)
               (Syntax.tcons
@@ -12514,11 +12582,15 @@ module _ (claims· : Claims) where
               (List._∷_
               104
               (List._∷_
-              111
+              97
               (List._∷_
-              115
+              110
               (List._∷_
-              116
+              100
+              (List._∷_
+              101
+              (List._∷_
+              100
               (List._∷_
               58
               (List._∷_
@@ -12533,7 +12605,7 @@ module _ (claims· : Claims) where
               116
               (List._∷_
               83
-              (List._∷_ 116 (List._∷_ 97 (List._∷_ 114 (List._∷_ 116 List.[])))))))))))))))
+              (List._∷_ 116 (List._∷_ 97 (List._∷_ 114 (List._∷_ 116 List.[])))))))))))))))))
               (Syntax.tcons
               (Syntax.tyInt Syntax.w8)
               (Syntax.tcons
@@ -12686,11 +12758,15 @@ module _ (claims· : Claims) where
               (List._∷_
               104
               (List._∷_
-              111
+              97
               (List._∷_
-              115
+              110
               (List._∷_
-              116
+              100
+              (List._∷_
+              101
+              (List._∷_
+              100
               (List._∷_
               58
               (List._∷_
@@ -12705,7 +12781,7 @@ module _ (claims· : Claims) where
               116
               (List._∷_
               83
-              (List._∷_ 116 (List._∷_ 97 (List._∷_ 114 (List._∷_ 116 List.[])))))))))))))))
+              (List._∷_ 116 (List._∷_ 97 (List._∷_ 114 (List._∷_ 116 List.[])))))))))))))))))
               (Syntax.tcons
               (Syntax.tyInt Syntax.w8)
               (Syntax.tcons
@@ -12856,11 +12932,15 @@ module _ (claims· : Claims) where
               (List._∷_
               104
               (List._∷_
-              111
+              97
               (List._∷_
-              115
+              110
               (List._∷_
-              116
+              100
+              (List._∷_
+              101
+              (List._∷_
+              100
               (List._∷_
               58
               (List._∷_
@@ -12875,7 +12955,7 @@ module _ (claims· : Claims) where
               116
               (List._∷_
               83
-              (List._∷_ 116 (List._∷_ 97 (List._∷_ 114 (List._∷_ 116 List.[])))))))))))))))
+              (List._∷_ 116 (List._∷_ 97 (List._∷_ 114 (List._∷_ 116 List.[])))))))))))))))))
               (Syntax.tcons
               (Syntax.tyInt Syntax.w8)
               (Syntax.tcons
@@ -13024,11 +13104,15 @@ module _ (claims· : Claims) where
               (List._∷_
               104
               (List._∷_
-              111
+              97
               (List._∷_
-              115
+              110
               (List._∷_
-              116
+              100
+              (List._∷_
+              101
+              (List._∷_
+              100
               (List._∷_
               58
               (List._∷_
@@ -13043,7 +13127,7 @@ module _ (claims· : Claims) where
               116
               (List._∷_
               83
-              (List._∷_ 116 (List._∷_ 97 (List._∷_ 114 (List._∷_ 116 List.[])))))))))))))))
+              (List._∷_ 116 (List._∷_ 97 (List._∷_ 114 (List._∷_ 116 List.[])))))))))))))))))
               (Syntax.tcons
               (Syntax.tyInt Syntax.w8)
               (Syntax.tcons
@@ -15273,7 +15357,7 @@ module _ (claims· : Claims) where
               r·2
               (claims· .4)
               (claims· .5)
-              "host::answer_of"
+              "outcome::answer_of"
               (known .2)
               E
               (λ pos β. β)
@@ -16675,11 +16759,15 @@ module _ (claims· : Claims) where
               (List._∷_
               104
               (List._∷_
-              111
+              97
               (List._∷_
-              115
+              110
               (List._∷_
-              116
+              100
+              (List._∷_
+              101
+              (List._∷_
+              100
               (List._∷_
               58
               (List._∷_
@@ -16694,7 +16782,7 @@ module _ (claims· : Claims) where
               116
               (List._∷_
               83
-              (List._∷_ 116 (List._∷_ 97 (List._∷_ 114 (List._∷_ 116 List.[])))))))))))))))
+              (List._∷_ 116 (List._∷_ 97 (List._∷_ 114 (List._∷_ 116 List.[])))))))))))))))))
               (Syntax.tcons
               (Syntax.tyInt Syntax.w8)
               (Syntax.tcons
@@ -16714,11 +16802,15 @@ module _ (claims· : Claims) where
               (List._∷_
               104
               (List._∷_
-              111
+              97
               (List._∷_
-              115
+              110
               (List._∷_
-              116
+              100
+              (List._∷_
+              101
+              (List._∷_
+              100
               (List._∷_
               58
               (List._∷_
@@ -16733,7 +16825,7 @@ module _ (claims· : Claims) where
               116
               (List._∷_
               83
-              (List._∷_ 116 (List._∷_ 97 (List._∷_ 114 (List._∷_ 116 List.[])))))))))))))))
+              (List._∷_ 116 (List._∷_ 97 (List._∷_ 114 (List._∷_ 116 List.[])))))))))))))))))
               (Syntax.tcons
               (Syntax.tyInt Syntax.w8)
               (Syntax.tcons
@@ -16773,7 +16865,7 @@ module _ (claims· : Claims) where
               r·0
               (claims· .0)
               (claims· .1)
-              "host::asking_of"
+              "handed::asking_of"
               (known .0)
               E
               (λ pos β. β)
@@ -16793,8 +16885,8 @@ module _ (claims· : Claims) where
                       Path'.refl
                       (Copies.cStruct
                       HostStart.the-type
-                      Laws''.the-laws
-                      Laws''.the-copy .copy
+                      Laws'.the-laws
+                      Laws'.the-copy .copy
                       𝓤
                       H
                       A
@@ -17786,16 +17878,16 @@ module _ (claims· : Claims) where
           pub start : Kinds.Den {n = 6} κs (Value.pVal record {
             ty = Declared'.row HostStart.the-type;
             one = Path'.refl;
-            val = Laws'7.val HostStart.the-type Laws''.the-laws;
-            tells = Laws'7.tells HostStart.the-type Laws''.the-laws;
-            still = Laws'7.still HostStart.the-type Laws''.the-copy Exit.yes;
+            val = Laws'7.val HostStart.the-type Laws'.the-laws;
+            tells = Laws'7.tells HostStart.the-type Laws'.the-laws;
+            still = Laws'7.still HostStart.the-type Laws'.the-copy Exit.yes;
             row = Rows.whole (Declared'.row HostStart.the-type);
             rd = λ x. x;
             mk = λ x. x;
           } λ M 𝓤 H A W. record {
-            copies = Laws'7.copy HostStart.the-type Laws''.the-copy 𝓤 H A W;
-            lawful = Laws'7.lawful HostStart.the-type Laws''.the-laws 𝓤 H A W;
-            makes = Laws'7.makes HostStart.the-type Laws''.the-plain 𝓤 H A;
+            copies = Laws'7.copy HostStart.the-type Laws'.the-copy 𝓤 H A W;
+            lawful = Laws'7.lawful HostStart.the-type Laws'.the-laws 𝓤 H A W;
+            makes = Laws'7.makes HostStart.the-type Laws'.the-plain 𝓤 H A;
             in-mem = Local.mem-whole 𝓤 H A W (Declared'.row HostStart.the-type);
             of-mem = Local.whole-mem 𝓤 H A W (Declared'.row HostStart.the-type);
           })
@@ -18809,9 +18901,31 @@ module _ (claims· : Claims) where
 
         module _ {M : Type 1} (𝓤 : URA.URA M) (H : Wp.Heap 𝓤) (A : Atoms.Atoms 𝓤)
             (W : Kit.Given 𝓤 H A) (𝓣 : Wp.Tables 𝓤 H)
-            (known0 : Plain.Known 𝓤 H A W 𝓣 0 ps·0 r·0 (claims· .0) (claims· .1) "host::asking_of")
+            (known0 : Plain.Known
+            𝓤
+            H
+            A
+            W
+            𝓣
+            0
+            ps·0
+            r·0
+            (claims· .0)
+            (claims· .1)
+            "handed::asking_of")
             (known1 : Plain.Known 𝓤 H A W 𝓣 5 ps·1 r·1 (claims· .2) (claims· .3) "calls::start")
-            (known2 : Plain.Known 𝓤 H A W 𝓣 0 ps·2 r·2 (claims· .4) (claims· .5) "host::answer_of")
+            (known2 : Plain.Known
+            𝓤
+            H
+            A
+            W
+            𝓣
+            0
+            ps·2
+            r·2
+            (claims· .4)
+            (claims· .5)
+            "outcome::answer_of")
             (known3 : Plain.Known 𝓤 H A W 𝓣 1 ps·3 r·3 (claims· .6) (claims· .7) "tally::raise")
             (known4 : Plain.Known
             𝓤

@@ -264,7 +264,7 @@ b6 =
 abbrev b7 : Syntax.Body
 b7 =
     Syntax.call
-    "grown::grown_vector"
+    "added::grown_vector"
     (List._∷_
     (Syntax.copy (Syntax.place 10 List.[]))
     (List._∷_
@@ -2716,7 +2716,7 @@ module _ (claims· : Claims) where
           "post::addresses_of") (known1 : Plain.Known 𝓤 H A W 𝓣 0 ps·1 r·1 (claims· .2)
           (claims· .3) "post::is_grown") (known2 : Plain.Known 𝓤 H A W 𝓣 0 ps·2 r·2 (claims· .4)
           (claims· .5) "grown::grown_count") (known3 : Plain.Known 𝓤 H A W 𝓣 1 ps·3 r·3
-          (claims· .6) (claims· .7) "grown::grown_vector") (known4 : Plain.Known 𝓤 H A W 𝓣 3 ps·4
+          (claims· .6) (claims· .7) "added::grown_vector") (known4 : Plain.Known 𝓤 H A W 𝓣 3 ps·4
           r·4 (claims· .8) (claims· .9) "post::put_parsed") → Statement.Triple 𝓤 (Wp.WpFn 𝓤 H
           (𝓣 .C) (𝓣 .Λ) (Function.fnOf 4 ps r xs m hs body)) (Function.plainOf 𝓤 H A 4 ps r Pre·
           Post·)
@@ -2876,7 +2876,7 @@ module _ (claims· : Claims) where
             Plain.Known 𝓤 H A W 𝓣 0 ps·0 r·0 (claims· .0) (claims· .1) "post::addresses_of" ×
             Plain.Known 𝓤 H A W 𝓣 0 ps·1 r·1 (claims· .2) (claims· .3) "post::is_grown" ×
             Plain.Known 𝓤 H A W 𝓣 0 ps·2 r·2 (claims· .4) (claims· .5) "grown::grown_count" ×
-            Plain.Known 𝓤 H A W 𝓣 1 ps·3 r·3 (claims· .6) (claims· .7) "grown::grown_vector" ×
+            Plain.Known 𝓤 H A W 𝓣 1 ps·3 r·3 (claims· .6) (claims· .7) "added::grown_vector" ×
             Plain.Known 𝓤 H A W 𝓣 3 ps·4 r·4 (claims· .8) (claims· .9) "post::put_parsed"
 
       module _ (κs : Lifetimes.Lfts 4) (qs : Lifetimes.Shares 4) where
@@ -5153,7 +5153,7 @@ module _ (claims· : Claims) where
               r·3
               (claims· .6)
               (claims· .7)
-              "grown::grown_vector"
+              "added::grown_vector"
               (known .3)
               E
               (λ pos β. β)
@@ -7505,7 +7505,7 @@ module _ (claims· : Claims) where
             r·3
             (claims· .6)
             (claims· .7)
-            "grown::grown_vector")
+            "added::grown_vector")
             (known4 : Plain.Known
             𝓤
             H

@@ -1,10 +1,10 @@
 -- Made by tools/lend.py of the twin of `put_dio`: do not edit.
-use Rattle.grown.proofs.grown_count.Met
-use Rattle.grown.proofs.grown_count.Reads
-use Rattle.grown.proofs.grown_count.Symbol
-use Rattle.added.proofs.grown_vector.Met as Met'
-use Rattle.added.proofs.grown_vector.Reads as Reads'
-use Rattle.added.proofs.grown_vector.Symbol as Symbol'
+use Rattle.added.proofs.grown_vector.Met
+use Rattle.added.proofs.grown_vector.Reads
+use Rattle.added.proofs.grown_vector.Symbol
+use Rattle.grown.proofs.grown_count.Met as Met'
+use Rattle.grown.proofs.grown_count.Reads as Reads'
+use Rattle.grown.proofs.grown_count.Symbol as Symbol'
 use Rattle.post.proofs.addresses_of.Met as Met''
 use Rattle.post.proofs.addresses_of.Reads as Reads''
 use Rattle.post.proofs.addresses_of.Symbol as Symbol''
@@ -30,10 +30,10 @@ Start = Lts.Start (
   Reads''.Learnt,
   Reads'3.Asked,
   Reads'3.Learnt,
-  Reads.Asked,
-  Reads.Learnt,
   Reads'.Asked,
   Reads'.Learnt,
+  Reads.Asked,
+  Reads.Learnt,
   Reads'5.Asked,
   Reads'5.Learnt,
 ) Reads'4.Pre Reads'4.Post
@@ -44,10 +44,10 @@ After-slice-known = Lts.After-slice-known (
   Reads''.Learnt,
   Reads'3.Asked,
   Reads'3.Learnt,
-  Reads.Asked,
-  Reads.Learnt,
   Reads'.Asked,
   Reads'.Learnt,
+  Reads.Asked,
+  Reads.Learnt,
   Reads'5.Asked,
   Reads'5.Learnt,
 ) Reads'4.Pre Reads'4.Post
@@ -58,10 +58,10 @@ After-addresses-of-arg = Lts.After-addresses-of-arg (
   Reads''.Learnt,
   Reads'3.Asked,
   Reads'3.Learnt,
-  Reads.Asked,
-  Reads.Learnt,
   Reads'.Asked,
   Reads'.Learnt,
+  Reads.Asked,
+  Reads.Learnt,
   Reads'5.Asked,
   Reads'5.Learnt,
 ) Reads'4.Pre Reads'4.Post
@@ -72,10 +72,10 @@ After-addresses-of = Lts.After-addresses-of (
   Reads''.Learnt,
   Reads'3.Asked,
   Reads'3.Learnt,
-  Reads.Asked,
-  Reads.Learnt,
   Reads'.Asked,
   Reads'.Learnt,
+  Reads.Asked,
+  Reads.Learnt,
   Reads'5.Asked,
   Reads'5.Learnt,
 ) Reads'4.Pre Reads'4.Post
@@ -86,10 +86,10 @@ After-is-grown-arg = Lts.After-is-grown-arg (
   Reads''.Learnt,
   Reads'3.Asked,
   Reads'3.Learnt,
-  Reads.Asked,
-  Reads.Learnt,
   Reads'.Asked,
   Reads'.Learnt,
+  Reads.Asked,
+  Reads.Learnt,
   Reads'5.Asked,
   Reads'5.Learnt,
 ) Reads'4.Pre Reads'4.Post
@@ -100,10 +100,10 @@ After-is-grown = Lts.After-is-grown (
   Reads''.Learnt,
   Reads'3.Asked,
   Reads'3.Learnt,
-  Reads.Asked,
-  Reads.Learnt,
   Reads'.Asked,
   Reads'.Learnt,
+  Reads.Asked,
+  Reads.Learnt,
   Reads'5.Asked,
   Reads'5.Learnt,
 ) Reads'4.Pre Reads'4.Post
@@ -114,10 +114,10 @@ Then1 = Lts.Then1 (
   Reads''.Learnt,
   Reads'3.Asked,
   Reads'3.Learnt,
-  Reads.Asked,
-  Reads.Learnt,
   Reads'.Asked,
   Reads'.Learnt,
+  Reads.Asked,
+  Reads.Learnt,
   Reads'5.Asked,
   Reads'5.Learnt,
 ) Reads'4.Pre Reads'4.Post
@@ -128,10 +128,10 @@ After-grown-count-arg = Lts.After-grown-count-arg (
   Reads''.Learnt,
   Reads'3.Asked,
   Reads'3.Learnt,
-  Reads.Asked,
-  Reads.Learnt,
   Reads'.Asked,
   Reads'.Learnt,
+  Reads.Asked,
+  Reads.Learnt,
   Reads'5.Asked,
   Reads'5.Learnt,
 ) Reads'4.Pre Reads'4.Post
@@ -142,10 +142,10 @@ After-grown-count = Lts.After-grown-count (
   Reads''.Learnt,
   Reads'3.Asked,
   Reads'3.Learnt,
-  Reads.Asked,
-  Reads.Learnt,
   Reads'.Asked,
   Reads'.Learnt,
+  Reads.Asked,
+  Reads.Learnt,
   Reads'5.Asked,
   Reads'5.Learnt,
 ) Reads'4.Pre Reads'4.Post
@@ -156,10 +156,10 @@ After-grown-vector-arg = Lts.After-grown-vector-arg (
   Reads''.Learnt,
   Reads'3.Asked,
   Reads'3.Learnt,
-  Reads.Asked,
-  Reads.Learnt,
   Reads'.Asked,
   Reads'.Learnt,
+  Reads.Asked,
+  Reads.Learnt,
   Reads'5.Asked,
   Reads'5.Learnt,
 ) Reads'4.Pre Reads'4.Post
@@ -170,10 +170,10 @@ After-grown-vector = Lts.After-grown-vector (
   Reads''.Learnt,
   Reads'3.Asked,
   Reads'3.Learnt,
-  Reads.Asked,
-  Reads.Learnt,
   Reads'.Asked,
   Reads'.Learnt,
+  Reads.Asked,
+  Reads.Learnt,
   Reads'5.Asked,
   Reads'5.Learnt,
 ) Reads'4.Pre Reads'4.Post
@@ -184,10 +184,10 @@ After-put-parsed-arg = Lts.After-put-parsed-arg (
   Reads''.Learnt,
   Reads'3.Asked,
   Reads'3.Learnt,
-  Reads.Asked,
-  Reads.Learnt,
   Reads'.Asked,
   Reads'.Learnt,
+  Reads.Asked,
+  Reads.Learnt,
   Reads'5.Asked,
   Reads'5.Learnt,
 ) Reads'4.Pre Reads'4.Post
@@ -198,10 +198,10 @@ After-v = Lts.After-v (
   Reads''.Learnt,
   Reads'3.Asked,
   Reads'3.Learnt,
-  Reads.Asked,
-  Reads.Learnt,
   Reads'.Asked,
   Reads'.Learnt,
+  Reads.Asked,
+  Reads.Learnt,
   Reads'5.Asked,
   Reads'5.Learnt,
 ) Reads'4.Pre Reads'4.Post
@@ -212,10 +212,10 @@ After-put-parsed = Lts.After-put-parsed (
   Reads''.Learnt,
   Reads'3.Asked,
   Reads'3.Learnt,
-  Reads.Asked,
-  Reads.Learnt,
   Reads'.Asked,
   Reads'.Learnt,
+  Reads.Asked,
+  Reads.Learnt,
   Reads'5.Asked,
   Reads'5.Learnt,
 ) Reads'4.Pre Reads'4.Post
@@ -226,10 +226,10 @@ After-out = Lts.After-out (
   Reads''.Learnt,
   Reads'3.Asked,
   Reads'3.Learnt,
-  Reads.Asked,
-  Reads.Learnt,
   Reads'.Asked,
   Reads'.Learnt,
+  Reads.Asked,
+  Reads.Learnt,
   Reads'5.Asked,
   Reads'5.Learnt,
 ) Reads'4.Pre Reads'4.Post
@@ -240,10 +240,10 @@ After-slice-known2 = Lts.After-slice-known2 (
   Reads''.Learnt,
   Reads'3.Asked,
   Reads'3.Learnt,
-  Reads.Asked,
-  Reads.Learnt,
   Reads'.Asked,
   Reads'.Learnt,
+  Reads.Asked,
+  Reads.Learnt,
   Reads'5.Asked,
   Reads'5.Learnt,
 ) Reads'4.Pre Reads'4.Post
@@ -254,10 +254,10 @@ Else1 = Lts.Else1 (
   Reads''.Learnt,
   Reads'3.Asked,
   Reads'3.Learnt,
-  Reads.Asked,
-  Reads.Learnt,
   Reads'.Asked,
   Reads'.Learnt,
+  Reads.Asked,
+  Reads.Learnt,
   Reads'5.Asked,
   Reads'5.Learnt,
 ) Reads'4.Pre Reads'4.Post
@@ -268,10 +268,10 @@ After-put-parsed-arg2 = Lts.After-put-parsed-arg2 (
   Reads''.Learnt,
   Reads'3.Asked,
   Reads'3.Learnt,
-  Reads.Asked,
-  Reads.Learnt,
   Reads'.Asked,
   Reads'.Learnt,
+  Reads.Asked,
+  Reads.Learnt,
   Reads'5.Asked,
   Reads'5.Learnt,
 ) Reads'4.Pre Reads'4.Post
@@ -282,10 +282,10 @@ After-put-parsed2 = Lts.After-put-parsed2 (
   Reads''.Learnt,
   Reads'3.Asked,
   Reads'3.Learnt,
-  Reads.Asked,
-  Reads.Learnt,
   Reads'.Asked,
   Reads'.Learnt,
+  Reads.Asked,
+  Reads.Learnt,
   Reads'5.Asked,
   Reads'5.Learnt,
 ) Reads'4.Pre Reads'4.Post
@@ -296,10 +296,10 @@ After-out2 = Lts.After-out2 (
   Reads''.Learnt,
   Reads'3.Asked,
   Reads'3.Learnt,
-  Reads.Asked,
-  Reads.Learnt,
   Reads'.Asked,
   Reads'.Learnt,
+  Reads.Asked,
+  Reads.Learnt,
   Reads'5.Asked,
   Reads'5.Learnt,
 ) Reads'4.Pre Reads'4.Post
@@ -310,10 +310,10 @@ After-slice-known3 = Lts.After-slice-known3 (
   Reads''.Learnt,
   Reads'3.Asked,
   Reads'3.Learnt,
-  Reads.Asked,
-  Reads.Learnt,
   Reads'.Asked,
   Reads'.Learnt,
+  Reads.Asked,
+  Reads.Learnt,
   Reads'5.Asked,
   Reads'5.Learnt,
 ) Reads'4.Pre Reads'4.Post
@@ -324,10 +324,10 @@ Need-addresses-of-requires = Lts.Need-addresses-of-requires (
   Reads''.Learnt,
   Reads'3.Asked,
   Reads'3.Learnt,
-  Reads.Asked,
-  Reads.Learnt,
   Reads'.Asked,
   Reads'.Learnt,
+  Reads.Asked,
+  Reads.Learnt,
   Reads'5.Asked,
   Reads'5.Learnt,
 ) Reads'4.Pre Reads'4.Post
@@ -338,10 +338,10 @@ Need-is-grown-requires = Lts.Need-is-grown-requires (
   Reads''.Learnt,
   Reads'3.Asked,
   Reads'3.Learnt,
-  Reads.Asked,
-  Reads.Learnt,
   Reads'.Asked,
   Reads'.Learnt,
+  Reads.Asked,
+  Reads.Learnt,
   Reads'5.Asked,
   Reads'5.Learnt,
 ) Reads'4.Pre Reads'4.Post
@@ -352,10 +352,10 @@ Need-grown-count-requires = Lts.Need-grown-count-requires (
   Reads''.Learnt,
   Reads'3.Asked,
   Reads'3.Learnt,
-  Reads.Asked,
-  Reads.Learnt,
   Reads'.Asked,
   Reads'.Learnt,
+  Reads.Asked,
+  Reads.Learnt,
   Reads'5.Asked,
   Reads'5.Learnt,
 ) Reads'4.Pre Reads'4.Post
@@ -366,10 +366,10 @@ Need-grown-vector-requires = Lts.Need-grown-vector-requires (
   Reads''.Learnt,
   Reads'3.Asked,
   Reads'3.Learnt,
-  Reads.Asked,
-  Reads.Learnt,
   Reads'.Asked,
   Reads'.Learnt,
+  Reads.Asked,
+  Reads.Learnt,
   Reads'5.Asked,
   Reads'5.Learnt,
 ) Reads'4.Pre Reads'4.Post
@@ -380,10 +380,10 @@ Need-put-parsed-requires = Lts.Need-put-parsed-requires (
   Reads''.Learnt,
   Reads'3.Asked,
   Reads'3.Learnt,
-  Reads.Asked,
-  Reads.Learnt,
   Reads'.Asked,
   Reads'.Learnt,
+  Reads.Asked,
+  Reads.Learnt,
   Reads'5.Asked,
   Reads'5.Learnt,
 ) Reads'4.Pre Reads'4.Post
@@ -394,10 +394,10 @@ Need-same-length = Lts.Need-same-length (
   Reads''.Learnt,
   Reads'3.Asked,
   Reads'3.Learnt,
-  Reads.Asked,
-  Reads.Learnt,
   Reads'.Asked,
   Reads'.Learnt,
+  Reads.Asked,
+  Reads.Learnt,
   Reads'5.Asked,
   Reads'5.Learnt,
 ) Reads'4.Pre Reads'4.Post
@@ -408,10 +408,10 @@ Need-returns = Lts.Need-returns (
   Reads''.Learnt,
   Reads'3.Asked,
   Reads'3.Learnt,
-  Reads.Asked,
-  Reads.Learnt,
   Reads'.Asked,
   Reads'.Learnt,
+  Reads.Asked,
+  Reads.Learnt,
   Reads'5.Asked,
   Reads'5.Learnt,
 ) Reads'4.Pre Reads'4.Post
@@ -422,10 +422,10 @@ Need-put-parsed-requires-2 = Lts.Need-put-parsed-requires-2 (
   Reads''.Learnt,
   Reads'3.Asked,
   Reads'3.Learnt,
-  Reads.Asked,
-  Reads.Learnt,
   Reads'.Asked,
   Reads'.Learnt,
+  Reads.Asked,
+  Reads.Learnt,
   Reads'5.Asked,
   Reads'5.Learnt,
 ) Reads'4.Pre Reads'4.Post
@@ -436,10 +436,10 @@ Need-same-length-2 = Lts.Need-same-length-2 (
   Reads''.Learnt,
   Reads'3.Asked,
   Reads'3.Learnt,
-  Reads.Asked,
-  Reads.Learnt,
   Reads'.Asked,
   Reads'.Learnt,
+  Reads.Asked,
+  Reads.Learnt,
   Reads'5.Asked,
   Reads'5.Learnt,
 ) Reads'4.Pre Reads'4.Post
@@ -450,10 +450,10 @@ Need-returns-2 = Lts.Need-returns-2 (
   Reads''.Learnt,
   Reads'3.Asked,
   Reads'3.Learnt,
-  Reads.Asked,
-  Reads.Learnt,
   Reads'.Asked,
   Reads'.Learnt,
+  Reads.Asked,
+  Reads.Learnt,
   Reads'5.Asked,
   Reads'5.Learnt,
 ) Reads'4.Pre Reads'4.Post
@@ -475,10 +475,10 @@ module _ {M : Type 1} where
         Reads''.Learnt,
         Reads'3.Asked,
         Reads'3.Learnt,
-        Reads.Asked,
-        Reads.Learnt,
         Reads'.Asked,
         Reads'.Learnt,
+        Reads.Asked,
+        Reads.Learnt,
         Reads'5.Asked,
         Reads'5.Learnt,
       ) Reads'4.Pre Reads'4.Post M
@@ -489,10 +489,10 @@ module _ {M : Type 1} where
         Reads''.Learnt,
         Reads'3.Asked,
         Reads'3.Learnt,
-        Reads.Asked,
-        Reads.Learnt,
         Reads'.Asked,
         Reads'.Learnt,
+        Reads.Asked,
+        Reads.Learnt,
         Reads'5.Asked,
         Reads'5.Learnt,
       )
@@ -514,10 +514,10 @@ module _ {M : Type 1} where
     Reads''.Learnt,
     Reads'3.Asked,
     Reads'3.Learnt,
-    Reads.Asked,
-    Reads.Learnt,
     Reads'.Asked,
     Reads'.Learnt,
+    Reads.Asked,
+    Reads.Learnt,
     Reads'5.Asked,
     Reads'5.Learnt,
   ) Reads'4.Pre Reads'4.Post M → Statement.statement M
@@ -562,20 +562,20 @@ module _ {M : Type 1} where
       Symbol'3.routine
       Code.calls-post·is-grown
       (Met'3.met 𝓤 H 𝓜 𝓖 𝓡))
-      (Reads.known
-      record { M = M; 𝓤 = 𝓤; H = H; 𝓜 = 𝓜; 𝓖 = 𝓖; 𝓡 = 𝓡 }
-      Code.env
-      Symbol.name
-      Symbol.routine
-      Code.calls-grown·grown-count
-      (Met.met 𝓤 H 𝓜 𝓖 𝓡))
       (Reads'.known
       record { M = M; 𝓤 = 𝓤; H = H; 𝓜 = 𝓜; 𝓖 = 𝓖; 𝓡 = 𝓡 }
       Code.env
       Symbol'.name
       Symbol'.routine
-      Code.calls-grown·grown-vector
+      Code.calls-grown·grown-count
       (Met'.met 𝓤 H 𝓜 𝓖 𝓡))
+      (Reads.known
+      record { M = M; 𝓤 = 𝓤; H = H; 𝓜 = 𝓜; 𝓖 = 𝓖; 𝓡 = 𝓡 }
+      Code.env
+      Symbol.name
+      Symbol.routine
+      Code.calls-added·grown-vector
+      (Met.met 𝓤 H 𝓜 𝓖 𝓡))
       (Reads'5.known
       record { M = M; 𝓤 = 𝓤; H = H; 𝓜 = 𝓜; 𝓖 = 𝓖; 𝓡 = 𝓡 }
       Code.env

@@ -1340,7 +1340,7 @@ b1 =
 abbrev b2 : Syntax.Body
 b2 =
     Syntax.call
-    "reply::partner_number"
+    "pairing::partner_number"
     (List._∷_ (Syntax.copy (Syntax.place 25 List.[])) List.[])
     (Syntax.place 12 List.[])
 
@@ -1357,7 +1357,7 @@ b3 =
 abbrev b4 : Syntax.Body
 b4 =
     Syntax.call
-    "reply::orig_node"
+    "pairing::orig_node"
     (List._∷_ (Syntax.copy (Syntax.place 25 List.[])) List.[])
     (Syntax.place 13 List.[])
 
@@ -1510,7 +1510,7 @@ b19 =
 abbrev b20 : Syntax.Body
 b20 =
     Syntax.call
-    "search::search_route"
+    "search_route::search_route"
     (List._∷_
     (Syntax.copy (Syntax.place 35 List.[]))
     (List._∷_
@@ -26401,30 +26401,31 @@ module _ (claims· : Claims) where
           (𝓤 : URA.URA M) (H : Wp.Heap 𝓤) (A : Atoms.Atoms 𝓤) (W : Kit.Given 𝓤 H A) (𝓣 : Wp.Tables
           𝓤 H) (known0 : Plain.Known 𝓤 H A W 𝓣 1 ps·0 r·0 (claims· .0) (claims· .1)
           "addresses::whole") (known1 : Plain.Known 𝓤 H A W 𝓣 0 ps·1 r·1 (claims· .2) (claims· .3)
-          "reply::partner_number") (known2 : Plain.Known 𝓤 H A W 𝓣 0 ps·2 r·2 (claims· .4)
-          (claims· .5) "reply::orig_node") (known3 : Plain.Known 𝓤 H A W 𝓣 0 ps·3 r·3 (claims· .6)
-          (claims· .7) "reply_taken::h_of") (known4 : Plain.Known 𝓤 H A W 𝓣 1 ps·4 r·4 (claims· .8)
-          (claims· .9) "search::search_partner") (known5 : Plain.Known 𝓤 H A W 𝓣 0 ps·5 r·5
-          (claims· .10) (claims· .11) "reply_taken::is_found") (known6 : Plain.Known 𝓤 H A W 𝓣 0
-          ps·6 r·6 (claims· .12) (claims· .13) "message::dodagid_of") (known7 : Plain.Known 𝓤 H A W
-          𝓣 0 ps·7 r·7 (claims· .14) (claims· .15) "message::instance_of") (known8 : Plain.Known 𝓤
-          H A W 𝓣 1 ps·8 r·8 (claims· .16) (claims· .17)
-          "search::search_reply") (known9 : Plain.Known 𝓤 H A W 𝓣 1 ps·9 r·9 (claims· .18)
-          (claims· .19) "search::search_route") (known10 : Plain.Known 𝓤 H A W 𝓣 0 ps·10 r·10
-          (claims· .20) (claims· .21) "reply_taken::found_row") (known11 : Plain.Known 𝓤 H A W 𝓣 0
-          ps·11 r·11 (claims· .22) (claims· .23) "reply::gather") (known12 : Plain.Known 𝓤 H A W 𝓣
-          1 ps·12 r·12 (claims· .24) (claims· .25) "reply_answer::judge") (known13 : Plain.Known 𝓤
-          H A W 𝓣 0 ps·13 r·13 (claims· .26) (claims· .27) "answer::number") (known14 : Plain.Known
-          𝓤 H A W 𝓣 0 ps·14 r·14 (claims· .28) (claims· .29)
-          "outcome::refused") (known15 : Plain.Known 𝓤 H A W 𝓣 0 ps·15 r·15 (claims· .30)
-          (claims· .31) "reply_stored::accepted") (known16 : Plain.Known 𝓤 H A W 𝓣 1 ps·16 r·16
-          (claims· .32) (claims· .33) "reply_sent::forward_post") (known17 : Plain.Known 𝓤 H A W 𝓣
-          0 ps·17 r·17 (claims· .34) (claims· .35) "decision::no_post") (known18 : Plain.Known 𝓤 H
-          A W 𝓣 0 ps·18 r·18 (claims· .36) (claims· .37) "message::live_of") (known19 : Plain.Known
-          𝓤 H A W 𝓣 8 ps·19 r·19 (claims· .38) (claims· .39)
-          "finish::finish") (known20 : Plain.Known 𝓤 H A W 𝓣 0 ps·20 r·20 (claims· .40)
-          (claims· .41) "reply_taken::no_partner") → Statement.Triple 𝓤 (Wp.WpFn 𝓤 H (𝓣 .C) (𝓣 .Λ)
-          (Function.fnOf 6 ps r xs m hs body)) (Function.plainOf 𝓤 H A 6 ps r Pre· Post·)
+          "pairing::partner_number") (known2 : Plain.Known 𝓤 H A W 𝓣 0 ps·2 r·2 (claims· .4)
+          (claims· .5) "pairing::orig_node") (known3 : Plain.Known 𝓤 H A W 𝓣 0 ps·3 r·3
+          (claims· .6) (claims· .7) "reply_taken::h_of") (known4 : Plain.Known 𝓤 H A W 𝓣 1 ps·4 r·4
+          (claims· .8) (claims· .9) "search::search_partner") (known5 : Plain.Known 𝓤 H A W 𝓣 0
+          ps·5 r·5 (claims· .10) (claims· .11) "reply_taken::is_found") (known6 : Plain.Known 𝓤 H A
+          W 𝓣 0 ps·6 r·6 (claims· .12) (claims· .13) "message::dodagid_of") (known7 : Plain.Known 𝓤
+          H A W 𝓣 0 ps·7 r·7 (claims· .14) (claims· .15)
+          "message::instance_of") (known8 : Plain.Known 𝓤 H A W 𝓣 1 ps·8 r·8 (claims· .16)
+          (claims· .17) "search::search_reply") (known9 : Plain.Known 𝓤 H A W 𝓣 1 ps·9 r·9
+          (claims· .18) (claims· .19) "search_route::search_route") (known10 : Plain.Known 𝓤 H A W
+          𝓣 0 ps·10 r·10 (claims· .20) (claims· .21)
+          "reply_taken::found_row") (known11 : Plain.Known 𝓤 H A W 𝓣 0 ps·11 r·11 (claims· .22)
+          (claims· .23) "reply::gather") (known12 : Plain.Known 𝓤 H A W 𝓣 1 ps·12 r·12
+          (claims· .24) (claims· .25) "reply_answer::judge") (known13 : Plain.Known 𝓤 H A W 𝓣 0
+          ps·13 r·13 (claims· .26) (claims· .27) "answer::number") (known14 : Plain.Known 𝓤 H A W 𝓣
+          0 ps·14 r·14 (claims· .28) (claims· .29) "outcome::refused") (known15 : Plain.Known 𝓤 H A
+          W 𝓣 0 ps·15 r·15 (claims· .30) (claims· .31)
+          "reply_stored::accepted") (known16 : Plain.Known 𝓤 H A W 𝓣 1 ps·16 r·16 (claims· .32)
+          (claims· .33) "reply_sent::forward_post") (known17 : Plain.Known 𝓤 H A W 𝓣 0 ps·17 r·17
+          (claims· .34) (claims· .35) "decision::no_post") (known18 : Plain.Known 𝓤 H A W 𝓣 0 ps·18
+          r·18 (claims· .36) (claims· .37) "message::live_of") (known19 : Plain.Known 𝓤 H A W 𝓣 8
+          ps·19 r·19 (claims· .38) (claims· .39) "finish::finish") (known20 : Plain.Known 𝓤 H A W 𝓣
+          0 ps·20 r·20 (claims· .40) (claims· .41) "reply_taken::no_partner") → Statement.Triple 𝓤
+          (Wp.WpFn 𝓤 H (𝓣 .C) (𝓣 .Λ) (Function.fnOf 6 ps r xs m hs body)) (Function.plainOf 𝓤 H A 6
+          ps r Pre· Post·)
 
     module _ where
       abbrev at0 : Typed.TF T76 O2
@@ -26939,15 +26940,26 @@ module _ (claims· : Claims) where
         abbrev Knowns : Type 1
         Knowns =
             Plain.Known 𝓤 H A W 𝓣 1 ps·0 r·0 (claims· .0) (claims· .1) "addresses::whole" ×
-            Plain.Known 𝓤 H A W 𝓣 0 ps·1 r·1 (claims· .2) (claims· .3) "reply::partner_number" ×
-            Plain.Known 𝓤 H A W 𝓣 0 ps·2 r·2 (claims· .4) (claims· .5) "reply::orig_node" ×
+            Plain.Known 𝓤 H A W 𝓣 0 ps·1 r·1 (claims· .2) (claims· .3) "pairing::partner_number" ×
+            Plain.Known 𝓤 H A W 𝓣 0 ps·2 r·2 (claims· .4) (claims· .5) "pairing::orig_node" ×
             Plain.Known 𝓤 H A W 𝓣 0 ps·3 r·3 (claims· .6) (claims· .7) "reply_taken::h_of" ×
             Plain.Known 𝓤 H A W 𝓣 1 ps·4 r·4 (claims· .8) (claims· .9) "search::search_partner" ×
             Plain.Known 𝓤 H A W 𝓣 0 ps·5 r·5 (claims· .10) (claims· .11) "reply_taken::is_found" ×
             Plain.Known 𝓤 H A W 𝓣 0 ps·6 r·6 (claims· .12) (claims· .13) "message::dodagid_of" ×
             Plain.Known 𝓤 H A W 𝓣 0 ps·7 r·7 (claims· .14) (claims· .15) "message::instance_of" ×
             Plain.Known 𝓤 H A W 𝓣 1 ps·8 r·8 (claims· .16) (claims· .17) "search::search_reply" ×
-            Plain.Known 𝓤 H A W 𝓣 1 ps·9 r·9 (claims· .18) (claims· .19) "search::search_route" ×
+            Plain.Known
+            𝓤
+            H
+            A
+            W
+            𝓣
+            1
+            ps·9
+            r·9
+            (claims· .18)
+            (claims· .19)
+            "search_route::search_route" ×
             Plain.Known
             𝓤
             H
@@ -44303,7 +44315,7 @@ module _ (claims· : Claims) where
               r·9
               (claims· .18)
               (claims· .19)
-              "search::search_route"
+              "search_route::search_route"
               (known .9)
               E
               (λ pos β. β)
@@ -47527,7 +47539,7 @@ module _ (claims· : Claims) where
               r·2
               (claims· .4)
               (claims· .5)
-              "reply::orig_node"
+              "pairing::orig_node"
               (known .2)
               E
               (λ pos β. β)
@@ -47691,7 +47703,7 @@ module _ (claims· : Claims) where
               r·1
               (claims· .2)
               (claims· .3)
-              "reply::partner_number"
+              "pairing::partner_number"
               (known .1)
               E
               (λ pos β. β)
@@ -51229,7 +51241,7 @@ module _ (claims· : Claims) where
             r·1
             (claims· .2)
             (claims· .3)
-            "reply::partner_number")
+            "pairing::partner_number")
             (known2 : Plain.Known
             𝓤
             H
@@ -51241,7 +51253,7 @@ module _ (claims· : Claims) where
             r·2
             (claims· .4)
             (claims· .5)
-            "reply::orig_node")
+            "pairing::orig_node")
             (known3 : Plain.Known
             𝓤
             H
@@ -51325,7 +51337,7 @@ module _ (claims· : Claims) where
             r·9
             (claims· .18)
             (claims· .19)
-            "search::search_route")
+            "search_route::search_route")
             (known10 : Plain.Known
             𝓤
             H

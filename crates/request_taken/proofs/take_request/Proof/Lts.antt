@@ -1485,7 +1485,7 @@ b10 =
 abbrev b11 : Syntax.Body
 b11 =
     Syntax.call
-    "search::search_route"
+    "search_route::search_route"
     (List._∷_
     (Syntax.copy (Syntax.place 30 List.[]))
     (List._∷_
@@ -1510,7 +1510,7 @@ b12 =
 abbrev b13 : Syntax.Body
 b13 =
     Syntax.call
-    "request_targets::is_targ_node"
+    "targ_node::is_targ_node"
     (List._∷_
     (Syntax.copy (Syntax.place 5 List.[]))
     (List._∷_ (Syntax.copy (Syntax.place 26 List.[])) List.[]))
@@ -29684,9 +29684,9 @@ module _ (claims· : Claims) where
           (claims· .5) "message::dodagid_of") (known3 : Plain.Known 𝓤 H A W 𝓣 0 ps·3 r·3
           (claims· .6) (claims· .7) "own::receiving_of") (known4 : Plain.Known 𝓤 H A W 𝓣 1 ps·4 r·4
           (claims· .8) (claims· .9) "search::search_request") (known5 : Plain.Known 𝓤 H A W 𝓣 1
-          ps·5 r·5 (claims· .10) (claims· .11) "search::search_route") (known6 : Plain.Known 𝓤 H A
-          W 𝓣 0 ps·6 r·6 (claims· .12) (claims· .13)
-          "request_targets::is_targ_node") (known7 : Plain.Known 𝓤 H A W 𝓣 1 ps·7 r·7 (claims· .14)
+          ps·5 r·5 (claims· .10) (claims· .11) "search_route::search_route") (known6 : Plain.Known
+          𝓤 H A W 𝓣 0 ps·6 r·6 (claims· .12) (claims· .13)
+          "targ_node::is_targ_node") (known7 : Plain.Known 𝓤 H A W 𝓣 1 ps·7 r·7 (claims· .14)
           (claims· .15) "delta::free_delta_if") (known8 : Plain.Known 𝓤 H A W 𝓣 0 ps·8 r·8
           (claims· .16) (claims· .17) "request::gather") (known9 : Plain.Known 𝓤 H A W 𝓣 1 ps·9 r·9
           (claims· .18) (claims· .19) "request_answer::judge") (known10 : Plain.Known 𝓤 H A W 𝓣 0
@@ -30149,7 +30149,18 @@ module _ (claims· : Claims) where
             Plain.Known 𝓤 H A W 𝓣 0 ps·2 r·2 (claims· .4) (claims· .5) "message::dodagid_of" ×
             Plain.Known 𝓤 H A W 𝓣 0 ps·3 r·3 (claims· .6) (claims· .7) "own::receiving_of" ×
             Plain.Known 𝓤 H A W 𝓣 1 ps·4 r·4 (claims· .8) (claims· .9) "search::search_request" ×
-            Plain.Known 𝓤 H A W 𝓣 1 ps·5 r·5 (claims· .10) (claims· .11) "search::search_route" ×
+            Plain.Known
+            𝓤
+            H
+            A
+            W
+            𝓣
+            1
+            ps·5
+            r·5
+            (claims· .10)
+            (claims· .11)
+            "search_route::search_route" ×
             Plain.Known
             𝓤
             H
@@ -30161,7 +30172,7 @@ module _ (claims· : Claims) where
             r·6
             (claims· .12)
             (claims· .13)
-            "request_targets::is_targ_node" ×
+            "targ_node::is_targ_node" ×
             Plain.Known 𝓤 H A W 𝓣 1 ps·7 r·7 (claims· .14) (claims· .15) "delta::free_delta_if" ×
             Plain.Known 𝓤 H A W 𝓣 0 ps·8 r·8 (claims· .16) (claims· .17) "request::gather" ×
             Plain.Known 𝓤 H A W 𝓣 1 ps·9 r·9 (claims· .18) (claims· .19) "request_answer::judge" ×
@@ -48017,7 +48028,7 @@ module _ (claims· : Claims) where
               r·6
               (claims· .12)
               (claims· .13)
-              "request_targets::is_targ_node"
+              "targ_node::is_targ_node"
               (known .6)
               E
               (λ pos β. β)
@@ -48331,7 +48342,7 @@ module _ (claims· : Claims) where
               r·5
               (claims· .10)
               (claims· .11)
-              "search::search_route"
+              "search_route::search_route"
               (known .5)
               E
               (λ pos β. β)
@@ -52762,7 +52773,7 @@ module _ (claims· : Claims) where
             r·5
             (claims· .10)
             (claims· .11)
-            "search::search_route")
+            "search_route::search_route")
             (known6 : Plain.Known
             𝓤
             H
@@ -52774,7 +52785,7 @@ module _ (claims· : Claims) where
             r·6
             (claims· .12)
             (claims· .13)
-            "request_targets::is_targ_node")
+            "targ_node::is_targ_node")
             (known7 : Plain.Known
             𝓤
             H

@@ -422,7 +422,7 @@ b0 =
 abbrev b1 : Syntax.Body
 b1 =
     Syntax.call
-    "traces_main::answer_of"
+    "outcome::answer_of"
     (List._∷_ (Syntax.copy (Syntax.place 6 List.[])) List.[])
     (Syntax.place 11 List.[])
 
@@ -4442,7 +4442,7 @@ module _ (claims· : Claims) where
       Closed =
           (𝓤 : URA.URA M) (H : Wp.Heap 𝓤) (A : Atoms.Atoms 𝓤) (W : Kit.Given 𝓤 H A) (𝓣 : Wp.Tables
           𝓤 H) (known0 : Plain.Known 𝓤 H A W 𝓣 0 ps·0 r·0 (claims· .0) (claims· .1)
-          "traces_main::answer_of") (known1 : Plain.Known 𝓤 H A W 𝓣 1 ps·1 r·1 (claims· .2)
+          "outcome::answer_of") (known1 : Plain.Known 𝓤 H A W 𝓣 1 ps·1 r·1 (claims· .2)
           (claims· .3) "tally::raise") (known2 : Plain.Known 𝓤 H A W 𝓣 0 ps·2 r·2 (claims· .4)
           (claims· .5) "traces_main::after") (known3 : Plain.Known 𝓤 H A W 𝓣 4 ps·3 r·3
           (claims· .6) (claims· .7) "traces_main::print_call") → Statement.Triple 𝓤 (Wp.WpFn 𝓤 H
@@ -4514,7 +4514,7 @@ module _ (claims· : Claims) where
           (W : Kit.Given 𝓤 H A) (𝓣 : Wp.Tables 𝓤 H) where
         abbrev Knowns : Type 1
         Knowns =
-            Plain.Known 𝓤 H A W 𝓣 0 ps·0 r·0 (claims· .0) (claims· .1) "traces_main::answer_of" ×
+            Plain.Known 𝓤 H A W 𝓣 0 ps·0 r·0 (claims· .0) (claims· .1) "outcome::answer_of" ×
             Plain.Known 𝓤 H A W 𝓣 1 ps·1 r·1 (claims· .2) (claims· .3) "tally::raise" ×
             Plain.Known 𝓤 H A W 𝓣 0 ps·2 r·2 (claims· .4) (claims· .5) "traces_main::after" ×
             Plain.Known 𝓤 H A W 𝓣 4 ps·3 r·3 (claims· .6) (claims· .7) "traces_main::print_call"
@@ -7529,7 +7529,7 @@ module _ (claims· : Claims) where
               r·0
               (claims· .0)
               (claims· .1)
-              "traces_main::answer_of"
+              "outcome::answer_of"
               (known .0)
               E
               (λ pos β. β)
@@ -8357,7 +8357,7 @@ module _ (claims· : Claims) where
             r·0
             (claims· .0)
             (claims· .1)
-            "traces_main::answer_of")
+            "outcome::answer_of")
             (known1 : Plain.Known 𝓤 H A W 𝓣 1 ps·1 r·1 (claims· .2) (claims· .3) "tally::raise")
             (known2 : Plain.Known
             𝓤

@@ -1,13 +1,13 @@
 -- Made by tools/lend.py of the twin of `tell`: do not edit.
-use Rattle.tally.proofs.raise.Met
-use Rattle.tally.proofs.Lent.raise.Reads
-use Rattle.tally.proofs.raise.Symbol
-use Rattle.traces_main.proofs.after.Met as Met'
-use Rattle.traces_main.proofs.after.Reads as Reads'
-use Rattle.traces_main.proofs.after.Symbol as Symbol'
-use Rattle.traces_main.proofs.answer_of.Met as Met''
-use Rattle.traces_main.proofs.answer_of.Reads as Reads''
-use Rattle.traces_main.proofs.answer_of.Symbol as Symbol''
+use Rattle.outcome.proofs.answer_of.Met
+use Rattle.outcome.proofs.answer_of.Reads
+use Rattle.outcome.proofs.answer_of.Symbol
+use Rattle.tally.proofs.raise.Met as Met'
+use Rattle.tally.proofs.Lent.raise.Reads as Reads'
+use Rattle.tally.proofs.raise.Symbol as Symbol'
+use Rattle.traces_main.proofs.after.Met as Met''
+use Rattle.traces_main.proofs.after.Reads as Reads''
+use Rattle.traces_main.proofs.after.Symbol as Symbol''
 use Rattle.traces_main.proofs.print_call.Met as Met'3
 use Rattle.traces_main.proofs.Lent.print_call.Reads as Reads'3
 use Rattle.traces_main.proofs.print_call.Symbol as Symbol'3
@@ -23,156 +23,156 @@ use contract.Running
 
 abbrev pub Start : Type 0
 Start = Lts.Start (
-  Reads''.Asked,
-  Reads''.Learnt,
   Reads.Asked,
   Reads.Learnt,
   Reads'.Asked,
   Reads'.Learnt,
+  Reads''.Asked,
+  Reads''.Learnt,
   Reads'3.Asked,
   Reads'3.Learnt,
 ) Reads'4.Pre Reads'4.Post
 
 abbrev pub After-shared-slice-known : Type 0
 After-shared-slice-known = Lts.After-shared-slice-known (
-  Reads''.Asked,
-  Reads''.Learnt,
   Reads.Asked,
   Reads.Learnt,
   Reads'.Asked,
   Reads'.Learnt,
+  Reads''.Asked,
+  Reads''.Learnt,
   Reads'3.Asked,
   Reads'3.Learnt,
 ) Reads'4.Pre Reads'4.Post
 
 abbrev pub After-shared-slice-known2 : Type 0
 After-shared-slice-known2 = Lts.After-shared-slice-known2 (
-  Reads''.Asked,
-  Reads''.Learnt,
   Reads.Asked,
   Reads.Learnt,
   Reads'.Asked,
   Reads'.Learnt,
+  Reads''.Asked,
+  Reads''.Learnt,
   Reads'3.Asked,
   Reads'3.Learnt,
 ) Reads'4.Pre Reads'4.Post
 
 abbrev pub After-raise-arg : Type 0
 After-raise-arg = Lts.After-raise-arg (
-  Reads''.Asked,
-  Reads''.Learnt,
   Reads.Asked,
   Reads.Learnt,
   Reads'.Asked,
   Reads'.Learnt,
+  Reads''.Asked,
+  Reads''.Learnt,
   Reads'3.Asked,
   Reads'3.Learnt,
 ) Reads'4.Pre Reads'4.Post
 
 abbrev pub After-answer-of : Type 0
 After-answer-of = Lts.After-answer-of (
-  Reads''.Asked,
-  Reads''.Learnt,
   Reads.Asked,
   Reads.Learnt,
   Reads'.Asked,
   Reads'.Learnt,
+  Reads''.Asked,
+  Reads''.Learnt,
   Reads'3.Asked,
   Reads'3.Learnt,
 ) Reads'4.Pre Reads'4.Post
 
 abbrev pub After-raise : Type 0
 After-raise = Lts.After-raise (
-  Reads''.Asked,
-  Reads''.Learnt,
   Reads.Asked,
   Reads.Learnt,
   Reads'.Asked,
   Reads'.Learnt,
+  Reads''.Asked,
+  Reads''.Learnt,
   Reads'3.Asked,
   Reads'3.Learnt,
 ) Reads'4.Pre Reads'4.Post
 
 abbrev pub After-after : Type 0
 After-after = Lts.After-after (
-  Reads''.Asked,
-  Reads''.Learnt,
   Reads.Asked,
   Reads.Learnt,
   Reads'.Asked,
   Reads'.Learnt,
+  Reads''.Asked,
+  Reads''.Learnt,
   Reads'3.Asked,
   Reads'3.Learnt,
 ) Reads'4.Pre Reads'4.Post
 
 abbrev pub After-print-call : Type 0
 After-print-call = Lts.After-print-call (
-  Reads''.Asked,
-  Reads''.Learnt,
   Reads.Asked,
   Reads.Learnt,
   Reads'.Asked,
   Reads'.Learnt,
+  Reads''.Asked,
+  Reads''.Learnt,
   Reads'3.Asked,
   Reads'3.Learnt,
 ) Reads'4.Pre Reads'4.Post
 
 abbrev pub Need-answer-of-requires : Type 0
 Need-answer-of-requires = Lts.Need-answer-of-requires (
-  Reads''.Asked,
-  Reads''.Learnt,
   Reads.Asked,
   Reads.Learnt,
   Reads'.Asked,
   Reads'.Learnt,
+  Reads''.Asked,
+  Reads''.Learnt,
   Reads'3.Asked,
   Reads'3.Learnt,
 ) Reads'4.Pre Reads'4.Post
 
 abbrev pub Need-raise-requires : Type 0
 Need-raise-requires = Lts.Need-raise-requires (
-  Reads''.Asked,
-  Reads''.Learnt,
   Reads.Asked,
   Reads.Learnt,
   Reads'.Asked,
   Reads'.Learnt,
+  Reads''.Asked,
+  Reads''.Learnt,
   Reads'3.Asked,
   Reads'3.Learnt,
 ) Reads'4.Pre Reads'4.Post
 
 abbrev pub Need-after-requires : Type 0
 Need-after-requires = Lts.Need-after-requires (
-  Reads''.Asked,
-  Reads''.Learnt,
   Reads.Asked,
   Reads.Learnt,
   Reads'.Asked,
   Reads'.Learnt,
+  Reads''.Asked,
+  Reads''.Learnt,
   Reads'3.Asked,
   Reads'3.Learnt,
 ) Reads'4.Pre Reads'4.Post
 
 abbrev pub Need-print-call-requires : Type 0
 Need-print-call-requires = Lts.Need-print-call-requires (
-  Reads''.Asked,
-  Reads''.Learnt,
   Reads.Asked,
   Reads.Learnt,
   Reads'.Asked,
   Reads'.Learnt,
+  Reads''.Asked,
+  Reads''.Learnt,
   Reads'3.Asked,
   Reads'3.Learnt,
 ) Reads'4.Pre Reads'4.Post
 
 abbrev pub Need-returns : Type 0
 Need-returns = Lts.Need-returns (
-  Reads''.Asked,
-  Reads''.Learnt,
   Reads.Asked,
   Reads.Learnt,
   Reads'.Asked,
   Reads'.Learnt,
+  Reads''.Asked,
+  Reads''.Learnt,
   Reads'3.Asked,
   Reads'3.Learnt,
 ) Reads'4.Pre Reads'4.Post
@@ -185,33 +185,33 @@ module _ {M : Type 1} where
       (answer : Need-print-call-requires) →
       (answer : Need-returns) →
       Lts.Closed (
-        Reads''.Asked,
-        Reads''.Learnt,
         Reads.Asked,
         Reads.Learnt,
         Reads'.Asked,
         Reads'.Learnt,
+        Reads''.Asked,
+        Reads''.Learnt,
         Reads'3.Asked,
         Reads'3.Learnt,
       ) Reads'4.Pre Reads'4.Post M
   spec = λ answer answer' answer'' answer'3 answer'4. Lts.spec (
-    Reads''.Asked,
-    Reads''.Learnt,
     Reads.Asked,
     Reads.Learnt,
     Reads'.Asked,
     Reads'.Learnt,
+    Reads''.Asked,
+    Reads''.Learnt,
     Reads'3.Asked,
     Reads'3.Learnt,
   ) Reads'4.Pre Reads'4.Post answer answer' answer'' answer'3 answer'4
 
   pub close : Lts.Closed (
-    Reads''.Asked,
-    Reads''.Learnt,
     Reads.Asked,
     Reads.Learnt,
     Reads'.Asked,
     Reads'.Learnt,
+    Reads''.Asked,
+    Reads''.Learnt,
     Reads'3.Asked,
     Reads'3.Learnt,
   ) Reads'4.Pre Reads'4.Post M → Statement.statement M
@@ -242,27 +242,27 @@ module _ {M : Type 1} where
       (𝓖 .A)
       (Running.givenOf 𝓤 H 𝓜 𝓖)
       (Run.Over 𝓤 H 𝓜 𝓖 𝓡 Code.env)
-      (Reads''.known
-      record { M = M; 𝓤 = 𝓤; H = H; 𝓜 = 𝓜; 𝓖 = 𝓖; 𝓡 = 𝓡 }
-      Code.env
-      Symbol''.name
-      Symbol''.routine
-      Code.calls-traces-main·answer-of
-      (Met''.met 𝓤 H 𝓜 𝓖 𝓡))
       (Reads.known
       record { M = M; 𝓤 = 𝓤; H = H; 𝓜 = 𝓜; 𝓖 = 𝓖; 𝓡 = 𝓡 }
       Code.env
       Symbol.name
       Symbol.routine
-      Code.calls-tally·raise
+      Code.calls-outcome·answer-of
       (Met.met 𝓤 H 𝓜 𝓖 𝓡))
       (Reads'.known
       record { M = M; 𝓤 = 𝓤; H = H; 𝓜 = 𝓜; 𝓖 = 𝓖; 𝓡 = 𝓡 }
       Code.env
       Symbol'.name
       Symbol'.routine
-      Code.calls-traces-main·after
+      Code.calls-tally·raise
       (Met'.met 𝓤 H 𝓜 𝓖 𝓡))
+      (Reads''.known
+      record { M = M; 𝓤 = 𝓤; H = H; 𝓜 = 𝓜; 𝓖 = 𝓖; 𝓡 = 𝓡 }
+      Code.env
+      Symbol''.name
+      Symbol''.routine
+      Code.calls-traces-main·after
+      (Met''.met 𝓤 H 𝓜 𝓖 𝓡))
       (Reads'3.known
       record { M = M; 𝓤 = 𝓤; H = H; 𝓜 = 𝓜; 𝓖 = 𝓖; 𝓡 = 𝓡 }
       Code.env
