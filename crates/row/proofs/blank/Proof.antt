@@ -1,0 +1,9 @@
+use borrow.Author.Needs.{needs}
+use Rattle.row.proofs.blank.Statement.{statement}
+use Rattle.row.proofs.blank.Tie as tie
+
+returns : tie.Need-returns
+returns c = search needs
+
+pub blank-spec : {M : Type 1} → statement M
+blank-spec = tie.close (tie.spec returns)
