@@ -3,7 +3,7 @@
 ghost use mathlib.Core.Path.{_≡_};
 ghost use Rattle.plain.specs.Request.{ours};
 ghost use Rattle.own.specs.Settings.{settingsOf};
-ghost use Rattle.calls.specs.Calls.{Asked, Promised};
+ghost use Rattle.called.specs.Calls.{Asked, Promised};
 ghost use Rattle.answer.specs.declared.Answer.the-variants.{BadCall, OwnDodagid};
 use answer::Answer;
 use gather::Gathering;

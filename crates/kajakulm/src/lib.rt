@@ -12,7 +12,7 @@ ghost use lib.ListN.{length};
 ghost use Rattle.plain.specs.Plain.{step};
 ghost use Rattle.own.specs.Settings.{settingsOf};
 ghost use Rattle.finish.specs.Gives.{stateOf};
-ghost use Rattle.calls.specs.Calls.{messageCall, startCall};
+ghost use Rattle.called.specs.Calls.{messageCall, startCall};
 ghost use Rattle.handed.specs.Handed.{linkOf, askingOf};
 ghost use Rattle.host.specs.Host.{HostGives};
 

@@ -9,7 +9,7 @@ use Rattle.memory.proofs.Facts as rules
 use Rattle.memory.proofs.Own as number
 use Rattle.own.specs.Settings.{settingsOf}
 use Rattle.own.specs.declared.Own.{Own}
-use Rattle.calls.specs.Calls.{Node, Called, fed}
+use Rattle.called.specs.Calls.{Node, Called, fed}
 use Rattle.recording.specs.Recording.{nodeAfter, Recorded}
 use Rattle.recording.specs.Facts.{RefusalKeeps, ClockRises, OwnNumbers, OwnNumber}
 use Rattle.recording.proofs.Real.{stateIn}

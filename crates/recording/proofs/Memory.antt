@@ -9,7 +9,7 @@ use Rattle.memory.proofs.Memory as memory
 use Rattle.own.specs.Settings.{settingsOf}
 use Rattle.own.specs.declared.Own.{Own}
 use Rattle.row.specs.Meaning.{instanceOf, routeOf}
-use Rattle.calls.specs.Calls.{Node, Called}
+use Rattle.called.specs.Calls.{Node, Called}
 use Rattle.recording.specs.Recording.{left, seen, calls, Claim}
 use Rattle.recording.proofs.Real.{stateIn, dones, ran, fresh, seen-is, calls-is, left-is}
 

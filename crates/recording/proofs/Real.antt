@@ -14,7 +14,7 @@ use Rattle.own.specs.Settings.{settingsOf}
 use Rattle.own.specs.declared.Own.{Own}
 use Rattle.row.specs.Meaning.{instanceOf, routeOf}
 use Rattle.finish.specs.Gives.{stateOf}
-use Rattle.calls.specs.Calls.{Node, Called, fed, Promised}
+use Rattle.called.specs.Calls.{Node, Called, fed, Promised}
 use Rattle.recording.specs.Recording.{nodeAfter, Recorded, Unused, Fresh, left, seen, calls}
 
 -- the state that a node's values mean

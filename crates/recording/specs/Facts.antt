@@ -4,7 +4,7 @@ use mathlib.Core.Path.{_≡_}
 use mathlib.Core.List.{List, [], _∷_}
 use Rattle.answer.specs.Answer.{answerNumber}
 use Rattle.own.specs.declared.Own.{Own}
-use Rattle.calls.specs.Calls.{Node, Called, Promised}
+use Rattle.called.specs.Calls.{Node, Called, Promised}
 use Rattle.recording.specs.Recording.{Recorded, Fresh, nodeAfter}
 
 -- "After a refusal both lengths are zero, and tables, buffers, own sequence number and clock are as they stood" (demand 1).

@@ -22,7 +22,7 @@ use Rattle.row.specs.declared.RouteRow.{RouteRow}
 use Rattle.message.specs.declared.Link.{Link}
 use Rattle.start.specs.declared.Asking.{Asking}
 use Rattle.outcome.specs.declared.Outcome.{Outcome}
-use Rattle.calls.specs.Calls.{Asked, Promised}
+use Rattle.called.specs.Calls.{Asked, Promised}
 use Rattle.calls.proofs.message as message
 use Rattle.calls.proofs.start as start
 

@@ -14,7 +14,7 @@ use Rattle.answer.specs.Answer.{answerNumber, destinationOf}
 use Rattle.own.specs.Settings.{settingsOf}
 use Rattle.own.specs.declared.Own.{Own}
 use Rattle.row.specs.Meaning.{instanceOf, routeOf}
-use Rattle.calls.specs.Calls.{Node, Called, fed, Promised}
+use Rattle.called.specs.Calls.{Node, Called, fed, Promised}
 
 -- ---- Recordings
 

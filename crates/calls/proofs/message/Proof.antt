@@ -8,7 +8,7 @@ use denote.Ref.{now}
 use Rattle.own.specs.Settings.{settingsOf}
 use Rattle.plain.specs.Given.{Event}
 use Rattle.message.specs.Message.{receivedBy}
-use Rattle.calls.proofs.Laws.{Handed, isBad, isBadEvent, Admitted, Read, Understood, bad-lent, bad-event, wrong-state, short, long, octets-refused, octets-read, own-refused, taken, reply-step, request-step}
+use Rattle.called.proofs.Laws.{Handed, isBad, isBadEvent, Admitted, Read, Understood, bad-lent, bad-event, wrong-state, short, long, octets-refused, octets-read, own-refused, taken, reply-step, request-step}
 use borrow.Author.Needs.{needs}
 use Rattle.calls.proofs.message.Statement.{statement}
 use Rattle.calls.proofs.message.Proof.Tie as tie

@@ -6,7 +6,7 @@ use denote.Ref.{now}
 use Rattle.own.specs.Settings.{settingsOf}
 use Rattle.plain.specs.Given.{Event}
 use Rattle.start.specs.Start.{startOf}
-use Rattle.calls.proofs.Laws.{Handed, isBad, isBadEvent, Admitted, bad-lent, bad-event, wrong-state, taken-start, start-step}
+use Rattle.called.proofs.Laws.{Handed, isBad, isBadEvent, Admitted, bad-lent, bad-event, wrong-state, taken-start, start-step}
 use borrow.Author.Needs.{needs}
 use Rattle.calls.proofs.start.Statement.{statement}
 use Rattle.calls.proofs.start.Proof.Tie as tie

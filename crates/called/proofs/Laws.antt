@@ -50,7 +50,7 @@ use Rattle.bad_start.specs.Judged.{Fit}
 use Rattle.bad_start.proofs.Judge.{fit}
 use Rattle.start.specs.Start.{startOf}
 use Rattle.start.specs.declared.Asking.{Asking}
-use Rattle.calls.specs.Calls.{messageCall, startCall}
+use Rattle.called.specs.Calls.{messageCall, startCall}
 
 -- ---- any call
 
