@@ -507,6 +507,16 @@ def needs_file(crate, f, dot, tie, heads):
     return '\n'.join(o), len(needs)
 
 
+def said_once(tie):
+    """A Tie names what its function's callees ask and tell in each line, as one tuple: said once it is checked once."""
+    each = re.compile(r"\(\s*(Reads[\w']*\.Asked,[^()]*?),?\s*\)")
+    if not each.search(tie): return tie
+    told = ' '.join(each.search(tie).group(1).split())
+    tie = each.sub(lambda m: 'callees' if ' '.join(m.group(1).split()) == told else m.group(0), tie)
+    at = [m.end() for m in re.finditer(r'^use .*\n', tie, re.M)][-1]
+    return tie[:at] + f'\nabbrev callees : Lts.Claims\ncallees = ({told})\n' + tie[at:]
+
+
 def main():
     a = sys.argv[1:]
     if '--' not in a or a.index('--') < 2: die('usage: lend.py NAME ELEM .. -- FN ..')
@@ -613,6 +623,7 @@ def main():
             for S, m in marks.items():
                 left = re.search(flex(rf"Syntax'*\d*\.{m['w']}\)+ {m['n']}\b"), t)
                 if left: print(f'lend: {f}/{part}: an array is left that this script does not know, near: {t[max(0, left.start() - 120):left.end()]}')
+            if part == 'Tie': t = said_once(t)
             t = f'-- Made by tools/lend.py of the twin of `{f}`: do not edit.\n' + t
             if part in ('Kinds', 'Reads'):
                 write(os.path.join(proofs, 'Lent', *parts, part + '.antt'), t)

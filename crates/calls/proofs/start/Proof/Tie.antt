@@ -36,1215 +36,173 @@ use borrow.Fn.Run
 use borrow.Fn.Written
 use contract.Running
 
+abbrev callees : Lts.Claims
+callees = (Reads.Asked, Reads.Learnt, Reads''.Asked, Reads''.Learnt, Reads'6.Asked, Reads'6.Learnt, Reads'5.Asked, Reads'5.Learnt, Reads'.Asked, Reads'.Learnt, Reads'8.Asked, Reads'8.Learnt, Reads'9.Asked, Reads'9.Learnt, Reads'4.Asked, Reads'4.Learnt, Reads'7.Asked, Reads'7.Learnt)
+
 abbrev pub Start : Type 0
-Start = Lts.Start (
-  Reads.Asked,
-  Reads.Learnt,
-  Reads''.Asked,
-  Reads''.Learnt,
-  Reads'6.Asked,
-  Reads'6.Learnt,
-  Reads'5.Asked,
-  Reads'5.Learnt,
-  Reads'.Asked,
-  Reads'.Learnt,
-  Reads'8.Asked,
-  Reads'8.Learnt,
-  Reads'9.Asked,
-  Reads'9.Learnt,
-  Reads'4.Asked,
-  Reads'4.Learnt,
-  Reads'7.Asked,
-  Reads'7.Learnt,
-) Reads'3.Pre Reads'3.Post
+Start = Lts.Start callees Reads'3.Pre Reads'3.Post
 
 abbrev pub After-slice-known : Type 0
-After-slice-known = Lts.After-slice-known (
-  Reads.Asked,
-  Reads.Learnt,
-  Reads''.Asked,
-  Reads''.Learnt,
-  Reads'6.Asked,
-  Reads'6.Learnt,
-  Reads'5.Asked,
-  Reads'5.Learnt,
-  Reads'.Asked,
-  Reads'.Learnt,
-  Reads'8.Asked,
-  Reads'8.Learnt,
-  Reads'9.Asked,
-  Reads'9.Learnt,
-  Reads'4.Asked,
-  Reads'4.Learnt,
-  Reads'7.Asked,
-  Reads'7.Learnt,
-) Reads'3.Pre Reads'3.Post
+After-slice-known = Lts.After-slice-known callees Reads'3.Pre Reads'3.Post
 
 abbrev pub After-slice-known2 : Type 0
-After-slice-known2 = Lts.After-slice-known2 (
-  Reads.Asked,
-  Reads.Learnt,
-  Reads''.Asked,
-  Reads''.Learnt,
-  Reads'6.Asked,
-  Reads'6.Learnt,
-  Reads'5.Asked,
-  Reads'5.Learnt,
-  Reads'.Asked,
-  Reads'.Learnt,
-  Reads'8.Asked,
-  Reads'8.Learnt,
-  Reads'9.Asked,
-  Reads'9.Learnt,
-  Reads'4.Asked,
-  Reads'4.Learnt,
-  Reads'7.Asked,
-  Reads'7.Learnt,
-) Reads'3.Pre Reads'3.Post
+After-slice-known2 = Lts.After-slice-known2 callees Reads'3.Pre Reads'3.Post
 
 abbrev pub After-is-bad : Type 0
-After-is-bad = Lts.After-is-bad (
-  Reads.Asked,
-  Reads.Learnt,
-  Reads''.Asked,
-  Reads''.Learnt,
-  Reads'6.Asked,
-  Reads'6.Learnt,
-  Reads'5.Asked,
-  Reads'5.Learnt,
-  Reads'.Asked,
-  Reads'.Learnt,
-  Reads'8.Asked,
-  Reads'8.Learnt,
-  Reads'9.Asked,
-  Reads'9.Learnt,
-  Reads'4.Asked,
-  Reads'4.Learnt,
-  Reads'7.Asked,
-  Reads'7.Learnt,
-) Reads'3.Pre Reads'3.Post
+After-is-bad = Lts.After-is-bad callees Reads'3.Pre Reads'3.Post
 
 abbrev pub Then1 : Type 0
-Then1 = Lts.Then1 (
-  Reads.Asked,
-  Reads.Learnt,
-  Reads''.Asked,
-  Reads''.Learnt,
-  Reads'6.Asked,
-  Reads'6.Learnt,
-  Reads'5.Asked,
-  Reads'5.Learnt,
-  Reads'.Asked,
-  Reads'.Learnt,
-  Reads'8.Asked,
-  Reads'8.Learnt,
-  Reads'9.Asked,
-  Reads'9.Learnt,
-  Reads'4.Asked,
-  Reads'4.Learnt,
-  Reads'7.Asked,
-  Reads'7.Learnt,
-) Reads'3.Pre Reads'3.Post
+Then1 = Lts.Then1 callees Reads'3.Pre Reads'3.Post
 
 abbrev pub After-bad-call : Type 0
-After-bad-call = Lts.After-bad-call (
-  Reads.Asked,
-  Reads.Learnt,
-  Reads''.Asked,
-  Reads''.Learnt,
-  Reads'6.Asked,
-  Reads'6.Learnt,
-  Reads'5.Asked,
-  Reads'5.Learnt,
-  Reads'.Asked,
-  Reads'.Learnt,
-  Reads'8.Asked,
-  Reads'8.Learnt,
-  Reads'9.Asked,
-  Reads'9.Learnt,
-  Reads'4.Asked,
-  Reads'4.Learnt,
-  Reads'7.Asked,
-  Reads'7.Learnt,
-) Reads'3.Pre Reads'3.Post
+After-bad-call = Lts.After-bad-call callees Reads'3.Pre Reads'3.Post
 
 abbrev pub After-refused : Type 0
-After-refused = Lts.After-refused (
-  Reads.Asked,
-  Reads.Learnt,
-  Reads''.Asked,
-  Reads''.Learnt,
-  Reads'6.Asked,
-  Reads'6.Learnt,
-  Reads'5.Asked,
-  Reads'5.Learnt,
-  Reads'.Asked,
-  Reads'.Learnt,
-  Reads'8.Asked,
-  Reads'8.Learnt,
-  Reads'9.Asked,
-  Reads'9.Learnt,
-  Reads'4.Asked,
-  Reads'4.Learnt,
-  Reads'7.Asked,
-  Reads'7.Learnt,
-) Reads'3.Pre Reads'3.Post
+After-refused = Lts.After-refused callees Reads'3.Pre Reads'3.Post
 
 abbrev pub Else1 : Type 0
-Else1 = Lts.Else1 (
-  Reads.Asked,
-  Reads.Learnt,
-  Reads''.Asked,
-  Reads''.Learnt,
-  Reads'6.Asked,
-  Reads'6.Learnt,
-  Reads'5.Asked,
-  Reads'5.Learnt,
-  Reads'.Asked,
-  Reads'.Learnt,
-  Reads'8.Asked,
-  Reads'8.Learnt,
-  Reads'9.Asked,
-  Reads'9.Learnt,
-  Reads'4.Asked,
-  Reads'4.Learnt,
-  Reads'7.Asked,
-  Reads'7.Learnt,
-) Reads'3.Pre Reads'3.Post
+Else1 = Lts.Else1 callees Reads'3.Pre Reads'3.Post
 
 abbrev pub After-gather : Type 0
-After-gather = Lts.After-gather (
-  Reads.Asked,
-  Reads.Learnt,
-  Reads''.Asked,
-  Reads''.Learnt,
-  Reads'6.Asked,
-  Reads'6.Learnt,
-  Reads'5.Asked,
-  Reads'5.Learnt,
-  Reads'.Asked,
-  Reads'.Learnt,
-  Reads'8.Asked,
-  Reads'8.Learnt,
-  Reads'9.Asked,
-  Reads'9.Learnt,
-  Reads'4.Asked,
-  Reads'4.Learnt,
-  Reads'7.Asked,
-  Reads'7.Learnt,
-) Reads'3.Pre Reads'3.Post
+After-gather = Lts.After-gather callees Reads'3.Pre Reads'3.Post
 
 abbrev pub After-is-bad-start : Type 0
-After-is-bad-start = Lts.After-is-bad-start (
-  Reads.Asked,
-  Reads.Learnt,
-  Reads''.Asked,
-  Reads''.Learnt,
-  Reads'6.Asked,
-  Reads'6.Learnt,
-  Reads'5.Asked,
-  Reads'5.Learnt,
-  Reads'.Asked,
-  Reads'.Learnt,
-  Reads'8.Asked,
-  Reads'8.Learnt,
-  Reads'9.Asked,
-  Reads'9.Learnt,
-  Reads'4.Asked,
-  Reads'4.Learnt,
-  Reads'7.Asked,
-  Reads'7.Learnt,
-) Reads'3.Pre Reads'3.Post
+After-is-bad-start = Lts.After-is-bad-start callees Reads'3.Pre Reads'3.Post
 
 abbrev pub Then2 : Type 0
-Then2 = Lts.Then2 (
-  Reads.Asked,
-  Reads.Learnt,
-  Reads''.Asked,
-  Reads''.Learnt,
-  Reads'6.Asked,
-  Reads'6.Learnt,
-  Reads'5.Asked,
-  Reads'5.Learnt,
-  Reads'.Asked,
-  Reads'.Learnt,
-  Reads'8.Asked,
-  Reads'8.Learnt,
-  Reads'9.Asked,
-  Reads'9.Learnt,
-  Reads'4.Asked,
-  Reads'4.Learnt,
-  Reads'7.Asked,
-  Reads'7.Learnt,
-) Reads'3.Pre Reads'3.Post
+Then2 = Lts.Then2 callees Reads'3.Pre Reads'3.Post
 
 abbrev pub After-bad-call2 : Type 0
-After-bad-call2 = Lts.After-bad-call2 (
-  Reads.Asked,
-  Reads.Learnt,
-  Reads''.Asked,
-  Reads''.Learnt,
-  Reads'6.Asked,
-  Reads'6.Learnt,
-  Reads'5.Asked,
-  Reads'5.Learnt,
-  Reads'.Asked,
-  Reads'.Learnt,
-  Reads'8.Asked,
-  Reads'8.Learnt,
-  Reads'9.Asked,
-  Reads'9.Learnt,
-  Reads'4.Asked,
-  Reads'4.Learnt,
-  Reads'7.Asked,
-  Reads'7.Learnt,
-) Reads'3.Pre Reads'3.Post
+After-bad-call2 = Lts.After-bad-call2 callees Reads'3.Pre Reads'3.Post
 
 abbrev pub After-refused2 : Type 0
-After-refused2 = Lts.After-refused2 (
-  Reads.Asked,
-  Reads.Learnt,
-  Reads''.Asked,
-  Reads''.Learnt,
-  Reads'6.Asked,
-  Reads'6.Learnt,
-  Reads'5.Asked,
-  Reads'5.Learnt,
-  Reads'.Asked,
-  Reads'.Learnt,
-  Reads'8.Asked,
-  Reads'8.Learnt,
-  Reads'9.Asked,
-  Reads'9.Learnt,
-  Reads'4.Asked,
-  Reads'4.Learnt,
-  Reads'7.Asked,
-  Reads'7.Learnt,
-) Reads'3.Pre Reads'3.Post
+After-refused2 = Lts.After-refused2 callees Reads'3.Pre Reads'3.Post
 
 abbrev pub Else2 : Type 0
-Else2 = Lts.Else2 (
-  Reads.Asked,
-  Reads.Learnt,
-  Reads''.Asked,
-  Reads''.Learnt,
-  Reads'6.Asked,
-  Reads'6.Learnt,
-  Reads'5.Asked,
-  Reads'5.Learnt,
-  Reads'.Asked,
-  Reads'.Learnt,
-  Reads'8.Asked,
-  Reads'8.Learnt,
-  Reads'9.Asked,
-  Reads'9.Learnt,
-  Reads'4.Asked,
-  Reads'4.Learnt,
-  Reads'7.Asked,
-  Reads'7.Learnt,
-) Reads'3.Pre Reads'3.Post
+Else2 = Lts.Else2 callees Reads'3.Pre Reads'3.Post
 
 abbrev pub After-is-wrong-arg : Type 0
-After-is-wrong-arg = Lts.After-is-wrong-arg (
-  Reads.Asked,
-  Reads.Learnt,
-  Reads''.Asked,
-  Reads''.Learnt,
-  Reads'6.Asked,
-  Reads'6.Learnt,
-  Reads'5.Asked,
-  Reads'5.Learnt,
-  Reads'.Asked,
-  Reads'.Learnt,
-  Reads'8.Asked,
-  Reads'8.Learnt,
-  Reads'9.Asked,
-  Reads'9.Learnt,
-  Reads'4.Asked,
-  Reads'4.Learnt,
-  Reads'7.Asked,
-  Reads'7.Learnt,
-) Reads'3.Pre Reads'3.Post
+After-is-wrong-arg = Lts.After-is-wrong-arg callees Reads'3.Pre Reads'3.Post
 
 abbrev pub After-is-wrong-arg2 : Type 0
-After-is-wrong-arg2 = Lts.After-is-wrong-arg2 (
-  Reads.Asked,
-  Reads.Learnt,
-  Reads''.Asked,
-  Reads''.Learnt,
-  Reads'6.Asked,
-  Reads'6.Learnt,
-  Reads'5.Asked,
-  Reads'5.Learnt,
-  Reads'.Asked,
-  Reads'.Learnt,
-  Reads'8.Asked,
-  Reads'8.Learnt,
-  Reads'9.Asked,
-  Reads'9.Learnt,
-  Reads'4.Asked,
-  Reads'4.Learnt,
-  Reads'7.Asked,
-  Reads'7.Learnt,
-) Reads'3.Pre Reads'3.Post
+After-is-wrong-arg2 = Lts.After-is-wrong-arg2 callees Reads'3.Pre Reads'3.Post
 
 abbrev pub After-is-wrong : Type 0
-After-is-wrong = Lts.After-is-wrong (
-  Reads.Asked,
-  Reads.Learnt,
-  Reads''.Asked,
-  Reads''.Learnt,
-  Reads'6.Asked,
-  Reads'6.Learnt,
-  Reads'5.Asked,
-  Reads'5.Learnt,
-  Reads'.Asked,
-  Reads'.Learnt,
-  Reads'8.Asked,
-  Reads'8.Learnt,
-  Reads'9.Asked,
-  Reads'9.Learnt,
-  Reads'4.Asked,
-  Reads'4.Learnt,
-  Reads'7.Asked,
-  Reads'7.Learnt,
-) Reads'3.Pre Reads'3.Post
+After-is-wrong = Lts.After-is-wrong callees Reads'3.Pre Reads'3.Post
 
 abbrev pub Then3 : Type 0
-Then3 = Lts.Then3 (
-  Reads.Asked,
-  Reads.Learnt,
-  Reads''.Asked,
-  Reads''.Learnt,
-  Reads'6.Asked,
-  Reads'6.Learnt,
-  Reads'5.Asked,
-  Reads'5.Learnt,
-  Reads'.Asked,
-  Reads'.Learnt,
-  Reads'8.Asked,
-  Reads'8.Learnt,
-  Reads'9.Asked,
-  Reads'9.Learnt,
-  Reads'4.Asked,
-  Reads'4.Learnt,
-  Reads'7.Asked,
-  Reads'7.Learnt,
-) Reads'3.Pre Reads'3.Post
+Then3 = Lts.Then3 callees Reads'3.Pre Reads'3.Post
 
 abbrev pub After-wrong-state : Type 0
-After-wrong-state = Lts.After-wrong-state (
-  Reads.Asked,
-  Reads.Learnt,
-  Reads''.Asked,
-  Reads''.Learnt,
-  Reads'6.Asked,
-  Reads'6.Learnt,
-  Reads'5.Asked,
-  Reads'5.Learnt,
-  Reads'.Asked,
-  Reads'.Learnt,
-  Reads'8.Asked,
-  Reads'8.Learnt,
-  Reads'9.Asked,
-  Reads'9.Learnt,
-  Reads'4.Asked,
-  Reads'4.Learnt,
-  Reads'7.Asked,
-  Reads'7.Learnt,
-) Reads'3.Pre Reads'3.Post
+After-wrong-state = Lts.After-wrong-state callees Reads'3.Pre Reads'3.Post
 
 abbrev pub After-refused3 : Type 0
-After-refused3 = Lts.After-refused3 (
-  Reads.Asked,
-  Reads.Learnt,
-  Reads''.Asked,
-  Reads''.Learnt,
-  Reads'6.Asked,
-  Reads'6.Learnt,
-  Reads'5.Asked,
-  Reads'5.Learnt,
-  Reads'.Asked,
-  Reads'.Learnt,
-  Reads'8.Asked,
-  Reads'8.Learnt,
-  Reads'9.Asked,
-  Reads'9.Learnt,
-  Reads'4.Asked,
-  Reads'4.Learnt,
-  Reads'7.Asked,
-  Reads'7.Learnt,
-) Reads'3.Pre Reads'3.Post
+After-refused3 = Lts.After-refused3 callees Reads'3.Pre Reads'3.Post
 
 abbrev pub Else3 : Type 0
-Else3 = Lts.Else3 (
-  Reads.Asked,
-  Reads.Learnt,
-  Reads''.Asked,
-  Reads''.Learnt,
-  Reads'6.Asked,
-  Reads'6.Learnt,
-  Reads'5.Asked,
-  Reads'5.Learnt,
-  Reads'.Asked,
-  Reads'.Learnt,
-  Reads'8.Asked,
-  Reads'8.Learnt,
-  Reads'9.Asked,
-  Reads'9.Learnt,
-  Reads'4.Asked,
-  Reads'4.Learnt,
-  Reads'7.Asked,
-  Reads'7.Learnt,
-) Reads'3.Pre Reads'3.Post
+Else3 = Lts.Else3 callees Reads'3.Pre Reads'3.Post
 
 abbrev pub After-take-start-arg : Type 0
-After-take-start-arg = Lts.After-take-start-arg (
-  Reads.Asked,
-  Reads.Learnt,
-  Reads''.Asked,
-  Reads''.Learnt,
-  Reads'6.Asked,
-  Reads'6.Learnt,
-  Reads'5.Asked,
-  Reads'5.Learnt,
-  Reads'.Asked,
-  Reads'.Learnt,
-  Reads'8.Asked,
-  Reads'8.Learnt,
-  Reads'9.Asked,
-  Reads'9.Learnt,
-  Reads'4.Asked,
-  Reads'4.Learnt,
-  Reads'7.Asked,
-  Reads'7.Learnt,
-) Reads'3.Pre Reads'3.Post
+After-take-start-arg = Lts.After-take-start-arg callees Reads'3.Pre Reads'3.Post
 
 abbrev pub After-take-start-arg2 : Type 0
-After-take-start-arg2 = Lts.After-take-start-arg2 (
-  Reads.Asked,
-  Reads.Learnt,
-  Reads''.Asked,
-  Reads''.Learnt,
-  Reads'6.Asked,
-  Reads'6.Learnt,
-  Reads'5.Asked,
-  Reads'5.Learnt,
-  Reads'.Asked,
-  Reads'.Learnt,
-  Reads'8.Asked,
-  Reads'8.Learnt,
-  Reads'9.Asked,
-  Reads'9.Learnt,
-  Reads'4.Asked,
-  Reads'4.Learnt,
-  Reads'7.Asked,
-  Reads'7.Learnt,
-) Reads'3.Pre Reads'3.Post
+After-take-start-arg2 = Lts.After-take-start-arg2 callees Reads'3.Pre Reads'3.Post
 
 abbrev pub After-take-start-arg3 : Type 0
-After-take-start-arg3 = Lts.After-take-start-arg3 (
-  Reads.Asked,
-  Reads.Learnt,
-  Reads''.Asked,
-  Reads''.Learnt,
-  Reads'6.Asked,
-  Reads'6.Learnt,
-  Reads'5.Asked,
-  Reads'5.Learnt,
-  Reads'.Asked,
-  Reads'.Learnt,
-  Reads'8.Asked,
-  Reads'8.Learnt,
-  Reads'9.Asked,
-  Reads'9.Learnt,
-  Reads'4.Asked,
-  Reads'4.Learnt,
-  Reads'7.Asked,
-  Reads'7.Learnt,
-) Reads'3.Pre Reads'3.Post
+After-take-start-arg3 = Lts.After-take-start-arg3 callees Reads'3.Pre Reads'3.Post
 
 abbrev pub After-take-start-arg4 : Type 0
-After-take-start-arg4 = Lts.After-take-start-arg4 (
-  Reads.Asked,
-  Reads.Learnt,
-  Reads''.Asked,
-  Reads''.Learnt,
-  Reads'6.Asked,
-  Reads'6.Learnt,
-  Reads'5.Asked,
-  Reads'5.Learnt,
-  Reads'.Asked,
-  Reads'.Learnt,
-  Reads'8.Asked,
-  Reads'8.Learnt,
-  Reads'9.Asked,
-  Reads'9.Learnt,
-  Reads'4.Asked,
-  Reads'4.Learnt,
-  Reads'7.Asked,
-  Reads'7.Learnt,
-) Reads'3.Pre Reads'3.Post
+After-take-start-arg4 = Lts.After-take-start-arg4 callees Reads'3.Pre Reads'3.Post
 
 abbrev pub After-targets-of : Type 0
-After-targets-of = Lts.After-targets-of (
-  Reads.Asked,
-  Reads.Learnt,
-  Reads''.Asked,
-  Reads''.Learnt,
-  Reads'6.Asked,
-  Reads'6.Learnt,
-  Reads'5.Asked,
-  Reads'5.Learnt,
-  Reads'.Asked,
-  Reads'.Learnt,
-  Reads'8.Asked,
-  Reads'8.Learnt,
-  Reads'9.Asked,
-  Reads'9.Learnt,
-  Reads'4.Asked,
-  Reads'4.Learnt,
-  Reads'7.Asked,
-  Reads'7.Learnt,
-) Reads'3.Pre Reads'3.Post
+After-targets-of = Lts.After-targets-of callees Reads'3.Pre Reads'3.Post
 
 abbrev pub After-take-start : Type 0
-After-take-start = Lts.After-take-start (
-  Reads.Asked,
-  Reads.Learnt,
-  Reads''.Asked,
-  Reads''.Learnt,
-  Reads'6.Asked,
-  Reads'6.Learnt,
-  Reads'5.Asked,
-  Reads'5.Learnt,
-  Reads'.Asked,
-  Reads'.Learnt,
-  Reads'8.Asked,
-  Reads'8.Learnt,
-  Reads'9.Asked,
-  Reads'9.Learnt,
-  Reads'4.Asked,
-  Reads'4.Learnt,
-  Reads'7.Asked,
-  Reads'7.Learnt,
-) Reads'3.Pre Reads'3.Post
+After-take-start = Lts.After-take-start callees Reads'3.Pre Reads'3.Post
 
 abbrev pub After-instances : Type 0
-After-instances = Lts.After-instances (
-  Reads.Asked,
-  Reads.Learnt,
-  Reads''.Asked,
-  Reads''.Learnt,
-  Reads'6.Asked,
-  Reads'6.Learnt,
-  Reads'5.Asked,
-  Reads'5.Learnt,
-  Reads'.Asked,
-  Reads'.Learnt,
-  Reads'8.Asked,
-  Reads'8.Learnt,
-  Reads'9.Asked,
-  Reads'9.Learnt,
-  Reads'4.Asked,
-  Reads'4.Learnt,
-  Reads'7.Asked,
-  Reads'7.Learnt,
-) Reads'3.Pre Reads'3.Post
+After-instances = Lts.After-instances callees Reads'3.Pre Reads'3.Post
 
 abbrev pub After-routes : Type 0
-After-routes = Lts.After-routes (
-  Reads.Asked,
-  Reads.Learnt,
-  Reads''.Asked,
-  Reads''.Learnt,
-  Reads'6.Asked,
-  Reads'6.Learnt,
-  Reads'5.Asked,
-  Reads'5.Learnt,
-  Reads'.Asked,
-  Reads'.Learnt,
-  Reads'8.Asked,
-  Reads'8.Learnt,
-  Reads'9.Asked,
-  Reads'9.Learnt,
-  Reads'4.Asked,
-  Reads'4.Learnt,
-  Reads'7.Asked,
-  Reads'7.Learnt,
-) Reads'3.Pre Reads'3.Post
+After-routes = Lts.After-routes callees Reads'3.Pre Reads'3.Post
 
 abbrev pub After-forward : Type 0
-After-forward = Lts.After-forward (
-  Reads.Asked,
-  Reads.Learnt,
-  Reads''.Asked,
-  Reads''.Learnt,
-  Reads'6.Asked,
-  Reads'6.Learnt,
-  Reads'5.Asked,
-  Reads'5.Learnt,
-  Reads'.Asked,
-  Reads'.Learnt,
-  Reads'8.Asked,
-  Reads'8.Learnt,
-  Reads'9.Asked,
-  Reads'9.Learnt,
-  Reads'4.Asked,
-  Reads'4.Learnt,
-  Reads'7.Asked,
-  Reads'7.Learnt,
-) Reads'3.Pre Reads'3.Post
+After-forward = Lts.After-forward callees Reads'3.Pre Reads'3.Post
 
 abbrev pub After-slice-known3 : Type 0
-After-slice-known3 = Lts.After-slice-known3 (
-  Reads.Asked,
-  Reads.Learnt,
-  Reads''.Asked,
-  Reads''.Learnt,
-  Reads'6.Asked,
-  Reads'6.Learnt,
-  Reads'5.Asked,
-  Reads'5.Learnt,
-  Reads'.Asked,
-  Reads'.Learnt,
-  Reads'8.Asked,
-  Reads'8.Learnt,
-  Reads'9.Asked,
-  Reads'9.Learnt,
-  Reads'4.Asked,
-  Reads'4.Learnt,
-  Reads'7.Asked,
-  Reads'7.Learnt,
-) Reads'3.Pre Reads'3.Post
+After-slice-known3 = Lts.After-slice-known3 callees Reads'3.Pre Reads'3.Post
 
 abbrev pub After-reply : Type 0
-After-reply = Lts.After-reply (
-  Reads.Asked,
-  Reads.Learnt,
-  Reads''.Asked,
-  Reads''.Learnt,
-  Reads'6.Asked,
-  Reads'6.Learnt,
-  Reads'5.Asked,
-  Reads'5.Learnt,
-  Reads'.Asked,
-  Reads'.Learnt,
-  Reads'8.Asked,
-  Reads'8.Learnt,
-  Reads'9.Asked,
-  Reads'9.Learnt,
-  Reads'4.Asked,
-  Reads'4.Learnt,
-  Reads'7.Asked,
-  Reads'7.Learnt,
-) Reads'3.Pre Reads'3.Post
+After-reply = Lts.After-reply callees Reads'3.Pre Reads'3.Post
 
 abbrev pub After-slice-known4 : Type 0
-After-slice-known4 = Lts.After-slice-known4 (
-  Reads.Asked,
-  Reads.Learnt,
-  Reads''.Asked,
-  Reads''.Learnt,
-  Reads'6.Asked,
-  Reads'6.Learnt,
-  Reads'5.Asked,
-  Reads'5.Learnt,
-  Reads'.Asked,
-  Reads'.Learnt,
-  Reads'8.Asked,
-  Reads'8.Learnt,
-  Reads'9.Asked,
-  Reads'9.Learnt,
-  Reads'4.Asked,
-  Reads'4.Learnt,
-  Reads'7.Asked,
-  Reads'7.Learnt,
-) Reads'3.Pre Reads'3.Post
+After-slice-known4 = Lts.After-slice-known4 callees Reads'3.Pre Reads'3.Post
 
 abbrev pub Need-is-bad-requires : Type 0
-Need-is-bad-requires = Lts.Need-is-bad-requires (
-  Reads.Asked,
-  Reads.Learnt,
-  Reads''.Asked,
-  Reads''.Learnt,
-  Reads'6.Asked,
-  Reads'6.Learnt,
-  Reads'5.Asked,
-  Reads'5.Learnt,
-  Reads'.Asked,
-  Reads'.Learnt,
-  Reads'8.Asked,
-  Reads'8.Learnt,
-  Reads'9.Asked,
-  Reads'9.Learnt,
-  Reads'4.Asked,
-  Reads'4.Learnt,
-  Reads'7.Asked,
-  Reads'7.Learnt,
-) Reads'3.Pre Reads'3.Post
+Need-is-bad-requires = Lts.Need-is-bad-requires callees Reads'3.Pre Reads'3.Post
 
 abbrev pub Need-bad-call-requires : Type 0
-Need-bad-call-requires = Lts.Need-bad-call-requires (
-  Reads.Asked,
-  Reads.Learnt,
-  Reads''.Asked,
-  Reads''.Learnt,
-  Reads'6.Asked,
-  Reads'6.Learnt,
-  Reads'5.Asked,
-  Reads'5.Learnt,
-  Reads'.Asked,
-  Reads'.Learnt,
-  Reads'8.Asked,
-  Reads'8.Learnt,
-  Reads'9.Asked,
-  Reads'9.Learnt,
-  Reads'4.Asked,
-  Reads'4.Learnt,
-  Reads'7.Asked,
-  Reads'7.Learnt,
-) Reads'3.Pre Reads'3.Post
+Need-bad-call-requires = Lts.Need-bad-call-requires callees Reads'3.Pre Reads'3.Post
 
 abbrev pub Need-refused-requires : Type 0
-Need-refused-requires = Lts.Need-refused-requires (
-  Reads.Asked,
-  Reads.Learnt,
-  Reads''.Asked,
-  Reads''.Learnt,
-  Reads'6.Asked,
-  Reads'6.Learnt,
-  Reads'5.Asked,
-  Reads'5.Learnt,
-  Reads'.Asked,
-  Reads'.Learnt,
-  Reads'8.Asked,
-  Reads'8.Learnt,
-  Reads'9.Asked,
-  Reads'9.Learnt,
-  Reads'4.Asked,
-  Reads'4.Learnt,
-  Reads'7.Asked,
-  Reads'7.Learnt,
-) Reads'3.Pre Reads'3.Post
+Need-refused-requires = Lts.Need-refused-requires callees Reads'3.Pre Reads'3.Post
 
 abbrev pub Need-returns : Type 0
-Need-returns = Lts.Need-returns (
-  Reads.Asked,
-  Reads.Learnt,
-  Reads''.Asked,
-  Reads''.Learnt,
-  Reads'6.Asked,
-  Reads'6.Learnt,
-  Reads'5.Asked,
-  Reads'5.Learnt,
-  Reads'.Asked,
-  Reads'.Learnt,
-  Reads'8.Asked,
-  Reads'8.Learnt,
-  Reads'9.Asked,
-  Reads'9.Learnt,
-  Reads'4.Asked,
-  Reads'4.Learnt,
-  Reads'7.Asked,
-  Reads'7.Learnt,
-) Reads'3.Pre Reads'3.Post
+Need-returns = Lts.Need-returns callees Reads'3.Pre Reads'3.Post
 
 abbrev pub Need-gather-requires : Type 0
-Need-gather-requires = Lts.Need-gather-requires (
-  Reads.Asked,
-  Reads.Learnt,
-  Reads''.Asked,
-  Reads''.Learnt,
-  Reads'6.Asked,
-  Reads'6.Learnt,
-  Reads'5.Asked,
-  Reads'5.Learnt,
-  Reads'.Asked,
-  Reads'.Learnt,
-  Reads'8.Asked,
-  Reads'8.Learnt,
-  Reads'9.Asked,
-  Reads'9.Learnt,
-  Reads'4.Asked,
-  Reads'4.Learnt,
-  Reads'7.Asked,
-  Reads'7.Learnt,
-) Reads'3.Pre Reads'3.Post
+Need-gather-requires = Lts.Need-gather-requires callees Reads'3.Pre Reads'3.Post
 
 abbrev pub Need-is-bad-start-requires : Type 0
-Need-is-bad-start-requires = Lts.Need-is-bad-start-requires (
-  Reads.Asked,
-  Reads.Learnt,
-  Reads''.Asked,
-  Reads''.Learnt,
-  Reads'6.Asked,
-  Reads'6.Learnt,
-  Reads'5.Asked,
-  Reads'5.Learnt,
-  Reads'.Asked,
-  Reads'.Learnt,
-  Reads'8.Asked,
-  Reads'8.Learnt,
-  Reads'9.Asked,
-  Reads'9.Learnt,
-  Reads'4.Asked,
-  Reads'4.Learnt,
-  Reads'7.Asked,
-  Reads'7.Learnt,
-) Reads'3.Pre Reads'3.Post
+Need-is-bad-start-requires = Lts.Need-is-bad-start-requires callees Reads'3.Pre Reads'3.Post
 
 abbrev pub Need-bad-call-requires-2 : Type 0
-Need-bad-call-requires-2 = Lts.Need-bad-call-requires-2 (
-  Reads.Asked,
-  Reads.Learnt,
-  Reads''.Asked,
-  Reads''.Learnt,
-  Reads'6.Asked,
-  Reads'6.Learnt,
-  Reads'5.Asked,
-  Reads'5.Learnt,
-  Reads'.Asked,
-  Reads'.Learnt,
-  Reads'8.Asked,
-  Reads'8.Learnt,
-  Reads'9.Asked,
-  Reads'9.Learnt,
-  Reads'4.Asked,
-  Reads'4.Learnt,
-  Reads'7.Asked,
-  Reads'7.Learnt,
-) Reads'3.Pre Reads'3.Post
+Need-bad-call-requires-2 = Lts.Need-bad-call-requires-2 callees Reads'3.Pre Reads'3.Post
 
 abbrev pub Need-refused-requires-2 : Type 0
-Need-refused-requires-2 = Lts.Need-refused-requires-2 (
-  Reads.Asked,
-  Reads.Learnt,
-  Reads''.Asked,
-  Reads''.Learnt,
-  Reads'6.Asked,
-  Reads'6.Learnt,
-  Reads'5.Asked,
-  Reads'5.Learnt,
-  Reads'.Asked,
-  Reads'.Learnt,
-  Reads'8.Asked,
-  Reads'8.Learnt,
-  Reads'9.Asked,
-  Reads'9.Learnt,
-  Reads'4.Asked,
-  Reads'4.Learnt,
-  Reads'7.Asked,
-  Reads'7.Learnt,
-) Reads'3.Pre Reads'3.Post
+Need-refused-requires-2 = Lts.Need-refused-requires-2 callees Reads'3.Pre Reads'3.Post
 
 abbrev pub Need-returns-2 : Type 0
-Need-returns-2 = Lts.Need-returns-2 (
-  Reads.Asked,
-  Reads.Learnt,
-  Reads''.Asked,
-  Reads''.Learnt,
-  Reads'6.Asked,
-  Reads'6.Learnt,
-  Reads'5.Asked,
-  Reads'5.Learnt,
-  Reads'.Asked,
-  Reads'.Learnt,
-  Reads'8.Asked,
-  Reads'8.Learnt,
-  Reads'9.Asked,
-  Reads'9.Learnt,
-  Reads'4.Asked,
-  Reads'4.Learnt,
-  Reads'7.Asked,
-  Reads'7.Learnt,
-) Reads'3.Pre Reads'3.Post
+Need-returns-2 = Lts.Need-returns-2 callees Reads'3.Pre Reads'3.Post
 
 abbrev pub Need-is-wrong-requires : Type 0
-Need-is-wrong-requires = Lts.Need-is-wrong-requires (
-  Reads.Asked,
-  Reads.Learnt,
-  Reads''.Asked,
-  Reads''.Learnt,
-  Reads'6.Asked,
-  Reads'6.Learnt,
-  Reads'5.Asked,
-  Reads'5.Learnt,
-  Reads'.Asked,
-  Reads'.Learnt,
-  Reads'8.Asked,
-  Reads'8.Learnt,
-  Reads'9.Asked,
-  Reads'9.Learnt,
-  Reads'4.Asked,
-  Reads'4.Learnt,
-  Reads'7.Asked,
-  Reads'7.Learnt,
-) Reads'3.Pre Reads'3.Post
+Need-is-wrong-requires = Lts.Need-is-wrong-requires callees Reads'3.Pre Reads'3.Post
 
 abbrev pub Need-wrong-state-requires : Type 0
-Need-wrong-state-requires = Lts.Need-wrong-state-requires (
-  Reads.Asked,
-  Reads.Learnt,
-  Reads''.Asked,
-  Reads''.Learnt,
-  Reads'6.Asked,
-  Reads'6.Learnt,
-  Reads'5.Asked,
-  Reads'5.Learnt,
-  Reads'.Asked,
-  Reads'.Learnt,
-  Reads'8.Asked,
-  Reads'8.Learnt,
-  Reads'9.Asked,
-  Reads'9.Learnt,
-  Reads'4.Asked,
-  Reads'4.Learnt,
-  Reads'7.Asked,
-  Reads'7.Learnt,
-) Reads'3.Pre Reads'3.Post
+Need-wrong-state-requires = Lts.Need-wrong-state-requires callees Reads'3.Pre Reads'3.Post
 
 abbrev pub Need-refused-requires-3 : Type 0
-Need-refused-requires-3 = Lts.Need-refused-requires-3 (
-  Reads.Asked,
-  Reads.Learnt,
-  Reads''.Asked,
-  Reads''.Learnt,
-  Reads'6.Asked,
-  Reads'6.Learnt,
-  Reads'5.Asked,
-  Reads'5.Learnt,
-  Reads'.Asked,
-  Reads'.Learnt,
-  Reads'8.Asked,
-  Reads'8.Learnt,
-  Reads'9.Asked,
-  Reads'9.Learnt,
-  Reads'4.Asked,
-  Reads'4.Learnt,
-  Reads'7.Asked,
-  Reads'7.Learnt,
-) Reads'3.Pre Reads'3.Post
+Need-refused-requires-3 = Lts.Need-refused-requires-3 callees Reads'3.Pre Reads'3.Post
 
 abbrev pub Need-same-length : Type 0
-Need-same-length = Lts.Need-same-length (
-  Reads.Asked,
-  Reads.Learnt,
-  Reads''.Asked,
-  Reads''.Learnt,
-  Reads'6.Asked,
-  Reads'6.Learnt,
-  Reads'5.Asked,
-  Reads'5.Learnt,
-  Reads'.Asked,
-  Reads'.Learnt,
-  Reads'8.Asked,
-  Reads'8.Learnt,
-  Reads'9.Asked,
-  Reads'9.Learnt,
-  Reads'4.Asked,
-  Reads'4.Learnt,
-  Reads'7.Asked,
-  Reads'7.Learnt,
-) Reads'3.Pre Reads'3.Post
+Need-same-length = Lts.Need-same-length callees Reads'3.Pre Reads'3.Post
 
 abbrev pub Need-same-length-2 : Type 0
-Need-same-length-2 = Lts.Need-same-length-2 (
-  Reads.Asked,
-  Reads.Learnt,
-  Reads''.Asked,
-  Reads''.Learnt,
-  Reads'6.Asked,
-  Reads'6.Learnt,
-  Reads'5.Asked,
-  Reads'5.Learnt,
-  Reads'.Asked,
-  Reads'.Learnt,
-  Reads'8.Asked,
-  Reads'8.Learnt,
-  Reads'9.Asked,
-  Reads'9.Learnt,
-  Reads'4.Asked,
-  Reads'4.Learnt,
-  Reads'7.Asked,
-  Reads'7.Learnt,
-) Reads'3.Pre Reads'3.Post
+Need-same-length-2 = Lts.Need-same-length-2 callees Reads'3.Pre Reads'3.Post
 
 abbrev pub Need-returns-3 : Type 0
-Need-returns-3 = Lts.Need-returns-3 (
-  Reads.Asked,
-  Reads.Learnt,
-  Reads''.Asked,
-  Reads''.Learnt,
-  Reads'6.Asked,
-  Reads'6.Learnt,
-  Reads'5.Asked,
-  Reads'5.Learnt,
-  Reads'.Asked,
-  Reads'.Learnt,
-  Reads'8.Asked,
-  Reads'8.Learnt,
-  Reads'9.Asked,
-  Reads'9.Learnt,
-  Reads'4.Asked,
-  Reads'4.Learnt,
-  Reads'7.Asked,
-  Reads'7.Learnt,
-) Reads'3.Pre Reads'3.Post
+Need-returns-3 = Lts.Need-returns-3 callees Reads'3.Pre Reads'3.Post
 
 abbrev pub Need-targets-of-requires : Type 0
-Need-targets-of-requires = Lts.Need-targets-of-requires (
-  Reads.Asked,
-  Reads.Learnt,
-  Reads''.Asked,
-  Reads''.Learnt,
-  Reads'6.Asked,
-  Reads'6.Learnt,
-  Reads'5.Asked,
-  Reads'5.Learnt,
-  Reads'.Asked,
-  Reads'.Learnt,
-  Reads'8.Asked,
-  Reads'8.Learnt,
-  Reads'9.Asked,
-  Reads'9.Learnt,
-  Reads'4.Asked,
-  Reads'4.Learnt,
-  Reads'7.Asked,
-  Reads'7.Learnt,
-) Reads'3.Pre Reads'3.Post
+Need-targets-of-requires = Lts.Need-targets-of-requires callees Reads'3.Pre Reads'3.Post
 
 abbrev pub Need-take-start-requires : Type 0
-Need-take-start-requires = Lts.Need-take-start-requires (
-  Reads.Asked,
-  Reads.Learnt,
-  Reads''.Asked,
-  Reads''.Learnt,
-  Reads'6.Asked,
-  Reads'6.Learnt,
-  Reads'5.Asked,
-  Reads'5.Learnt,
-  Reads'.Asked,
-  Reads'.Learnt,
-  Reads'8.Asked,
-  Reads'8.Learnt,
-  Reads'9.Asked,
-  Reads'9.Learnt,
-  Reads'4.Asked,
-  Reads'4.Learnt,
-  Reads'7.Asked,
-  Reads'7.Learnt,
-) Reads'3.Pre Reads'3.Post
+Need-take-start-requires = Lts.Need-take-start-requires callees Reads'3.Pre Reads'3.Post
 
 abbrev pub Need-same-length-3 : Type 0
-Need-same-length-3 = Lts.Need-same-length-3 (
-  Reads.Asked,
-  Reads.Learnt,
-  Reads''.Asked,
-  Reads''.Learnt,
-  Reads'6.Asked,
-  Reads'6.Learnt,
-  Reads'5.Asked,
-  Reads'5.Learnt,
-  Reads'.Asked,
-  Reads'.Learnt,
-  Reads'8.Asked,
-  Reads'8.Learnt,
-  Reads'9.Asked,
-  Reads'9.Learnt,
-  Reads'4.Asked,
-  Reads'4.Learnt,
-  Reads'7.Asked,
-  Reads'7.Learnt,
-) Reads'3.Pre Reads'3.Post
+Need-same-length-3 = Lts.Need-same-length-3 callees Reads'3.Pre Reads'3.Post
 
 abbrev pub Need-same-length-4 : Type 0
-Need-same-length-4 = Lts.Need-same-length-4 (
-  Reads.Asked,
-  Reads.Learnt,
-  Reads''.Asked,
-  Reads''.Learnt,
-  Reads'6.Asked,
-  Reads'6.Learnt,
-  Reads'5.Asked,
-  Reads'5.Learnt,
-  Reads'.Asked,
-  Reads'.Learnt,
-  Reads'8.Asked,
-  Reads'8.Learnt,
-  Reads'9.Asked,
-  Reads'9.Learnt,
-  Reads'4.Asked,
-  Reads'4.Learnt,
-  Reads'7.Asked,
-  Reads'7.Learnt,
-) Reads'3.Pre Reads'3.Post
+Need-same-length-4 = Lts.Need-same-length-4 callees Reads'3.Pre Reads'3.Post
 
 abbrev pub Need-same-length-5 : Type 0
-Need-same-length-5 = Lts.Need-same-length-5 (
-  Reads.Asked,
-  Reads.Learnt,
-  Reads''.Asked,
-  Reads''.Learnt,
-  Reads'6.Asked,
-  Reads'6.Learnt,
-  Reads'5.Asked,
-  Reads'5.Learnt,
-  Reads'.Asked,
-  Reads'.Learnt,
-  Reads'8.Asked,
-  Reads'8.Learnt,
-  Reads'9.Asked,
-  Reads'9.Learnt,
-  Reads'4.Asked,
-  Reads'4.Learnt,
-  Reads'7.Asked,
-  Reads'7.Learnt,
-) Reads'3.Pre Reads'3.Post
+Need-same-length-5 = Lts.Need-same-length-5 callees Reads'3.Pre Reads'3.Post
 
 abbrev pub Need-same-length-6 : Type 0
-Need-same-length-6 = Lts.Need-same-length-6 (
-  Reads.Asked,
-  Reads.Learnt,
-  Reads''.Asked,
-  Reads''.Learnt,
-  Reads'6.Asked,
-  Reads'6.Learnt,
-  Reads'5.Asked,
-  Reads'5.Learnt,
-  Reads'.Asked,
-  Reads'.Learnt,
-  Reads'8.Asked,
-  Reads'8.Learnt,
-  Reads'9.Asked,
-  Reads'9.Learnt,
-  Reads'4.Asked,
-  Reads'4.Learnt,
-  Reads'7.Asked,
-  Reads'7.Learnt,
-) Reads'3.Pre Reads'3.Post
+Need-same-length-6 = Lts.Need-same-length-6 callees Reads'3.Pre Reads'3.Post
 
 abbrev pub Need-returns-4 : Type 0
-Need-returns-4 = Lts.Need-returns-4 (
-  Reads.Asked,
-  Reads.Learnt,
-  Reads''.Asked,
-  Reads''.Learnt,
-  Reads'6.Asked,
-  Reads'6.Learnt,
-  Reads'5.Asked,
-  Reads'5.Learnt,
-  Reads'.Asked,
-  Reads'.Learnt,
-  Reads'8.Asked,
-  Reads'8.Learnt,
-  Reads'9.Asked,
-  Reads'9.Learnt,
-  Reads'4.Asked,
-  Reads'4.Learnt,
-  Reads'7.Asked,
-  Reads'7.Learnt,
-) Reads'3.Pre Reads'3.Post
+Need-returns-4 = Lts.Need-returns-4 callees Reads'3.Pre Reads'3.Post
 
 module _ {M : Type 1} where
   pub spec :
@@ -1270,49 +228,11 @@ module _ {M : Type 1} where
       (answer : Need-same-length-5) →
       (answer : Need-same-length-6) →
       (answer : Need-returns-4) →
-      Lts.Closed (
-        Reads.Asked,
-        Reads.Learnt,
-        Reads''.Asked,
-        Reads''.Learnt,
-        Reads'6.Asked,
-        Reads'6.Learnt,
-        Reads'5.Asked,
-        Reads'5.Learnt,
-        Reads'.Asked,
-        Reads'.Learnt,
-        Reads'8.Asked,
-        Reads'8.Learnt,
-        Reads'9.Asked,
-        Reads'9.Learnt,
-        Reads'4.Asked,
-        Reads'4.Learnt,
-        Reads'7.Asked,
-        Reads'7.Learnt,
-      ) Reads'3.Pre Reads'3.Post M
+      Lts.Closed callees Reads'3.Pre Reads'3.Post M
   spec =
       λ answer answer' answer'' answer'3 answer'4 answer'5 answer'6 answer'7 answer'8 answer'9
       answer'10 answer'11 answer'12 answer'13 answer'14 answer'15 answer'16 answer'17 answer'18
-      answer'19 answer'20 answer'21. Lts.spec (
-        Reads.Asked,
-        Reads.Learnt,
-        Reads''.Asked,
-        Reads''.Learnt,
-        Reads'6.Asked,
-        Reads'6.Learnt,
-        Reads'5.Asked,
-        Reads'5.Learnt,
-        Reads'.Asked,
-        Reads'.Learnt,
-        Reads'8.Asked,
-        Reads'8.Learnt,
-        Reads'9.Asked,
-        Reads'9.Learnt,
-        Reads'4.Asked,
-        Reads'4.Learnt,
-        Reads'7.Asked,
-        Reads'7.Learnt,
-      )
+      answer'19 answer'20 answer'21. Lts.spec callees
       Reads'3.Pre
       Reads'3.Post
       answer
@@ -1338,26 +258,7 @@ module _ {M : Type 1} where
       answer'20
       answer'21
 
-  pub close : Lts.Closed (
-    Reads.Asked,
-    Reads.Learnt,
-    Reads''.Asked,
-    Reads''.Learnt,
-    Reads'6.Asked,
-    Reads'6.Learnt,
-    Reads'5.Asked,
-    Reads'5.Learnt,
-    Reads'.Asked,
-    Reads'.Learnt,
-    Reads'8.Asked,
-    Reads'8.Learnt,
-    Reads'9.Asked,
-    Reads'9.Learnt,
-    Reads'4.Asked,
-    Reads'4.Learnt,
-    Reads'7.Asked,
-    Reads'7.Learnt,
-  ) Reads'3.Pre Reads'3.Post M → Statement.statement M
+  pub close : Lts.Closed callees Reads'3.Pre Reads'3.Post M → Statement.statement M
   unfolding Code.routine Running.tablesOf
   close =
       λ closed 𝓤 H 𝓜 𝓖 𝓡. Written.close

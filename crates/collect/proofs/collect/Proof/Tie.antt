@@ -21,173 +21,50 @@ use borrow.Fn.Run
 use borrow.Fn.Written
 use contract.Running
 
+abbrev callees : Lts.Claims
+callees = (Reads'.Asked, Reads'.Learnt, Reads'4.Asked, Reads'4.Learnt, Reads''.Asked, Reads''.Learnt, Reads'3.Asked, Reads'3.Learnt)
+
 abbrev pub Start : Type 0
-Start = Lts.Start (
-  Reads'.Asked,
-  Reads'.Learnt,
-  Reads'4.Asked,
-  Reads'4.Learnt,
-  Reads''.Asked,
-  Reads''.Learnt,
-  Reads'3.Asked,
-  Reads'3.Learnt,
-) Reads.Pre Reads.Post
+Start = Lts.Start callees Reads.Pre Reads.Post
 
 abbrev pub After-is-listed-arg : Type 0
-After-is-listed-arg = Lts.After-is-listed-arg (
-  Reads'.Asked,
-  Reads'.Learnt,
-  Reads'4.Asked,
-  Reads'4.Learnt,
-  Reads''.Asked,
-  Reads''.Learnt,
-  Reads'3.Asked,
-  Reads'3.Learnt,
-) Reads.Pre Reads.Post
+After-is-listed-arg = Lts.After-is-listed-arg callees Reads.Pre Reads.Post
 
 abbrev pub After-is-listed : Type 0
-After-is-listed = Lts.After-is-listed (
-  Reads'.Asked,
-  Reads'.Learnt,
-  Reads'4.Asked,
-  Reads'4.Learnt,
-  Reads''.Asked,
-  Reads''.Learnt,
-  Reads'3.Asked,
-  Reads'3.Learnt,
-) Reads.Pre Reads.Post
+After-is-listed = Lts.After-is-listed callees Reads.Pre Reads.Post
 
 abbrev pub After-place-for : Type 0
-After-place-for = Lts.After-place-for (
-  Reads'.Asked,
-  Reads'.Learnt,
-  Reads'4.Asked,
-  Reads'4.Learnt,
-  Reads''.Asked,
-  Reads''.Learnt,
-  Reads'3.Asked,
-  Reads'3.Learnt,
-) Reads.Pre Reads.Post
+After-place-for = Lts.After-place-for callees Reads.Pre Reads.Post
 
 abbrev pub After-put-target-arg : Type 0
-After-put-target-arg = Lts.After-put-target-arg (
-  Reads'.Asked,
-  Reads'.Learnt,
-  Reads'4.Asked,
-  Reads'4.Learnt,
-  Reads''.Asked,
-  Reads''.Learnt,
-  Reads'3.Asked,
-  Reads'3.Learnt,
-) Reads.Pre Reads.Post
+After-put-target-arg = Lts.After-put-target-arg callees Reads.Pre Reads.Post
 
 abbrev pub After-put-target : Type 0
-After-put-target = Lts.After-put-target (
-  Reads'.Asked,
-  Reads'.Learnt,
-  Reads'4.Asked,
-  Reads'4.Learnt,
-  Reads''.Asked,
-  Reads''.Learnt,
-  Reads'3.Asked,
-  Reads'3.Learnt,
-) Reads.Pre Reads.Post
+After-put-target = Lts.After-put-target callees Reads.Pre Reads.Post
 
 abbrev pub After-list : Type 0
-After-list = Lts.After-list (
-  Reads'.Asked,
-  Reads'.Learnt,
-  Reads'4.Asked,
-  Reads'4.Learnt,
-  Reads''.Asked,
-  Reads''.Learnt,
-  Reads'3.Asked,
-  Reads'3.Learnt,
-) Reads.Pre Reads.Post
+After-list = Lts.After-list callees Reads.Pre Reads.Post
 
 abbrev pub After-counted : Type 0
-After-counted = Lts.After-counted (
-  Reads'.Asked,
-  Reads'.Learnt,
-  Reads'4.Asked,
-  Reads'4.Learnt,
-  Reads''.Asked,
-  Reads''.Learnt,
-  Reads'3.Asked,
-  Reads'3.Learnt,
-) Reads.Pre Reads.Post
+After-counted = Lts.After-counted callees Reads.Pre Reads.Post
 
 abbrev pub Need-is-listed-requires : Type 0
-Need-is-listed-requires = Lts.Need-is-listed-requires (
-  Reads'.Asked,
-  Reads'.Learnt,
-  Reads'4.Asked,
-  Reads'4.Learnt,
-  Reads''.Asked,
-  Reads''.Learnt,
-  Reads'3.Asked,
-  Reads'3.Learnt,
-) Reads.Pre Reads.Post
+Need-is-listed-requires = Lts.Need-is-listed-requires callees Reads.Pre Reads.Post
 
 abbrev pub Need-place-for-requires : Type 0
-Need-place-for-requires = Lts.Need-place-for-requires (
-  Reads'.Asked,
-  Reads'.Learnt,
-  Reads'4.Asked,
-  Reads'4.Learnt,
-  Reads''.Asked,
-  Reads''.Learnt,
-  Reads'3.Asked,
-  Reads'3.Learnt,
-) Reads.Pre Reads.Post
+Need-place-for-requires = Lts.Need-place-for-requires callees Reads.Pre Reads.Post
 
 abbrev pub Need-put-target-requires : Type 0
-Need-put-target-requires = Lts.Need-put-target-requires (
-  Reads'.Asked,
-  Reads'.Learnt,
-  Reads'4.Asked,
-  Reads'4.Learnt,
-  Reads''.Asked,
-  Reads''.Learnt,
-  Reads'3.Asked,
-  Reads'3.Learnt,
-) Reads.Pre Reads.Post
+Need-put-target-requires = Lts.Need-put-target-requires callees Reads.Pre Reads.Post
 
 abbrev pub Need-counted-requires : Type 0
-Need-counted-requires = Lts.Need-counted-requires (
-  Reads'.Asked,
-  Reads'.Learnt,
-  Reads'4.Asked,
-  Reads'4.Learnt,
-  Reads''.Asked,
-  Reads''.Learnt,
-  Reads'3.Asked,
-  Reads'3.Learnt,
-) Reads.Pre Reads.Post
+Need-counted-requires = Lts.Need-counted-requires callees Reads.Pre Reads.Post
 
 abbrev pub Need-same-length : Type 0
-Need-same-length = Lts.Need-same-length (
-  Reads'.Asked,
-  Reads'.Learnt,
-  Reads'4.Asked,
-  Reads'4.Learnt,
-  Reads''.Asked,
-  Reads''.Learnt,
-  Reads'3.Asked,
-  Reads'3.Learnt,
-) Reads.Pre Reads.Post
+Need-same-length = Lts.Need-same-length callees Reads.Pre Reads.Post
 
 abbrev pub Need-returns : Type 0
-Need-returns = Lts.Need-returns (
-  Reads'.Asked,
-  Reads'.Learnt,
-  Reads'4.Asked,
-  Reads'4.Learnt,
-  Reads''.Asked,
-  Reads''.Learnt,
-  Reads'3.Asked,
-  Reads'3.Learnt,
-) Reads.Pre Reads.Post
+Need-returns = Lts.Need-returns callees Reads.Pre Reads.Post
 
 module _ {M : Type 1} where
   pub spec :
@@ -197,37 +74,10 @@ module _ {M : Type 1} where
       (answer : Need-counted-requires) →
       (answer : Need-same-length) →
       (answer : Need-returns) →
-      Lts.Closed (
-        Reads'.Asked,
-        Reads'.Learnt,
-        Reads'4.Asked,
-        Reads'4.Learnt,
-        Reads''.Asked,
-        Reads''.Learnt,
-        Reads'3.Asked,
-        Reads'3.Learnt,
-      ) Reads.Pre Reads.Post M
-  spec = λ answer answer' answer'' answer'3 answer'4 answer'5. Lts.spec (
-    Reads'.Asked,
-    Reads'.Learnt,
-    Reads'4.Asked,
-    Reads'4.Learnt,
-    Reads''.Asked,
-    Reads''.Learnt,
-    Reads'3.Asked,
-    Reads'3.Learnt,
-  ) Reads.Pre Reads.Post answer answer' answer'' answer'3 answer'4 answer'5
+      Lts.Closed callees Reads.Pre Reads.Post M
+  spec = λ answer answer' answer'' answer'3 answer'4 answer'5. Lts.spec callees Reads.Pre Reads.Post answer answer' answer'' answer'3 answer'4 answer'5
 
-  pub close : Lts.Closed (
-    Reads'.Asked,
-    Reads'.Learnt,
-    Reads'4.Asked,
-    Reads'4.Learnt,
-    Reads''.Asked,
-    Reads''.Learnt,
-    Reads'3.Asked,
-    Reads'3.Learnt,
-  ) Reads.Pre Reads.Post M → Statement.statement M
+  pub close : Lts.Closed callees Reads.Pre Reads.Post M → Statement.statement M
   unfolding Code.routine Running.tablesOf
   close =
       λ closed 𝓤 H 𝓜 𝓖 𝓡. Written.close

@@ -21,6 +21,9 @@ use borrow.Fn.Run
 use borrow.Fn.Written
 use contract.Running
 
+abbrev callees : Lts.Claims
+callees = (Reads'4.Asked, Reads'4.Learnt, Reads'3.Asked, Reads'3.Learnt, Reads.Asked, Reads.Learnt, Reads''.Asked, Reads''.Learnt)
+
 abbrev pub InvT-loop : Type 1
 InvT-loop = Lts.InvT-loop
 
@@ -28,244 +31,64 @@ abbrev pub MeasureT-loop : Type 0
 MeasureT-loop = Lts.MeasureT-loop
 
 abbrev pub Start : (Inv : InvT-loop) → (μ : MeasureT-loop) → Type 0
-Start = λ Inv μ. Lts.Start (
-  Reads'4.Asked,
-  Reads'4.Learnt,
-  Reads'3.Asked,
-  Reads'3.Learnt,
-  Reads.Asked,
-  Reads.Learnt,
-  Reads''.Asked,
-  Reads''.Learnt,
-) Reads'.Pre Reads'.Post Inv μ
+Start = λ Inv μ. Lts.Start callees Reads'.Pre Reads'.Post Inv μ
 
 abbrev pub At-loop : (Inv : InvT-loop) → (μ : MeasureT-loop) → Type 0
-At-loop = λ Inv μ. Lts.At-loop (
-  Reads'4.Asked,
-  Reads'4.Learnt,
-  Reads'3.Asked,
-  Reads'3.Learnt,
-  Reads.Asked,
-  Reads.Learnt,
-  Reads''.Asked,
-  Reads''.Learnt,
-) Reads'.Pre Reads'.Post Inv μ
+At-loop = λ Inv μ. Lts.At-loop callees Reads'.Pre Reads'.Post Inv μ
 
 abbrev pub In-loop : (Inv : InvT-loop) → (μ : MeasureT-loop) → Type 0
-In-loop = λ Inv μ. Lts.In-loop (
-  Reads'4.Asked,
-  Reads'4.Learnt,
-  Reads'3.Asked,
-  Reads'3.Learnt,
-  Reads.Asked,
-  Reads.Learnt,
-  Reads''.Asked,
-  Reads''.Learnt,
-) Reads'.Pre Reads'.Post Inv μ
+In-loop = λ Inv μ. Lts.In-loop callees Reads'.Pre Reads'.Post Inv μ
 
 abbrev pub After-loop : (Inv : InvT-loop) → (μ : MeasureT-loop) → Type 0
-After-loop = λ Inv μ. Lts.After-loop (
-  Reads'4.Asked,
-  Reads'4.Learnt,
-  Reads'3.Asked,
-  Reads'3.Learnt,
-  Reads.Asked,
-  Reads.Learnt,
-  Reads''.Asked,
-  Reads''.Learnt,
-) Reads'.Pre Reads'.Post Inv μ
+After-loop = λ Inv μ. Lts.After-loop callees Reads'.Pre Reads'.Post Inv μ
 
 abbrev pub After-plus-delta : (Inv : InvT-loop) → (μ : MeasureT-loop) → Type 0
-After-plus-delta = λ Inv μ. Lts.After-plus-delta (
-  Reads'4.Asked,
-  Reads'4.Learnt,
-  Reads'3.Asked,
-  Reads'3.Learnt,
-  Reads.Asked,
-  Reads.Learnt,
-  Reads''.Asked,
-  Reads''.Learnt,
-) Reads'.Pre Reads'.Post Inv μ
+After-plus-delta = λ Inv μ. Lts.After-plus-delta callees Reads'.Pre Reads'.Post Inv μ
 
 abbrev pub After-find-reply : (Inv : InvT-loop) → (μ : MeasureT-loop) → Type 0
-After-find-reply = λ Inv μ. Lts.After-find-reply (
-  Reads'4.Asked,
-  Reads'4.Learnt,
-  Reads'3.Asked,
-  Reads'3.Learnt,
-  Reads.Asked,
-  Reads.Learnt,
-  Reads''.Asked,
-  Reads''.Learnt,
-) Reads'.Pre Reads'.Post Inv μ
+After-find-reply = λ Inv μ. Lts.After-find-reply callees Reads'.Pre Reads'.Post Inv μ
 
 abbrev pub Then1 : (Inv : InvT-loop) → (μ : MeasureT-loop) → Type 0
-Then1 = λ Inv μ. Lts.Then1 (
-  Reads'4.Asked,
-  Reads'4.Learnt,
-  Reads'3.Asked,
-  Reads'3.Learnt,
-  Reads.Asked,
-  Reads.Learnt,
-  Reads''.Asked,
-  Reads''.Learnt,
-) Reads'.Pre Reads'.Post Inv μ
+Then1 = λ Inv μ. Lts.Then1 callees Reads'.Pre Reads'.Post Inv μ
 
 abbrev pub Else1 : (Inv : InvT-loop) → (μ : MeasureT-loop) → Type 0
-Else1 = λ Inv μ. Lts.Else1 (
-  Reads'4.Asked,
-  Reads'4.Learnt,
-  Reads'3.Asked,
-  Reads'3.Learnt,
-  Reads.Asked,
-  Reads.Learnt,
-  Reads''.Asked,
-  Reads''.Learnt,
-) Reads'.Pre Reads'.Post Inv μ
+Else1 = λ Inv μ. Lts.Else1 callees Reads'.Pre Reads'.Post Inv μ
 
 abbrev pub After-free : (Inv : InvT-loop) → (μ : MeasureT-loop) → Type 0
-After-free = λ Inv μ. Lts.After-free (
-  Reads'4.Asked,
-  Reads'4.Learnt,
-  Reads'3.Asked,
-  Reads'3.Learnt,
-  Reads.Asked,
-  Reads.Learnt,
-  Reads''.Asked,
-  Reads''.Learnt,
-) Reads'.Pre Reads'.Post Inv μ
+After-free = λ Inv μ. Lts.After-free callees Reads'.Pre Reads'.Post Inv μ
 
 abbrev pub After-none-free : (Inv : InvT-loop) → (μ : MeasureT-loop) → Type 0
-After-none-free = λ Inv μ. Lts.After-none-free (
-  Reads'4.Asked,
-  Reads'4.Learnt,
-  Reads'3.Asked,
-  Reads'3.Learnt,
-  Reads.Asked,
-  Reads.Learnt,
-  Reads''.Asked,
-  Reads''.Learnt,
-) Reads'.Pre Reads'.Post Inv μ
+After-none-free = λ Inv μ. Lts.After-none-free callees Reads'.Pre Reads'.Post Inv μ
 
 abbrev pub Need-loop-holds : (Inv : InvT-loop) → (μ : MeasureT-loop) → Type 0
-Need-loop-holds = λ Inv μ. Lts.Need-loop-holds (
-  Reads'4.Asked,
-  Reads'4.Learnt,
-  Reads'3.Asked,
-  Reads'3.Learnt,
-  Reads.Asked,
-  Reads.Learnt,
-  Reads''.Asked,
-  Reads''.Learnt,
-) Reads'.Pre Reads'.Post Inv μ
+Need-loop-holds = λ Inv μ. Lts.Need-loop-holds callees Reads'.Pre Reads'.Post Inv μ
 
 abbrev pub Need-plus-delta-requires : (Inv : InvT-loop) → (μ : MeasureT-loop) → Type 0
-Need-plus-delta-requires = λ Inv μ. Lts.Need-plus-delta-requires (
-  Reads'4.Asked,
-  Reads'4.Learnt,
-  Reads'3.Asked,
-  Reads'3.Learnt,
-  Reads.Asked,
-  Reads.Learnt,
-  Reads''.Asked,
-  Reads''.Learnt,
-) Reads'.Pre Reads'.Post Inv μ
+Need-plus-delta-requires = λ Inv μ. Lts.Need-plus-delta-requires callees Reads'.Pre Reads'.Post Inv μ
 
 abbrev pub Need-find-reply-requires : (Inv : InvT-loop) → (μ : MeasureT-loop) → Type 0
-Need-find-reply-requires = λ Inv μ. Lts.Need-find-reply-requires (
-  Reads'4.Asked,
-  Reads'4.Learnt,
-  Reads'3.Asked,
-  Reads'3.Learnt,
-  Reads.Asked,
-  Reads.Learnt,
-  Reads''.Asked,
-  Reads''.Learnt,
-) Reads'.Pre Reads'.Post Inv μ
+Need-find-reply-requires = λ Inv μ. Lts.Need-find-reply-requires callees Reads'.Pre Reads'.Post Inv μ
 
 abbrev pub Need-add-delta : (Inv : InvT-loop) → (μ : MeasureT-loop) → Type 0
-Need-add-delta = λ Inv μ. Lts.Need-add-delta (
-  Reads'4.Asked,
-  Reads'4.Learnt,
-  Reads'3.Asked,
-  Reads'3.Learnt,
-  Reads.Asked,
-  Reads.Learnt,
-  Reads''.Asked,
-  Reads''.Learnt,
-) Reads'.Pre Reads'.Post Inv μ
+Need-add-delta = λ Inv μ. Lts.Need-add-delta callees Reads'.Pre Reads'.Post Inv μ
 
 abbrev pub Need-loop-less : (Inv : InvT-loop) → (μ : MeasureT-loop) → Type 0
-Need-loop-less = λ Inv μ. Lts.Need-loop-less (
-  Reads'4.Asked,
-  Reads'4.Learnt,
-  Reads'3.Asked,
-  Reads'3.Learnt,
-  Reads.Asked,
-  Reads.Learnt,
-  Reads''.Asked,
-  Reads''.Learnt,
-) Reads'.Pre Reads'.Post Inv μ
+Need-loop-less = λ Inv μ. Lts.Need-loop-less callees Reads'.Pre Reads'.Post Inv μ
 
 abbrev pub Need-loop-again : (Inv : InvT-loop) → (μ : MeasureT-loop) → Type 0
-Need-loop-again = λ Inv μ. Lts.Need-loop-again (
-  Reads'4.Asked,
-  Reads'4.Learnt,
-  Reads'3.Asked,
-  Reads'3.Learnt,
-  Reads.Asked,
-  Reads.Learnt,
-  Reads''.Asked,
-  Reads''.Learnt,
-) Reads'.Pre Reads'.Post Inv μ
+Need-loop-again = λ Inv μ. Lts.Need-loop-again callees Reads'.Pre Reads'.Post Inv μ
 
 abbrev pub Need-free-requires : (Inv : InvT-loop) → (μ : MeasureT-loop) → Type 0
-Need-free-requires = λ Inv μ. Lts.Need-free-requires (
-  Reads'4.Asked,
-  Reads'4.Learnt,
-  Reads'3.Asked,
-  Reads'3.Learnt,
-  Reads.Asked,
-  Reads.Learnt,
-  Reads''.Asked,
-  Reads''.Learnt,
-) Reads'.Pre Reads'.Post Inv μ
+Need-free-requires = λ Inv μ. Lts.Need-free-requires callees Reads'.Pre Reads'.Post Inv μ
 
 abbrev pub Need-returns : (Inv : InvT-loop) → (μ : MeasureT-loop) → Type 0
-Need-returns = λ Inv μ. Lts.Need-returns (
-  Reads'4.Asked,
-  Reads'4.Learnt,
-  Reads'3.Asked,
-  Reads'3.Learnt,
-  Reads.Asked,
-  Reads.Learnt,
-  Reads''.Asked,
-  Reads''.Learnt,
-) Reads'.Pre Reads'.Post Inv μ
+Need-returns = λ Inv μ. Lts.Need-returns callees Reads'.Pre Reads'.Post Inv μ
 
 abbrev pub Need-none-free-requires : (Inv : InvT-loop) → (μ : MeasureT-loop) → Type 0
-Need-none-free-requires = λ Inv μ. Lts.Need-none-free-requires (
-  Reads'4.Asked,
-  Reads'4.Learnt,
-  Reads'3.Asked,
-  Reads'3.Learnt,
-  Reads.Asked,
-  Reads.Learnt,
-  Reads''.Asked,
-  Reads''.Learnt,
-) Reads'.Pre Reads'.Post Inv μ
+Need-none-free-requires = λ Inv μ. Lts.Need-none-free-requires callees Reads'.Pre Reads'.Post Inv μ
 
 abbrev pub Need-returns-2 : (Inv : InvT-loop) → (μ : MeasureT-loop) → Type 0
-Need-returns-2 = λ Inv μ. Lts.Need-returns-2 (
-  Reads'4.Asked,
-  Reads'4.Learnt,
-  Reads'3.Asked,
-  Reads'3.Learnt,
-  Reads.Asked,
-  Reads.Learnt,
-  Reads''.Asked,
-  Reads''.Learnt,
-) Reads'.Pre Reads'.Post Inv μ
+Need-returns-2 = λ Inv μ. Lts.Need-returns-2 callees Reads'.Pre Reads'.Post Inv μ
 
 module _ {M : Type 1} where
   pub spec :
@@ -281,28 +104,10 @@ module _ {M : Type 1} where
       (answer : Need-returns Inv μ) →
       (answer : Need-none-free-requires Inv μ) →
       (answer : Need-returns-2 Inv μ) →
-      Lts.Closed (
-        Reads'4.Asked,
-        Reads'4.Learnt,
-        Reads'3.Asked,
-        Reads'3.Learnt,
-        Reads.Asked,
-        Reads.Learnt,
-        Reads''.Asked,
-        Reads''.Learnt,
-      ) Reads'.Pre Reads'.Post M
+      Lts.Closed callees Reads'.Pre Reads'.Post M
   spec =
       λ Inv μ answer answer' answer'' answer'3 answer'4 answer'5 answer'6 answer'7 answer'8
-      answer'9. Lts.spec (
-        Reads'4.Asked,
-        Reads'4.Learnt,
-        Reads'3.Asked,
-        Reads'3.Learnt,
-        Reads.Asked,
-        Reads.Learnt,
-        Reads''.Asked,
-        Reads''.Learnt,
-      )
+      answer'9. Lts.spec callees
       Reads'.Pre
       Reads'.Post
       Inv
@@ -318,16 +123,7 @@ module _ {M : Type 1} where
       answer'8
       answer'9
 
-  pub close : Lts.Closed (
-    Reads'4.Asked,
-    Reads'4.Learnt,
-    Reads'3.Asked,
-    Reads'3.Learnt,
-    Reads.Asked,
-    Reads.Learnt,
-    Reads''.Asked,
-    Reads''.Learnt,
-  ) Reads'.Pre Reads'.Post M → Statement.statement M
+  pub close : Lts.Closed callees Reads'.Pre Reads'.Post M → Statement.statement M
   unfolding Code.routine Running.tablesOf
   close =
       λ closed 𝓤 H 𝓜 𝓖 𝓡. Written.close

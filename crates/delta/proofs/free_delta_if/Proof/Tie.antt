@@ -15,59 +15,52 @@ use borrow.Fn.Run
 use borrow.Fn.Written
 use contract.Running
 
+abbrev callees : Lts.Claims
+callees = (Reads.Asked, Reads.Learnt, Reads''.Asked, Reads''.Learnt)
+
 abbrev pub Start : Type 0
 Start =
-    Lts.Start (Reads.Asked, Reads.Learnt, Reads''.Asked, Reads''.Learnt) Reads'.Pre Reads'.Post
+    Lts.Start callees Reads'.Pre Reads'.Post
 
 abbrev pub Then1 : Type 0
 Then1 =
-    Lts.Then1 (Reads.Asked, Reads.Learnt, Reads''.Asked, Reads''.Learnt) Reads'.Pre Reads'.Post
+    Lts.Then1 callees Reads'.Pre Reads'.Post
 
 abbrev pub After-free-delta : Type 0
 After-free-delta =
     Lts.After-free-delta
-    (Reads.Asked, Reads.Learnt, Reads''.Asked, Reads''.Learnt)
+    callees
     Reads'.Pre
     Reads'.Post
 
 abbrev pub Else1 : Type 0
 Else1 =
-    Lts.Else1 (Reads.Asked, Reads.Learnt, Reads''.Asked, Reads''.Learnt) Reads'.Pre Reads'.Post
+    Lts.Else1 callees Reads'.Pre Reads'.Post
 
 abbrev pub After-none-free : Type 0
 After-none-free =
     Lts.After-none-free
-    (Reads.Asked, Reads.Learnt, Reads''.Asked, Reads''.Learnt)
+    callees
     Reads'.Pre
     Reads'.Post
 
 abbrev pub Need-free-delta-requires : Type 0
-Need-free-delta-requires = Lts.Need-free-delta-requires (
-  Reads.Asked,
-  Reads.Learnt,
-  Reads''.Asked,
-  Reads''.Learnt,
-) Reads'.Pre Reads'.Post
+Need-free-delta-requires = Lts.Need-free-delta-requires callees Reads'.Pre Reads'.Post
 
 abbrev pub Need-returns : Type 0
 Need-returns =
     Lts.Need-returns
-    (Reads.Asked, Reads.Learnt, Reads''.Asked, Reads''.Learnt)
+    callees
     Reads'.Pre
     Reads'.Post
 
 abbrev pub Need-none-free-requires : Type 0
-Need-none-free-requires = Lts.Need-none-free-requires (
-  Reads.Asked,
-  Reads.Learnt,
-  Reads''.Asked,
-  Reads''.Learnt,
-) Reads'.Pre Reads'.Post
+Need-none-free-requires = Lts.Need-none-free-requires callees Reads'.Pre Reads'.Post
 
 abbrev pub Need-returns-2 : Type 0
 Need-returns-2 =
     Lts.Need-returns-2
-    (Reads.Asked, Reads.Learnt, Reads''.Asked, Reads''.Learnt)
+    callees
     Reads'.Pre
     Reads'.Post
 
@@ -78,20 +71,15 @@ module _ {M : Type 1} where
       (answer : Need-none-free-requires) →
       (answer : Need-returns-2) →
       Lts.Closed
-      (Reads.Asked, Reads.Learnt, Reads''.Asked, Reads''.Learnt)
+      callees
       Reads'.Pre
       Reads'.Post
       M
-  spec = λ answer answer' answer'' answer'3. Lts.spec (
-    Reads.Asked,
-    Reads.Learnt,
-    Reads''.Asked,
-    Reads''.Learnt,
-  ) Reads'.Pre Reads'.Post answer answer' answer'' answer'3
+  spec = λ answer answer' answer'' answer'3. Lts.spec callees Reads'.Pre Reads'.Post answer answer' answer'' answer'3
 
   pub close :
       Lts.Closed
-      (Reads.Asked, Reads.Learnt, Reads''.Asked, Reads''.Learnt)
+      callees
       Reads'.Pre
       Reads'.Post
       M →

@@ -12,40 +12,43 @@ use borrow.Fn.Run
 use borrow.Fn.Written
 use contract.Running
 
+abbrev callees : Lts.Claims
+callees = (Reads'.Asked, Reads'.Learnt)
+
 abbrev pub Start : Type 0
-Start = Lts.Start (Reads'.Asked, Reads'.Learnt) Reads.Pre Reads.Post
+Start = Lts.Start callees Reads.Pre Reads.Post
 
 abbrev pub Then1 : Type 0
-Then1 = Lts.Then1 (Reads'.Asked, Reads'.Learnt) Reads.Pre Reads.Post
+Then1 = Lts.Then1 callees Reads.Pre Reads.Post
 
 abbrev pub After-second-of-arg : Type 0
-After-second-of-arg = Lts.After-second-of-arg (Reads'.Asked, Reads'.Learnt) Reads.Pre Reads.Post
+After-second-of-arg = Lts.After-second-of-arg callees Reads.Pre Reads.Post
 
 abbrev pub After-second-of : Type 0
-After-second-of = Lts.After-second-of (Reads'.Asked, Reads'.Learnt) Reads.Pre Reads.Post
+After-second-of = Lts.After-second-of callees Reads.Pre Reads.Post
 
 abbrev pub Else1 : Type 0
-Else1 = Lts.Else1 (Reads'.Asked, Reads'.Learnt) Reads.Pre Reads.Post
+Else1 = Lts.Else1 callees Reads.Pre Reads.Post
 
 abbrev pub Need-second-of-requires : Type 0
 Need-second-of-requires =
-    Lts.Need-second-of-requires (Reads'.Asked, Reads'.Learnt) Reads.Pre Reads.Post
+    Lts.Need-second-of-requires callees Reads.Pre Reads.Post
 
 abbrev pub Need-mul-t8 : Type 0
-Need-mul-t8 = Lts.Need-mul-t8 (Reads'.Asked, Reads'.Learnt) Reads.Pre Reads.Post
+Need-mul-t8 = Lts.Need-mul-t8 callees Reads.Pre Reads.Post
 
 abbrev pub Need-slice-set-from-rows : Type 0
 Need-slice-set-from-rows =
-    Lts.Need-slice-set-from-rows (Reads'.Asked, Reads'.Learnt) Reads.Pre Reads.Post
+    Lts.Need-slice-set-from-rows callees Reads.Pre Reads.Post
 
 abbrev pub Need-same-length : Type 0
-Need-same-length = Lts.Need-same-length (Reads'.Asked, Reads'.Learnt) Reads.Pre Reads.Post
+Need-same-length = Lts.Need-same-length callees Reads.Pre Reads.Post
 
 abbrev pub Need-returns : Type 0
-Need-returns = Lts.Need-returns (Reads'.Asked, Reads'.Learnt) Reads.Pre Reads.Post
+Need-returns = Lts.Need-returns callees Reads.Pre Reads.Post
 
 abbrev pub Need-returns-2 : Type 0
-Need-returns-2 = Lts.Need-returns-2 (Reads'.Asked, Reads'.Learnt) Reads.Pre Reads.Post
+Need-returns-2 = Lts.Need-returns-2 callees Reads.Pre Reads.Post
 
 module _ {M : Type 1} where
   pub spec :
@@ -55,14 +58,11 @@ module _ {M : Type 1} where
       (answer : Need-same-length) →
       (answer : Need-returns) →
       (answer : Need-returns-2) →
-      Lts.Closed (Reads'.Asked, Reads'.Learnt) Reads.Pre Reads.Post M
-  spec = λ answer answer' answer'' answer'3 answer'4 answer'5. Lts.spec (
-    Reads'.Asked,
-    Reads'.Learnt,
-  ) Reads.Pre Reads.Post answer answer' answer'' answer'3 answer'4 answer'5
+      Lts.Closed callees Reads.Pre Reads.Post M
+  spec = λ answer answer' answer'' answer'3 answer'4 answer'5. Lts.spec callees Reads.Pre Reads.Post answer answer' answer'' answer'3 answer'4 answer'5
 
   pub close :
-      Lts.Closed (Reads'.Asked, Reads'.Learnt) Reads.Pre Reads.Post M → Statement.statement M
+      Lts.Closed callees Reads.Pre Reads.Post M → Statement.statement M
   unfolding Code.routine Running.tablesOf
   close =
       λ closed 𝓤 H 𝓜 𝓖 𝓡. Written.close

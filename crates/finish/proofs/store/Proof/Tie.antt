@@ -24,313 +24,74 @@ use borrow.Fn.Run
 use borrow.Fn.Written
 use contract.Running
 
+abbrev callees : Lts.Claims
+callees = (Reads''.Asked, Reads''.Learnt, Reads'5.Asked, Reads'5.Learnt, Reads.Asked, Reads.Learnt, Reads'.Asked, Reads'.Learnt, Reads'4.Asked, Reads'4.Learnt)
+
 abbrev pub Start : Type 0
-Start = Lts.Start (
-  Reads''.Asked,
-  Reads''.Learnt,
-  Reads'5.Asked,
-  Reads'5.Learnt,
-  Reads.Asked,
-  Reads.Learnt,
-  Reads'.Asked,
-  Reads'.Learnt,
-  Reads'4.Asked,
-  Reads'4.Learnt,
-) Reads'3.Pre Reads'3.Post
+Start = Lts.Start callees Reads'3.Pre Reads'3.Post
 
 abbrev pub After-put-row-arg : Type 0
-After-put-row-arg = Lts.After-put-row-arg (
-  Reads''.Asked,
-  Reads''.Learnt,
-  Reads'5.Asked,
-  Reads'5.Learnt,
-  Reads.Asked,
-  Reads.Learnt,
-  Reads'.Asked,
-  Reads'.Learnt,
-  Reads'4.Asked,
-  Reads'4.Learnt,
-) Reads'3.Pre Reads'3.Post
+After-put-row-arg = Lts.After-put-row-arg callees Reads'3.Pre Reads'3.Post
 
 abbrev pub After-row-of-arg : Type 0
-After-row-of-arg = Lts.After-row-of-arg (
-  Reads''.Asked,
-  Reads''.Learnt,
-  Reads'5.Asked,
-  Reads'5.Learnt,
-  Reads.Asked,
-  Reads.Learnt,
-  Reads'.Asked,
-  Reads'.Learnt,
-  Reads'4.Asked,
-  Reads'4.Learnt,
-) Reads'3.Pre Reads'3.Post
+After-row-of-arg = Lts.After-row-of-arg callees Reads'3.Pre Reads'3.Post
 
 abbrev pub After-row-of : Type 0
-After-row-of = Lts.After-row-of (
-  Reads''.Asked,
-  Reads''.Learnt,
-  Reads'5.Asked,
-  Reads'5.Learnt,
-  Reads.Asked,
-  Reads.Learnt,
-  Reads'.Asked,
-  Reads'.Learnt,
-  Reads'4.Asked,
-  Reads'4.Learnt,
-) Reads'3.Pre Reads'3.Post
+After-row-of = Lts.After-row-of callees Reads'3.Pre Reads'3.Post
 
 abbrev pub After-put-row : Type 0
-After-put-row = Lts.After-put-row (
-  Reads''.Asked,
-  Reads''.Learnt,
-  Reads'5.Asked,
-  Reads'5.Learnt,
-  Reads.Asked,
-  Reads.Learnt,
-  Reads'.Asked,
-  Reads'.Learnt,
-  Reads'4.Asked,
-  Reads'4.Learnt,
-) Reads'3.Pre Reads'3.Post
+After-put-row = Lts.After-put-row callees Reads'3.Pre Reads'3.Post
 
 abbrev pub After-instances : Type 0
-After-instances = Lts.After-instances (
-  Reads''.Asked,
-  Reads''.Learnt,
-  Reads'5.Asked,
-  Reads'5.Learnt,
-  Reads.Asked,
-  Reads.Learnt,
-  Reads'.Asked,
-  Reads'.Learnt,
-  Reads'4.Asked,
-  Reads'4.Learnt,
-) Reads'3.Pre Reads'3.Post
+After-instances = Lts.After-instances callees Reads'3.Pre Reads'3.Post
 
 abbrev pub After-put-second-arg : Type 0
-After-put-second-arg = Lts.After-put-second-arg (
-  Reads''.Asked,
-  Reads''.Learnt,
-  Reads'5.Asked,
-  Reads'5.Learnt,
-  Reads.Asked,
-  Reads.Learnt,
-  Reads'.Asked,
-  Reads'.Learnt,
-  Reads'4.Asked,
-  Reads'4.Learnt,
-) Reads'3.Pre Reads'3.Post
+After-put-second-arg = Lts.After-put-second-arg callees Reads'3.Pre Reads'3.Post
 
 abbrev pub After-put-second : Type 0
-After-put-second = Lts.After-put-second (
-  Reads''.Asked,
-  Reads''.Learnt,
-  Reads'5.Asked,
-  Reads'5.Learnt,
-  Reads.Asked,
-  Reads.Learnt,
-  Reads'.Asked,
-  Reads'.Learnt,
-  Reads'4.Asked,
-  Reads'4.Learnt,
-) Reads'3.Pre Reads'3.Post
+After-put-second = Lts.After-put-second callees Reads'3.Pre Reads'3.Post
 
 abbrev pub After-instances2 : Type 0
-After-instances2 = Lts.After-instances2 (
-  Reads''.Asked,
-  Reads''.Learnt,
-  Reads'5.Asked,
-  Reads'5.Learnt,
-  Reads.Asked,
-  Reads.Learnt,
-  Reads'.Asked,
-  Reads'.Learnt,
-  Reads'4.Asked,
-  Reads'4.Learnt,
-) Reads'3.Pre Reads'3.Post
+After-instances2 = Lts.After-instances2 callees Reads'3.Pre Reads'3.Post
 
 abbrev pub After-put-route-arg : Type 0
-After-put-route-arg = Lts.After-put-route-arg (
-  Reads''.Asked,
-  Reads''.Learnt,
-  Reads'5.Asked,
-  Reads'5.Learnt,
-  Reads.Asked,
-  Reads.Learnt,
-  Reads'.Asked,
-  Reads'.Learnt,
-  Reads'4.Asked,
-  Reads'4.Learnt,
-) Reads'3.Pre Reads'3.Post
+After-put-route-arg = Lts.After-put-route-arg callees Reads'3.Pre Reads'3.Post
 
 abbrev pub After-route-of-arg : Type 0
-After-route-of-arg = Lts.After-route-of-arg (
-  Reads''.Asked,
-  Reads''.Learnt,
-  Reads'5.Asked,
-  Reads'5.Learnt,
-  Reads.Asked,
-  Reads.Learnt,
-  Reads'.Asked,
-  Reads'.Learnt,
-  Reads'4.Asked,
-  Reads'4.Learnt,
-) Reads'3.Pre Reads'3.Post
+After-route-of-arg = Lts.After-route-of-arg callees Reads'3.Pre Reads'3.Post
 
 abbrev pub After-route-of : Type 0
-After-route-of = Lts.After-route-of (
-  Reads''.Asked,
-  Reads''.Learnt,
-  Reads'5.Asked,
-  Reads'5.Learnt,
-  Reads.Asked,
-  Reads.Learnt,
-  Reads'.Asked,
-  Reads'.Learnt,
-  Reads'4.Asked,
-  Reads'4.Learnt,
-) Reads'3.Pre Reads'3.Post
+After-route-of = Lts.After-route-of callees Reads'3.Pre Reads'3.Post
 
 abbrev pub After-put-route : Type 0
-After-put-route = Lts.After-put-route (
-  Reads''.Asked,
-  Reads''.Learnt,
-  Reads'5.Asked,
-  Reads'5.Learnt,
-  Reads.Asked,
-  Reads.Learnt,
-  Reads'.Asked,
-  Reads'.Learnt,
-  Reads'4.Asked,
-  Reads'4.Learnt,
-) Reads'3.Pre Reads'3.Post
+After-put-route = Lts.After-put-route callees Reads'3.Pre Reads'3.Post
 
 abbrev pub After-routes : Type 0
-After-routes = Lts.After-routes (
-  Reads''.Asked,
-  Reads''.Learnt,
-  Reads'5.Asked,
-  Reads'5.Learnt,
-  Reads.Asked,
-  Reads.Learnt,
-  Reads'.Asked,
-  Reads'.Learnt,
-  Reads'4.Asked,
-  Reads'4.Learnt,
-) Reads'3.Pre Reads'3.Post
+After-routes = Lts.After-routes callees Reads'3.Pre Reads'3.Post
 
 abbrev pub Need-row-of-requires : Type 0
-Need-row-of-requires = Lts.Need-row-of-requires (
-  Reads''.Asked,
-  Reads''.Learnt,
-  Reads'5.Asked,
-  Reads'5.Learnt,
-  Reads.Asked,
-  Reads.Learnt,
-  Reads'.Asked,
-  Reads'.Learnt,
-  Reads'4.Asked,
-  Reads'4.Learnt,
-) Reads'3.Pre Reads'3.Post
+Need-row-of-requires = Lts.Need-row-of-requires callees Reads'3.Pre Reads'3.Post
 
 abbrev pub Need-put-row-requires : Type 0
-Need-put-row-requires = Lts.Need-put-row-requires (
-  Reads''.Asked,
-  Reads''.Learnt,
-  Reads'5.Asked,
-  Reads'5.Learnt,
-  Reads.Asked,
-  Reads.Learnt,
-  Reads'.Asked,
-  Reads'.Learnt,
-  Reads'4.Asked,
-  Reads'4.Learnt,
-) Reads'3.Pre Reads'3.Post
+Need-put-row-requires = Lts.Need-put-row-requires callees Reads'3.Pre Reads'3.Post
 
 abbrev pub Need-put-second-requires : Type 0
-Need-put-second-requires = Lts.Need-put-second-requires (
-  Reads''.Asked,
-  Reads''.Learnt,
-  Reads'5.Asked,
-  Reads'5.Learnt,
-  Reads.Asked,
-  Reads.Learnt,
-  Reads'.Asked,
-  Reads'.Learnt,
-  Reads'4.Asked,
-  Reads'4.Learnt,
-) Reads'3.Pre Reads'3.Post
+Need-put-second-requires = Lts.Need-put-second-requires callees Reads'3.Pre Reads'3.Post
 
 abbrev pub Need-route-of-requires : Type 0
-Need-route-of-requires = Lts.Need-route-of-requires (
-  Reads''.Asked,
-  Reads''.Learnt,
-  Reads'5.Asked,
-  Reads'5.Learnt,
-  Reads.Asked,
-  Reads.Learnt,
-  Reads'.Asked,
-  Reads'.Learnt,
-  Reads'4.Asked,
-  Reads'4.Learnt,
-) Reads'3.Pre Reads'3.Post
+Need-route-of-requires = Lts.Need-route-of-requires callees Reads'3.Pre Reads'3.Post
 
 abbrev pub Need-put-route-requires : Type 0
-Need-put-route-requires = Lts.Need-put-route-requires (
-  Reads''.Asked,
-  Reads''.Learnt,
-  Reads'5.Asked,
-  Reads'5.Learnt,
-  Reads.Asked,
-  Reads.Learnt,
-  Reads'.Asked,
-  Reads'.Learnt,
-  Reads'4.Asked,
-  Reads'4.Learnt,
-) Reads'3.Pre Reads'3.Post
+Need-put-route-requires = Lts.Need-put-route-requires callees Reads'3.Pre Reads'3.Post
 
 abbrev pub Need-same-length : Type 0
-Need-same-length = Lts.Need-same-length (
-  Reads''.Asked,
-  Reads''.Learnt,
-  Reads'5.Asked,
-  Reads'5.Learnt,
-  Reads.Asked,
-  Reads.Learnt,
-  Reads'.Asked,
-  Reads'.Learnt,
-  Reads'4.Asked,
-  Reads'4.Learnt,
-) Reads'3.Pre Reads'3.Post
+Need-same-length = Lts.Need-same-length callees Reads'3.Pre Reads'3.Post
 
 abbrev pub Need-same-length-2 : Type 0
-Need-same-length-2 = Lts.Need-same-length-2 (
-  Reads''.Asked,
-  Reads''.Learnt,
-  Reads'5.Asked,
-  Reads'5.Learnt,
-  Reads.Asked,
-  Reads.Learnt,
-  Reads'.Asked,
-  Reads'.Learnt,
-  Reads'4.Asked,
-  Reads'4.Learnt,
-) Reads'3.Pre Reads'3.Post
+Need-same-length-2 = Lts.Need-same-length-2 callees Reads'3.Pre Reads'3.Post
 
 abbrev pub Need-returns : Type 0
-Need-returns = Lts.Need-returns (
-  Reads''.Asked,
-  Reads''.Learnt,
-  Reads'5.Asked,
-  Reads'5.Learnt,
-  Reads.Asked,
-  Reads.Learnt,
-  Reads'.Asked,
-  Reads'.Learnt,
-  Reads'4.Asked,
-  Reads'4.Learnt,
-) Reads'3.Pre Reads'3.Post
+Need-returns = Lts.Need-returns callees Reads'3.Pre Reads'3.Post
 
 module _ {M : Type 1} where
   pub spec :
@@ -342,43 +103,10 @@ module _ {M : Type 1} where
       (answer : Need-same-length) →
       (answer : Need-same-length-2) →
       (answer : Need-returns) →
-      Lts.Closed (
-        Reads''.Asked,
-        Reads''.Learnt,
-        Reads'5.Asked,
-        Reads'5.Learnt,
-        Reads.Asked,
-        Reads.Learnt,
-        Reads'.Asked,
-        Reads'.Learnt,
-        Reads'4.Asked,
-        Reads'4.Learnt,
-      ) Reads'3.Pre Reads'3.Post M
-  spec = λ answer answer' answer'' answer'3 answer'4 answer'5 answer'6 answer'7. Lts.spec (
-    Reads''.Asked,
-    Reads''.Learnt,
-    Reads'5.Asked,
-    Reads'5.Learnt,
-    Reads.Asked,
-    Reads.Learnt,
-    Reads'.Asked,
-    Reads'.Learnt,
-    Reads'4.Asked,
-    Reads'4.Learnt,
-  ) Reads'3.Pre Reads'3.Post answer answer' answer'' answer'3 answer'4 answer'5 answer'6 answer'7
+      Lts.Closed callees Reads'3.Pre Reads'3.Post M
+  spec = λ answer answer' answer'' answer'3 answer'4 answer'5 answer'6 answer'7. Lts.spec callees Reads'3.Pre Reads'3.Post answer answer' answer'' answer'3 answer'4 answer'5 answer'6 answer'7
 
-  pub close : Lts.Closed (
-    Reads''.Asked,
-    Reads''.Learnt,
-    Reads'5.Asked,
-    Reads'5.Learnt,
-    Reads.Asked,
-    Reads.Learnt,
-    Reads'.Asked,
-    Reads'.Learnt,
-    Reads'4.Asked,
-    Reads'4.Learnt,
-  ) Reads'3.Pre Reads'3.Post M → Statement.statement M
+  pub close : Lts.Closed callees Reads'3.Pre Reads'3.Post M → Statement.statement M
   unfolding Code.routine Running.tablesOf
   close =
       λ closed 𝓤 H 𝓜 𝓖 𝓡. Written.close

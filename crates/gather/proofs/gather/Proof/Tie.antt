@@ -27,6 +27,9 @@ use borrow.Fn.Run
 use borrow.Fn.Written
 use contract.Running
 
+abbrev callees : Lts.Claims
+callees = (Reads'5.Asked, Reads'5.Learnt, Reads'6.Asked, Reads'6.Learnt, Reads'4.Asked, Reads'4.Learnt, Reads.Asked, Reads.Learnt, Reads'3.Asked, Reads'3.Learnt, Reads''.Asked, Reads''.Learnt)
+
 abbrev pub InvT-loop : Type 1
 InvT-loop = Lts.InvT-loop
 
@@ -34,484 +37,94 @@ abbrev pub MeasureT-loop : Type 0
 MeasureT-loop = Lts.MeasureT-loop
 
 abbrev pub Start : (Inv : InvT-loop) → (μ : MeasureT-loop) → Type 0
-Start = λ Inv μ. Lts.Start (
-  Reads'5.Asked,
-  Reads'5.Learnt,
-  Reads'6.Asked,
-  Reads'6.Learnt,
-  Reads'4.Asked,
-  Reads'4.Learnt,
-  Reads.Asked,
-  Reads.Learnt,
-  Reads'3.Asked,
-  Reads'3.Learnt,
-  Reads''.Asked,
-  Reads''.Learnt,
-) Reads'.Pre Reads'.Post Inv μ
+Start = λ Inv μ. Lts.Start callees Reads'.Pre Reads'.Post Inv μ
 
 abbrev pub After-blank-list : (Inv : InvT-loop) → (μ : MeasureT-loop) → Type 0
-After-blank-list = λ Inv μ. Lts.After-blank-list (
-  Reads'5.Asked,
-  Reads'5.Learnt,
-  Reads'6.Asked,
-  Reads'6.Learnt,
-  Reads'4.Asked,
-  Reads'4.Learnt,
-  Reads.Asked,
-  Reads.Learnt,
-  Reads'3.Asked,
-  Reads'3.Learnt,
-  Reads''.Asked,
-  Reads''.Learnt,
-) Reads'.Pre Reads'.Post Inv μ
+After-blank-list = λ Inv μ. Lts.After-blank-list callees Reads'.Pre Reads'.Post Inv μ
 
 abbrev pub After-none-yet : (Inv : InvT-loop) → (μ : MeasureT-loop) → Type 0
-After-none-yet = λ Inv μ. Lts.After-none-yet (
-  Reads'5.Asked,
-  Reads'5.Learnt,
-  Reads'6.Asked,
-  Reads'6.Learnt,
-  Reads'4.Asked,
-  Reads'4.Learnt,
-  Reads.Asked,
-  Reads.Learnt,
-  Reads'3.Asked,
-  Reads'3.Learnt,
-  Reads''.Asked,
-  Reads''.Learnt,
-) Reads'.Pre Reads'.Post Inv μ
+After-none-yet = λ Inv μ. Lts.After-none-yet callees Reads'.Pre Reads'.Post Inv μ
 
 abbrev pub At-loop : (Inv : InvT-loop) → (μ : MeasureT-loop) → Type 0
-At-loop = λ Inv μ. Lts.At-loop (
-  Reads'5.Asked,
-  Reads'5.Learnt,
-  Reads'6.Asked,
-  Reads'6.Learnt,
-  Reads'4.Asked,
-  Reads'4.Learnt,
-  Reads.Asked,
-  Reads.Learnt,
-  Reads'3.Asked,
-  Reads'3.Learnt,
-  Reads''.Asked,
-  Reads''.Learnt,
-) Reads'.Pre Reads'.Post Inv μ
+At-loop = λ Inv μ. Lts.At-loop callees Reads'.Pre Reads'.Post Inv μ
 
 abbrev pub In-loop : (Inv : InvT-loop) → (μ : MeasureT-loop) → Type 0
-In-loop = λ Inv μ. Lts.In-loop (
-  Reads'5.Asked,
-  Reads'5.Learnt,
-  Reads'6.Asked,
-  Reads'6.Learnt,
-  Reads'4.Asked,
-  Reads'4.Learnt,
-  Reads.Asked,
-  Reads.Learnt,
-  Reads'3.Asked,
-  Reads'3.Learnt,
-  Reads''.Asked,
-  Reads''.Learnt,
-) Reads'.Pre Reads'.Post Inv μ
+In-loop = λ Inv μ. Lts.In-loop callees Reads'.Pre Reads'.Post Inv μ
 
 abbrev pub After-loop : (Inv : InvT-loop) → (μ : MeasureT-loop) → Type 0
-After-loop = λ Inv μ. Lts.After-loop (
-  Reads'5.Asked,
-  Reads'5.Learnt,
-  Reads'6.Asked,
-  Reads'6.Learnt,
-  Reads'4.Asked,
-  Reads'4.Learnt,
-  Reads.Asked,
-  Reads.Learnt,
-  Reads'3.Asked,
-  Reads'3.Learnt,
-  Reads''.Asked,
-  Reads''.Learnt,
-) Reads'.Pre Reads'.Post Inv μ
+After-loop = λ Inv μ. Lts.After-loop callees Reads'.Pre Reads'.Post Inv μ
 
 abbrev pub After-list : (Inv : InvT-loop) → (μ : MeasureT-loop) → Type 0
-After-list = λ Inv μ. Lts.After-list (
-  Reads'5.Asked,
-  Reads'5.Learnt,
-  Reads'6.Asked,
-  Reads'6.Learnt,
-  Reads'4.Asked,
-  Reads'4.Learnt,
-  Reads.Asked,
-  Reads.Learnt,
-  Reads'3.Asked,
-  Reads'3.Learnt,
-  Reads''.Asked,
-  Reads''.Learnt,
-) Reads'.Pre Reads'.Post Inv μ
+After-list = λ Inv μ. Lts.After-list callees Reads'.Pre Reads'.Post Inv μ
 
 abbrev pub After-whole-bits-arg : (Inv : InvT-loop) → (μ : MeasureT-loop) → Type 0
-After-whole-bits-arg = λ Inv μ. Lts.After-whole-bits-arg (
-  Reads'5.Asked,
-  Reads'5.Learnt,
-  Reads'6.Asked,
-  Reads'6.Learnt,
-  Reads'4.Asked,
-  Reads'4.Learnt,
-  Reads.Asked,
-  Reads.Learnt,
-  Reads'3.Asked,
-  Reads'3.Learnt,
-  Reads''.Asked,
-  Reads''.Learnt,
-) Reads'.Pre Reads'.Post Inv μ
+After-whole-bits-arg = λ Inv μ. Lts.After-whole-bits-arg callees Reads'.Pre Reads'.Post Inv μ
 
 abbrev pub After-whole-bits : (Inv : InvT-loop) → (μ : MeasureT-loop) → Type 0
-After-whole-bits = λ Inv μ. Lts.After-whole-bits (
-  Reads'5.Asked,
-  Reads'5.Learnt,
-  Reads'6.Asked,
-  Reads'6.Learnt,
-  Reads'4.Asked,
-  Reads'4.Learnt,
-  Reads.Asked,
-  Reads.Learnt,
-  Reads'3.Asked,
-  Reads'3.Learnt,
-  Reads''.Asked,
-  Reads''.Learnt,
-) Reads'.Pre Reads'.Post Inv μ
+After-whole-bits = λ Inv μ. Lts.After-whole-bits callees Reads'.Pre Reads'.Post Inv μ
 
 abbrev pub After-collect : (Inv : InvT-loop) → (μ : MeasureT-loop) → Type 0
-After-collect = λ Inv μ. Lts.After-collect (
-  Reads'5.Asked,
-  Reads'5.Learnt,
-  Reads'6.Asked,
-  Reads'6.Learnt,
-  Reads'4.Asked,
-  Reads'4.Learnt,
-  Reads.Asked,
-  Reads.Learnt,
-  Reads'3.Asked,
-  Reads'3.Learnt,
-  Reads''.Asked,
-  Reads''.Learnt,
-) Reads'.Pre Reads'.Post Inv μ
+After-collect = λ Inv μ. Lts.After-collect callees Reads'.Pre Reads'.Post Inv μ
 
 abbrev pub After-list2 : (Inv : InvT-loop) → (μ : MeasureT-loop) → Type 0
-After-list2 = λ Inv μ. Lts.After-list2 (
-  Reads'5.Asked,
-  Reads'5.Learnt,
-  Reads'6.Asked,
-  Reads'6.Learnt,
-  Reads'4.Asked,
-  Reads'4.Learnt,
-  Reads.Asked,
-  Reads.Learnt,
-  Reads'3.Asked,
-  Reads'3.Learnt,
-  Reads''.Asked,
-  Reads''.Learnt,
-) Reads'.Pre Reads'.Post Inv μ
+After-list2 = λ Inv μ. Lts.After-list2 callees Reads'.Pre Reads'.Post Inv μ
 
 abbrev pub After-is-long-arg : (Inv : InvT-loop) → (μ : MeasureT-loop) → Type 0
-After-is-long-arg = λ Inv μ. Lts.After-is-long-arg (
-  Reads'5.Asked,
-  Reads'5.Learnt,
-  Reads'6.Asked,
-  Reads'6.Learnt,
-  Reads'4.Asked,
-  Reads'4.Learnt,
-  Reads.Asked,
-  Reads.Learnt,
-  Reads'3.Asked,
-  Reads'3.Learnt,
-  Reads''.Asked,
-  Reads''.Learnt,
-) Reads'.Pre Reads'.Post Inv μ
+After-is-long-arg = λ Inv μ. Lts.After-is-long-arg callees Reads'.Pre Reads'.Post Inv μ
 
 abbrev pub After-is-long : (Inv : InvT-loop) → (μ : MeasureT-loop) → Type 0
-After-is-long = λ Inv μ. Lts.After-is-long (
-  Reads'5.Asked,
-  Reads'5.Learnt,
-  Reads'6.Asked,
-  Reads'6.Learnt,
-  Reads'4.Asked,
-  Reads'4.Learnt,
-  Reads.Asked,
-  Reads.Learnt,
-  Reads'3.Asked,
-  Reads'3.Learnt,
-  Reads''.Asked,
-  Reads''.Learnt,
-) Reads'.Pre Reads'.Post Inv μ
+After-is-long = λ Inv μ. Lts.After-is-long callees Reads'.Pre Reads'.Post Inv μ
 
 abbrev pub After-gathered : (Inv : InvT-loop) → (μ : MeasureT-loop) → Type 0
-After-gathered = λ Inv μ. Lts.After-gathered (
-  Reads'5.Asked,
-  Reads'5.Learnt,
-  Reads'6.Asked,
-  Reads'6.Learnt,
-  Reads'4.Asked,
-  Reads'4.Learnt,
-  Reads.Asked,
-  Reads.Learnt,
-  Reads'3.Asked,
-  Reads'3.Learnt,
-  Reads''.Asked,
-  Reads''.Learnt,
-) Reads'.Pre Reads'.Post Inv μ
+After-gathered = λ Inv μ. Lts.After-gathered callees Reads'.Pre Reads'.Post Inv μ
 
 abbrev pub Need-blank-list-requires : (Inv : InvT-loop) → (μ : MeasureT-loop) → Type 0
-Need-blank-list-requires = λ Inv μ. Lts.Need-blank-list-requires (
-  Reads'5.Asked,
-  Reads'5.Learnt,
-  Reads'6.Asked,
-  Reads'6.Learnt,
-  Reads'4.Asked,
-  Reads'4.Learnt,
-  Reads.Asked,
-  Reads.Learnt,
-  Reads'3.Asked,
-  Reads'3.Learnt,
-  Reads''.Asked,
-  Reads''.Learnt,
-) Reads'.Pre Reads'.Post Inv μ
+Need-blank-list-requires = λ Inv μ. Lts.Need-blank-list-requires callees Reads'.Pre Reads'.Post Inv μ
 
 abbrev pub Need-none-yet-requires : (Inv : InvT-loop) → (μ : MeasureT-loop) → Type 0
-Need-none-yet-requires = λ Inv μ. Lts.Need-none-yet-requires (
-  Reads'5.Asked,
-  Reads'5.Learnt,
-  Reads'6.Asked,
-  Reads'6.Learnt,
-  Reads'4.Asked,
-  Reads'4.Learnt,
-  Reads.Asked,
-  Reads.Learnt,
-  Reads'3.Asked,
-  Reads'3.Learnt,
-  Reads''.Asked,
-  Reads''.Learnt,
-) Reads'.Pre Reads'.Post Inv μ
+Need-none-yet-requires = λ Inv μ. Lts.Need-none-yet-requires callees Reads'.Pre Reads'.Post Inv μ
 
 abbrev pub Need-loop-holds : (Inv : InvT-loop) → (μ : MeasureT-loop) → Type 0
-Need-loop-holds = λ Inv μ. Lts.Need-loop-holds (
-  Reads'5.Asked,
-  Reads'5.Learnt,
-  Reads'6.Asked,
-  Reads'6.Learnt,
-  Reads'4.Asked,
-  Reads'4.Learnt,
-  Reads.Asked,
-  Reads.Learnt,
-  Reads'3.Asked,
-  Reads'3.Learnt,
-  Reads''.Asked,
-  Reads''.Learnt,
-) Reads'.Pre Reads'.Post Inv μ
+Need-loop-holds = λ Inv μ. Lts.Need-loop-holds callees Reads'.Pre Reads'.Post Inv μ
 
 abbrev pub Need-slice-aggregate-collect : (Inv : InvT-loop) → (μ : MeasureT-loop) → Type 0
-Need-slice-aggregate-collect = λ Inv μ. Lts.Need-slice-aggregate-collect (
-  Reads'5.Asked,
-  Reads'5.Learnt,
-  Reads'6.Asked,
-  Reads'6.Learnt,
-  Reads'4.Asked,
-  Reads'4.Learnt,
-  Reads.Asked,
-  Reads.Learnt,
-  Reads'3.Asked,
-  Reads'3.Learnt,
-  Reads''.Asked,
-  Reads''.Learnt,
-) Reads'.Pre Reads'.Post Inv μ
+Need-slice-aggregate-collect = λ Inv μ. Lts.Need-slice-aggregate-collect callees Reads'.Pre Reads'.Post Inv μ
 
 abbrev pub Need-mul-whole-bits : (Inv : InvT-loop) → (μ : MeasureT-loop) → Type 0
-Need-mul-whole-bits = λ Inv μ. Lts.Need-mul-whole-bits (
-  Reads'5.Asked,
-  Reads'5.Learnt,
-  Reads'6.Asked,
-  Reads'6.Learnt,
-  Reads'4.Asked,
-  Reads'4.Learnt,
-  Reads.Asked,
-  Reads.Learnt,
-  Reads'3.Asked,
-  Reads'3.Learnt,
-  Reads''.Asked,
-  Reads''.Learnt,
-) Reads'.Pre Reads'.Post Inv μ
+Need-mul-whole-bits = λ Inv μ. Lts.Need-mul-whole-bits callees Reads'.Pre Reads'.Post Inv μ
 
 abbrev pub Need-shared-slice-copy-out-whole-bits : (Inv : InvT-loop) → (μ : MeasureT-loop) → Type 0
-Need-shared-slice-copy-out-whole-bits = λ Inv μ. Lts.Need-shared-slice-copy-out-whole-bits (
-  Reads'5.Asked,
-  Reads'5.Learnt,
-  Reads'6.Asked,
-  Reads'6.Learnt,
-  Reads'4.Asked,
-  Reads'4.Learnt,
-  Reads.Asked,
-  Reads.Learnt,
-  Reads'3.Asked,
-  Reads'3.Learnt,
-  Reads''.Asked,
-  Reads''.Learnt,
-) Reads'.Pre Reads'.Post Inv μ
+Need-shared-slice-copy-out-whole-bits = λ Inv μ. Lts.Need-shared-slice-copy-out-whole-bits callees Reads'.Pre Reads'.Post Inv μ
 
 abbrev pub Need-whole-bits-requires : (Inv : InvT-loop) → (μ : MeasureT-loop) → Type 0
-Need-whole-bits-requires = λ Inv μ. Lts.Need-whole-bits-requires (
-  Reads'5.Asked,
-  Reads'5.Learnt,
-  Reads'6.Asked,
-  Reads'6.Learnt,
-  Reads'4.Asked,
-  Reads'4.Learnt,
-  Reads.Asked,
-  Reads.Learnt,
-  Reads'3.Asked,
-  Reads'3.Learnt,
-  Reads''.Asked,
-  Reads''.Learnt,
-) Reads'.Pre Reads'.Post Inv μ
+Need-whole-bits-requires = λ Inv μ. Lts.Need-whole-bits-requires callees Reads'.Pre Reads'.Post Inv μ
 
 abbrev pub Need-collect-requires : (Inv : InvT-loop) → (μ : MeasureT-loop) → Type 0
-Need-collect-requires = λ Inv μ. Lts.Need-collect-requires (
-  Reads'5.Asked,
-  Reads'5.Learnt,
-  Reads'6.Asked,
-  Reads'6.Learnt,
-  Reads'4.Asked,
-  Reads'4.Learnt,
-  Reads.Asked,
-  Reads.Learnt,
-  Reads'3.Asked,
-  Reads'3.Learnt,
-  Reads''.Asked,
-  Reads''.Learnt,
-) Reads'.Pre Reads'.Post Inv μ
+Need-collect-requires = λ Inv μ. Lts.Need-collect-requires callees Reads'.Pre Reads'.Post Inv μ
 
 abbrev pub Need-mul-is-long : (Inv : InvT-loop) → (μ : MeasureT-loop) → Type 0
-Need-mul-is-long = λ Inv μ. Lts.Need-mul-is-long (
-  Reads'5.Asked,
-  Reads'5.Learnt,
-  Reads'6.Asked,
-  Reads'6.Learnt,
-  Reads'4.Asked,
-  Reads'4.Learnt,
-  Reads.Asked,
-  Reads.Learnt,
-  Reads'3.Asked,
-  Reads'3.Learnt,
-  Reads''.Asked,
-  Reads''.Learnt,
-) Reads'.Pre Reads'.Post Inv μ
+Need-mul-is-long = λ Inv μ. Lts.Need-mul-is-long callees Reads'.Pre Reads'.Post Inv μ
 
 abbrev pub Need-shared-slice-copy-out-is-long : (Inv : InvT-loop) → (μ : MeasureT-loop) → Type 0
-Need-shared-slice-copy-out-is-long = λ Inv μ. Lts.Need-shared-slice-copy-out-is-long (
-  Reads'5.Asked,
-  Reads'5.Learnt,
-  Reads'6.Asked,
-  Reads'6.Learnt,
-  Reads'4.Asked,
-  Reads'4.Learnt,
-  Reads.Asked,
-  Reads.Learnt,
-  Reads'3.Asked,
-  Reads'3.Learnt,
-  Reads''.Asked,
-  Reads''.Learnt,
-) Reads'.Pre Reads'.Post Inv μ
+Need-shared-slice-copy-out-is-long = λ Inv μ. Lts.Need-shared-slice-copy-out-is-long callees Reads'.Pre Reads'.Post Inv μ
 
 abbrev pub Need-is-long-requires : (Inv : InvT-loop) → (μ : MeasureT-loop) → Type 0
-Need-is-long-requires = λ Inv μ. Lts.Need-is-long-requires (
-  Reads'5.Asked,
-  Reads'5.Learnt,
-  Reads'6.Asked,
-  Reads'6.Learnt,
-  Reads'4.Asked,
-  Reads'4.Learnt,
-  Reads.Asked,
-  Reads.Learnt,
-  Reads'3.Asked,
-  Reads'3.Learnt,
-  Reads''.Asked,
-  Reads''.Learnt,
-) Reads'.Pre Reads'.Post Inv μ
+Need-is-long-requires = λ Inv μ. Lts.Need-is-long-requires callees Reads'.Pre Reads'.Post Inv μ
 
 abbrev pub Need-add-i : (Inv : InvT-loop) → (μ : MeasureT-loop) → Type 0
-Need-add-i = λ Inv μ. Lts.Need-add-i (
-  Reads'5.Asked,
-  Reads'5.Learnt,
-  Reads'6.Asked,
-  Reads'6.Learnt,
-  Reads'4.Asked,
-  Reads'4.Learnt,
-  Reads.Asked,
-  Reads.Learnt,
-  Reads'3.Asked,
-  Reads'3.Learnt,
-  Reads''.Asked,
-  Reads''.Learnt,
-) Reads'.Pre Reads'.Post Inv μ
+Need-add-i = λ Inv μ. Lts.Need-add-i callees Reads'.Pre Reads'.Post Inv μ
 
 abbrev pub Need-loop-less : (Inv : InvT-loop) → (μ : MeasureT-loop) → Type 0
-Need-loop-less = λ Inv μ. Lts.Need-loop-less (
-  Reads'5.Asked,
-  Reads'5.Learnt,
-  Reads'6.Asked,
-  Reads'6.Learnt,
-  Reads'4.Asked,
-  Reads'4.Learnt,
-  Reads.Asked,
-  Reads.Learnt,
-  Reads'3.Asked,
-  Reads'3.Learnt,
-  Reads''.Asked,
-  Reads''.Learnt,
-) Reads'.Pre Reads'.Post Inv μ
+Need-loop-less = λ Inv μ. Lts.Need-loop-less callees Reads'.Pre Reads'.Post Inv μ
 
 abbrev pub Need-loop-again : (Inv : InvT-loop) → (μ : MeasureT-loop) → Type 0
-Need-loop-again = λ Inv μ. Lts.Need-loop-again (
-  Reads'5.Asked,
-  Reads'5.Learnt,
-  Reads'6.Asked,
-  Reads'6.Learnt,
-  Reads'4.Asked,
-  Reads'4.Learnt,
-  Reads.Asked,
-  Reads.Learnt,
-  Reads'3.Asked,
-  Reads'3.Learnt,
-  Reads''.Asked,
-  Reads''.Learnt,
-) Reads'.Pre Reads'.Post Inv μ
+Need-loop-again = λ Inv μ. Lts.Need-loop-again callees Reads'.Pre Reads'.Post Inv μ
 
 abbrev pub Need-gathered-requires : (Inv : InvT-loop) → (μ : MeasureT-loop) → Type 0
-Need-gathered-requires = λ Inv μ. Lts.Need-gathered-requires (
-  Reads'5.Asked,
-  Reads'5.Learnt,
-  Reads'6.Asked,
-  Reads'6.Learnt,
-  Reads'4.Asked,
-  Reads'4.Learnt,
-  Reads.Asked,
-  Reads.Learnt,
-  Reads'3.Asked,
-  Reads'3.Learnt,
-  Reads''.Asked,
-  Reads''.Learnt,
-) Reads'.Pre Reads'.Post Inv μ
+Need-gathered-requires = λ Inv μ. Lts.Need-gathered-requires callees Reads'.Pre Reads'.Post Inv μ
 
 abbrev pub Need-returns : (Inv : InvT-loop) → (μ : MeasureT-loop) → Type 0
-Need-returns = λ Inv μ. Lts.Need-returns (
-  Reads'5.Asked,
-  Reads'5.Learnt,
-  Reads'6.Asked,
-  Reads'6.Learnt,
-  Reads'4.Asked,
-  Reads'4.Learnt,
-  Reads.Asked,
-  Reads.Learnt,
-  Reads'3.Asked,
-  Reads'3.Learnt,
-  Reads''.Asked,
-  Reads''.Learnt,
-) Reads'.Pre Reads'.Post Inv μ
+Need-returns = λ Inv μ. Lts.Need-returns callees Reads'.Pre Reads'.Post Inv μ
 
 module _ {M : Type 1} where
   pub spec :
@@ -533,36 +146,10 @@ module _ {M : Type 1} where
       (answer : Need-loop-again Inv μ) →
       (answer : Need-gathered-requires Inv μ) →
       (answer : Need-returns Inv μ) →
-      Lts.Closed (
-        Reads'5.Asked,
-        Reads'5.Learnt,
-        Reads'6.Asked,
-        Reads'6.Learnt,
-        Reads'4.Asked,
-        Reads'4.Learnt,
-        Reads.Asked,
-        Reads.Learnt,
-        Reads'3.Asked,
-        Reads'3.Learnt,
-        Reads''.Asked,
-        Reads''.Learnt,
-      ) Reads'.Pre Reads'.Post M
+      Lts.Closed callees Reads'.Pre Reads'.Post M
   spec =
       λ Inv μ answer answer' answer'' answer'3 answer'4 answer'5 answer'6 answer'7 answer'8
-      answer'9 answer'10 answer'11 answer'12 answer'13 answer'14 answer'15. Lts.spec (
-        Reads'5.Asked,
-        Reads'5.Learnt,
-        Reads'6.Asked,
-        Reads'6.Learnt,
-        Reads'4.Asked,
-        Reads'4.Learnt,
-        Reads.Asked,
-        Reads.Learnt,
-        Reads'3.Asked,
-        Reads'3.Learnt,
-        Reads''.Asked,
-        Reads''.Learnt,
-      )
+      answer'9 answer'10 answer'11 answer'12 answer'13 answer'14 answer'15. Lts.spec callees
       Reads'.Pre
       Reads'.Post
       Inv
@@ -584,20 +171,7 @@ module _ {M : Type 1} where
       answer'14
       answer'15
 
-  pub close : Lts.Closed (
-    Reads'5.Asked,
-    Reads'5.Learnt,
-    Reads'6.Asked,
-    Reads'6.Learnt,
-    Reads'4.Asked,
-    Reads'4.Learnt,
-    Reads.Asked,
-    Reads.Learnt,
-    Reads'3.Asked,
-    Reads'3.Learnt,
-    Reads''.Asked,
-    Reads''.Learnt,
-  ) Reads'.Pre Reads'.Post M → Statement.statement M
+  pub close : Lts.Closed callees Reads'.Pre Reads'.Post M → Statement.statement M
   unfolding Code.routine Running.tablesOf
   close =
       λ closed 𝓤 H 𝓜 𝓖 𝓡. Written.close

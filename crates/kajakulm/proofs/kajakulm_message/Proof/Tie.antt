@@ -24,425 +24,98 @@ use borrow.Fn.Run
 use borrow.Fn.Written
 use contract.Running
 
+abbrev callees : Lts.Claims
+callees = (Reads'.Asked, Reads'.Learnt, Reads.Asked, Reads.Learnt, Reads'4.Asked, Reads'4.Learnt, Reads'5.Asked, Reads'5.Learnt, Reads''.Asked, Reads''.Learnt)
+
 abbrev pub Start : Type 0
-Start = Lts.Start (
-  Reads'.Asked,
-  Reads'.Learnt,
-  Reads.Asked,
-  Reads.Learnt,
-  Reads'4.Asked,
-  Reads'4.Learnt,
-  Reads'5.Asked,
-  Reads'5.Learnt,
-  Reads''.Asked,
-  Reads''.Learnt,
-) Reads'3.Pre Reads'3.Post
+Start = Lts.Start callees Reads'3.Pre Reads'3.Post
 
 abbrev pub After-slice-known : Type 0
-After-slice-known = Lts.After-slice-known (
-  Reads'.Asked,
-  Reads'.Learnt,
-  Reads.Asked,
-  Reads.Learnt,
-  Reads'4.Asked,
-  Reads'4.Learnt,
-  Reads'5.Asked,
-  Reads'5.Learnt,
-  Reads''.Asked,
-  Reads''.Learnt,
-) Reads'3.Pre Reads'3.Post
+After-slice-known = Lts.After-slice-known callees Reads'3.Pre Reads'3.Post
 
 abbrev pub After-slice-known2 : Type 0
-After-slice-known2 = Lts.After-slice-known2 (
-  Reads'.Asked,
-  Reads'.Learnt,
-  Reads.Asked,
-  Reads.Learnt,
-  Reads'4.Asked,
-  Reads'4.Learnt,
-  Reads'5.Asked,
-  Reads'5.Learnt,
-  Reads''.Asked,
-  Reads''.Learnt,
-) Reads'3.Pre Reads'3.Post
+After-slice-known2 = Lts.After-slice-known2 callees Reads'3.Pre Reads'3.Post
 
 abbrev pub After-shared-slice-known : Type 0
-After-shared-slice-known = Lts.After-shared-slice-known (
-  Reads'.Asked,
-  Reads'.Learnt,
-  Reads.Asked,
-  Reads.Learnt,
-  Reads'4.Asked,
-  Reads'4.Learnt,
-  Reads'5.Asked,
-  Reads'5.Learnt,
-  Reads''.Asked,
-  Reads''.Learnt,
-) Reads'3.Pre Reads'3.Post
+After-shared-slice-known = Lts.After-shared-slice-known callees Reads'3.Pre Reads'3.Post
 
 abbrev pub After-message-arg : Type 0
-After-message-arg = Lts.After-message-arg (
-  Reads'.Asked,
-  Reads'.Learnt,
-  Reads.Asked,
-  Reads.Learnt,
-  Reads'4.Asked,
-  Reads'4.Learnt,
-  Reads'5.Asked,
-  Reads'5.Learnt,
-  Reads''.Asked,
-  Reads''.Learnt,
-) Reads'3.Pre Reads'3.Post
+After-message-arg = Lts.After-message-arg callees Reads'3.Pre Reads'3.Post
 
 abbrev pub After-message-arg2 : Type 0
-After-message-arg2 = Lts.After-message-arg2 (
-  Reads'.Asked,
-  Reads'.Learnt,
-  Reads.Asked,
-  Reads.Learnt,
-  Reads'4.Asked,
-  Reads'4.Learnt,
-  Reads'5.Asked,
-  Reads'5.Learnt,
-  Reads''.Asked,
-  Reads''.Learnt,
-) Reads'3.Pre Reads'3.Post
+After-message-arg2 = Lts.After-message-arg2 callees Reads'3.Pre Reads'3.Post
 
 abbrev pub After-message-arg3 : Type 0
-After-message-arg3 = Lts.After-message-arg3 (
-  Reads'.Asked,
-  Reads'.Learnt,
-  Reads.Asked,
-  Reads.Learnt,
-  Reads'4.Asked,
-  Reads'4.Learnt,
-  Reads'5.Asked,
-  Reads'5.Learnt,
-  Reads''.Asked,
-  Reads''.Learnt,
-) Reads'3.Pre Reads'3.Post
+After-message-arg3 = Lts.After-message-arg3 callees Reads'3.Pre Reads'3.Post
 
 abbrev pub After-message-arg4 : Type 0
-After-message-arg4 = Lts.After-message-arg4 (
-  Reads'.Asked,
-  Reads'.Learnt,
-  Reads.Asked,
-  Reads.Learnt,
-  Reads'4.Asked,
-  Reads'4.Learnt,
-  Reads'5.Asked,
-  Reads'5.Learnt,
-  Reads''.Asked,
-  Reads''.Learnt,
-) Reads'3.Pre Reads'3.Post
+After-message-arg4 = Lts.After-message-arg4 callees Reads'3.Pre Reads'3.Post
 
 abbrev pub After-link-of : Type 0
-After-link-of = Lts.After-link-of (
-  Reads'.Asked,
-  Reads'.Learnt,
-  Reads.Asked,
-  Reads.Learnt,
-  Reads'4.Asked,
-  Reads'4.Learnt,
-  Reads'5.Asked,
-  Reads'5.Learnt,
-  Reads''.Asked,
-  Reads''.Learnt,
-) Reads'3.Pre Reads'3.Post
+After-link-of = Lts.After-link-of callees Reads'3.Pre Reads'3.Post
 
 abbrev pub After-message : Type 0
-After-message = Lts.After-message (
-  Reads'.Asked,
-  Reads'.Learnt,
-  Reads.Asked,
-  Reads.Learnt,
-  Reads'4.Asked,
-  Reads'4.Learnt,
-  Reads'5.Asked,
-  Reads'5.Learnt,
-  Reads''.Asked,
-  Reads''.Learnt,
-) Reads'3.Pre Reads'3.Post
+After-message = Lts.After-message callees Reads'3.Pre Reads'3.Post
 
 abbrev pub After-instances : Type 0
-After-instances = Lts.After-instances (
-  Reads'.Asked,
-  Reads'.Learnt,
-  Reads.Asked,
-  Reads.Learnt,
-  Reads'4.Asked,
-  Reads'4.Learnt,
-  Reads'5.Asked,
-  Reads'5.Learnt,
-  Reads''.Asked,
-  Reads''.Learnt,
-) Reads'3.Pre Reads'3.Post
+After-instances = Lts.After-instances callees Reads'3.Pre Reads'3.Post
 
 abbrev pub After-routes : Type 0
-After-routes = Lts.After-routes (
-  Reads'.Asked,
-  Reads'.Learnt,
-  Reads.Asked,
-  Reads.Learnt,
-  Reads'4.Asked,
-  Reads'4.Learnt,
-  Reads'5.Asked,
-  Reads'5.Learnt,
-  Reads''.Asked,
-  Reads''.Learnt,
-) Reads'3.Pre Reads'3.Post
+After-routes = Lts.After-routes callees Reads'3.Pre Reads'3.Post
 
 abbrev pub After-forward : Type 0
-After-forward = Lts.After-forward (
-  Reads'.Asked,
-  Reads'.Learnt,
-  Reads.Asked,
-  Reads.Learnt,
-  Reads'4.Asked,
-  Reads'4.Learnt,
-  Reads'5.Asked,
-  Reads'5.Learnt,
-  Reads''.Asked,
-  Reads''.Learnt,
-) Reads'3.Pre Reads'3.Post
+After-forward = Lts.After-forward callees Reads'3.Pre Reads'3.Post
 
 abbrev pub After-slice-known3 : Type 0
-After-slice-known3 = Lts.After-slice-known3 (
-  Reads'.Asked,
-  Reads'.Learnt,
-  Reads.Asked,
-  Reads.Learnt,
-  Reads'4.Asked,
-  Reads'4.Learnt,
-  Reads'5.Asked,
-  Reads'5.Learnt,
-  Reads''.Asked,
-  Reads''.Learnt,
-) Reads'3.Pre Reads'3.Post
+After-slice-known3 = Lts.After-slice-known3 callees Reads'3.Pre Reads'3.Post
 
 abbrev pub After-reply : Type 0
-After-reply = Lts.After-reply (
-  Reads'.Asked,
-  Reads'.Learnt,
-  Reads.Asked,
-  Reads.Learnt,
-  Reads'4.Asked,
-  Reads'4.Learnt,
-  Reads'5.Asked,
-  Reads'5.Learnt,
-  Reads''.Asked,
-  Reads''.Learnt,
-) Reads'3.Pre Reads'3.Post
+After-reply = Lts.After-reply callees Reads'3.Pre Reads'3.Post
 
 abbrev pub After-slice-known4 : Type 0
-After-slice-known4 = Lts.After-slice-known4 (
-  Reads'.Asked,
-  Reads'.Learnt,
-  Reads.Asked,
-  Reads.Learnt,
-  Reads'4.Asked,
-  Reads'4.Learnt,
-  Reads'5.Asked,
-  Reads'5.Learnt,
-  Reads''.Asked,
-  Reads''.Learnt,
-) Reads'3.Pre Reads'3.Post
+After-slice-known4 = Lts.After-slice-known4 callees Reads'3.Pre Reads'3.Post
 
 abbrev pub After-raise-arg : Type 0
-After-raise-arg = Lts.After-raise-arg (
-  Reads'.Asked,
-  Reads'.Learnt,
-  Reads.Asked,
-  Reads.Learnt,
-  Reads'4.Asked,
-  Reads'4.Learnt,
-  Reads'5.Asked,
-  Reads'5.Learnt,
-  Reads''.Asked,
-  Reads''.Learnt,
-) Reads'3.Pre Reads'3.Post
+After-raise-arg = Lts.After-raise-arg callees Reads'3.Pre Reads'3.Post
 
 abbrev pub After-answer-of : Type 0
-After-answer-of = Lts.After-answer-of (
-  Reads'.Asked,
-  Reads'.Learnt,
-  Reads.Asked,
-  Reads.Learnt,
-  Reads'4.Asked,
-  Reads'4.Learnt,
-  Reads'5.Asked,
-  Reads'5.Learnt,
-  Reads''.Asked,
-  Reads''.Learnt,
-) Reads'3.Pre Reads'3.Post
+After-answer-of = Lts.After-answer-of callees Reads'3.Pre Reads'3.Post
 
 abbrev pub After-raise : Type 0
-After-raise = Lts.After-raise (
-  Reads'.Asked,
-  Reads'.Learnt,
-  Reads.Asked,
-  Reads.Learnt,
-  Reads'4.Asked,
-  Reads'4.Learnt,
-  Reads'5.Asked,
-  Reads'5.Learnt,
-  Reads''.Asked,
-  Reads''.Learnt,
-) Reads'3.Pre Reads'3.Post
+After-raise = Lts.After-raise callees Reads'3.Pre Reads'3.Post
 
 abbrev pub After-host-outcome : Type 0
-After-host-outcome = Lts.After-host-outcome (
-  Reads'.Asked,
-  Reads'.Learnt,
-  Reads.Asked,
-  Reads.Learnt,
-  Reads'4.Asked,
-  Reads'4.Learnt,
-  Reads'5.Asked,
-  Reads'5.Learnt,
-  Reads''.Asked,
-  Reads''.Learnt,
-) Reads'3.Pre Reads'3.Post
+After-host-outcome = Lts.After-host-outcome callees Reads'3.Pre Reads'3.Post
 
 abbrev pub Need-link-of-requires : Type 0
-Need-link-of-requires = Lts.Need-link-of-requires (
-  Reads'.Asked,
-  Reads'.Learnt,
-  Reads.Asked,
-  Reads.Learnt,
-  Reads'4.Asked,
-  Reads'4.Learnt,
-  Reads'5.Asked,
-  Reads'5.Learnt,
-  Reads''.Asked,
-  Reads''.Learnt,
-) Reads'3.Pre Reads'3.Post
+Need-link-of-requires = Lts.Need-link-of-requires callees Reads'3.Pre Reads'3.Post
 
 abbrev pub Need-message-requires : Type 0
-Need-message-requires = Lts.Need-message-requires (
-  Reads'.Asked,
-  Reads'.Learnt,
-  Reads.Asked,
-  Reads.Learnt,
-  Reads'4.Asked,
-  Reads'4.Learnt,
-  Reads'5.Asked,
-  Reads'5.Learnt,
-  Reads''.Asked,
-  Reads''.Learnt,
-) Reads'3.Pre Reads'3.Post
+Need-message-requires = Lts.Need-message-requires callees Reads'3.Pre Reads'3.Post
 
 abbrev pub Need-answer-of-requires : Type 0
-Need-answer-of-requires = Lts.Need-answer-of-requires (
-  Reads'.Asked,
-  Reads'.Learnt,
-  Reads.Asked,
-  Reads.Learnt,
-  Reads'4.Asked,
-  Reads'4.Learnt,
-  Reads'5.Asked,
-  Reads'5.Learnt,
-  Reads''.Asked,
-  Reads''.Learnt,
-) Reads'3.Pre Reads'3.Post
+Need-answer-of-requires = Lts.Need-answer-of-requires callees Reads'3.Pre Reads'3.Post
 
 abbrev pub Need-raise-requires : Type 0
-Need-raise-requires = Lts.Need-raise-requires (
-  Reads'.Asked,
-  Reads'.Learnt,
-  Reads.Asked,
-  Reads.Learnt,
-  Reads'4.Asked,
-  Reads'4.Learnt,
-  Reads'5.Asked,
-  Reads'5.Learnt,
-  Reads''.Asked,
-  Reads''.Learnt,
-) Reads'3.Pre Reads'3.Post
+Need-raise-requires = Lts.Need-raise-requires callees Reads'3.Pre Reads'3.Post
 
 abbrev pub Need-host-outcome-requires : Type 0
-Need-host-outcome-requires = Lts.Need-host-outcome-requires (
-  Reads'.Asked,
-  Reads'.Learnt,
-  Reads.Asked,
-  Reads.Learnt,
-  Reads'4.Asked,
-  Reads'4.Learnt,
-  Reads'5.Asked,
-  Reads'5.Learnt,
-  Reads''.Asked,
-  Reads''.Learnt,
-) Reads'3.Pre Reads'3.Post
+Need-host-outcome-requires = Lts.Need-host-outcome-requires callees Reads'3.Pre Reads'3.Post
 
 abbrev pub Need-same-length : Type 0
-Need-same-length = Lts.Need-same-length (
-  Reads'.Asked,
-  Reads'.Learnt,
-  Reads.Asked,
-  Reads.Learnt,
-  Reads'4.Asked,
-  Reads'4.Learnt,
-  Reads'5.Asked,
-  Reads'5.Learnt,
-  Reads''.Asked,
-  Reads''.Learnt,
-) Reads'3.Pre Reads'3.Post
+Need-same-length = Lts.Need-same-length callees Reads'3.Pre Reads'3.Post
 
 abbrev pub Need-same-length-2 : Type 0
-Need-same-length-2 = Lts.Need-same-length-2 (
-  Reads'.Asked,
-  Reads'.Learnt,
-  Reads.Asked,
-  Reads.Learnt,
-  Reads'4.Asked,
-  Reads'4.Learnt,
-  Reads'5.Asked,
-  Reads'5.Learnt,
-  Reads''.Asked,
-  Reads''.Learnt,
-) Reads'3.Pre Reads'3.Post
+Need-same-length-2 = Lts.Need-same-length-2 callees Reads'3.Pre Reads'3.Post
 
 abbrev pub Need-same-length-3 : Type 0
-Need-same-length-3 = Lts.Need-same-length-3 (
-  Reads'.Asked,
-  Reads'.Learnt,
-  Reads.Asked,
-  Reads.Learnt,
-  Reads'4.Asked,
-  Reads'4.Learnt,
-  Reads'5.Asked,
-  Reads'5.Learnt,
-  Reads''.Asked,
-  Reads''.Learnt,
-) Reads'3.Pre Reads'3.Post
+Need-same-length-3 = Lts.Need-same-length-3 callees Reads'3.Pre Reads'3.Post
 
 abbrev pub Need-same-length-4 : Type 0
-Need-same-length-4 = Lts.Need-same-length-4 (
-  Reads'.Asked,
-  Reads'.Learnt,
-  Reads.Asked,
-  Reads.Learnt,
-  Reads'4.Asked,
-  Reads'4.Learnt,
-  Reads'5.Asked,
-  Reads'5.Learnt,
-  Reads''.Asked,
-  Reads''.Learnt,
-) Reads'3.Pre Reads'3.Post
+Need-same-length-4 = Lts.Need-same-length-4 callees Reads'3.Pre Reads'3.Post
 
 abbrev pub Need-returns : Type 0
-Need-returns = Lts.Need-returns (
-  Reads'.Asked,
-  Reads'.Learnt,
-  Reads.Asked,
-  Reads.Learnt,
-  Reads'4.Asked,
-  Reads'4.Learnt,
-  Reads'5.Asked,
-  Reads'5.Learnt,
-  Reads''.Asked,
-  Reads''.Learnt,
-) Reads'3.Pre Reads'3.Post
+Need-returns = Lts.Need-returns callees Reads'3.Pre Reads'3.Post
 
 module _ {M : Type 1} where
   pub spec :
@@ -456,32 +129,10 @@ module _ {M : Type 1} where
       (answer : Need-same-length-3) →
       (answer : Need-same-length-4) →
       (answer : Need-returns) →
-      Lts.Closed (
-        Reads'.Asked,
-        Reads'.Learnt,
-        Reads.Asked,
-        Reads.Learnt,
-        Reads'4.Asked,
-        Reads'4.Learnt,
-        Reads'5.Asked,
-        Reads'5.Learnt,
-        Reads''.Asked,
-        Reads''.Learnt,
-      ) Reads'3.Pre Reads'3.Post M
+      Lts.Closed callees Reads'3.Pre Reads'3.Post M
   spec =
       λ answer answer' answer'' answer'3 answer'4 answer'5 answer'6 answer'7 answer'8
-      answer'9. Lts.spec (
-        Reads'.Asked,
-        Reads'.Learnt,
-        Reads.Asked,
-        Reads.Learnt,
-        Reads'4.Asked,
-        Reads'4.Learnt,
-        Reads'5.Asked,
-        Reads'5.Learnt,
-        Reads''.Asked,
-        Reads''.Learnt,
-      )
+      answer'9. Lts.spec callees
       Reads'3.Pre
       Reads'3.Post
       answer
@@ -495,18 +146,7 @@ module _ {M : Type 1} where
       answer'8
       answer'9
 
-  pub close : Lts.Closed (
-    Reads'.Asked,
-    Reads'.Learnt,
-    Reads.Asked,
-    Reads.Learnt,
-    Reads'4.Asked,
-    Reads'4.Learnt,
-    Reads'5.Asked,
-    Reads'5.Learnt,
-    Reads''.Asked,
-    Reads''.Learnt,
-  ) Reads'3.Pre Reads'3.Post M → Statement.statement M
+  pub close : Lts.Closed callees Reads'3.Pre Reads'3.Post M → Statement.statement M
   unfolding Code.routine Running.tablesOf
   close =
       λ closed 𝓤 H 𝓜 𝓖 𝓡. Written.close

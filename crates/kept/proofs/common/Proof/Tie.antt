@@ -24,6 +24,9 @@ use borrow.Fn.Run
 use borrow.Fn.Written
 use contract.Running
 
+abbrev callees : Lts.Claims
+callees = (Reads''.Asked, Reads''.Learnt, Reads'4.Asked, Reads'4.Learnt, Reads'5.Asked, Reads'5.Learnt, Reads.Asked, Reads.Learnt, Reads'3.Asked, Reads'3.Learnt)
+
 abbrev pub InvT-loop : Type 1
 InvT-loop = Lts.InvT-loop
 
@@ -31,396 +34,88 @@ abbrev pub MeasureT-loop : Type 0
 MeasureT-loop = Lts.MeasureT-loop
 
 abbrev pub Start : (Inv : InvT-loop) → (μ : MeasureT-loop) → Type 0
-Start = λ Inv μ. Lts.Start (
-  Reads''.Asked,
-  Reads''.Learnt,
-  Reads'4.Asked,
-  Reads'4.Learnt,
-  Reads'5.Asked,
-  Reads'5.Learnt,
-  Reads.Asked,
-  Reads.Learnt,
-  Reads'3.Asked,
-  Reads'3.Learnt,
-) Reads'.Pre Reads'.Post Inv μ
+Start = λ Inv μ. Lts.Start callees Reads'.Pre Reads'.Post Inv μ
 
 abbrev pub After-count-of : (Inv : InvT-loop) → (μ : MeasureT-loop) → Type 0
-After-count-of = λ Inv μ. Lts.After-count-of (
-  Reads''.Asked,
-  Reads''.Learnt,
-  Reads'4.Asked,
-  Reads'4.Learnt,
-  Reads'5.Asked,
-  Reads'5.Learnt,
-  Reads.Asked,
-  Reads.Learnt,
-  Reads'3.Asked,
-  Reads'3.Learnt,
-) Reads'.Pre Reads'.Post Inv μ
+After-count-of = λ Inv μ. Lts.After-count-of callees Reads'.Pre Reads'.Post Inv μ
 
 abbrev pub After-list-of : (Inv : InvT-loop) → (μ : MeasureT-loop) → Type 0
-After-list-of = λ Inv μ. Lts.After-list-of (
-  Reads''.Asked,
-  Reads''.Learnt,
-  Reads'4.Asked,
-  Reads'4.Learnt,
-  Reads'5.Asked,
-  Reads'5.Learnt,
-  Reads.Asked,
-  Reads.Learnt,
-  Reads'3.Asked,
-  Reads'3.Learnt,
-) Reads'.Pre Reads'.Post Inv μ
+After-list-of = λ Inv μ. Lts.After-list-of callees Reads'.Pre Reads'.Post Inv μ
 
 abbrev pub After-count-of2 : (Inv : InvT-loop) → (μ : MeasureT-loop) → Type 0
-After-count-of2 = λ Inv μ. Lts.After-count-of2 (
-  Reads''.Asked,
-  Reads''.Learnt,
-  Reads'4.Asked,
-  Reads'4.Learnt,
-  Reads'5.Asked,
-  Reads'5.Learnt,
-  Reads.Asked,
-  Reads.Learnt,
-  Reads'3.Asked,
-  Reads'3.Learnt,
-) Reads'.Pre Reads'.Post Inv μ
+After-count-of2 = λ Inv μ. Lts.After-count-of2 callees Reads'.Pre Reads'.Post Inv μ
 
 abbrev pub After-list-of2 : (Inv : InvT-loop) → (μ : MeasureT-loop) → Type 0
-After-list-of2 = λ Inv μ. Lts.After-list-of2 (
-  Reads''.Asked,
-  Reads''.Learnt,
-  Reads'4.Asked,
-  Reads'4.Learnt,
-  Reads'5.Asked,
-  Reads'5.Learnt,
-  Reads.Asked,
-  Reads.Learnt,
-  Reads'3.Asked,
-  Reads'3.Learnt,
-) Reads'.Pre Reads'.Post Inv μ
+After-list-of2 = λ Inv μ. Lts.After-list-of2 callees Reads'.Pre Reads'.Post Inv μ
 
 abbrev pub After-nothing : (Inv : InvT-loop) → (μ : MeasureT-loop) → Type 0
-After-nothing = λ Inv μ. Lts.After-nothing (
-  Reads''.Asked,
-  Reads''.Learnt,
-  Reads'4.Asked,
-  Reads'4.Learnt,
-  Reads'5.Asked,
-  Reads'5.Learnt,
-  Reads.Asked,
-  Reads.Learnt,
-  Reads'3.Asked,
-  Reads'3.Learnt,
-) Reads'.Pre Reads'.Post Inv μ
+After-nothing = λ Inv μ. Lts.After-nothing callees Reads'.Pre Reads'.Post Inv μ
 
 abbrev pub At-loop : (Inv : InvT-loop) → (μ : MeasureT-loop) → Type 0
-At-loop = λ Inv μ. Lts.At-loop (
-  Reads''.Asked,
-  Reads''.Learnt,
-  Reads'4.Asked,
-  Reads'4.Learnt,
-  Reads'5.Asked,
-  Reads'5.Learnt,
-  Reads.Asked,
-  Reads.Learnt,
-  Reads'3.Asked,
-  Reads'3.Learnt,
-) Reads'.Pre Reads'.Post Inv μ
+At-loop = λ Inv μ. Lts.At-loop callees Reads'.Pre Reads'.Post Inv μ
 
 abbrev pub In-loop : (Inv : InvT-loop) → (μ : MeasureT-loop) → Type 0
-In-loop = λ Inv μ. Lts.In-loop (
-  Reads''.Asked,
-  Reads''.Learnt,
-  Reads'4.Asked,
-  Reads'4.Learnt,
-  Reads'5.Asked,
-  Reads'5.Learnt,
-  Reads.Asked,
-  Reads.Learnt,
-  Reads'3.Asked,
-  Reads'3.Learnt,
-) Reads'.Pre Reads'.Post Inv μ
+In-loop = λ Inv μ. Lts.In-loop callees Reads'.Pre Reads'.Post Inv μ
 
 abbrev pub After-loop : (Inv : InvT-loop) → (μ : MeasureT-loop) → Type 0
-After-loop = λ Inv μ. Lts.After-loop (
-  Reads''.Asked,
-  Reads''.Learnt,
-  Reads'4.Asked,
-  Reads'4.Learnt,
-  Reads'5.Asked,
-  Reads'5.Learnt,
-  Reads.Asked,
-  Reads.Learnt,
-  Reads'3.Asked,
-  Reads'3.Learnt,
-) Reads'.Pre Reads'.Post Inv μ
+After-loop = λ Inv μ. Lts.After-loop callees Reads'.Pre Reads'.Post Inv μ
 
 abbrev pub After-t : (Inv : InvT-loop) → (μ : MeasureT-loop) → Type 0
-After-t = λ Inv μ. Lts.After-t (
-  Reads''.Asked,
-  Reads''.Learnt,
-  Reads'4.Asked,
-  Reads'4.Learnt,
-  Reads'5.Asked,
-  Reads'5.Learnt,
-  Reads.Asked,
-  Reads.Learnt,
-  Reads'3.Asked,
-  Reads'3.Learnt,
-) Reads'.Pre Reads'.Post Inv μ
+After-t = λ Inv μ. Lts.After-t callees Reads'.Pre Reads'.Post Inv μ
 
 abbrev pub After-held : (Inv : InvT-loop) → (μ : MeasureT-loop) → Type 0
-After-held = λ Inv μ. Lts.After-held (
-  Reads''.Asked,
-  Reads''.Learnt,
-  Reads'4.Asked,
-  Reads'4.Learnt,
-  Reads'5.Asked,
-  Reads'5.Learnt,
-  Reads.Asked,
-  Reads.Learnt,
-  Reads'3.Asked,
-  Reads'3.Learnt,
-) Reads'.Pre Reads'.Post Inv μ
+After-held = λ Inv μ. Lts.After-held callees Reads'.Pre Reads'.Post Inv μ
 
 abbrev pub After-is-listed : (Inv : InvT-loop) → (μ : MeasureT-loop) → Type 0
-After-is-listed = λ Inv μ. Lts.After-is-listed (
-  Reads''.Asked,
-  Reads''.Learnt,
-  Reads'4.Asked,
-  Reads'4.Learnt,
-  Reads'5.Asked,
-  Reads'5.Learnt,
-  Reads.Asked,
-  Reads.Learnt,
-  Reads'3.Asked,
-  Reads'3.Learnt,
-) Reads'.Pre Reads'.Post Inv μ
+After-is-listed = λ Inv μ. Lts.After-is-listed callees Reads'.Pre Reads'.Post Inv μ
 
 abbrev pub After-keep-if : (Inv : InvT-loop) → (μ : MeasureT-loop) → Type 0
-After-keep-if = λ Inv μ. Lts.After-keep-if (
-  Reads''.Asked,
-  Reads''.Learnt,
-  Reads'4.Asked,
-  Reads'4.Learnt,
-  Reads'5.Asked,
-  Reads'5.Learnt,
-  Reads.Asked,
-  Reads.Learnt,
-  Reads'3.Asked,
-  Reads'3.Learnt,
-) Reads'.Pre Reads'.Post Inv μ
+After-keep-if = λ Inv μ. Lts.After-keep-if callees Reads'.Pre Reads'.Post Inv μ
 
 abbrev pub Need-count-of-requires : (Inv : InvT-loop) → (μ : MeasureT-loop) → Type 0
-Need-count-of-requires = λ Inv μ. Lts.Need-count-of-requires (
-  Reads''.Asked,
-  Reads''.Learnt,
-  Reads'4.Asked,
-  Reads'4.Learnt,
-  Reads'5.Asked,
-  Reads'5.Learnt,
-  Reads.Asked,
-  Reads.Learnt,
-  Reads'3.Asked,
-  Reads'3.Learnt,
-) Reads'.Pre Reads'.Post Inv μ
+Need-count-of-requires = λ Inv μ. Lts.Need-count-of-requires callees Reads'.Pre Reads'.Post Inv μ
 
 abbrev pub Need-list-of-requires : (Inv : InvT-loop) → (μ : MeasureT-loop) → Type 0
-Need-list-of-requires = λ Inv μ. Lts.Need-list-of-requires (
-  Reads''.Asked,
-  Reads''.Learnt,
-  Reads'4.Asked,
-  Reads'4.Learnt,
-  Reads'5.Asked,
-  Reads'5.Learnt,
-  Reads.Asked,
-  Reads.Learnt,
-  Reads'3.Asked,
-  Reads'3.Learnt,
-) Reads'.Pre Reads'.Post Inv μ
+Need-list-of-requires = λ Inv μ. Lts.Need-list-of-requires callees Reads'.Pre Reads'.Post Inv μ
 
 abbrev pub Need-count-of-requires-2 : (Inv : InvT-loop) → (μ : MeasureT-loop) → Type 0
-Need-count-of-requires-2 = λ Inv μ. Lts.Need-count-of-requires-2 (
-  Reads''.Asked,
-  Reads''.Learnt,
-  Reads'4.Asked,
-  Reads'4.Learnt,
-  Reads'5.Asked,
-  Reads'5.Learnt,
-  Reads.Asked,
-  Reads.Learnt,
-  Reads'3.Asked,
-  Reads'3.Learnt,
-) Reads'.Pre Reads'.Post Inv μ
+Need-count-of-requires-2 = λ Inv μ. Lts.Need-count-of-requires-2 callees Reads'.Pre Reads'.Post Inv μ
 
 abbrev pub Need-list-of-requires-2 : (Inv : InvT-loop) → (μ : MeasureT-loop) → Type 0
-Need-list-of-requires-2 = λ Inv μ. Lts.Need-list-of-requires-2 (
-  Reads''.Asked,
-  Reads''.Learnt,
-  Reads'4.Asked,
-  Reads'4.Learnt,
-  Reads'5.Asked,
-  Reads'5.Learnt,
-  Reads.Asked,
-  Reads.Learnt,
-  Reads'3.Asked,
-  Reads'3.Learnt,
-) Reads'.Pre Reads'.Post Inv μ
+Need-list-of-requires-2 = λ Inv μ. Lts.Need-list-of-requires-2 callees Reads'.Pre Reads'.Post Inv μ
 
 abbrev pub Need-nothing-requires : (Inv : InvT-loop) → (μ : MeasureT-loop) → Type 0
-Need-nothing-requires = λ Inv μ. Lts.Need-nothing-requires (
-  Reads''.Asked,
-  Reads''.Learnt,
-  Reads'4.Asked,
-  Reads'4.Learnt,
-  Reads'5.Asked,
-  Reads'5.Learnt,
-  Reads.Asked,
-  Reads.Learnt,
-  Reads'3.Asked,
-  Reads'3.Learnt,
-) Reads'.Pre Reads'.Post Inv μ
+Need-nothing-requires = λ Inv μ. Lts.Need-nothing-requires callees Reads'.Pre Reads'.Post Inv μ
 
 abbrev pub Need-loop-holds : (Inv : InvT-loop) → (μ : MeasureT-loop) → Type 0
-Need-loop-holds = λ Inv μ. Lts.Need-loop-holds (
-  Reads''.Asked,
-  Reads''.Learnt,
-  Reads'4.Asked,
-  Reads'4.Learnt,
-  Reads'5.Asked,
-  Reads'5.Learnt,
-  Reads.Asked,
-  Reads.Learnt,
-  Reads'3.Asked,
-  Reads'3.Learnt,
-) Reads'.Pre Reads'.Post Inv μ
+Need-loop-holds = λ Inv μ. Lts.Need-loop-holds callees Reads'.Pre Reads'.Post Inv μ
 
 abbrev pub Need-mul-t : (Inv : InvT-loop) → (μ : MeasureT-loop) → Type 0
-Need-mul-t = λ Inv μ. Lts.Need-mul-t (
-  Reads''.Asked,
-  Reads''.Learnt,
-  Reads'4.Asked,
-  Reads'4.Learnt,
-  Reads'5.Asked,
-  Reads'5.Learnt,
-  Reads.Asked,
-  Reads.Learnt,
-  Reads'3.Asked,
-  Reads'3.Learnt,
-) Reads'.Pre Reads'.Post Inv μ
+Need-mul-t = λ Inv μ. Lts.Need-mul-t callees Reads'.Pre Reads'.Post Inv μ
 
 abbrev pub Need-array-copy-out-t : (Inv : InvT-loop) → (μ : MeasureT-loop) → Type 0
-Need-array-copy-out-t = λ Inv μ. Lts.Need-array-copy-out-t (
-  Reads''.Asked,
-  Reads''.Learnt,
-  Reads'4.Asked,
-  Reads'4.Learnt,
-  Reads'5.Asked,
-  Reads'5.Learnt,
-  Reads.Asked,
-  Reads.Learnt,
-  Reads'3.Asked,
-  Reads'3.Learnt,
-) Reads'.Pre Reads'.Post Inv μ
+Need-array-copy-out-t = λ Inv μ. Lts.Need-array-copy-out-t callees Reads'.Pre Reads'.Post Inv μ
 
 abbrev pub Need-slice-aggregate-is-listed : (Inv : InvT-loop) → (μ : MeasureT-loop) → Type 0
-Need-slice-aggregate-is-listed = λ Inv μ. Lts.Need-slice-aggregate-is-listed (
-  Reads''.Asked,
-  Reads''.Learnt,
-  Reads'4.Asked,
-  Reads'4.Learnt,
-  Reads'5.Asked,
-  Reads'5.Learnt,
-  Reads.Asked,
-  Reads.Learnt,
-  Reads'3.Asked,
-  Reads'3.Learnt,
-) Reads'.Pre Reads'.Post Inv μ
+Need-slice-aggregate-is-listed = λ Inv μ. Lts.Need-slice-aggregate-is-listed callees Reads'.Pre Reads'.Post Inv μ
 
 abbrev pub Need-is-listed-requires : (Inv : InvT-loop) → (μ : MeasureT-loop) → Type 0
-Need-is-listed-requires = λ Inv μ. Lts.Need-is-listed-requires (
-  Reads''.Asked,
-  Reads''.Learnt,
-  Reads'4.Asked,
-  Reads'4.Learnt,
-  Reads'5.Asked,
-  Reads'5.Learnt,
-  Reads.Asked,
-  Reads.Learnt,
-  Reads'3.Asked,
-  Reads'3.Learnt,
-) Reads'.Pre Reads'.Post Inv μ
+Need-is-listed-requires = λ Inv μ. Lts.Need-is-listed-requires callees Reads'.Pre Reads'.Post Inv μ
 
 abbrev pub Need-keep-if-requires : (Inv : InvT-loop) → (μ : MeasureT-loop) → Type 0
-Need-keep-if-requires = λ Inv μ. Lts.Need-keep-if-requires (
-  Reads''.Asked,
-  Reads''.Learnt,
-  Reads'4.Asked,
-  Reads'4.Learnt,
-  Reads'5.Asked,
-  Reads'5.Learnt,
-  Reads.Asked,
-  Reads.Learnt,
-  Reads'3.Asked,
-  Reads'3.Learnt,
-) Reads'.Pre Reads'.Post Inv μ
+Need-keep-if-requires = λ Inv μ. Lts.Need-keep-if-requires callees Reads'.Pre Reads'.Post Inv μ
 
 abbrev pub Need-add-i : (Inv : InvT-loop) → (μ : MeasureT-loop) → Type 0
-Need-add-i = λ Inv μ. Lts.Need-add-i (
-  Reads''.Asked,
-  Reads''.Learnt,
-  Reads'4.Asked,
-  Reads'4.Learnt,
-  Reads'5.Asked,
-  Reads'5.Learnt,
-  Reads.Asked,
-  Reads.Learnt,
-  Reads'3.Asked,
-  Reads'3.Learnt,
-) Reads'.Pre Reads'.Post Inv μ
+Need-add-i = λ Inv μ. Lts.Need-add-i callees Reads'.Pre Reads'.Post Inv μ
 
 abbrev pub Need-loop-less : (Inv : InvT-loop) → (μ : MeasureT-loop) → Type 0
-Need-loop-less = λ Inv μ. Lts.Need-loop-less (
-  Reads''.Asked,
-  Reads''.Learnt,
-  Reads'4.Asked,
-  Reads'4.Learnt,
-  Reads'5.Asked,
-  Reads'5.Learnt,
-  Reads.Asked,
-  Reads.Learnt,
-  Reads'3.Asked,
-  Reads'3.Learnt,
-) Reads'.Pre Reads'.Post Inv μ
+Need-loop-less = λ Inv μ. Lts.Need-loop-less callees Reads'.Pre Reads'.Post Inv μ
 
 abbrev pub Need-loop-again : (Inv : InvT-loop) → (μ : MeasureT-loop) → Type 0
-Need-loop-again = λ Inv μ. Lts.Need-loop-again (
-  Reads''.Asked,
-  Reads''.Learnt,
-  Reads'4.Asked,
-  Reads'4.Learnt,
-  Reads'5.Asked,
-  Reads'5.Learnt,
-  Reads.Asked,
-  Reads.Learnt,
-  Reads'3.Asked,
-  Reads'3.Learnt,
-) Reads'.Pre Reads'.Post Inv μ
+Need-loop-again = λ Inv μ. Lts.Need-loop-again callees Reads'.Pre Reads'.Post Inv μ
 
 abbrev pub Need-returns : (Inv : InvT-loop) → (μ : MeasureT-loop) → Type 0
-Need-returns = λ Inv μ. Lts.Need-returns (
-  Reads''.Asked,
-  Reads''.Learnt,
-  Reads'4.Asked,
-  Reads'4.Learnt,
-  Reads'5.Asked,
-  Reads'5.Learnt,
-  Reads.Asked,
-  Reads.Learnt,
-  Reads'3.Asked,
-  Reads'3.Learnt,
-) Reads'.Pre Reads'.Post Inv μ
+Need-returns = λ Inv μ. Lts.Need-returns callees Reads'.Pre Reads'.Post Inv μ
 
 module _ {M : Type 1} where
   pub spec :
@@ -441,32 +136,10 @@ module _ {M : Type 1} where
       (answer : Need-loop-less Inv μ) →
       (answer : Need-loop-again Inv μ) →
       (answer : Need-returns Inv μ) →
-      Lts.Closed (
-        Reads''.Asked,
-        Reads''.Learnt,
-        Reads'4.Asked,
-        Reads'4.Learnt,
-        Reads'5.Asked,
-        Reads'5.Learnt,
-        Reads.Asked,
-        Reads.Learnt,
-        Reads'3.Asked,
-        Reads'3.Learnt,
-      ) Reads'.Pre Reads'.Post M
+      Lts.Closed callees Reads'.Pre Reads'.Post M
   spec =
       λ Inv μ answer answer' answer'' answer'3 answer'4 answer'5 answer'6 answer'7 answer'8
-      answer'9 answer'10 answer'11 answer'12 answer'13 answer'14. Lts.spec (
-        Reads''.Asked,
-        Reads''.Learnt,
-        Reads'4.Asked,
-        Reads'4.Learnt,
-        Reads'5.Asked,
-        Reads'5.Learnt,
-        Reads.Asked,
-        Reads.Learnt,
-        Reads'3.Asked,
-        Reads'3.Learnt,
-      )
+      answer'9 answer'10 answer'11 answer'12 answer'13 answer'14. Lts.spec callees
       Reads'.Pre
       Reads'.Post
       Inv
@@ -487,18 +160,7 @@ module _ {M : Type 1} where
       answer'13
       answer'14
 
-  pub close : Lts.Closed (
-    Reads''.Asked,
-    Reads''.Learnt,
-    Reads'4.Asked,
-    Reads'4.Learnt,
-    Reads'5.Asked,
-    Reads'5.Learnt,
-    Reads.Asked,
-    Reads.Learnt,
-    Reads'3.Asked,
-    Reads'3.Learnt,
-  ) Reads'.Pre Reads'.Post M → Statement.statement M
+  pub close : Lts.Closed callees Reads'.Pre Reads'.Post M → Statement.statement M
   unfolding Code.routine Running.tablesOf
   close =
       λ closed 𝓤 H 𝓜 𝓖 𝓡. Written.close

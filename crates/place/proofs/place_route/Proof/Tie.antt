@@ -18,165 +18,56 @@ use borrow.Fn.Run
 use borrow.Fn.Written
 use contract.Running
 
+abbrev callees : Lts.Claims
+callees = (Reads'3.Asked, Reads'3.Learnt, Reads.Asked, Reads.Learnt, Reads'.Asked, Reads'.Learnt)
+
 abbrev pub Start : Type 0
-Start = Lts.Start (
-  Reads'3.Asked,
-  Reads'3.Learnt,
-  Reads.Asked,
-  Reads.Learnt,
-  Reads'.Asked,
-  Reads'.Learnt,
-) Reads''.Pre Reads''.Post
+Start = Lts.Start callees Reads''.Pre Reads''.Post
 
 abbrev pub Then1 : Type 0
-Then1 = Lts.Then1 (
-  Reads'3.Asked,
-  Reads'3.Learnt,
-  Reads.Asked,
-  Reads.Learnt,
-  Reads'.Asked,
-  Reads'.Learnt,
-) Reads''.Pre Reads''.Post
+Then1 = Lts.Then1 callees Reads''.Pre Reads''.Post
 
 abbrev pub Then2 : Type 0
-Then2 = Lts.Then2 (
-  Reads'3.Asked,
-  Reads'3.Learnt,
-  Reads.Asked,
-  Reads.Learnt,
-  Reads'.Asked,
-  Reads'.Learnt,
-) Reads''.Pre Reads''.Post
+Then2 = Lts.Then2 callees Reads''.Pre Reads''.Post
 
 abbrev pub After-route-to : Type 0
-After-route-to = Lts.After-route-to (
-  Reads'3.Asked,
-  Reads'3.Learnt,
-  Reads.Asked,
-  Reads.Learnt,
-  Reads'.Asked,
-  Reads'.Learnt,
-) Reads''.Pre Reads''.Post
+After-route-to = Lts.After-route-to callees Reads''.Pre Reads''.Post
 
 abbrev pub Else2 : Type 0
-Else2 = Lts.Else2 (
-  Reads'3.Asked,
-  Reads'3.Learnt,
-  Reads.Asked,
-  Reads.Learnt,
-  Reads'.Asked,
-  Reads'.Learnt,
-) Reads''.Pre Reads''.Post
+Else2 = Lts.Else2 callees Reads''.Pre Reads''.Post
 
 abbrev pub After-find-spare-route : Type 0
-After-find-spare-route = Lts.After-find-spare-route (
-  Reads'3.Asked,
-  Reads'3.Learnt,
-  Reads.Asked,
-  Reads.Learnt,
-  Reads'.Asked,
-  Reads'.Learnt,
-) Reads''.Pre Reads''.Post
+After-find-spare-route = Lts.After-find-spare-route callees Reads''.Pre Reads''.Post
 
 abbrev pub After-route-to2 : Type 0
-After-route-to2 = Lts.After-route-to2 (
-  Reads'3.Asked,
-  Reads'3.Learnt,
-  Reads.Asked,
-  Reads.Learnt,
-  Reads'.Asked,
-  Reads'.Learnt,
-) Reads''.Pre Reads''.Post
+After-route-to2 = Lts.After-route-to2 callees Reads''.Pre Reads''.Post
 
 abbrev pub Else1 : Type 0
-Else1 = Lts.Else1 (
-  Reads'3.Asked,
-  Reads'3.Learnt,
-  Reads.Asked,
-  Reads.Learnt,
-  Reads'.Asked,
-  Reads'.Learnt,
-) Reads''.Pre Reads''.Post
+Else1 = Lts.Else1 callees Reads''.Pre Reads''.Post
 
 abbrev pub After-no-route : Type 0
-After-no-route = Lts.After-no-route (
-  Reads'3.Asked,
-  Reads'3.Learnt,
-  Reads.Asked,
-  Reads.Learnt,
-  Reads'.Asked,
-  Reads'.Learnt,
-) Reads''.Pre Reads''.Post
+After-no-route = Lts.After-no-route callees Reads''.Pre Reads''.Post
 
 abbrev pub Need-route-to-requires : Type 0
-Need-route-to-requires = Lts.Need-route-to-requires (
-  Reads'3.Asked,
-  Reads'3.Learnt,
-  Reads.Asked,
-  Reads.Learnt,
-  Reads'.Asked,
-  Reads'.Learnt,
-) Reads''.Pre Reads''.Post
+Need-route-to-requires = Lts.Need-route-to-requires callees Reads''.Pre Reads''.Post
 
 abbrev pub Need-returns : Type 0
-Need-returns = Lts.Need-returns (
-  Reads'3.Asked,
-  Reads'3.Learnt,
-  Reads.Asked,
-  Reads.Learnt,
-  Reads'.Asked,
-  Reads'.Learnt,
-) Reads''.Pre Reads''.Post
+Need-returns = Lts.Need-returns callees Reads''.Pre Reads''.Post
 
 abbrev pub Need-find-spare-route-requires : Type 0
-Need-find-spare-route-requires = Lts.Need-find-spare-route-requires (
-  Reads'3.Asked,
-  Reads'3.Learnt,
-  Reads.Asked,
-  Reads.Learnt,
-  Reads'.Asked,
-  Reads'.Learnt,
-) Reads''.Pre Reads''.Post
+Need-find-spare-route-requires = Lts.Need-find-spare-route-requires callees Reads''.Pre Reads''.Post
 
 abbrev pub Need-route-to-requires-2 : Type 0
-Need-route-to-requires-2 = Lts.Need-route-to-requires-2 (
-  Reads'3.Asked,
-  Reads'3.Learnt,
-  Reads.Asked,
-  Reads.Learnt,
-  Reads'.Asked,
-  Reads'.Learnt,
-) Reads''.Pre Reads''.Post
+Need-route-to-requires-2 = Lts.Need-route-to-requires-2 callees Reads''.Pre Reads''.Post
 
 abbrev pub Need-returns-2 : Type 0
-Need-returns-2 = Lts.Need-returns-2 (
-  Reads'3.Asked,
-  Reads'3.Learnt,
-  Reads.Asked,
-  Reads.Learnt,
-  Reads'.Asked,
-  Reads'.Learnt,
-) Reads''.Pre Reads''.Post
+Need-returns-2 = Lts.Need-returns-2 callees Reads''.Pre Reads''.Post
 
 abbrev pub Need-no-route-requires : Type 0
-Need-no-route-requires = Lts.Need-no-route-requires (
-  Reads'3.Asked,
-  Reads'3.Learnt,
-  Reads.Asked,
-  Reads.Learnt,
-  Reads'.Asked,
-  Reads'.Learnt,
-) Reads''.Pre Reads''.Post
+Need-no-route-requires = Lts.Need-no-route-requires callees Reads''.Pre Reads''.Post
 
 abbrev pub Need-returns-3 : Type 0
-Need-returns-3 = Lts.Need-returns-3 (
-  Reads'3.Asked,
-  Reads'3.Learnt,
-  Reads.Asked,
-  Reads.Learnt,
-  Reads'.Asked,
-  Reads'.Learnt,
-) Reads''.Pre Reads''.Post
+Need-returns-3 = Lts.Need-returns-3 callees Reads''.Pre Reads''.Post
 
 module _ {M : Type 1} where
   pub spec :
@@ -187,31 +78,10 @@ module _ {M : Type 1} where
       (answer : Need-returns-2) →
       (answer : Need-no-route-requires) →
       (answer : Need-returns-3) →
-      Lts.Closed (
-        Reads'3.Asked,
-        Reads'3.Learnt,
-        Reads.Asked,
-        Reads.Learnt,
-        Reads'.Asked,
-        Reads'.Learnt,
-      ) Reads''.Pre Reads''.Post M
-  spec = λ answer answer' answer'' answer'3 answer'4 answer'5 answer'6. Lts.spec (
-    Reads'3.Asked,
-    Reads'3.Learnt,
-    Reads.Asked,
-    Reads.Learnt,
-    Reads'.Asked,
-    Reads'.Learnt,
-  ) Reads''.Pre Reads''.Post answer answer' answer'' answer'3 answer'4 answer'5 answer'6
+      Lts.Closed callees Reads''.Pre Reads''.Post M
+  spec = λ answer answer' answer'' answer'3 answer'4 answer'5 answer'6. Lts.spec callees Reads''.Pre Reads''.Post answer answer' answer'' answer'3 answer'4 answer'5 answer'6
 
-  pub close : Lts.Closed (
-    Reads'3.Asked,
-    Reads'3.Learnt,
-    Reads.Asked,
-    Reads.Learnt,
-    Reads'.Asked,
-    Reads'.Learnt,
-  ) Reads''.Pre Reads''.Post M → Statement.statement M
+  pub close : Lts.Closed callees Reads''.Pre Reads''.Post M → Statement.statement M
   unfolding Code.routine Running.tablesOf
   close =
       λ closed 𝓤 H 𝓜 𝓖 𝓡. Written.close

@@ -21,377 +21,101 @@ use borrow.Fn.Run
 use borrow.Fn.Written
 use contract.Running
 
+abbrev callees : Lts.Claims
+callees = (Reads.Asked, Reads.Learnt, Reads'4.Asked, Reads'4.Learnt, Reads''.Asked, Reads''.Learnt, Reads'.Asked, Reads'.Learnt)
+
 abbrev pub Start : Type 0
-Start = Lts.Start (
-  Reads.Asked,
-  Reads.Learnt,
-  Reads'4.Asked,
-  Reads'4.Learnt,
-  Reads''.Asked,
-  Reads''.Learnt,
-  Reads'.Asked,
-  Reads'.Learnt,
-) Reads'3.Pre Reads'3.Post
+Start = Lts.Start callees Reads'3.Pre Reads'3.Post
 
 abbrev pub Then1 : Type 0
-Then1 = Lts.Then1 (
-  Reads.Asked,
-  Reads.Learnt,
-  Reads'4.Asked,
-  Reads'4.Learnt,
-  Reads''.Asked,
-  Reads''.Learnt,
-  Reads'.Asked,
-  Reads'.Learnt,
-) Reads'3.Pre Reads'3.Post
+Then1 = Lts.Then1 callees Reads'3.Pre Reads'3.Post
 
 abbrev pub Then2 : Type 0
-Then2 = Lts.Then2 (
-  Reads.Asked,
-  Reads.Learnt,
-  Reads'4.Asked,
-  Reads'4.Learnt,
-  Reads''.Asked,
-  Reads''.Learnt,
-  Reads'.Asked,
-  Reads'.Learnt,
-) Reads'3.Pre Reads'3.Post
+Then2 = Lts.Then2 callees Reads'3.Pre Reads'3.Post
 
 abbrev pub After-find-spare : Type 0
-After-find-spare = Lts.After-find-spare (
-  Reads.Asked,
-  Reads.Learnt,
-  Reads'4.Asked,
-  Reads'4.Learnt,
-  Reads''.Asked,
-  Reads''.Learnt,
-  Reads'.Asked,
-  Reads'.Learnt,
-) Reads'3.Pre Reads'3.Post
+After-find-spare = Lts.After-find-spare callees Reads'3.Pre Reads'3.Post
 
 abbrev pub After-two : Type 0
-After-two = Lts.After-two (
-  Reads.Asked,
-  Reads.Learnt,
-  Reads'4.Asked,
-  Reads'4.Learnt,
-  Reads''.Asked,
-  Reads''.Learnt,
-  Reads'.Asked,
-  Reads'.Learnt,
-) Reads'3.Pre Reads'3.Post
+After-two = Lts.After-two callees Reads'3.Pre Reads'3.Post
 
 abbrev pub Else2 : Type 0
-Else2 = Lts.Else2 (
-  Reads.Asked,
-  Reads.Learnt,
-  Reads'4.Asked,
-  Reads'4.Learnt,
-  Reads''.Asked,
-  Reads''.Learnt,
-  Reads'.Asked,
-  Reads'.Learnt,
-) Reads'3.Pre Reads'3.Post
+Else2 = Lts.Else2 callees Reads'3.Pre Reads'3.Post
 
 abbrev pub After-one : Type 0
-After-one = Lts.After-one (
-  Reads.Asked,
-  Reads.Learnt,
-  Reads'4.Asked,
-  Reads'4.Learnt,
-  Reads''.Asked,
-  Reads''.Learnt,
-  Reads'.Asked,
-  Reads'.Learnt,
-) Reads'3.Pre Reads'3.Post
+After-one = Lts.After-one callees Reads'3.Pre Reads'3.Post
 
 abbrev pub Else1 : Type 0
-Else1 = Lts.Else1 (
-  Reads.Asked,
-  Reads.Learnt,
-  Reads'4.Asked,
-  Reads'4.Learnt,
-  Reads''.Asked,
-  Reads''.Learnt,
-  Reads'.Asked,
-  Reads'.Learnt,
-) Reads'3.Pre Reads'3.Post
+Else1 = Lts.Else1 callees Reads'3.Pre Reads'3.Post
 
 abbrev pub After-find-spare2 : Type 0
-After-find-spare2 = Lts.After-find-spare2 (
-  Reads.Asked,
-  Reads.Learnt,
-  Reads'4.Asked,
-  Reads'4.Learnt,
-  Reads''.Asked,
-  Reads''.Learnt,
-  Reads'.Asked,
-  Reads'.Learnt,
-) Reads'3.Pre Reads'3.Post
+After-find-spare2 = Lts.After-find-spare2 callees Reads'3.Pre Reads'3.Post
 
 abbrev pub Then3 : Type 0
-Then3 = Lts.Then3 (
-  Reads.Asked,
-  Reads.Learnt,
-  Reads'4.Asked,
-  Reads'4.Learnt,
-  Reads''.Asked,
-  Reads''.Learnt,
-  Reads'.Asked,
-  Reads'.Learnt,
-) Reads'3.Pre Reads'3.Post
+Then3 = Lts.Then3 callees Reads'3.Pre Reads'3.Post
 
 abbrev pub Then4 : Type 0
-Then4 = Lts.Then4 (
-  Reads.Asked,
-  Reads.Learnt,
-  Reads'4.Asked,
-  Reads'4.Learnt,
-  Reads''.Asked,
-  Reads''.Learnt,
-  Reads'.Asked,
-  Reads'.Learnt,
-) Reads'3.Pre Reads'3.Post
+Then4 = Lts.Then4 callees Reads'3.Pre Reads'3.Post
 
 abbrev pub After-find-spare3 : Type 0
-After-find-spare3 = Lts.After-find-spare3 (
-  Reads.Asked,
-  Reads.Learnt,
-  Reads'4.Asked,
-  Reads'4.Learnt,
-  Reads''.Asked,
-  Reads''.Learnt,
-  Reads'.Asked,
-  Reads'.Learnt,
-) Reads'3.Pre Reads'3.Post
+After-find-spare3 = Lts.After-find-spare3 callees Reads'3.Pre Reads'3.Post
 
 abbrev pub After-two2 : Type 0
-After-two2 = Lts.After-two2 (
-  Reads.Asked,
-  Reads.Learnt,
-  Reads'4.Asked,
-  Reads'4.Learnt,
-  Reads''.Asked,
-  Reads''.Learnt,
-  Reads'.Asked,
-  Reads'.Learnt,
-) Reads'3.Pre Reads'3.Post
+After-two2 = Lts.After-two2 callees Reads'3.Pre Reads'3.Post
 
 abbrev pub Else4 : Type 0
-Else4 = Lts.Else4 (
-  Reads.Asked,
-  Reads.Learnt,
-  Reads'4.Asked,
-  Reads'4.Learnt,
-  Reads''.Asked,
-  Reads''.Learnt,
-  Reads'.Asked,
-  Reads'.Learnt,
-) Reads'3.Pre Reads'3.Post
+Else4 = Lts.Else4 callees Reads'3.Pre Reads'3.Post
 
 abbrev pub After-full : Type 0
-After-full = Lts.After-full (
-  Reads.Asked,
-  Reads.Learnt,
-  Reads'4.Asked,
-  Reads'4.Learnt,
-  Reads''.Asked,
-  Reads''.Learnt,
-  Reads'.Asked,
-  Reads'.Learnt,
-) Reads'3.Pre Reads'3.Post
+After-full = Lts.After-full callees Reads'3.Pre Reads'3.Post
 
 abbrev pub Else3 : Type 0
-Else3 = Lts.Else3 (
-  Reads.Asked,
-  Reads.Learnt,
-  Reads'4.Asked,
-  Reads'4.Learnt,
-  Reads''.Asked,
-  Reads''.Learnt,
-  Reads'.Asked,
-  Reads'.Learnt,
-) Reads'3.Pre Reads'3.Post
+Else3 = Lts.Else3 callees Reads'3.Pre Reads'3.Post
 
 abbrev pub After-one2 : Type 0
-After-one2 = Lts.After-one2 (
-  Reads.Asked,
-  Reads.Learnt,
-  Reads'4.Asked,
-  Reads'4.Learnt,
-  Reads''.Asked,
-  Reads''.Learnt,
-  Reads'.Asked,
-  Reads'.Learnt,
-) Reads'3.Pre Reads'3.Post
+After-one2 = Lts.After-one2 callees Reads'3.Pre Reads'3.Post
 
 abbrev pub Need-find-spare-requires : Type 0
-Need-find-spare-requires = Lts.Need-find-spare-requires (
-  Reads.Asked,
-  Reads.Learnt,
-  Reads'4.Asked,
-  Reads'4.Learnt,
-  Reads''.Asked,
-  Reads''.Learnt,
-  Reads'.Asked,
-  Reads'.Learnt,
-) Reads'3.Pre Reads'3.Post
+Need-find-spare-requires = Lts.Need-find-spare-requires callees Reads'3.Pre Reads'3.Post
 
 abbrev pub Need-two-requires : Type 0
-Need-two-requires = Lts.Need-two-requires (
-  Reads.Asked,
-  Reads.Learnt,
-  Reads'4.Asked,
-  Reads'4.Learnt,
-  Reads''.Asked,
-  Reads''.Learnt,
-  Reads'.Asked,
-  Reads'.Learnt,
-) Reads'3.Pre Reads'3.Post
+Need-two-requires = Lts.Need-two-requires callees Reads'3.Pre Reads'3.Post
 
 abbrev pub Need-returns : Type 0
-Need-returns = Lts.Need-returns (
-  Reads.Asked,
-  Reads.Learnt,
-  Reads'4.Asked,
-  Reads'4.Learnt,
-  Reads''.Asked,
-  Reads''.Learnt,
-  Reads'.Asked,
-  Reads'.Learnt,
-) Reads'3.Pre Reads'3.Post
+Need-returns = Lts.Need-returns callees Reads'3.Pre Reads'3.Post
 
 abbrev pub Need-one-requires : Type 0
-Need-one-requires = Lts.Need-one-requires (
-  Reads.Asked,
-  Reads.Learnt,
-  Reads'4.Asked,
-  Reads'4.Learnt,
-  Reads''.Asked,
-  Reads''.Learnt,
-  Reads'.Asked,
-  Reads'.Learnt,
-) Reads'3.Pre Reads'3.Post
+Need-one-requires = Lts.Need-one-requires callees Reads'3.Pre Reads'3.Post
 
 abbrev pub Need-returns-2 : Type 0
-Need-returns-2 = Lts.Need-returns-2 (
-  Reads.Asked,
-  Reads.Learnt,
-  Reads'4.Asked,
-  Reads'4.Learnt,
-  Reads''.Asked,
-  Reads''.Learnt,
-  Reads'.Asked,
-  Reads'.Learnt,
-) Reads'3.Pre Reads'3.Post
+Need-returns-2 = Lts.Need-returns-2 callees Reads'3.Pre Reads'3.Post
 
 abbrev pub Need-find-spare-requires-2 : Type 0
-Need-find-spare-requires-2 = Lts.Need-find-spare-requires-2 (
-  Reads.Asked,
-  Reads.Learnt,
-  Reads'4.Asked,
-  Reads'4.Learnt,
-  Reads''.Asked,
-  Reads''.Learnt,
-  Reads'.Asked,
-  Reads'.Learnt,
-) Reads'3.Pre Reads'3.Post
+Need-find-spare-requires-2 = Lts.Need-find-spare-requires-2 callees Reads'3.Pre Reads'3.Post
 
 abbrev pub Need-add-find-spare : Type 0
-Need-add-find-spare = Lts.Need-add-find-spare (
-  Reads.Asked,
-  Reads.Learnt,
-  Reads'4.Asked,
-  Reads'4.Learnt,
-  Reads''.Asked,
-  Reads''.Learnt,
-  Reads'.Asked,
-  Reads'.Learnt,
-) Reads'3.Pre Reads'3.Post
+Need-add-find-spare = Lts.Need-add-find-spare callees Reads'3.Pre Reads'3.Post
 
 abbrev pub Need-find-spare-requires-3 : Type 0
-Need-find-spare-requires-3 = Lts.Need-find-spare-requires-3 (
-  Reads.Asked,
-  Reads.Learnt,
-  Reads'4.Asked,
-  Reads'4.Learnt,
-  Reads''.Asked,
-  Reads''.Learnt,
-  Reads'.Asked,
-  Reads'.Learnt,
-) Reads'3.Pre Reads'3.Post
+Need-find-spare-requires-3 = Lts.Need-find-spare-requires-3 callees Reads'3.Pre Reads'3.Post
 
 abbrev pub Need-two-requires-2 : Type 0
-Need-two-requires-2 = Lts.Need-two-requires-2 (
-  Reads.Asked,
-  Reads.Learnt,
-  Reads'4.Asked,
-  Reads'4.Learnt,
-  Reads''.Asked,
-  Reads''.Learnt,
-  Reads'.Asked,
-  Reads'.Learnt,
-) Reads'3.Pre Reads'3.Post
+Need-two-requires-2 = Lts.Need-two-requires-2 callees Reads'3.Pre Reads'3.Post
 
 abbrev pub Need-returns-3 : Type 0
-Need-returns-3 = Lts.Need-returns-3 (
-  Reads.Asked,
-  Reads.Learnt,
-  Reads'4.Asked,
-  Reads'4.Learnt,
-  Reads''.Asked,
-  Reads''.Learnt,
-  Reads'.Asked,
-  Reads'.Learnt,
-) Reads'3.Pre Reads'3.Post
+Need-returns-3 = Lts.Need-returns-3 callees Reads'3.Pre Reads'3.Post
 
 abbrev pub Need-full-requires : Type 0
-Need-full-requires = Lts.Need-full-requires (
-  Reads.Asked,
-  Reads.Learnt,
-  Reads'4.Asked,
-  Reads'4.Learnt,
-  Reads''.Asked,
-  Reads''.Learnt,
-  Reads'.Asked,
-  Reads'.Learnt,
-) Reads'3.Pre Reads'3.Post
+Need-full-requires = Lts.Need-full-requires callees Reads'3.Pre Reads'3.Post
 
 abbrev pub Need-returns-4 : Type 0
-Need-returns-4 = Lts.Need-returns-4 (
-  Reads.Asked,
-  Reads.Learnt,
-  Reads'4.Asked,
-  Reads'4.Learnt,
-  Reads''.Asked,
-  Reads''.Learnt,
-  Reads'.Asked,
-  Reads'.Learnt,
-) Reads'3.Pre Reads'3.Post
+Need-returns-4 = Lts.Need-returns-4 callees Reads'3.Pre Reads'3.Post
 
 abbrev pub Need-one-requires-2 : Type 0
-Need-one-requires-2 = Lts.Need-one-requires-2 (
-  Reads.Asked,
-  Reads.Learnt,
-  Reads'4.Asked,
-  Reads'4.Learnt,
-  Reads''.Asked,
-  Reads''.Learnt,
-  Reads'.Asked,
-  Reads'.Learnt,
-) Reads'3.Pre Reads'3.Post
+Need-one-requires-2 = Lts.Need-one-requires-2 callees Reads'3.Pre Reads'3.Post
 
 abbrev pub Need-returns-5 : Type 0
-Need-returns-5 = Lts.Need-returns-5 (
-  Reads.Asked,
-  Reads.Learnt,
-  Reads'4.Asked,
-  Reads'4.Learnt,
-  Reads''.Asked,
-  Reads''.Learnt,
-  Reads'.Asked,
-  Reads'.Learnt,
-) Reads'3.Pre Reads'3.Post
+Need-returns-5 = Lts.Need-returns-5 callees Reads'3.Pre Reads'3.Post
 
 module _ {M : Type 1} where
   pub spec :
@@ -409,28 +133,10 @@ module _ {M : Type 1} where
       (answer : Need-returns-4) →
       (answer : Need-one-requires-2) →
       (answer : Need-returns-5) →
-      Lts.Closed (
-        Reads.Asked,
-        Reads.Learnt,
-        Reads'4.Asked,
-        Reads'4.Learnt,
-        Reads''.Asked,
-        Reads''.Learnt,
-        Reads'.Asked,
-        Reads'.Learnt,
-      ) Reads'3.Pre Reads'3.Post M
+      Lts.Closed callees Reads'3.Pre Reads'3.Post M
   spec =
       λ answer answer' answer'' answer'3 answer'4 answer'5 answer'6 answer'7 answer'8 answer'9
-      answer'10 answer'11 answer'12 answer'13. Lts.spec (
-        Reads.Asked,
-        Reads.Learnt,
-        Reads'4.Asked,
-        Reads'4.Learnt,
-        Reads''.Asked,
-        Reads''.Learnt,
-        Reads'.Asked,
-        Reads'.Learnt,
-      )
+      answer'10 answer'11 answer'12 answer'13. Lts.spec callees
       Reads'3.Pre
       Reads'3.Post
       answer
@@ -448,16 +154,7 @@ module _ {M : Type 1} where
       answer'12
       answer'13
 
-  pub close : Lts.Closed (
-    Reads.Asked,
-    Reads.Learnt,
-    Reads'4.Asked,
-    Reads'4.Learnt,
-    Reads''.Asked,
-    Reads''.Learnt,
-    Reads'.Asked,
-    Reads'.Learnt,
-  ) Reads'3.Pre Reads'3.Post M → Statement.statement M
+  pub close : Lts.Closed callees Reads'3.Pre Reads'3.Post M → Statement.statement M
   unfolding Code.routine Running.tablesOf
   close =
       λ closed 𝓤 H 𝓜 𝓖 𝓡. Written.close

@@ -24,439 +24,101 @@ use borrow.Fn.Run
 use borrow.Fn.Written
 use contract.Running
 
+abbrev callees : Lts.Claims
+callees = (Reads''.Asked, Reads''.Learnt, Reads'3.Asked, Reads'3.Learnt, Reads'.Asked, Reads'.Learnt, Reads.Asked, Reads.Learnt, Reads'5.Asked, Reads'5.Learnt)
+
 abbrev pub Start : Type 0
-Start = Lts.Start (
-  Reads''.Asked,
-  Reads''.Learnt,
-  Reads'3.Asked,
-  Reads'3.Learnt,
-  Reads'.Asked,
-  Reads'.Learnt,
-  Reads.Asked,
-  Reads.Learnt,
-  Reads'5.Asked,
-  Reads'5.Learnt,
-) Reads'4.Pre Reads'4.Post
+Start = Lts.Start callees Reads'4.Pre Reads'4.Post
 
 abbrev pub After-slice-known : Type 0
-After-slice-known = Lts.After-slice-known (
-  Reads''.Asked,
-  Reads''.Learnt,
-  Reads'3.Asked,
-  Reads'3.Learnt,
-  Reads'.Asked,
-  Reads'.Learnt,
-  Reads.Asked,
-  Reads.Learnt,
-  Reads'5.Asked,
-  Reads'5.Learnt,
-) Reads'4.Pre Reads'4.Post
+After-slice-known = Lts.After-slice-known callees Reads'4.Pre Reads'4.Post
 
 abbrev pub After-addresses-of-arg : Type 0
-After-addresses-of-arg = Lts.After-addresses-of-arg (
-  Reads''.Asked,
-  Reads''.Learnt,
-  Reads'3.Asked,
-  Reads'3.Learnt,
-  Reads'.Asked,
-  Reads'.Learnt,
-  Reads.Asked,
-  Reads.Learnt,
-  Reads'5.Asked,
-  Reads'5.Learnt,
-) Reads'4.Pre Reads'4.Post
+After-addresses-of-arg = Lts.After-addresses-of-arg callees Reads'4.Pre Reads'4.Post
 
 abbrev pub After-addresses-of : Type 0
-After-addresses-of = Lts.After-addresses-of (
-  Reads''.Asked,
-  Reads''.Learnt,
-  Reads'3.Asked,
-  Reads'3.Learnt,
-  Reads'.Asked,
-  Reads'.Learnt,
-  Reads.Asked,
-  Reads.Learnt,
-  Reads'5.Asked,
-  Reads'5.Learnt,
-) Reads'4.Pre Reads'4.Post
+After-addresses-of = Lts.After-addresses-of callees Reads'4.Pre Reads'4.Post
 
 abbrev pub After-is-grown-arg : Type 0
-After-is-grown-arg = Lts.After-is-grown-arg (
-  Reads''.Asked,
-  Reads''.Learnt,
-  Reads'3.Asked,
-  Reads'3.Learnt,
-  Reads'.Asked,
-  Reads'.Learnt,
-  Reads.Asked,
-  Reads.Learnt,
-  Reads'5.Asked,
-  Reads'5.Learnt,
-) Reads'4.Pre Reads'4.Post
+After-is-grown-arg = Lts.After-is-grown-arg callees Reads'4.Pre Reads'4.Post
 
 abbrev pub After-is-grown : Type 0
-After-is-grown = Lts.After-is-grown (
-  Reads''.Asked,
-  Reads''.Learnt,
-  Reads'3.Asked,
-  Reads'3.Learnt,
-  Reads'.Asked,
-  Reads'.Learnt,
-  Reads.Asked,
-  Reads.Learnt,
-  Reads'5.Asked,
-  Reads'5.Learnt,
-) Reads'4.Pre Reads'4.Post
+After-is-grown = Lts.After-is-grown callees Reads'4.Pre Reads'4.Post
 
 abbrev pub Then1 : Type 0
-Then1 = Lts.Then1 (
-  Reads''.Asked,
-  Reads''.Learnt,
-  Reads'3.Asked,
-  Reads'3.Learnt,
-  Reads'.Asked,
-  Reads'.Learnt,
-  Reads.Asked,
-  Reads.Learnt,
-  Reads'5.Asked,
-  Reads'5.Learnt,
-) Reads'4.Pre Reads'4.Post
+Then1 = Lts.Then1 callees Reads'4.Pre Reads'4.Post
 
 abbrev pub After-grown-count-arg : Type 0
-After-grown-count-arg = Lts.After-grown-count-arg (
-  Reads''.Asked,
-  Reads''.Learnt,
-  Reads'3.Asked,
-  Reads'3.Learnt,
-  Reads'.Asked,
-  Reads'.Learnt,
-  Reads.Asked,
-  Reads.Learnt,
-  Reads'5.Asked,
-  Reads'5.Learnt,
-) Reads'4.Pre Reads'4.Post
+After-grown-count-arg = Lts.After-grown-count-arg callees Reads'4.Pre Reads'4.Post
 
 abbrev pub After-grown-count : Type 0
-After-grown-count = Lts.After-grown-count (
-  Reads''.Asked,
-  Reads''.Learnt,
-  Reads'3.Asked,
-  Reads'3.Learnt,
-  Reads'.Asked,
-  Reads'.Learnt,
-  Reads.Asked,
-  Reads.Learnt,
-  Reads'5.Asked,
-  Reads'5.Learnt,
-) Reads'4.Pre Reads'4.Post
+After-grown-count = Lts.After-grown-count callees Reads'4.Pre Reads'4.Post
 
 abbrev pub After-grown-vector-arg : Type 0
-After-grown-vector-arg = Lts.After-grown-vector-arg (
-  Reads''.Asked,
-  Reads''.Learnt,
-  Reads'3.Asked,
-  Reads'3.Learnt,
-  Reads'.Asked,
-  Reads'.Learnt,
-  Reads.Asked,
-  Reads.Learnt,
-  Reads'5.Asked,
-  Reads'5.Learnt,
-) Reads'4.Pre Reads'4.Post
+After-grown-vector-arg = Lts.After-grown-vector-arg callees Reads'4.Pre Reads'4.Post
 
 abbrev pub After-grown-vector : Type 0
-After-grown-vector = Lts.After-grown-vector (
-  Reads''.Asked,
-  Reads''.Learnt,
-  Reads'3.Asked,
-  Reads'3.Learnt,
-  Reads'.Asked,
-  Reads'.Learnt,
-  Reads.Asked,
-  Reads.Learnt,
-  Reads'5.Asked,
-  Reads'5.Learnt,
-) Reads'4.Pre Reads'4.Post
+After-grown-vector = Lts.After-grown-vector callees Reads'4.Pre Reads'4.Post
 
 abbrev pub After-put-parsed-arg : Type 0
-After-put-parsed-arg = Lts.After-put-parsed-arg (
-  Reads''.Asked,
-  Reads''.Learnt,
-  Reads'3.Asked,
-  Reads'3.Learnt,
-  Reads'.Asked,
-  Reads'.Learnt,
-  Reads.Asked,
-  Reads.Learnt,
-  Reads'5.Asked,
-  Reads'5.Learnt,
-) Reads'4.Pre Reads'4.Post
+After-put-parsed-arg = Lts.After-put-parsed-arg callees Reads'4.Pre Reads'4.Post
 
 abbrev pub After-v : Type 0
-After-v = Lts.After-v (
-  Reads''.Asked,
-  Reads''.Learnt,
-  Reads'3.Asked,
-  Reads'3.Learnt,
-  Reads'.Asked,
-  Reads'.Learnt,
-  Reads.Asked,
-  Reads.Learnt,
-  Reads'5.Asked,
-  Reads'5.Learnt,
-) Reads'4.Pre Reads'4.Post
+After-v = Lts.After-v callees Reads'4.Pre Reads'4.Post
 
 abbrev pub After-put-parsed : Type 0
-After-put-parsed = Lts.After-put-parsed (
-  Reads''.Asked,
-  Reads''.Learnt,
-  Reads'3.Asked,
-  Reads'3.Learnt,
-  Reads'.Asked,
-  Reads'.Learnt,
-  Reads.Asked,
-  Reads.Learnt,
-  Reads'5.Asked,
-  Reads'5.Learnt,
-) Reads'4.Pre Reads'4.Post
+After-put-parsed = Lts.After-put-parsed callees Reads'4.Pre Reads'4.Post
 
 abbrev pub After-out : Type 0
-After-out = Lts.After-out (
-  Reads''.Asked,
-  Reads''.Learnt,
-  Reads'3.Asked,
-  Reads'3.Learnt,
-  Reads'.Asked,
-  Reads'.Learnt,
-  Reads.Asked,
-  Reads.Learnt,
-  Reads'5.Asked,
-  Reads'5.Learnt,
-) Reads'4.Pre Reads'4.Post
+After-out = Lts.After-out callees Reads'4.Pre Reads'4.Post
 
 abbrev pub After-slice-known2 : Type 0
-After-slice-known2 = Lts.After-slice-known2 (
-  Reads''.Asked,
-  Reads''.Learnt,
-  Reads'3.Asked,
-  Reads'3.Learnt,
-  Reads'.Asked,
-  Reads'.Learnt,
-  Reads.Asked,
-  Reads.Learnt,
-  Reads'5.Asked,
-  Reads'5.Learnt,
-) Reads'4.Pre Reads'4.Post
+After-slice-known2 = Lts.After-slice-known2 callees Reads'4.Pre Reads'4.Post
 
 abbrev pub Else1 : Type 0
-Else1 = Lts.Else1 (
-  Reads''.Asked,
-  Reads''.Learnt,
-  Reads'3.Asked,
-  Reads'3.Learnt,
-  Reads'.Asked,
-  Reads'.Learnt,
-  Reads.Asked,
-  Reads.Learnt,
-  Reads'5.Asked,
-  Reads'5.Learnt,
-) Reads'4.Pre Reads'4.Post
+Else1 = Lts.Else1 callees Reads'4.Pre Reads'4.Post
 
 abbrev pub After-put-parsed-arg2 : Type 0
-After-put-parsed-arg2 = Lts.After-put-parsed-arg2 (
-  Reads''.Asked,
-  Reads''.Learnt,
-  Reads'3.Asked,
-  Reads'3.Learnt,
-  Reads'.Asked,
-  Reads'.Learnt,
-  Reads.Asked,
-  Reads.Learnt,
-  Reads'5.Asked,
-  Reads'5.Learnt,
-) Reads'4.Pre Reads'4.Post
+After-put-parsed-arg2 = Lts.After-put-parsed-arg2 callees Reads'4.Pre Reads'4.Post
 
 abbrev pub After-put-parsed2 : Type 0
-After-put-parsed2 = Lts.After-put-parsed2 (
-  Reads''.Asked,
-  Reads''.Learnt,
-  Reads'3.Asked,
-  Reads'3.Learnt,
-  Reads'.Asked,
-  Reads'.Learnt,
-  Reads.Asked,
-  Reads.Learnt,
-  Reads'5.Asked,
-  Reads'5.Learnt,
-) Reads'4.Pre Reads'4.Post
+After-put-parsed2 = Lts.After-put-parsed2 callees Reads'4.Pre Reads'4.Post
 
 abbrev pub After-out2 : Type 0
-After-out2 = Lts.After-out2 (
-  Reads''.Asked,
-  Reads''.Learnt,
-  Reads'3.Asked,
-  Reads'3.Learnt,
-  Reads'.Asked,
-  Reads'.Learnt,
-  Reads.Asked,
-  Reads.Learnt,
-  Reads'5.Asked,
-  Reads'5.Learnt,
-) Reads'4.Pre Reads'4.Post
+After-out2 = Lts.After-out2 callees Reads'4.Pre Reads'4.Post
 
 abbrev pub After-slice-known3 : Type 0
-After-slice-known3 = Lts.After-slice-known3 (
-  Reads''.Asked,
-  Reads''.Learnt,
-  Reads'3.Asked,
-  Reads'3.Learnt,
-  Reads'.Asked,
-  Reads'.Learnt,
-  Reads.Asked,
-  Reads.Learnt,
-  Reads'5.Asked,
-  Reads'5.Learnt,
-) Reads'4.Pre Reads'4.Post
+After-slice-known3 = Lts.After-slice-known3 callees Reads'4.Pre Reads'4.Post
 
 abbrev pub Need-addresses-of-requires : Type 0
-Need-addresses-of-requires = Lts.Need-addresses-of-requires (
-  Reads''.Asked,
-  Reads''.Learnt,
-  Reads'3.Asked,
-  Reads'3.Learnt,
-  Reads'.Asked,
-  Reads'.Learnt,
-  Reads.Asked,
-  Reads.Learnt,
-  Reads'5.Asked,
-  Reads'5.Learnt,
-) Reads'4.Pre Reads'4.Post
+Need-addresses-of-requires = Lts.Need-addresses-of-requires callees Reads'4.Pre Reads'4.Post
 
 abbrev pub Need-is-grown-requires : Type 0
-Need-is-grown-requires = Lts.Need-is-grown-requires (
-  Reads''.Asked,
-  Reads''.Learnt,
-  Reads'3.Asked,
-  Reads'3.Learnt,
-  Reads'.Asked,
-  Reads'.Learnt,
-  Reads.Asked,
-  Reads.Learnt,
-  Reads'5.Asked,
-  Reads'5.Learnt,
-) Reads'4.Pre Reads'4.Post
+Need-is-grown-requires = Lts.Need-is-grown-requires callees Reads'4.Pre Reads'4.Post
 
 abbrev pub Need-grown-count-requires : Type 0
-Need-grown-count-requires = Lts.Need-grown-count-requires (
-  Reads''.Asked,
-  Reads''.Learnt,
-  Reads'3.Asked,
-  Reads'3.Learnt,
-  Reads'.Asked,
-  Reads'.Learnt,
-  Reads.Asked,
-  Reads.Learnt,
-  Reads'5.Asked,
-  Reads'5.Learnt,
-) Reads'4.Pre Reads'4.Post
+Need-grown-count-requires = Lts.Need-grown-count-requires callees Reads'4.Pre Reads'4.Post
 
 abbrev pub Need-grown-vector-requires : Type 0
-Need-grown-vector-requires = Lts.Need-grown-vector-requires (
-  Reads''.Asked,
-  Reads''.Learnt,
-  Reads'3.Asked,
-  Reads'3.Learnt,
-  Reads'.Asked,
-  Reads'.Learnt,
-  Reads.Asked,
-  Reads.Learnt,
-  Reads'5.Asked,
-  Reads'5.Learnt,
-) Reads'4.Pre Reads'4.Post
+Need-grown-vector-requires = Lts.Need-grown-vector-requires callees Reads'4.Pre Reads'4.Post
 
 abbrev pub Need-put-parsed-requires : Type 0
-Need-put-parsed-requires = Lts.Need-put-parsed-requires (
-  Reads''.Asked,
-  Reads''.Learnt,
-  Reads'3.Asked,
-  Reads'3.Learnt,
-  Reads'.Asked,
-  Reads'.Learnt,
-  Reads.Asked,
-  Reads.Learnt,
-  Reads'5.Asked,
-  Reads'5.Learnt,
-) Reads'4.Pre Reads'4.Post
+Need-put-parsed-requires = Lts.Need-put-parsed-requires callees Reads'4.Pre Reads'4.Post
 
 abbrev pub Need-same-length : Type 0
-Need-same-length = Lts.Need-same-length (
-  Reads''.Asked,
-  Reads''.Learnt,
-  Reads'3.Asked,
-  Reads'3.Learnt,
-  Reads'.Asked,
-  Reads'.Learnt,
-  Reads.Asked,
-  Reads.Learnt,
-  Reads'5.Asked,
-  Reads'5.Learnt,
-) Reads'4.Pre Reads'4.Post
+Need-same-length = Lts.Need-same-length callees Reads'4.Pre Reads'4.Post
 
 abbrev pub Need-returns : Type 0
-Need-returns = Lts.Need-returns (
-  Reads''.Asked,
-  Reads''.Learnt,
-  Reads'3.Asked,
-  Reads'3.Learnt,
-  Reads'.Asked,
-  Reads'.Learnt,
-  Reads.Asked,
-  Reads.Learnt,
-  Reads'5.Asked,
-  Reads'5.Learnt,
-) Reads'4.Pre Reads'4.Post
+Need-returns = Lts.Need-returns callees Reads'4.Pre Reads'4.Post
 
 abbrev pub Need-put-parsed-requires-2 : Type 0
-Need-put-parsed-requires-2 = Lts.Need-put-parsed-requires-2 (
-  Reads''.Asked,
-  Reads''.Learnt,
-  Reads'3.Asked,
-  Reads'3.Learnt,
-  Reads'.Asked,
-  Reads'.Learnt,
-  Reads.Asked,
-  Reads.Learnt,
-  Reads'5.Asked,
-  Reads'5.Learnt,
-) Reads'4.Pre Reads'4.Post
+Need-put-parsed-requires-2 = Lts.Need-put-parsed-requires-2 callees Reads'4.Pre Reads'4.Post
 
 abbrev pub Need-same-length-2 : Type 0
-Need-same-length-2 = Lts.Need-same-length-2 (
-  Reads''.Asked,
-  Reads''.Learnt,
-  Reads'3.Asked,
-  Reads'3.Learnt,
-  Reads'.Asked,
-  Reads'.Learnt,
-  Reads.Asked,
-  Reads.Learnt,
-  Reads'5.Asked,
-  Reads'5.Learnt,
-) Reads'4.Pre Reads'4.Post
+Need-same-length-2 = Lts.Need-same-length-2 callees Reads'4.Pre Reads'4.Post
 
 abbrev pub Need-returns-2 : Type 0
-Need-returns-2 = Lts.Need-returns-2 (
-  Reads''.Asked,
-  Reads''.Learnt,
-  Reads'3.Asked,
-  Reads'3.Learnt,
-  Reads'.Asked,
-  Reads'.Learnt,
-  Reads.Asked,
-  Reads.Learnt,
-  Reads'5.Asked,
-  Reads'5.Learnt,
-) Reads'4.Pre Reads'4.Post
+Need-returns-2 = Lts.Need-returns-2 callees Reads'4.Pre Reads'4.Post
 
 module _ {M : Type 1} where
   pub spec :
@@ -470,32 +132,10 @@ module _ {M : Type 1} where
       (answer : Need-put-parsed-requires-2) →
       (answer : Need-same-length-2) →
       (answer : Need-returns-2) →
-      Lts.Closed (
-        Reads''.Asked,
-        Reads''.Learnt,
-        Reads'3.Asked,
-        Reads'3.Learnt,
-        Reads'.Asked,
-        Reads'.Learnt,
-        Reads.Asked,
-        Reads.Learnt,
-        Reads'5.Asked,
-        Reads'5.Learnt,
-      ) Reads'4.Pre Reads'4.Post M
+      Lts.Closed callees Reads'4.Pre Reads'4.Post M
   spec =
       λ answer answer' answer'' answer'3 answer'4 answer'5 answer'6 answer'7 answer'8
-      answer'9. Lts.spec (
-        Reads''.Asked,
-        Reads''.Learnt,
-        Reads'3.Asked,
-        Reads'3.Learnt,
-        Reads'.Asked,
-        Reads'.Learnt,
-        Reads.Asked,
-        Reads.Learnt,
-        Reads'5.Asked,
-        Reads'5.Learnt,
-      )
+      answer'9. Lts.spec callees
       Reads'4.Pre
       Reads'4.Post
       answer
@@ -509,18 +149,7 @@ module _ {M : Type 1} where
       answer'8
       answer'9
 
-  pub close : Lts.Closed (
-    Reads''.Asked,
-    Reads''.Learnt,
-    Reads'3.Asked,
-    Reads'3.Learnt,
-    Reads'.Asked,
-    Reads'.Learnt,
-    Reads.Asked,
-    Reads.Learnt,
-    Reads'5.Asked,
-    Reads'5.Learnt,
-  ) Reads'4.Pre Reads'4.Post M → Statement.statement M
+  pub close : Lts.Closed callees Reads'4.Pre Reads'4.Post M → Statement.statement M
   unfolding Code.routine Running.tablesOf
   close =
       λ closed 𝓤 H 𝓜 𝓖 𝓡. Written.close

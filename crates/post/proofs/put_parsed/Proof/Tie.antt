@@ -30,491 +30,89 @@ use borrow.Fn.Run
 use borrow.Fn.Written
 use contract.Running
 
+abbrev callees : Lts.Claims
+callees = (Reads.Asked, Reads.Learnt, Reads'4.Asked, Reads'4.Learnt, Reads'.Asked, Reads'.Learnt, Reads'3.Asked, Reads'3.Learnt, Reads''.Asked, Reads''.Learnt, Reads'6.Asked, Reads'6.Learnt, Reads'7.Asked, Reads'7.Learnt)
+
 abbrev pub Start : Type 0
-Start = Lts.Start (
-  Reads.Asked,
-  Reads.Learnt,
-  Reads'4.Asked,
-  Reads'4.Learnt,
-  Reads'.Asked,
-  Reads'.Learnt,
-  Reads'3.Asked,
-  Reads'3.Learnt,
-  Reads''.Asked,
-  Reads''.Learnt,
-  Reads'6.Asked,
-  Reads'6.Learnt,
-  Reads'7.Asked,
-  Reads'7.Learnt,
-) Reads'5.Pre Reads'5.Post
+Start = Lts.Start callees Reads'5.Pre Reads'5.Post
 
 abbrev pub After-slice-known : Type 0
-After-slice-known = Lts.After-slice-known (
-  Reads.Asked,
-  Reads.Learnt,
-  Reads'4.Asked,
-  Reads'4.Learnt,
-  Reads'.Asked,
-  Reads'.Learnt,
-  Reads'3.Asked,
-  Reads'3.Learnt,
-  Reads''.Asked,
-  Reads''.Learnt,
-  Reads'6.Asked,
-  Reads'6.Learnt,
-  Reads'7.Asked,
-  Reads'7.Learnt,
-) Reads'5.Pre Reads'5.Post
+After-slice-known = Lts.After-slice-known callees Reads'5.Pre Reads'5.Post
 
 abbrev pub After-put-message-arg : Type 0
-After-put-message-arg = Lts.After-put-message-arg (
-  Reads.Asked,
-  Reads.Learnt,
-  Reads'4.Asked,
-  Reads'4.Learnt,
-  Reads'.Asked,
-  Reads'.Learnt,
-  Reads'3.Asked,
-  Reads'3.Learnt,
-  Reads''.Asked,
-  Reads''.Learnt,
-  Reads'6.Asked,
-  Reads'6.Learnt,
-  Reads'7.Asked,
-  Reads'7.Learnt,
-) Reads'5.Pre Reads'5.Post
+After-put-message-arg = Lts.After-put-message-arg callees Reads'5.Pre Reads'5.Post
 
 abbrev pub After-base-of-arg : Type 0
-After-base-of-arg = Lts.After-base-of-arg (
-  Reads.Asked,
-  Reads.Learnt,
-  Reads'4.Asked,
-  Reads'4.Learnt,
-  Reads'.Asked,
-  Reads'.Learnt,
-  Reads'3.Asked,
-  Reads'3.Learnt,
-  Reads''.Asked,
-  Reads''.Learnt,
-  Reads'6.Asked,
-  Reads'6.Learnt,
-  Reads'7.Asked,
-  Reads'7.Learnt,
-) Reads'5.Pre Reads'5.Post
+After-base-of-arg = Lts.After-base-of-arg callees Reads'5.Pre Reads'5.Post
 
 abbrev pub After-base-of : Type 0
-After-base-of = Lts.After-base-of (
-  Reads.Asked,
-  Reads.Learnt,
-  Reads'4.Asked,
-  Reads'4.Learnt,
-  Reads'.Asked,
-  Reads'.Learnt,
-  Reads'3.Asked,
-  Reads'3.Learnt,
-  Reads''.Asked,
-  Reads''.Learnt,
-  Reads'6.Asked,
-  Reads'6.Learnt,
-  Reads'7.Asked,
-  Reads'7.Learnt,
-) Reads'5.Pre Reads'5.Post
+After-base-of = Lts.After-base-of callees Reads'5.Pre Reads'5.Post
 
 abbrev pub After-is-configured-arg : Type 0
-After-is-configured-arg = Lts.After-is-configured-arg (
-  Reads.Asked,
-  Reads.Learnt,
-  Reads'4.Asked,
-  Reads'4.Learnt,
-  Reads'.Asked,
-  Reads'.Learnt,
-  Reads'3.Asked,
-  Reads'3.Learnt,
-  Reads''.Asked,
-  Reads''.Learnt,
-  Reads'6.Asked,
-  Reads'6.Learnt,
-  Reads'7.Asked,
-  Reads'7.Learnt,
-) Reads'5.Pre Reads'5.Post
+After-is-configured-arg = Lts.After-is-configured-arg callees Reads'5.Pre Reads'5.Post
 
 abbrev pub After-is-configured : Type 0
-After-is-configured = Lts.After-is-configured (
-  Reads.Asked,
-  Reads.Learnt,
-  Reads'4.Asked,
-  Reads'4.Learnt,
-  Reads'.Asked,
-  Reads'.Learnt,
-  Reads'3.Asked,
-  Reads'3.Learnt,
-  Reads''.Asked,
-  Reads''.Learnt,
-  Reads'6.Asked,
-  Reads'6.Learnt,
-  Reads'7.Asked,
-  Reads'7.Learnt,
-) Reads'5.Pre Reads'5.Post
+After-is-configured = Lts.After-is-configured callees Reads'5.Pre Reads'5.Post
 
 abbrev pub After-configuration-of-arg : Type 0
-After-configuration-of-arg = Lts.After-configuration-of-arg (
-  Reads.Asked,
-  Reads.Learnt,
-  Reads'4.Asked,
-  Reads'4.Learnt,
-  Reads'.Asked,
-  Reads'.Learnt,
-  Reads'3.Asked,
-  Reads'3.Learnt,
-  Reads''.Asked,
-  Reads''.Learnt,
-  Reads'6.Asked,
-  Reads'6.Learnt,
-  Reads'7.Asked,
-  Reads'7.Learnt,
-) Reads'5.Pre Reads'5.Post
+After-configuration-of-arg = Lts.After-configuration-of-arg callees Reads'5.Pre Reads'5.Post
 
 abbrev pub After-configuration-of : Type 0
-After-configuration-of = Lts.After-configuration-of (
-  Reads.Asked,
-  Reads.Learnt,
-  Reads'4.Asked,
-  Reads'4.Learnt,
-  Reads'.Asked,
-  Reads'.Learnt,
-  Reads'3.Asked,
-  Reads'3.Learnt,
-  Reads''.Asked,
-  Reads''.Learnt,
-  Reads'6.Asked,
-  Reads'6.Learnt,
-  Reads'7.Asked,
-  Reads'7.Learnt,
-) Reads'5.Pre Reads'5.Post
+After-configuration-of = Lts.After-configuration-of callees Reads'5.Pre Reads'5.Post
 
 abbrev pub After-discovery-of-arg : Type 0
-After-discovery-of-arg = Lts.After-discovery-of-arg (
-  Reads.Asked,
-  Reads.Learnt,
-  Reads'4.Asked,
-  Reads'4.Learnt,
-  Reads'.Asked,
-  Reads'.Learnt,
-  Reads'3.Asked,
-  Reads'3.Learnt,
-  Reads''.Asked,
-  Reads''.Learnt,
-  Reads'6.Asked,
-  Reads'6.Learnt,
-  Reads'7.Asked,
-  Reads'7.Learnt,
-) Reads'5.Pre Reads'5.Post
+After-discovery-of-arg = Lts.After-discovery-of-arg callees Reads'5.Pre Reads'5.Post
 
 abbrev pub After-discovery-of : Type 0
-After-discovery-of = Lts.After-discovery-of (
-  Reads.Asked,
-  Reads.Learnt,
-  Reads'4.Asked,
-  Reads'4.Learnt,
-  Reads'.Asked,
-  Reads'.Learnt,
-  Reads'3.Asked,
-  Reads'3.Learnt,
-  Reads''.Asked,
-  Reads''.Learnt,
-  Reads'6.Asked,
-  Reads'6.Learnt,
-  Reads'7.Asked,
-  Reads'7.Learnt,
-) Reads'5.Pre Reads'5.Post
+After-discovery-of = Lts.After-discovery-of callees Reads'5.Pre Reads'5.Post
 
 abbrev pub After-count-of-arg : Type 0
-After-count-of-arg = Lts.After-count-of-arg (
-  Reads.Asked,
-  Reads.Learnt,
-  Reads'4.Asked,
-  Reads'4.Learnt,
-  Reads'.Asked,
-  Reads'.Learnt,
-  Reads'3.Asked,
-  Reads'3.Learnt,
-  Reads''.Asked,
-  Reads''.Learnt,
-  Reads'6.Asked,
-  Reads'6.Learnt,
-  Reads'7.Asked,
-  Reads'7.Learnt,
-) Reads'5.Pre Reads'5.Post
+After-count-of-arg = Lts.After-count-of-arg callees Reads'5.Pre Reads'5.Post
 
 abbrev pub After-count-of : Type 0
-After-count-of = Lts.After-count-of (
-  Reads.Asked,
-  Reads.Learnt,
-  Reads'4.Asked,
-  Reads'4.Learnt,
-  Reads'.Asked,
-  Reads'.Learnt,
-  Reads'3.Asked,
-  Reads'3.Learnt,
-  Reads''.Asked,
-  Reads''.Learnt,
-  Reads'6.Asked,
-  Reads'6.Learnt,
-  Reads'7.Asked,
-  Reads'7.Learnt,
-) Reads'5.Pre Reads'5.Post
+After-count-of = Lts.After-count-of callees Reads'5.Pre Reads'5.Post
 
 abbrev pub After-targets-of-arg : Type 0
-After-targets-of-arg = Lts.After-targets-of-arg (
-  Reads.Asked,
-  Reads.Learnt,
-  Reads'4.Asked,
-  Reads'4.Learnt,
-  Reads'.Asked,
-  Reads'.Learnt,
-  Reads'3.Asked,
-  Reads'3.Learnt,
-  Reads''.Asked,
-  Reads''.Learnt,
-  Reads'6.Asked,
-  Reads'6.Learnt,
-  Reads'7.Asked,
-  Reads'7.Learnt,
-) Reads'5.Pre Reads'5.Post
+After-targets-of-arg = Lts.After-targets-of-arg callees Reads'5.Pre Reads'5.Post
 
 abbrev pub After-targets-of : Type 0
-After-targets-of = Lts.After-targets-of (
-  Reads.Asked,
-  Reads.Learnt,
-  Reads'4.Asked,
-  Reads'4.Learnt,
-  Reads'.Asked,
-  Reads'.Learnt,
-  Reads'3.Asked,
-  Reads'3.Learnt,
-  Reads''.Asked,
-  Reads''.Learnt,
-  Reads'6.Asked,
-  Reads'6.Learnt,
-  Reads'7.Asked,
-  Reads'7.Learnt,
-) Reads'5.Pre Reads'5.Post
+After-targets-of = Lts.After-targets-of callees Reads'5.Pre Reads'5.Post
 
 abbrev pub After-put-message : Type 0
-After-put-message = Lts.After-put-message (
-  Reads.Asked,
-  Reads.Learnt,
-  Reads'4.Asked,
-  Reads'4.Learnt,
-  Reads'.Asked,
-  Reads'.Learnt,
-  Reads'3.Asked,
-  Reads'3.Learnt,
-  Reads''.Asked,
-  Reads''.Learnt,
-  Reads'6.Asked,
-  Reads'6.Learnt,
-  Reads'7.Asked,
-  Reads'7.Learnt,
-) Reads'5.Pre Reads'5.Post
+After-put-message = Lts.After-put-message callees Reads'5.Pre Reads'5.Post
 
 abbrev pub After-out : Type 0
-After-out = Lts.After-out (
-  Reads.Asked,
-  Reads.Learnt,
-  Reads'4.Asked,
-  Reads'4.Learnt,
-  Reads'.Asked,
-  Reads'.Learnt,
-  Reads'3.Asked,
-  Reads'3.Learnt,
-  Reads''.Asked,
-  Reads''.Learnt,
-  Reads'6.Asked,
-  Reads'6.Learnt,
-  Reads'7.Asked,
-  Reads'7.Learnt,
-) Reads'5.Pre Reads'5.Post
+After-out = Lts.After-out callees Reads'5.Pre Reads'5.Post
 
 abbrev pub After-slice-known2 : Type 0
-After-slice-known2 = Lts.After-slice-known2 (
-  Reads.Asked,
-  Reads.Learnt,
-  Reads'4.Asked,
-  Reads'4.Learnt,
-  Reads'.Asked,
-  Reads'.Learnt,
-  Reads'3.Asked,
-  Reads'3.Learnt,
-  Reads''.Asked,
-  Reads''.Learnt,
-  Reads'6.Asked,
-  Reads'6.Learnt,
-  Reads'7.Asked,
-  Reads'7.Learnt,
-) Reads'5.Pre Reads'5.Post
+After-slice-known2 = Lts.After-slice-known2 callees Reads'5.Pre Reads'5.Post
 
 abbrev pub Need-base-of-requires : Type 0
-Need-base-of-requires = Lts.Need-base-of-requires (
-  Reads.Asked,
-  Reads.Learnt,
-  Reads'4.Asked,
-  Reads'4.Learnt,
-  Reads'.Asked,
-  Reads'.Learnt,
-  Reads'3.Asked,
-  Reads'3.Learnt,
-  Reads''.Asked,
-  Reads''.Learnt,
-  Reads'6.Asked,
-  Reads'6.Learnt,
-  Reads'7.Asked,
-  Reads'7.Learnt,
-) Reads'5.Pre Reads'5.Post
+Need-base-of-requires = Lts.Need-base-of-requires callees Reads'5.Pre Reads'5.Post
 
 abbrev pub Need-is-configured-requires : Type 0
-Need-is-configured-requires = Lts.Need-is-configured-requires (
-  Reads.Asked,
-  Reads.Learnt,
-  Reads'4.Asked,
-  Reads'4.Learnt,
-  Reads'.Asked,
-  Reads'.Learnt,
-  Reads'3.Asked,
-  Reads'3.Learnt,
-  Reads''.Asked,
-  Reads''.Learnt,
-  Reads'6.Asked,
-  Reads'6.Learnt,
-  Reads'7.Asked,
-  Reads'7.Learnt,
-) Reads'5.Pre Reads'5.Post
+Need-is-configured-requires = Lts.Need-is-configured-requires callees Reads'5.Pre Reads'5.Post
 
 abbrev pub Need-configuration-of-requires : Type 0
-Need-configuration-of-requires = Lts.Need-configuration-of-requires (
-  Reads.Asked,
-  Reads.Learnt,
-  Reads'4.Asked,
-  Reads'4.Learnt,
-  Reads'.Asked,
-  Reads'.Learnt,
-  Reads'3.Asked,
-  Reads'3.Learnt,
-  Reads''.Asked,
-  Reads''.Learnt,
-  Reads'6.Asked,
-  Reads'6.Learnt,
-  Reads'7.Asked,
-  Reads'7.Learnt,
-) Reads'5.Pre Reads'5.Post
+Need-configuration-of-requires = Lts.Need-configuration-of-requires callees Reads'5.Pre Reads'5.Post
 
 abbrev pub Need-discovery-of-requires : Type 0
-Need-discovery-of-requires = Lts.Need-discovery-of-requires (
-  Reads.Asked,
-  Reads.Learnt,
-  Reads'4.Asked,
-  Reads'4.Learnt,
-  Reads'.Asked,
-  Reads'.Learnt,
-  Reads'3.Asked,
-  Reads'3.Learnt,
-  Reads''.Asked,
-  Reads''.Learnt,
-  Reads'6.Asked,
-  Reads'6.Learnt,
-  Reads'7.Asked,
-  Reads'7.Learnt,
-) Reads'5.Pre Reads'5.Post
+Need-discovery-of-requires = Lts.Need-discovery-of-requires callees Reads'5.Pre Reads'5.Post
 
 abbrev pub Need-count-of-requires : Type 0
-Need-count-of-requires = Lts.Need-count-of-requires (
-  Reads.Asked,
-  Reads.Learnt,
-  Reads'4.Asked,
-  Reads'4.Learnt,
-  Reads'.Asked,
-  Reads'.Learnt,
-  Reads'3.Asked,
-  Reads'3.Learnt,
-  Reads''.Asked,
-  Reads''.Learnt,
-  Reads'6.Asked,
-  Reads'6.Learnt,
-  Reads'7.Asked,
-  Reads'7.Learnt,
-) Reads'5.Pre Reads'5.Post
+Need-count-of-requires = Lts.Need-count-of-requires callees Reads'5.Pre Reads'5.Post
 
 abbrev pub Need-targets-of-requires : Type 0
-Need-targets-of-requires = Lts.Need-targets-of-requires (
-  Reads.Asked,
-  Reads.Learnt,
-  Reads'4.Asked,
-  Reads'4.Learnt,
-  Reads'.Asked,
-  Reads'.Learnt,
-  Reads'3.Asked,
-  Reads'3.Learnt,
-  Reads''.Asked,
-  Reads''.Learnt,
-  Reads'6.Asked,
-  Reads'6.Learnt,
-  Reads'7.Asked,
-  Reads'7.Learnt,
-) Reads'5.Pre Reads'5.Post
+Need-targets-of-requires = Lts.Need-targets-of-requires callees Reads'5.Pre Reads'5.Post
 
 abbrev pub Need-put-message-requires : Type 0
-Need-put-message-requires = Lts.Need-put-message-requires (
-  Reads.Asked,
-  Reads.Learnt,
-  Reads'4.Asked,
-  Reads'4.Learnt,
-  Reads'.Asked,
-  Reads'.Learnt,
-  Reads'3.Asked,
-  Reads'3.Learnt,
-  Reads''.Asked,
-  Reads''.Learnt,
-  Reads'6.Asked,
-  Reads'6.Learnt,
-  Reads'7.Asked,
-  Reads'7.Learnt,
-) Reads'5.Pre Reads'5.Post
+Need-put-message-requires = Lts.Need-put-message-requires callees Reads'5.Pre Reads'5.Post
 
 abbrev pub Need-same-length : Type 0
-Need-same-length = Lts.Need-same-length (
-  Reads.Asked,
-  Reads.Learnt,
-  Reads'4.Asked,
-  Reads'4.Learnt,
-  Reads'.Asked,
-  Reads'.Learnt,
-  Reads'3.Asked,
-  Reads'3.Learnt,
-  Reads''.Asked,
-  Reads''.Learnt,
-  Reads'6.Asked,
-  Reads'6.Learnt,
-  Reads'7.Asked,
-  Reads'7.Learnt,
-) Reads'5.Pre Reads'5.Post
+Need-same-length = Lts.Need-same-length callees Reads'5.Pre Reads'5.Post
 
 abbrev pub Need-returns : Type 0
-Need-returns = Lts.Need-returns (
-  Reads.Asked,
-  Reads.Learnt,
-  Reads'4.Asked,
-  Reads'4.Learnt,
-  Reads'.Asked,
-  Reads'.Learnt,
-  Reads'3.Asked,
-  Reads'3.Learnt,
-  Reads''.Asked,
-  Reads''.Learnt,
-  Reads'6.Asked,
-  Reads'6.Learnt,
-  Reads'7.Asked,
-  Reads'7.Learnt,
-) Reads'5.Pre Reads'5.Post
+Need-returns = Lts.Need-returns callees Reads'5.Pre Reads'5.Post
 
 module _ {M : Type 1} where
   pub spec :
@@ -527,38 +125,8 @@ module _ {M : Type 1} where
       (answer : Need-put-message-requires) →
       (answer : Need-same-length) →
       (answer : Need-returns) →
-      Lts.Closed (
-        Reads.Asked,
-        Reads.Learnt,
-        Reads'4.Asked,
-        Reads'4.Learnt,
-        Reads'.Asked,
-        Reads'.Learnt,
-        Reads'3.Asked,
-        Reads'3.Learnt,
-        Reads''.Asked,
-        Reads''.Learnt,
-        Reads'6.Asked,
-        Reads'6.Learnt,
-        Reads'7.Asked,
-        Reads'7.Learnt,
-      ) Reads'5.Pre Reads'5.Post M
-  spec = λ answer answer' answer'' answer'3 answer'4 answer'5 answer'6 answer'7 answer'8. Lts.spec (
-    Reads.Asked,
-    Reads.Learnt,
-    Reads'4.Asked,
-    Reads'4.Learnt,
-    Reads'.Asked,
-    Reads'.Learnt,
-    Reads'3.Asked,
-    Reads'3.Learnt,
-    Reads''.Asked,
-    Reads''.Learnt,
-    Reads'6.Asked,
-    Reads'6.Learnt,
-    Reads'7.Asked,
-    Reads'7.Learnt,
-  )
+      Lts.Closed callees Reads'5.Pre Reads'5.Post M
+  spec = λ answer answer' answer'' answer'3 answer'4 answer'5 answer'6 answer'7 answer'8. Lts.spec callees
       Reads'5.Pre
       Reads'5.Post
       answer
@@ -571,22 +139,7 @@ module _ {M : Type 1} where
       answer'7
       answer'8
 
-  pub close : Lts.Closed (
-    Reads.Asked,
-    Reads.Learnt,
-    Reads'4.Asked,
-    Reads'4.Learnt,
-    Reads'.Asked,
-    Reads'.Learnt,
-    Reads'3.Asked,
-    Reads'3.Learnt,
-    Reads''.Asked,
-    Reads''.Learnt,
-    Reads'6.Asked,
-    Reads'6.Learnt,
-    Reads'7.Asked,
-    Reads'7.Learnt,
-  ) Reads'5.Pre Reads'5.Post M → Statement.statement M
+  pub close : Lts.Closed callees Reads'5.Pre Reads'5.Post M → Statement.statement M
   unfolding Code.routine Running.tablesOf
   close =
       λ closed 𝓤 H 𝓜 𝓖 𝓡. Written.close

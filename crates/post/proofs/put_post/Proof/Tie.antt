@@ -18,295 +18,95 @@ use borrow.Fn.Run
 use borrow.Fn.Written
 use contract.Running
 
+abbrev callees : Lts.Claims
+callees = (Reads'3.Asked, Reads'3.Learnt, Reads.Asked, Reads.Learnt, Reads''.Asked, Reads''.Learnt)
+
 abbrev pub Start : Type 0
-Start = Lts.Start (
-  Reads'3.Asked,
-  Reads'3.Learnt,
-  Reads.Asked,
-  Reads.Learnt,
-  Reads''.Asked,
-  Reads''.Learnt,
-) Reads'.Pre Reads'.Post
+Start = Lts.Start callees Reads'.Pre Reads'.Post
 
 abbrev pub After-slice-known : Type 0
-After-slice-known = Lts.After-slice-known (
-  Reads'3.Asked,
-  Reads'3.Learnt,
-  Reads.Asked,
-  Reads.Learnt,
-  Reads''.Asked,
-  Reads''.Learnt,
-) Reads'.Pre Reads'.Post
+After-slice-known = Lts.After-slice-known callees Reads'.Pre Reads'.Post
 
 abbrev pub After-what-of-arg : Type 0
-After-what-of-arg = Lts.After-what-of-arg (
-  Reads'3.Asked,
-  Reads'3.Learnt,
-  Reads.Asked,
-  Reads.Learnt,
-  Reads''.Asked,
-  Reads''.Learnt,
-) Reads'.Pre Reads'.Post
+After-what-of-arg = Lts.After-what-of-arg callees Reads'.Pre Reads'.Post
 
 abbrev pub After-what-of : Type 0
-After-what-of = Lts.After-what-of (
-  Reads'3.Asked,
-  Reads'3.Learnt,
-  Reads.Asked,
-  Reads.Learnt,
-  Reads''.Asked,
-  Reads''.Learnt,
-) Reads'.Pre Reads'.Post
+After-what-of = Lts.After-what-of callees Reads'.Pre Reads'.Post
 
 abbrev pub At-match-keys1 : Type 0
-At-match-keys1 = Lts.At-match-keys1 (
-  Reads'3.Asked,
-  Reads'3.Learnt,
-  Reads.Asked,
-  Reads.Learnt,
-  Reads''.Asked,
-  Reads''.Learnt,
-) Reads'.Pre Reads'.Post
+At-match-keys1 = Lts.At-match-keys1 callees Reads'.Pre Reads'.Post
 
 abbrev pub After-enum-told : Type 0
-After-enum-told = Lts.After-enum-told (
-  Reads'3.Asked,
-  Reads'3.Learnt,
-  Reads.Asked,
-  Reads.Learnt,
-  Reads''.Asked,
-  Reads''.Learnt,
-) Reads'.Pre Reads'.Post
+After-enum-told = Lts.After-enum-told callees Reads'.Pre Reads'.Post
 
 abbrev pub At-match-keys2 : Type 0
-At-match-keys2 = Lts.At-match-keys2 (
-  Reads'3.Asked,
-  Reads'3.Learnt,
-  Reads.Asked,
-  Reads.Learnt,
-  Reads''.Asked,
-  Reads''.Learnt,
-) Reads'.Pre Reads'.Post
+At-match-keys2 = Lts.At-match-keys2 callees Reads'.Pre Reads'.Post
 
 abbrev pub After-enum-told2 : Type 0
-After-enum-told2 = Lts.After-enum-told2 (
-  Reads'3.Asked,
-  Reads'3.Learnt,
-  Reads.Asked,
-  Reads.Learnt,
-  Reads''.Asked,
-  Reads''.Learnt,
-) Reads'.Pre Reads'.Post
+After-enum-told2 = Lts.After-enum-told2 callees Reads'.Pre Reads'.Post
 
 abbrev pub After-put-dio-arg : Type 0
-After-put-dio-arg = Lts.After-put-dio-arg (
-  Reads'3.Asked,
-  Reads'3.Learnt,
-  Reads.Asked,
-  Reads.Learnt,
-  Reads''.Asked,
-  Reads''.Learnt,
-) Reads'.Pre Reads'.Post
+After-put-dio-arg = Lts.After-put-dio-arg callees Reads'.Pre Reads'.Post
 
 abbrev pub After-put-dio : Type 0
-After-put-dio = Lts.After-put-dio (
-  Reads'3.Asked,
-  Reads'3.Learnt,
-  Reads.Asked,
-  Reads.Learnt,
-  Reads''.Asked,
-  Reads''.Learnt,
-) Reads'.Pre Reads'.Post
+After-put-dio = Lts.After-put-dio callees Reads'.Pre Reads'.Post
 
 abbrev pub After-out : Type 0
-After-out = Lts.After-out (
-  Reads'3.Asked,
-  Reads'3.Learnt,
-  Reads.Asked,
-  Reads.Learnt,
-  Reads''.Asked,
-  Reads''.Learnt,
-) Reads'.Pre Reads'.Post
+After-out = Lts.After-out callees Reads'.Pre Reads'.Post
 
 abbrev pub After-slice-known2 : Type 0
-After-slice-known2 = Lts.After-slice-known2 (
-  Reads'3.Asked,
-  Reads'3.Learnt,
-  Reads.Asked,
-  Reads.Learnt,
-  Reads''.Asked,
-  Reads''.Learnt,
-) Reads'.Pre Reads'.Post
+After-slice-known2 = Lts.After-slice-known2 callees Reads'.Pre Reads'.Post
 
 abbrev pub At-match-keys3 : Type 0
-At-match-keys3 = Lts.At-match-keys3 (
-  Reads'3.Asked,
-  Reads'3.Learnt,
-  Reads.Asked,
-  Reads.Learnt,
-  Reads''.Asked,
-  Reads''.Learnt,
-) Reads'.Pre Reads'.Post
+At-match-keys3 = Lts.At-match-keys3 callees Reads'.Pre Reads'.Post
 
 abbrev pub After-enum-told3 : Type 0
-After-enum-told3 = Lts.After-enum-told3 (
-  Reads'3.Asked,
-  Reads'3.Learnt,
-  Reads.Asked,
-  Reads.Learnt,
-  Reads''.Asked,
-  Reads''.Learnt,
-) Reads'.Pre Reads'.Post
+After-enum-told3 = Lts.After-enum-told3 callees Reads'.Pre Reads'.Post
 
 abbrev pub After-put-route-path-arg : Type 0
-After-put-route-path-arg = Lts.After-put-route-path-arg (
-  Reads'3.Asked,
-  Reads'3.Learnt,
-  Reads.Asked,
-  Reads.Learnt,
-  Reads''.Asked,
-  Reads''.Learnt,
-) Reads'.Pre Reads'.Post
+After-put-route-path-arg = Lts.After-put-route-path-arg callees Reads'.Pre Reads'.Post
 
 abbrev pub After-put-route-path : Type 0
-After-put-route-path = Lts.After-put-route-path (
-  Reads'3.Asked,
-  Reads'3.Learnt,
-  Reads.Asked,
-  Reads.Learnt,
-  Reads''.Asked,
-  Reads''.Learnt,
-) Reads'.Pre Reads'.Post
+After-put-route-path = Lts.After-put-route-path callees Reads'.Pre Reads'.Post
 
 abbrev pub After-out2 : Type 0
-After-out2 = Lts.After-out2 (
-  Reads'3.Asked,
-  Reads'3.Learnt,
-  Reads.Asked,
-  Reads.Learnt,
-  Reads''.Asked,
-  Reads''.Learnt,
-) Reads'.Pre Reads'.Post
+After-out2 = Lts.After-out2 callees Reads'.Pre Reads'.Post
 
 abbrev pub After-slice-known3 : Type 0
-After-slice-known3 = Lts.After-slice-known3 (
-  Reads'3.Asked,
-  Reads'3.Learnt,
-  Reads.Asked,
-  Reads.Learnt,
-  Reads''.Asked,
-  Reads''.Learnt,
-) Reads'.Pre Reads'.Post
+After-slice-known3 = Lts.After-slice-known3 callees Reads'.Pre Reads'.Post
 
 abbrev pub Need-what-of-requires : Type 0
-Need-what-of-requires = Lts.Need-what-of-requires (
-  Reads'3.Asked,
-  Reads'3.Learnt,
-  Reads.Asked,
-  Reads.Learnt,
-  Reads''.Asked,
-  Reads''.Learnt,
-) Reads'.Pre Reads'.Post
+Need-what-of-requires = Lts.Need-what-of-requires callees Reads'.Pre Reads'.Post
 
 abbrev pub Need-enum-told : Type 0
-Need-enum-told = Lts.Need-enum-told (
-  Reads'3.Asked,
-  Reads'3.Learnt,
-  Reads.Asked,
-  Reads.Learnt,
-  Reads''.Asked,
-  Reads''.Learnt,
-) Reads'.Pre Reads'.Post
+Need-enum-told = Lts.Need-enum-told callees Reads'.Pre Reads'.Post
 
 abbrev pub Need-enum-told-2 : Type 0
-Need-enum-told-2 = Lts.Need-enum-told-2 (
-  Reads'3.Asked,
-  Reads'3.Learnt,
-  Reads.Asked,
-  Reads.Learnt,
-  Reads''.Asked,
-  Reads''.Learnt,
-) Reads'.Pre Reads'.Post
+Need-enum-told-2 = Lts.Need-enum-told-2 callees Reads'.Pre Reads'.Post
 
 abbrev pub Need-put-dio-requires : Type 0
-Need-put-dio-requires = Lts.Need-put-dio-requires (
-  Reads'3.Asked,
-  Reads'3.Learnt,
-  Reads.Asked,
-  Reads.Learnt,
-  Reads''.Asked,
-  Reads''.Learnt,
-) Reads'.Pre Reads'.Post
+Need-put-dio-requires = Lts.Need-put-dio-requires callees Reads'.Pre Reads'.Post
 
 abbrev pub Need-enum-told-3 : Type 0
-Need-enum-told-3 = Lts.Need-enum-told-3 (
-  Reads'3.Asked,
-  Reads'3.Learnt,
-  Reads.Asked,
-  Reads.Learnt,
-  Reads''.Asked,
-  Reads''.Learnt,
-) Reads'.Pre Reads'.Post
+Need-enum-told-3 = Lts.Need-enum-told-3 callees Reads'.Pre Reads'.Post
 
 abbrev pub Need-put-route-path-requires : Type 0
-Need-put-route-path-requires = Lts.Need-put-route-path-requires (
-  Reads'3.Asked,
-  Reads'3.Learnt,
-  Reads.Asked,
-  Reads.Learnt,
-  Reads''.Asked,
-  Reads''.Learnt,
-) Reads'.Pre Reads'.Post
+Need-put-route-path-requires = Lts.Need-put-route-path-requires callees Reads'.Pre Reads'.Post
 
 abbrev pub Need-returns : Type 0
-Need-returns = Lts.Need-returns (
-  Reads'3.Asked,
-  Reads'3.Learnt,
-  Reads.Asked,
-  Reads.Learnt,
-  Reads''.Asked,
-  Reads''.Learnt,
-) Reads'.Pre Reads'.Post
+Need-returns = Lts.Need-returns callees Reads'.Pre Reads'.Post
 
 abbrev pub Need-same-length : Type 0
-Need-same-length = Lts.Need-same-length (
-  Reads'3.Asked,
-  Reads'3.Learnt,
-  Reads.Asked,
-  Reads.Learnt,
-  Reads''.Asked,
-  Reads''.Learnt,
-) Reads'.Pre Reads'.Post
+Need-same-length = Lts.Need-same-length callees Reads'.Pre Reads'.Post
 
 abbrev pub Need-returns-2 : Type 0
-Need-returns-2 = Lts.Need-returns-2 (
-  Reads'3.Asked,
-  Reads'3.Learnt,
-  Reads.Asked,
-  Reads.Learnt,
-  Reads''.Asked,
-  Reads''.Learnt,
-) Reads'.Pre Reads'.Post
+Need-returns-2 = Lts.Need-returns-2 callees Reads'.Pre Reads'.Post
 
 abbrev pub Need-same-length-2 : Type 0
-Need-same-length-2 = Lts.Need-same-length-2 (
-  Reads'3.Asked,
-  Reads'3.Learnt,
-  Reads.Asked,
-  Reads.Learnt,
-  Reads''.Asked,
-  Reads''.Learnt,
-) Reads'.Pre Reads'.Post
+Need-same-length-2 = Lts.Need-same-length-2 callees Reads'.Pre Reads'.Post
 
 abbrev pub Need-returns-3 : Type 0
-Need-returns-3 = Lts.Need-returns-3 (
-  Reads'3.Asked,
-  Reads'3.Learnt,
-  Reads.Asked,
-  Reads.Learnt,
-  Reads''.Asked,
-  Reads''.Learnt,
-) Reads'.Pre Reads'.Post
+Need-returns-3 = Lts.Need-returns-3 callees Reads'.Pre Reads'.Post
 
 module _ {M : Type 1} where
   pub spec :
@@ -321,29 +121,15 @@ module _ {M : Type 1} where
       (answer : Need-returns-2) →
       (answer : Need-same-length-2) →
       (answer : Need-returns-3) →
-      Lts.Closed (
-        Reads'3.Asked,
-        Reads'3.Learnt,
-        Reads.Asked,
-        Reads.Learnt,
-        Reads''.Asked,
-        Reads''.Learnt,
-      ) Reads'.Pre Reads'.Post M
+      Lts.Closed callees Reads'.Pre Reads'.Post M
   spec =
       λ answer answer' answer'' answer'3 answer'4 answer'5 answer'6 answer'7 answer'8 answer'9
       answer'10. Lts.spec
-      (Reads'3.Asked, Reads'3.Learnt, Reads.Asked, Reads.Learnt, Reads''.Asked, Reads''.Learnt)
+      callees
       Reads'.Pre Reads'.Post answer answer' answer'' answer'3 answer'4 answer'5 answer'6 answer'7
       answer'8 answer'9 answer'10
 
-  pub close : Lts.Closed (
-    Reads'3.Asked,
-    Reads'3.Learnt,
-    Reads.Asked,
-    Reads.Learnt,
-    Reads''.Asked,
-    Reads''.Learnt,
-  ) Reads'.Pre Reads'.Post M → Statement.statement M
+  pub close : Lts.Closed callees Reads'.Pre Reads'.Post M → Statement.statement M
   unfolding Code.routine Running.tablesOf
   close =
       λ closed 𝓤 H 𝓜 𝓖 𝓡. Written.close

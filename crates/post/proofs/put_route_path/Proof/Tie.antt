@@ -21,329 +21,89 @@ use borrow.Fn.Run
 use borrow.Fn.Written
 use contract.Running
 
+abbrev callees : Lts.Claims
+callees = (Reads'.Asked, Reads'.Learnt, Reads''.Asked, Reads''.Learnt, Reads.Asked, Reads.Learnt, Reads'4.Asked, Reads'4.Learnt)
+
 abbrev pub Start : Type 0
-Start = Lts.Start (
-  Reads'.Asked,
-  Reads'.Learnt,
-  Reads''.Asked,
-  Reads''.Learnt,
-  Reads.Asked,
-  Reads.Learnt,
-  Reads'4.Asked,
-  Reads'4.Learnt,
-) Reads'3.Pre Reads'3.Post
+Start = Lts.Start callees Reads'3.Pre Reads'3.Post
 
 abbrev pub After-slice-known : Type 0
-After-slice-known = Lts.After-slice-known (
-  Reads'.Asked,
-  Reads'.Learnt,
-  Reads''.Asked,
-  Reads''.Learnt,
-  Reads.Asked,
-  Reads.Learnt,
-  Reads'4.Asked,
-  Reads'4.Learnt,
-) Reads'3.Pre Reads'3.Post
+After-slice-known = Lts.After-slice-known callees Reads'3.Pre Reads'3.Post
 
 abbrev pub After-addresses-of-arg : Type 0
-After-addresses-of-arg = Lts.After-addresses-of-arg (
-  Reads'.Asked,
-  Reads'.Learnt,
-  Reads''.Asked,
-  Reads''.Learnt,
-  Reads.Asked,
-  Reads.Learnt,
-  Reads'4.Asked,
-  Reads'4.Learnt,
-) Reads'3.Pre Reads'3.Post
+After-addresses-of-arg = Lts.After-addresses-of-arg callees Reads'3.Pre Reads'3.Post
 
 abbrev pub After-addresses-of : Type 0
-After-addresses-of = Lts.After-addresses-of (
-  Reads'.Asked,
-  Reads'.Learnt,
-  Reads''.Asked,
-  Reads''.Learnt,
-  Reads.Asked,
-  Reads.Learnt,
-  Reads'4.Asked,
-  Reads'4.Learnt,
-) Reads'3.Pre Reads'3.Post
+After-addresses-of = Lts.After-addresses-of callees Reads'3.Pre Reads'3.Post
 
 abbrev pub After-is-turned-arg : Type 0
-After-is-turned-arg = Lts.After-is-turned-arg (
-  Reads'.Asked,
-  Reads'.Learnt,
-  Reads''.Asked,
-  Reads''.Learnt,
-  Reads.Asked,
-  Reads.Learnt,
-  Reads'4.Asked,
-  Reads'4.Learnt,
-) Reads'3.Pre Reads'3.Post
+After-is-turned-arg = Lts.After-is-turned-arg callees Reads'3.Pre Reads'3.Post
 
 abbrev pub After-is-turned : Type 0
-After-is-turned = Lts.After-is-turned (
-  Reads'.Asked,
-  Reads'.Learnt,
-  Reads''.Asked,
-  Reads''.Learnt,
-  Reads.Asked,
-  Reads.Learnt,
-  Reads'4.Asked,
-  Reads'4.Learnt,
-) Reads'3.Pre Reads'3.Post
+After-is-turned = Lts.After-is-turned callees Reads'3.Pre Reads'3.Post
 
 abbrev pub Then1 : Type 0
-Then1 = Lts.Then1 (
-  Reads'.Asked,
-  Reads'.Learnt,
-  Reads''.Asked,
-  Reads''.Learnt,
-  Reads.Asked,
-  Reads.Learnt,
-  Reads'4.Asked,
-  Reads'4.Learnt,
-) Reads'3.Pre Reads'3.Post
+Then1 = Lts.Then1 callees Reads'3.Pre Reads'3.Post
 
 abbrev pub After-reversed : Type 0
-After-reversed = Lts.After-reversed (
-  Reads'.Asked,
-  Reads'.Learnt,
-  Reads''.Asked,
-  Reads''.Learnt,
-  Reads.Asked,
-  Reads.Learnt,
-  Reads'4.Asked,
-  Reads'4.Learnt,
-) Reads'3.Pre Reads'3.Post
+After-reversed = Lts.After-reversed callees Reads'3.Pre Reads'3.Post
 
 abbrev pub After-put-path-arg : Type 0
-After-put-path-arg = Lts.After-put-path-arg (
-  Reads'.Asked,
-  Reads'.Learnt,
-  Reads''.Asked,
-  Reads''.Learnt,
-  Reads.Asked,
-  Reads.Learnt,
-  Reads'4.Asked,
-  Reads'4.Learnt,
-) Reads'3.Pre Reads'3.Post
+After-put-path-arg = Lts.After-put-path-arg callees Reads'3.Pre Reads'3.Post
 
 abbrev pub After-turned : Type 0
-After-turned = Lts.After-turned (
-  Reads'.Asked,
-  Reads'.Learnt,
-  Reads''.Asked,
-  Reads''.Learnt,
-  Reads.Asked,
-  Reads.Learnt,
-  Reads'4.Asked,
-  Reads'4.Learnt,
-) Reads'3.Pre Reads'3.Post
+After-turned = Lts.After-turned callees Reads'3.Pre Reads'3.Post
 
 abbrev pub After-put-path : Type 0
-After-put-path = Lts.After-put-path (
-  Reads'.Asked,
-  Reads'.Learnt,
-  Reads''.Asked,
-  Reads''.Learnt,
-  Reads.Asked,
-  Reads.Learnt,
-  Reads'4.Asked,
-  Reads'4.Learnt,
-) Reads'3.Pre Reads'3.Post
+After-put-path = Lts.After-put-path callees Reads'3.Pre Reads'3.Post
 
 abbrev pub After-out : Type 0
-After-out = Lts.After-out (
-  Reads'.Asked,
-  Reads'.Learnt,
-  Reads''.Asked,
-  Reads''.Learnt,
-  Reads.Asked,
-  Reads.Learnt,
-  Reads'4.Asked,
-  Reads'4.Learnt,
-) Reads'3.Pre Reads'3.Post
+After-out = Lts.After-out callees Reads'3.Pre Reads'3.Post
 
 abbrev pub After-slice-known2 : Type 0
-After-slice-known2 = Lts.After-slice-known2 (
-  Reads'.Asked,
-  Reads'.Learnt,
-  Reads''.Asked,
-  Reads''.Learnt,
-  Reads.Asked,
-  Reads.Learnt,
-  Reads'4.Asked,
-  Reads'4.Learnt,
-) Reads'3.Pre Reads'3.Post
+After-slice-known2 = Lts.After-slice-known2 callees Reads'3.Pre Reads'3.Post
 
 abbrev pub Else1 : Type 0
-Else1 = Lts.Else1 (
-  Reads'.Asked,
-  Reads'.Learnt,
-  Reads''.Asked,
-  Reads''.Learnt,
-  Reads.Asked,
-  Reads.Learnt,
-  Reads'4.Asked,
-  Reads'4.Learnt,
-) Reads'3.Pre Reads'3.Post
+Else1 = Lts.Else1 callees Reads'3.Pre Reads'3.Post
 
 abbrev pub After-put-path-arg2 : Type 0
-After-put-path-arg2 = Lts.After-put-path-arg2 (
-  Reads'.Asked,
-  Reads'.Learnt,
-  Reads''.Asked,
-  Reads''.Learnt,
-  Reads.Asked,
-  Reads.Learnt,
-  Reads'4.Asked,
-  Reads'4.Learnt,
-) Reads'3.Pre Reads'3.Post
+After-put-path-arg2 = Lts.After-put-path-arg2 callees Reads'3.Pre Reads'3.Post
 
 abbrev pub After-put-path2 : Type 0
-After-put-path2 = Lts.After-put-path2 (
-  Reads'.Asked,
-  Reads'.Learnt,
-  Reads''.Asked,
-  Reads''.Learnt,
-  Reads.Asked,
-  Reads.Learnt,
-  Reads'4.Asked,
-  Reads'4.Learnt,
-) Reads'3.Pre Reads'3.Post
+After-put-path2 = Lts.After-put-path2 callees Reads'3.Pre Reads'3.Post
 
 abbrev pub After-out2 : Type 0
-After-out2 = Lts.After-out2 (
-  Reads'.Asked,
-  Reads'.Learnt,
-  Reads''.Asked,
-  Reads''.Learnt,
-  Reads.Asked,
-  Reads.Learnt,
-  Reads'4.Asked,
-  Reads'4.Learnt,
-) Reads'3.Pre Reads'3.Post
+After-out2 = Lts.After-out2 callees Reads'3.Pre Reads'3.Post
 
 abbrev pub After-slice-known3 : Type 0
-After-slice-known3 = Lts.After-slice-known3 (
-  Reads'.Asked,
-  Reads'.Learnt,
-  Reads''.Asked,
-  Reads''.Learnt,
-  Reads.Asked,
-  Reads.Learnt,
-  Reads'4.Asked,
-  Reads'4.Learnt,
-) Reads'3.Pre Reads'3.Post
+After-slice-known3 = Lts.After-slice-known3 callees Reads'3.Pre Reads'3.Post
 
 abbrev pub Need-addresses-of-requires : Type 0
-Need-addresses-of-requires = Lts.Need-addresses-of-requires (
-  Reads'.Asked,
-  Reads'.Learnt,
-  Reads''.Asked,
-  Reads''.Learnt,
-  Reads.Asked,
-  Reads.Learnt,
-  Reads'4.Asked,
-  Reads'4.Learnt,
-) Reads'3.Pre Reads'3.Post
+Need-addresses-of-requires = Lts.Need-addresses-of-requires callees Reads'3.Pre Reads'3.Post
 
 abbrev pub Need-is-turned-requires : Type 0
-Need-is-turned-requires = Lts.Need-is-turned-requires (
-  Reads'.Asked,
-  Reads'.Learnt,
-  Reads''.Asked,
-  Reads''.Learnt,
-  Reads.Asked,
-  Reads.Learnt,
-  Reads'4.Asked,
-  Reads'4.Learnt,
-) Reads'3.Pre Reads'3.Post
+Need-is-turned-requires = Lts.Need-is-turned-requires callees Reads'3.Pre Reads'3.Post
 
 abbrev pub Need-reversed-requires : Type 0
-Need-reversed-requires = Lts.Need-reversed-requires (
-  Reads'.Asked,
-  Reads'.Learnt,
-  Reads''.Asked,
-  Reads''.Learnt,
-  Reads.Asked,
-  Reads.Learnt,
-  Reads'4.Asked,
-  Reads'4.Learnt,
-) Reads'3.Pre Reads'3.Post
+Need-reversed-requires = Lts.Need-reversed-requires callees Reads'3.Pre Reads'3.Post
 
 abbrev pub Need-put-path-requires : Type 0
-Need-put-path-requires = Lts.Need-put-path-requires (
-  Reads'.Asked,
-  Reads'.Learnt,
-  Reads''.Asked,
-  Reads''.Learnt,
-  Reads.Asked,
-  Reads.Learnt,
-  Reads'4.Asked,
-  Reads'4.Learnt,
-) Reads'3.Pre Reads'3.Post
+Need-put-path-requires = Lts.Need-put-path-requires callees Reads'3.Pre Reads'3.Post
 
 abbrev pub Need-same-length : Type 0
-Need-same-length = Lts.Need-same-length (
-  Reads'.Asked,
-  Reads'.Learnt,
-  Reads''.Asked,
-  Reads''.Learnt,
-  Reads.Asked,
-  Reads.Learnt,
-  Reads'4.Asked,
-  Reads'4.Learnt,
-) Reads'3.Pre Reads'3.Post
+Need-same-length = Lts.Need-same-length callees Reads'3.Pre Reads'3.Post
 
 abbrev pub Need-returns : Type 0
-Need-returns = Lts.Need-returns (
-  Reads'.Asked,
-  Reads'.Learnt,
-  Reads''.Asked,
-  Reads''.Learnt,
-  Reads.Asked,
-  Reads.Learnt,
-  Reads'4.Asked,
-  Reads'4.Learnt,
-) Reads'3.Pre Reads'3.Post
+Need-returns = Lts.Need-returns callees Reads'3.Pre Reads'3.Post
 
 abbrev pub Need-put-path-requires-2 : Type 0
-Need-put-path-requires-2 = Lts.Need-put-path-requires-2 (
-  Reads'.Asked,
-  Reads'.Learnt,
-  Reads''.Asked,
-  Reads''.Learnt,
-  Reads.Asked,
-  Reads.Learnt,
-  Reads'4.Asked,
-  Reads'4.Learnt,
-) Reads'3.Pre Reads'3.Post
+Need-put-path-requires-2 = Lts.Need-put-path-requires-2 callees Reads'3.Pre Reads'3.Post
 
 abbrev pub Need-same-length-2 : Type 0
-Need-same-length-2 = Lts.Need-same-length-2 (
-  Reads'.Asked,
-  Reads'.Learnt,
-  Reads''.Asked,
-  Reads''.Learnt,
-  Reads.Asked,
-  Reads.Learnt,
-  Reads'4.Asked,
-  Reads'4.Learnt,
-) Reads'3.Pre Reads'3.Post
+Need-same-length-2 = Lts.Need-same-length-2 callees Reads'3.Pre Reads'3.Post
 
 abbrev pub Need-returns-2 : Type 0
-Need-returns-2 = Lts.Need-returns-2 (
-  Reads'.Asked,
-  Reads'.Learnt,
-  Reads''.Asked,
-  Reads''.Learnt,
-  Reads.Asked,
-  Reads.Learnt,
-  Reads'4.Asked,
-  Reads'4.Learnt,
-) Reads'3.Pre Reads'3.Post
+Need-returns-2 = Lts.Need-returns-2 callees Reads'3.Pre Reads'3.Post
 
 module _ {M : Type 1} where
   pub spec :
@@ -356,26 +116,8 @@ module _ {M : Type 1} where
       (answer : Need-put-path-requires-2) →
       (answer : Need-same-length-2) →
       (answer : Need-returns-2) →
-      Lts.Closed (
-        Reads'.Asked,
-        Reads'.Learnt,
-        Reads''.Asked,
-        Reads''.Learnt,
-        Reads.Asked,
-        Reads.Learnt,
-        Reads'4.Asked,
-        Reads'4.Learnt,
-      ) Reads'3.Pre Reads'3.Post M
-  spec = λ answer answer' answer'' answer'3 answer'4 answer'5 answer'6 answer'7 answer'8. Lts.spec (
-    Reads'.Asked,
-    Reads'.Learnt,
-    Reads''.Asked,
-    Reads''.Learnt,
-    Reads.Asked,
-    Reads.Learnt,
-    Reads'4.Asked,
-    Reads'4.Learnt,
-  )
+      Lts.Closed callees Reads'3.Pre Reads'3.Post M
+  spec = λ answer answer' answer'' answer'3 answer'4 answer'5 answer'6 answer'7 answer'8. Lts.spec callees
       Reads'3.Pre
       Reads'3.Post
       answer
@@ -388,16 +130,7 @@ module _ {M : Type 1} where
       answer'7
       answer'8
 
-  pub close : Lts.Closed (
-    Reads'.Asked,
-    Reads'.Learnt,
-    Reads''.Asked,
-    Reads''.Learnt,
-    Reads.Asked,
-    Reads.Learnt,
-    Reads'4.Asked,
-    Reads'4.Learnt,
-  ) Reads'3.Pre Reads'3.Post M → Statement.statement M
+  pub close : Lts.Closed callees Reads'3.Pre Reads'3.Post M → Statement.statement M
   unfolding Code.routine Running.tablesOf
   close =
       λ closed 𝓤 H 𝓜 𝓖 𝓡. Written.close

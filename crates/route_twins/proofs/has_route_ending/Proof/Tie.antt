@@ -15,6 +15,9 @@ use borrow.Fn.Run
 use borrow.Fn.Written
 use contract.Running
 
+abbrev callees : Lts.Claims
+callees = (Reads'.Asked, Reads'.Learnt, Reads.Asked, Reads.Learnt)
+
 abbrev pub InvT-loop : Type 1
 InvT-loop = Lts.InvT-loop
 
@@ -24,32 +27,22 @@ MeasureT-loop = Lts.MeasureT-loop
 abbrev pub Start : (Inv : InvT-loop) → (μ : MeasureT-loop) → Type 0
 Start =
     λ Inv μ. Lts.Start
-    (Reads'.Asked, Reads'.Learnt, Reads.Asked, Reads.Learnt)
+    callees
     Reads''.Pre
     Reads''.Post
     Inv
     μ
 
 abbrev pub After-route-ending-arg : (Inv : InvT-loop) → (μ : MeasureT-loop) → Type 0
-After-route-ending-arg = λ Inv μ. Lts.After-route-ending-arg (
-  Reads'.Asked,
-  Reads'.Learnt,
-  Reads.Asked,
-  Reads.Learnt,
-) Reads''.Pre Reads''.Post Inv μ
+After-route-ending-arg = λ Inv μ. Lts.After-route-ending-arg callees Reads''.Pre Reads''.Post Inv μ
 
 abbrev pub After-route-ending : (Inv : InvT-loop) → (μ : MeasureT-loop) → Type 0
-After-route-ending = λ Inv μ. Lts.After-route-ending (
-  Reads'.Asked,
-  Reads'.Learnt,
-  Reads.Asked,
-  Reads.Learnt,
-) Reads''.Pre Reads''.Post Inv μ
+After-route-ending = λ Inv μ. Lts.After-route-ending callees Reads''.Pre Reads''.Post Inv μ
 
 abbrev pub At-loop : (Inv : InvT-loop) → (μ : MeasureT-loop) → Type 0
 At-loop =
     λ Inv μ. Lts.At-loop
-    (Reads'.Asked, Reads'.Learnt, Reads.Asked, Reads.Learnt)
+    callees
     Reads''.Pre
     Reads''.Post
     Inv
@@ -58,7 +51,7 @@ At-loop =
 abbrev pub In-loop : (Inv : InvT-loop) → (μ : MeasureT-loop) → Type 0
 In-loop =
     λ Inv μ. Lts.In-loop
-    (Reads'.Asked, Reads'.Learnt, Reads.Asked, Reads.Learnt)
+    callees
     Reads''.Pre
     Reads''.Post
     Inv
@@ -67,32 +60,22 @@ In-loop =
 abbrev pub After-loop : (Inv : InvT-loop) → (μ : MeasureT-loop) → Type 0
 After-loop =
     λ Inv μ. Lts.After-loop
-    (Reads'.Asked, Reads'.Learnt, Reads.Asked, Reads.Learnt)
+    callees
     Reads''.Pre
     Reads''.Post
     Inv
     μ
 
 abbrev pub After-does-route-end-arg : (Inv : InvT-loop) → (μ : MeasureT-loop) → Type 0
-After-does-route-end-arg = λ Inv μ. Lts.After-does-route-end-arg (
-  Reads'.Asked,
-  Reads'.Learnt,
-  Reads.Asked,
-  Reads.Learnt,
-) Reads''.Pre Reads''.Post Inv μ
+After-does-route-end-arg = λ Inv μ. Lts.After-does-route-end-arg callees Reads''.Pre Reads''.Post Inv μ
 
 abbrev pub After-does-route-end : (Inv : InvT-loop) → (μ : MeasureT-loop) → Type 0
-After-does-route-end = λ Inv μ. Lts.After-does-route-end (
-  Reads'.Asked,
-  Reads'.Learnt,
-  Reads.Asked,
-  Reads.Learnt,
-) Reads''.Pre Reads''.Post Inv μ
+After-does-route-end = λ Inv μ. Lts.After-does-route-end callees Reads''.Pre Reads''.Post Inv μ
 
 abbrev pub Then1 : (Inv : InvT-loop) → (μ : MeasureT-loop) → Type 0
 Then1 =
     λ Inv μ. Lts.Then1
-    (Reads'.Asked, Reads'.Learnt, Reads.Asked, Reads.Learnt)
+    callees
     Reads''.Pre
     Reads''.Post
     Inv
@@ -101,74 +84,39 @@ Then1 =
 abbrev pub Else1 : (Inv : InvT-loop) → (μ : MeasureT-loop) → Type 0
 Else1 =
     λ Inv μ. Lts.Else1
-    (Reads'.Asked, Reads'.Learnt, Reads.Asked, Reads.Learnt)
+    callees
     Reads''.Pre
     Reads''.Post
     Inv
     μ
 
 abbrev pub Need-mul-route-ending : (Inv : InvT-loop) → (μ : MeasureT-loop) → Type 0
-Need-mul-route-ending = λ Inv μ. Lts.Need-mul-route-ending (
-  Reads'.Asked,
-  Reads'.Learnt,
-  Reads.Asked,
-  Reads.Learnt,
-) Reads''.Pre Reads''.Post Inv μ
+Need-mul-route-ending = λ Inv μ. Lts.Need-mul-route-ending callees Reads''.Pre Reads''.Post Inv μ
 
 abbrev pub Need-shared-slice-copy-out-route-ending :
     (Inv : InvT-loop) → (μ : MeasureT-loop) → Type 0
-Need-shared-slice-copy-out-route-ending = λ Inv μ. Lts.Need-shared-slice-copy-out-route-ending (
-  Reads'.Asked,
-  Reads'.Learnt,
-  Reads.Asked,
-  Reads.Learnt,
-) Reads''.Pre Reads''.Post Inv μ
+Need-shared-slice-copy-out-route-ending = λ Inv μ. Lts.Need-shared-slice-copy-out-route-ending callees Reads''.Pre Reads''.Post Inv μ
 
 abbrev pub Need-route-ending-requires : (Inv : InvT-loop) → (μ : MeasureT-loop) → Type 0
-Need-route-ending-requires = λ Inv μ. Lts.Need-route-ending-requires (
-  Reads'.Asked,
-  Reads'.Learnt,
-  Reads.Asked,
-  Reads.Learnt,
-) Reads''.Pre Reads''.Post Inv μ
+Need-route-ending-requires = λ Inv μ. Lts.Need-route-ending-requires callees Reads''.Pre Reads''.Post Inv μ
 
 abbrev pub Need-loop-holds : (Inv : InvT-loop) → (μ : MeasureT-loop) → Type 0
-Need-loop-holds = λ Inv μ. Lts.Need-loop-holds (
-  Reads'.Asked,
-  Reads'.Learnt,
-  Reads.Asked,
-  Reads.Learnt,
-) Reads''.Pre Reads''.Post Inv μ
+Need-loop-holds = λ Inv μ. Lts.Need-loop-holds callees Reads''.Pre Reads''.Post Inv μ
 
 abbrev pub Need-mul-does-route-end : (Inv : InvT-loop) → (μ : MeasureT-loop) → Type 0
-Need-mul-does-route-end = λ Inv μ. Lts.Need-mul-does-route-end (
-  Reads'.Asked,
-  Reads'.Learnt,
-  Reads.Asked,
-  Reads.Learnt,
-) Reads''.Pre Reads''.Post Inv μ
+Need-mul-does-route-end = λ Inv μ. Lts.Need-mul-does-route-end callees Reads''.Pre Reads''.Post Inv μ
 
 abbrev pub Need-shared-slice-copy-out-does-route-end :
     (Inv : InvT-loop) → (μ : MeasureT-loop) → Type 0
-Need-shared-slice-copy-out-does-route-end = λ Inv μ. Lts.Need-shared-slice-copy-out-does-route-end (
-  Reads'.Asked,
-  Reads'.Learnt,
-  Reads.Asked,
-  Reads.Learnt,
-) Reads''.Pre Reads''.Post Inv μ
+Need-shared-slice-copy-out-does-route-end = λ Inv μ. Lts.Need-shared-slice-copy-out-does-route-end callees Reads''.Pre Reads''.Post Inv μ
 
 abbrev pub Need-does-route-end-requires : (Inv : InvT-loop) → (μ : MeasureT-loop) → Type 0
-Need-does-route-end-requires = λ Inv μ. Lts.Need-does-route-end-requires (
-  Reads'.Asked,
-  Reads'.Learnt,
-  Reads.Asked,
-  Reads.Learnt,
-) Reads''.Pre Reads''.Post Inv μ
+Need-does-route-end-requires = λ Inv μ. Lts.Need-does-route-end-requires callees Reads''.Pre Reads''.Post Inv μ
 
 abbrev pub Need-returns : (Inv : InvT-loop) → (μ : MeasureT-loop) → Type 0
 Need-returns =
     λ Inv μ. Lts.Need-returns
-    (Reads'.Asked, Reads'.Learnt, Reads.Asked, Reads.Learnt)
+    callees
     Reads''.Pre
     Reads''.Post
     Inv
@@ -177,35 +125,20 @@ Need-returns =
 abbrev pub Need-add-i : (Inv : InvT-loop) → (μ : MeasureT-loop) → Type 0
 Need-add-i =
     λ Inv μ. Lts.Need-add-i
-    (Reads'.Asked, Reads'.Learnt, Reads.Asked, Reads.Learnt)
+    callees
     Reads''.Pre
     Reads''.Post
     Inv
     μ
 
 abbrev pub Need-loop-less : (Inv : InvT-loop) → (μ : MeasureT-loop) → Type 0
-Need-loop-less = λ Inv μ. Lts.Need-loop-less (
-  Reads'.Asked,
-  Reads'.Learnt,
-  Reads.Asked,
-  Reads.Learnt,
-) Reads''.Pre Reads''.Post Inv μ
+Need-loop-less = λ Inv μ. Lts.Need-loop-less callees Reads''.Pre Reads''.Post Inv μ
 
 abbrev pub Need-loop-again : (Inv : InvT-loop) → (μ : MeasureT-loop) → Type 0
-Need-loop-again = λ Inv μ. Lts.Need-loop-again (
-  Reads'.Asked,
-  Reads'.Learnt,
-  Reads.Asked,
-  Reads.Learnt,
-) Reads''.Pre Reads''.Post Inv μ
+Need-loop-again = λ Inv μ. Lts.Need-loop-again callees Reads''.Pre Reads''.Post Inv μ
 
 abbrev pub Need-returns-2 : (Inv : InvT-loop) → (μ : MeasureT-loop) → Type 0
-Need-returns-2 = λ Inv μ. Lts.Need-returns-2 (
-  Reads'.Asked,
-  Reads'.Learnt,
-  Reads.Asked,
-  Reads.Learnt,
-) Reads''.Pre Reads''.Post Inv μ
+Need-returns-2 = λ Inv μ. Lts.Need-returns-2 callees Reads''.Pre Reads''.Post Inv μ
 
 module _ {M : Type 1} where
   pub spec :
@@ -224,20 +157,20 @@ module _ {M : Type 1} where
       (answer : Need-loop-again Inv μ) →
       (answer : Need-returns-2 Inv μ) →
       Lts.Closed
-      (Reads'.Asked, Reads'.Learnt, Reads.Asked, Reads.Learnt)
+      callees
       Reads''.Pre
       Reads''.Post
       M
   spec =
       λ Inv μ answer answer' answer'' answer'3 answer'4 answer'5 answer'6 answer'7 answer'8
       answer'9 answer'10 answer'11. Lts.spec
-      (Reads'.Asked, Reads'.Learnt, Reads.Asked, Reads.Learnt) Reads''.Pre Reads''.Post Inv μ
+      callees Reads''.Pre Reads''.Post Inv μ
       answer answer' answer'' answer'3 answer'4 answer'5 answer'6 answer'7 answer'8 answer'9
       answer'10 answer'11
 
   pub close :
       Lts.Closed
-      (Reads'.Asked, Reads'.Learnt, Reads.Asked, Reads.Learnt)
+      callees
       Reads''.Pre
       Reads''.Post
       M →

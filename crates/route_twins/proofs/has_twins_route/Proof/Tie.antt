@@ -18,145 +18,50 @@ use borrow.Fn.Run
 use borrow.Fn.Written
 use contract.Running
 
+abbrev callees : Lts.Claims
+callees = (Reads.Asked, Reads.Learnt, Reads'.Asked, Reads'.Learnt, Reads'3.Asked, Reads'3.Learnt)
+
 abbrev pub Start : Type 0
-Start = Lts.Start (
-  Reads.Asked,
-  Reads.Learnt,
-  Reads'.Asked,
-  Reads'.Learnt,
-  Reads'3.Asked,
-  Reads'3.Learnt,
-) Reads''.Pre Reads''.Post
+Start = Lts.Start callees Reads''.Pre Reads''.Post
 
 abbrev pub Then1 : Type 0
-Then1 = Lts.Then1 (
-  Reads.Asked,
-  Reads.Learnt,
-  Reads'.Asked,
-  Reads'.Learnt,
-  Reads'3.Asked,
-  Reads'3.Learnt,
-) Reads''.Pre Reads''.Post
+Then1 = Lts.Then1 callees Reads''.Pre Reads''.Post
 
 abbrev pub After-every-pair-of-routes : Type 0
-After-every-pair-of-routes = Lts.After-every-pair-of-routes (
-  Reads.Asked,
-  Reads.Learnt,
-  Reads'.Asked,
-  Reads'.Learnt,
-  Reads'3.Asked,
-  Reads'3.Learnt,
-) Reads''.Pre Reads''.Post
+After-every-pair-of-routes = Lts.After-every-pair-of-routes callees Reads''.Pre Reads''.Post
 
 abbrev pub Else1 : Type 0
-Else1 = Lts.Else1 (
-  Reads.Asked,
-  Reads.Learnt,
-  Reads'.Asked,
-  Reads'.Learnt,
-  Reads'3.Asked,
-  Reads'3.Learnt,
-) Reads''.Pre Reads''.Post
+Else1 = Lts.Else1 callees Reads''.Pre Reads''.Post
 
 abbrev pub Then2 : Type 0
-Then2 = Lts.Then2 (
-  Reads.Asked,
-  Reads.Learnt,
-  Reads'.Asked,
-  Reads'.Learnt,
-  Reads'3.Asked,
-  Reads'3.Learnt,
-) Reads''.Pre Reads''.Post
+Then2 = Lts.Then2 callees Reads''.Pre Reads''.Post
 
 abbrev pub After-few-routes : Type 0
-After-few-routes = Lts.After-few-routes (
-  Reads.Asked,
-  Reads.Learnt,
-  Reads'.Asked,
-  Reads'.Learnt,
-  Reads'3.Asked,
-  Reads'3.Learnt,
-) Reads''.Pre Reads''.Post
+After-few-routes = Lts.After-few-routes callees Reads''.Pre Reads''.Post
 
 abbrev pub Else2 : Type 0
-Else2 = Lts.Else2 (
-  Reads.Asked,
-  Reads.Learnt,
-  Reads'.Asked,
-  Reads'.Learnt,
-  Reads'3.Asked,
-  Reads'3.Learnt,
-) Reads''.Pre Reads''.Post
+Else2 = Lts.Else2 callees Reads''.Pre Reads''.Post
 
 abbrev pub After-passes-routes : Type 0
-After-passes-routes = Lts.After-passes-routes (
-  Reads.Asked,
-  Reads.Learnt,
-  Reads'.Asked,
-  Reads'.Learnt,
-  Reads'3.Asked,
-  Reads'3.Learnt,
-) Reads''.Pre Reads''.Post
+After-passes-routes = Lts.After-passes-routes callees Reads''.Pre Reads''.Post
 
 abbrev pub Need-every-pair-of-routes-requires : Type 0
-Need-every-pair-of-routes-requires = Lts.Need-every-pair-of-routes-requires (
-  Reads.Asked,
-  Reads.Learnt,
-  Reads'.Asked,
-  Reads'.Learnt,
-  Reads'3.Asked,
-  Reads'3.Learnt,
-) Reads''.Pre Reads''.Post
+Need-every-pair-of-routes-requires = Lts.Need-every-pair-of-routes-requires callees Reads''.Pre Reads''.Post
 
 abbrev pub Need-returns : Type 0
-Need-returns = Lts.Need-returns (
-  Reads.Asked,
-  Reads.Learnt,
-  Reads'.Asked,
-  Reads'.Learnt,
-  Reads'3.Asked,
-  Reads'3.Learnt,
-) Reads''.Pre Reads''.Post
+Need-returns = Lts.Need-returns callees Reads''.Pre Reads''.Post
 
 abbrev pub Need-few-routes-requires : Type 0
-Need-few-routes-requires = Lts.Need-few-routes-requires (
-  Reads.Asked,
-  Reads.Learnt,
-  Reads'.Asked,
-  Reads'.Learnt,
-  Reads'3.Asked,
-  Reads'3.Learnt,
-) Reads''.Pre Reads''.Post
+Need-few-routes-requires = Lts.Need-few-routes-requires callees Reads''.Pre Reads''.Post
 
 abbrev pub Need-returns-2 : Type 0
-Need-returns-2 = Lts.Need-returns-2 (
-  Reads.Asked,
-  Reads.Learnt,
-  Reads'.Asked,
-  Reads'.Learnt,
-  Reads'3.Asked,
-  Reads'3.Learnt,
-) Reads''.Pre Reads''.Post
+Need-returns-2 = Lts.Need-returns-2 callees Reads''.Pre Reads''.Post
 
 abbrev pub Need-passes-routes-requires : Type 0
-Need-passes-routes-requires = Lts.Need-passes-routes-requires (
-  Reads.Asked,
-  Reads.Learnt,
-  Reads'.Asked,
-  Reads'.Learnt,
-  Reads'3.Asked,
-  Reads'3.Learnt,
-) Reads''.Pre Reads''.Post
+Need-passes-routes-requires = Lts.Need-passes-routes-requires callees Reads''.Pre Reads''.Post
 
 abbrev pub Need-returns-3 : Type 0
-Need-returns-3 = Lts.Need-returns-3 (
-  Reads.Asked,
-  Reads.Learnt,
-  Reads'.Asked,
-  Reads'.Learnt,
-  Reads'3.Asked,
-  Reads'3.Learnt,
-) Reads''.Pre Reads''.Post
+Need-returns-3 = Lts.Need-returns-3 callees Reads''.Pre Reads''.Post
 
 module _ {M : Type 1} where
   pub spec :
@@ -166,31 +71,10 @@ module _ {M : Type 1} where
       (answer : Need-returns-2) →
       (answer : Need-passes-routes-requires) →
       (answer : Need-returns-3) →
-      Lts.Closed (
-        Reads.Asked,
-        Reads.Learnt,
-        Reads'.Asked,
-        Reads'.Learnt,
-        Reads'3.Asked,
-        Reads'3.Learnt,
-      ) Reads''.Pre Reads''.Post M
-  spec = λ answer answer' answer'' answer'3 answer'4 answer'5. Lts.spec (
-    Reads.Asked,
-    Reads.Learnt,
-    Reads'.Asked,
-    Reads'.Learnt,
-    Reads'3.Asked,
-    Reads'3.Learnt,
-  ) Reads''.Pre Reads''.Post answer answer' answer'' answer'3 answer'4 answer'5
+      Lts.Closed callees Reads''.Pre Reads''.Post M
+  spec = λ answer answer' answer'' answer'3 answer'4 answer'5. Lts.spec callees Reads''.Pre Reads''.Post answer answer' answer'' answer'3 answer'4 answer'5
 
-  pub close : Lts.Closed (
-    Reads.Asked,
-    Reads.Learnt,
-    Reads'.Asked,
-    Reads'.Learnt,
-    Reads'3.Asked,
-    Reads'3.Learnt,
-  ) Reads''.Pre Reads''.Post M → Statement.statement M
+  pub close : Lts.Closed callees Reads''.Pre Reads''.Post M → Statement.statement M
   unfolding Code.routine Running.tablesOf
   close =
       λ closed 𝓤 H 𝓜 𝓖 𝓡. Written.close

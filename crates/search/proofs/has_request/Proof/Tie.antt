@@ -12,37 +12,40 @@ use borrow.Fn.Run
 use borrow.Fn.Written
 use contract.Running
 
+abbrev callees : Lts.Claims
+callees = (Reads.Asked, Reads.Learnt)
+
 abbrev pub Start : Type 0
-Start = Lts.Start (Reads.Asked, Reads.Learnt) Reads'.Pre Reads'.Post
+Start = Lts.Start callees Reads'.Pre Reads'.Post
 
 abbrev pub After-find-request : Type 0
-After-find-request = Lts.After-find-request (Reads.Asked, Reads.Learnt) Reads'.Pre Reads'.Post
+After-find-request = Lts.After-find-request callees Reads'.Pre Reads'.Post
 
 abbrev pub Then1 : Type 0
-Then1 = Lts.Then1 (Reads.Asked, Reads.Learnt) Reads'.Pre Reads'.Post
+Then1 = Lts.Then1 callees Reads'.Pre Reads'.Post
 
 abbrev pub Else1 : Type 0
-Else1 = Lts.Else1 (Reads.Asked, Reads.Learnt) Reads'.Pre Reads'.Post
+Else1 = Lts.Else1 callees Reads'.Pre Reads'.Post
 
 abbrev pub Need-find-request-requires : Type 0
 Need-find-request-requires =
-    Lts.Need-find-request-requires (Reads.Asked, Reads.Learnt) Reads'.Pre Reads'.Post
+    Lts.Need-find-request-requires callees Reads'.Pre Reads'.Post
 
 abbrev pub Need-returns : Type 0
-Need-returns = Lts.Need-returns (Reads.Asked, Reads.Learnt) Reads'.Pre Reads'.Post
+Need-returns = Lts.Need-returns callees Reads'.Pre Reads'.Post
 
 abbrev pub Need-returns-2 : Type 0
-Need-returns-2 = Lts.Need-returns-2 (Reads.Asked, Reads.Learnt) Reads'.Pre Reads'.Post
+Need-returns-2 = Lts.Need-returns-2 callees Reads'.Pre Reads'.Post
 
 module _ {M : Type 1} where
   pub spec :
       (answer : Need-find-request-requires) →
       (answer : Need-returns) →
       (answer : Need-returns-2) →
-      Lts.Closed (Reads.Asked, Reads.Learnt) Reads'.Pre Reads'.Post M
+      Lts.Closed callees Reads'.Pre Reads'.Post M
   spec =
       λ answer answer' answer''. Lts.spec
-      (Reads.Asked, Reads.Learnt)
+      callees
       Reads'.Pre
       Reads'.Post
       answer
@@ -50,7 +53,7 @@ module _ {M : Type 1} where
       answer''
 
   pub close :
-      Lts.Closed (Reads.Asked, Reads.Learnt) Reads'.Pre Reads'.Post M → Statement.statement M
+      Lts.Closed callees Reads'.Pre Reads'.Post M → Statement.statement M
   unfolding Code.routine Running.tablesOf
   close =
       λ closed 𝓤 H 𝓜 𝓖 𝓡. Written.close

@@ -18,145 +18,50 @@ use borrow.Fn.Run
 use borrow.Fn.Written
 use contract.Running
 
+abbrev callees : Lts.Claims
+callees = (Reads.Asked, Reads.Learnt, Reads'.Asked, Reads'.Learnt, Reads''.Asked, Reads''.Learnt)
+
 abbrev pub Start : Type 0
-Start = Lts.Start (
-  Reads.Asked,
-  Reads.Learnt,
-  Reads'.Asked,
-  Reads'.Learnt,
-  Reads''.Asked,
-  Reads''.Learnt,
-) Reads'3.Pre Reads'3.Post
+Start = Lts.Start callees Reads'3.Pre Reads'3.Post
 
 abbrev pub After-find-reply : Type 0
-After-find-reply = Lts.After-find-reply (
-  Reads.Asked,
-  Reads.Learnt,
-  Reads'.Asked,
-  Reads'.Learnt,
-  Reads''.Asked,
-  Reads''.Learnt,
-) Reads'3.Pre Reads'3.Post
+After-find-reply = Lts.After-find-reply callees Reads'3.Pre Reads'3.Post
 
 abbrev pub Then1 : Type 0
-Then1 = Lts.Then1 (
-  Reads.Asked,
-  Reads.Learnt,
-  Reads'.Asked,
-  Reads'.Learnt,
-  Reads''.Asked,
-  Reads''.Learnt,
-) Reads'3.Pre Reads'3.Post
+Then1 = Lts.Then1 callees Reads'3.Pre Reads'3.Post
 
 abbrev pub After-found-arg : Type 0
-After-found-arg = Lts.After-found-arg (
-  Reads.Asked,
-  Reads.Learnt,
-  Reads'.Asked,
-  Reads'.Learnt,
-  Reads''.Asked,
-  Reads''.Learnt,
-) Reads'3.Pre Reads'3.Post
+After-found-arg = Lts.After-found-arg callees Reads'3.Pre Reads'3.Post
 
 abbrev pub After-found : Type 0
-After-found = Lts.After-found (
-  Reads.Asked,
-  Reads.Learnt,
-  Reads'.Asked,
-  Reads'.Learnt,
-  Reads''.Asked,
-  Reads''.Learnt,
-) Reads'3.Pre Reads'3.Post
+After-found = Lts.After-found callees Reads'3.Pre Reads'3.Post
 
 abbrev pub Else1 : Type 0
-Else1 = Lts.Else1 (
-  Reads.Asked,
-  Reads.Learnt,
-  Reads'.Asked,
-  Reads'.Learnt,
-  Reads''.Asked,
-  Reads''.Learnt,
-) Reads'3.Pre Reads'3.Post
+Else1 = Lts.Else1 callees Reads'3.Pre Reads'3.Post
 
 abbrev pub After-not-found : Type 0
-After-not-found = Lts.After-not-found (
-  Reads.Asked,
-  Reads.Learnt,
-  Reads'.Asked,
-  Reads'.Learnt,
-  Reads''.Asked,
-  Reads''.Learnt,
-) Reads'3.Pre Reads'3.Post
+After-not-found = Lts.After-not-found callees Reads'3.Pre Reads'3.Post
 
 abbrev pub Need-find-reply-requires : Type 0
-Need-find-reply-requires = Lts.Need-find-reply-requires (
-  Reads.Asked,
-  Reads.Learnt,
-  Reads'.Asked,
-  Reads'.Learnt,
-  Reads''.Asked,
-  Reads''.Learnt,
-) Reads'3.Pre Reads'3.Post
+Need-find-reply-requires = Lts.Need-find-reply-requires callees Reads'3.Pre Reads'3.Post
 
 abbrev pub Need-mul-found : Type 0
-Need-mul-found = Lts.Need-mul-found (
-  Reads.Asked,
-  Reads.Learnt,
-  Reads'.Asked,
-  Reads'.Learnt,
-  Reads''.Asked,
-  Reads''.Learnt,
-) Reads'3.Pre Reads'3.Post
+Need-mul-found = Lts.Need-mul-found callees Reads'3.Pre Reads'3.Post
 
 abbrev pub Need-shared-slice-copy-out-found : Type 0
-Need-shared-slice-copy-out-found = Lts.Need-shared-slice-copy-out-found (
-  Reads.Asked,
-  Reads.Learnt,
-  Reads'.Asked,
-  Reads'.Learnt,
-  Reads''.Asked,
-  Reads''.Learnt,
-) Reads'3.Pre Reads'3.Post
+Need-shared-slice-copy-out-found = Lts.Need-shared-slice-copy-out-found callees Reads'3.Pre Reads'3.Post
 
 abbrev pub Need-found-requires : Type 0
-Need-found-requires = Lts.Need-found-requires (
-  Reads.Asked,
-  Reads.Learnt,
-  Reads'.Asked,
-  Reads'.Learnt,
-  Reads''.Asked,
-  Reads''.Learnt,
-) Reads'3.Pre Reads'3.Post
+Need-found-requires = Lts.Need-found-requires callees Reads'3.Pre Reads'3.Post
 
 abbrev pub Need-returns : Type 0
-Need-returns = Lts.Need-returns (
-  Reads.Asked,
-  Reads.Learnt,
-  Reads'.Asked,
-  Reads'.Learnt,
-  Reads''.Asked,
-  Reads''.Learnt,
-) Reads'3.Pre Reads'3.Post
+Need-returns = Lts.Need-returns callees Reads'3.Pre Reads'3.Post
 
 abbrev pub Need-not-found-requires : Type 0
-Need-not-found-requires = Lts.Need-not-found-requires (
-  Reads.Asked,
-  Reads.Learnt,
-  Reads'.Asked,
-  Reads'.Learnt,
-  Reads''.Asked,
-  Reads''.Learnt,
-) Reads'3.Pre Reads'3.Post
+Need-not-found-requires = Lts.Need-not-found-requires callees Reads'3.Pre Reads'3.Post
 
 abbrev pub Need-returns-2 : Type 0
-Need-returns-2 = Lts.Need-returns-2 (
-  Reads.Asked,
-  Reads.Learnt,
-  Reads'.Asked,
-  Reads'.Learnt,
-  Reads''.Asked,
-  Reads''.Learnt,
-) Reads'3.Pre Reads'3.Post
+Need-returns-2 = Lts.Need-returns-2 callees Reads'3.Pre Reads'3.Post
 
 module _ {M : Type 1} where
   pub spec :
@@ -167,31 +72,10 @@ module _ {M : Type 1} where
       (answer : Need-returns) →
       (answer : Need-not-found-requires) →
       (answer : Need-returns-2) →
-      Lts.Closed (
-        Reads.Asked,
-        Reads.Learnt,
-        Reads'.Asked,
-        Reads'.Learnt,
-        Reads''.Asked,
-        Reads''.Learnt,
-      ) Reads'3.Pre Reads'3.Post M
-  spec = λ answer answer' answer'' answer'3 answer'4 answer'5 answer'6. Lts.spec (
-    Reads.Asked,
-    Reads.Learnt,
-    Reads'.Asked,
-    Reads'.Learnt,
-    Reads''.Asked,
-    Reads''.Learnt,
-  ) Reads'3.Pre Reads'3.Post answer answer' answer'' answer'3 answer'4 answer'5 answer'6
+      Lts.Closed callees Reads'3.Pre Reads'3.Post M
+  spec = λ answer answer' answer'' answer'3 answer'4 answer'5 answer'6. Lts.spec callees Reads'3.Pre Reads'3.Post answer answer' answer'' answer'3 answer'4 answer'5 answer'6
 
-  pub close : Lts.Closed (
-    Reads.Asked,
-    Reads.Learnt,
-    Reads'.Asked,
-    Reads'.Learnt,
-    Reads''.Asked,
-    Reads''.Learnt,
-  ) Reads'3.Pre Reads'3.Post M → Statement.statement M
+  pub close : Lts.Closed callees Reads'3.Pre Reads'3.Post M → Statement.statement M
   unfolding Code.routine Running.tablesOf
   close =
       λ closed 𝓤 H 𝓜 𝓖 𝓡. Written.close

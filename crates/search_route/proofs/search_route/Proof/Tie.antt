@@ -18,145 +18,50 @@ use borrow.Fn.Run
 use borrow.Fn.Written
 use contract.Running
 
+abbrev callees : Lts.Claims
+callees = (Reads.Asked, Reads.Learnt, Reads'.Asked, Reads'.Learnt, Reads''.Asked, Reads''.Learnt)
+
 abbrev pub Start : Type 0
-Start = Lts.Start (
-  Reads.Asked,
-  Reads.Learnt,
-  Reads'.Asked,
-  Reads'.Learnt,
-  Reads''.Asked,
-  Reads''.Learnt,
-) Reads'3.Pre Reads'3.Post
+Start = Lts.Start callees Reads'3.Pre Reads'3.Post
 
 abbrev pub After-find-route : Type 0
-After-find-route = Lts.After-find-route (
-  Reads.Asked,
-  Reads.Learnt,
-  Reads'.Asked,
-  Reads'.Learnt,
-  Reads''.Asked,
-  Reads''.Learnt,
-) Reads'3.Pre Reads'3.Post
+After-find-route = Lts.After-find-route callees Reads'3.Pre Reads'3.Post
 
 abbrev pub Then1 : Type 0
-Then1 = Lts.Then1 (
-  Reads.Asked,
-  Reads.Learnt,
-  Reads'.Asked,
-  Reads'.Learnt,
-  Reads''.Asked,
-  Reads''.Learnt,
-) Reads'3.Pre Reads'3.Post
+Then1 = Lts.Then1 callees Reads'3.Pre Reads'3.Post
 
 abbrev pub After-found-route-arg : Type 0
-After-found-route-arg = Lts.After-found-route-arg (
-  Reads.Asked,
-  Reads.Learnt,
-  Reads'.Asked,
-  Reads'.Learnt,
-  Reads''.Asked,
-  Reads''.Learnt,
-) Reads'3.Pre Reads'3.Post
+After-found-route-arg = Lts.After-found-route-arg callees Reads'3.Pre Reads'3.Post
 
 abbrev pub After-found-route : Type 0
-After-found-route = Lts.After-found-route (
-  Reads.Asked,
-  Reads.Learnt,
-  Reads'.Asked,
-  Reads'.Learnt,
-  Reads''.Asked,
-  Reads''.Learnt,
-) Reads'3.Pre Reads'3.Post
+After-found-route = Lts.After-found-route callees Reads'3.Pre Reads'3.Post
 
 abbrev pub Else1 : Type 0
-Else1 = Lts.Else1 (
-  Reads.Asked,
-  Reads.Learnt,
-  Reads'.Asked,
-  Reads'.Learnt,
-  Reads''.Asked,
-  Reads''.Learnt,
-) Reads'3.Pre Reads'3.Post
+Else1 = Lts.Else1 callees Reads'3.Pre Reads'3.Post
 
 abbrev pub After-no-route-found : Type 0
-After-no-route-found = Lts.After-no-route-found (
-  Reads.Asked,
-  Reads.Learnt,
-  Reads'.Asked,
-  Reads'.Learnt,
-  Reads''.Asked,
-  Reads''.Learnt,
-) Reads'3.Pre Reads'3.Post
+After-no-route-found = Lts.After-no-route-found callees Reads'3.Pre Reads'3.Post
 
 abbrev pub Need-find-route-requires : Type 0
-Need-find-route-requires = Lts.Need-find-route-requires (
-  Reads.Asked,
-  Reads.Learnt,
-  Reads'.Asked,
-  Reads'.Learnt,
-  Reads''.Asked,
-  Reads''.Learnt,
-) Reads'3.Pre Reads'3.Post
+Need-find-route-requires = Lts.Need-find-route-requires callees Reads'3.Pre Reads'3.Post
 
 abbrev pub Need-mul-found-route : Type 0
-Need-mul-found-route = Lts.Need-mul-found-route (
-  Reads.Asked,
-  Reads.Learnt,
-  Reads'.Asked,
-  Reads'.Learnt,
-  Reads''.Asked,
-  Reads''.Learnt,
-) Reads'3.Pre Reads'3.Post
+Need-mul-found-route = Lts.Need-mul-found-route callees Reads'3.Pre Reads'3.Post
 
 abbrev pub Need-shared-slice-copy-out-found-route : Type 0
-Need-shared-slice-copy-out-found-route = Lts.Need-shared-slice-copy-out-found-route (
-  Reads.Asked,
-  Reads.Learnt,
-  Reads'.Asked,
-  Reads'.Learnt,
-  Reads''.Asked,
-  Reads''.Learnt,
-) Reads'3.Pre Reads'3.Post
+Need-shared-slice-copy-out-found-route = Lts.Need-shared-slice-copy-out-found-route callees Reads'3.Pre Reads'3.Post
 
 abbrev pub Need-found-route-requires : Type 0
-Need-found-route-requires = Lts.Need-found-route-requires (
-  Reads.Asked,
-  Reads.Learnt,
-  Reads'.Asked,
-  Reads'.Learnt,
-  Reads''.Asked,
-  Reads''.Learnt,
-) Reads'3.Pre Reads'3.Post
+Need-found-route-requires = Lts.Need-found-route-requires callees Reads'3.Pre Reads'3.Post
 
 abbrev pub Need-returns : Type 0
-Need-returns = Lts.Need-returns (
-  Reads.Asked,
-  Reads.Learnt,
-  Reads'.Asked,
-  Reads'.Learnt,
-  Reads''.Asked,
-  Reads''.Learnt,
-) Reads'3.Pre Reads'3.Post
+Need-returns = Lts.Need-returns callees Reads'3.Pre Reads'3.Post
 
 abbrev pub Need-no-route-found-requires : Type 0
-Need-no-route-found-requires = Lts.Need-no-route-found-requires (
-  Reads.Asked,
-  Reads.Learnt,
-  Reads'.Asked,
-  Reads'.Learnt,
-  Reads''.Asked,
-  Reads''.Learnt,
-) Reads'3.Pre Reads'3.Post
+Need-no-route-found-requires = Lts.Need-no-route-found-requires callees Reads'3.Pre Reads'3.Post
 
 abbrev pub Need-returns-2 : Type 0
-Need-returns-2 = Lts.Need-returns-2 (
-  Reads.Asked,
-  Reads.Learnt,
-  Reads'.Asked,
-  Reads'.Learnt,
-  Reads''.Asked,
-  Reads''.Learnt,
-) Reads'3.Pre Reads'3.Post
+Need-returns-2 = Lts.Need-returns-2 callees Reads'3.Pre Reads'3.Post
 
 module _ {M : Type 1} where
   pub spec :
@@ -167,31 +72,10 @@ module _ {M : Type 1} where
       (answer : Need-returns) →
       (answer : Need-no-route-found-requires) →
       (answer : Need-returns-2) →
-      Lts.Closed (
-        Reads.Asked,
-        Reads.Learnt,
-        Reads'.Asked,
-        Reads'.Learnt,
-        Reads''.Asked,
-        Reads''.Learnt,
-      ) Reads'3.Pre Reads'3.Post M
-  spec = λ answer answer' answer'' answer'3 answer'4 answer'5 answer'6. Lts.spec (
-    Reads.Asked,
-    Reads.Learnt,
-    Reads'.Asked,
-    Reads'.Learnt,
-    Reads''.Asked,
-    Reads''.Learnt,
-  ) Reads'3.Pre Reads'3.Post answer answer' answer'' answer'3 answer'4 answer'5 answer'6
+      Lts.Closed callees Reads'3.Pre Reads'3.Post M
+  spec = λ answer answer' answer'' answer'3 answer'4 answer'5 answer'6. Lts.spec callees Reads'3.Pre Reads'3.Post answer answer' answer'' answer'3 answer'4 answer'5 answer'6
 
-  pub close : Lts.Closed (
-    Reads.Asked,
-    Reads.Learnt,
-    Reads'.Asked,
-    Reads'.Learnt,
-    Reads''.Asked,
-    Reads''.Learnt,
-  ) Reads'3.Pre Reads'3.Post M → Statement.statement M
+  pub close : Lts.Closed callees Reads'3.Pre Reads'3.Post M → Statement.statement M
   unfolding Code.routine Running.tablesOf
   close =
       λ closed 𝓤 H 𝓜 𝓖 𝓡. Written.close

@@ -24,383 +24,89 @@ use borrow.Fn.Run
 use borrow.Fn.Written
 use contract.Running
 
+abbrev callees : Lts.Claims
+callees = (Reads'.Asked, Reads'.Learnt, Reads'5.Asked, Reads'5.Learnt, Reads'3.Asked, Reads'3.Learnt, Reads'4.Asked, Reads'4.Learnt, Reads''.Asked, Reads''.Learnt)
+
 abbrev pub Start : Type 0
-Start = Lts.Start (
-  Reads'.Asked,
-  Reads'.Learnt,
-  Reads'5.Asked,
-  Reads'5.Learnt,
-  Reads'3.Asked,
-  Reads'3.Learnt,
-  Reads'4.Asked,
-  Reads'4.Learnt,
-  Reads''.Asked,
-  Reads''.Learnt,
-) Reads.Pre Reads.Post
+Start = Lts.Start callees Reads.Pre Reads.Post
 
 abbrev pub After-shared-slice-known : Type 0
-After-shared-slice-known = Lts.After-shared-slice-known (
-  Reads'.Asked,
-  Reads'.Learnt,
-  Reads'5.Asked,
-  Reads'5.Learnt,
-  Reads'3.Asked,
-  Reads'3.Learnt,
-  Reads'4.Asked,
-  Reads'4.Learnt,
-  Reads''.Asked,
-  Reads''.Learnt,
-) Reads.Pre Reads.Post
+After-shared-slice-known = Lts.After-shared-slice-known callees Reads.Pre Reads.Post
 
 abbrev pub Then1 : Type 0
-Then1 = Lts.Then1 (
-  Reads'.Asked,
-  Reads'.Learnt,
-  Reads'5.Asked,
-  Reads'5.Learnt,
-  Reads'3.Asked,
-  Reads'3.Learnt,
-  Reads'4.Asked,
-  Reads'4.Learnt,
-  Reads''.Asked,
-  Reads''.Learnt,
-) Reads.Pre Reads.Post
+Then1 = Lts.Then1 callees Reads.Pre Reads.Post
 
 abbrev pub After-put-row-arg : Type 0
-After-put-row-arg = Lts.After-put-row-arg (
-  Reads'.Asked,
-  Reads'.Learnt,
-  Reads'5.Asked,
-  Reads'5.Learnt,
-  Reads'3.Asked,
-  Reads'3.Learnt,
-  Reads'4.Asked,
-  Reads'4.Learnt,
-  Reads''.Asked,
-  Reads''.Learnt,
-) Reads.Pre Reads.Post
+After-put-row-arg = Lts.After-put-row-arg callees Reads.Pre Reads.Post
 
 abbrev pub After-place-at : Type 0
-After-place-at = Lts.After-place-at (
-  Reads'.Asked,
-  Reads'.Learnt,
-  Reads'5.Asked,
-  Reads'5.Learnt,
-  Reads'3.Asked,
-  Reads'3.Learnt,
-  Reads'4.Asked,
-  Reads'4.Learnt,
-  Reads''.Asked,
-  Reads''.Learnt,
-) Reads.Pre Reads.Post
+After-place-at = Lts.After-place-at callees Reads.Pre Reads.Post
 
 abbrev pub After-row-at : Type 0
-After-row-at = Lts.After-row-at (
-  Reads'.Asked,
-  Reads'.Learnt,
-  Reads'5.Asked,
-  Reads'5.Learnt,
-  Reads'3.Asked,
-  Reads'3.Learnt,
-  Reads'4.Asked,
-  Reads'4.Learnt,
-  Reads''.Asked,
-  Reads''.Learnt,
-) Reads.Pre Reads.Post
+After-row-at = Lts.After-row-at callees Reads.Pre Reads.Post
 
 abbrev pub After-put-row : Type 0
-After-put-row = Lts.After-put-row (
-  Reads'.Asked,
-  Reads'.Learnt,
-  Reads'5.Asked,
-  Reads'5.Learnt,
-  Reads'3.Asked,
-  Reads'3.Learnt,
-  Reads'4.Asked,
-  Reads'4.Learnt,
-  Reads''.Asked,
-  Reads''.Learnt,
-) Reads.Pre Reads.Post
+After-put-row = Lts.After-put-row callees Reads.Pre Reads.Post
 
 abbrev pub After-instances : Type 0
-After-instances = Lts.After-instances (
-  Reads'.Asked,
-  Reads'.Learnt,
-  Reads'5.Asked,
-  Reads'5.Learnt,
-  Reads'3.Asked,
-  Reads'3.Learnt,
-  Reads'4.Asked,
-  Reads'4.Learnt,
-  Reads''.Asked,
-  Reads''.Learnt,
-) Reads.Pre Reads.Post
+After-instances = Lts.After-instances callees Reads.Pre Reads.Post
 
 abbrev pub Else1 : Type 0
-Else1 = Lts.Else1 (
-  Reads'.Asked,
-  Reads'.Learnt,
-  Reads'5.Asked,
-  Reads'5.Learnt,
-  Reads'3.Asked,
-  Reads'3.Learnt,
-  Reads'4.Asked,
-  Reads'4.Learnt,
-  Reads''.Asked,
-  Reads''.Learnt,
-) Reads.Pre Reads.Post
+Else1 = Lts.Else1 callees Reads.Pre Reads.Post
 
 abbrev pub Then2 : Type 0
-Then2 = Lts.Then2 (
-  Reads'.Asked,
-  Reads'.Learnt,
-  Reads'5.Asked,
-  Reads'5.Learnt,
-  Reads'3.Asked,
-  Reads'3.Learnt,
-  Reads'4.Asked,
-  Reads'4.Learnt,
-  Reads''.Asked,
-  Reads''.Learnt,
-) Reads.Pre Reads.Post
+Then2 = Lts.Then2 callees Reads.Pre Reads.Post
 
 abbrev pub After-put-route-arg : Type 0
-After-put-route-arg = Lts.After-put-route-arg (
-  Reads'.Asked,
-  Reads'.Learnt,
-  Reads'5.Asked,
-  Reads'5.Learnt,
-  Reads'3.Asked,
-  Reads'3.Learnt,
-  Reads'4.Asked,
-  Reads'4.Learnt,
-  Reads''.Asked,
-  Reads''.Learnt,
-) Reads.Pre Reads.Post
+After-put-route-arg = Lts.After-put-route-arg callees Reads.Pre Reads.Post
 
 abbrev pub After-place-at2 : Type 0
-After-place-at2 = Lts.After-place-at2 (
-  Reads'.Asked,
-  Reads'.Learnt,
-  Reads'5.Asked,
-  Reads'5.Learnt,
-  Reads'3.Asked,
-  Reads'3.Learnt,
-  Reads'4.Asked,
-  Reads'4.Learnt,
-  Reads''.Asked,
-  Reads''.Learnt,
-) Reads.Pre Reads.Post
+After-place-at2 = Lts.After-place-at2 callees Reads.Pre Reads.Post
 
 abbrev pub After-route-at : Type 0
-After-route-at = Lts.After-route-at (
-  Reads'.Asked,
-  Reads'.Learnt,
-  Reads'5.Asked,
-  Reads'5.Learnt,
-  Reads'3.Asked,
-  Reads'3.Learnt,
-  Reads'4.Asked,
-  Reads'4.Learnt,
-  Reads''.Asked,
-  Reads''.Learnt,
-) Reads.Pre Reads.Post
+After-route-at = Lts.After-route-at callees Reads.Pre Reads.Post
 
 abbrev pub After-put-route : Type 0
-After-put-route = Lts.After-put-route (
-  Reads'.Asked,
-  Reads'.Learnt,
-  Reads'5.Asked,
-  Reads'5.Learnt,
-  Reads'3.Asked,
-  Reads'3.Learnt,
-  Reads'4.Asked,
-  Reads'4.Learnt,
-  Reads''.Asked,
-  Reads''.Learnt,
-) Reads.Pre Reads.Post
+After-put-route = Lts.After-put-route callees Reads.Pre Reads.Post
 
 abbrev pub After-routes : Type 0
-After-routes = Lts.After-routes (
-  Reads'.Asked,
-  Reads'.Learnt,
-  Reads'5.Asked,
-  Reads'5.Learnt,
-  Reads'3.Asked,
-  Reads'3.Learnt,
-  Reads'4.Asked,
-  Reads'4.Learnt,
-  Reads''.Asked,
-  Reads''.Learnt,
-) Reads.Pre Reads.Post
+After-routes = Lts.After-routes callees Reads.Pre Reads.Post
 
 abbrev pub Else2 : Type 0
-Else2 = Lts.Else2 (
-  Reads'.Asked,
-  Reads'.Learnt,
-  Reads'5.Asked,
-  Reads'5.Learnt,
-  Reads'3.Asked,
-  Reads'3.Learnt,
-  Reads'4.Asked,
-  Reads'4.Learnt,
-  Reads''.Asked,
-  Reads''.Learnt,
-) Reads.Pre Reads.Post
+Else2 = Lts.Else2 callees Reads.Pre Reads.Post
 
 abbrev pub Need-place-at-requires : Type 0
-Need-place-at-requires = Lts.Need-place-at-requires (
-  Reads'.Asked,
-  Reads'.Learnt,
-  Reads'5.Asked,
-  Reads'5.Learnt,
-  Reads'3.Asked,
-  Reads'3.Learnt,
-  Reads'4.Asked,
-  Reads'4.Learnt,
-  Reads''.Asked,
-  Reads''.Learnt,
-) Reads.Pre Reads.Post
+Need-place-at-requires = Lts.Need-place-at-requires callees Reads.Pre Reads.Post
 
 abbrev pub Need-row-at-requires : Type 0
-Need-row-at-requires = Lts.Need-row-at-requires (
-  Reads'.Asked,
-  Reads'.Learnt,
-  Reads'5.Asked,
-  Reads'5.Learnt,
-  Reads'3.Asked,
-  Reads'3.Learnt,
-  Reads'4.Asked,
-  Reads'4.Learnt,
-  Reads''.Asked,
-  Reads''.Learnt,
-) Reads.Pre Reads.Post
+Need-row-at-requires = Lts.Need-row-at-requires callees Reads.Pre Reads.Post
 
 abbrev pub Need-put-row-requires : Type 0
-Need-put-row-requires = Lts.Need-put-row-requires (
-  Reads'.Asked,
-  Reads'.Learnt,
-  Reads'5.Asked,
-  Reads'5.Learnt,
-  Reads'3.Asked,
-  Reads'3.Learnt,
-  Reads'4.Asked,
-  Reads'4.Learnt,
-  Reads''.Asked,
-  Reads''.Learnt,
-) Reads.Pre Reads.Post
+Need-put-row-requires = Lts.Need-put-row-requires callees Reads.Pre Reads.Post
 
 abbrev pub Need-same-length : Type 0
-Need-same-length = Lts.Need-same-length (
-  Reads'.Asked,
-  Reads'.Learnt,
-  Reads'5.Asked,
-  Reads'5.Learnt,
-  Reads'3.Asked,
-  Reads'3.Learnt,
-  Reads'4.Asked,
-  Reads'4.Learnt,
-  Reads''.Asked,
-  Reads''.Learnt,
-) Reads.Pre Reads.Post
+Need-same-length = Lts.Need-same-length callees Reads.Pre Reads.Post
 
 abbrev pub Need-returns : Type 0
-Need-returns = Lts.Need-returns (
-  Reads'.Asked,
-  Reads'.Learnt,
-  Reads'5.Asked,
-  Reads'5.Learnt,
-  Reads'3.Asked,
-  Reads'3.Learnt,
-  Reads'4.Asked,
-  Reads'4.Learnt,
-  Reads''.Asked,
-  Reads''.Learnt,
-) Reads.Pre Reads.Post
+Need-returns = Lts.Need-returns callees Reads.Pre Reads.Post
 
 abbrev pub Need-place-at-requires-2 : Type 0
-Need-place-at-requires-2 = Lts.Need-place-at-requires-2 (
-  Reads'.Asked,
-  Reads'.Learnt,
-  Reads'5.Asked,
-  Reads'5.Learnt,
-  Reads'3.Asked,
-  Reads'3.Learnt,
-  Reads'4.Asked,
-  Reads'4.Learnt,
-  Reads''.Asked,
-  Reads''.Learnt,
-) Reads.Pre Reads.Post
+Need-place-at-requires-2 = Lts.Need-place-at-requires-2 callees Reads.Pre Reads.Post
 
 abbrev pub Need-route-at-requires : Type 0
-Need-route-at-requires = Lts.Need-route-at-requires (
-  Reads'.Asked,
-  Reads'.Learnt,
-  Reads'5.Asked,
-  Reads'5.Learnt,
-  Reads'3.Asked,
-  Reads'3.Learnt,
-  Reads'4.Asked,
-  Reads'4.Learnt,
-  Reads''.Asked,
-  Reads''.Learnt,
-) Reads.Pre Reads.Post
+Need-route-at-requires = Lts.Need-route-at-requires callees Reads.Pre Reads.Post
 
 abbrev pub Need-put-route-requires : Type 0
-Need-put-route-requires = Lts.Need-put-route-requires (
-  Reads'.Asked,
-  Reads'.Learnt,
-  Reads'5.Asked,
-  Reads'5.Learnt,
-  Reads'3.Asked,
-  Reads'3.Learnt,
-  Reads'4.Asked,
-  Reads'4.Learnt,
-  Reads''.Asked,
-  Reads''.Learnt,
-) Reads.Pre Reads.Post
+Need-put-route-requires = Lts.Need-put-route-requires callees Reads.Pre Reads.Post
 
 abbrev pub Need-same-length-2 : Type 0
-Need-same-length-2 = Lts.Need-same-length-2 (
-  Reads'.Asked,
-  Reads'.Learnt,
-  Reads'5.Asked,
-  Reads'5.Learnt,
-  Reads'3.Asked,
-  Reads'3.Learnt,
-  Reads'4.Asked,
-  Reads'4.Learnt,
-  Reads''.Asked,
-  Reads''.Learnt,
-) Reads.Pre Reads.Post
+Need-same-length-2 = Lts.Need-same-length-2 callees Reads.Pre Reads.Post
 
 abbrev pub Need-returns-2 : Type 0
-Need-returns-2 = Lts.Need-returns-2 (
-  Reads'.Asked,
-  Reads'.Learnt,
-  Reads'5.Asked,
-  Reads'5.Learnt,
-  Reads'3.Asked,
-  Reads'3.Learnt,
-  Reads'4.Asked,
-  Reads'4.Learnt,
-  Reads''.Asked,
-  Reads''.Learnt,
-) Reads.Pre Reads.Post
+Need-returns-2 = Lts.Need-returns-2 callees Reads.Pre Reads.Post
 
 abbrev pub Need-returns-3 : Type 0
-Need-returns-3 = Lts.Need-returns-3 (
-  Reads'.Asked,
-  Reads'.Learnt,
-  Reads'5.Asked,
-  Reads'5.Learnt,
-  Reads'3.Asked,
-  Reads'3.Learnt,
-  Reads'4.Asked,
-  Reads'4.Learnt,
-  Reads''.Asked,
-  Reads''.Learnt,
-) Reads.Pre Reads.Post
+Need-returns-3 = Lts.Need-returns-3 callees Reads.Pre Reads.Post
 
 module _ {M : Type 1} where
   pub spec :
@@ -415,32 +121,10 @@ module _ {M : Type 1} where
       (answer : Need-same-length-2) →
       (answer : Need-returns-2) →
       (answer : Need-returns-3) →
-      Lts.Closed (
-        Reads'.Asked,
-        Reads'.Learnt,
-        Reads'5.Asked,
-        Reads'5.Learnt,
-        Reads'3.Asked,
-        Reads'3.Learnt,
-        Reads'4.Asked,
-        Reads'4.Learnt,
-        Reads''.Asked,
-        Reads''.Learnt,
-      ) Reads.Pre Reads.Post M
+      Lts.Closed callees Reads.Pre Reads.Post M
   spec =
       λ answer answer' answer'' answer'3 answer'4 answer'5 answer'6 answer'7 answer'8 answer'9
-      answer'10. Lts.spec (
-        Reads'.Asked,
-        Reads'.Learnt,
-        Reads'5.Asked,
-        Reads'5.Learnt,
-        Reads'3.Asked,
-        Reads'3.Learnt,
-        Reads'4.Asked,
-        Reads'4.Learnt,
-        Reads''.Asked,
-        Reads''.Learnt,
-      )
+      answer'10. Lts.spec callees
       Reads.Pre
       Reads.Post
       answer
@@ -455,18 +139,7 @@ module _ {M : Type 1} where
       answer'9
       answer'10
 
-  pub close : Lts.Closed (
-    Reads'.Asked,
-    Reads'.Learnt,
-    Reads'5.Asked,
-    Reads'5.Learnt,
-    Reads'3.Asked,
-    Reads'3.Learnt,
-    Reads'4.Asked,
-    Reads'4.Learnt,
-    Reads''.Asked,
-    Reads''.Learnt,
-  ) Reads.Pre Reads.Post M → Statement.statement M
+  pub close : Lts.Closed callees Reads.Pre Reads.Post M → Statement.statement M
   unfolding Code.routine Running.tablesOf
   close =
       λ closed 𝓤 H 𝓜 𝓖 𝓡. Written.close

@@ -12,36 +12,36 @@ use borrow.Fn.Run
 use borrow.Fn.Written
 use contract.Running
 
+abbrev callees : Lts.Claims
+callees = (Reads.Asked, Reads.Learnt)
+
 abbrev pub Start : Type 0
-Start = Lts.Start (Reads.Asked, Reads.Learnt) Reads'.Pre Reads'.Post
+Start = Lts.Start callees Reads'.Pre Reads'.Post
 
 abbrev pub After-shared-slice-known : Type 0
 After-shared-slice-known =
-    Lts.After-shared-slice-known (Reads.Asked, Reads.Learnt) Reads'.Pre Reads'.Post
+    Lts.After-shared-slice-known callees Reads'.Pre Reads'.Post
 
 abbrev pub After-counted-arg : Type 0
-After-counted-arg = Lts.After-counted-arg (Reads.Asked, Reads.Learnt) Reads'.Pre Reads'.Post
+After-counted-arg = Lts.After-counted-arg callees Reads'.Pre Reads'.Post
 
 abbrev pub After-counted : Type 0
-After-counted = Lts.After-counted (Reads.Asked, Reads.Learnt) Reads'.Pre Reads'.Post
+After-counted = Lts.After-counted callees Reads'.Pre Reads'.Post
 
 abbrev pub Need-counted-requires : Type 0
 Need-counted-requires =
-    Lts.Need-counted-requires (Reads.Asked, Reads.Learnt) Reads'.Pre Reads'.Post
+    Lts.Need-counted-requires callees Reads'.Pre Reads'.Post
 
 abbrev pub Need-returns : Type 0
-Need-returns = Lts.Need-returns (Reads.Asked, Reads.Learnt) Reads'.Pre Reads'.Post
+Need-returns = Lts.Need-returns callees Reads'.Pre Reads'.Post
 
 module _ {M : Type 1} where
-  pub spec : (answer : Need-counted-requires) → (answer : Need-returns) → Lts.Closed (
-    Reads.Asked,
-    Reads.Learnt,
-  ) Reads'.Pre Reads'.Post M
+  pub spec : (answer : Need-counted-requires) → (answer : Need-returns) → Lts.Closed callees Reads'.Pre Reads'.Post M
   spec =
-      λ answer answer'. Lts.spec (Reads.Asked, Reads.Learnt) Reads'.Pre Reads'.Post answer answer'
+      λ answer answer'. Lts.spec callees Reads'.Pre Reads'.Post answer answer'
 
   pub close :
-      Lts.Closed (Reads.Asked, Reads.Learnt) Reads'.Pre Reads'.Post M → Statement.statement M
+      Lts.Closed callees Reads'.Pre Reads'.Post M → Statement.statement M
   unfolding Code.routine Running.tablesOf
   close =
       λ closed 𝓤 H 𝓜 𝓖 𝓡. Written.close

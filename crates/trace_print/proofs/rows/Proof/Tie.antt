@@ -12,6 +12,9 @@ use borrow.Fn.Run
 use borrow.Fn.Written
 use contract.Running
 
+abbrev callees : Lts.Claims
+callees = (Reads.Asked, Reads.Learnt)
+
 abbrev pub InvT-loop : Type 1
 InvT-loop = Lts.InvT-loop
 
@@ -19,54 +22,51 @@ abbrev pub MeasureT-loop : Type 0
 MeasureT-loop = Lts.MeasureT-loop
 
 abbrev pub Start : (Inv : InvT-loop) → (μ : MeasureT-loop) → Type 0
-Start = λ Inv μ. Lts.Start (Reads.Asked, Reads.Learnt) Reads'.Pre Reads'.Post Inv μ
+Start = λ Inv μ. Lts.Start callees Reads'.Pre Reads'.Post Inv μ
 
 abbrev pub At-loop : (Inv : InvT-loop) → (μ : MeasureT-loop) → Type 0
-At-loop = λ Inv μ. Lts.At-loop (Reads.Asked, Reads.Learnt) Reads'.Pre Reads'.Post Inv μ
+At-loop = λ Inv μ. Lts.At-loop callees Reads'.Pre Reads'.Post Inv μ
 
 abbrev pub In-loop : (Inv : InvT-loop) → (μ : MeasureT-loop) → Type 0
-In-loop = λ Inv μ. Lts.In-loop (Reads.Asked, Reads.Learnt) Reads'.Pre Reads'.Post Inv μ
+In-loop = λ Inv μ. Lts.In-loop callees Reads'.Pre Reads'.Post Inv μ
 
 abbrev pub After-loop : (Inv : InvT-loop) → (μ : MeasureT-loop) → Type 0
-After-loop = λ Inv μ. Lts.After-loop (Reads.Asked, Reads.Learnt) Reads'.Pre Reads'.Post Inv μ
+After-loop = λ Inv μ. Lts.After-loop callees Reads'.Pre Reads'.Post Inv μ
 
 abbrev pub After-row-arg : (Inv : InvT-loop) → (μ : MeasureT-loop) → Type 0
 After-row-arg =
-    λ Inv μ. Lts.After-row-arg (Reads.Asked, Reads.Learnt) Reads'.Pre Reads'.Post Inv μ
+    λ Inv μ. Lts.After-row-arg callees Reads'.Pre Reads'.Post Inv μ
 
 abbrev pub After-row : (Inv : InvT-loop) → (μ : MeasureT-loop) → Type 0
-After-row = λ Inv μ. Lts.After-row (Reads.Asked, Reads.Learnt) Reads'.Pre Reads'.Post Inv μ
+After-row = λ Inv μ. Lts.After-row callees Reads'.Pre Reads'.Post Inv μ
 
 abbrev pub Need-loop-holds : (Inv : InvT-loop) → (μ : MeasureT-loop) → Type 0
 Need-loop-holds =
-    λ Inv μ. Lts.Need-loop-holds (Reads.Asked, Reads.Learnt) Reads'.Pre Reads'.Post Inv μ
+    λ Inv μ. Lts.Need-loop-holds callees Reads'.Pre Reads'.Post Inv μ
 
 abbrev pub Need-mul-row : (Inv : InvT-loop) → (μ : MeasureT-loop) → Type 0
-Need-mul-row = λ Inv μ. Lts.Need-mul-row (Reads.Asked, Reads.Learnt) Reads'.Pre Reads'.Post Inv μ
+Need-mul-row = λ Inv μ. Lts.Need-mul-row callees Reads'.Pre Reads'.Post Inv μ
 
 abbrev pub Need-shared-slice-copy-out-row : (Inv : InvT-loop) → (μ : MeasureT-loop) → Type 0
-Need-shared-slice-copy-out-row = λ Inv μ. Lts.Need-shared-slice-copy-out-row (
-  Reads.Asked,
-  Reads.Learnt,
-) Reads'.Pre Reads'.Post Inv μ
+Need-shared-slice-copy-out-row = λ Inv μ. Lts.Need-shared-slice-copy-out-row callees Reads'.Pre Reads'.Post Inv μ
 
 abbrev pub Need-row-requires : (Inv : InvT-loop) → (μ : MeasureT-loop) → Type 0
 Need-row-requires =
-    λ Inv μ. Lts.Need-row-requires (Reads.Asked, Reads.Learnt) Reads'.Pre Reads'.Post Inv μ
+    λ Inv μ. Lts.Need-row-requires callees Reads'.Pre Reads'.Post Inv μ
 
 abbrev pub Need-add-i : (Inv : InvT-loop) → (μ : MeasureT-loop) → Type 0
-Need-add-i = λ Inv μ. Lts.Need-add-i (Reads.Asked, Reads.Learnt) Reads'.Pre Reads'.Post Inv μ
+Need-add-i = λ Inv μ. Lts.Need-add-i callees Reads'.Pre Reads'.Post Inv μ
 
 abbrev pub Need-loop-less : (Inv : InvT-loop) → (μ : MeasureT-loop) → Type 0
 Need-loop-less =
-    λ Inv μ. Lts.Need-loop-less (Reads.Asked, Reads.Learnt) Reads'.Pre Reads'.Post Inv μ
+    λ Inv μ. Lts.Need-loop-less callees Reads'.Pre Reads'.Post Inv μ
 
 abbrev pub Need-loop-again : (Inv : InvT-loop) → (μ : MeasureT-loop) → Type 0
 Need-loop-again =
-    λ Inv μ. Lts.Need-loop-again (Reads.Asked, Reads.Learnt) Reads'.Pre Reads'.Post Inv μ
+    λ Inv μ. Lts.Need-loop-again callees Reads'.Pre Reads'.Post Inv μ
 
 abbrev pub Need-returns : (Inv : InvT-loop) → (μ : MeasureT-loop) → Type 0
-Need-returns = λ Inv μ. Lts.Need-returns (Reads.Asked, Reads.Learnt) Reads'.Pre Reads'.Post Inv μ
+Need-returns = λ Inv μ. Lts.Need-returns callees Reads'.Pre Reads'.Post Inv μ
 
 module _ {M : Type 1} where
   pub spec :
@@ -80,11 +80,8 @@ module _ {M : Type 1} where
       (answer : Need-loop-less Inv μ) →
       (answer : Need-loop-again Inv μ) →
       (answer : Need-returns Inv μ) →
-      Lts.Closed (Reads.Asked, Reads.Learnt) Reads'.Pre Reads'.Post M
-  spec = λ Inv μ answer answer' answer'' answer'3 answer'4 answer'5 answer'6 answer'7. Lts.spec (
-    Reads.Asked,
-    Reads.Learnt,
-  )
+      Lts.Closed callees Reads'.Pre Reads'.Post M
+  spec = λ Inv μ answer answer' answer'' answer'3 answer'4 answer'5 answer'6 answer'7. Lts.spec callees
       Reads'.Pre
       Reads'.Post
       Inv
@@ -99,7 +96,7 @@ module _ {M : Type 1} where
       answer'7
 
   pub close :
-      Lts.Closed (Reads.Asked, Reads.Learnt) Reads'.Pre Reads'.Post M → Statement.statement M
+      Lts.Closed callees Reads'.Pre Reads'.Post M → Statement.statement M
   unfolding Code.routine Running.tablesOf
   close =
       λ closed 𝓤 H 𝓜 𝓖 𝓡. Written.close

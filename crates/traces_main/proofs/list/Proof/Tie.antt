@@ -33,945 +33,149 @@ use borrow.Fn.Run
 use borrow.Fn.Written
 use contract.Running
 
+abbrev callees : Lts.Claims
+callees = (Reads'3.Asked, Reads'3.Learnt, Reads'4.Asked, Reads'4.Learnt, Reads'.Asked, Reads'.Learnt, Reads.Asked, Reads.Learnt, Reads'6.Asked, Reads'6.Learnt, Reads'5.Asked, Reads'5.Learnt, Reads''.Asked, Reads''.Learnt, Reads'8.Asked, Reads'8.Learnt)
+
 abbrev pub Start : Type 0
-Start = Lts.Start (
-  Reads'3.Asked,
-  Reads'3.Learnt,
-  Reads'4.Asked,
-  Reads'4.Learnt,
-  Reads'.Asked,
-  Reads'.Learnt,
-  Reads.Asked,
-  Reads.Learnt,
-  Reads'6.Asked,
-  Reads'6.Learnt,
-  Reads'5.Asked,
-  Reads'5.Learnt,
-  Reads''.Asked,
-  Reads''.Learnt,
-  Reads'8.Asked,
-  Reads'8.Learnt,
-) Reads'7.Pre Reads'7.Post
+Start = Lts.Start callees Reads'7.Pre Reads'7.Post
 
 abbrev pub After-octets : Type 0
-After-octets = Lts.After-octets (
-  Reads'3.Asked,
-  Reads'3.Learnt,
-  Reads'4.Asked,
-  Reads'4.Learnt,
-  Reads'.Asked,
-  Reads'.Learnt,
-  Reads.Asked,
-  Reads.Learnt,
-  Reads'6.Asked,
-  Reads'6.Learnt,
-  Reads'5.Asked,
-  Reads'5.Learnt,
-  Reads''.Asked,
-  Reads''.Learnt,
-  Reads'8.Asked,
-  Reads'8.Learnt,
-) Reads'7.Pre Reads'7.Post
+After-octets = Lts.After-octets callees Reads'7.Pre Reads'7.Post
 
 abbrev pub After-read-record : Type 0
-After-read-record = Lts.After-read-record (
-  Reads'3.Asked,
-  Reads'3.Learnt,
-  Reads'4.Asked,
-  Reads'4.Learnt,
-  Reads'.Asked,
-  Reads'.Learnt,
-  Reads.Asked,
-  Reads.Learnt,
-  Reads'6.Asked,
-  Reads'6.Learnt,
-  Reads'5.Asked,
-  Reads'5.Learnt,
-  Reads''.Asked,
-  Reads''.Learnt,
-  Reads'8.Asked,
-  Reads'8.Learnt,
-) Reads'7.Pre Reads'7.Post
+After-read-record = Lts.After-read-record callees Reads'7.Pre Reads'7.Post
 
 abbrev pub After-octets2 : Type 0
-After-octets2 = Lts.After-octets2 (
-  Reads'3.Asked,
-  Reads'3.Learnt,
-  Reads'4.Asked,
-  Reads'4.Learnt,
-  Reads'.Asked,
-  Reads'.Learnt,
-  Reads.Asked,
-  Reads.Learnt,
-  Reads'6.Asked,
-  Reads'6.Learnt,
-  Reads'5.Asked,
-  Reads'5.Learnt,
-  Reads''.Asked,
-  Reads''.Learnt,
-  Reads'8.Asked,
-  Reads'8.Learnt,
-) Reads'7.Pre Reads'7.Post
+After-octets2 = Lts.After-octets2 callees Reads'7.Pre Reads'7.Post
 
 abbrev pub After-struct-known : Type 0
-After-struct-known = Lts.After-struct-known (
-  Reads'3.Asked,
-  Reads'3.Learnt,
-  Reads'4.Asked,
-  Reads'4.Learnt,
-  Reads'.Asked,
-  Reads'.Learnt,
-  Reads.Asked,
-  Reads.Learnt,
-  Reads'6.Asked,
-  Reads'6.Learnt,
-  Reads'5.Asked,
-  Reads'5.Learnt,
-  Reads''.Asked,
-  Reads''.Learnt,
-  Reads'8.Asked,
-  Reads'8.Learnt,
-) Reads'7.Pre Reads'7.Post
+After-struct-known = Lts.After-struct-known callees Reads'7.Pre Reads'7.Post
 
 abbrev pub Then1 : Type 0
-Then1 = Lts.Then1 (
-  Reads'3.Asked,
-  Reads'3.Learnt,
-  Reads'4.Asked,
-  Reads'4.Learnt,
-  Reads'.Asked,
-  Reads'.Learnt,
-  Reads.Asked,
-  Reads.Learnt,
-  Reads'6.Asked,
-  Reads'6.Learnt,
-  Reads'5.Asked,
-  Reads'5.Learnt,
-  Reads''.Asked,
-  Reads''.Learnt,
-  Reads'8.Asked,
-  Reads'8.Learnt,
-) Reads'7.Pre Reads'7.Post
+Then1 = Lts.Then1 callees Reads'7.Pre Reads'7.Post
 
 abbrev pub Else1 : Type 0
-Else1 = Lts.Else1 (
-  Reads'3.Asked,
-  Reads'3.Learnt,
-  Reads'4.Asked,
-  Reads'4.Learnt,
-  Reads'.Asked,
-  Reads'.Learnt,
-  Reads.Asked,
-  Reads.Learnt,
-  Reads'6.Asked,
-  Reads'6.Learnt,
-  Reads'5.Asked,
-  Reads'5.Learnt,
-  Reads''.Asked,
-  Reads''.Learnt,
-  Reads'8.Asked,
-  Reads'8.Learnt,
-) Reads'7.Pre Reads'7.Post
+Else1 = Lts.Else1 callees Reads'7.Pre Reads'7.Post
 
 abbrev pub After-octets3 : Type 0
-After-octets3 = Lts.After-octets3 (
-  Reads'3.Asked,
-  Reads'3.Learnt,
-  Reads'4.Asked,
-  Reads'4.Learnt,
-  Reads'.Asked,
-  Reads'.Learnt,
-  Reads.Asked,
-  Reads.Learnt,
-  Reads'6.Asked,
-  Reads'6.Learnt,
-  Reads'5.Asked,
-  Reads'5.Learnt,
-  Reads''.Asked,
-  Reads''.Learnt,
-  Reads'8.Asked,
-  Reads'8.Learnt,
-) Reads'7.Pre Reads'7.Post
+After-octets3 = Lts.After-octets3 callees Reads'7.Pre Reads'7.Post
 
 abbrev pub After-rows-at : Type 0
-After-rows-at = Lts.After-rows-at (
-  Reads'3.Asked,
-  Reads'3.Learnt,
-  Reads'4.Asked,
-  Reads'4.Learnt,
-  Reads'.Asked,
-  Reads'.Learnt,
-  Reads.Asked,
-  Reads.Learnt,
-  Reads'6.Asked,
-  Reads'6.Learnt,
-  Reads'5.Asked,
-  Reads'5.Learnt,
-  Reads''.Asked,
-  Reads''.Learnt,
-  Reads'8.Asked,
-  Reads'8.Learnt,
-) Reads'7.Pre Reads'7.Post
+After-rows-at = Lts.After-rows-at callees Reads'7.Pre Reads'7.Post
 
 abbrev pub After-octets4 : Type 0
-After-octets4 = Lts.After-octets4 (
-  Reads'3.Asked,
-  Reads'3.Learnt,
-  Reads'4.Asked,
-  Reads'4.Learnt,
-  Reads'.Asked,
-  Reads'.Learnt,
-  Reads.Asked,
-  Reads.Learnt,
-  Reads'6.Asked,
-  Reads'6.Learnt,
-  Reads'5.Asked,
-  Reads'5.Learnt,
-  Reads''.Asked,
-  Reads''.Learnt,
-  Reads'8.Asked,
-  Reads'8.Learnt,
-) Reads'7.Pre Reads'7.Post
+After-octets4 = Lts.After-octets4 callees Reads'7.Pre Reads'7.Post
 
 abbrev pub After-rows-at2 : Type 0
-After-rows-at2 = Lts.After-rows-at2 (
-  Reads'3.Asked,
-  Reads'3.Learnt,
-  Reads'4.Asked,
-  Reads'4.Learnt,
-  Reads'.Asked,
-  Reads'.Learnt,
-  Reads.Asked,
-  Reads.Learnt,
-  Reads'6.Asked,
-  Reads'6.Learnt,
-  Reads'5.Asked,
-  Reads'5.Learnt,
-  Reads''.Asked,
-  Reads''.Learnt,
-  Reads'8.Asked,
-  Reads'8.Learnt,
-) Reads'7.Pre Reads'7.Post
+After-rows-at2 = Lts.After-rows-at2 callees Reads'7.Pre Reads'7.Post
 
 abbrev pub After-no-row : Type 0
-After-no-row = Lts.After-no-row (
-  Reads'3.Asked,
-  Reads'3.Learnt,
-  Reads'4.Asked,
-  Reads'4.Learnt,
-  Reads'.Asked,
-  Reads'.Learnt,
-  Reads.Asked,
-  Reads.Learnt,
-  Reads'6.Asked,
-  Reads'6.Learnt,
-  Reads'5.Asked,
-  Reads'5.Learnt,
-  Reads''.Asked,
-  Reads''.Learnt,
-  Reads'8.Asked,
-  Reads'8.Learnt,
-) Reads'7.Pre Reads'7.Post
+After-no-row = Lts.After-no-row callees Reads'7.Pre Reads'7.Post
 
 abbrev pub After-no-route : Type 0
-After-no-route = Lts.After-no-route (
-  Reads'3.Asked,
-  Reads'3.Learnt,
-  Reads'4.Asked,
-  Reads'4.Learnt,
-  Reads'.Asked,
-  Reads'.Learnt,
-  Reads.Asked,
-  Reads.Learnt,
-  Reads'6.Asked,
-  Reads'6.Learnt,
-  Reads'5.Asked,
-  Reads'5.Learnt,
-  Reads''.Asked,
-  Reads''.Learnt,
-  Reads'8.Asked,
-  Reads'8.Learnt,
-) Reads'7.Pre Reads'7.Post
+After-no-route = Lts.After-no-route callees Reads'7.Pre Reads'7.Post
 
 abbrev pub After-words-arg : Type 0
-After-words-arg = Lts.After-words-arg (
-  Reads'3.Asked,
-  Reads'3.Learnt,
-  Reads'4.Asked,
-  Reads'4.Learnt,
-  Reads'.Asked,
-  Reads'.Learnt,
-  Reads.Asked,
-  Reads.Learnt,
-  Reads'6.Asked,
-  Reads'6.Learnt,
-  Reads'5.Asked,
-  Reads'5.Learnt,
-  Reads''.Asked,
-  Reads''.Learnt,
-  Reads'8.Asked,
-  Reads'8.Learnt,
-) Reads'7.Pre Reads'7.Post
+After-words-arg = Lts.After-words-arg callees Reads'7.Pre Reads'7.Post
 
 abbrev pub After-words : Type 0
-After-words = Lts.After-words (
-  Reads'3.Asked,
-  Reads'3.Learnt,
-  Reads'4.Asked,
-  Reads'4.Learnt,
-  Reads'.Asked,
-  Reads'.Learnt,
-  Reads.Asked,
-  Reads.Learnt,
-  Reads'6.Asked,
-  Reads'6.Learnt,
-  Reads'5.Asked,
-  Reads'5.Learnt,
-  Reads''.Asked,
-  Reads''.Learnt,
-  Reads'8.Asked,
-  Reads'8.Learnt,
-) Reads'7.Pre Reads'7.Post
+After-words = Lts.After-words callees Reads'7.Pre Reads'7.Post
 
 abbrev pub After-decimal : Type 0
-After-decimal = Lts.After-decimal (
-  Reads'3.Asked,
-  Reads'3.Learnt,
-  Reads'4.Asked,
-  Reads'4.Learnt,
-  Reads'.Asked,
-  Reads'.Learnt,
-  Reads.Asked,
-  Reads.Learnt,
-  Reads'6.Asked,
-  Reads'6.Learnt,
-  Reads'5.Asked,
-  Reads'5.Learnt,
-  Reads''.Asked,
-  Reads''.Learnt,
-  Reads'8.Asked,
-  Reads'8.Learnt,
-) Reads'7.Pre Reads'7.Post
+After-decimal = Lts.After-decimal callees Reads'7.Pre Reads'7.Post
 
 abbrev pub After-words-arg2 : Type 0
-After-words-arg2 = Lts.After-words-arg2 (
-  Reads'3.Asked,
-  Reads'3.Learnt,
-  Reads'4.Asked,
-  Reads'4.Learnt,
-  Reads'.Asked,
-  Reads'.Learnt,
-  Reads.Asked,
-  Reads.Learnt,
-  Reads'6.Asked,
-  Reads'6.Learnt,
-  Reads'5.Asked,
-  Reads'5.Learnt,
-  Reads''.Asked,
-  Reads''.Learnt,
-  Reads'8.Asked,
-  Reads'8.Learnt,
-) Reads'7.Pre Reads'7.Post
+After-words-arg2 = Lts.After-words-arg2 callees Reads'7.Pre Reads'7.Post
 
 abbrev pub After-words2 : Type 0
-After-words2 = Lts.After-words2 (
-  Reads'3.Asked,
-  Reads'3.Learnt,
-  Reads'4.Asked,
-  Reads'4.Learnt,
-  Reads'.Asked,
-  Reads'.Learnt,
-  Reads.Asked,
-  Reads.Learnt,
-  Reads'6.Asked,
-  Reads'6.Learnt,
-  Reads'5.Asked,
-  Reads'5.Learnt,
-  Reads''.Asked,
-  Reads''.Learnt,
-  Reads'8.Asked,
-  Reads'8.Learnt,
-) Reads'7.Pre Reads'7.Post
+After-words2 = Lts.After-words2 callees Reads'7.Pre Reads'7.Post
 
 abbrev pub After-instances : Type 0
-After-instances = Lts.After-instances (
-  Reads'3.Asked,
-  Reads'3.Learnt,
-  Reads'4.Asked,
-  Reads'4.Learnt,
-  Reads'.Asked,
-  Reads'.Learnt,
-  Reads.Asked,
-  Reads.Learnt,
-  Reads'6.Asked,
-  Reads'6.Learnt,
-  Reads'5.Asked,
-  Reads'5.Learnt,
-  Reads''.Asked,
-  Reads''.Learnt,
-  Reads'8.Asked,
-  Reads'8.Learnt,
-) Reads'7.Pre Reads'7.Post
+After-instances = Lts.After-instances callees Reads'7.Pre Reads'7.Post
 
 abbrev pub After-routes : Type 0
-After-routes = Lts.After-routes (
-  Reads'3.Asked,
-  Reads'3.Learnt,
-  Reads'4.Asked,
-  Reads'4.Learnt,
-  Reads'.Asked,
-  Reads'.Learnt,
-  Reads.Asked,
-  Reads.Learnt,
-  Reads'6.Asked,
-  Reads'6.Learnt,
-  Reads'5.Asked,
-  Reads'5.Learnt,
-  Reads''.Asked,
-  Reads''.Learnt,
-  Reads'8.Asked,
-  Reads'8.Learnt,
-) Reads'7.Pre Reads'7.Post
+After-routes = Lts.After-routes callees Reads'7.Pre Reads'7.Post
 
 abbrev pub After-octets5 : Type 0
-After-octets5 = Lts.After-octets5 (
-  Reads'3.Asked,
-  Reads'3.Learnt,
-  Reads'4.Asked,
-  Reads'4.Learnt,
-  Reads'.Asked,
-  Reads'.Learnt,
-  Reads.Asked,
-  Reads.Learnt,
-  Reads'6.Asked,
-  Reads'6.Learnt,
-  Reads'5.Asked,
-  Reads'5.Learnt,
-  Reads''.Asked,
-  Reads''.Learnt,
-  Reads'8.Asked,
-  Reads'8.Learnt,
-) Reads'7.Pre Reads'7.Post
+After-octets5 = Lts.After-octets5 callees Reads'7.Pre Reads'7.Post
 
 abbrev pub After-own-at : Type 0
-After-own-at = Lts.After-own-at (
-  Reads'3.Asked,
-  Reads'3.Learnt,
-  Reads'4.Asked,
-  Reads'4.Learnt,
-  Reads'.Asked,
-  Reads'.Learnt,
-  Reads.Asked,
-  Reads.Learnt,
-  Reads'6.Asked,
-  Reads'6.Learnt,
-  Reads'5.Asked,
-  Reads'5.Learnt,
-  Reads''.Asked,
-  Reads''.Learnt,
-  Reads'8.Asked,
-  Reads'8.Learnt,
-) Reads'7.Pre Reads'7.Post
+After-own-at = Lts.After-own-at callees Reads'7.Pre Reads'7.Post
 
 abbrev pub After-serve : Type 0
-After-serve = Lts.After-serve (
-  Reads'3.Asked,
-  Reads'3.Learnt,
-  Reads'4.Asked,
-  Reads'4.Learnt,
-  Reads'.Asked,
-  Reads'.Learnt,
-  Reads.Asked,
-  Reads.Learnt,
-  Reads'6.Asked,
-  Reads'6.Learnt,
-  Reads'5.Asked,
-  Reads'5.Learnt,
-  Reads''.Asked,
-  Reads''.Learnt,
-  Reads'8.Asked,
-  Reads'8.Learnt,
-) Reads'7.Pre Reads'7.Post
+After-serve = Lts.After-serve callees Reads'7.Pre Reads'7.Post
 
 abbrev pub After-instances2 : Type 0
-After-instances2 = Lts.After-instances2 (
-  Reads'3.Asked,
-  Reads'3.Learnt,
-  Reads'4.Asked,
-  Reads'4.Learnt,
-  Reads'.Asked,
-  Reads'.Learnt,
-  Reads.Asked,
-  Reads.Learnt,
-  Reads'6.Asked,
-  Reads'6.Learnt,
-  Reads'5.Asked,
-  Reads'5.Learnt,
-  Reads''.Asked,
-  Reads''.Learnt,
-  Reads'8.Asked,
-  Reads'8.Learnt,
-) Reads'7.Pre Reads'7.Post
+After-instances2 = Lts.After-instances2 callees Reads'7.Pre Reads'7.Post
 
 abbrev pub After-routes2 : Type 0
-After-routes2 = Lts.After-routes2 (
-  Reads'3.Asked,
-  Reads'3.Learnt,
-  Reads'4.Asked,
-  Reads'4.Learnt,
-  Reads'.Asked,
-  Reads'.Learnt,
-  Reads.Asked,
-  Reads.Learnt,
-  Reads'6.Asked,
-  Reads'6.Learnt,
-  Reads'5.Asked,
-  Reads'5.Learnt,
-  Reads''.Asked,
-  Reads''.Learnt,
-  Reads'8.Asked,
-  Reads'8.Learnt,
-) Reads'7.Pre Reads'7.Post
+After-routes2 = Lts.After-routes2 callees Reads'7.Pre Reads'7.Post
 
 abbrev pub Need-slice-aggregate-read-record : Type 0
-Need-slice-aggregate-read-record = Lts.Need-slice-aggregate-read-record (
-  Reads'3.Asked,
-  Reads'3.Learnt,
-  Reads'4.Asked,
-  Reads'4.Learnt,
-  Reads'.Asked,
-  Reads'.Learnt,
-  Reads.Asked,
-  Reads.Learnt,
-  Reads'6.Asked,
-  Reads'6.Learnt,
-  Reads'5.Asked,
-  Reads'5.Learnt,
-  Reads''.Asked,
-  Reads''.Learnt,
-  Reads'8.Asked,
-  Reads'8.Learnt,
-) Reads'7.Pre Reads'7.Post
+Need-slice-aggregate-read-record = Lts.Need-slice-aggregate-read-record callees Reads'7.Pre Reads'7.Post
 
 abbrev pub Need-read-record-requires : Type 0
-Need-read-record-requires = Lts.Need-read-record-requires (
-  Reads'3.Asked,
-  Reads'3.Learnt,
-  Reads'4.Asked,
-  Reads'4.Learnt,
-  Reads'.Asked,
-  Reads'.Learnt,
-  Reads.Asked,
-  Reads.Learnt,
-  Reads'6.Asked,
-  Reads'6.Learnt,
-  Reads'5.Asked,
-  Reads'5.Learnt,
-  Reads''.Asked,
-  Reads''.Learnt,
-  Reads'8.Asked,
-  Reads'8.Learnt,
-) Reads'7.Pre Reads'7.Post
+Need-read-record-requires = Lts.Need-read-record-requires callees Reads'7.Pre Reads'7.Post
 
 abbrev pub Need-returns : Type 0
-Need-returns = Lts.Need-returns (
-  Reads'3.Asked,
-  Reads'3.Learnt,
-  Reads'4.Asked,
-  Reads'4.Learnt,
-  Reads'.Asked,
-  Reads'.Learnt,
-  Reads.Asked,
-  Reads.Learnt,
-  Reads'6.Asked,
-  Reads'6.Learnt,
-  Reads'5.Asked,
-  Reads'5.Learnt,
-  Reads''.Asked,
-  Reads''.Learnt,
-  Reads'8.Asked,
-  Reads'8.Learnt,
-) Reads'7.Pre Reads'7.Post
+Need-returns = Lts.Need-returns callees Reads'7.Pre Reads'7.Post
 
 abbrev pub Need-slice-aggregate-rows-at : Type 0
-Need-slice-aggregate-rows-at = Lts.Need-slice-aggregate-rows-at (
-  Reads'3.Asked,
-  Reads'3.Learnt,
-  Reads'4.Asked,
-  Reads'4.Learnt,
-  Reads'.Asked,
-  Reads'.Learnt,
-  Reads.Asked,
-  Reads.Learnt,
-  Reads'6.Asked,
-  Reads'6.Learnt,
-  Reads'5.Asked,
-  Reads'5.Learnt,
-  Reads''.Asked,
-  Reads''.Learnt,
-  Reads'8.Asked,
-  Reads'8.Learnt,
-) Reads'7.Pre Reads'7.Post
+Need-slice-aggregate-rows-at = Lts.Need-slice-aggregate-rows-at callees Reads'7.Pre Reads'7.Post
 
 abbrev pub Need-rows-at-requires : Type 0
-Need-rows-at-requires = Lts.Need-rows-at-requires (
-  Reads'3.Asked,
-  Reads'3.Learnt,
-  Reads'4.Asked,
-  Reads'4.Learnt,
-  Reads'.Asked,
-  Reads'.Learnt,
-  Reads.Asked,
-  Reads.Learnt,
-  Reads'6.Asked,
-  Reads'6.Learnt,
-  Reads'5.Asked,
-  Reads'5.Learnt,
-  Reads''.Asked,
-  Reads''.Learnt,
-  Reads'8.Asked,
-  Reads'8.Learnt,
-) Reads'7.Pre Reads'7.Post
+Need-rows-at-requires = Lts.Need-rows-at-requires callees Reads'7.Pre Reads'7.Post
 
 abbrev pub Need-slice-aggregate-rows-at-2 : Type 0
-Need-slice-aggregate-rows-at-2 = Lts.Need-slice-aggregate-rows-at-2 (
-  Reads'3.Asked,
-  Reads'3.Learnt,
-  Reads'4.Asked,
-  Reads'4.Learnt,
-  Reads'.Asked,
-  Reads'.Learnt,
-  Reads.Asked,
-  Reads.Learnt,
-  Reads'6.Asked,
-  Reads'6.Learnt,
-  Reads'5.Asked,
-  Reads'5.Learnt,
-  Reads''.Asked,
-  Reads''.Learnt,
-  Reads'8.Asked,
-  Reads'8.Learnt,
-) Reads'7.Pre Reads'7.Post
+Need-slice-aggregate-rows-at-2 = Lts.Need-slice-aggregate-rows-at-2 callees Reads'7.Pre Reads'7.Post
 
 abbrev pub Need-rows-at-requires-2 : Type 0
-Need-rows-at-requires-2 = Lts.Need-rows-at-requires-2 (
-  Reads'3.Asked,
-  Reads'3.Learnt,
-  Reads'4.Asked,
-  Reads'4.Learnt,
-  Reads'.Asked,
-  Reads'.Learnt,
-  Reads.Asked,
-  Reads.Learnt,
-  Reads'6.Asked,
-  Reads'6.Learnt,
-  Reads'5.Asked,
-  Reads'5.Learnt,
-  Reads''.Asked,
-  Reads''.Learnt,
-  Reads'8.Asked,
-  Reads'8.Learnt,
-) Reads'7.Pre Reads'7.Post
+Need-rows-at-requires-2 = Lts.Need-rows-at-requires-2 callees Reads'7.Pre Reads'7.Post
 
 abbrev pub Need-no-row-requires : Type 0
-Need-no-row-requires = Lts.Need-no-row-requires (
-  Reads'3.Asked,
-  Reads'3.Learnt,
-  Reads'4.Asked,
-  Reads'4.Learnt,
-  Reads'.Asked,
-  Reads'.Learnt,
-  Reads.Asked,
-  Reads.Learnt,
-  Reads'6.Asked,
-  Reads'6.Learnt,
-  Reads'5.Asked,
-  Reads'5.Learnt,
-  Reads''.Asked,
-  Reads''.Learnt,
-  Reads'8.Asked,
-  Reads'8.Learnt,
-) Reads'7.Pre Reads'7.Post
+Need-no-row-requires = Lts.Need-no-row-requires callees Reads'7.Pre Reads'7.Post
 
 abbrev pub Need-no-route-requires : Type 0
-Need-no-route-requires = Lts.Need-no-route-requires (
-  Reads'3.Asked,
-  Reads'3.Learnt,
-  Reads'4.Asked,
-  Reads'4.Learnt,
-  Reads'.Asked,
-  Reads'.Learnt,
-  Reads.Asked,
-  Reads.Learnt,
-  Reads'6.Asked,
-  Reads'6.Learnt,
-  Reads'5.Asked,
-  Reads'5.Learnt,
-  Reads''.Asked,
-  Reads''.Learnt,
-  Reads'8.Asked,
-  Reads'8.Learnt,
-) Reads'7.Pre Reads'7.Post
+Need-no-route-requires = Lts.Need-no-route-requires callees Reads'7.Pre Reads'7.Post
 
 abbrev pub Need-slice-aggregate-words : Type 0
-Need-slice-aggregate-words = Lts.Need-slice-aggregate-words (
-  Reads'3.Asked,
-  Reads'3.Learnt,
-  Reads'4.Asked,
-  Reads'4.Learnt,
-  Reads'.Asked,
-  Reads'.Learnt,
-  Reads.Asked,
-  Reads.Learnt,
-  Reads'6.Asked,
-  Reads'6.Learnt,
-  Reads'5.Asked,
-  Reads'5.Learnt,
-  Reads''.Asked,
-  Reads''.Learnt,
-  Reads'8.Asked,
-  Reads'8.Learnt,
-) Reads'7.Pre Reads'7.Post
+Need-slice-aggregate-words = Lts.Need-slice-aggregate-words callees Reads'7.Pre Reads'7.Post
 
 abbrev pub Need-words-requires : Type 0
-Need-words-requires = Lts.Need-words-requires (
-  Reads'3.Asked,
-  Reads'3.Learnt,
-  Reads'4.Asked,
-  Reads'4.Learnt,
-  Reads'.Asked,
-  Reads'.Learnt,
-  Reads.Asked,
-  Reads.Learnt,
-  Reads'6.Asked,
-  Reads'6.Learnt,
-  Reads'5.Asked,
-  Reads'5.Learnt,
-  Reads''.Asked,
-  Reads''.Learnt,
-  Reads'8.Asked,
-  Reads'8.Learnt,
-) Reads'7.Pre Reads'7.Post
+Need-words-requires = Lts.Need-words-requires callees Reads'7.Pre Reads'7.Post
 
 abbrev pub Need-decimal-requires : Type 0
-Need-decimal-requires = Lts.Need-decimal-requires (
-  Reads'3.Asked,
-  Reads'3.Learnt,
-  Reads'4.Asked,
-  Reads'4.Learnt,
-  Reads'.Asked,
-  Reads'.Learnt,
-  Reads.Asked,
-  Reads.Learnt,
-  Reads'6.Asked,
-  Reads'6.Learnt,
-  Reads'5.Asked,
-  Reads'5.Learnt,
-  Reads''.Asked,
-  Reads''.Learnt,
-  Reads'8.Asked,
-  Reads'8.Learnt,
-) Reads'7.Pre Reads'7.Post
+Need-decimal-requires = Lts.Need-decimal-requires callees Reads'7.Pre Reads'7.Post
 
 abbrev pub Need-slice-aggregate-words-2 : Type 0
-Need-slice-aggregate-words-2 = Lts.Need-slice-aggregate-words-2 (
-  Reads'3.Asked,
-  Reads'3.Learnt,
-  Reads'4.Asked,
-  Reads'4.Learnt,
-  Reads'.Asked,
-  Reads'.Learnt,
-  Reads.Asked,
-  Reads.Learnt,
-  Reads'6.Asked,
-  Reads'6.Learnt,
-  Reads'5.Asked,
-  Reads'5.Learnt,
-  Reads''.Asked,
-  Reads''.Learnt,
-  Reads'8.Asked,
-  Reads'8.Learnt,
-) Reads'7.Pre Reads'7.Post
+Need-slice-aggregate-words-2 = Lts.Need-slice-aggregate-words-2 callees Reads'7.Pre Reads'7.Post
 
 abbrev pub Need-words-requires-2 : Type 0
-Need-words-requires-2 = Lts.Need-words-requires-2 (
-  Reads'3.Asked,
-  Reads'3.Learnt,
-  Reads'4.Asked,
-  Reads'4.Learnt,
-  Reads'.Asked,
-  Reads'.Learnt,
-  Reads.Asked,
-  Reads.Learnt,
-  Reads'6.Asked,
-  Reads'6.Learnt,
-  Reads'5.Asked,
-  Reads'5.Learnt,
-  Reads''.Asked,
-  Reads''.Learnt,
-  Reads'8.Asked,
-  Reads'8.Learnt,
-) Reads'7.Pre Reads'7.Post
+Need-words-requires-2 = Lts.Need-words-requires-2 callees Reads'7.Pre Reads'7.Post
 
 abbrev pub Need-array-borrow-prefix-instances : Type 0
-Need-array-borrow-prefix-instances = Lts.Need-array-borrow-prefix-instances (
-  Reads'3.Asked,
-  Reads'3.Learnt,
-  Reads'4.Asked,
-  Reads'4.Learnt,
-  Reads'.Asked,
-  Reads'.Learnt,
-  Reads.Asked,
-  Reads.Learnt,
-  Reads'6.Asked,
-  Reads'6.Learnt,
-  Reads'5.Asked,
-  Reads'5.Learnt,
-  Reads''.Asked,
-  Reads''.Learnt,
-  Reads'8.Asked,
-  Reads'8.Learnt,
-) Reads'7.Pre Reads'7.Post
+Need-array-borrow-prefix-instances = Lts.Need-array-borrow-prefix-instances callees Reads'7.Pre Reads'7.Post
 
 abbrev pub Need-slice-aggregate-serve : Type 0
-Need-slice-aggregate-serve = Lts.Need-slice-aggregate-serve (
-  Reads'3.Asked,
-  Reads'3.Learnt,
-  Reads'4.Asked,
-  Reads'4.Learnt,
-  Reads'.Asked,
-  Reads'.Learnt,
-  Reads.Asked,
-  Reads.Learnt,
-  Reads'6.Asked,
-  Reads'6.Learnt,
-  Reads'5.Asked,
-  Reads'5.Learnt,
-  Reads''.Asked,
-  Reads''.Learnt,
-  Reads'8.Asked,
-  Reads'8.Learnt,
-) Reads'7.Pre Reads'7.Post
+Need-slice-aggregate-serve = Lts.Need-slice-aggregate-serve callees Reads'7.Pre Reads'7.Post
 
 abbrev pub Need-array-borrow-prefix-routes : Type 0
-Need-array-borrow-prefix-routes = Lts.Need-array-borrow-prefix-routes (
-  Reads'3.Asked,
-  Reads'3.Learnt,
-  Reads'4.Asked,
-  Reads'4.Learnt,
-  Reads'.Asked,
-  Reads'.Learnt,
-  Reads.Asked,
-  Reads.Learnt,
-  Reads'6.Asked,
-  Reads'6.Learnt,
-  Reads'5.Asked,
-  Reads'5.Learnt,
-  Reads''.Asked,
-  Reads''.Learnt,
-  Reads'8.Asked,
-  Reads'8.Learnt,
-) Reads'7.Pre Reads'7.Post
+Need-array-borrow-prefix-routes = Lts.Need-array-borrow-prefix-routes callees Reads'7.Pre Reads'7.Post
 
 abbrev pub Need-slice-aggregate-serve-2 : Type 0
-Need-slice-aggregate-serve-2 = Lts.Need-slice-aggregate-serve-2 (
-  Reads'3.Asked,
-  Reads'3.Learnt,
-  Reads'4.Asked,
-  Reads'4.Learnt,
-  Reads'.Asked,
-  Reads'.Learnt,
-  Reads.Asked,
-  Reads.Learnt,
-  Reads'6.Asked,
-  Reads'6.Learnt,
-  Reads'5.Asked,
-  Reads'5.Learnt,
-  Reads''.Asked,
-  Reads''.Learnt,
-  Reads'8.Asked,
-  Reads'8.Learnt,
-) Reads'7.Pre Reads'7.Post
+Need-slice-aggregate-serve-2 = Lts.Need-slice-aggregate-serve-2 callees Reads'7.Pre Reads'7.Post
 
 abbrev pub Need-slice-aggregate-own-at : Type 0
-Need-slice-aggregate-own-at = Lts.Need-slice-aggregate-own-at (
-  Reads'3.Asked,
-  Reads'3.Learnt,
-  Reads'4.Asked,
-  Reads'4.Learnt,
-  Reads'.Asked,
-  Reads'.Learnt,
-  Reads.Asked,
-  Reads.Learnt,
-  Reads'6.Asked,
-  Reads'6.Learnt,
-  Reads'5.Asked,
-  Reads'5.Learnt,
-  Reads''.Asked,
-  Reads''.Learnt,
-  Reads'8.Asked,
-  Reads'8.Learnt,
-) Reads'7.Pre Reads'7.Post
+Need-slice-aggregate-own-at = Lts.Need-slice-aggregate-own-at callees Reads'7.Pre Reads'7.Post
 
 abbrev pub Need-own-at-requires : Type 0
-Need-own-at-requires = Lts.Need-own-at-requires (
-  Reads'3.Asked,
-  Reads'3.Learnt,
-  Reads'4.Asked,
-  Reads'4.Learnt,
-  Reads'.Asked,
-  Reads'.Learnt,
-  Reads.Asked,
-  Reads.Learnt,
-  Reads'6.Asked,
-  Reads'6.Learnt,
-  Reads'5.Asked,
-  Reads'5.Learnt,
-  Reads''.Asked,
-  Reads''.Learnt,
-  Reads'8.Asked,
-  Reads'8.Learnt,
-) Reads'7.Pre Reads'7.Post
+Need-own-at-requires = Lts.Need-own-at-requires callees Reads'7.Pre Reads'7.Post
 
 abbrev pub Need-serve-requires : Type 0
-Need-serve-requires = Lts.Need-serve-requires (
-  Reads'3.Asked,
-  Reads'3.Learnt,
-  Reads'4.Asked,
-  Reads'4.Learnt,
-  Reads'.Asked,
-  Reads'.Learnt,
-  Reads.Asked,
-  Reads.Learnt,
-  Reads'6.Asked,
-  Reads'6.Learnt,
-  Reads'5.Asked,
-  Reads'5.Learnt,
-  Reads''.Asked,
-  Reads''.Learnt,
-  Reads'8.Asked,
-  Reads'8.Learnt,
-) Reads'7.Pre Reads'7.Post
+Need-serve-requires = Lts.Need-serve-requires callees Reads'7.Pre Reads'7.Post
 
 abbrev pub Need-returns-2 : Type 0
-Need-returns-2 = Lts.Need-returns-2 (
-  Reads'3.Asked,
-  Reads'3.Learnt,
-  Reads'4.Asked,
-  Reads'4.Learnt,
-  Reads'.Asked,
-  Reads'.Learnt,
-  Reads.Asked,
-  Reads.Learnt,
-  Reads'6.Asked,
-  Reads'6.Learnt,
-  Reads'5.Asked,
-  Reads'5.Learnt,
-  Reads''.Asked,
-  Reads''.Learnt,
-  Reads'8.Asked,
-  Reads'8.Learnt,
-) Reads'7.Pre Reads'7.Post
+Need-returns-2 = Lts.Need-returns-2 callees Reads'7.Pre Reads'7.Post
 
 module _ {M : Type 1} where
   pub spec :
@@ -997,45 +201,11 @@ module _ {M : Type 1} where
       (answer : Need-own-at-requires) →
       (answer : Need-serve-requires) →
       (answer : Need-returns-2) →
-      Lts.Closed (
-        Reads'3.Asked,
-        Reads'3.Learnt,
-        Reads'4.Asked,
-        Reads'4.Learnt,
-        Reads'.Asked,
-        Reads'.Learnt,
-        Reads.Asked,
-        Reads.Learnt,
-        Reads'6.Asked,
-        Reads'6.Learnt,
-        Reads'5.Asked,
-        Reads'5.Learnt,
-        Reads''.Asked,
-        Reads''.Learnt,
-        Reads'8.Asked,
-        Reads'8.Learnt,
-      ) Reads'7.Pre Reads'7.Post M
+      Lts.Closed callees Reads'7.Pre Reads'7.Post M
   spec =
       λ answer answer' answer'' answer'3 answer'4 answer'5 answer'6 answer'7 answer'8 answer'9
       answer'10 answer'11 answer'12 answer'13 answer'14 answer'15 answer'16 answer'17 answer'18
-      answer'19 answer'20 answer'21. Lts.spec (
-        Reads'3.Asked,
-        Reads'3.Learnt,
-        Reads'4.Asked,
-        Reads'4.Learnt,
-        Reads'.Asked,
-        Reads'.Learnt,
-        Reads.Asked,
-        Reads.Learnt,
-        Reads'6.Asked,
-        Reads'6.Learnt,
-        Reads'5.Asked,
-        Reads'5.Learnt,
-        Reads''.Asked,
-        Reads''.Learnt,
-        Reads'8.Asked,
-        Reads'8.Learnt,
-      )
+      answer'19 answer'20 answer'21. Lts.spec callees
       Reads'7.Pre
       Reads'7.Post
       answer
@@ -1061,24 +231,7 @@ module _ {M : Type 1} where
       answer'20
       answer'21
 
-  pub close : Lts.Closed (
-    Reads'3.Asked,
-    Reads'3.Learnt,
-    Reads'4.Asked,
-    Reads'4.Learnt,
-    Reads'.Asked,
-    Reads'.Learnt,
-    Reads.Asked,
-    Reads.Learnt,
-    Reads'6.Asked,
-    Reads'6.Learnt,
-    Reads'5.Asked,
-    Reads'5.Learnt,
-    Reads''.Asked,
-    Reads''.Learnt,
-    Reads'8.Asked,
-    Reads'8.Learnt,
-  ) Reads'7.Pre Reads'7.Post M → Statement.statement M
+  pub close : Lts.Closed callees Reads'7.Pre Reads'7.Post M → Statement.statement M
   unfolding Code.routine Running.tablesOf
   close =
       λ closed 𝓤 H 𝓜 𝓖 𝓡. Written.close

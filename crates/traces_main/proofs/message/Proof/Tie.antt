@@ -21,389 +21,104 @@ use borrow.Fn.Run
 use borrow.Fn.Written
 use contract.Running
 
+abbrev callees : Lts.Claims
+callees = (Reads'3.Asked, Reads'3.Learnt, Reads'.Asked, Reads'.Learnt, Reads''.Asked, Reads''.Learnt, Reads.Asked, Reads.Learnt)
+
 abbrev pub Start : Type 0
-Start = Lts.Start (
-  Reads'3.Asked,
-  Reads'3.Learnt,
-  Reads'.Asked,
-  Reads'.Learnt,
-  Reads''.Asked,
-  Reads''.Learnt,
-  Reads.Asked,
-  Reads.Learnt,
-) Reads'4.Pre Reads'4.Post
+Start = Lts.Start callees Reads'4.Pre Reads'4.Post
 
 abbrev pub After-slice-known : Type 0
-After-slice-known = Lts.After-slice-known (
-  Reads'3.Asked,
-  Reads'3.Learnt,
-  Reads'.Asked,
-  Reads'.Learnt,
-  Reads''.Asked,
-  Reads''.Learnt,
-  Reads.Asked,
-  Reads.Learnt,
-) Reads'4.Pre Reads'4.Post
+After-slice-known = Lts.After-slice-known callees Reads'4.Pre Reads'4.Post
 
 abbrev pub After-slice-known2 : Type 0
-After-slice-known2 = Lts.After-slice-known2 (
-  Reads'3.Asked,
-  Reads'3.Learnt,
-  Reads'.Asked,
-  Reads'.Learnt,
-  Reads''.Asked,
-  Reads''.Learnt,
-  Reads.Asked,
-  Reads.Learnt,
-) Reads'4.Pre Reads'4.Post
+After-slice-known2 = Lts.After-slice-known2 callees Reads'4.Pre Reads'4.Post
 
 abbrev pub After-shared-slice-known : Type 0
-After-shared-slice-known = Lts.After-shared-slice-known (
-  Reads'3.Asked,
-  Reads'3.Learnt,
-  Reads'.Asked,
-  Reads'.Learnt,
-  Reads''.Asked,
-  Reads''.Learnt,
-  Reads.Asked,
-  Reads.Learnt,
-) Reads'4.Pre Reads'4.Post
+After-shared-slice-known = Lts.After-shared-slice-known callees Reads'4.Pre Reads'4.Post
 
 abbrev pub After-message-from : Type 0
-After-message-from = Lts.After-message-from (
-  Reads'3.Asked,
-  Reads'3.Learnt,
-  Reads'.Asked,
-  Reads'.Learnt,
-  Reads''.Asked,
-  Reads''.Learnt,
-  Reads.Asked,
-  Reads.Learnt,
-) Reads'4.Pre Reads'4.Post
+After-message-from = Lts.After-message-from callees Reads'4.Pre Reads'4.Post
 
 abbrev pub After-own : Type 0
-After-own = Lts.After-own (
-  Reads'3.Asked,
-  Reads'3.Learnt,
-  Reads'.Asked,
-  Reads'.Learnt,
-  Reads''.Asked,
-  Reads''.Learnt,
-  Reads.Asked,
-  Reads.Learnt,
-) Reads'4.Pre Reads'4.Post
+After-own = Lts.After-own callees Reads'4.Pre Reads'4.Post
 
 abbrev pub After-eight-at : Type 0
-After-eight-at = Lts.After-eight-at (
-  Reads'3.Asked,
-  Reads'3.Learnt,
-  Reads'.Asked,
-  Reads'.Learnt,
-  Reads''.Asked,
-  Reads''.Learnt,
-  Reads.Asked,
-  Reads.Learnt,
-) Reads'4.Pre Reads'4.Post
+After-eight-at = Lts.After-eight-at callees Reads'4.Pre Reads'4.Post
 
 abbrev pub After-link-at : Type 0
-After-link-at = Lts.After-link-at (
-  Reads'3.Asked,
-  Reads'3.Learnt,
-  Reads'.Asked,
-  Reads'.Learnt,
-  Reads''.Asked,
-  Reads''.Learnt,
-  Reads.Asked,
-  Reads.Learnt,
-) Reads'4.Pre Reads'4.Post
+After-link-at = Lts.After-link-at callees Reads'4.Pre Reads'4.Post
 
 abbrev pub After-message-arg : Type 0
-After-message-arg = Lts.After-message-arg (
-  Reads'3.Asked,
-  Reads'3.Learnt,
-  Reads'.Asked,
-  Reads'.Learnt,
-  Reads''.Asked,
-  Reads''.Learnt,
-  Reads.Asked,
-  Reads.Learnt,
-) Reads'4.Pre Reads'4.Post
+After-message-arg = Lts.After-message-arg callees Reads'4.Pre Reads'4.Post
 
 abbrev pub After-message-arg2 : Type 0
-After-message-arg2 = Lts.After-message-arg2 (
-  Reads'3.Asked,
-  Reads'3.Learnt,
-  Reads'.Asked,
-  Reads'.Learnt,
-  Reads''.Asked,
-  Reads''.Learnt,
-  Reads.Asked,
-  Reads.Learnt,
-) Reads'4.Pre Reads'4.Post
+After-message-arg2 = Lts.After-message-arg2 callees Reads'4.Pre Reads'4.Post
 
 abbrev pub After-message-arg3 : Type 0
-After-message-arg3 = Lts.After-message-arg3 (
-  Reads'3.Asked,
-  Reads'3.Learnt,
-  Reads'.Asked,
-  Reads'.Learnt,
-  Reads''.Asked,
-  Reads''.Learnt,
-  Reads.Asked,
-  Reads.Learnt,
-) Reads'4.Pre Reads'4.Post
+After-message-arg3 = Lts.After-message-arg3 callees Reads'4.Pre Reads'4.Post
 
 abbrev pub After-message-arg4 : Type 0
-After-message-arg4 = Lts.After-message-arg4 (
-  Reads'3.Asked,
-  Reads'3.Learnt,
-  Reads'.Asked,
-  Reads'.Learnt,
-  Reads''.Asked,
-  Reads''.Learnt,
-  Reads.Asked,
-  Reads.Learnt,
-) Reads'4.Pre Reads'4.Post
+After-message-arg4 = Lts.After-message-arg4 callees Reads'4.Pre Reads'4.Post
 
 abbrev pub After-message-arg5 : Type 0
-After-message-arg5 = Lts.After-message-arg5 (
-  Reads'3.Asked,
-  Reads'3.Learnt,
-  Reads'.Asked,
-  Reads'.Learnt,
-  Reads''.Asked,
-  Reads''.Learnt,
-  Reads.Asked,
-  Reads.Learnt,
-) Reads'4.Pre Reads'4.Post
+After-message-arg5 = Lts.After-message-arg5 callees Reads'4.Pre Reads'4.Post
 
 abbrev pub After-message : Type 0
-After-message = Lts.After-message (
-  Reads'3.Asked,
-  Reads'3.Learnt,
-  Reads'.Asked,
-  Reads'.Learnt,
-  Reads''.Asked,
-  Reads''.Learnt,
-  Reads.Asked,
-  Reads.Learnt,
-) Reads'4.Pre Reads'4.Post
+After-message = Lts.After-message callees Reads'4.Pre Reads'4.Post
 
 abbrev pub After-instances : Type 0
-After-instances = Lts.After-instances (
-  Reads'3.Asked,
-  Reads'3.Learnt,
-  Reads'.Asked,
-  Reads'.Learnt,
-  Reads''.Asked,
-  Reads''.Learnt,
-  Reads.Asked,
-  Reads.Learnt,
-) Reads'4.Pre Reads'4.Post
+After-instances = Lts.After-instances callees Reads'4.Pre Reads'4.Post
 
 abbrev pub After-routes : Type 0
-After-routes = Lts.After-routes (
-  Reads'3.Asked,
-  Reads'3.Learnt,
-  Reads'.Asked,
-  Reads'.Learnt,
-  Reads''.Asked,
-  Reads''.Learnt,
-  Reads.Asked,
-  Reads.Learnt,
-) Reads'4.Pre Reads'4.Post
+After-routes = Lts.After-routes callees Reads'4.Pre Reads'4.Post
 
 abbrev pub After-forward : Type 0
-After-forward = Lts.After-forward (
-  Reads'3.Asked,
-  Reads'3.Learnt,
-  Reads'.Asked,
-  Reads'.Learnt,
-  Reads''.Asked,
-  Reads''.Learnt,
-  Reads.Asked,
-  Reads.Learnt,
-) Reads'4.Pre Reads'4.Post
+After-forward = Lts.After-forward callees Reads'4.Pre Reads'4.Post
 
 abbrev pub After-slice-known3 : Type 0
-After-slice-known3 = Lts.After-slice-known3 (
-  Reads'3.Asked,
-  Reads'3.Learnt,
-  Reads'.Asked,
-  Reads'.Learnt,
-  Reads''.Asked,
-  Reads''.Learnt,
-  Reads.Asked,
-  Reads.Learnt,
-) Reads'4.Pre Reads'4.Post
+After-slice-known3 = Lts.After-slice-known3 callees Reads'4.Pre Reads'4.Post
 
 abbrev pub After-reply : Type 0
-After-reply = Lts.After-reply (
-  Reads'3.Asked,
-  Reads'3.Learnt,
-  Reads'.Asked,
-  Reads'.Learnt,
-  Reads''.Asked,
-  Reads''.Learnt,
-  Reads.Asked,
-  Reads.Learnt,
-) Reads'4.Pre Reads'4.Post
+After-reply = Lts.After-reply callees Reads'4.Pre Reads'4.Post
 
 abbrev pub After-slice-known4 : Type 0
-After-slice-known4 = Lts.After-slice-known4 (
-  Reads'3.Asked,
-  Reads'3.Learnt,
-  Reads'.Asked,
-  Reads'.Learnt,
-  Reads''.Asked,
-  Reads''.Learnt,
-  Reads.Asked,
-  Reads.Learnt,
-) Reads'4.Pre Reads'4.Post
+After-slice-known4 = Lts.After-slice-known4 callees Reads'4.Pre Reads'4.Post
 
 abbrev pub Need-message-from-requires : Type 0
-Need-message-from-requires = Lts.Need-message-from-requires (
-  Reads'3.Asked,
-  Reads'3.Learnt,
-  Reads'.Asked,
-  Reads'.Learnt,
-  Reads''.Asked,
-  Reads''.Learnt,
-  Reads.Asked,
-  Reads.Learnt,
-) Reads'4.Pre Reads'4.Post
+Need-message-from-requires = Lts.Need-message-from-requires callees Reads'4.Pre Reads'4.Post
 
 abbrev pub Need-eight-at-requires : Type 0
-Need-eight-at-requires = Lts.Need-eight-at-requires (
-  Reads'3.Asked,
-  Reads'3.Learnt,
-  Reads'.Asked,
-  Reads'.Learnt,
-  Reads''.Asked,
-  Reads''.Learnt,
-  Reads.Asked,
-  Reads.Learnt,
-) Reads'4.Pre Reads'4.Post
+Need-eight-at-requires = Lts.Need-eight-at-requires callees Reads'4.Pre Reads'4.Post
 
 abbrev pub Need-link-at-requires : Type 0
-Need-link-at-requires = Lts.Need-link-at-requires (
-  Reads'3.Asked,
-  Reads'3.Learnt,
-  Reads'.Asked,
-  Reads'.Learnt,
-  Reads''.Asked,
-  Reads''.Learnt,
-  Reads.Asked,
-  Reads.Learnt,
-) Reads'4.Pre Reads'4.Post
+Need-link-at-requires = Lts.Need-link-at-requires callees Reads'4.Pre Reads'4.Post
 
 abbrev pub Need-sub-message : Type 0
-Need-sub-message = Lts.Need-sub-message (
-  Reads'3.Asked,
-  Reads'3.Learnt,
-  Reads'.Asked,
-  Reads'.Learnt,
-  Reads''.Asked,
-  Reads''.Learnt,
-  Reads.Asked,
-  Reads.Learnt,
-) Reads'4.Pre Reads'4.Post
+Need-sub-message = Lts.Need-sub-message callees Reads'4.Pre Reads'4.Post
 
 abbrev pub Need-part-message-start : Type 0
-Need-part-message-start = Lts.Need-part-message-start (
-  Reads'3.Asked,
-  Reads'3.Learnt,
-  Reads'.Asked,
-  Reads'.Learnt,
-  Reads''.Asked,
-  Reads''.Learnt,
-  Reads.Asked,
-  Reads.Learnt,
-) Reads'4.Pre Reads'4.Post
+Need-part-message-start = Lts.Need-part-message-start callees Reads'4.Pre Reads'4.Post
 
 abbrev pub Need-part-message-end : Type 0
-Need-part-message-end = Lts.Need-part-message-end (
-  Reads'3.Asked,
-  Reads'3.Learnt,
-  Reads'.Asked,
-  Reads'.Learnt,
-  Reads''.Asked,
-  Reads''.Learnt,
-  Reads.Asked,
-  Reads.Learnt,
-) Reads'4.Pre Reads'4.Post
+Need-part-message-end = Lts.Need-part-message-end callees Reads'4.Pre Reads'4.Post
 
 abbrev pub Need-message-requires : Type 0
-Need-message-requires = Lts.Need-message-requires (
-  Reads'3.Asked,
-  Reads'3.Learnt,
-  Reads'.Asked,
-  Reads'.Learnt,
-  Reads''.Asked,
-  Reads''.Learnt,
-  Reads.Asked,
-  Reads.Learnt,
-) Reads'4.Pre Reads'4.Post
+Need-message-requires = Lts.Need-message-requires callees Reads'4.Pre Reads'4.Post
 
 abbrev pub Need-same-length : Type 0
-Need-same-length = Lts.Need-same-length (
-  Reads'3.Asked,
-  Reads'3.Learnt,
-  Reads'.Asked,
-  Reads'.Learnt,
-  Reads''.Asked,
-  Reads''.Learnt,
-  Reads.Asked,
-  Reads.Learnt,
-) Reads'4.Pre Reads'4.Post
+Need-same-length = Lts.Need-same-length callees Reads'4.Pre Reads'4.Post
 
 abbrev pub Need-same-length-2 : Type 0
-Need-same-length-2 = Lts.Need-same-length-2 (
-  Reads'3.Asked,
-  Reads'3.Learnt,
-  Reads'.Asked,
-  Reads'.Learnt,
-  Reads''.Asked,
-  Reads''.Learnt,
-  Reads.Asked,
-  Reads.Learnt,
-) Reads'4.Pre Reads'4.Post
+Need-same-length-2 = Lts.Need-same-length-2 callees Reads'4.Pre Reads'4.Post
 
 abbrev pub Need-same-length-3 : Type 0
-Need-same-length-3 = Lts.Need-same-length-3 (
-  Reads'3.Asked,
-  Reads'3.Learnt,
-  Reads'.Asked,
-  Reads'.Learnt,
-  Reads''.Asked,
-  Reads''.Learnt,
-  Reads.Asked,
-  Reads.Learnt,
-) Reads'4.Pre Reads'4.Post
+Need-same-length-3 = Lts.Need-same-length-3 callees Reads'4.Pre Reads'4.Post
 
 abbrev pub Need-same-length-4 : Type 0
-Need-same-length-4 = Lts.Need-same-length-4 (
-  Reads'3.Asked,
-  Reads'3.Learnt,
-  Reads'.Asked,
-  Reads'.Learnt,
-  Reads''.Asked,
-  Reads''.Learnt,
-  Reads.Asked,
-  Reads.Learnt,
-) Reads'4.Pre Reads'4.Post
+Need-same-length-4 = Lts.Need-same-length-4 callees Reads'4.Pre Reads'4.Post
 
 abbrev pub Need-returns : Type 0
-Need-returns = Lts.Need-returns (
-  Reads'3.Asked,
-  Reads'3.Learnt,
-  Reads'.Asked,
-  Reads'.Learnt,
-  Reads''.Asked,
-  Reads''.Learnt,
-  Reads.Asked,
-  Reads.Learnt,
-) Reads'4.Pre Reads'4.Post
+Need-returns = Lts.Need-returns callees Reads'4.Pre Reads'4.Post
 
 module _ {M : Type 1} where
   pub spec :
@@ -419,28 +134,10 @@ module _ {M : Type 1} where
       (answer : Need-same-length-3) →
       (answer : Need-same-length-4) →
       (answer : Need-returns) →
-      Lts.Closed (
-        Reads'3.Asked,
-        Reads'3.Learnt,
-        Reads'.Asked,
-        Reads'.Learnt,
-        Reads''.Asked,
-        Reads''.Learnt,
-        Reads.Asked,
-        Reads.Learnt,
-      ) Reads'4.Pre Reads'4.Post M
+      Lts.Closed callees Reads'4.Pre Reads'4.Post M
   spec =
       λ answer answer' answer'' answer'3 answer'4 answer'5 answer'6 answer'7 answer'8 answer'9
-      answer'10 answer'11. Lts.spec (
-        Reads'3.Asked,
-        Reads'3.Learnt,
-        Reads'.Asked,
-        Reads'.Learnt,
-        Reads''.Asked,
-        Reads''.Learnt,
-        Reads.Asked,
-        Reads.Learnt,
-      )
+      answer'10 answer'11. Lts.spec callees
       Reads'4.Pre
       Reads'4.Post
       answer
@@ -456,16 +153,7 @@ module _ {M : Type 1} where
       answer'10
       answer'11
 
-  pub close : Lts.Closed (
-    Reads'3.Asked,
-    Reads'3.Learnt,
-    Reads'.Asked,
-    Reads'.Learnt,
-    Reads''.Asked,
-    Reads''.Learnt,
-    Reads.Asked,
-    Reads.Learnt,
-  ) Reads'4.Pre Reads'4.Post M → Statement.statement M
+  pub close : Lts.Closed callees Reads'4.Pre Reads'4.Post M → Statement.statement M
   unfolding Code.routine Running.tablesOf
   close =
       λ closed 𝓤 H 𝓜 𝓖 𝓡. Written.close

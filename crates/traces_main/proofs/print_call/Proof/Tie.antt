@@ -27,357 +27,74 @@ use borrow.Fn.Run
 use borrow.Fn.Written
 use contract.Running
 
+abbrev callees : Lts.Claims
+callees = (Reads'.Asked, Reads'.Learnt, Reads'4.Asked, Reads'4.Learnt, Reads.Asked, Reads.Learnt, Reads'6.Asked, Reads'6.Learnt, Reads'3.Asked, Reads'3.Learnt, Reads''.Asked, Reads''.Learnt)
+
 abbrev pub Start : Type 0
-Start = Lts.Start (
-  Reads'.Asked,
-  Reads'.Learnt,
-  Reads'4.Asked,
-  Reads'4.Learnt,
-  Reads.Asked,
-  Reads.Learnt,
-  Reads'6.Asked,
-  Reads'6.Learnt,
-  Reads'3.Asked,
-  Reads'3.Learnt,
-  Reads''.Asked,
-  Reads''.Learnt,
-) Reads'5.Pre Reads'5.Post
+Start = Lts.Start callees Reads'5.Pre Reads'5.Post
 
 abbrev pub After-shared-slice-known : Type 0
-After-shared-slice-known = Lts.After-shared-slice-known (
-  Reads'.Asked,
-  Reads'.Learnt,
-  Reads'4.Asked,
-  Reads'4.Learnt,
-  Reads.Asked,
-  Reads.Learnt,
-  Reads'6.Asked,
-  Reads'6.Learnt,
-  Reads'3.Asked,
-  Reads'3.Learnt,
-  Reads''.Asked,
-  Reads''.Learnt,
-) Reads'5.Pre Reads'5.Post
+After-shared-slice-known = Lts.After-shared-slice-known callees Reads'5.Pre Reads'5.Post
 
 abbrev pub After-shared-slice-known2 : Type 0
-After-shared-slice-known2 = Lts.After-shared-slice-known2 (
-  Reads'.Asked,
-  Reads'.Learnt,
-  Reads'4.Asked,
-  Reads'4.Learnt,
-  Reads.Asked,
-  Reads.Learnt,
-  Reads'6.Asked,
-  Reads'6.Learnt,
-  Reads'3.Asked,
-  Reads'3.Learnt,
-  Reads''.Asked,
-  Reads''.Learnt,
-) Reads'5.Pre Reads'5.Post
+After-shared-slice-known2 = Lts.After-shared-slice-known2 callees Reads'5.Pre Reads'5.Post
 
 abbrev pub After-outcome : Type 0
-After-outcome = Lts.After-outcome (
-  Reads'.Asked,
-  Reads'.Learnt,
-  Reads'4.Asked,
-  Reads'4.Learnt,
-  Reads.Asked,
-  Reads.Learnt,
-  Reads'6.Asked,
-  Reads'6.Learnt,
-  Reads'3.Asked,
-  Reads'3.Learnt,
-  Reads''.Asked,
-  Reads''.Learnt,
-) Reads'5.Pre Reads'5.Post
+After-outcome = Lts.After-outcome callees Reads'5.Pre Reads'5.Post
 
 abbrev pub After-buffer-arg : Type 0
-After-buffer-arg = Lts.After-buffer-arg (
-  Reads'.Asked,
-  Reads'.Learnt,
-  Reads'4.Asked,
-  Reads'4.Learnt,
-  Reads.Asked,
-  Reads.Learnt,
-  Reads'6.Asked,
-  Reads'6.Learnt,
-  Reads'3.Asked,
-  Reads'3.Learnt,
-  Reads''.Asked,
-  Reads''.Learnt,
-) Reads'5.Pre Reads'5.Post
+After-buffer-arg = Lts.After-buffer-arg callees Reads'5.Pre Reads'5.Post
 
 abbrev pub After-forward-size : Type 0
-After-forward-size = Lts.After-forward-size (
-  Reads'.Asked,
-  Reads'.Learnt,
-  Reads'4.Asked,
-  Reads'4.Learnt,
-  Reads.Asked,
-  Reads.Learnt,
-  Reads'6.Asked,
-  Reads'6.Learnt,
-  Reads'3.Asked,
-  Reads'3.Learnt,
-  Reads''.Asked,
-  Reads''.Learnt,
-) Reads'5.Pre Reads'5.Post
+After-forward-size = Lts.After-forward-size callees Reads'5.Pre Reads'5.Post
 
 abbrev pub After-buffer : Type 0
-After-buffer = Lts.After-buffer (
-  Reads'.Asked,
-  Reads'.Learnt,
-  Reads'4.Asked,
-  Reads'4.Learnt,
-  Reads.Asked,
-  Reads.Learnt,
-  Reads'6.Asked,
-  Reads'6.Learnt,
-  Reads'3.Asked,
-  Reads'3.Learnt,
-  Reads''.Asked,
-  Reads''.Learnt,
-) Reads'5.Pre Reads'5.Post
+After-buffer = Lts.After-buffer callees Reads'5.Pre Reads'5.Post
 
 abbrev pub After-buffer-arg2 : Type 0
-After-buffer-arg2 = Lts.After-buffer-arg2 (
-  Reads'.Asked,
-  Reads'.Learnt,
-  Reads'4.Asked,
-  Reads'4.Learnt,
-  Reads.Asked,
-  Reads.Learnt,
-  Reads'6.Asked,
-  Reads'6.Learnt,
-  Reads'3.Asked,
-  Reads'3.Learnt,
-  Reads''.Asked,
-  Reads''.Learnt,
-) Reads'5.Pre Reads'5.Post
+After-buffer-arg2 = Lts.After-buffer-arg2 callees Reads'5.Pre Reads'5.Post
 
 abbrev pub After-reply-size : Type 0
-After-reply-size = Lts.After-reply-size (
-  Reads'.Asked,
-  Reads'.Learnt,
-  Reads'4.Asked,
-  Reads'4.Learnt,
-  Reads.Asked,
-  Reads.Learnt,
-  Reads'6.Asked,
-  Reads'6.Learnt,
-  Reads'3.Asked,
-  Reads'3.Learnt,
-  Reads''.Asked,
-  Reads''.Learnt,
-) Reads'5.Pre Reads'5.Post
+After-reply-size = Lts.After-reply-size callees Reads'5.Pre Reads'5.Post
 
 abbrev pub After-buffer2 : Type 0
-After-buffer2 = Lts.After-buffer2 (
-  Reads'.Asked,
-  Reads'.Learnt,
-  Reads'4.Asked,
-  Reads'4.Learnt,
-  Reads.Asked,
-  Reads.Learnt,
-  Reads'6.Asked,
-  Reads'6.Learnt,
-  Reads'3.Asked,
-  Reads'3.Learnt,
-  Reads''.Asked,
-  Reads''.Learnt,
-) Reads'5.Pre Reads'5.Post
+After-buffer2 = Lts.After-buffer2 callees Reads'5.Pre Reads'5.Post
 
 abbrev pub After-rows : Type 0
-After-rows = Lts.After-rows (
-  Reads'.Asked,
-  Reads'.Learnt,
-  Reads'4.Asked,
-  Reads'4.Learnt,
-  Reads.Asked,
-  Reads.Learnt,
-  Reads'6.Asked,
-  Reads'6.Learnt,
-  Reads'3.Asked,
-  Reads'3.Learnt,
-  Reads''.Asked,
-  Reads''.Learnt,
-) Reads'5.Pre Reads'5.Post
+After-rows = Lts.After-rows callees Reads'5.Pre Reads'5.Post
 
 abbrev pub After-routes : Type 0
-After-routes = Lts.After-routes (
-  Reads'.Asked,
-  Reads'.Learnt,
-  Reads'4.Asked,
-  Reads'4.Learnt,
-  Reads.Asked,
-  Reads.Learnt,
-  Reads'6.Asked,
-  Reads'6.Learnt,
-  Reads'3.Asked,
-  Reads'3.Learnt,
-  Reads''.Asked,
-  Reads''.Learnt,
-) Reads'5.Pre Reads'5.Post
+After-routes = Lts.After-routes callees Reads'5.Pre Reads'5.Post
 
 abbrev pub Need-outcome-requires : Type 0
-Need-outcome-requires = Lts.Need-outcome-requires (
-  Reads'.Asked,
-  Reads'.Learnt,
-  Reads'4.Asked,
-  Reads'4.Learnt,
-  Reads.Asked,
-  Reads.Learnt,
-  Reads'6.Asked,
-  Reads'6.Learnt,
-  Reads'3.Asked,
-  Reads'3.Learnt,
-  Reads''.Asked,
-  Reads''.Learnt,
-) Reads'5.Pre Reads'5.Post
+Need-outcome-requires = Lts.Need-outcome-requires callees Reads'5.Pre Reads'5.Post
 
 abbrev pub Need-slice-aggregate-buffer : Type 0
-Need-slice-aggregate-buffer = Lts.Need-slice-aggregate-buffer (
-  Reads'.Asked,
-  Reads'.Learnt,
-  Reads'4.Asked,
-  Reads'4.Learnt,
-  Reads.Asked,
-  Reads.Learnt,
-  Reads'6.Asked,
-  Reads'6.Learnt,
-  Reads'3.Asked,
-  Reads'3.Learnt,
-  Reads''.Asked,
-  Reads''.Learnt,
-) Reads'5.Pre Reads'5.Post
+Need-slice-aggregate-buffer = Lts.Need-slice-aggregate-buffer callees Reads'5.Pre Reads'5.Post
 
 abbrev pub Need-forward-size-requires : Type 0
-Need-forward-size-requires = Lts.Need-forward-size-requires (
-  Reads'.Asked,
-  Reads'.Learnt,
-  Reads'4.Asked,
-  Reads'4.Learnt,
-  Reads.Asked,
-  Reads.Learnt,
-  Reads'6.Asked,
-  Reads'6.Learnt,
-  Reads'3.Asked,
-  Reads'3.Learnt,
-  Reads''.Asked,
-  Reads''.Learnt,
-) Reads'5.Pre Reads'5.Post
+Need-forward-size-requires = Lts.Need-forward-size-requires callees Reads'5.Pre Reads'5.Post
 
 abbrev pub Need-buffer-requires : Type 0
-Need-buffer-requires = Lts.Need-buffer-requires (
-  Reads'.Asked,
-  Reads'.Learnt,
-  Reads'4.Asked,
-  Reads'4.Learnt,
-  Reads.Asked,
-  Reads.Learnt,
-  Reads'6.Asked,
-  Reads'6.Learnt,
-  Reads'3.Asked,
-  Reads'3.Learnt,
-  Reads''.Asked,
-  Reads''.Learnt,
-) Reads'5.Pre Reads'5.Post
+Need-buffer-requires = Lts.Need-buffer-requires callees Reads'5.Pre Reads'5.Post
 
 abbrev pub Need-slice-aggregate-buffer-2 : Type 0
-Need-slice-aggregate-buffer-2 = Lts.Need-slice-aggregate-buffer-2 (
-  Reads'.Asked,
-  Reads'.Learnt,
-  Reads'4.Asked,
-  Reads'4.Learnt,
-  Reads.Asked,
-  Reads.Learnt,
-  Reads'6.Asked,
-  Reads'6.Learnt,
-  Reads'3.Asked,
-  Reads'3.Learnt,
-  Reads''.Asked,
-  Reads''.Learnt,
-) Reads'5.Pre Reads'5.Post
+Need-slice-aggregate-buffer-2 = Lts.Need-slice-aggregate-buffer-2 callees Reads'5.Pre Reads'5.Post
 
 abbrev pub Need-reply-size-requires : Type 0
-Need-reply-size-requires = Lts.Need-reply-size-requires (
-  Reads'.Asked,
-  Reads'.Learnt,
-  Reads'4.Asked,
-  Reads'4.Learnt,
-  Reads.Asked,
-  Reads.Learnt,
-  Reads'6.Asked,
-  Reads'6.Learnt,
-  Reads'3.Asked,
-  Reads'3.Learnt,
-  Reads''.Asked,
-  Reads''.Learnt,
-) Reads'5.Pre Reads'5.Post
+Need-reply-size-requires = Lts.Need-reply-size-requires callees Reads'5.Pre Reads'5.Post
 
 abbrev pub Need-buffer-requires-2 : Type 0
-Need-buffer-requires-2 = Lts.Need-buffer-requires-2 (
-  Reads'.Asked,
-  Reads'.Learnt,
-  Reads'4.Asked,
-  Reads'4.Learnt,
-  Reads.Asked,
-  Reads.Learnt,
-  Reads'6.Asked,
-  Reads'6.Learnt,
-  Reads'3.Asked,
-  Reads'3.Learnt,
-  Reads''.Asked,
-  Reads''.Learnt,
-) Reads'5.Pre Reads'5.Post
+Need-buffer-requires-2 = Lts.Need-buffer-requires-2 callees Reads'5.Pre Reads'5.Post
 
 abbrev pub Need-rows-requires : Type 0
-Need-rows-requires = Lts.Need-rows-requires (
-  Reads'.Asked,
-  Reads'.Learnt,
-  Reads'4.Asked,
-  Reads'4.Learnt,
-  Reads.Asked,
-  Reads.Learnt,
-  Reads'6.Asked,
-  Reads'6.Learnt,
-  Reads'3.Asked,
-  Reads'3.Learnt,
-  Reads''.Asked,
-  Reads''.Learnt,
-) Reads'5.Pre Reads'5.Post
+Need-rows-requires = Lts.Need-rows-requires callees Reads'5.Pre Reads'5.Post
 
 abbrev pub Need-routes-requires : Type 0
-Need-routes-requires = Lts.Need-routes-requires (
-  Reads'.Asked,
-  Reads'.Learnt,
-  Reads'4.Asked,
-  Reads'4.Learnt,
-  Reads.Asked,
-  Reads.Learnt,
-  Reads'6.Asked,
-  Reads'6.Learnt,
-  Reads'3.Asked,
-  Reads'3.Learnt,
-  Reads''.Asked,
-  Reads''.Learnt,
-) Reads'5.Pre Reads'5.Post
+Need-routes-requires = Lts.Need-routes-requires callees Reads'5.Pre Reads'5.Post
 
 abbrev pub Need-returns : Type 0
-Need-returns = Lts.Need-returns (
-  Reads'.Asked,
-  Reads'.Learnt,
-  Reads'4.Asked,
-  Reads'4.Learnt,
-  Reads.Asked,
-  Reads.Learnt,
-  Reads'6.Asked,
-  Reads'6.Learnt,
-  Reads'3.Asked,
-  Reads'3.Learnt,
-  Reads''.Asked,
-  Reads''.Learnt,
-) Reads'5.Pre Reads'5.Post
+Need-returns = Lts.Need-returns callees Reads'5.Pre Reads'5.Post
 
 module _ {M : Type 1} where
   pub spec :
@@ -391,36 +108,10 @@ module _ {M : Type 1} where
       (answer : Need-rows-requires) →
       (answer : Need-routes-requires) →
       (answer : Need-returns) →
-      Lts.Closed (
-        Reads'.Asked,
-        Reads'.Learnt,
-        Reads'4.Asked,
-        Reads'4.Learnt,
-        Reads.Asked,
-        Reads.Learnt,
-        Reads'6.Asked,
-        Reads'6.Learnt,
-        Reads'3.Asked,
-        Reads'3.Learnt,
-        Reads''.Asked,
-        Reads''.Learnt,
-      ) Reads'5.Pre Reads'5.Post M
+      Lts.Closed callees Reads'5.Pre Reads'5.Post M
   spec =
       λ answer answer' answer'' answer'3 answer'4 answer'5 answer'6 answer'7 answer'8
-      answer'9. Lts.spec (
-        Reads'.Asked,
-        Reads'.Learnt,
-        Reads'4.Asked,
-        Reads'4.Learnt,
-        Reads.Asked,
-        Reads.Learnt,
-        Reads'6.Asked,
-        Reads'6.Learnt,
-        Reads'3.Asked,
-        Reads'3.Learnt,
-        Reads''.Asked,
-        Reads''.Learnt,
-      )
+      answer'9. Lts.spec callees
       Reads'5.Pre
       Reads'5.Post
       answer
@@ -434,20 +125,7 @@ module _ {M : Type 1} where
       answer'8
       answer'9
 
-  pub close : Lts.Closed (
-    Reads'.Asked,
-    Reads'.Learnt,
-    Reads'4.Asked,
-    Reads'4.Learnt,
-    Reads.Asked,
-    Reads.Learnt,
-    Reads'6.Asked,
-    Reads'6.Learnt,
-    Reads'3.Asked,
-    Reads'3.Learnt,
-    Reads''.Asked,
-    Reads''.Learnt,
-  ) Reads'5.Pre Reads'5.Post M → Statement.statement M
+  pub close : Lts.Closed callees Reads'5.Pre Reads'5.Post M → Statement.statement M
   unfolding Code.routine Running.tablesOf
   close =
       λ closed 𝓤 H 𝓜 𝓖 𝓡. Written.close

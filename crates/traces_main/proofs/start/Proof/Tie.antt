@@ -24,467 +24,107 @@ use borrow.Fn.Run
 use borrow.Fn.Written
 use contract.Running
 
+abbrev callees : Lts.Claims
+callees = (Reads'3.Asked, Reads'3.Learnt, Reads''.Asked, Reads''.Learnt, Reads'.Asked, Reads'.Learnt, Reads'4.Asked, Reads'4.Learnt, Reads.Asked, Reads.Learnt)
+
 abbrev pub Start : Type 0
-Start = Lts.Start (
-  Reads'3.Asked,
-  Reads'3.Learnt,
-  Reads''.Asked,
-  Reads''.Learnt,
-  Reads'.Asked,
-  Reads'.Learnt,
-  Reads'4.Asked,
-  Reads'4.Learnt,
-  Reads.Asked,
-  Reads.Learnt,
-) Reads'5.Pre Reads'5.Post
+Start = Lts.Start callees Reads'5.Pre Reads'5.Post
 
 abbrev pub After-slice-known : Type 0
-After-slice-known = Lts.After-slice-known (
-  Reads'3.Asked,
-  Reads'3.Learnt,
-  Reads''.Asked,
-  Reads''.Learnt,
-  Reads'.Asked,
-  Reads'.Learnt,
-  Reads'4.Asked,
-  Reads'4.Learnt,
-  Reads.Asked,
-  Reads.Learnt,
-) Reads'5.Pre Reads'5.Post
+After-slice-known = Lts.After-slice-known callees Reads'5.Pre Reads'5.Post
 
 abbrev pub After-slice-known2 : Type 0
-After-slice-known2 = Lts.After-slice-known2 (
-  Reads'3.Asked,
-  Reads'3.Learnt,
-  Reads''.Asked,
-  Reads''.Learnt,
-  Reads'.Asked,
-  Reads'.Learnt,
-  Reads'4.Asked,
-  Reads'4.Learnt,
-  Reads.Asked,
-  Reads.Learnt,
-) Reads'5.Pre Reads'5.Post
+After-slice-known2 = Lts.After-slice-known2 callees Reads'5.Pre Reads'5.Post
 
 abbrev pub After-shared-slice-known : Type 0
-After-shared-slice-known = Lts.After-shared-slice-known (
-  Reads'3.Asked,
-  Reads'3.Learnt,
-  Reads''.Asked,
-  Reads''.Learnt,
-  Reads'.Asked,
-  Reads'.Learnt,
-  Reads'4.Asked,
-  Reads'4.Learnt,
-  Reads.Asked,
-  Reads.Learnt,
-) Reads'5.Pre Reads'5.Post
+After-shared-slice-known = Lts.After-shared-slice-known callees Reads'5.Pre Reads'5.Post
 
 abbrev pub After-targets-at : Type 0
-After-targets-at = Lts.After-targets-at (
-  Reads'3.Asked,
-  Reads'3.Learnt,
-  Reads''.Asked,
-  Reads''.Learnt,
-  Reads'.Asked,
-  Reads'.Learnt,
-  Reads'4.Asked,
-  Reads'4.Learnt,
-  Reads.Asked,
-  Reads.Learnt,
-) Reads'5.Pre Reads'5.Post
+After-targets-at = Lts.After-targets-at callees Reads'5.Pre Reads'5.Post
 
 abbrev pub After-target-count : Type 0
-After-target-count = Lts.After-target-count (
-  Reads'3.Asked,
-  Reads'3.Learnt,
-  Reads''.Asked,
-  Reads''.Learnt,
-  Reads'.Asked,
-  Reads'.Learnt,
-  Reads'4.Asked,
-  Reads'4.Learnt,
-  Reads.Asked,
-  Reads.Learnt,
-) Reads'5.Pre Reads'5.Post
+After-target-count = Lts.After-target-count callees Reads'5.Pre Reads'5.Post
 
 abbrev pub After-own : Type 0
-After-own = Lts.After-own (
-  Reads'3.Asked,
-  Reads'3.Learnt,
-  Reads''.Asked,
-  Reads''.Learnt,
-  Reads'.Asked,
-  Reads'.Learnt,
-  Reads'4.Asked,
-  Reads'4.Learnt,
-  Reads.Asked,
-  Reads.Learnt,
-) Reads'5.Pre Reads'5.Post
+After-own = Lts.After-own callees Reads'5.Pre Reads'5.Post
 
 abbrev pub After-eight-at : Type 0
-After-eight-at = Lts.After-eight-at (
-  Reads'3.Asked,
-  Reads'3.Learnt,
-  Reads''.Asked,
-  Reads''.Learnt,
-  Reads'.Asked,
-  Reads'.Learnt,
-  Reads'4.Asked,
-  Reads'4.Learnt,
-  Reads.Asked,
-  Reads.Learnt,
-) Reads'5.Pre Reads'5.Post
+After-eight-at = Lts.After-eight-at callees Reads'5.Pre Reads'5.Post
 
 abbrev pub After-asking-at : Type 0
-After-asking-at = Lts.After-asking-at (
-  Reads'3.Asked,
-  Reads'3.Learnt,
-  Reads''.Asked,
-  Reads''.Learnt,
-  Reads'.Asked,
-  Reads'.Learnt,
-  Reads'4.Asked,
-  Reads'4.Learnt,
-  Reads.Asked,
-  Reads.Learnt,
-) Reads'5.Pre Reads'5.Post
+After-asking-at = Lts.After-asking-at callees Reads'5.Pre Reads'5.Post
 
 abbrev pub After-start-arg : Type 0
-After-start-arg = Lts.After-start-arg (
-  Reads'3.Asked,
-  Reads'3.Learnt,
-  Reads''.Asked,
-  Reads''.Learnt,
-  Reads'.Asked,
-  Reads'.Learnt,
-  Reads'4.Asked,
-  Reads'4.Learnt,
-  Reads.Asked,
-  Reads.Learnt,
-) Reads'5.Pre Reads'5.Post
+After-start-arg = Lts.After-start-arg callees Reads'5.Pre Reads'5.Post
 
 abbrev pub After-start-arg2 : Type 0
-After-start-arg2 = Lts.After-start-arg2 (
-  Reads'3.Asked,
-  Reads'3.Learnt,
-  Reads''.Asked,
-  Reads''.Learnt,
-  Reads'.Asked,
-  Reads'.Learnt,
-  Reads'4.Asked,
-  Reads'4.Learnt,
-  Reads.Asked,
-  Reads.Learnt,
-) Reads'5.Pre Reads'5.Post
+After-start-arg2 = Lts.After-start-arg2 callees Reads'5.Pre Reads'5.Post
 
 abbrev pub After-start-arg3 : Type 0
-After-start-arg3 = Lts.After-start-arg3 (
-  Reads'3.Asked,
-  Reads'3.Learnt,
-  Reads''.Asked,
-  Reads''.Learnt,
-  Reads'.Asked,
-  Reads'.Learnt,
-  Reads'4.Asked,
-  Reads'4.Learnt,
-  Reads.Asked,
-  Reads.Learnt,
-) Reads'5.Pre Reads'5.Post
+After-start-arg3 = Lts.After-start-arg3 callees Reads'5.Pre Reads'5.Post
 
 abbrev pub After-start-arg4 : Type 0
-After-start-arg4 = Lts.After-start-arg4 (
-  Reads'3.Asked,
-  Reads'3.Learnt,
-  Reads''.Asked,
-  Reads''.Learnt,
-  Reads'.Asked,
-  Reads'.Learnt,
-  Reads'4.Asked,
-  Reads'4.Learnt,
-  Reads.Asked,
-  Reads.Learnt,
-) Reads'5.Pre Reads'5.Post
+After-start-arg4 = Lts.After-start-arg4 callees Reads'5.Pre Reads'5.Post
 
 abbrev pub After-targets : Type 0
-After-targets = Lts.After-targets (
-  Reads'3.Asked,
-  Reads'3.Learnt,
-  Reads''.Asked,
-  Reads''.Learnt,
-  Reads'.Asked,
-  Reads'.Learnt,
-  Reads'4.Asked,
-  Reads'4.Learnt,
-  Reads.Asked,
-  Reads.Learnt,
-) Reads'5.Pre Reads'5.Post
+After-targets = Lts.After-targets callees Reads'5.Pre Reads'5.Post
 
 abbrev pub After-start : Type 0
-After-start = Lts.After-start (
-  Reads'3.Asked,
-  Reads'3.Learnt,
-  Reads''.Asked,
-  Reads''.Learnt,
-  Reads'.Asked,
-  Reads'.Learnt,
-  Reads'4.Asked,
-  Reads'4.Learnt,
-  Reads.Asked,
-  Reads.Learnt,
-) Reads'5.Pre Reads'5.Post
+After-start = Lts.After-start callees Reads'5.Pre Reads'5.Post
 
 abbrev pub After-instances : Type 0
-After-instances = Lts.After-instances (
-  Reads'3.Asked,
-  Reads'3.Learnt,
-  Reads''.Asked,
-  Reads''.Learnt,
-  Reads'.Asked,
-  Reads'.Learnt,
-  Reads'4.Asked,
-  Reads'4.Learnt,
-  Reads.Asked,
-  Reads.Learnt,
-) Reads'5.Pre Reads'5.Post
+After-instances = Lts.After-instances callees Reads'5.Pre Reads'5.Post
 
 abbrev pub After-routes : Type 0
-After-routes = Lts.After-routes (
-  Reads'3.Asked,
-  Reads'3.Learnt,
-  Reads''.Asked,
-  Reads''.Learnt,
-  Reads'.Asked,
-  Reads'.Learnt,
-  Reads'4.Asked,
-  Reads'4.Learnt,
-  Reads.Asked,
-  Reads.Learnt,
-) Reads'5.Pre Reads'5.Post
+After-routes = Lts.After-routes callees Reads'5.Pre Reads'5.Post
 
 abbrev pub After-forward : Type 0
-After-forward = Lts.After-forward (
-  Reads'3.Asked,
-  Reads'3.Learnt,
-  Reads''.Asked,
-  Reads''.Learnt,
-  Reads'.Asked,
-  Reads'.Learnt,
-  Reads'4.Asked,
-  Reads'4.Learnt,
-  Reads.Asked,
-  Reads.Learnt,
-) Reads'5.Pre Reads'5.Post
+After-forward = Lts.After-forward callees Reads'5.Pre Reads'5.Post
 
 abbrev pub After-slice-known3 : Type 0
-After-slice-known3 = Lts.After-slice-known3 (
-  Reads'3.Asked,
-  Reads'3.Learnt,
-  Reads''.Asked,
-  Reads''.Learnt,
-  Reads'.Asked,
-  Reads'.Learnt,
-  Reads'4.Asked,
-  Reads'4.Learnt,
-  Reads.Asked,
-  Reads.Learnt,
-) Reads'5.Pre Reads'5.Post
+After-slice-known3 = Lts.After-slice-known3 callees Reads'5.Pre Reads'5.Post
 
 abbrev pub After-reply : Type 0
-After-reply = Lts.After-reply (
-  Reads'3.Asked,
-  Reads'3.Learnt,
-  Reads''.Asked,
-  Reads''.Learnt,
-  Reads'.Asked,
-  Reads'.Learnt,
-  Reads'4.Asked,
-  Reads'4.Learnt,
-  Reads.Asked,
-  Reads.Learnt,
-) Reads'5.Pre Reads'5.Post
+After-reply = Lts.After-reply callees Reads'5.Pre Reads'5.Post
 
 abbrev pub After-slice-known4 : Type 0
-After-slice-known4 = Lts.After-slice-known4 (
-  Reads'3.Asked,
-  Reads'3.Learnt,
-  Reads''.Asked,
-  Reads''.Learnt,
-  Reads'.Asked,
-  Reads'.Learnt,
-  Reads'4.Asked,
-  Reads'4.Learnt,
-  Reads.Asked,
-  Reads.Learnt,
-) Reads'5.Pre Reads'5.Post
+After-slice-known4 = Lts.After-slice-known4 callees Reads'5.Pre Reads'5.Post
 
 abbrev pub Need-targets-at-requires : Type 0
-Need-targets-at-requires = Lts.Need-targets-at-requires (
-  Reads'3.Asked,
-  Reads'3.Learnt,
-  Reads''.Asked,
-  Reads''.Learnt,
-  Reads'.Asked,
-  Reads'.Learnt,
-  Reads'4.Asked,
-  Reads'4.Learnt,
-  Reads.Asked,
-  Reads.Learnt,
-) Reads'5.Pre Reads'5.Post
+Need-targets-at-requires = Lts.Need-targets-at-requires callees Reads'5.Pre Reads'5.Post
 
 abbrev pub Need-target-count-requires : Type 0
-Need-target-count-requires = Lts.Need-target-count-requires (
-  Reads'3.Asked,
-  Reads'3.Learnt,
-  Reads''.Asked,
-  Reads''.Learnt,
-  Reads'.Asked,
-  Reads'.Learnt,
-  Reads'4.Asked,
-  Reads'4.Learnt,
-  Reads.Asked,
-  Reads.Learnt,
-) Reads'5.Pre Reads'5.Post
+Need-target-count-requires = Lts.Need-target-count-requires callees Reads'5.Pre Reads'5.Post
 
 abbrev pub Need-eight-at-requires : Type 0
-Need-eight-at-requires = Lts.Need-eight-at-requires (
-  Reads'3.Asked,
-  Reads'3.Learnt,
-  Reads''.Asked,
-  Reads''.Learnt,
-  Reads'.Asked,
-  Reads'.Learnt,
-  Reads'4.Asked,
-  Reads'4.Learnt,
-  Reads.Asked,
-  Reads.Learnt,
-) Reads'5.Pre Reads'5.Post
+Need-eight-at-requires = Lts.Need-eight-at-requires callees Reads'5.Pre Reads'5.Post
 
 abbrev pub Need-asking-at-requires : Type 0
-Need-asking-at-requires = Lts.Need-asking-at-requires (
-  Reads'3.Asked,
-  Reads'3.Learnt,
-  Reads''.Asked,
-  Reads''.Learnt,
-  Reads'.Asked,
-  Reads'.Learnt,
-  Reads'4.Asked,
-  Reads'4.Learnt,
-  Reads.Asked,
-  Reads.Learnt,
-) Reads'5.Pre Reads'5.Post
+Need-asking-at-requires = Lts.Need-asking-at-requires callees Reads'5.Pre Reads'5.Post
 
 abbrev pub Need-array-share-prefix-targets : Type 0
-Need-array-share-prefix-targets = Lts.Need-array-share-prefix-targets (
-  Reads'3.Asked,
-  Reads'3.Learnt,
-  Reads''.Asked,
-  Reads''.Learnt,
-  Reads'.Asked,
-  Reads'.Learnt,
-  Reads'4.Asked,
-  Reads'4.Learnt,
-  Reads.Asked,
-  Reads.Learnt,
-) Reads'5.Pre Reads'5.Post
+Need-array-share-prefix-targets = Lts.Need-array-share-prefix-targets callees Reads'5.Pre Reads'5.Post
 
 abbrev pub Need-slice-aggregate-start : Type 0
-Need-slice-aggregate-start = Lts.Need-slice-aggregate-start (
-  Reads'3.Asked,
-  Reads'3.Learnt,
-  Reads''.Asked,
-  Reads''.Learnt,
-  Reads'.Asked,
-  Reads'.Learnt,
-  Reads'4.Asked,
-  Reads'4.Learnt,
-  Reads.Asked,
-  Reads.Learnt,
-) Reads'5.Pre Reads'5.Post
+Need-slice-aggregate-start = Lts.Need-slice-aggregate-start callees Reads'5.Pre Reads'5.Post
 
 abbrev pub Need-start-requires : Type 0
-Need-start-requires = Lts.Need-start-requires (
-  Reads'3.Asked,
-  Reads'3.Learnt,
-  Reads''.Asked,
-  Reads''.Learnt,
-  Reads'.Asked,
-  Reads'.Learnt,
-  Reads'4.Asked,
-  Reads'4.Learnt,
-  Reads.Asked,
-  Reads.Learnt,
-) Reads'5.Pre Reads'5.Post
+Need-start-requires = Lts.Need-start-requires callees Reads'5.Pre Reads'5.Post
 
 abbrev pub Need-same-length : Type 0
-Need-same-length = Lts.Need-same-length (
-  Reads'3.Asked,
-  Reads'3.Learnt,
-  Reads''.Asked,
-  Reads''.Learnt,
-  Reads'.Asked,
-  Reads'.Learnt,
-  Reads'4.Asked,
-  Reads'4.Learnt,
-  Reads.Asked,
-  Reads.Learnt,
-) Reads'5.Pre Reads'5.Post
+Need-same-length = Lts.Need-same-length callees Reads'5.Pre Reads'5.Post
 
 abbrev pub Need-same-length-2 : Type 0
-Need-same-length-2 = Lts.Need-same-length-2 (
-  Reads'3.Asked,
-  Reads'3.Learnt,
-  Reads''.Asked,
-  Reads''.Learnt,
-  Reads'.Asked,
-  Reads'.Learnt,
-  Reads'4.Asked,
-  Reads'4.Learnt,
-  Reads.Asked,
-  Reads.Learnt,
-) Reads'5.Pre Reads'5.Post
+Need-same-length-2 = Lts.Need-same-length-2 callees Reads'5.Pre Reads'5.Post
 
 abbrev pub Need-same-length-3 : Type 0
-Need-same-length-3 = Lts.Need-same-length-3 (
-  Reads'3.Asked,
-  Reads'3.Learnt,
-  Reads''.Asked,
-  Reads''.Learnt,
-  Reads'.Asked,
-  Reads'.Learnt,
-  Reads'4.Asked,
-  Reads'4.Learnt,
-  Reads.Asked,
-  Reads.Learnt,
-) Reads'5.Pre Reads'5.Post
+Need-same-length-3 = Lts.Need-same-length-3 callees Reads'5.Pre Reads'5.Post
 
 abbrev pub Need-same-length-4 : Type 0
-Need-same-length-4 = Lts.Need-same-length-4 (
-  Reads'3.Asked,
-  Reads'3.Learnt,
-  Reads''.Asked,
-  Reads''.Learnt,
-  Reads'.Asked,
-  Reads'.Learnt,
-  Reads'4.Asked,
-  Reads'4.Learnt,
-  Reads.Asked,
-  Reads.Learnt,
-) Reads'5.Pre Reads'5.Post
+Need-same-length-4 = Lts.Need-same-length-4 callees Reads'5.Pre Reads'5.Post
 
 abbrev pub Need-returns : Type 0
-Need-returns = Lts.Need-returns (
-  Reads'3.Asked,
-  Reads'3.Learnt,
-  Reads''.Asked,
-  Reads''.Learnt,
-  Reads'.Asked,
-  Reads'.Learnt,
-  Reads'4.Asked,
-  Reads'4.Learnt,
-  Reads.Asked,
-  Reads.Learnt,
-) Reads'5.Pre Reads'5.Post
+Need-returns = Lts.Need-returns callees Reads'5.Pre Reads'5.Post
 
 module _ {M : Type 1} where
   pub spec :
@@ -500,32 +140,10 @@ module _ {M : Type 1} where
       (answer : Need-same-length-3) →
       (answer : Need-same-length-4) →
       (answer : Need-returns) →
-      Lts.Closed (
-        Reads'3.Asked,
-        Reads'3.Learnt,
-        Reads''.Asked,
-        Reads''.Learnt,
-        Reads'.Asked,
-        Reads'.Learnt,
-        Reads'4.Asked,
-        Reads'4.Learnt,
-        Reads.Asked,
-        Reads.Learnt,
-      ) Reads'5.Pre Reads'5.Post M
+      Lts.Closed callees Reads'5.Pre Reads'5.Post M
   spec =
       λ answer answer' answer'' answer'3 answer'4 answer'5 answer'6 answer'7 answer'8 answer'9
-      answer'10 answer'11. Lts.spec (
-        Reads'3.Asked,
-        Reads'3.Learnt,
-        Reads''.Asked,
-        Reads''.Learnt,
-        Reads'.Asked,
-        Reads'.Learnt,
-        Reads'4.Asked,
-        Reads'4.Learnt,
-        Reads.Asked,
-        Reads.Learnt,
-      )
+      answer'10 answer'11. Lts.spec callees
       Reads'5.Pre
       Reads'5.Post
       answer
@@ -541,18 +159,7 @@ module _ {M : Type 1} where
       answer'10
       answer'11
 
-  pub close : Lts.Closed (
-    Reads'3.Asked,
-    Reads'3.Learnt,
-    Reads''.Asked,
-    Reads''.Learnt,
-    Reads'.Asked,
-    Reads'.Learnt,
-    Reads'4.Asked,
-    Reads'4.Learnt,
-    Reads.Asked,
-    Reads.Learnt,
-  ) Reads'5.Pre Reads'5.Post M → Statement.statement M
+  pub close : Lts.Closed callees Reads'5.Pre Reads'5.Post M → Statement.statement M
   unfolding Code.routine Running.tablesOf
   close =
       λ closed 𝓤 H 𝓜 𝓖 𝓡. Written.close

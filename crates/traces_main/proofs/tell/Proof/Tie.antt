@@ -21,161 +21,47 @@ use borrow.Fn.Run
 use borrow.Fn.Written
 use contract.Running
 
+abbrev callees : Lts.Claims
+callees = (Reads.Asked, Reads.Learnt, Reads'.Asked, Reads'.Learnt, Reads''.Asked, Reads''.Learnt, Reads'3.Asked, Reads'3.Learnt)
+
 abbrev pub Start : Type 0
-Start = Lts.Start (
-  Reads.Asked,
-  Reads.Learnt,
-  Reads'.Asked,
-  Reads'.Learnt,
-  Reads''.Asked,
-  Reads''.Learnt,
-  Reads'3.Asked,
-  Reads'3.Learnt,
-) Reads'4.Pre Reads'4.Post
+Start = Lts.Start callees Reads'4.Pre Reads'4.Post
 
 abbrev pub After-shared-slice-known : Type 0
-After-shared-slice-known = Lts.After-shared-slice-known (
-  Reads.Asked,
-  Reads.Learnt,
-  Reads'.Asked,
-  Reads'.Learnt,
-  Reads''.Asked,
-  Reads''.Learnt,
-  Reads'3.Asked,
-  Reads'3.Learnt,
-) Reads'4.Pre Reads'4.Post
+After-shared-slice-known = Lts.After-shared-slice-known callees Reads'4.Pre Reads'4.Post
 
 abbrev pub After-shared-slice-known2 : Type 0
-After-shared-slice-known2 = Lts.After-shared-slice-known2 (
-  Reads.Asked,
-  Reads.Learnt,
-  Reads'.Asked,
-  Reads'.Learnt,
-  Reads''.Asked,
-  Reads''.Learnt,
-  Reads'3.Asked,
-  Reads'3.Learnt,
-) Reads'4.Pre Reads'4.Post
+After-shared-slice-known2 = Lts.After-shared-slice-known2 callees Reads'4.Pre Reads'4.Post
 
 abbrev pub After-raise-arg : Type 0
-After-raise-arg = Lts.After-raise-arg (
-  Reads.Asked,
-  Reads.Learnt,
-  Reads'.Asked,
-  Reads'.Learnt,
-  Reads''.Asked,
-  Reads''.Learnt,
-  Reads'3.Asked,
-  Reads'3.Learnt,
-) Reads'4.Pre Reads'4.Post
+After-raise-arg = Lts.After-raise-arg callees Reads'4.Pre Reads'4.Post
 
 abbrev pub After-answer-of : Type 0
-After-answer-of = Lts.After-answer-of (
-  Reads.Asked,
-  Reads.Learnt,
-  Reads'.Asked,
-  Reads'.Learnt,
-  Reads''.Asked,
-  Reads''.Learnt,
-  Reads'3.Asked,
-  Reads'3.Learnt,
-) Reads'4.Pre Reads'4.Post
+After-answer-of = Lts.After-answer-of callees Reads'4.Pre Reads'4.Post
 
 abbrev pub After-raise : Type 0
-After-raise = Lts.After-raise (
-  Reads.Asked,
-  Reads.Learnt,
-  Reads'.Asked,
-  Reads'.Learnt,
-  Reads''.Asked,
-  Reads''.Learnt,
-  Reads'3.Asked,
-  Reads'3.Learnt,
-) Reads'4.Pre Reads'4.Post
+After-raise = Lts.After-raise callees Reads'4.Pre Reads'4.Post
 
 abbrev pub After-after : Type 0
-After-after = Lts.After-after (
-  Reads.Asked,
-  Reads.Learnt,
-  Reads'.Asked,
-  Reads'.Learnt,
-  Reads''.Asked,
-  Reads''.Learnt,
-  Reads'3.Asked,
-  Reads'3.Learnt,
-) Reads'4.Pre Reads'4.Post
+After-after = Lts.After-after callees Reads'4.Pre Reads'4.Post
 
 abbrev pub After-print-call : Type 0
-After-print-call = Lts.After-print-call (
-  Reads.Asked,
-  Reads.Learnt,
-  Reads'.Asked,
-  Reads'.Learnt,
-  Reads''.Asked,
-  Reads''.Learnt,
-  Reads'3.Asked,
-  Reads'3.Learnt,
-) Reads'4.Pre Reads'4.Post
+After-print-call = Lts.After-print-call callees Reads'4.Pre Reads'4.Post
 
 abbrev pub Need-answer-of-requires : Type 0
-Need-answer-of-requires = Lts.Need-answer-of-requires (
-  Reads.Asked,
-  Reads.Learnt,
-  Reads'.Asked,
-  Reads'.Learnt,
-  Reads''.Asked,
-  Reads''.Learnt,
-  Reads'3.Asked,
-  Reads'3.Learnt,
-) Reads'4.Pre Reads'4.Post
+Need-answer-of-requires = Lts.Need-answer-of-requires callees Reads'4.Pre Reads'4.Post
 
 abbrev pub Need-raise-requires : Type 0
-Need-raise-requires = Lts.Need-raise-requires (
-  Reads.Asked,
-  Reads.Learnt,
-  Reads'.Asked,
-  Reads'.Learnt,
-  Reads''.Asked,
-  Reads''.Learnt,
-  Reads'3.Asked,
-  Reads'3.Learnt,
-) Reads'4.Pre Reads'4.Post
+Need-raise-requires = Lts.Need-raise-requires callees Reads'4.Pre Reads'4.Post
 
 abbrev pub Need-after-requires : Type 0
-Need-after-requires = Lts.Need-after-requires (
-  Reads.Asked,
-  Reads.Learnt,
-  Reads'.Asked,
-  Reads'.Learnt,
-  Reads''.Asked,
-  Reads''.Learnt,
-  Reads'3.Asked,
-  Reads'3.Learnt,
-) Reads'4.Pre Reads'4.Post
+Need-after-requires = Lts.Need-after-requires callees Reads'4.Pre Reads'4.Post
 
 abbrev pub Need-print-call-requires : Type 0
-Need-print-call-requires = Lts.Need-print-call-requires (
-  Reads.Asked,
-  Reads.Learnt,
-  Reads'.Asked,
-  Reads'.Learnt,
-  Reads''.Asked,
-  Reads''.Learnt,
-  Reads'3.Asked,
-  Reads'3.Learnt,
-) Reads'4.Pre Reads'4.Post
+Need-print-call-requires = Lts.Need-print-call-requires callees Reads'4.Pre Reads'4.Post
 
 abbrev pub Need-returns : Type 0
-Need-returns = Lts.Need-returns (
-  Reads.Asked,
-  Reads.Learnt,
-  Reads'.Asked,
-  Reads'.Learnt,
-  Reads''.Asked,
-  Reads''.Learnt,
-  Reads'3.Asked,
-  Reads'3.Learnt,
-) Reads'4.Pre Reads'4.Post
+Need-returns = Lts.Need-returns callees Reads'4.Pre Reads'4.Post
 
 module _ {M : Type 1} where
   pub spec :
@@ -184,37 +70,10 @@ module _ {M : Type 1} where
       (answer : Need-after-requires) →
       (answer : Need-print-call-requires) →
       (answer : Need-returns) →
-      Lts.Closed (
-        Reads.Asked,
-        Reads.Learnt,
-        Reads'.Asked,
-        Reads'.Learnt,
-        Reads''.Asked,
-        Reads''.Learnt,
-        Reads'3.Asked,
-        Reads'3.Learnt,
-      ) Reads'4.Pre Reads'4.Post M
-  spec = λ answer answer' answer'' answer'3 answer'4. Lts.spec (
-    Reads.Asked,
-    Reads.Learnt,
-    Reads'.Asked,
-    Reads'.Learnt,
-    Reads''.Asked,
-    Reads''.Learnt,
-    Reads'3.Asked,
-    Reads'3.Learnt,
-  ) Reads'4.Pre Reads'4.Post answer answer' answer'' answer'3 answer'4
+      Lts.Closed callees Reads'4.Pre Reads'4.Post M
+  spec = λ answer answer' answer'' answer'3 answer'4. Lts.spec callees Reads'4.Pre Reads'4.Post answer answer' answer'' answer'3 answer'4
 
-  pub close : Lts.Closed (
-    Reads.Asked,
-    Reads.Learnt,
-    Reads'.Asked,
-    Reads'.Learnt,
-    Reads''.Asked,
-    Reads''.Learnt,
-    Reads'3.Asked,
-    Reads'3.Learnt,
-  ) Reads'4.Pre Reads'4.Post M → Statement.statement M
+  pub close : Lts.Closed callees Reads'4.Pre Reads'4.Post M → Statement.statement M
   unfolding Code.routine Running.tablesOf
   close =
       λ closed 𝓤 H 𝓜 𝓖 𝓡. Written.close

@@ -27,741 +27,146 @@ use borrow.Fn.Run
 use borrow.Fn.Written
 use contract.Running
 
+abbrev callees : Lts.Claims
+callees = (Reads''.Asked, Reads''.Learnt, Reads'3.Asked, Reads'3.Learnt, Reads'5.Asked, Reads'5.Learnt, Reads.Asked, Reads.Learnt, Reads'.Asked, Reads'.Learnt, Reads'4.Asked, Reads'4.Learnt)
+
 abbrev pub Start : Type 0
-Start = Lts.Start (
-  Reads''.Asked,
-  Reads''.Learnt,
-  Reads'3.Asked,
-  Reads'3.Learnt,
-  Reads'5.Asked,
-  Reads'5.Learnt,
-  Reads.Asked,
-  Reads.Learnt,
-  Reads'.Asked,
-  Reads'.Learnt,
-  Reads'4.Asked,
-  Reads'4.Learnt,
-) Reads'6.Pre Reads'6.Post
+Start = Lts.Start callees Reads'6.Pre Reads'6.Post
 
 abbrev pub After-slice-known : Type 0
-After-slice-known = Lts.After-slice-known (
-  Reads''.Asked,
-  Reads''.Learnt,
-  Reads'3.Asked,
-  Reads'3.Learnt,
-  Reads'5.Asked,
-  Reads'5.Learnt,
-  Reads.Asked,
-  Reads.Learnt,
-  Reads'.Asked,
-  Reads'.Learnt,
-  Reads'4.Asked,
-  Reads'4.Learnt,
-) Reads'6.Pre Reads'6.Post
+After-slice-known = Lts.After-slice-known callees Reads'6.Pre Reads'6.Post
 
 abbrev pub After-slice-known2 : Type 0
-After-slice-known2 = Lts.After-slice-known2 (
-  Reads''.Asked,
-  Reads''.Learnt,
-  Reads'3.Asked,
-  Reads'3.Learnt,
-  Reads'5.Asked,
-  Reads'5.Learnt,
-  Reads.Asked,
-  Reads.Learnt,
-  Reads'.Asked,
-  Reads'.Learnt,
-  Reads'4.Asked,
-  Reads'4.Learnt,
-) Reads'6.Pre Reads'6.Post
+After-slice-known2 = Lts.After-slice-known2 callees Reads'6.Pre Reads'6.Post
 
 abbrev pub After-shared-slice-known : Type 0
-After-shared-slice-known = Lts.After-shared-slice-known (
-  Reads''.Asked,
-  Reads''.Learnt,
-  Reads'3.Asked,
-  Reads'3.Learnt,
-  Reads'5.Asked,
-  Reads'5.Learnt,
-  Reads.Asked,
-  Reads.Learnt,
-  Reads'.Asked,
-  Reads'.Learnt,
-  Reads'4.Asked,
-  Reads'4.Learnt,
-) Reads'6.Pre Reads'6.Post
+After-shared-slice-known = Lts.After-shared-slice-known callees Reads'6.Pre Reads'6.Post
 
 abbrev pub After-is-call : Type 0
-After-is-call = Lts.After-is-call (
-  Reads''.Asked,
-  Reads''.Learnt,
-  Reads'3.Asked,
-  Reads'3.Learnt,
-  Reads'5.Asked,
-  Reads'5.Learnt,
-  Reads.Asked,
-  Reads.Learnt,
-  Reads'.Asked,
-  Reads'.Learnt,
-  Reads'4.Asked,
-  Reads'4.Learnt,
-) Reads'6.Pre Reads'6.Post
+After-is-call = Lts.After-is-call callees Reads'6.Pre Reads'6.Post
 
 abbrev pub Then1 : Type 0
-Then1 = Lts.Then1 (
-  Reads''.Asked,
-  Reads''.Learnt,
-  Reads'3.Asked,
-  Reads'3.Learnt,
-  Reads'5.Asked,
-  Reads'5.Learnt,
-  Reads.Asked,
-  Reads.Learnt,
-  Reads'.Asked,
-  Reads'.Learnt,
-  Reads'4.Asked,
-  Reads'4.Learnt,
-) Reads'6.Pre Reads'6.Post
+Then1 = Lts.Then1 callees Reads'6.Pre Reads'6.Post
 
 abbrev pub After-call-arg : Type 0
-After-call-arg = Lts.After-call-arg (
-  Reads''.Asked,
-  Reads''.Learnt,
-  Reads'3.Asked,
-  Reads'3.Learnt,
-  Reads'5.Asked,
-  Reads'5.Learnt,
-  Reads.Asked,
-  Reads.Learnt,
-  Reads'.Asked,
-  Reads'.Learnt,
-  Reads'4.Asked,
-  Reads'4.Learnt,
-) Reads'6.Pre Reads'6.Post
+After-call-arg = Lts.After-call-arg callees Reads'6.Pre Reads'6.Post
 
 abbrev pub After-call-arg2 : Type 0
-After-call-arg2 = Lts.After-call-arg2 (
-  Reads''.Asked,
-  Reads''.Learnt,
-  Reads'3.Asked,
-  Reads'3.Learnt,
-  Reads'5.Asked,
-  Reads'5.Learnt,
-  Reads.Asked,
-  Reads.Learnt,
-  Reads'.Asked,
-  Reads'.Learnt,
-  Reads'4.Asked,
-  Reads'4.Learnt,
-) Reads'6.Pre Reads'6.Post
+After-call-arg2 = Lts.After-call-arg2 callees Reads'6.Pre Reads'6.Post
 
 abbrev pub After-call-arg3 : Type 0
-After-call-arg3 = Lts.After-call-arg3 (
-  Reads''.Asked,
-  Reads''.Learnt,
-  Reads'3.Asked,
-  Reads'3.Learnt,
-  Reads'5.Asked,
-  Reads'5.Learnt,
-  Reads.Asked,
-  Reads.Learnt,
-  Reads'.Asked,
-  Reads'.Learnt,
-  Reads'4.Asked,
-  Reads'4.Learnt,
-) Reads'6.Pre Reads'6.Post
+After-call-arg3 = Lts.After-call-arg3 callees Reads'6.Pre Reads'6.Post
 
 abbrev pub After-call-arg4 : Type 0
-After-call-arg4 = Lts.After-call-arg4 (
-  Reads''.Asked,
-  Reads''.Learnt,
-  Reads'3.Asked,
-  Reads'3.Learnt,
-  Reads'5.Asked,
-  Reads'5.Learnt,
-  Reads.Asked,
-  Reads.Learnt,
-  Reads'.Asked,
-  Reads'.Learnt,
-  Reads'4.Asked,
-  Reads'4.Learnt,
-) Reads'6.Pre Reads'6.Post
+After-call-arg4 = Lts.After-call-arg4 callees Reads'6.Pre Reads'6.Post
 
 abbrev pub After-call : Type 0
-After-call = Lts.After-call (
-  Reads''.Asked,
-  Reads''.Learnt,
-  Reads'3.Asked,
-  Reads'3.Learnt,
-  Reads'5.Asked,
-  Reads'5.Learnt,
-  Reads.Asked,
-  Reads.Learnt,
-  Reads'.Asked,
-  Reads'.Learnt,
-  Reads'4.Asked,
-  Reads'4.Learnt,
-) Reads'6.Pre Reads'6.Post
+After-call = Lts.After-call callees Reads'6.Pre Reads'6.Post
 
 abbrev pub After-instances : Type 0
-After-instances = Lts.After-instances (
-  Reads''.Asked,
-  Reads''.Learnt,
-  Reads'3.Asked,
-  Reads'3.Learnt,
-  Reads'5.Asked,
-  Reads'5.Learnt,
-  Reads.Asked,
-  Reads.Learnt,
-  Reads'.Asked,
-  Reads'.Learnt,
-  Reads'4.Asked,
-  Reads'4.Learnt,
-) Reads'6.Pre Reads'6.Post
+After-instances = Lts.After-instances callees Reads'6.Pre Reads'6.Post
 
 abbrev pub After-routes : Type 0
-After-routes = Lts.After-routes (
-  Reads''.Asked,
-  Reads''.Learnt,
-  Reads'3.Asked,
-  Reads'3.Learnt,
-  Reads'5.Asked,
-  Reads'5.Learnt,
-  Reads.Asked,
-  Reads.Learnt,
-  Reads'.Asked,
-  Reads'.Learnt,
-  Reads'4.Asked,
-  Reads'4.Learnt,
-) Reads'6.Pre Reads'6.Post
+After-routes = Lts.After-routes callees Reads'6.Pre Reads'6.Post
 
 abbrev pub After-forward : Type 0
-After-forward = Lts.After-forward (
-  Reads''.Asked,
-  Reads''.Learnt,
-  Reads'3.Asked,
-  Reads'3.Learnt,
-  Reads'5.Asked,
-  Reads'5.Learnt,
-  Reads.Asked,
-  Reads.Learnt,
-  Reads'.Asked,
-  Reads'.Learnt,
-  Reads'4.Asked,
-  Reads'4.Learnt,
-) Reads'6.Pre Reads'6.Post
+After-forward = Lts.After-forward callees Reads'6.Pre Reads'6.Post
 
 abbrev pub After-slice-known3 : Type 0
-After-slice-known3 = Lts.After-slice-known3 (
-  Reads''.Asked,
-  Reads''.Learnt,
-  Reads'3.Asked,
-  Reads'3.Learnt,
-  Reads'5.Asked,
-  Reads'5.Learnt,
-  Reads.Asked,
-  Reads.Learnt,
-  Reads'.Asked,
-  Reads'.Learnt,
-  Reads'4.Asked,
-  Reads'4.Learnt,
-) Reads'6.Pre Reads'6.Post
+After-slice-known3 = Lts.After-slice-known3 callees Reads'6.Pre Reads'6.Post
 
 abbrev pub After-reply : Type 0
-After-reply = Lts.After-reply (
-  Reads''.Asked,
-  Reads''.Learnt,
-  Reads'3.Asked,
-  Reads'3.Learnt,
-  Reads'5.Asked,
-  Reads'5.Learnt,
-  Reads.Asked,
-  Reads.Learnt,
-  Reads'.Asked,
-  Reads'.Learnt,
-  Reads'4.Asked,
-  Reads'4.Learnt,
-) Reads'6.Pre Reads'6.Post
+After-reply = Lts.After-reply callees Reads'6.Pre Reads'6.Post
 
 abbrev pub After-slice-known4 : Type 0
-After-slice-known4 = Lts.After-slice-known4 (
-  Reads''.Asked,
-  Reads''.Learnt,
-  Reads'3.Asked,
-  Reads'3.Learnt,
-  Reads'5.Asked,
-  Reads'5.Learnt,
-  Reads.Asked,
-  Reads.Learnt,
-  Reads'.Asked,
-  Reads'.Learnt,
-  Reads'4.Asked,
-  Reads'4.Learnt,
-) Reads'6.Pre Reads'6.Post
+After-slice-known4 = Lts.After-slice-known4 callees Reads'6.Pre Reads'6.Post
 
 abbrev pub After-tell-arg : Type 0
-After-tell-arg = Lts.After-tell-arg (
-  Reads''.Asked,
-  Reads''.Learnt,
-  Reads'3.Asked,
-  Reads'3.Learnt,
-  Reads'5.Asked,
-  Reads'5.Learnt,
-  Reads.Asked,
-  Reads.Learnt,
-  Reads'.Asked,
-  Reads'.Learnt,
-  Reads'4.Asked,
-  Reads'4.Learnt,
-) Reads'6.Pre Reads'6.Post
+After-tell-arg = Lts.After-tell-arg callees Reads'6.Pre Reads'6.Post
 
 abbrev pub After-tell-arg2 : Type 0
-After-tell-arg2 = Lts.After-tell-arg2 (
-  Reads''.Asked,
-  Reads''.Learnt,
-  Reads'3.Asked,
-  Reads'3.Learnt,
-  Reads'5.Asked,
-  Reads'5.Learnt,
-  Reads.Asked,
-  Reads.Learnt,
-  Reads'.Asked,
-  Reads'.Learnt,
-  Reads'4.Asked,
-  Reads'4.Learnt,
-) Reads'6.Pre Reads'6.Post
+After-tell-arg2 = Lts.After-tell-arg2 callees Reads'6.Pre Reads'6.Post
 
 abbrev pub After-tell-arg3 : Type 0
-After-tell-arg3 = Lts.After-tell-arg3 (
-  Reads''.Asked,
-  Reads''.Learnt,
-  Reads'3.Asked,
-  Reads'3.Learnt,
-  Reads'5.Asked,
-  Reads'5.Learnt,
-  Reads.Asked,
-  Reads.Learnt,
-  Reads'.Asked,
-  Reads'.Learnt,
-  Reads'4.Asked,
-  Reads'4.Learnt,
-) Reads'6.Pre Reads'6.Post
+After-tell-arg3 = Lts.After-tell-arg3 callees Reads'6.Pre Reads'6.Post
 
 abbrev pub After-tell-arg4 : Type 0
-After-tell-arg4 = Lts.After-tell-arg4 (
-  Reads''.Asked,
-  Reads''.Learnt,
-  Reads'3.Asked,
-  Reads'3.Learnt,
-  Reads'5.Asked,
-  Reads'5.Learnt,
-  Reads.Asked,
-  Reads.Learnt,
-  Reads'.Asked,
-  Reads'.Learnt,
-  Reads'4.Asked,
-  Reads'4.Learnt,
-) Reads'6.Pre Reads'6.Post
+After-tell-arg4 = Lts.After-tell-arg4 callees Reads'6.Pre Reads'6.Post
 
 abbrev pub After-tell-arg5 : Type 0
-After-tell-arg5 = Lts.After-tell-arg5 (
-  Reads''.Asked,
-  Reads''.Learnt,
-  Reads'3.Asked,
-  Reads'3.Learnt,
-  Reads'5.Asked,
-  Reads'5.Learnt,
-  Reads.Asked,
-  Reads.Learnt,
-  Reads'.Asked,
-  Reads'.Learnt,
-  Reads'4.Asked,
-  Reads'4.Learnt,
-) Reads'6.Pre Reads'6.Post
+After-tell-arg5 = Lts.After-tell-arg5 callees Reads'6.Pre Reads'6.Post
 
 abbrev pub After-tell : Type 0
-After-tell = Lts.After-tell (
-  Reads''.Asked,
-  Reads''.Learnt,
-  Reads'3.Asked,
-  Reads'3.Learnt,
-  Reads'5.Asked,
-  Reads'5.Learnt,
-  Reads.Asked,
-  Reads.Learnt,
-  Reads'.Asked,
-  Reads'.Learnt,
-  Reads'4.Asked,
-  Reads'4.Learnt,
-) Reads'6.Pre Reads'6.Post
+After-tell = Lts.After-tell callees Reads'6.Pre Reads'6.Post
 
 abbrev pub Else1 : Type 0
-Else1 = Lts.Else1 (
-  Reads''.Asked,
-  Reads''.Learnt,
-  Reads'3.Asked,
-  Reads'3.Learnt,
-  Reads'5.Asked,
-  Reads'5.Learnt,
-  Reads.Asked,
-  Reads.Learnt,
-  Reads'.Asked,
-  Reads'.Learnt,
-  Reads'4.Asked,
-  Reads'4.Learnt,
-) Reads'6.Pre Reads'6.Post
+Else1 = Lts.Else1 callees Reads'6.Pre Reads'6.Post
 
 abbrev pub After-hand-in-arg : Type 0
-After-hand-in-arg = Lts.After-hand-in-arg (
-  Reads''.Asked,
-  Reads''.Learnt,
-  Reads'3.Asked,
-  Reads'3.Learnt,
-  Reads'5.Asked,
-  Reads'5.Learnt,
-  Reads.Asked,
-  Reads.Learnt,
-  Reads'.Asked,
-  Reads'.Learnt,
-  Reads'4.Asked,
-  Reads'4.Learnt,
-) Reads'6.Pre Reads'6.Post
+After-hand-in-arg = Lts.After-hand-in-arg callees Reads'6.Pre Reads'6.Post
 
 abbrev pub After-hand-in-arg2 : Type 0
-After-hand-in-arg2 = Lts.After-hand-in-arg2 (
-  Reads''.Asked,
-  Reads''.Learnt,
-  Reads'3.Asked,
-  Reads'3.Learnt,
-  Reads'5.Asked,
-  Reads'5.Learnt,
-  Reads.Asked,
-  Reads.Learnt,
-  Reads'.Asked,
-  Reads'.Learnt,
-  Reads'4.Asked,
-  Reads'4.Learnt,
-) Reads'6.Pre Reads'6.Post
+After-hand-in-arg2 = Lts.After-hand-in-arg2 callees Reads'6.Pre Reads'6.Post
 
 abbrev pub After-hand-in : Type 0
-After-hand-in = Lts.After-hand-in (
-  Reads''.Asked,
-  Reads''.Learnt,
-  Reads'3.Asked,
-  Reads'3.Learnt,
-  Reads'5.Asked,
-  Reads'5.Learnt,
-  Reads.Asked,
-  Reads.Learnt,
-  Reads'.Asked,
-  Reads'.Learnt,
-  Reads'4.Asked,
-  Reads'4.Learnt,
-) Reads'6.Pre Reads'6.Post
+After-hand-in = Lts.After-hand-in callees Reads'6.Pre Reads'6.Post
 
 abbrev pub After-instances2 : Type 0
-After-instances2 = Lts.After-instances2 (
-  Reads''.Asked,
-  Reads''.Learnt,
-  Reads'3.Asked,
-  Reads'3.Learnt,
-  Reads'5.Asked,
-  Reads'5.Learnt,
-  Reads.Asked,
-  Reads.Learnt,
-  Reads'.Asked,
-  Reads'.Learnt,
-  Reads'4.Asked,
-  Reads'4.Learnt,
-) Reads'6.Pre Reads'6.Post
+After-instances2 = Lts.After-instances2 callees Reads'6.Pre Reads'6.Post
 
 abbrev pub After-routes2 : Type 0
-After-routes2 = Lts.After-routes2 (
-  Reads''.Asked,
-  Reads''.Learnt,
-  Reads'3.Asked,
-  Reads'3.Learnt,
-  Reads'5.Asked,
-  Reads'5.Learnt,
-  Reads.Asked,
-  Reads.Learnt,
-  Reads'.Asked,
-  Reads'.Learnt,
-  Reads'4.Asked,
-  Reads'4.Learnt,
-) Reads'6.Pre Reads'6.Post
+After-routes2 = Lts.After-routes2 callees Reads'6.Pre Reads'6.Post
 
 abbrev pub After-hand-in-count-arg : Type 0
-After-hand-in-count-arg = Lts.After-hand-in-count-arg (
-  Reads''.Asked,
-  Reads''.Learnt,
-  Reads'3.Asked,
-  Reads'3.Learnt,
-  Reads'5.Asked,
-  Reads'5.Learnt,
-  Reads.Asked,
-  Reads.Learnt,
-  Reads'.Asked,
-  Reads'.Learnt,
-  Reads'4.Asked,
-  Reads'4.Learnt,
-) Reads'6.Pre Reads'6.Post
+After-hand-in-count-arg = Lts.After-hand-in-count-arg callees Reads'6.Pre Reads'6.Post
 
 abbrev pub After-hand-in-count : Type 0
-After-hand-in-count = Lts.After-hand-in-count (
-  Reads''.Asked,
-  Reads''.Learnt,
-  Reads'3.Asked,
-  Reads'3.Learnt,
-  Reads'5.Asked,
-  Reads'5.Learnt,
-  Reads.Asked,
-  Reads.Learnt,
-  Reads'.Asked,
-  Reads'.Learnt,
-  Reads'4.Asked,
-  Reads'4.Learnt,
-) Reads'6.Pre Reads'6.Post
+After-hand-in-count = Lts.After-hand-in-count callees Reads'6.Pre Reads'6.Post
 
 abbrev pub After-handed : Type 0
-After-handed = Lts.After-handed (
-  Reads''.Asked,
-  Reads''.Learnt,
-  Reads'3.Asked,
-  Reads'3.Learnt,
-  Reads'5.Asked,
-  Reads'5.Learnt,
-  Reads.Asked,
-  Reads.Learnt,
-  Reads'.Asked,
-  Reads'.Learnt,
-  Reads'4.Asked,
-  Reads'4.Learnt,
-) Reads'6.Pre Reads'6.Post
+After-handed = Lts.After-handed callees Reads'6.Pre Reads'6.Post
 
 abbrev pub Need-is-call-requires : Type 0
-Need-is-call-requires = Lts.Need-is-call-requires (
-  Reads''.Asked,
-  Reads''.Learnt,
-  Reads'3.Asked,
-  Reads'3.Learnt,
-  Reads'5.Asked,
-  Reads'5.Learnt,
-  Reads.Asked,
-  Reads.Learnt,
-  Reads'.Asked,
-  Reads'.Learnt,
-  Reads'4.Asked,
-  Reads'4.Learnt,
-) Reads'6.Pre Reads'6.Post
+Need-is-call-requires = Lts.Need-is-call-requires callees Reads'6.Pre Reads'6.Post
 
 abbrev pub Need-call-requires : Type 0
-Need-call-requires = Lts.Need-call-requires (
-  Reads''.Asked,
-  Reads''.Learnt,
-  Reads'3.Asked,
-  Reads'3.Learnt,
-  Reads'5.Asked,
-  Reads'5.Learnt,
-  Reads.Asked,
-  Reads.Learnt,
-  Reads'.Asked,
-  Reads'.Learnt,
-  Reads'4.Asked,
-  Reads'4.Learnt,
-) Reads'6.Pre Reads'6.Post
+Need-call-requires = Lts.Need-call-requires callees Reads'6.Pre Reads'6.Post
 
 abbrev pub Need-tell-requires : Type 0
-Need-tell-requires = Lts.Need-tell-requires (
-  Reads''.Asked,
-  Reads''.Learnt,
-  Reads'3.Asked,
-  Reads'3.Learnt,
-  Reads'5.Asked,
-  Reads'5.Learnt,
-  Reads.Asked,
-  Reads.Learnt,
-  Reads'.Asked,
-  Reads'.Learnt,
-  Reads'4.Asked,
-  Reads'4.Learnt,
-) Reads'6.Pre Reads'6.Post
+Need-tell-requires = Lts.Need-tell-requires callees Reads'6.Pre Reads'6.Post
 
 abbrev pub Need-same-length : Type 0
-Need-same-length = Lts.Need-same-length (
-  Reads''.Asked,
-  Reads''.Learnt,
-  Reads'3.Asked,
-  Reads'3.Learnt,
-  Reads'5.Asked,
-  Reads'5.Learnt,
-  Reads.Asked,
-  Reads.Learnt,
-  Reads'.Asked,
-  Reads'.Learnt,
-  Reads'4.Asked,
-  Reads'4.Learnt,
-) Reads'6.Pre Reads'6.Post
+Need-same-length = Lts.Need-same-length callees Reads'6.Pre Reads'6.Post
 
 abbrev pub Need-same-length-2 : Type 0
-Need-same-length-2 = Lts.Need-same-length-2 (
-  Reads''.Asked,
-  Reads''.Learnt,
-  Reads'3.Asked,
-  Reads'3.Learnt,
-  Reads'5.Asked,
-  Reads'5.Learnt,
-  Reads.Asked,
-  Reads.Learnt,
-  Reads'.Asked,
-  Reads'.Learnt,
-  Reads'4.Asked,
-  Reads'4.Learnt,
-) Reads'6.Pre Reads'6.Post
+Need-same-length-2 = Lts.Need-same-length-2 callees Reads'6.Pre Reads'6.Post
 
 abbrev pub Need-same-length-3 : Type 0
-Need-same-length-3 = Lts.Need-same-length-3 (
-  Reads''.Asked,
-  Reads''.Learnt,
-  Reads'3.Asked,
-  Reads'3.Learnt,
-  Reads'5.Asked,
-  Reads'5.Learnt,
-  Reads.Asked,
-  Reads.Learnt,
-  Reads'.Asked,
-  Reads'.Learnt,
-  Reads'4.Asked,
-  Reads'4.Learnt,
-) Reads'6.Pre Reads'6.Post
+Need-same-length-3 = Lts.Need-same-length-3 callees Reads'6.Pre Reads'6.Post
 
 abbrev pub Need-same-length-4 : Type 0
-Need-same-length-4 = Lts.Need-same-length-4 (
-  Reads''.Asked,
-  Reads''.Learnt,
-  Reads'3.Asked,
-  Reads'3.Learnt,
-  Reads'5.Asked,
-  Reads'5.Learnt,
-  Reads.Asked,
-  Reads.Learnt,
-  Reads'.Asked,
-  Reads'.Learnt,
-  Reads'4.Asked,
-  Reads'4.Learnt,
-) Reads'6.Pre Reads'6.Post
+Need-same-length-4 = Lts.Need-same-length-4 callees Reads'6.Pre Reads'6.Post
 
 abbrev pub Need-returns : Type 0
-Need-returns = Lts.Need-returns (
-  Reads''.Asked,
-  Reads''.Learnt,
-  Reads'3.Asked,
-  Reads'3.Learnt,
-  Reads'5.Asked,
-  Reads'5.Learnt,
-  Reads.Asked,
-  Reads.Learnt,
-  Reads'.Asked,
-  Reads'.Learnt,
-  Reads'4.Asked,
-  Reads'4.Learnt,
-) Reads'6.Pre Reads'6.Post
+Need-returns = Lts.Need-returns callees Reads'6.Pre Reads'6.Post
 
 abbrev pub Need-hand-in-requires : Type 0
-Need-hand-in-requires = Lts.Need-hand-in-requires (
-  Reads''.Asked,
-  Reads''.Learnt,
-  Reads'3.Asked,
-  Reads'3.Learnt,
-  Reads'5.Asked,
-  Reads'5.Learnt,
-  Reads.Asked,
-  Reads.Learnt,
-  Reads'.Asked,
-  Reads'.Learnt,
-  Reads'4.Asked,
-  Reads'4.Learnt,
-) Reads'6.Pre Reads'6.Post
+Need-hand-in-requires = Lts.Need-hand-in-requires callees Reads'6.Pre Reads'6.Post
 
 abbrev pub Need-hand-in-count-requires : Type 0
-Need-hand-in-count-requires = Lts.Need-hand-in-count-requires (
-  Reads''.Asked,
-  Reads''.Learnt,
-  Reads'3.Asked,
-  Reads'3.Learnt,
-  Reads'5.Asked,
-  Reads'5.Learnt,
-  Reads.Asked,
-  Reads.Learnt,
-  Reads'.Asked,
-  Reads'.Learnt,
-  Reads'4.Asked,
-  Reads'4.Learnt,
-) Reads'6.Pre Reads'6.Post
+Need-hand-in-count-requires = Lts.Need-hand-in-count-requires callees Reads'6.Pre Reads'6.Post
 
 abbrev pub Need-handed-requires : Type 0
-Need-handed-requires = Lts.Need-handed-requires (
-  Reads''.Asked,
-  Reads''.Learnt,
-  Reads'3.Asked,
-  Reads'3.Learnt,
-  Reads'5.Asked,
-  Reads'5.Learnt,
-  Reads.Asked,
-  Reads.Learnt,
-  Reads'.Asked,
-  Reads'.Learnt,
-  Reads'4.Asked,
-  Reads'4.Learnt,
-) Reads'6.Pre Reads'6.Post
+Need-handed-requires = Lts.Need-handed-requires callees Reads'6.Pre Reads'6.Post
 
 abbrev pub Need-same-length-5 : Type 0
-Need-same-length-5 = Lts.Need-same-length-5 (
-  Reads''.Asked,
-  Reads''.Learnt,
-  Reads'3.Asked,
-  Reads'3.Learnt,
-  Reads'5.Asked,
-  Reads'5.Learnt,
-  Reads.Asked,
-  Reads.Learnt,
-  Reads'.Asked,
-  Reads'.Learnt,
-  Reads'4.Asked,
-  Reads'4.Learnt,
-) Reads'6.Pre Reads'6.Post
+Need-same-length-5 = Lts.Need-same-length-5 callees Reads'6.Pre Reads'6.Post
 
 abbrev pub Need-same-length-6 : Type 0
-Need-same-length-6 = Lts.Need-same-length-6 (
-  Reads''.Asked,
-  Reads''.Learnt,
-  Reads'3.Asked,
-  Reads'3.Learnt,
-  Reads'5.Asked,
-  Reads'5.Learnt,
-  Reads.Asked,
-  Reads.Learnt,
-  Reads'.Asked,
-  Reads'.Learnt,
-  Reads'4.Asked,
-  Reads'4.Learnt,
-) Reads'6.Pre Reads'6.Post
+Need-same-length-6 = Lts.Need-same-length-6 callees Reads'6.Pre Reads'6.Post
 
 abbrev pub Need-returns-2 : Type 0
-Need-returns-2 = Lts.Need-returns-2 (
-  Reads''.Asked,
-  Reads''.Learnt,
-  Reads'3.Asked,
-  Reads'3.Learnt,
-  Reads'5.Asked,
-  Reads'5.Learnt,
-  Reads.Asked,
-  Reads.Learnt,
-  Reads'.Asked,
-  Reads'.Learnt,
-  Reads'4.Asked,
-  Reads'4.Learnt,
-) Reads'6.Pre Reads'6.Post
+Need-returns-2 = Lts.Need-returns-2 callees Reads'6.Pre Reads'6.Post
 
 module _ {M : Type 1} where
   pub spec :
@@ -779,36 +184,10 @@ module _ {M : Type 1} where
       (answer : Need-same-length-5) →
       (answer : Need-same-length-6) →
       (answer : Need-returns-2) →
-      Lts.Closed (
-        Reads''.Asked,
-        Reads''.Learnt,
-        Reads'3.Asked,
-        Reads'3.Learnt,
-        Reads'5.Asked,
-        Reads'5.Learnt,
-        Reads.Asked,
-        Reads.Learnt,
-        Reads'.Asked,
-        Reads'.Learnt,
-        Reads'4.Asked,
-        Reads'4.Learnt,
-      ) Reads'6.Pre Reads'6.Post M
+      Lts.Closed callees Reads'6.Pre Reads'6.Post M
   spec =
       λ answer answer' answer'' answer'3 answer'4 answer'5 answer'6 answer'7 answer'8 answer'9
-      answer'10 answer'11 answer'12 answer'13. Lts.spec (
-        Reads''.Asked,
-        Reads''.Learnt,
-        Reads'3.Asked,
-        Reads'3.Learnt,
-        Reads'5.Asked,
-        Reads'5.Learnt,
-        Reads.Asked,
-        Reads.Learnt,
-        Reads'.Asked,
-        Reads'.Learnt,
-        Reads'4.Asked,
-        Reads'4.Learnt,
-      )
+      answer'10 answer'11 answer'12 answer'13. Lts.spec callees
       Reads'6.Pre
       Reads'6.Post
       answer
@@ -826,20 +205,7 @@ module _ {M : Type 1} where
       answer'12
       answer'13
 
-  pub close : Lts.Closed (
-    Reads''.Asked,
-    Reads''.Learnt,
-    Reads'3.Asked,
-    Reads'3.Learnt,
-    Reads'5.Asked,
-    Reads'5.Learnt,
-    Reads.Asked,
-    Reads.Learnt,
-    Reads'.Asked,
-    Reads'.Learnt,
-    Reads'4.Asked,
-    Reads'4.Learnt,
-  ) Reads'6.Pre Reads'6.Post M → Statement.statement M
+  pub close : Lts.Closed callees Reads'6.Pre Reads'6.Post M → Statement.statement M
   unfolding Code.routine Running.tablesOf
   close =
       λ closed 𝓤 H 𝓜 𝓖 𝓡. Written.close

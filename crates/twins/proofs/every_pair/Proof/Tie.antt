@@ -15,6 +15,9 @@ use borrow.Fn.Run
 use borrow.Fn.Written
 use contract.Running
 
+abbrev callees : Lts.Claims
+callees = (Reads'.Asked, Reads'.Learnt, Reads''.Asked, Reads''.Learnt)
+
 abbrev pub InvT-loop : Type 1
 InvT-loop = Lts.InvT-loop
 
@@ -24,7 +27,7 @@ MeasureT-loop = Lts.MeasureT-loop
 abbrev pub Start : (Inv : InvT-loop) → (μ : MeasureT-loop) → Type 0
 Start =
     λ Inv μ. Lts.Start
-    (Reads'.Asked, Reads'.Learnt, Reads''.Asked, Reads''.Learnt)
+    callees
     Reads.Pre
     Reads.Post
     Inv
@@ -33,7 +36,7 @@ Start =
 abbrev pub At-loop : (Inv : InvT-loop) → (μ : MeasureT-loop) → Type 0
 At-loop =
     λ Inv μ. Lts.At-loop
-    (Reads'.Asked, Reads'.Learnt, Reads''.Asked, Reads''.Learnt)
+    callees
     Reads.Pre
     Reads.Post
     Inv
@@ -42,7 +45,7 @@ At-loop =
 abbrev pub In-loop : (Inv : InvT-loop) → (μ : MeasureT-loop) → Type 0
 In-loop =
     λ Inv μ. Lts.In-loop
-    (Reads'.Asked, Reads'.Learnt, Reads''.Asked, Reads''.Learnt)
+    callees
     Reads.Pre
     Reads.Post
     Inv
@@ -51,24 +54,19 @@ In-loop =
 abbrev pub After-loop : (Inv : InvT-loop) → (μ : MeasureT-loop) → Type 0
 After-loop =
     λ Inv μ. Lts.After-loop
-    (Reads'.Asked, Reads'.Learnt, Reads''.Asked, Reads''.Learnt)
+    callees
     Reads.Pre
     Reads.Post
     Inv
     μ
 
 abbrev pub After-has-ending : (Inv : InvT-loop) → (μ : MeasureT-loop) → Type 0
-After-has-ending = λ Inv μ. Lts.After-has-ending (
-  Reads'.Asked,
-  Reads'.Learnt,
-  Reads''.Asked,
-  Reads''.Learnt,
-) Reads.Pre Reads.Post Inv μ
+After-has-ending = λ Inv μ. Lts.After-has-ending callees Reads.Pre Reads.Post Inv μ
 
 abbrev pub Then1 : (Inv : InvT-loop) → (μ : MeasureT-loop) → Type 0
 Then1 =
     λ Inv μ. Lts.Then1
-    (Reads'.Asked, Reads'.Learnt, Reads''.Asked, Reads''.Learnt)
+    callees
     Reads.Pre
     Reads.Post
     Inv
@@ -77,7 +75,7 @@ Then1 =
 abbrev pub After-scan : (Inv : InvT-loop) → (μ : MeasureT-loop) → Type 0
 After-scan =
     λ Inv μ. Lts.After-scan
-    (Reads'.Asked, Reads'.Learnt, Reads''.Asked, Reads''.Learnt)
+    callees
     Reads.Pre
     Reads.Post
     Inv
@@ -86,7 +84,7 @@ After-scan =
 abbrev pub Then2 : (Inv : InvT-loop) → (μ : MeasureT-loop) → Type 0
 Then2 =
     λ Inv μ. Lts.Then2
-    (Reads'.Asked, Reads'.Learnt, Reads''.Asked, Reads''.Learnt)
+    callees
     Reads.Pre
     Reads.Post
     Inv
@@ -95,7 +93,7 @@ Then2 =
 abbrev pub Else2 : (Inv : InvT-loop) → (μ : MeasureT-loop) → Type 0
 Else2 =
     λ Inv μ. Lts.Else2
-    (Reads'.Asked, Reads'.Learnt, Reads''.Asked, Reads''.Learnt)
+    callees
     Reads.Pre
     Reads.Post
     Inv
@@ -104,7 +102,7 @@ Else2 =
 abbrev pub Else1 : (Inv : InvT-loop) → (μ : MeasureT-loop) → Type 0
 Else1 =
     λ Inv μ. Lts.Else1
-    (Reads'.Asked, Reads'.Learnt, Reads''.Asked, Reads''.Learnt)
+    callees
     Reads.Pre
     Reads.Post
     Inv
@@ -113,76 +111,41 @@ Else1 =
 abbrev pub Joined1 : (Inv : InvT-loop) → (μ : MeasureT-loop) → Type 0
 Joined1 =
     λ Inv μ. Lts.Joined1
-    (Reads'.Asked, Reads'.Learnt, Reads''.Asked, Reads''.Learnt)
+    callees
     Reads.Pre
     Reads.Post
     Inv
     μ
 
 abbrev pub Need-loop-holds : (Inv : InvT-loop) → (μ : MeasureT-loop) → Type 0
-Need-loop-holds = λ Inv μ. Lts.Need-loop-holds (
-  Reads'.Asked,
-  Reads'.Learnt,
-  Reads''.Asked,
-  Reads''.Learnt,
-) Reads.Pre Reads.Post Inv μ
+Need-loop-holds = λ Inv μ. Lts.Need-loop-holds callees Reads.Pre Reads.Post Inv μ
 
 abbrev pub Need-has-ending-requires : (Inv : InvT-loop) → (μ : MeasureT-loop) → Type 0
-Need-has-ending-requires = λ Inv μ. Lts.Need-has-ending-requires (
-  Reads'.Asked,
-  Reads'.Learnt,
-  Reads''.Asked,
-  Reads''.Learnt,
-) Reads.Pre Reads.Post Inv μ
+Need-has-ending-requires = λ Inv μ. Lts.Need-has-ending-requires callees Reads.Pre Reads.Post Inv μ
 
 abbrev pub Need-scan-requires : (Inv : InvT-loop) → (μ : MeasureT-loop) → Type 0
-Need-scan-requires = λ Inv μ. Lts.Need-scan-requires (
-  Reads'.Asked,
-  Reads'.Learnt,
-  Reads''.Asked,
-  Reads''.Learnt,
-) Reads.Pre Reads.Post Inv μ
+Need-scan-requires = λ Inv μ. Lts.Need-scan-requires callees Reads.Pre Reads.Post Inv μ
 
 abbrev pub Need-returns : (Inv : InvT-loop) → (μ : MeasureT-loop) → Type 0
-Need-returns = λ Inv μ. Lts.Need-returns (
-  Reads'.Asked,
-  Reads'.Learnt,
-  Reads''.Asked,
-  Reads''.Learnt,
-) Reads.Pre Reads.Post Inv μ
+Need-returns = λ Inv μ. Lts.Need-returns callees Reads.Pre Reads.Post Inv μ
 
 abbrev pub Need-add-j : (Inv : InvT-loop) → (μ : MeasureT-loop) → Type 0
 Need-add-j =
     λ Inv μ. Lts.Need-add-j
-    (Reads'.Asked, Reads'.Learnt, Reads''.Asked, Reads''.Learnt)
+    callees
     Reads.Pre
     Reads.Post
     Inv
     μ
 
 abbrev pub Need-loop-less : (Inv : InvT-loop) → (μ : MeasureT-loop) → Type 0
-Need-loop-less = λ Inv μ. Lts.Need-loop-less (
-  Reads'.Asked,
-  Reads'.Learnt,
-  Reads''.Asked,
-  Reads''.Learnt,
-) Reads.Pre Reads.Post Inv μ
+Need-loop-less = λ Inv μ. Lts.Need-loop-less callees Reads.Pre Reads.Post Inv μ
 
 abbrev pub Need-loop-again : (Inv : InvT-loop) → (μ : MeasureT-loop) → Type 0
-Need-loop-again = λ Inv μ. Lts.Need-loop-again (
-  Reads'.Asked,
-  Reads'.Learnt,
-  Reads''.Asked,
-  Reads''.Learnt,
-) Reads.Pre Reads.Post Inv μ
+Need-loop-again = λ Inv μ. Lts.Need-loop-again callees Reads.Pre Reads.Post Inv μ
 
 abbrev pub Need-returns-2 : (Inv : InvT-loop) → (μ : MeasureT-loop) → Type 0
-Need-returns-2 = λ Inv μ. Lts.Need-returns-2 (
-  Reads'.Asked,
-  Reads'.Learnt,
-  Reads''.Asked,
-  Reads''.Learnt,
-) Reads.Pre Reads.Post Inv μ
+Need-returns-2 = λ Inv μ. Lts.Need-returns-2 callees Reads.Pre Reads.Post Inv μ
 
 module _ {M : Type 1} where
   pub spec :
@@ -197,20 +160,15 @@ module _ {M : Type 1} where
       (answer : Need-loop-again Inv μ) →
       (answer : Need-returns-2 Inv μ) →
       Lts.Closed
-      (Reads'.Asked, Reads'.Learnt, Reads''.Asked, Reads''.Learnt)
+      callees
       Reads.Pre
       Reads.Post
       M
-  spec = λ Inv μ answer answer' answer'' answer'3 answer'4 answer'5 answer'6 answer'7. Lts.spec (
-    Reads'.Asked,
-    Reads'.Learnt,
-    Reads''.Asked,
-    Reads''.Learnt,
-  ) Reads.Pre Reads.Post Inv μ answer answer' answer'' answer'3 answer'4 answer'5 answer'6 answer'7
+  spec = λ Inv μ answer answer' answer'' answer'3 answer'4 answer'5 answer'6 answer'7. Lts.spec callees Reads.Pre Reads.Post Inv μ answer answer' answer'' answer'3 answer'4 answer'5 answer'6 answer'7
 
   pub close :
       Lts.Closed
-      (Reads'.Asked, Reads'.Learnt, Reads''.Asked, Reads''.Learnt)
+      callees
       Reads.Pre
       Reads.Post
       M →

@@ -15,6 +15,9 @@ use borrow.Fn.Run
 use borrow.Fn.Written
 use contract.Running
 
+abbrev callees : Lts.Claims
+callees = (Reads.Asked, Reads.Learnt, Reads'.Asked, Reads'.Learnt)
+
 abbrev pub InvT-loop : Type 1
 InvT-loop = Lts.InvT-loop
 
@@ -24,24 +27,19 @@ MeasureT-loop = Lts.MeasureT-loop
 abbrev pub Start : (Inv : InvT-loop) → (μ : MeasureT-loop) → Type 0
 Start =
     λ Inv μ. Lts.Start
-    (Reads.Asked, Reads.Learnt, Reads'.Asked, Reads'.Learnt)
+    callees
     Reads''.Pre
     Reads''.Post
     Inv
     μ
 
 abbrev pub After-mask-for : (Inv : InvT-loop) → (μ : MeasureT-loop) → Type 0
-After-mask-for = λ Inv μ. Lts.After-mask-for (
-  Reads.Asked,
-  Reads.Learnt,
-  Reads'.Asked,
-  Reads'.Learnt,
-) Reads''.Pre Reads''.Post Inv μ
+After-mask-for = λ Inv μ. Lts.After-mask-for callees Reads''.Pre Reads''.Post Inv μ
 
 abbrev pub After-pass : (Inv : InvT-loop) → (μ : MeasureT-loop) → Type 0
 After-pass =
     λ Inv μ. Lts.After-pass
-    (Reads.Asked, Reads.Learnt, Reads'.Asked, Reads'.Learnt)
+    callees
     Reads''.Pre
     Reads''.Post
     Inv
@@ -50,7 +48,7 @@ After-pass =
 abbrev pub Then1 : (Inv : InvT-loop) → (μ : MeasureT-loop) → Type 0
 Then1 =
     λ Inv μ. Lts.Then1
-    (Reads.Asked, Reads.Learnt, Reads'.Asked, Reads'.Learnt)
+    callees
     Reads''.Pre
     Reads''.Post
     Inv
@@ -59,7 +57,7 @@ Then1 =
 abbrev pub Else1 : (Inv : InvT-loop) → (μ : MeasureT-loop) → Type 0
 Else1 =
     λ Inv μ. Lts.Else1
-    (Reads.Asked, Reads.Learnt, Reads'.Asked, Reads'.Learnt)
+    callees
     Reads''.Pre
     Reads''.Post
     Inv
@@ -68,7 +66,7 @@ Else1 =
 abbrev pub At-loop : (Inv : InvT-loop) → (μ : MeasureT-loop) → Type 0
 At-loop =
     λ Inv μ. Lts.At-loop
-    (Reads.Asked, Reads.Learnt, Reads'.Asked, Reads'.Learnt)
+    callees
     Reads''.Pre
     Reads''.Post
     Inv
@@ -77,7 +75,7 @@ At-loop =
 abbrev pub In-loop : (Inv : InvT-loop) → (μ : MeasureT-loop) → Type 0
 In-loop =
     λ Inv μ. Lts.In-loop
-    (Reads.Asked, Reads.Learnt, Reads'.Asked, Reads'.Learnt)
+    callees
     Reads''.Pre
     Reads''.Post
     Inv
@@ -86,7 +84,7 @@ In-loop =
 abbrev pub After-loop : (Inv : InvT-loop) → (μ : MeasureT-loop) → Type 0
 After-loop =
     λ Inv μ. Lts.After-loop
-    (Reads.Asked, Reads.Learnt, Reads'.Asked, Reads'.Learnt)
+    callees
     Reads''.Pre
     Reads''.Post
     Inv
@@ -95,7 +93,7 @@ After-loop =
 abbrev pub After-pass2 : (Inv : InvT-loop) → (μ : MeasureT-loop) → Type 0
 After-pass2 =
     λ Inv μ. Lts.After-pass2
-    (Reads.Asked, Reads.Learnt, Reads'.Asked, Reads'.Learnt)
+    callees
     Reads''.Pre
     Reads''.Post
     Inv
@@ -104,7 +102,7 @@ After-pass2 =
 abbrev pub Then2 : (Inv : InvT-loop) → (μ : MeasureT-loop) → Type 0
 Then2 =
     λ Inv μ. Lts.Then2
-    (Reads.Asked, Reads.Learnt, Reads'.Asked, Reads'.Learnt)
+    callees
     Reads''.Pre
     Reads''.Post
     Inv
@@ -113,93 +111,53 @@ Then2 =
 abbrev pub Else2 : (Inv : InvT-loop) → (μ : MeasureT-loop) → Type 0
 Else2 =
     λ Inv μ. Lts.Else2
-    (Reads.Asked, Reads.Learnt, Reads'.Asked, Reads'.Learnt)
+    callees
     Reads''.Pre
     Reads''.Post
     Inv
     μ
 
 abbrev pub Need-mask-for-requires : (Inv : InvT-loop) → (μ : MeasureT-loop) → Type 0
-Need-mask-for-requires = λ Inv μ. Lts.Need-mask-for-requires (
-  Reads.Asked,
-  Reads.Learnt,
-  Reads'.Asked,
-  Reads'.Learnt,
-) Reads''.Pre Reads''.Post Inv μ
+Need-mask-for-requires = λ Inv μ. Lts.Need-mask-for-requires callees Reads''.Pre Reads''.Post Inv μ
 
 abbrev pub Need-pass-requires : (Inv : InvT-loop) → (μ : MeasureT-loop) → Type 0
-Need-pass-requires = λ Inv μ. Lts.Need-pass-requires (
-  Reads.Asked,
-  Reads.Learnt,
-  Reads'.Asked,
-  Reads'.Learnt,
-) Reads''.Pre Reads''.Post Inv μ
+Need-pass-requires = λ Inv μ. Lts.Need-pass-requires callees Reads''.Pre Reads''.Post Inv μ
 
 abbrev pub Need-returns : (Inv : InvT-loop) → (μ : MeasureT-loop) → Type 0
 Need-returns =
     λ Inv μ. Lts.Need-returns
-    (Reads.Asked, Reads.Learnt, Reads'.Asked, Reads'.Learnt)
+    callees
     Reads''.Pre
     Reads''.Post
     Inv
     μ
 
 abbrev pub Need-loop-holds : (Inv : InvT-loop) → (μ : MeasureT-loop) → Type 0
-Need-loop-holds = λ Inv μ. Lts.Need-loop-holds (
-  Reads.Asked,
-  Reads.Learnt,
-  Reads'.Asked,
-  Reads'.Learnt,
-) Reads''.Pre Reads''.Post Inv μ
+Need-loop-holds = λ Inv μ. Lts.Need-loop-holds callees Reads''.Pre Reads''.Post Inv μ
 
 abbrev pub Need-pass-requires-2 : (Inv : InvT-loop) → (μ : MeasureT-loop) → Type 0
-Need-pass-requires-2 = λ Inv μ. Lts.Need-pass-requires-2 (
-  Reads.Asked,
-  Reads.Learnt,
-  Reads'.Asked,
-  Reads'.Learnt,
-) Reads''.Pre Reads''.Post Inv μ
+Need-pass-requires-2 = λ Inv μ. Lts.Need-pass-requires-2 callees Reads''.Pre Reads''.Post Inv μ
 
 abbrev pub Need-returns-2 : (Inv : InvT-loop) → (μ : MeasureT-loop) → Type 0
-Need-returns-2 = λ Inv μ. Lts.Need-returns-2 (
-  Reads.Asked,
-  Reads.Learnt,
-  Reads'.Asked,
-  Reads'.Learnt,
-) Reads''.Pre Reads''.Post Inv μ
+Need-returns-2 = λ Inv μ. Lts.Need-returns-2 callees Reads''.Pre Reads''.Post Inv μ
 
 abbrev pub Need-add-p : (Inv : InvT-loop) → (μ : MeasureT-loop) → Type 0
 Need-add-p =
     λ Inv μ. Lts.Need-add-p
-    (Reads.Asked, Reads.Learnt, Reads'.Asked, Reads'.Learnt)
+    callees
     Reads''.Pre
     Reads''.Post
     Inv
     μ
 
 abbrev pub Need-loop-less : (Inv : InvT-loop) → (μ : MeasureT-loop) → Type 0
-Need-loop-less = λ Inv μ. Lts.Need-loop-less (
-  Reads.Asked,
-  Reads.Learnt,
-  Reads'.Asked,
-  Reads'.Learnt,
-) Reads''.Pre Reads''.Post Inv μ
+Need-loop-less = λ Inv μ. Lts.Need-loop-less callees Reads''.Pre Reads''.Post Inv μ
 
 abbrev pub Need-loop-again : (Inv : InvT-loop) → (μ : MeasureT-loop) → Type 0
-Need-loop-again = λ Inv μ. Lts.Need-loop-again (
-  Reads.Asked,
-  Reads.Learnt,
-  Reads'.Asked,
-  Reads'.Learnt,
-) Reads''.Pre Reads''.Post Inv μ
+Need-loop-again = λ Inv μ. Lts.Need-loop-again callees Reads''.Pre Reads''.Post Inv μ
 
 abbrev pub Need-returns-3 : (Inv : InvT-loop) → (μ : MeasureT-loop) → Type 0
-Need-returns-3 = λ Inv μ. Lts.Need-returns-3 (
-  Reads.Asked,
-  Reads.Learnt,
-  Reads'.Asked,
-  Reads'.Learnt,
-) Reads''.Pre Reads''.Post Inv μ
+Need-returns-3 = λ Inv μ. Lts.Need-returns-3 callees Reads''.Pre Reads''.Post Inv μ
 
 module _ {M : Type 1} where
   pub spec :
@@ -216,19 +174,19 @@ module _ {M : Type 1} where
       (answer : Need-loop-again Inv μ) →
       (answer : Need-returns-3 Inv μ) →
       Lts.Closed
-      (Reads.Asked, Reads.Learnt, Reads'.Asked, Reads'.Learnt)
+      callees
       Reads''.Pre
       Reads''.Post
       M
   spec =
       λ Inv μ answer answer' answer'' answer'3 answer'4 answer'5 answer'6 answer'7 answer'8
-      answer'9. Lts.spec (Reads.Asked, Reads.Learnt, Reads'.Asked, Reads'.Learnt) Reads''.Pre
+      answer'9. Lts.spec callees Reads''.Pre
       Reads''.Post Inv μ answer answer' answer'' answer'3 answer'4 answer'5 answer'6 answer'7
       answer'8 answer'9
 
   pub close :
       Lts.Closed
-      (Reads.Asked, Reads.Learnt, Reads'.Asked, Reads'.Learnt)
+      callees
       Reads''.Pre
       Reads''.Post
       M →

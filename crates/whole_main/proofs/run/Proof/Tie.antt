@@ -27,501 +27,101 @@ use borrow.Fn.Run
 use borrow.Fn.Written
 use contract.Running
 
+abbrev callees : Lts.Claims
+callees = (Reads'4.Asked, Reads'4.Learnt, Reads'3.Asked, Reads'3.Learnt, Reads'.Asked, Reads'.Learnt, Reads''.Asked, Reads''.Learnt, Reads.Asked, Reads.Learnt, Reads'5.Asked, Reads'5.Learnt)
+
 abbrev pub Start : Type 0
-Start = Lts.Start (
-  Reads'4.Asked,
-  Reads'4.Learnt,
-  Reads'3.Asked,
-  Reads'3.Learnt,
-  Reads'.Asked,
-  Reads'.Learnt,
-  Reads''.Asked,
-  Reads''.Learnt,
-  Reads.Asked,
-  Reads.Learnt,
-  Reads'5.Asked,
-  Reads'5.Learnt,
-) Reads'6.Pre Reads'6.Post
+Start = Lts.Start callees Reads'6.Pre Reads'6.Post
 
 abbrev pub After-shared-slice-known : Type 0
-After-shared-slice-known = Lts.After-shared-slice-known (
-  Reads'4.Asked,
-  Reads'4.Learnt,
-  Reads'3.Asked,
-  Reads'3.Learnt,
-  Reads'.Asked,
-  Reads'.Learnt,
-  Reads''.Asked,
-  Reads''.Learnt,
-  Reads.Asked,
-  Reads.Learnt,
-  Reads'5.Asked,
-  Reads'5.Learnt,
-) Reads'6.Pre Reads'6.Post
+After-shared-slice-known = Lts.After-shared-slice-known callees Reads'6.Pre Reads'6.Post
 
 abbrev pub After-no-row : Type 0
-After-no-row = Lts.After-no-row (
-  Reads'4.Asked,
-  Reads'4.Learnt,
-  Reads'3.Asked,
-  Reads'3.Learnt,
-  Reads'.Asked,
-  Reads'.Learnt,
-  Reads''.Asked,
-  Reads''.Learnt,
-  Reads.Asked,
-  Reads.Learnt,
-  Reads'5.Asked,
-  Reads'5.Learnt,
-) Reads'6.Pre Reads'6.Post
+After-no-row = Lts.After-no-row callees Reads'6.Pre Reads'6.Post
 
 abbrev pub After-no-route : Type 0
-After-no-route = Lts.After-no-route (
-  Reads'4.Asked,
-  Reads'4.Learnt,
-  Reads'3.Asked,
-  Reads'3.Learnt,
-  Reads'.Asked,
-  Reads'.Learnt,
-  Reads''.Asked,
-  Reads''.Learnt,
-  Reads.Asked,
-  Reads.Learnt,
-  Reads'5.Asked,
-  Reads'5.Learnt,
-) Reads'6.Pre Reads'6.Post
+After-no-route = Lts.After-no-route callees Reads'6.Pre Reads'6.Post
 
 abbrev pub After-instances : Type 0
-After-instances = Lts.After-instances (
-  Reads'4.Asked,
-  Reads'4.Learnt,
-  Reads'3.Asked,
-  Reads'3.Learnt,
-  Reads'.Asked,
-  Reads'.Learnt,
-  Reads''.Asked,
-  Reads''.Learnt,
-  Reads.Asked,
-  Reads.Learnt,
-  Reads'5.Asked,
-  Reads'5.Learnt,
-) Reads'6.Pre Reads'6.Post
+After-instances = Lts.After-instances callees Reads'6.Pre Reads'6.Post
 
 abbrev pub After-routes : Type 0
-After-routes = Lts.After-routes (
-  Reads'4.Asked,
-  Reads'4.Learnt,
-  Reads'3.Asked,
-  Reads'3.Learnt,
-  Reads'.Asked,
-  Reads'.Learnt,
-  Reads''.Asked,
-  Reads''.Learnt,
-  Reads.Asked,
-  Reads.Learnt,
-  Reads'5.Asked,
-  Reads'5.Learnt,
-) Reads'6.Pre Reads'6.Post
+After-routes = Lts.After-routes callees Reads'6.Pre Reads'6.Post
 
 abbrev pub After-forward : Type 0
-After-forward = Lts.After-forward (
-  Reads'4.Asked,
-  Reads'4.Learnt,
-  Reads'3.Asked,
-  Reads'3.Learnt,
-  Reads'.Asked,
-  Reads'.Learnt,
-  Reads''.Asked,
-  Reads''.Learnt,
-  Reads.Asked,
-  Reads.Learnt,
-  Reads'5.Asked,
-  Reads'5.Learnt,
-) Reads'6.Pre Reads'6.Post
+After-forward = Lts.After-forward callees Reads'6.Pre Reads'6.Post
 
 abbrev pub After-reply : Type 0
-After-reply = Lts.After-reply (
-  Reads'4.Asked,
-  Reads'4.Learnt,
-  Reads'3.Asked,
-  Reads'3.Learnt,
-  Reads'.Asked,
-  Reads'.Learnt,
-  Reads''.Asked,
-  Reads''.Learnt,
-  Reads.Asked,
-  Reads.Learnt,
-  Reads'5.Asked,
-  Reads'5.Learnt,
-) Reads'6.Pre Reads'6.Post
+After-reply = Lts.After-reply callees Reads'6.Pre Reads'6.Post
 
 abbrev pub After-card : Type 0
-After-card = Lts.After-card (
-  Reads'4.Asked,
-  Reads'4.Learnt,
-  Reads'3.Asked,
-  Reads'3.Learnt,
-  Reads'.Asked,
-  Reads'.Learnt,
-  Reads''.Asked,
-  Reads''.Learnt,
-  Reads.Asked,
-  Reads.Learnt,
-  Reads'5.Asked,
-  Reads'5.Learnt,
-) Reads'6.Pre Reads'6.Post
+After-card = Lts.After-card callees Reads'6.Pre Reads'6.Post
 
 abbrev pub After-link : Type 0
-After-link = Lts.After-link (
-  Reads'4.Asked,
-  Reads'4.Learnt,
-  Reads'3.Asked,
-  Reads'3.Learnt,
-  Reads'.Asked,
-  Reads'.Learnt,
-  Reads''.Asked,
-  Reads''.Learnt,
-  Reads.Asked,
-  Reads.Learnt,
-  Reads'5.Asked,
-  Reads'5.Learnt,
-) Reads'6.Pre Reads'6.Post
+After-link = Lts.After-link callees Reads'6.Pre Reads'6.Post
 
 abbrev pub After-message : Type 0
-After-message = Lts.After-message (
-  Reads'4.Asked,
-  Reads'4.Learnt,
-  Reads'3.Asked,
-  Reads'3.Learnt,
-  Reads'.Asked,
-  Reads'.Learnt,
-  Reads''.Asked,
-  Reads''.Learnt,
-  Reads.Asked,
-  Reads.Learnt,
-  Reads'5.Asked,
-  Reads'5.Learnt,
-) Reads'6.Pre Reads'6.Post
+After-message = Lts.After-message callees Reads'6.Pre Reads'6.Post
 
 abbrev pub After-instances2 : Type 0
-After-instances2 = Lts.After-instances2 (
-  Reads'4.Asked,
-  Reads'4.Learnt,
-  Reads'3.Asked,
-  Reads'3.Learnt,
-  Reads'.Asked,
-  Reads'.Learnt,
-  Reads''.Asked,
-  Reads''.Learnt,
-  Reads.Asked,
-  Reads.Learnt,
-  Reads'5.Asked,
-  Reads'5.Learnt,
-) Reads'6.Pre Reads'6.Post
+After-instances2 = Lts.After-instances2 callees Reads'6.Pre Reads'6.Post
 
 abbrev pub After-routes2 : Type 0
-After-routes2 = Lts.After-routes2 (
-  Reads'4.Asked,
-  Reads'4.Learnt,
-  Reads'3.Asked,
-  Reads'3.Learnt,
-  Reads'.Asked,
-  Reads'.Learnt,
-  Reads''.Asked,
-  Reads''.Learnt,
-  Reads.Asked,
-  Reads.Learnt,
-  Reads'5.Asked,
-  Reads'5.Learnt,
-) Reads'6.Pre Reads'6.Post
+After-routes2 = Lts.After-routes2 callees Reads'6.Pre Reads'6.Post
 
 abbrev pub After-forward2 : Type 0
-After-forward2 = Lts.After-forward2 (
-  Reads'4.Asked,
-  Reads'4.Learnt,
-  Reads'3.Asked,
-  Reads'3.Learnt,
-  Reads'.Asked,
-  Reads'.Learnt,
-  Reads''.Asked,
-  Reads''.Learnt,
-  Reads.Asked,
-  Reads.Learnt,
-  Reads'5.Asked,
-  Reads'5.Learnt,
-) Reads'6.Pre Reads'6.Post
+After-forward2 = Lts.After-forward2 callees Reads'6.Pre Reads'6.Post
 
 abbrev pub After-reply2 : Type 0
-After-reply2 = Lts.After-reply2 (
-  Reads'4.Asked,
-  Reads'4.Learnt,
-  Reads'3.Asked,
-  Reads'3.Learnt,
-  Reads'.Asked,
-  Reads'.Learnt,
-  Reads''.Asked,
-  Reads''.Learnt,
-  Reads.Asked,
-  Reads.Learnt,
-  Reads'5.Asked,
-  Reads'5.Learnt,
-) Reads'6.Pre Reads'6.Post
+After-reply2 = Lts.After-reply2 callees Reads'6.Pre Reads'6.Post
 
 abbrev pub After-forward3 : Type 0
-After-forward3 = Lts.After-forward3 (
-  Reads'4.Asked,
-  Reads'4.Learnt,
-  Reads'3.Asked,
-  Reads'3.Learnt,
-  Reads'.Asked,
-  Reads'.Learnt,
-  Reads''.Asked,
-  Reads''.Learnt,
-  Reads.Asked,
-  Reads.Learnt,
-  Reads'5.Asked,
-  Reads'5.Learnt,
-) Reads'6.Pre Reads'6.Post
+After-forward3 = Lts.After-forward3 callees Reads'6.Pre Reads'6.Post
 
 abbrev pub After-reply3 : Type 0
-After-reply3 = Lts.After-reply3 (
-  Reads'4.Asked,
-  Reads'4.Learnt,
-  Reads'3.Asked,
-  Reads'3.Learnt,
-  Reads'.Asked,
-  Reads'.Learnt,
-  Reads''.Asked,
-  Reads''.Learnt,
-  Reads.Asked,
-  Reads.Learnt,
-  Reads'5.Asked,
-  Reads'5.Learnt,
-) Reads'6.Pre Reads'6.Post
+After-reply3 = Lts.After-reply3 callees Reads'6.Pre Reads'6.Post
 
 abbrev pub After-print-outcome : Type 0
-After-print-outcome = Lts.After-print-outcome (
-  Reads'4.Asked,
-  Reads'4.Learnt,
-  Reads'3.Asked,
-  Reads'3.Learnt,
-  Reads'.Asked,
-  Reads'.Learnt,
-  Reads''.Asked,
-  Reads''.Learnt,
-  Reads.Asked,
-  Reads.Learnt,
-  Reads'5.Asked,
-  Reads'5.Learnt,
-) Reads'6.Pre Reads'6.Post
+After-print-outcome = Lts.After-print-outcome callees Reads'6.Pre Reads'6.Post
 
 abbrev pub Need-no-row-requires : Type 0
-Need-no-row-requires = Lts.Need-no-row-requires (
-  Reads'4.Asked,
-  Reads'4.Learnt,
-  Reads'3.Asked,
-  Reads'3.Learnt,
-  Reads'.Asked,
-  Reads'.Learnt,
-  Reads''.Asked,
-  Reads''.Learnt,
-  Reads.Asked,
-  Reads.Learnt,
-  Reads'5.Asked,
-  Reads'5.Learnt,
-) Reads'6.Pre Reads'6.Post
+Need-no-row-requires = Lts.Need-no-row-requires callees Reads'6.Pre Reads'6.Post
 
 abbrev pub Need-no-route-requires : Type 0
-Need-no-route-requires = Lts.Need-no-route-requires (
-  Reads'4.Asked,
-  Reads'4.Learnt,
-  Reads'3.Asked,
-  Reads'3.Learnt,
-  Reads'.Asked,
-  Reads'.Learnt,
-  Reads''.Asked,
-  Reads''.Learnt,
-  Reads.Asked,
-  Reads.Learnt,
-  Reads'5.Asked,
-  Reads'5.Learnt,
-) Reads'6.Pre Reads'6.Post
+Need-no-route-requires = Lts.Need-no-route-requires callees Reads'6.Pre Reads'6.Post
 
 abbrev pub Need-slice-aggregate-message : Type 0
-Need-slice-aggregate-message = Lts.Need-slice-aggregate-message (
-  Reads'4.Asked,
-  Reads'4.Learnt,
-  Reads'3.Asked,
-  Reads'3.Learnt,
-  Reads'.Asked,
-  Reads'.Learnt,
-  Reads''.Asked,
-  Reads''.Learnt,
-  Reads.Asked,
-  Reads.Learnt,
-  Reads'5.Asked,
-  Reads'5.Learnt,
-) Reads'6.Pre Reads'6.Post
+Need-slice-aggregate-message = Lts.Need-slice-aggregate-message callees Reads'6.Pre Reads'6.Post
 
 abbrev pub Need-slice-aggregate-message-2 : Type 0
-Need-slice-aggregate-message-2 = Lts.Need-slice-aggregate-message-2 (
-  Reads'4.Asked,
-  Reads'4.Learnt,
-  Reads'3.Asked,
-  Reads'3.Learnt,
-  Reads'.Asked,
-  Reads'.Learnt,
-  Reads''.Asked,
-  Reads''.Learnt,
-  Reads.Asked,
-  Reads.Learnt,
-  Reads'5.Asked,
-  Reads'5.Learnt,
-) Reads'6.Pre Reads'6.Post
+Need-slice-aggregate-message-2 = Lts.Need-slice-aggregate-message-2 callees Reads'6.Pre Reads'6.Post
 
 abbrev pub Need-slice-aggregate-message-3 : Type 0
-Need-slice-aggregate-message-3 = Lts.Need-slice-aggregate-message-3 (
-  Reads'4.Asked,
-  Reads'4.Learnt,
-  Reads'3.Asked,
-  Reads'3.Learnt,
-  Reads'.Asked,
-  Reads'.Learnt,
-  Reads''.Asked,
-  Reads''.Learnt,
-  Reads.Asked,
-  Reads.Learnt,
-  Reads'5.Asked,
-  Reads'5.Learnt,
-) Reads'6.Pre Reads'6.Post
+Need-slice-aggregate-message-3 = Lts.Need-slice-aggregate-message-3 callees Reads'6.Pre Reads'6.Post
 
 abbrev pub Need-slice-aggregate-message-4 : Type 0
-Need-slice-aggregate-message-4 = Lts.Need-slice-aggregate-message-4 (
-  Reads'4.Asked,
-  Reads'4.Learnt,
-  Reads'3.Asked,
-  Reads'3.Learnt,
-  Reads'.Asked,
-  Reads'.Learnt,
-  Reads''.Asked,
-  Reads''.Learnt,
-  Reads.Asked,
-  Reads.Learnt,
-  Reads'5.Asked,
-  Reads'5.Learnt,
-) Reads'6.Pre Reads'6.Post
+Need-slice-aggregate-message-4 = Lts.Need-slice-aggregate-message-4 callees Reads'6.Pre Reads'6.Post
 
 abbrev pub Need-card-requires : Type 0
-Need-card-requires = Lts.Need-card-requires (
-  Reads'4.Asked,
-  Reads'4.Learnt,
-  Reads'3.Asked,
-  Reads'3.Learnt,
-  Reads'.Asked,
-  Reads'.Learnt,
-  Reads''.Asked,
-  Reads''.Learnt,
-  Reads.Asked,
-  Reads.Learnt,
-  Reads'5.Asked,
-  Reads'5.Learnt,
-) Reads'6.Pre Reads'6.Post
+Need-card-requires = Lts.Need-card-requires callees Reads'6.Pre Reads'6.Post
 
 abbrev pub Need-link-requires : Type 0
-Need-link-requires = Lts.Need-link-requires (
-  Reads'4.Asked,
-  Reads'4.Learnt,
-  Reads'3.Asked,
-  Reads'3.Learnt,
-  Reads'.Asked,
-  Reads'.Learnt,
-  Reads''.Asked,
-  Reads''.Learnt,
-  Reads.Asked,
-  Reads.Learnt,
-  Reads'5.Asked,
-  Reads'5.Learnt,
-) Reads'6.Pre Reads'6.Post
+Need-link-requires = Lts.Need-link-requires callees Reads'6.Pre Reads'6.Post
 
 abbrev pub Need-message-requires : Type 0
-Need-message-requires = Lts.Need-message-requires (
-  Reads'4.Asked,
-  Reads'4.Learnt,
-  Reads'3.Asked,
-  Reads'3.Learnt,
-  Reads'.Asked,
-  Reads'.Learnt,
-  Reads''.Asked,
-  Reads''.Learnt,
-  Reads.Asked,
-  Reads.Learnt,
-  Reads'5.Asked,
-  Reads'5.Learnt,
-) Reads'6.Pre Reads'6.Post
+Need-message-requires = Lts.Need-message-requires callees Reads'6.Pre Reads'6.Post
 
 abbrev pub Need-slice-aggregate-print-outcome : Type 0
-Need-slice-aggregate-print-outcome = Lts.Need-slice-aggregate-print-outcome (
-  Reads'4.Asked,
-  Reads'4.Learnt,
-  Reads'3.Asked,
-  Reads'3.Learnt,
-  Reads'.Asked,
-  Reads'.Learnt,
-  Reads''.Asked,
-  Reads''.Learnt,
-  Reads.Asked,
-  Reads.Learnt,
-  Reads'5.Asked,
-  Reads'5.Learnt,
-) Reads'6.Pre Reads'6.Post
+Need-slice-aggregate-print-outcome = Lts.Need-slice-aggregate-print-outcome callees Reads'6.Pre Reads'6.Post
 
 abbrev pub Need-slice-aggregate-print-outcome-2 : Type 0
-Need-slice-aggregate-print-outcome-2 = Lts.Need-slice-aggregate-print-outcome-2 (
-  Reads'4.Asked,
-  Reads'4.Learnt,
-  Reads'3.Asked,
-  Reads'3.Learnt,
-  Reads'.Asked,
-  Reads'.Learnt,
-  Reads''.Asked,
-  Reads''.Learnt,
-  Reads.Asked,
-  Reads.Learnt,
-  Reads'5.Asked,
-  Reads'5.Learnt,
-) Reads'6.Pre Reads'6.Post
+Need-slice-aggregate-print-outcome-2 = Lts.Need-slice-aggregate-print-outcome-2 callees Reads'6.Pre Reads'6.Post
 
 abbrev pub Need-print-outcome-requires : Type 0
-Need-print-outcome-requires = Lts.Need-print-outcome-requires (
-  Reads'4.Asked,
-  Reads'4.Learnt,
-  Reads'3.Asked,
-  Reads'3.Learnt,
-  Reads'.Asked,
-  Reads'.Learnt,
-  Reads''.Asked,
-  Reads''.Learnt,
-  Reads.Asked,
-  Reads.Learnt,
-  Reads'5.Asked,
-  Reads'5.Learnt,
-) Reads'6.Pre Reads'6.Post
+Need-print-outcome-requires = Lts.Need-print-outcome-requires callees Reads'6.Pre Reads'6.Post
 
 abbrev pub Need-returns : Type 0
-Need-returns = Lts.Need-returns (
-  Reads'4.Asked,
-  Reads'4.Learnt,
-  Reads'3.Asked,
-  Reads'3.Learnt,
-  Reads'.Asked,
-  Reads'.Learnt,
-  Reads''.Asked,
-  Reads''.Learnt,
-  Reads.Asked,
-  Reads.Learnt,
-  Reads'5.Asked,
-  Reads'5.Learnt,
-) Reads'6.Pre Reads'6.Post
+Need-returns = Lts.Need-returns callees Reads'6.Pre Reads'6.Post
 
 module _ {M : Type 1} where
   pub spec :
@@ -538,36 +138,10 @@ module _ {M : Type 1} where
       (answer : Need-slice-aggregate-print-outcome-2) →
       (answer : Need-print-outcome-requires) →
       (answer : Need-returns) →
-      Lts.Closed (
-        Reads'4.Asked,
-        Reads'4.Learnt,
-        Reads'3.Asked,
-        Reads'3.Learnt,
-        Reads'.Asked,
-        Reads'.Learnt,
-        Reads''.Asked,
-        Reads''.Learnt,
-        Reads.Asked,
-        Reads.Learnt,
-        Reads'5.Asked,
-        Reads'5.Learnt,
-      ) Reads'6.Pre Reads'6.Post M
+      Lts.Closed callees Reads'6.Pre Reads'6.Post M
   spec =
       λ answer answer' answer'' answer'3 answer'4 answer'5 answer'6 answer'7 answer'8 answer'9
-      answer'10 answer'11 answer'12. Lts.spec (
-        Reads'4.Asked,
-        Reads'4.Learnt,
-        Reads'3.Asked,
-        Reads'3.Learnt,
-        Reads'.Asked,
-        Reads'.Learnt,
-        Reads''.Asked,
-        Reads''.Learnt,
-        Reads.Asked,
-        Reads.Learnt,
-        Reads'5.Asked,
-        Reads'5.Learnt,
-      )
+      answer'10 answer'11 answer'12. Lts.spec callees
       Reads'6.Pre
       Reads'6.Post
       answer
@@ -584,20 +158,7 @@ module _ {M : Type 1} where
       answer'11
       answer'12
 
-  pub close : Lts.Closed (
-    Reads'4.Asked,
-    Reads'4.Learnt,
-    Reads'3.Asked,
-    Reads'3.Learnt,
-    Reads'.Asked,
-    Reads'.Learnt,
-    Reads''.Asked,
-    Reads''.Learnt,
-    Reads.Asked,
-    Reads.Learnt,
-    Reads'5.Asked,
-    Reads'5.Learnt,
-  ) Reads'6.Pre Reads'6.Post M → Statement.statement M
+  pub close : Lts.Closed callees Reads'6.Pre Reads'6.Post M → Statement.statement M
   unfolding Code.routine Running.tablesOf
   close =
       λ closed 𝓤 H 𝓜 𝓖 𝓡. Written.close

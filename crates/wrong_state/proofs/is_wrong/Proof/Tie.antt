@@ -21,269 +21,74 @@ use borrow.Fn.Run
 use borrow.Fn.Written
 use contract.Running
 
+abbrev callees : Lts.Claims
+callees = (Reads'.Asked, Reads'.Learnt, Reads''.Asked, Reads''.Learnt, Reads'3.Asked, Reads'3.Learnt, Reads.Asked, Reads.Learnt)
+
 abbrev pub Start : Type 0
-Start = Lts.Start (
-  Reads'.Asked,
-  Reads'.Learnt,
-  Reads''.Asked,
-  Reads''.Learnt,
-  Reads'3.Asked,
-  Reads'3.Learnt,
-  Reads.Asked,
-  Reads.Learnt,
-) Reads'4.Pre Reads'4.Post
+Start = Lts.Start callees Reads'4.Pre Reads'4.Post
 
 abbrev pub Then1 : Type 0
-Then1 = Lts.Then1 (
-  Reads'.Asked,
-  Reads'.Learnt,
-  Reads''.Asked,
-  Reads''.Learnt,
-  Reads'3.Asked,
-  Reads'3.Learnt,
-  Reads.Asked,
-  Reads.Learnt,
-) Reads'4.Pre Reads'4.Post
+Then1 = Lts.Then1 callees Reads'4.Pre Reads'4.Post
 
 abbrev pub Else1 : Type 0
-Else1 = Lts.Else1 (
-  Reads'.Asked,
-  Reads'.Learnt,
-  Reads''.Asked,
-  Reads''.Learnt,
-  Reads'3.Asked,
-  Reads'3.Learnt,
-  Reads.Asked,
-  Reads.Learnt,
-) Reads'4.Pre Reads'4.Post
+Else1 = Lts.Else1 callees Reads'4.Pre Reads'4.Post
 
 abbrev pub After-all-good : Type 0
-After-all-good = Lts.After-all-good (
-  Reads'.Asked,
-  Reads'.Learnt,
-  Reads''.Asked,
-  Reads''.Learnt,
-  Reads'3.Asked,
-  Reads'3.Learnt,
-  Reads.Asked,
-  Reads.Learnt,
-) Reads'4.Pre Reads'4.Post
+After-all-good = Lts.After-all-good callees Reads'4.Pre Reads'4.Post
 
 abbrev pub Then2 : Type 0
-Then2 = Lts.Then2 (
-  Reads'.Asked,
-  Reads'.Learnt,
-  Reads''.Asked,
-  Reads''.Learnt,
-  Reads'3.Asked,
-  Reads'3.Learnt,
-  Reads.Asked,
-  Reads.Learnt,
-) Reads'4.Pre Reads'4.Post
+Then2 = Lts.Then2 callees Reads'4.Pre Reads'4.Post
 
 abbrev pub After-all-good-routes : Type 0
-After-all-good-routes = Lts.After-all-good-routes (
-  Reads'.Asked,
-  Reads'.Learnt,
-  Reads''.Asked,
-  Reads''.Learnt,
-  Reads'3.Asked,
-  Reads'3.Learnt,
-  Reads.Asked,
-  Reads.Learnt,
-) Reads'4.Pre Reads'4.Post
+After-all-good-routes = Lts.After-all-good-routes callees Reads'4.Pre Reads'4.Post
 
 abbrev pub Then3 : Type 0
-Then3 = Lts.Then3 (
-  Reads'.Asked,
-  Reads'.Learnt,
-  Reads''.Asked,
-  Reads''.Learnt,
-  Reads'3.Asked,
-  Reads'3.Learnt,
-  Reads.Asked,
-  Reads.Learnt,
-) Reads'4.Pre Reads'4.Post
+Then3 = Lts.Then3 callees Reads'4.Pre Reads'4.Post
 
 abbrev pub After-has-twins : Type 0
-After-has-twins = Lts.After-has-twins (
-  Reads'.Asked,
-  Reads'.Learnt,
-  Reads''.Asked,
-  Reads''.Learnt,
-  Reads'3.Asked,
-  Reads'3.Learnt,
-  Reads.Asked,
-  Reads.Learnt,
-) Reads'4.Pre Reads'4.Post
+After-has-twins = Lts.After-has-twins callees Reads'4.Pre Reads'4.Post
 
 abbrev pub Then4 : Type 0
-Then4 = Lts.Then4 (
-  Reads'.Asked,
-  Reads'.Learnt,
-  Reads''.Asked,
-  Reads''.Learnt,
-  Reads'3.Asked,
-  Reads'3.Learnt,
-  Reads.Asked,
-  Reads.Learnt,
-) Reads'4.Pre Reads'4.Post
+Then4 = Lts.Then4 callees Reads'4.Pre Reads'4.Post
 
 abbrev pub Else4 : Type 0
-Else4 = Lts.Else4 (
-  Reads'.Asked,
-  Reads'.Learnt,
-  Reads''.Asked,
-  Reads''.Learnt,
-  Reads'3.Asked,
-  Reads'3.Learnt,
-  Reads.Asked,
-  Reads.Learnt,
-) Reads'4.Pre Reads'4.Post
+Else4 = Lts.Else4 callees Reads'4.Pre Reads'4.Post
 
 abbrev pub After-has-twins-route : Type 0
-After-has-twins-route = Lts.After-has-twins-route (
-  Reads'.Asked,
-  Reads'.Learnt,
-  Reads''.Asked,
-  Reads''.Learnt,
-  Reads'3.Asked,
-  Reads'3.Learnt,
-  Reads.Asked,
-  Reads.Learnt,
-) Reads'4.Pre Reads'4.Post
+After-has-twins-route = Lts.After-has-twins-route callees Reads'4.Pre Reads'4.Post
 
 abbrev pub Else3 : Type 0
-Else3 = Lts.Else3 (
-  Reads'.Asked,
-  Reads'.Learnt,
-  Reads''.Asked,
-  Reads''.Learnt,
-  Reads'3.Asked,
-  Reads'3.Learnt,
-  Reads.Asked,
-  Reads.Learnt,
-) Reads'4.Pre Reads'4.Post
+Else3 = Lts.Else3 callees Reads'4.Pre Reads'4.Post
 
 abbrev pub Else2 : Type 0
-Else2 = Lts.Else2 (
-  Reads'.Asked,
-  Reads'.Learnt,
-  Reads''.Asked,
-  Reads''.Learnt,
-  Reads'3.Asked,
-  Reads'3.Learnt,
-  Reads.Asked,
-  Reads.Learnt,
-) Reads'4.Pre Reads'4.Post
+Else2 = Lts.Else2 callees Reads'4.Pre Reads'4.Post
 
 abbrev pub Need-returns : Type 0
-Need-returns = Lts.Need-returns (
-  Reads'.Asked,
-  Reads'.Learnt,
-  Reads''.Asked,
-  Reads''.Learnt,
-  Reads'3.Asked,
-  Reads'3.Learnt,
-  Reads.Asked,
-  Reads.Learnt,
-) Reads'4.Pre Reads'4.Post
+Need-returns = Lts.Need-returns callees Reads'4.Pre Reads'4.Post
 
 abbrev pub Need-all-good-requires : Type 0
-Need-all-good-requires = Lts.Need-all-good-requires (
-  Reads'.Asked,
-  Reads'.Learnt,
-  Reads''.Asked,
-  Reads''.Learnt,
-  Reads'3.Asked,
-  Reads'3.Learnt,
-  Reads.Asked,
-  Reads.Learnt,
-) Reads'4.Pre Reads'4.Post
+Need-all-good-requires = Lts.Need-all-good-requires callees Reads'4.Pre Reads'4.Post
 
 abbrev pub Need-all-good-routes-requires : Type 0
-Need-all-good-routes-requires = Lts.Need-all-good-routes-requires (
-  Reads'.Asked,
-  Reads'.Learnt,
-  Reads''.Asked,
-  Reads''.Learnt,
-  Reads'3.Asked,
-  Reads'3.Learnt,
-  Reads.Asked,
-  Reads.Learnt,
-) Reads'4.Pre Reads'4.Post
+Need-all-good-routes-requires = Lts.Need-all-good-routes-requires callees Reads'4.Pre Reads'4.Post
 
 abbrev pub Need-has-twins-requires : Type 0
-Need-has-twins-requires = Lts.Need-has-twins-requires (
-  Reads'.Asked,
-  Reads'.Learnt,
-  Reads''.Asked,
-  Reads''.Learnt,
-  Reads'3.Asked,
-  Reads'3.Learnt,
-  Reads.Asked,
-  Reads.Learnt,
-) Reads'4.Pre Reads'4.Post
+Need-has-twins-requires = Lts.Need-has-twins-requires callees Reads'4.Pre Reads'4.Post
 
 abbrev pub Need-returns-2 : Type 0
-Need-returns-2 = Lts.Need-returns-2 (
-  Reads'.Asked,
-  Reads'.Learnt,
-  Reads''.Asked,
-  Reads''.Learnt,
-  Reads'3.Asked,
-  Reads'3.Learnt,
-  Reads.Asked,
-  Reads.Learnt,
-) Reads'4.Pre Reads'4.Post
+Need-returns-2 = Lts.Need-returns-2 callees Reads'4.Pre Reads'4.Post
 
 abbrev pub Need-has-twins-route-requires : Type 0
-Need-has-twins-route-requires = Lts.Need-has-twins-route-requires (
-  Reads'.Asked,
-  Reads'.Learnt,
-  Reads''.Asked,
-  Reads''.Learnt,
-  Reads'3.Asked,
-  Reads'3.Learnt,
-  Reads.Asked,
-  Reads.Learnt,
-) Reads'4.Pre Reads'4.Post
+Need-has-twins-route-requires = Lts.Need-has-twins-route-requires callees Reads'4.Pre Reads'4.Post
 
 abbrev pub Need-returns-3 : Type 0
-Need-returns-3 = Lts.Need-returns-3 (
-  Reads'.Asked,
-  Reads'.Learnt,
-  Reads''.Asked,
-  Reads''.Learnt,
-  Reads'3.Asked,
-  Reads'3.Learnt,
-  Reads.Asked,
-  Reads.Learnt,
-) Reads'4.Pre Reads'4.Post
+Need-returns-3 = Lts.Need-returns-3 callees Reads'4.Pre Reads'4.Post
 
 abbrev pub Need-returns-4 : Type 0
-Need-returns-4 = Lts.Need-returns-4 (
-  Reads'.Asked,
-  Reads'.Learnt,
-  Reads''.Asked,
-  Reads''.Learnt,
-  Reads'3.Asked,
-  Reads'3.Learnt,
-  Reads.Asked,
-  Reads.Learnt,
-) Reads'4.Pre Reads'4.Post
+Need-returns-4 = Lts.Need-returns-4 callees Reads'4.Pre Reads'4.Post
 
 abbrev pub Need-returns-5 : Type 0
-Need-returns-5 = Lts.Need-returns-5 (
-  Reads'.Asked,
-  Reads'.Learnt,
-  Reads''.Asked,
-  Reads''.Learnt,
-  Reads'3.Asked,
-  Reads'3.Learnt,
-  Reads.Asked,
-  Reads.Learnt,
-) Reads'4.Pre Reads'4.Post
+Need-returns-5 = Lts.Need-returns-5 callees Reads'4.Pre Reads'4.Post
 
 module _ {M : Type 1} where
   pub spec :
@@ -296,26 +101,8 @@ module _ {M : Type 1} where
       (answer : Need-returns-3) →
       (answer : Need-returns-4) →
       (answer : Need-returns-5) →
-      Lts.Closed (
-        Reads'.Asked,
-        Reads'.Learnt,
-        Reads''.Asked,
-        Reads''.Learnt,
-        Reads'3.Asked,
-        Reads'3.Learnt,
-        Reads.Asked,
-        Reads.Learnt,
-      ) Reads'4.Pre Reads'4.Post M
-  spec = λ answer answer' answer'' answer'3 answer'4 answer'5 answer'6 answer'7 answer'8. Lts.spec (
-    Reads'.Asked,
-    Reads'.Learnt,
-    Reads''.Asked,
-    Reads''.Learnt,
-    Reads'3.Asked,
-    Reads'3.Learnt,
-    Reads.Asked,
-    Reads.Learnt,
-  )
+      Lts.Closed callees Reads'4.Pre Reads'4.Post M
+  spec = λ answer answer' answer'' answer'3 answer'4 answer'5 answer'6 answer'7 answer'8. Lts.spec callees
       Reads'4.Pre
       Reads'4.Post
       answer
@@ -328,16 +115,7 @@ module _ {M : Type 1} where
       answer'7
       answer'8
 
-  pub close : Lts.Closed (
-    Reads'.Asked,
-    Reads'.Learnt,
-    Reads''.Asked,
-    Reads''.Learnt,
-    Reads'3.Asked,
-    Reads'3.Learnt,
-    Reads.Asked,
-    Reads.Learnt,
-  ) Reads'4.Pre Reads'4.Post M → Statement.statement M
+  pub close : Lts.Closed callees Reads'4.Pre Reads'4.Post M → Statement.statement M
   unfolding Code.routine Running.tablesOf
   close =
       λ closed 𝓤 H 𝓜 𝓖 𝓡. Written.close
