@@ -9,10 +9,10 @@ use lib.Bits.{bitOr, or-step}
 use lib.Dec.{eqb, ltb, leb}
 use borrow.Author.Tests.{eqb-true, eqb-false, leb-true, leb-false}
 use Rattle.plain.specs.Given.{Instance}
+use Rattle.plain.specs.Octets.{bit}
 use Rattle.plain.specs.Table.{lasts, live, instanceDeadline}
 use Rattle.lemmas.proofs.Choice.{true-false}
 use Rattle.row.specs.Meaning.{deadlineOf, requestOf, replyOf, instanceOf}
-use Rattle.row.specs.Record.{bitOf}
 use Rattle.row.specs.declared.InstanceRow.{InstanceRow}
 use Rattle.row.proofs.Laws.{flag-bit}
 
@@ -74,15 +74,15 @@ or-none a =
     let h : n / 2 ≡ 0 = ih (b / 2) (omega arith) in
     omega arith) a
 
-pub lasts-bit : (t endless deadline x : ℕ) → x ≡ bitOf (ltb t deadline) → not (eqb (bitOr endless x) 0) ≡ lasts t (deadlineOf endless deadline)
+pub lasts-bit : (t endless deadline x : ℕ) → x ≡ bit (ltb t deadline) → not (eqb (bitOr endless x) 0) ≡ lasts t (deadlineOf endless deadline)
 unfolding deadlineOf
 lasts-bit t endless deadline x h = rw h (go (eqb endless 0) refl)
   where
-    some-bit : (eqb endless 0 ≡ false) → (b : Bool) → eqb (bitOr endless (bitOf (ltb t deadline))) 0 ≡ b → not b ≡ true
+    some-bit : (eqb endless 0 ≡ false) → (b : Bool) → eqb (bitOr endless (bit (ltb t deadline))) 0 ≡ b → not b ≡ true
     some-bit e true f =
-        absurd (eqb-false endless 0 e (or-none endless (bitOf (ltb t deadline)) (eqb-true (bitOr endless (bitOf (ltb t deadline))) 0 f)))
+        absurd (eqb-false endless 0 e (or-none endless (bit (ltb t deadline)) (eqb-true (bitOr endless (bit (ltb t deadline))) 0 f)))
     some-bit e false f = refl
 
-    go : (b : Bool) → eqb endless 0 ≡ b → not (eqb (bitOr endless (bitOf (ltb t deadline))) 0) ≡ lasts t (cond b (some deadline) none)
+    go : (b : Bool) → eqb endless 0 ≡ b → not (eqb (bitOr endless (bit (ltb t deadline))) 0) ≡ lasts t (cond b (some deadline) none)
     go true e = rw (eqb-true endless 0 e) (flag-bit (ltb t deadline))
-    go false e = some-bit e (eqb (bitOr endless (bitOf (ltb t deadline))) 0) refl
+    go false e = some-bit e (eqb (bitOr endless (bit (ltb t deadline))) 0) refl

@@ -11,7 +11,7 @@ use row::RouteRow;
 pub fn does_last(endless: u8, deadline: u64, t: u64) -> bool
     ensures { λ b. ⌜ b ≡ lasts t (deadlineOf endless deadline) ⌝ }
 {
-    endless | row::bit(t < deadline) != 0
+    endless | flag::bit(t < deadline) != 0
 }
 
 // ---- an instance row

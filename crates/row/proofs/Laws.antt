@@ -8,11 +8,12 @@ use native.Mathlib.Omega.{arith}
 use lib.ListN.{length, take, drop, replicate, length-append, length-take, length-replicate, take-append-drop}
 use lib.Seq.{take-append-seam, take-append-le, length-take-le}
 use Rattle.plain.specs.Given.{RequestRow, ReplyRow, Instance, Route}
+use Rattle.plain.specs.Octets.{bit}
 use Rattle.plain.specs.Blank.{noTarget, Padded}
 use Rattle.plain.specs.declared.Target.{Target}
 use Rattle.lemmas.specs.Written.{over}
 use Rattle.row.specs.Meaning.{flag, deadlineOf, targetsOf, requestOf, replyOf, instanceOf, routeIn, routeOf}
-use Rattle.row.specs.Record.{bitOf, endlessOf, untilOf, requestRecord, replyRecord, routeRecord}
+use Rattle.row.specs.Record.{endlessOf, untilOf, requestRecord, replyRecord, routeRecord}
 
 -- ---- targets
 
@@ -32,7 +33,7 @@ targets-within count ts h = take-append-le count ts (replicate count noTarget) h
 
 -- ---- records that are written
 
-pub flag-bit : (b : Bool) → flag (bitOf b) ≡ b
+pub flag-bit : (b : Bool) → flag (bit b) ≡ b
 flag-bit true = refl
 flag-bit false = refl
 
@@ -59,7 +60,7 @@ route-back r = rw (deadline-back (r .deadline))
 
 -- ---- what the functions ask
 
-pub endless-bit : (e : Bool) (d : ℕ) → endlessOf (cond e none (some d)) ≡ bitOf e
+pub endless-bit : (e : Bool) (d : ℕ) → endlessOf (cond e none (some d)) ≡ bit e
 endless-bit true d = refl
 endless-bit false d = refl
 

@@ -1,17 +1,14 @@
 -- The record that is written for each row: all its fields, those that its kind does not have 0.
 use Prim.Native.Nat.{ℕ}
-use mathlib.Core.Bool.{Bool, cond}
 use mathlib.Core.Option.{Option, some, none}
 use lib.ListN.{length, replicate}
 use Rattle.plain.specs.Address.{zeroAddress}
 use Rattle.plain.specs.Given.{RequestRow, ReplyRow, Route}
+use Rattle.plain.specs.Octets.{bit}
 use Rattle.lemmas.specs.Written.{over}
 use Rattle.plain.specs.Blank.{noTarget}
 use Rattle.row.specs.declared.InstanceRow.{InstanceRow}
 use Rattle.row.specs.declared.RouteRow.{RouteRow}
-
-abbrev pub bitOf : Bool → ℕ
-bitOf b = cond b 1 0
 
 abbrev pub endlessOf : Option ℕ → ℕ
 endlessOf none = 1
@@ -27,9 +24,9 @@ requestRecord r = record {
   kind = 1;
   instance = r .instance;
   seq = r .seq;
-  s = bitOf (r .s);
-  h = bitOf (r .h);
-  replied = bitOf (r .replied);
+  s = bit (r .s);
+  h = bit (r .h);
+  replied = bit (r .replied);
   endless = endlessOf (r .deadline);
   count = length (r .targets);
   rank = r .rank;

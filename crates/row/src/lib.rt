@@ -6,7 +6,7 @@ ghost use Prim.Native.Nat.{_≤_};
 ghost use lib.ListN.{take, replicate};
 ghost use Rattle.plain.specs.Blank.{noTarget, Padded};
 ghost use Rattle.row.specs.Meaning.{noRow, noRoute};
-ghost use Rattle.row.specs.Record.{bitOf, untilOf, requestRecord, replyRecord, routeRecord};
+ghost use Rattle.row.specs.Record.{untilOf, requestRecord, replyRecord, routeRecord};
 use plain::Target;
 
 // One instance row, written by a host too: each value of each field has a meaning.
@@ -46,15 +46,6 @@ pub struct RouteRow {
 }
 
 // ---- rows that are written
-
-pub fn bit(b: bool) -> u8
-    ensures { λ r. ⌜ r ≡ bitOf b ⌝ }
-{
-    if b {
-        return 1;
-    }
-    0
-}
 
 fn until(endless: bool, deadline: u64) -> u64
     ensures { λ r. ⌜ r ≡ untilOf (cond endless none (some deadline)) ⌝ }
@@ -104,10 +95,10 @@ pub fn padded_request_row(
         kind: 1,
         instance,
         seq,
-        s: bit(s),
-        h: bit(h),
-        replied: bit(replied),
-        endless: bit(endless),
+        s: flag::bit(s),
+        h: flag::bit(h),
+        replied: flag::bit(replied),
+        endless: flag::bit(endless),
         count,
         rank,
         dodagid,
@@ -135,7 +126,7 @@ pub fn reply_row(
         s: 0,
         h: 0,
         replied: 0,
-        endless: bit(endless),
+        endless: flag::bit(endless),
         count: 0,
         rank,
         dodagid,
@@ -160,7 +151,7 @@ pub fn route_row(
         kind: 1,
         instance,
         seq,
-        endless: bit(endless),
+        endless: flag::bit(endless),
         source,
         destination,
         next,

@@ -6,17 +6,10 @@ ghost use mathlib.Core.Option.{some, none};
 ghost use Prim.Native.Nat.{_≤_};
 ghost use lib.ListN.{length};
 ghost use Rattle.lemmas.specs.Written.{Written};
-ghost use Rattle.plain.specs.Octets.{bit, baseOctets, configurationOctets};
+ghost use Rattle.plain.specs.Octets.{baseOctets, configurationOctets};
 ghost use Rattle.writer_base.specs.Heads.{baseHead};
 use plain::Base;
 use writer_octets::put_octets;
-
-// A flag as a field of one bit.
-pub fn bit_of(b: bool) -> u8
-    ensures { λ r. ⌜ (r ≡ bit b) × (r ≤ 1) ⌝ }
-{
-    if b { 1 } else { 0 }
-}
 
 // The base up to the DODAGID. MOP is 4.
 fn put_base_head(out: &mut [u8], b: Base) -> usize
@@ -27,7 +20,7 @@ fn put_base_head(out: &mut [u8], b: Base) -> usize
     out[1] = b.version;
     out[2] = (b.rank / 256) as u8;
     out[3] = (b.rank % 256) as u8;
-    out[4] = bit_of(b.g) * 128 + 4 * 8 + b.prf % 8;
+    out[4] = flag::bit(b.g) * 128 + 4 * 8 + b.prf % 8;
     out[5] = 0;
     out[6] = 0;
     out[7] = 0;

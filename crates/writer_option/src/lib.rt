@@ -9,8 +9,8 @@ ghost use Rattle.plain.specs.Octets.{word, numberBits, rreqType, rrepType, rout
 ghost use Rattle.writer_option.specs.Heads.{routeWord, routeHead};
 ghost use Rattle.writer_option.specs.Sendable.{Sendable};
 use addresses::whole;
+use flag::bit;
 use plain::Discovery;
-use writer_base::bit_of;
 use writer_octets::put_vector;
 
 // Compr as it is sent: 0 with H 1.
@@ -27,8 +27,8 @@ fn compr_sent(d: Discovery) -> u8
 fn route_word(d: Discovery) -> u16
     ensures { λ r. ⌜ r ≡ routeWord d ⌝ }
 {
-    let flag = bit_of(d.flag) as u16;
-    let h = bit_of(d.h) as u16;
+    let flag = bit(d.flag) as u16;
+    let h = bit(d.h) as u16;
     let compr = (compr_sent(d) % 16) as u16;
     let l = (d.l % 4) as u16;
     let limit = (d.limit % 128) as u16;

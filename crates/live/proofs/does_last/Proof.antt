@@ -9,7 +9,7 @@ bit-requires c κs = search needs
 returns : tie.Need-returns
 returns c =
     let a = c .before .args in
-    lasts-bit (a .t) (a .endless) (a .deadline) (c .bit .result) (c .bit .ensures)
+    lasts-bit (a .t) (a .endless) (a .deadline) (c .bit .result) (c .bit .ensures .0)
 
 pub does-last-spec : {M : Type 1} → statement M
 does-last-spec = tie.close (tie.spec bit-requires returns)

@@ -28,10 +28,10 @@ returns c = let s = c .before .before .before .before .before in
       padded-whole (a .count) (a .targets) (search needs) (s .pre .0) (s .pre .1),
       length-count (a .count) (a .targets) (search needs) (s .pre .0),
       ← c .until .ensures,
-      ← c .before .bit4 .ensures,
-      ← c .before .before .bit3 .ensures,
-      ← c .before .before .before .bit2 .ensures,
-      ← c .before .before .before .before .bit .ensures,
+      ← c .before .bit4 .ensures .0,
+      ← c .before .before .bit3 .ensures .0,
+      ← c .before .before .before .bit2 .ensures .0,
+      ← c .before .before .before .before .bit .ensures .0,
     )
 
 pub padded-request-row-spec : {M : Type 1} → statement M

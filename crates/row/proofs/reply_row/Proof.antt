@@ -18,7 +18,7 @@ unfolding replyRecord
 returns c = rw (
   endless-bit (c .before .before .before .args .endless) (c .before .before .before .args .deadline),
   ← c .until .ensures,
-  ← c .before .bit .ensures,
+  ← c .before .bit .ensures .0,
   ← c .before .before .blanks .ensures,
 )
 

@@ -12,7 +12,7 @@ until-requires c κs = search needs
 
 returns : tie.Need-returns
 unfolding routeRecord
-returns c = rw (endless-bit (c .before .before .args .endless) (c .before .before .args .deadline), ← c .until .ensures, ← c .before .bit .ensures)
+returns c = rw (endless-bit (c .before .before .args .endless) (c .before .before .args .deadline), ← c .until .ensures, ← c .before .bit .ensures .0)
 
 pub route-row-spec : {M : Type 1} → statement M
 route-row-spec = tie.close (tie.spec bit-requires until-requires returns)

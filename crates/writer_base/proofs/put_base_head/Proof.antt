@@ -23,8 +23,8 @@ cast-out-2 c = search needs
 slice-write-out-4 : tie.Need-slice-write-out-4
 slice-write-out-4 c = simp length-set (search needs)
 
-bit-of-requires : tie.Need-bit-of-requires
-bit-of-requires c κs = search needs
+bit-requires : tie.Need-bit-requires
+bit-requires c κs = search needs
 
 mul-out : tie.Need-mul-out
 mul-out c = omega arith
@@ -56,7 +56,7 @@ same-length c = simp length-set
 returns : tie.Need-returns
 returns c =
     let s = c .before .before .before .before .before in
-    rw (high-octet (s .args .b .rank) (search needs), ← c .before .bit-of .ensures .0, base-word _ _ (c .before .bit-of .ensures .1)) (stored _ _ (s .pre))
+    rw (high-octet (s .args .b .rank) (search needs), ← c .before .bit .ensures .0, base-word _ _ (c .before .bit .ensures .1)) (stored _ _ (s .pre))
 
 pub put-base-head-spec : {M : Type 1} → statement M
 put-base-head-spec =
@@ -68,7 +68,7 @@ put-base-head-spec =
     slice-write-out-3
     cast-out-2
     slice-write-out-4
-    bit-of-requires
+    bit-requires
     mul-out
     mul-out-2
     add-out

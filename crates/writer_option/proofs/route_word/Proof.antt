@@ -5,14 +5,14 @@ use Rattle.writer_option.specs.Heads.{routeWord}
 use Rattle.writer_option.proofs.route_word.Statement.{statement}
 use Rattle.writer_option.proofs.route_word.Tie as tie
 
-bit-of-requires : tie.Need-bit-of-requires
-bit-of-requires c κs = search needs
+bit-requires : tie.Need-bit-requires
+bit-requires c κs = search needs
 
 cast-flag : tie.Need-cast-flag
 cast-flag c = search needs
 
-bit-of-requires-2 : tie.Need-bit-of-requires-2
-bit-of-requires-2 c κs = search needs
+bit-requires-2 : tie.Need-bit-requires-2
+bit-requires-2 c κs = search needs
 
 cast-h : tie.Need-cast-h
 cast-h c = search needs
@@ -61,9 +61,9 @@ pub route-word-spec : {M : Type 1} → statement M
 route-word-spec =
     tie.close
     (tie.spec
-    bit-of-requires
+    bit-requires
     cast-flag
-    bit-of-requires-2
+    bit-requires-2
     cast-h
     compr-sent-requires
     cast-compr

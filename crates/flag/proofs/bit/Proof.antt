@@ -1,6 +1,6 @@
 use borrow.Author.Needs.{needs}
-use Rattle.row.proofs.bit.Statement.{statement}
-use Rattle.row.proofs.bit.Tie as tie
+use Rattle.flag.proofs.bit.Statement.{statement}
+use Rattle.flag.proofs.bit.Tie as tie
 
 returns : tie.Need-returns
 returns c = search needs
