@@ -1,7 +1,7 @@
 """The must-fail edits, as check-edits, check-refused, check-traceability and figures read them.
 
 A file crates/CRATE/must-fail/*.edit is one check of its crate, and holds one edit or several. With several, each begins with a line `edit: LABEL`,
-changes one function, and is refused or not by itself: see `clash`. A file with one edit needs no such line: its label is the file's name.
+changes one function, and is refused or not as if it stood alone: see `clash`. A file with one edit needs no such line: its label is the file's name.
 """
 import glob, os, re
 
@@ -52,21 +52,16 @@ class Edit:
         fs = self.changed(all_)
         return fs[0] if len(fs) == 1 and all(file == CODE and (old in fs[0].text or old.startswith('ghost use ')) for file, old, _ in self.pairs) else None
 
-    def only(self, all_):
-        """the one function that it changes, where it changes nothing else at all"""
-        f = self.function(all_)
-        return f if f and all(old in f.text for _, old, _ in self.pairs) else None
-
     def clause(self, f):
         """whether it changes f's signature or clauses"""
         return any(old in f.head for _, old, _ in self.pairs)
 
 
 def clash(a, b, all_):
-    """Why two edits of one file would not each be refused by itself; None where they would. What is to be proved of a function is its own code
+    """Why two edits of one file would not be refused or not as if each stood alone; None where they would. What is to be proved of a function is its own code
     against its own clauses, given the clauses of what it calls: so the two change different functions, and neither the clauses that the other calls."""
-    f, g = a.only(all_), b.only(all_)
-    if not f or not g: return 'an edit beside others changes one function and nothing else'
+    f, g = a.function(all_), b.function(all_)
+    if not f or not g: return 'an edit beside others changes one function, and else only what is imported for it'
     if f.name == g.name: return f'two edits of {f.name}'
     for x, fx, fy in ((a, f, g), (b, g, f)):
         if x.clause(fx) and fx.name in fy.calls(all_): return f'{fy.name} calls {fx.name}, whose clauses are changed'
