@@ -1,15 +1,19 @@
-// Records from standard input. A record is a line: a letter that says its kind, four hexadecimal digits that count its octets, and the
+// Records from a reader. A record is a line: a letter that says its kind, four hexadecimal digits that count its octets, and the
 // octets in hexadecimal. A number of several octets has its most significant octet first.
-ghost use Rattle.std.specs.Prelude.{◌<◌, ◌≤◌, ◌≡◌, length};
+#![tactic(auto)]
+
+ghost use Rattle.std.specs.Prelude.{◌<◌, ◌≤◌, ◌≡◌, IfOk, length};
 
 use message::Link;
 use own::Own;
 use plain::Target;
 use row::{InstanceRow, RouteRow};
+use std::io;
+use std::io::{ErrorKind, Read};
 use tally::Tally;
 
 // What a record's line says before its octets. Kind 0: there is none.
-#[derive(Drop)]
+#[derive(Clone, Copy)]
 pub struct Head {
     pub kind: u8,
     pub size: usize,
@@ -52,6 +56,7 @@ fn eight(high: u32, low: u32) -> u64 {
     high as u64 * 4294967296 + low as u64
 }
 
+#[tactic(auto, using(lemmas::proofs::Cases::cases))]
 fn decode(text: &[u8; 4096], octets: &mut [u8]) {
     let mut i: usize = 0;
     while i < 2048 {
@@ -64,12 +69,25 @@ fn decode(text: &[u8; 4096], octets: &mut [u8]) {
     }
 }
 
-// Reads n octets of text: whether they were all there.
-fn read_text(text: &mut [u8], n: usize) -> bool {
-    if text.len() < n {
-        return false;
+// Fills a buffer: whether the input had as many octets. An input that ends is no error.
+fn read_full<R: Read>(input: &mut R, buf: &mut [u8]) -> io::Result<bool> {
+    match input.read_exact(buf) {
+        Ok(()) => Ok(true),
+        Err(e) => {
+            if e.kind() == ErrorKind::UnexpectedEof {
+                return Ok(false);
+            }
+            Err(e)
+        }
     }
-    n <= io::read_full(0, &mut text[..n])
+}
+
+// Reads n octets of text: whether they were all there.
+fn read_text<R: Read>(input: &mut R, text: &mut [u8], n: usize) -> io::Result<bool> {
+    if text.len() < n {
+        return Ok(false);
+    }
+    read_full(input, &mut text[..n])
 }
 
 fn none() -> Head
@@ -79,26 +97,26 @@ fn none() -> Head
 }
 
 // The next record, its octets at the front of `octets`.
-pub fn read_record(octets: &mut [u8]) -> Head
-    ensures { result.size < 2048 }
+pub fn read_record<R: Read>(input: &mut R, octets: &mut [u8]) -> io::Result<Head>
+    ensures { IfOk result (λ h. h.size < 2048) }
 {
     let mut head = [0u8; 5];
-    if io::read_full(0, &mut head) < 5 {
-        return none();
+    if !read_full(input, &mut head)? {
+        return Ok(none());
     }
     let size = pair(octet(head[1], head[2]), octet(head[3], head[4])) as usize;
     if 2047 < size {
-        return none();
+        return Ok(none());
     }
-    let mut text = io::buffer();
-    if read_text(&mut text, size * 2 + 1) {
+    let mut text = [0u8; 4096];
+    if read_text(input, &mut text, size * 2 + 1)? {
         decode(&text, octets);
-        return Head {
+        return Ok(Head {
             kind: head[0],
             size,
-        };
+        });
     }
-    none()
+    Ok(none())
 }
 
 // ---- the parts of a record
@@ -133,6 +151,7 @@ pub fn eight_at(o: &[u8], i: usize) -> u64
     eight(quad_at(o, i), quad_at(o, i + 4))
 }
 
+#[tactic(auto, using(lemmas::proofs::Cases::cases))]
 fn address_at(o: &[u8], from: usize) -> [u8; 16]
     requires { from ≤ 4096 }
 {
@@ -224,6 +243,7 @@ pub fn rows_at(o: &[u8], i: usize) -> usize
 }
 
 // The targets of a start.
+#[tactic(auto, using(lemmas::proofs::Cases::cases))]
 pub fn targets_at(o: &[u8]) -> [Target; 16]
     ensures { length result ≡ 16 }
 {
@@ -236,6 +256,7 @@ pub fn targets_at(o: &[u8]) -> [Target; 16]
     ts
 }
 
+#[tactic(auto, using(lemmas::proofs::Cases::cases))]
 fn row_targets_at(o: &[u8]) -> [Target; 8] {
     let mut ts = [no_target(); 8];
     let mut i: usize = 0;

@@ -6,17 +6,21 @@
 //   a b c d     handed in by the host: own addresses, lengths of the buffers, clock, own number
 //   r t k       and: an instance row, a route, the tally's count of one answer
 //   e           the end of the list
+#![tactic(auto)]
+
 ghost use Rattle.std.specs.Prelude.{◌≤◌};
 
 use outcome::Outcome;
 use own::Own;
 use row::{InstanceRow, RouteRow};
 use start::Asking;
+use std::io;
+use std::io::{Read, Write};
 use tally::Tally;
 
 // What the host keeps for its node beside the tables: its settings, clock and own number, the lengths of the buffers that it lends, and
 // how many calls it made.
-#[derive(Drop)]
+#[derive(Clone, Copy)]
 struct Host {
     own: Own,
     clock: u64,
@@ -110,22 +114,25 @@ fn no_tally() -> Tally {
 
 // ---- over the lent tables
 
-fn print_call(
+#[tactic(auto, using(lemmas::proofs::Cases::cases, std::proofs::Common::rules))]
+fn print_call<W: Write>(
+    out: &mut W,
     instances: &[InstanceRow],
     routes: &[RouteRow],
     forward: &[u8],
     reply: &[u8],
     r: Outcome,
     h: Host,
-) {
-    trace_print::outcome(h.calls, r);
-    trace_print::buffer(b"forward ", forward, forward_size(r));
-    trace_print::buffer(b"reply ", reply, reply_size(r));
-    trace_print::rows(instances, h.clock);
-    trace_print::routes(routes, h.clock);
+) -> io::Result<()> {
+    trace_print::outcome(out, h.calls, r)?;
+    trace_print::buffer(out, b"forward ", forward, forward_size(r))?;
+    trace_print::buffer(out, b"reply ", reply, reply_size(r))?;
+    trace_print::rows(out, instances, h.clock)?;
+    trace_print::routes(out, routes, h.clock)
 }
 
 // A received message: what the call comes to.
+#[tactic(auto, using(lemmas::proofs::Cases::cases, std::proofs::Common::rules))]
 fn message(
     instances: &mut [InstanceRow],
     routes: &mut [RouteRow],
@@ -153,6 +160,7 @@ fn message(
 }
 
 // A start: what the call comes to.
+#[tactic(auto, using(lemmas::proofs::Cases::cases, std::proofs::Common::sym, std::proofs::Common::rules))]
 fn start(
     instances: &mut [InstanceRow],
     routes: &mut [RouteRow],
@@ -181,7 +189,9 @@ fn start(
 }
 
 // Counts a call and prints what it came to.
-fn tell(
+#[tactic(auto, using(lemmas::proofs::Cases::cases, std::proofs::Common::rules))]
+fn tell<W: Write>(
+    out: &mut W,
     instances: &[InstanceRow],
     routes: &[RouteRow],
     forward: &[u8],
@@ -189,14 +199,15 @@ fn tell(
     tally: &mut Tally,
     r: Outcome,
     h: Host,
-) -> Host {
+) -> io::Result<Host> {
     tally::raise(tally, outcome::answer_of(r));
     let next = after(h, r);
-    print_call(instances, routes, forward, reply, r, next);
-    next
+    print_call(out, instances, routes, forward, reply, r, next)?;
+    Ok(next)
 }
 
 // A call with buffers of the lengths that the host keeps.
+#[tactic(auto, using(lemmas::proofs::Cases::cases, std::proofs::Common::sym, std::proofs::Common::rules))]
 fn call(
     instances: &mut [InstanceRow],
     routes: &mut [RouteRow],
@@ -215,7 +226,9 @@ fn call(
 }
 
 // One record: a call, or something handed in.
-fn turn(
+#[tactic(auto, using(lemmas::proofs::Cases::cases, std::proofs::Common::rules))]
+fn turn<W: Write>(
+    out: &mut W,
     instances: &mut [InstanceRow],
     routes: &mut [RouteRow],
     forward: &mut [u8],
@@ -224,18 +237,25 @@ fn turn(
     kind: u8,
     o: &[u8],
     h: Host,
-) -> Host {
+) -> io::Result<Host> {
     if trace_input::is_call(kind) {
         let r = call(instances, routes, forward, reply, kind, o, h);
-        return tell(instances, routes, forward, reply, tally, r, h);
+        return tell(out, instances, routes, forward, reply, tally, r, h);
     }
     trace_input::hand_in(instances, routes, kind, o);
     trace_input::hand_in_count(tally, kind, o);
-    handed(h, kind, o)
+    Ok(handed(h, kind, o))
 }
 
 // The records of a list after its first, until its end.
-fn serve(instances: &mut [InstanceRow], routes: &mut [RouteRow], own: Own) {
+#[tactic(auto, using(lemmas::proofs::Cases::cases, std::proofs::Common::length, std::proofs::Common::sym, std::proofs::Common::rules))]
+fn serve<R: Read, W: Write>(
+    input: &mut R,
+    out: &mut W,
+    instances: &mut [InstanceRow],
+    routes: &mut [RouteRow],
+    own: Own,
+) -> io::Result<()> {
     let mut forward = [0u8; 2048];
     let mut reply = [0u8; 2048];
     let mut octets = [0u8; 2048];
@@ -244,16 +264,16 @@ fn serve(instances: &mut [InstanceRow], routes: &mut [RouteRow], own: Own) {
     let mut left: usize = 65536;
     while 0 < left {
         left = left - 1;
-        let head = trace_input::read_record(&mut octets);
+        let head = trace_input::read_record(input, &mut octets)?;
         let size = head.size;
         if head.kind == 0 {
-            return;
+            return Ok(());
         }
         if head.kind == b'e' {
-            trace_print::tally(tally);
-            return;
+            return trace_print::tally(out, tally);
         }
         h = turn(
+            out,
             instances,
             routes,
             &mut forward,
@@ -262,38 +282,46 @@ fn serve(instances: &mut [InstanceRow], routes: &mut [RouteRow], own: Own) {
             head.kind,
             &octets[..size],
             h,
-        );
+        )?;
     }
+    Ok(())
 }
 
 // One list on a fresh node: whether there was one.
-fn list(number: u64) -> bool {
+#[tactic(auto, using(lemmas::proofs::Cases::cases, std::proofs::Common::sym, std::proofs::Common::rules))]
+fn list<R: Read, W: Write>(input: &mut R, out: &mut W, number: u64) -> io::Result<bool> {
     let mut octets = [0u8; 2048];
-    let head = trace_input::read_record(&mut octets);
+    let head = trace_input::read_record(input, &mut octets)?;
     if head.kind != b'n' {
-        return false;
+        return Ok(false);
     }
     let n = trace_input::rows_at(&octets, 32);
     let m = trace_input::rows_at(&octets, 34);
     let mut instances = [trace_input::no_row(); 80];
     let mut routes = [trace_input::no_route(); 80];
-    trace_print::words(b"list");
-    trace_print::decimal(number);
-    trace_print::words(b"\n");
+    trace_print::words(out, b"list")?;
+    trace_print::decimal(out, number)?;
+    trace_print::words(out, b"\n")?;
     serve(
+        input,
+        out,
         &mut instances[..n],
         &mut routes[..m],
         trace_input::own_at(&octets),
-    );
-    true
+    )?;
+    Ok(true)
 }
 
-fn main() {
+#[tactic(auto, using(lemmas::proofs::Cases::cases))]
+fn main(rt: HostRuntime) -> io::Result<()> {
+    let mut input = rt.reader();
+    let mut out = io::writer(&rt);
     let mut number: u64 = 0;
     while number < 65536 {
         number = number + 1;
-        if list(number) {} else {
-            return;
+        if !list(&mut input, &mut out, number)? {
+            return out.flush();
         }
     }
+    out.flush()
 }

@@ -1,10 +1,14 @@
 // 01's whole example through the node: prints answer, lengths and octets. Then the same with the downward link bad, and with the
 // MinHopRankIncrease of 1 that a calibration sheet once gave.
+#![tactic(auto)]
+
 use message::Link;
 use outcome::Outcome;
 use own::Own;
 use plain::Target;
 use row::{InstanceRow, RouteRow};
+use std::io;
+use std::io::Write;
 
 // The ASCII digit of a number below 16.
 fn digit(x: u8) -> u8 {
@@ -17,36 +21,43 @@ fn digit(x: u8) -> u8 {
     63
 }
 
-fn print_octet(x: u8) {
+fn print_octet<W: Write>(out: &mut W, x: u8) -> io::Result<()> {
     let three = [32, digit(x / 16), digit(x % 16)];
-    io::write_all(1, &three);
+    out.write_all(&three)
 }
 
 // The first n octets of a buffer.
-fn print_octets(s: &[u8], n: usize) {
+#[tactic(auto, using(lemmas::proofs::Cases::cases))]
+fn print_octets<W: Write>(out: &mut W, s: &[u8], n: usize) -> io::Result<()> {
     let mut i: usize = 0;
     while i < n {
         if s.len() <= i {
-            return;
+            return Ok(());
         }
-        print_octet(s[i]);
+        print_octet(out, s[i])?;
         i = i + 1;
     }
+    Ok(())
 }
 
-fn print_outcome(r: Outcome, forward: &[u8], reply: &[u8]) {
+fn print_outcome<W: Write>(
+    out: &mut W,
+    r: Outcome,
+    forward: &[u8],
+    reply: &[u8],
+) -> io::Result<()> {
     let a = r.answer;
-    io::write_all(1, b"answer ");
-    io::print_decimal(1, answer::number(a) as u64);
-    io::write_all(1, b" forward ");
-    io::print_decimal(1, r.forward.size as u64);
-    io::write_all(1, b" reply ");
-    io::print_decimal(1, r.reply.size as u64);
-    io::write_all(1, b"\n");
-    print_octets(forward, r.forward.size);
-    io::write_all(1, b"\n");
-    print_octets(reply, r.reply.size);
-    io::write_all(1, b"\n");
+    out.write_all(b"answer ")?;
+    write!(out, "{}", answer::number(a))?;
+    out.write_all(b" forward ")?;
+    write!(out, "{}", r.forward.size)?;
+    out.write_all(b" reply ")?;
+    write!(out, "{}", r.reply.size)?;
+    out.write_all(b"\n")?;
+    print_octets(out, forward, r.forward.size)?;
+    out.write_all(b"\n")?;
+    print_octets(out, reply, r.reply.size)?;
+    out.write_all(b"\n")
 }
 
 // Both own addresses fd00::2.
@@ -105,7 +116,7 @@ fn no_route() -> RouteRow {
 }
 
 // A fresh node of 4 rows a table is given one message at time 0.
-fn run(octets: &[u8], downward: bool) {
+fn run<W: Write>(out: &mut W, octets: &[u8], downward: bool) -> io::Result<()> {
     let mut instances = [no_row(); 4];
     let mut routes = [no_route(); 4];
     let mut forward = [0u8; 1236];
@@ -122,15 +133,16 @@ fn run(octets: &[u8], downward: bool) {
         0,
         link(downward),
     );
-    print_outcome(r, &forward, &reply);
+    print_outcome(out, r, &forward, &reply)
 }
 
-fn main() {
+fn main(rt: HostRuntime) -> io::Result<()> {
+    let mut out = io::writer(&rt);
     let whole =
         b"\x81\x00\x03\x00\x20\x00\x00\x00\xfd\x00\x00\x00\x00\x00\x00\x00\x00\x00\x00\x00\x00\x00\x00\x01\x0b\x03\xc0\x87\xf0\x0d\x12\x00\x00\xfd\x00\x00\x00\x00\x00\x00\x00\x00\x00\x00\x00\x00\x00\x00\x09";
     let sheet =
         b"\x81\x00\x03\x00\x20\x00\x00\x00\xfd\x00\x00\x00\x00\x00\x00\x00\x00\x00\x00\x00\x00\x00\x00\x01\x04\x0e\x00\x00\x00\x00\x00\x00\x00\x01\x00\x00\x00\x01\x00\x01\x0b\x03\xc0\x87\xf0\x0d\x12\x00\x00\xfd\x00\x00\x00\x00\x00\x00\x00\x00\x00\x00\x00\x00\x00\x00\x09";
-    run(whole, true);
-    run(whole, false);
-    run(sheet, true);
+    run(&mut out, whole, true)?;
+    run(&mut out, whole, false)?;
+    run(&mut out, sheet, true)
 }
