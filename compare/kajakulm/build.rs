@@ -1,5 +1,5 @@
 //! Says where libkajakulm.a lies: in the folder that KAJAKULM_LIB names
-//! (relative to compare/), else where `rt staticlib kajakulm` writes it.
+//! (relative to compare/), else where tools/compare has it made.
 
 use std::env;
 use std::path::{Path, PathBuf};
@@ -18,6 +18,6 @@ fn main() {
 
 fn folder() -> PathBuf {
     let workspace = Path::new(env!("CARGO_MANIFEST_DIR")).join("..");
-    let named = env::var_os("KAJAKULM_LIB").unwrap_or_else(|| "../target/staticlib".into());
+    let named = env::var_os("KAJAKULM_LIB").unwrap_or_else(|| "../target/library".into());
     workspace.join(named)
 }

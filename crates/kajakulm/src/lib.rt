@@ -1,5 +1,7 @@
-// The calls that a host makes, in C's form. A table, a buffer or a message is a pointer and a count. Each takes any arguments whatever, ends
-// with one outcome and raises the tally by its answer.
+// The calls that a host makes, over records in C's form. Each takes any arguments whatever, ends with one outcome and raises the tally by its
+// answer. crates/kajakulm_c exports them to C.
+#![tactic(auto)]
+
 ghost use Rattle.std.specs.Prelude.{length};
 ghost use Rattle.plain.specs.Plain.{step};
 ghost use Rattle.own.specs.Settings.{settings_of};
@@ -16,8 +18,8 @@ use row::{InstanceRow, RouteRow};
 use tally::Tally;
 
 // A received message.
-#[unsafe(no_mangle)]
-pub extern "C" fn kajakulm_message(
+#[tactic(auto, using(lemmas::proofs::Cases::cases, crate::proofs::Laws::tallied))]
+pub fn kajakulm_message(
     instances: &mut [InstanceRow],
     routes: &mut [RouteRow],
     forward: &mut [u8],
@@ -49,8 +51,8 @@ pub extern "C" fn kajakulm_message(
 }
 
 // The start of our own discovery.
-#[unsafe(no_mangle)]
-pub extern "C" fn kajakulm_start(
+#[tactic(auto, using(lemmas::proofs::Cases::cases, crate::proofs::Laws::tallied))]
+pub fn kajakulm_start(
     instances: &mut [InstanceRow],
     routes: &mut [RouteRow],
     forward: &mut [u8],

@@ -1,2 +1,0 @@
-pub mod kajakulm_message
-pub mod kajakulm_start

@@ -1,0 +1,62 @@
+// The calls of crates/kajakulm for C, as libkajakulm.a has them (tools/library): the same promises under the same names. A table, a buffer or a
+// message is a pointer and a count.
+#![tactic(auto)]
+
+ghost use Rattle.std.specs.Prelude.{length};
+ghost use Rattle.plain.specs.Plain.{step};
+ghost use Rattle.own.specs.Settings.{settings_of};
+ghost use Rattle.finish.specs.Gives.{state_of};
+ghost use Rattle.called.specs.Calls.{message_call, start_call};
+ghost use Rattle.handed.specs.Handed.{link_of, asking_of};
+ghost use Rattle.host.specs.Host.{HostGives};
+
+use handed::{HostLink, HostStart};
+use host::HostOutcome;
+use own::Own;
+use plain::Target;
+use row::{InstanceRow, RouteRow};
+use tally::Tally;
+
+// A received message.
+#[unsafe(no_mangle)]
+pub extern "C" fn kajakulm_message(
+    instances: &mut [InstanceRow],
+    routes: &mut [RouteRow],
+    forward: &mut [u8],
+    reply: &mut [u8],
+    octets: &[u8],
+    own: Own,
+    clock: u64,
+    seq: u8,
+    time: u64,
+    link: HostLink,
+    tally: &mut Tally,
+) -> HostOutcome
+    ensures { HostGives (step (settings_of own) (state_of clock seq instances.old routes.old) (message_call time (length forward.old) (length reply.old) (link_of link) octets.now)) instances.old instances.new routes.old routes.new forward.old forward.new reply.old reply.new tally.old.counts tally.new.counts result }
+{
+    kajakulm::kajakulm_message(
+        instances, routes, forward, reply, octets, own, clock, seq, time, link, tally,
+    )
+}
+
+// The start of our own discovery.
+#[unsafe(no_mangle)]
+pub extern "C" fn kajakulm_start(
+    instances: &mut [InstanceRow],
+    routes: &mut [RouteRow],
+    forward: &mut [u8],
+    reply: &mut [u8],
+    targets: &[Target],
+    own: Own,
+    clock: u64,
+    seq: u8,
+    time: u64,
+    start: HostStart,
+    tally: &mut Tally,
+) -> HostOutcome
+    ensures { HostGives (step (settings_of own) (state_of clock seq instances.old routes.old) (start_call time (length forward.old) (length reply.old) (asking_of start) targets.now)) instances.old instances.new routes.old routes.new forward.old forward.new reply.old reply.new tally.old.counts tally.new.counts result }
+{
+    kajakulm::kajakulm_start(
+        instances, routes, forward, reply, targets, own, clock, seq, time, start, tally,
+    )
+}
