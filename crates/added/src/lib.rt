@@ -1,4 +1,6 @@
 // A vector with our two addresses added.
+#![tactic(auto)]
+
 ghost use Rattle.std.specs.Prelude.{◌≡◌, ◌≤◌, take};
 ghost use Rattle.plain.specs.Request.{grown};
 ghost use Rattle.own.specs.Settings.{settings_of};
@@ -8,6 +10,7 @@ use own::Own;
 
 // A vector with ours added: the receiving address, then the sending one if different, which `count` tells: addresses that are looked at octet
 // by octet are kept and copied octet by octet.
+#[tactic(auto, using(lemmas::proofs::Cases::cases, crate::proofs::Laws::same_told, crate::proofs::Laws::different_told, crate::proofs::Laws::grow_one, crate::proofs::Laws::grow_two, crate::proofs::Laws::room_one, crate::proofs::Laws::room_two), unfolding(grown::specs::Grown::grown_count))]
 pub fn grown_vector(
     o: Own,
     h: bool,

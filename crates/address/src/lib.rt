@@ -1,10 +1,13 @@
 // Addresses: sixteen octets by value (01, "Octets on the air").
+#![tactic(auto)]
+
 ghost use Rattle.std.specs.Prelude.{◌≡◌};
 ghost use Rattle.plain.specs.Lists.{same};
 ghost use Rattle.plain.specs.Address.{first_bits, agree};
 
 // Whether two addresses are the same: they share all sixteen octets. Most differ in their last octet, so that one is compared first. A loop of
 // its own, and not `shares_first`, since it is compiled to one comparison of all octets.
+#[tactic(auto, using(lemmas::proofs::Walk::same_miss, lemmas::proofs::Walk::same_hit, lemmas::proofs::Walk::same_end, lemmas::proofs::Same::differ, lemmas::proofs::Cases::cases))]
 pub fn is_same(a: [u8; 16], b: [u8; 16]) -> bool
     ensures { result ≡ same a b }
 {
@@ -22,6 +25,7 @@ pub fn is_same(a: [u8; 16], b: [u8; 16]) -> bool
 }
 
 // The first k bits of an address, the others 0. Most are asked for whole.
+#[tactic(auto, using(lemmas::proofs::Cases::cases, prefix::proofs::Laws::first_all))]
 pub fn first_bits(k: u8, a: [u8; 16]) -> [u8; 16]
     ensures { result ≡ first_bits k a }
 {
@@ -32,6 +36,7 @@ pub fn first_bits(k: u8, a: [u8; 16]) -> [u8; 16]
 }
 
 // Whether two addresses share their first k bits.
+#[tactic(auto, using(lemmas::proofs::Cases::cases, prefix::proofs::Laws::first_all))]
 pub fn do_agree(k: u8, a: [u8; 16], b: [u8; 16]) -> bool
     ensures { result ≡ agree k a b }
 {

@@ -1,8 +1,11 @@
 // Sixteen addresses in an array: that each is whole, and the first of them turned round.
+#![tactic(auto)]
+
 ghost use Rattle.std.specs.Prelude.{◌≡◌, reverse, ◌≤◌, length, take};
 ghost use Rattle.lemmas.specs.Each.{WholeVector};
 
 // Sixteen addresses by value have sixteen octets each: nothing is done with them but to say so.
+#[tactic(auto, using(lemmas::proofs::Cases::cases, crate::proofs::Long::arrays_long))]
 fn known(vector: [[u8; 16]; 16])
     ensures { (length vector ≡ 16) × WholeVector vector }
 {}
@@ -15,6 +18,7 @@ pub fn whole(vector: &[[u8; 16]; 16])
 }
 
 // The first n addresses turned round.
+#[tactic(auto, using(lemmas::proofs::Cases::cases, crate::proofs::Turned::turned_none, crate::proofs::Turned::turned_more, crate::proofs::Turned::turned_all))]
 pub fn reversed(n: usize, vector: &[[u8; 16]; 16]) -> [[u8; 16]; 16]
     requires { n ≤ 16 }
     ensures { take n result ≡ reverse (take n vector.now) }

@@ -1,10 +1,12 @@
 // What a call answers: one of 01's numbers, and where what was written is to go.
+#![tactic(auto)]
+
 ghost use Rattle.std.specs.Prelude.{◌≡◌};
 ghost use Rattle.plain.specs.Given as given;
 ghost use Rattle.answer.specs.Answer.{answer_number, destination_of};
 
 // 01, "Answer numbers": the table's lines.
-#[derive(Drop)]
+#[derive(Clone, Copy)]
 pub enum Answer {
     Done,
     BadCall,
@@ -27,6 +29,7 @@ pub enum Answer {
 }
 
 // 01's number of an answer.
+#[tactic(auto, using(lemmas::proofs::Cases::cases))]
 pub fn number(a: Answer) -> u8
     ensures { result ≡ answer_number a }
 {
@@ -53,7 +56,7 @@ pub fn number(a: Answer) -> u8
 }
 
 // Where a buffer's octets are to go: "whether to the group, to which neighbour, to the caller (OrigNode's path) or, at length 0, nowhere".
-#[derive(Drop)]
+#[derive(Clone, Copy)]
 pub enum Way {
     Nowhere,
     Group,
@@ -62,7 +65,7 @@ pub enum Way {
 }
 
 // A way with its neighbour's address, all zero for every other way.
-#[derive(Drop)]
+#[derive(Clone, Copy)]
 pub struct Destination {
     pub neighbour: [u8; 16],
     pub way: Way,

@@ -1,4 +1,6 @@
 // The body of an ART, the option that carries a target (01, "Octets on the air"), and two targets compared.
+#![tactic(auto)]
+
 ghost use Rattle.std.specs.Prelude.{◌≡◌, false};
 ghost use Rattle.plain.specs.Octets.{octet_at, prefix_bits, prefix_octets, plen_of, bad_art, target_of, same_target};
 
@@ -12,6 +14,7 @@ pub fn octet_at(octets: &[u8], i: usize) -> u8
 }
 
 // How many bits a Prefix Length stands for.
+#[tactic(auto, using(lemmas::proofs::Cases::cases))]
 pub fn prefix_bits(plen: u8) -> u8
     ensures { result ≡ prefix_bits plen }
 {
@@ -26,6 +29,7 @@ fn prefix_octets(plen: u8) -> usize
 }
 
 // The Prefix Length of an ART.
+#[tactic(auto, using(lemmas::proofs::Cases::cases), unfolding(plain::specs::Octets::fields, plain::specs::Octets::sum))]
 pub fn prefix_length(body: &[u8]) -> u8
     ensures { result ≡ plen_of body.now }
 {
@@ -33,6 +37,7 @@ pub fn prefix_length(body: &[u8]) -> u8
 }
 
 // Whether an ART has another size than its Prefix Length says.
+#[tactic(auto, using(lemmas::proofs::Rules::most_octets_lem, lemmas::proofs::Targets::plen_below, lemmas::proofs::Cases::cases), unfolding(plain::specs::Octets::bad_art))]
 pub fn is_bad_art(body: &[u8]) -> bool
     ensures { result ≡ bad_art body.now }
 {
@@ -43,6 +48,7 @@ pub fn is_bad_art(body: &[u8]) -> bool
 }
 
 // The target of an ART, with spare bits 0.
+#[tactic(auto, using(lemmas::proofs::Cases::cases, lemmas::proofs::Buffer::rest_is, crate::proofs::Laws::art_size, crate::proofs::Laws::filled_up), unfolding(plain::specs::Octets::target_of))]
 pub fn read_target(body: &[u8]) -> Target
     requires { bad_art body.now ≡ false }
     ensures { result ≡ target_of body.now }
@@ -59,6 +65,7 @@ pub fn read_target(body: &[u8]) -> Target
 }
 
 // Whether two targets have the same prefix length and meaningful bits.
+#[tactic(auto, using(lemmas::proofs::Cases::cases, crate::proofs::Laws::same_near), unfolding(plain::specs::Octets::same_target))]
 pub fn same_target(a: Target, b: Target) -> bool
     ensures { result ≡ same_target a b }
 {

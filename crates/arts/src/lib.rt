@@ -1,4 +1,6 @@
 // The targets of all ARTs of a message (01, "Octets on the air").
+#![tactic(auto)]
+
 ghost use Rattle.std.specs.Prelude.{◌≡◌, false};
 ghost use Rattle.plain.specs.Octets.{options_of, of_type, art_type, any_bad, targets_of};
 ghost use Rattle.targets.specs.Collected.{targets_in, Gathered};
@@ -19,6 +21,7 @@ fn targets_in(list: [Target; 8], c: Count) -> Targets
 }
 
 // The targets of all ARTs of a message whose options are not bad, each once.
+#[tactic(auto, using(lemmas::proofs::Cases::cases, targets::proofs::Laws::none_collected, option::proofs::Turn::pad_placed, option::proofs::Turn::body_placed, crate::proofs::Collecting::art_targets, crate::proofs::Collecting::gathered_out, crate::proofs::Collecting::gathered_end, crate::proofs::Collecting::gathered_cut, crate::proofs::Collecting::collecting_pad))]
 pub fn read_targets(msg: &[u8]) -> Targets
     requires { any_bad (options_of msg.now) ≡ false }
     ensures { Gathered (targets_of (of_type art_type (options_of msg.now))) result }

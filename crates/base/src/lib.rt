@@ -1,10 +1,13 @@
 // The base object of a message (01, "RFC 6550, 6.3.1"), and 5: a DODAGID that is link-local, multicast or all zero.
+#![tactic(auto)]
+
 ghost use Rattle.std.specs.Prelude.{◌≡◌, ◌≤◌, length};
 ghost use Rattle.plain.specs.Address.{unusable};
 ghost use Rattle.plain.specs.Octets.{base_of};
 
 use plain::Base;
 
+#[tactic(auto, using(lemmas::proofs::Cases::cases, octets::proofs::Laws::over_end, option::proofs::Part::length_part), unfolding(plain::specs::Octets::base_of))]
 pub fn read_dodagid(msg: &[u8]) -> [u8; 16]
     requires { 24 ≤ length msg.now }
     ensures { result ≡ (base_of msg.now).dodagid }
@@ -23,6 +26,7 @@ pub fn has_unusable_dodagid(msg: &[u8]) -> bool
 }
 
 // The base object.
+#[tactic(auto, using(lemmas::proofs::Cases::cases, crate::proofs::Laws::base_is), unfolding(plain::specs::Octets::base_of))]
 pub fn read_base(msg: &[u8]) -> Base
     requires { 24 ≤ length msg.now }
     ensures { result ≡ base_of msg.now }

@@ -1,5 +1,7 @@
 // The node's public calls: one for a received message, one for the start of our own discovery. Each takes any arguments whatever and ends
 // with one outcome.
+#![tactic(auto)]
+
 ghost use Rattle.std.specs.Prelude.{◌≡◌};
 ghost use Rattle.plain.specs.Request.{ours};
 ghost use Rattle.own.specs.Settings.{settings_of};
@@ -49,6 +51,7 @@ fn targets_of(g: Gathering) -> Targets
 // ---- over the lent tables
 
 // A received message.
+#[tactic(auto, using(lemmas::proofs::Cases::cases, called::proofs::Laws::is_bad, called::proofs::Laws::is_bad_event, called::proofs::Laws::short, called::proofs::Laws::long, called::proofs::Laws::octets_refused, called::proofs::Laws::octets_read, called::proofs::Laws::own_refused, called::proofs::Laws::taken, called::proofs::Laws::reply_step, called::proofs::Laws::request_step))]
 pub fn message(
     instances: &mut [InstanceRow],
     routes: &mut [RouteRow],
@@ -104,6 +107,7 @@ pub fn message(
 }
 
 // The start of our own discovery, with any number of targets.
+#[tactic(auto, using(lemmas::proofs::Cases::cases, called::proofs::Laws::is_bad, called::proofs::Laws::is_bad_event, called::proofs::Laws::taken_start, called::proofs::Laws::start_step))]
 pub fn start(
     instances: &mut [InstanceRow],
     routes: &mut [RouteRow],

@@ -1,4 +1,6 @@
 // Targets collected one after the other in a lent list.
+#![tactic(auto)]
+
 ghost use Rattle.std.specs.Prelude.{◌≡◌, ◌≤◌, length, take, set};
 ghost use Rattle.plain.specs.Lists.{any};
 ghost use Rattle.plain.specs.Octets.{same_target};
@@ -8,6 +10,7 @@ use plain::Target;
 use targets::Count;
 
 // Whether a target is among the first n of a list.
+#[tactic(auto, using(lemmas::proofs::Cases::cases, lemmas::proofs::Front::is_found, lemmas::proofs::Front::not_here, lemmas::proofs::Front::nowhere))]
 pub fn is_listed(t: Target, list: &[Target], n: usize) -> bool
     requires { n ≤ length list.now }
     ensures { result ≡ any (same_target t) (take n list.now) }
@@ -33,6 +36,7 @@ fn put_target(list: &mut [Target], at: usize, t: Target)
 }
 
 // Collects the next target, which counts at its first place only.
+#[tactic(auto, using(lemmas::proofs::Cases::cases, targets::proofs::Laws::joined))]
 pub fn collect(list: &mut [Target], c: Count, t: Target) -> Count
     requires { (c.n ≤ 8) × (length list.old ≡ 8) }
     ensures { Joined c list.old t result list.new }

@@ -1,17 +1,20 @@
 // How long rows last, in ms (01, "Octets on the air": L, Default Lifetime and Lifetime Unit), and MinHopRankIncrease, the third field
 // that is read from a Configuration.
+#![tactic(auto)]
+
 ghost use Rattle.std.specs.Prelude.{◌+◌, ◌*◌, ◌^◌, ◌≤◌, ◌≡◌, cond};
 ghost use Rattle.std.proofs.Math.Option.{some, none};
 ghost use Rattle.plain.specs.Rank.{min_hop, row_deadline, lifetime_deadline};
 ghost use Rattle.deadline.specs.Deadline.{Means};
 
 // A deadline. Where it is endless, `at` is not looked at.
-#[derive(Drop)]
+#[derive(Clone, Copy)]
 pub struct Deadline {
     pub endless: bool,
     pub at: u64,
 }
 
+#[tactic(auto, using(lemmas::proofs::Cases::cases), unfolding(crate::specs::Deadline::deadline_of))]
 fn endless() -> Deadline
     ensures { Means none result }
 {
@@ -21,6 +24,7 @@ fn endless() -> Deadline
     }
 }
 
+#[tactic(auto, using(lemmas::proofs::Cases::cases, lemmas::proofs::Choice::true_false), unfolding(crate::specs::Deadline::deadline_of))]
 fn until(at: u64) -> Deadline
     requires { at ≤ 2 ^ 41 }
     ensures { Means (some at) result }
@@ -48,6 +52,7 @@ pub fn min_hop(configured: bool, configuration: [u8; 14]) -> u16
 }
 
 // The deadline of a row, from L.
+#[tactic(auto, using(lemmas::proofs::Cases::cases), unfolding(plain::specs::Rank::row_deadline))]
 pub fn of_l(time: u64, l: u8) -> Deadline
     requires { time ≤ 2 ^ 40 }
     ensures { Means (row_deadline time l) result }
@@ -72,6 +77,7 @@ fn ms(lifetime: u8, unit: u16) -> u64
 }
 
 // The deadline of a route: Default Lifetime times Lifetime Unit seconds.
+#[tactic(auto, using(lemmas::proofs::Cases::cases), unfolding(plain::specs::Rank::lifetime_deadline))]
 pub fn of_lifetime(time: u64, configured: bool, configuration: [u8; 14]) -> Deadline
     requires { time ≤ 2 ^ 40 }
     ensures { Means (lifetime_deadline time (cond configured (some configuration) none)) result }

@@ -1,5 +1,7 @@
 // What the rules decide of a call that they answer 0, by value: the records to store, our number, and what is sent. Where the records go,
 // and whether there is room for them, is decided by whoever holds the tables.
+#![tactic(auto)]
+
 ghost use Rattle.std.specs.Prelude.{◌≡◌, cond};
 ghost use Rattle.decision.specs.declared.What.TheVariants.{Nothing, Dio};
 ghost use Rattle.decision.specs.Blank.{no_post, no_reply};
@@ -10,7 +12,7 @@ use plain::{Base, Discovery, Target};
 use row::{InstanceRow, RouteRow};
 
 // What goes into a buffer.
-#[derive(Drop)]
+#[derive(Clone, Copy)]
 pub enum What {
     Nothing,
     Dio,
@@ -19,7 +21,7 @@ pub enum What {
 
 // What goes into a buffer, and where it is to go. Its vector is the first addresses of the received message's, with our own added where
 // `grown`; a path is turned round where `turned`.
-#[derive(Drop)]
+#[derive(Clone, Copy)]
 pub struct Post {
     pub what: What,
     pub message: Parsed,
@@ -30,7 +32,7 @@ pub struct Post {
 
 // What a reply row holds. A sixth of the row's size: the row itself is made where it is stored. Here and in `Decided` wide fields first, so
 // there is no padding between fields: it would be copied too, and the copy would wait for the writes beside it.
-#[derive(Drop)]
+#[derive(Clone, Copy)]
 pub struct ReplyFields {
     pub deadline: u64,
     pub dodagid: [u8; 16],
@@ -41,7 +43,7 @@ pub struct ReplyFields {
 }
 
 // What is stored. `second`, a reply row, is stored where `replies`, `route` where `routed`.
-#[derive(Drop)]
+#[derive(Clone, Copy)]
 pub struct Decided {
     pub row: InstanceRow,
     pub second: ReplyFields,

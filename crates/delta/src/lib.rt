@@ -1,4 +1,6 @@
 // The least Delta that is free for our reply.
+#![tactic(auto)]
+
 ghost use Rattle.std.specs.Prelude.{◌≡◌, true, false, ℕ, ◌≤◌};
 ghost use Rattle.delta.specs.Delta.{delta_seen};
 ghost use Rattle.message.specs.Message.{delta_found};
@@ -22,6 +24,7 @@ fn none_free() -> FreeDelta
 }
 
 // "Delta is the least of 0..63 for which RPLInstanceID plus Delta .. is not in use by a live reply row with that DODAGID."
+#[tactic(auto, using(lemmas::proofs::Cases::cases, crate::proofs::Laws::tried_none, crate::proofs::Laws::tried_all))]
 fn free_delta(rows: &[InstanceRow], t: u64, instance: u8, dodagid: [u8; 16]) -> FreeDelta
     ensures { (clock : ℕ) → clock ≤ t → delta_found result ≡ delta_seen clock rows.now t instance dodagid }
 {
@@ -39,6 +42,7 @@ fn free_delta(rows: &[InstanceRow], t: u64, instance: u8, dodagid: [u8; 16]) -> 
 }
 
 // The free Delta where one is needed: finding it is a pass over the table.
+#[tactic(auto, using(lemmas::proofs::Cases::cases, lemmas::proofs::Choice::true_false))]
 pub fn free_delta_if(
     needed: bool,
     rows: &[InstanceRow],

@@ -1,10 +1,13 @@
 // What an RREQ or RREP says, but for its vector (01, "Octets on the air").
+#![tactic(auto)]
+
 ghost use Rattle.std.specs.Prelude.{◌≡◌};
 ghost use Rattle.plain.specs.Octets.{number_of, discovery_of};
 
 use plain::Discovery;
 
 // An RREQ or, where `reply` is true, an RREP, without its vector.
+#[tactic(auto, using(lemmas::proofs::Cases::cases, crate::proofs::Laws::discovery_is))]
 pub fn discovery(reply: bool, body: &[u8]) -> Discovery
     ensures { result ≡ discovery_of reply body.now }
 {
@@ -21,6 +24,7 @@ pub fn discovery(reply: bool, body: &[u8]) -> Discovery
 }
 
 // Orig SeqNo of an RREQ, Delta of an RREP.
+#[tactic(auto, using(lemmas::proofs::Cases::cases), unfolding(plain::specs::Octets::fields, plain::specs::Octets::sum))]
 fn number_of(reply: bool, body: &[u8]) -> u8
     ensures { result ≡ number_of reply body.now }
 {

@@ -1,4 +1,6 @@
 // What the octets of a message are refused for, each asked by itself (01, "Octets on the air"): 3, 4 and 6.
+#![tactic(auto)]
+
 ghost use Rattle.std.specs.Prelude.{◌≡◌, ◌||◌, List, ℕ, ◌-◌, ◌/◌, ◌≤◌, ltb};
 ghost use Rattle.plain.specs.Octets.{options_of, request_counts, reply_counts, malformed, unfit};
 ghost use Rattle.scan.specs.Scanned.{Outlined, Scanned};
@@ -6,6 +8,7 @@ ghost use Rattle.scan.specs.Scanned.{Outlined, Scanned};
 use scan::Scan;
 
 // Whether the options are a request's: one RREQ, no RREP, one ART or more.
+#[tactic(auto, using(lemmas::proofs::Cases::cases, crate::proofs::Counts::request_is))]
 fn is_request(s: Scan) -> bool
     ensures { (msg : List ℕ) → Outlined msg s → result ≡ request_counts (options_of msg) }
 {
@@ -19,6 +22,7 @@ fn is_request(s: Scan) -> bool
 }
 
 // Whether the options are a reply's: one RREP, no RREQ, one ART.
+#[tactic(auto, using(lemmas::proofs::Cases::cases, crate::proofs::Counts::reply_is))]
 pub fn is_reply(s: Scan) -> bool
     ensures { (msg : List ℕ) → Outlined msg s → result ≡ reply_counts (options_of msg) }
 {
@@ -32,6 +36,7 @@ pub fn is_reply(s: Scan) -> bool
 }
 
 // Whether the message is cut or malformed.
+#[tactic(auto, using(lemmas::proofs::Cases::cases, crate::proofs::Counts::malformed_short, crate::proofs::Counts::malformed_bad, crate::proofs::Counts::malformed_is, crate::proofs::Counts::reply_art))]
 pub fn is_malformed(msg: &[u8], s: Scan) -> bool
     requires { Scanned msg.now s }
     ensures { result ≡ malformed msg.now }
@@ -54,6 +59,7 @@ pub fn is_malformed(msg: &[u8], s: Scan) -> bool
 }
 
 // Whether MOP is not 4, or the counts of options are wrong.
+#[tactic(auto, using(lemmas::proofs::Cases::cases, crate::proofs::Counts::mop_is, crate::proofs::Counts::unfit_mop, crate::proofs::Counts::unfit_is))]
 pub fn is_unfit(msg: &[u8], s: Scan) -> bool
     requires { Outlined msg.now s }
     ensures { result ≡ unfit msg.now }
@@ -71,6 +77,7 @@ pub fn is_unfit(msg: &[u8], s: Scan) -> bool
 }
 
 // Whether there are over 16 vector addresses or over 8 targets.
+#[tactic(auto, using(lemmas::proofs::Cases::cases))]
 pub fn is_too_many(size: usize, compr: u8, over: bool) -> bool
     requires { compr ≤ 15 }
     ensures { result ≡ (ltb 16 (size / (16 - compr)) || over) }

@@ -1,8 +1,11 @@
 // The filter that the search for twins goes by: the words in which the hash of a key has its bits.
+#![tactic(auto)]
+
 ghost use Rattle.std.specs.Prelude.{◌≡◌, ◌<◌};
 ghost use Rattle.filter.specs.Filter.{bits_of, maybe_of, marked_of};
 
 // The five bits are told by other parts of the hash than the word is (crates/slot).
+#[tactic(auto, using(lemmas::proofs::Cases::cases), unfolding(crate::specs::Filter::bits_of))]
 fn bits_of(h: u64) -> u64
     ensures { result ≡ bits_of h }
 {
@@ -14,6 +17,7 @@ fn bits_of(h: u64) -> u64
 }
 
 // Whether an earlier row may have the key: all five bits are set.
+#[tactic(auto, using(lemmas::proofs::Cases::cases), unfolding(crate::specs::Filter::maybe_of, crate::specs::Filter::has_bits))]
 pub fn maybe(on: bool, w: u64, h: u64) -> bool
     ensures { result ≡ maybe_of on w h }
 {
@@ -24,6 +28,7 @@ pub fn maybe(on: bool, w: u64, h: u64) -> bool
     false
 }
 
+#[tactic(auto, using(lemmas::proofs::Cases::cases), unfolding(crate::specs::Filter::marked_of))]
 pub fn marked(on: bool, w: u64, h: u64) -> u64
     ensures { result ≡ marked_of on w h }
 {

@@ -1,4 +1,6 @@
 // Searches over the lent table of instance rows.
+#![tactic(auto)]
+
 ghost use Rattle.std.specs.Prelude.{◌≡◌, map};
 ghost use Rattle.plain.specs.Table.{instance_deadline};
 ghost use Rattle.row.specs.Meaning.{instance_of};
@@ -9,6 +11,7 @@ ghost use Rattle.first.specs.Spare.{dead};
 use row::InstanceRow;
 
 // The first request row of that key that is live at t, or the length.
+#[tactic(auto, using(lemmas::proofs::Cases::cases, first::proofs::Search::at_start, first::proofs::Search::at_hit, first::proofs::Search::at_miss, first::proofs::Search::at_end))]
 pub fn find_request(rows: &[InstanceRow], t: u64, instance: u8, dodagid: [u8; 16]) -> usize
     ensures { result ≡ first (request_here t instance dodagid) (map instance_of rows.now) }
 {
@@ -23,6 +26,7 @@ pub fn find_request(rows: &[InstanceRow], t: u64, instance: u8, dodagid: [u8; 16
 }
 
 // The first reply row of that key that is live at t, or the length.
+#[tactic(auto, using(lemmas::proofs::Cases::cases, first::proofs::Search::at_start, first::proofs::Search::at_hit, first::proofs::Search::at_miss, first::proofs::Search::at_end))]
 pub fn find_reply(rows: &[InstanceRow], t: u64, instance: u8, dodagid: [u8; 16]) -> usize
     ensures { result ≡ first (reply_here t instance dodagid) (map instance_of rows.now) }
 {
@@ -37,6 +41,7 @@ pub fn find_reply(rows: &[InstanceRow], t: u64, instance: u8, dodagid: [u8; 16])
 }
 
 // The first row from `from` on that is not live at t, or the length (`from` itself, where that is past the length).
+#[tactic(auto, using(lemmas::proofs::Cases::cases, first::proofs::Search::at_from, first::proofs::Search::at_hit, first::proofs::Search::at_miss, first::proofs::Search::at_end))]
 pub fn find_spare(rows: &[InstanceRow], t: u64, from: usize) -> usize
     ensures { result ≡ first_from (dead instance_deadline t) from (map instance_of rows.now) }
 {

@@ -1,4 +1,6 @@
 // Searches over the lent table of routes.
+#![tactic(auto)]
+
 ghost use Rattle.std.specs.Prelude.{◌≡◌, map};
 ghost use Rattle.plain.specs.Table.{route_deadline};
 ghost use Rattle.row.specs.Meaning.{route_of};
@@ -9,6 +11,7 @@ ghost use Rattle.first.specs.Spare.{dead};
 use row::RouteRow;
 
 // The first route of those three that is live at t, or the length.
+#[tactic(auto, using(lemmas::proofs::Cases::cases, first::proofs::Search::at_start, first::proofs::Search::at_hit, first::proofs::Search::at_miss, first::proofs::Search::at_end))]
 pub fn find_route(
     routes: &[RouteRow],
     t: u64,
@@ -29,6 +32,7 @@ pub fn find_route(
 }
 
 // The first route that is not live at t, or the length.
+#[tactic(auto, using(lemmas::proofs::Cases::cases, first::proofs::Search::at_start, first::proofs::Search::at_hit, first::proofs::Search::at_miss, first::proofs::Search::at_end))]
 pub fn find_spare_route(routes: &[RouteRow], t: u64) -> usize
     ensures { result ≡ first (dead route_deadline t) (map route_of routes.now) }
 {

@@ -1,4 +1,3 @@
-pub mod Lent
 pub mod Laws
 -- for the proofs of callers
 pub mod Settles

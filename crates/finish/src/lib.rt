@@ -1,4 +1,6 @@
 // A call that the rules answer 0, taken to its outcome: 17, or rows stored and octets written.
+#![tactic(auto)]
+
 ghost use Rattle.std.specs.Prelude.{◌≡◌, ◌&&◌, set};
 ghost use Rattle.plain.specs.Request.{Accepted};
 ghost use Rattle.row.specs.Record.{reply_record};

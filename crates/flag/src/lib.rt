@@ -1,4 +1,6 @@
 // A flag as a field of one bit (01, "most significant bit first"), in a message and in a row.
+#![tactic(auto)]
+
 ghost use Rattle.std.specs.Prelude.{◌≡◌, ◌≤◌};
 ghost use Rattle.plain.specs.Octets.{bit};
 

@@ -1,5 +1,7 @@
 // The targets of a start of our own discovery (01, "Octets on the air"): "A target listed twice in a request or start .. counts once, at its
 // first place; the 8 are counted after that." Spare bits are "stored and sent as zero".
+#![tactic(auto)]
+
 ghost use Rattle.std.specs.Prelude.{◌≡◌, ◌||◌};
 ghost use Rattle.targets.specs.Collected.{targets_in};
 ghost use Rattle.plain.specs.Answers.{long_prefix};
@@ -9,7 +11,7 @@ use plain::Target;
 use targets::{Count, Targets};
 
 // What is gathered: the targets, and whether a prefix is over 127.
-#[derive(Drop)]
+#[derive(Clone, Copy)]
 pub struct Gathering {
     pub targets: Targets,
     pub long: bool,
@@ -35,6 +37,7 @@ fn gathered(list: [Target; 8], c: Count, long: bool) -> Gathering
 }
 
 // The targets that are handed in.
+#[tactic(auto, using(lemmas::proofs::Cases::cases, crate::proofs::Steps::begun, crate::proofs::Steps::one_more, crate::proofs::Steps::all_in))]
 pub fn gather(given: &[Target]) -> Gathering
     ensures { Gathers given.now result }
 {

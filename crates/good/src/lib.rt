@@ -1,4 +1,6 @@
 // One row of each table, by value: whether it is good. A row in use that is not makes the state wrong (01, answer 2).
+#![tactic(auto)]
+
 ghost use Rattle.std.specs.Prelude.{◌≡◌, true, ◌&&◌, leb, length};
 ghost use Rattle.plain.specs.Lists.{all};
 ghost use Rattle.plain.specs.Octets.{most_targets};
@@ -11,6 +13,7 @@ use row::{InstanceRow, RouteRow};
 // ---- the parts of a row
 
 // 2^41 is the latest good deadline.
+#[tactic(auto, using(lemmas::proofs::Cases::cases), unfolding(row::specs::Meaning::deadline_of))]
 fn is_good_deadline(endless: u8, deadline: u64) -> bool
     ensures { result ≡ good_deadline (deadline_of endless deadline) }
 {
@@ -20,6 +23,7 @@ fn is_good_deadline(endless: u8, deadline: u64) -> bool
     true
 }
 
+#[tactic(auto, using(lemmas::proofs::Targets::target_past, crate::proofs::Laws::count_over, crate::proofs::Laws::count_within, crate::proofs::Laws::good_at, crate::proofs::Laws::bad_at, lemmas::proofs::Front::front_below, lemmas::proofs::Front::front_past, lemmas::proofs::Walk::walk_stop, lemmas::proofs::Walk::walk_on, lemmas::proofs::Walk::walk_end, lemmas::proofs::Cases::cases))]
 fn are_good_targets(count: u8, targets: [Target; 8]) -> bool
     ensures { result ≡ leb (length (targets_of count targets)) most_targets && all short_prefix (targets_of count targets) }
 {
@@ -39,6 +43,7 @@ fn are_good_targets(count: u8, targets: [Target; 8]) -> bool
 }
 
 // At most four targets, as most rows have, none of them wrong: asked without a branch that goes by the count. If false, nothing is known.
+#[tactic(auto, using(lemmas::proofs::Cases::cases, lemmas::proofs::Choice::true_false, crate::proofs::Laws::few_good))]
 fn are_few_good(count: u8, targets: [Target; 8]) -> bool
     ensures { result ≡ true → leb (length (targets_of count targets)) most_targets && all short_prefix (targets_of count targets) ≡ true }
 {
@@ -51,6 +56,7 @@ fn are_few_good(count: u8, targets: [Target; 8]) -> bool
 // ---- a row
 
 // Good whatever its kind. If false, nothing is known.
+#[tactic(auto, using(lemmas::proofs::Cases::cases, lemmas::proofs::Choice::true_false, crate::proofs::Laws::plainly_good))]
 fn is_plainly_good(r: InstanceRow) -> bool
     ensures { result ≡ true → good_if good_instance (instance_of r) ≡ true }
 {
@@ -62,6 +68,7 @@ fn is_plainly_good(r: InstanceRow) -> bool
 }
 
 // By kind: in a mixed table this branch cannot be predicted.
+#[tactic(auto, using(lemmas::proofs::Cases::cases), unfolding(row::specs::Meaning::instance_of, row::specs::Meaning::request_of, row::specs::Meaning::reply_of, plain::specs::Answers::good_instance))]
 fn is_good_of_kind(r: InstanceRow) -> bool
     ensures { result ≡ good_if good_instance (instance_of r) }
 {
@@ -87,6 +94,7 @@ pub fn is_good(r: InstanceRow) -> bool
     is_good_of_kind(r)
 }
 
+#[tactic(auto, using(lemmas::proofs::Cases::cases), unfolding(row::specs::Meaning::route_of, row::specs::Meaning::route_in, plain::specs::Answers::good_route))]
 pub fn is_good_route(r: RouteRow) -> bool
     ensures { result ≡ good_if good_route (route_of r) }
 {

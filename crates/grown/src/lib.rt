@@ -1,4 +1,6 @@
 // How many addresses a vector has with our two added, and 16: whether it can grow by them.
+#![tactic(auto)]
+
 ghost use Rattle.std.specs.Prelude.{◌≡◌, false, List, ◌≤◌, length};
 ghost use Rattle.lemmas.specs.Each.{WholeVector};
 ghost use Rattle.plain.specs.Address.{Address};
@@ -9,6 +11,7 @@ ghost use Rattle.grown.specs.Grown.{grown_count};
 use own::Own;
 
 // How many addresses a vector of n has with ours added, which is where H is 0.
+#[tactic(auto, using(lemmas::proofs::Cases::cases), unfolding(crate::specs::Grown::grown_count, plain::specs::Request::own_vector))]
 pub fn grown_count(o: Own, h: bool, n: usize) -> usize
     requires { n ≤ 16 }
     ensures { result ≡ grown_count (settings_of o) h n }

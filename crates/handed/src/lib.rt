@@ -1,4 +1,6 @@
 // What a host hands in, as records in C's form: a flag is an octet, on when it is not 0.
+#![tactic(auto)]
+
 ghost use Rattle.std.specs.Prelude.{◌≡◌};
 ghost use Rattle.handed.specs.Handed.{link_of, asking_of};
 
@@ -7,7 +9,7 @@ use start::Asking;
 
 // The link facts of a received message.
 #[repr(C)]
-#[derive(Drop)]
+#[derive(Clone, Copy)]
 pub struct HostLink {
     pub neighbour: [u8; 16],
     pub upward: u8,
@@ -18,7 +20,7 @@ pub struct HostLink {
 
 // What a start brings, but for its targets.
 #[repr(C)]
-#[derive(Drop)]
+#[derive(Clone, Copy)]
 pub struct HostStart {
     pub instance: u8,
     pub h: u8,

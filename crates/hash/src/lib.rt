@@ -1,9 +1,12 @@
 // The hash of a key, for the filter that the search for twins goes by.
+#![tactic(auto)]
+
 ghost use Rattle.std.specs.Prelude.{◌≡◌, ◌+◌, ◌*◌};
 ghost use Rattle.hash.specs.Hash.{quad_of, mix_of, spread_of, finish_of, hash_address, hash_row, hash_route};
 
 use row::{InstanceRow, RouteRow};
 
+#[tactic(auto, using(lemmas::proofs::Cases::cases), unfolding(crate::specs::Hash::quad_of))]
 fn quad(a: u8, b: u8, c: u8, d: u8) -> u32
     ensures { result ≡ quad_of a b c d }
 {
@@ -11,6 +14,7 @@ fn quad(a: u8, b: u8, c: u8, d: u8) -> u32
 }
 
 // Products of 32 bits by 32 bits: std has no product that wraps.
+#[tactic(auto, using(lemmas::proofs::Cases::cases), unfolding(crate::specs::Hash::spread_of))]
 fn spread(a: u32, b: u32) -> u64
     ensures { result ≡ spread_of a b }
 {
@@ -19,6 +23,7 @@ fn spread(a: u32, b: u32) -> u64
 
 // The words are first put together in pairs, since products cost most. In most addresses one word of a pair is part of a prefix that all
 // share.
+#[tactic(auto, using(lemmas::proofs::Cases::cases), unfolding(crate::specs::Hash::mix_of))]
 fn mix(k: u16, a: u32, b: u32, c: u32, d: u32) -> u64
     ensures { result ≡ mix_of k a b c d }
 {
@@ -26,12 +31,14 @@ fn mix(k: u16, a: u32, b: u32, c: u32, d: u32) -> u64
 }
 
 // The middle bits of the products, spread once more.
+#[tactic(auto, using(lemmas::proofs::Cases::cases), unfolding(crate::specs::Hash::finish_of))]
 fn finish(x: u64) -> u64
     ensures { result ≡ finish_of x }
 {
     x / 65536 % 4294967296 * 2654435769
 }
 
+#[tactic(auto, using(lemmas::proofs::Cases::cases), unfolding(crate::specs::Hash::hash_address))]
 fn hash_address(k: u16, d: [u8; 16]) -> u64
     ensures { result ≡ hash_address k d }
 {
@@ -48,6 +55,7 @@ fn pair(a: u8, b: u8) -> u16
     a as u16 + b as u16 * 256
 }
 
+#[tactic(auto, using(lemmas::proofs::Cases::cases))]
 pub fn hash_row(r: InstanceRow) -> u64
     ensures { result ≡ hash_row r }
 {
@@ -57,6 +65,7 @@ pub fn hash_row(r: InstanceRow) -> u64
 }
 
 // The two addresses count in different ways, so that a route and its way back have two hashes.
+#[tactic(auto, using(lemmas::proofs::Cases::cases))]
 pub fn hash_route(r: RouteRow) -> u64
     ensures { result ≡ hash_route r }
 {

@@ -1,4 +1,6 @@
 // A message as it was read, in the form that the rules take: its fields, its vector's addresses, and the answer that its octets give.
+#![tactic(auto)]
+
 ghost use Rattle.std.specs.Prelude.{◌≡◌, ◌-◌, ◌/◌, ◌≤◌, length, take, drop};
 ghost use Rattle.plain.specs.Octets.{restored};
 ghost use Rattle.reader.specs.Reading.{refusal_number, Bounded};
@@ -10,6 +12,7 @@ use message::Parsed;
 use reader::{Reading, Refusal};
 
 // The fields of a message, and how many addresses its vector has.
+#[tactic(auto, using(lemmas::proofs::Cases::cases), unfolding(crate::specs::Parsed::parsed_of))]
 pub fn parsed(r: Reading) -> Parsed
     requires { r.discovery.compr ≤ 15 }
     ensures { result ≡ parsed_of r }
@@ -31,6 +34,7 @@ pub fn parsed(r: Reading) -> Parsed
 }
 
 // The addresses of a message's vector, with the octets that Compr left out.
+#[tactic(auto, using(lemmas::proofs::Cases::cases, reader::proofs::Part::addresses_fit, crate::proofs::Laws::vector_is))]
 pub fn vector_of(octets: &[u8], r: Reading) -> [[u8; 16]; 16]
     requires { Bounded (length octets.now) r }
     ensures { take (r.size / (16 - r.discovery.compr)) result

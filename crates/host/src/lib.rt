@@ -1,4 +1,6 @@
 // What a host is told, as a record in C's form: an answer and a way are numbers.
+#![tactic(auto)]
+
 ghost use Rattle.std.specs.Prelude.{◌≡◌};
 ghost use Rattle.answer.specs.Answer.{destination_of};
 ghost use Rattle.host.specs.Host.{way_number, neighbour_in, host_of};
@@ -8,7 +10,7 @@ use outcome::Outcome;
 
 // What a call comes to, beside the rows and octets that it writes. A neighbour's address is all zero unless the way is 2.
 #[repr(C)]
-#[derive(Drop)]
+#[derive(Clone, Copy)]
 pub struct HostOutcome {
     pub answer: u8,
     pub seq: u8,
@@ -33,6 +35,7 @@ fn way_number(d: Destination) -> u8
     }
 }
 
+#[tactic(auto, using(lemmas::proofs::Cases::cases, crate::proofs::Told::told_neighbour, crate::proofs::Told::told_none))]
 fn neighbour_in(d: Destination) -> [u8; 16]
     ensures { result ≡ neighbour_in (destination_of d) }
 {

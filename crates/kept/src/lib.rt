@@ -1,4 +1,6 @@
 // Which targets are kept of others, in their order (01, "A request").
+#![tactic(auto)]
+
 ghost use Rattle.std.specs.Prelude.{◌+◌, ◌≤◌, ◌<◌, ◌≡◌, cond, [], ◌∷◌, ◌++◌};
 ghost use Rattle.plain.specs.Blank.{Padded};
 ghost use Rattle.plain.specs.Request.{common};
@@ -20,6 +22,7 @@ pub fn nothing() -> Targets
 }
 
 // The targets with one more, if it is to be kept.
+#[tactic(auto, using(lemmas::proofs::Cases::cases, targets::proofs::Laws::padded_more))]
 pub fn keep_if(kept: Targets, t: Target, keep: bool) -> Targets
     requires { (kept.count < 8) × Padded kept.count kept.list }
     ensures { Kept (cond keep (list_of kept ++ (t ∷ [])) (list_of kept)) result × (result.count ≤ kept.count + 1) }
@@ -54,6 +57,7 @@ fn list_of(ts: Targets) -> [Target; 8]
 }
 
 // The targets of a message that are also in the row, in the message's order and with its Dest SeqNos.
+#[tactic(auto, using(lemmas::proofs::Cases::cases, crate::proofs::Sifted::sift_more, crate::proofs::Sifted::sift_end), unfolding(plain::specs::Request::common))]
 pub fn common(ts: Targets, row: Targets) -> Targets
     requires count_bound { ts.count ≤ 8 }
     requires count_bound_2 { row.count ≤ 8 }

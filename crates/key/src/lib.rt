@@ -1,10 +1,13 @@
 // Two instance rows, by value: whether they have one key, and are twins (01, answer 2).
+#![tactic(auto)]
+
 ghost use Rattle.std.specs.Prelude.{◌≡◌, eqb};
 ghost use Rattle.key.specs.Pair.{same_key, twin_rows, ending_of};
 
 use row::InstanceRow;
 
 // The addresses are compared first: few are the same, while kinds and numbers often are.
+#[tactic(auto, using(crate::proofs::Plain::key_near, lemmas::proofs::Cases::cases), unfolding(crate::specs::Pair::same_key))]
 fn is_same_key(a: InstanceRow, b: InstanceRow) -> bool
     ensures { result ≡ same_key a b }
 {
@@ -20,6 +23,7 @@ fn is_same_key(a: InstanceRow, b: InstanceRow) -> bool
 }
 
 // The key is compared first: few rows have the same.
+#[tactic(auto, using(lemmas::proofs::Cases::cases), unfolding(crate::specs::Pair::twins_by))]
 pub fn are_twins(a: InstanceRow, b: InstanceRow, t: u64) -> bool
     ensures { result ≡ twin_rows t a b }
 {

@@ -1,4 +1,6 @@
 // One row of each table, by value: whether it is live.
+#![tactic(auto)]
+
 ghost use Rattle.std.specs.Prelude.{◌≡◌, ◌||◌, eqb};
 ghost use Rattle.plain.specs.Table.{lasts, live, instance_deadline, route_deadline};
 ghost use Rattle.row.specs.Meaning.{deadline_of, instance_of, route_of};
@@ -6,6 +8,7 @@ ghost use Rattle.row.specs.Meaning.{deadline_of, instance_of, route_of};
 use row::{InstanceRow, RouteRow};
 
 // Without a branch: in a mixed table it cannot be predicted which rows have a deadline.
+#[tactic(auto, using(lemmas::proofs::Cases::cases, crate::proofs::Laws::lasts_bit))]
 pub fn does_last(endless: u8, deadline: u64, t: u64) -> bool
     ensures { result ≡ lasts t (deadline_of endless deadline) }
 {
@@ -15,6 +18,7 @@ pub fn does_last(endless: u8, deadline: u64, t: u64) -> bool
 // ---- an instance row
 
 // In use, whichever of the two kinds: in a mixed table a branch by kind cannot be predicted.
+#[tactic(auto, using(lemmas::proofs::Cases::cases, crate::proofs::Laws::used_most))]
 fn is_used(kind: u8) -> bool
     ensures { result ≡ eqb kind 1 || eqb kind 2 }
 {
@@ -24,6 +28,7 @@ fn is_used(kind: u8) -> bool
     kind <= 2
 }
 
+#[tactic(auto, using(lemmas::proofs::Cases::cases, crate::proofs::Laws::live_used, crate::proofs::Laws::live_unused))]
 pub fn is_live(r: InstanceRow, t: u64) -> bool
     ensures { result ≡ live instance_deadline t (instance_of r) }
 {
@@ -35,6 +40,7 @@ pub fn is_live(r: InstanceRow, t: u64) -> bool
 
 // ---- a route
 
+#[tactic(auto, using(lemmas::proofs::Cases::cases), unfolding(row::specs::Meaning::route_of, row::specs::Meaning::route_in))]
 pub fn is_live_route(r: RouteRow, t: u64) -> bool
     ensures { result ≡ live route_deadline t (route_of r) }
 {

@@ -1,4 +1,6 @@
 // Two sequence numbers on the same side of 128, and on the two sides (01, "Rank and freshness").
+#![tactic(auto)]
+
 ghost use Rattle.std.specs.Prelude.{◌≡◌, ◌+◌, ◌-◌};
 ghost use Rattle.plain.specs.Rank.{same_side, low_is_newer};
 
@@ -12,6 +14,7 @@ fn difference(a: u8, b: u8) -> u8
 }
 
 // How a stands to b, both on the same side of 128.
+#[tactic(auto, using(lemmas::proofs::Cases::cases))]
 pub fn on_same_side(a: u8, b: u8) -> Freshness
     ensures { result ≡ same_side a b }
 {

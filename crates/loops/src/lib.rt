@@ -1,4 +1,6 @@
 // 9, asked of a vector: one of our addresses in it, and an address exactly once in it. Of an array of addresses the first n are the vector.
+#![tactic(auto)]
+
 ghost use Rattle.std.specs.Prelude.{◌≡◌, [], ◌∷◌, ◌≤◌, take, eqb};
 ghost use Rattle.plain.specs.Lists.{any, count, same};
 ghost use Rattle.plain.specs.Request.{ours};
@@ -7,6 +9,7 @@ ghost use Rattle.own.specs.Settings.{settings_of};
 use own::Own;
 
 // Whether one of our addresses stands in a vector.
+#[tactic(auto, using(lemmas::proofs::Front::is_found, lemmas::proofs::Front::not_here, lemmas::proofs::Front::nowhere, lemmas::proofs::Cases::cases))]
 pub fn has_ours(o: Own, n: usize, vector: &[[u8; 16]; 16]) -> bool
     requires { n ≤ 16 }
     ensures { result ≡ any (ours (settings_of o)) (take n vector.now) }
@@ -24,6 +27,7 @@ pub fn has_ours(o: Own, n: usize, vector: &[[u8; 16]; 16]) -> bool
 }
 
 // What one address of a vector adds to the count of `a`.
+#[tactic(auto, using(lemmas::proofs::Cases::cases), unfolding(plain::specs::Lists::count))]
 fn count_same(a: [u8; 16], b: [u8; 16]) -> usize
     ensures { result ≡ count (same a) (b ∷ []) }
 {
@@ -34,6 +38,7 @@ fn count_same(a: [u8; 16], b: [u8; 16]) -> usize
 }
 
 // Whether an address stands in a vector exactly once.
+#[tactic(auto, using(crate::proofs::Count::count_one, crate::proofs::Count::count_more, crate::proofs::Count::count_end, lemmas::proofs::Cases::cases))]
 pub fn stands_once(a: [u8; 16], n: usize, vector: &[[u8; 16]; 16]) -> bool
     requires { n ≤ 16 }
     ensures { result ≡ eqb (count (same a) (take n vector.now)) 1 }

@@ -1,5 +1,7 @@
 // What a call is about, by value: the message as it was read, the link that it came by, and the rows that the tables hold for it. What
 // each means is in specs/. And what several rules ask of it.
+#![tactic(auto)]
+
 ghost use Rattle.std.specs.Prelude.{◌≡◌, []};
 ghost use Rattle.plain.specs.Request.{s_out, delta_or0};
 ghost use Rattle.message.specs.Message.{message_in, received_by, delta_found};
@@ -9,7 +11,7 @@ use row::{InstanceRow, RouteRow};
 
 // A message but for its vector, which stands beside it as an array of addresses: the first `n` of these and the first `count` of the
 // targets are the message's.
-#[derive(Drop)]
+#[derive(Clone, Copy)]
 pub struct Parsed {
     pub base: Base,
     pub configured: bool,
@@ -21,7 +23,7 @@ pub struct Parsed {
 }
 
 // The link facts of a received message.
-#[derive(Drop)]
+#[derive(Clone, Copy)]
 pub struct Link {
     pub neighbour: [u8; 16],
     pub upward: bool,
@@ -31,7 +33,7 @@ pub struct Link {
 }
 
 // The live instance row of a key and its number, where there is one.
-#[derive(Drop)]
+#[derive(Clone, Copy)]
 pub struct Found {
     pub is: bool,
     pub at: usize,
@@ -39,7 +41,7 @@ pub struct Found {
 }
 
 // The live route of a key and its number, where there is one.
-#[derive(Drop)]
+#[derive(Clone, Copy)]
 pub struct FoundRoute {
     pub is: bool,
     pub at: usize,
@@ -47,7 +49,7 @@ pub struct FoundRoute {
 }
 
 // The live row of a call's key and its number, and the live route, where there are any.
-#[derive(Drop)]
+#[derive(Clone, Copy)]
 pub struct Live {
     pub is: bool,
     pub at: usize,
@@ -56,13 +58,14 @@ pub struct Live {
 }
 
 // A Delta that is free, where there is one.
-#[derive(Drop)]
+#[derive(Clone, Copy)]
 pub struct FreeDelta {
     pub is: bool,
     pub delta: u8,
 }
 
 // S out: S in and downward good.
+#[tactic(auto, using(lemmas::proofs::Cases::cases), unfolding(crate::specs::Message::message_in))]
 pub fn s_out(k: Link, p: Parsed) -> bool
     ensures { result ≡ s_out (received_by k []) (message_in p []) }
 {
@@ -70,6 +73,7 @@ pub fn s_out(k: Link, p: Parsed) -> bool
 }
 
 // Delta, where one is free.
+#[tactic(auto, using(lemmas::proofs::Cases::cases, crate::proofs::Laws::delta_or))]
 pub fn delta_or_0(d: FreeDelta) -> u8
     ensures { result ≡ delta_or0 (delta_found d) }
 {

@@ -1,8 +1,11 @@
 // Octets put over others.
+#![tactic(auto)]
+
 ghost use Rattle.std.specs.Prelude.{◌≡◌, ◌+◌, ◌≤◌, length};
 ghost use Rattle.std.proofs.Math.Seq.{paste};
 
 // Puts some octets over those of `out` from `at` on.
+#[tactic(auto, using(lemmas::proofs::Cases::cases))]
 pub fn put_over(out: &mut [u8], at: usize, part: &[u8])
     requires { at + length part.now ≤ length out.old }
     ensures { out.new ≡ paste out.old at part.now (length part.now) }

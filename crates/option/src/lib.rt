@@ -1,10 +1,12 @@
 // The options of a message: where each stands, and whether its body is good (01, "Octets on the air").
+#![tactic(auto)]
+
 ghost use Rattle.std.specs.Prelude.{◌≡◌};
 ghost use Rattle.plain.specs.Octets.{bad_option};
 ghost use Rattle.option.specs.Follows.{option_of, Follows};
 
 // What stands at a position of a message: Pad1, an option with its type and the place of its body, the end, or an option past the end.
-#[derive(Drop)]
+#[derive(Clone, Copy)]
 pub enum Next {
     Pad,
     Body { kind: u8, start: usize, end: usize },
@@ -13,6 +15,7 @@ pub enum Next {
 }
 
 // What stands at `at`.
+#[tactic(auto, using(lemmas::proofs::Cases::cases, crate::proofs::Laws::at_end, crate::proofs::Laws::at_last, crate::proofs::Laws::at_cut, crate::proofs::Laws::at_body))]
 pub fn next_option(msg: &[u8], at: usize) -> Next
     ensures { Follows msg.now at result }
 {
@@ -40,6 +43,7 @@ pub fn next_option(msg: &[u8], at: usize) -> Next
 }
 
 // Whether an option's body is wrong for its type.
+#[tactic(auto, using(lemmas::proofs::Cases::cases), unfolding(plain::specs::Octets::bad_option))]
 pub fn is_bad_option(kind: u8, body: &[u8]) -> bool
     ensures { result ≡ bad_option (option_of kind body.now) }
 {

@@ -1,4 +1,6 @@
 // The body of a DODAG Configuration, and of an RREQ or RREP: a word of it, H and Compr, and whether it is good (01, "Octets on the air").
+#![tactic(auto)]
+
 ghost use Rattle.std.specs.Prelude.{◌≡◌};
 ghost use Rattle.plain.specs.Octets.{word_at, bad_configuration, h_of, compr_of, bad_route};
 
@@ -13,6 +15,7 @@ pub fn word_at(octets: &[u8], i: u8) -> u16
 }
 
 // Whether a DODAG Configuration has another length than 14, or a 0 where none may be.
+#[tactic(auto, using(lemmas::proofs::Cases::cases), unfolding(plain::specs::Octets::bad_configuration))]
 pub fn is_bad_configuration(body: &[u8]) -> bool
     ensures { result ≡ bad_configuration body.now }
 {
@@ -29,6 +32,7 @@ pub fn is_bad_configuration(body: &[u8]) -> bool
 }
 
 // H of an RREQ or RREP.
+#[tactic(auto, using(lemmas::proofs::Cases::cases), unfolding(plain::specs::Octets::fields, plain::specs::Octets::sum))]
 pub fn has_h(body: &[u8]) -> bool
     ensures { result ≡ h_of body.now }
 {
@@ -36,6 +40,7 @@ pub fn has_h(body: &[u8]) -> bool
 }
 
 // Compr of an RREQ or RREP, which H 1 makes 0.
+#[tactic(auto, using(crate::proofs::Laws::compr_is, lemmas::proofs::Cases::cases), unfolding(plain::specs::Octets::fields, plain::specs::Octets::sum))]
 pub fn compr_of(body: &[u8]) -> u8
     ensures { result ≡ compr_of body.now }
 {
@@ -46,6 +51,7 @@ pub fn compr_of(body: &[u8]) -> u8
 }
 
 // Whether an RREQ or RREP is too short, has a vector with H 1, or a vector that is no whole number of addresses.
+#[tactic(auto, using(crate::proofs::Laws::compr_below, crate::proofs::Laws::vector_is, lemmas::proofs::Cases::cases), unfolding(plain::specs::Octets::bad_route))]
 pub fn is_bad_route(body: &[u8]) -> bool
     ensures { result ≡ bad_route body.now }
 {

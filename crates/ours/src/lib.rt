@@ -1,4 +1,6 @@
 // Whether a target is ours (01, "A request").
+#![tactic(auto)]
+
 ghost use Rattle.std.specs.Prelude.{◌≡◌};
 ghost use Rattle.plain.specs.Request.{matches, matches_us};
 ghost use Rattle.ours.specs.Ours.{settings};
@@ -6,6 +8,7 @@ ghost use Rattle.ours.specs.Ours.{settings};
 use plain::Target;
 
 // Whether a target equals an address, or shares its first Prefix Length bits. Nothing else decides what matches.
+#[tactic(auto, using(lemmas::proofs::Cases::cases), unfolding(plain::specs::Request::matches))]
 fn does_match(t: Target, a: [u8; 16]) -> bool
     ensures { result ≡ matches t a }
 {
@@ -14,6 +17,7 @@ fn does_match(t: Target, a: [u8; 16]) -> bool
 }
 
 // Whether a target matches one of our addresses.
+#[tactic(auto, using(lemmas::proofs::Cases::cases))]
 pub fn matches_us(t: Target, receiving: [u8; 16], sending: [u8; 16]) -> bool
     ensures { result ≡ matches_us (settings receiving sending) t }
 {

@@ -1,4 +1,6 @@
 // What a call comes to, by value: a refusal, or an accepted call with what it wrote; and the record of a reply row that is stored.
+#![tactic(auto)]
+
 ghost use Rattle.std.specs.Prelude.{◌≡◌};
 ghost use Rattle.row.specs.Record.{reply_record};
 ghost use Rattle.decision.specs.Decision.{reply_in};
@@ -10,7 +12,7 @@ use decision::Decided;
 use row::InstanceRow;
 
 // What was written into a buffer, and where it is to go.
-#[derive(Drop)]
+#[derive(Clone, Copy)]
 pub struct Sent {
     pub to: Destination,
     pub size: usize,
@@ -18,7 +20,7 @@ pub struct Sent {
 
 // What a call comes to, beside the rows and octets that it writes. In this order no two zeros of a refusal stand side by side: LLVM would write
 // them as one, and the processor wait where they are read apart.
-#[derive(Drop)]
+#[derive(Clone, Copy)]
 pub struct Outcome {
     pub forward: Sent,
     pub clock: u64,
@@ -82,6 +84,7 @@ pub fn without_room(clock: u64, seq: u8) -> Outcome
 }
 
 // The record of the reply row.
+#[tactic(auto, using(lemmas::proofs::Cases::cases), unfolding(decision::specs::Decision::reply_in))]
 pub fn second_of(d: Decided) -> InstanceRow
     ensures { result ≡ reply_record (reply_in d.second) }
 {

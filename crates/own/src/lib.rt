@@ -1,11 +1,13 @@
 // Our two addresses, against an address and against a DODAGID.
+#![tactic(auto)]
+
 ghost use Rattle.std.specs.Prelude.{◌≡◌, ◌≤◌};
 ghost use Rattle.plain.specs.Request.{ours, cannot_elide};
 ghost use Rattle.own.specs.Settings.{settings_of};
 
 // 01, "Settings: a receiving and a sending address."
 #[repr(C)]
-#[derive(Drop)]
+#[derive(Clone, Copy)]
 pub struct Own {
     pub receiving: [u8; 16],
     pub sending: [u8; 16],
@@ -20,6 +22,7 @@ pub fn receiving_of(o: Own) -> [u8; 16]
 }
 
 // Whether an address is our receiving or sending one.
+#[tactic(auto, using(lemmas::proofs::Cases::cases))]
 pub fn is_ours(o: Own, a: [u8; 16]) -> bool
     ensures { result ≡ ours (settings_of o) a }
 {
@@ -32,6 +35,7 @@ pub fn is_ours(o: Own, a: [u8; 16]) -> bool
 }
 
 // 10: H is 0 and one of our addresses differs from the DODAGID in the first Compr octets.
+#[tactic(auto, using(lemmas::proofs::Cases::cases), unfolding(plain::specs::Request::cannot_elide))]
 pub fn cannot_elide(o: Own, h: bool, compr: u8, dodagid: [u8; 16]) -> bool
     requires { compr ≤ 16 }
     ensures { result ≡ cannot_elide (settings_of o) h compr dodagid }

@@ -1,4 +1,6 @@
 // What a received reply names (01, "A reply"): OrigNode, Dest SeqNo, and the number of its partner.
+#![tactic(auto)]
+
 ghost use Rattle.std.specs.Prelude.{◌≡◌, List, take};
 ghost use Rattle.plain.specs.Address.{Address};
 ghost use Rattle.plain.specs.Reply.{only_target, orig_node, dest_seq, partner_number};
@@ -8,6 +10,7 @@ use message::Parsed;
 use plain::Target;
 
 // A reply's one target. Without any it is all zero.
+#[tactic(auto, using(lemmas::proofs::Cases::cases, crate::proofs::Laws::only_first))]
 fn only_target(count: usize, targets: [Target; 8]) -> Target
     ensures { result ≡ only_target (take count targets) }
 {
@@ -22,6 +25,7 @@ fn only_target(count: usize, targets: [Target; 8]) -> Target
 }
 
 // The address of OrigNode, which is the partner's DODAGID.
+#[tactic(auto, using(lemmas::proofs::Cases::cases), unfolding(message::specs::Message::message_in))]
 pub fn orig_node(p: Parsed) -> [u8; 16]
     ensures { (v : List Address) → result ≡ orig_node (message_in p v) }
 {
@@ -31,6 +35,7 @@ pub fn orig_node(p: Parsed) -> [u8; 16]
 }
 
 // Dest SeqNo.
+#[tactic(auto, using(lemmas::proofs::Cases::cases), unfolding(message::specs::Message::message_in))]
 pub fn dest_seq(p: Parsed) -> u8
     ensures { (v : List Address) → result ≡ dest_seq (message_in p v) }
 {
@@ -40,6 +45,7 @@ pub fn dest_seq(p: Parsed) -> u8
 }
 
 // The partner's RPLInstanceID.
+#[tactic(auto, using(lemmas::proofs::Cases::cases), unfolding(message::specs::Message::message_in))]
 pub fn partner_number(p: Parsed) -> u8
     ensures { (v : List Address) → result ≡ partner_number (message_in p v) }
 {

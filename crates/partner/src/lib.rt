@@ -1,4 +1,6 @@
 // The partner of a reply: a live request row of its key and its H.
+#![tactic(auto)]
+
 ghost use Rattle.std.specs.Prelude.{◌≡◌, map};
 ghost use Rattle.row.specs.Meaning.{instance_of};
 ghost use Rattle.first.specs.First.{first};
@@ -7,6 +9,7 @@ ghost use Rattle.partner.specs.Partner.{partner_here};
 use row::InstanceRow;
 
 // A request row of that key and that H, live at t.
+#[tactic(auto, using(lemmas::proofs::Cases::cases, crate::proofs::Laws::partner_not, crate::proofs::Laws::partner_off, crate::proofs::Laws::partner_on))]
 pub fn is_partner(r: InstanceRow, t: u64, instance: u8, dodagid: [u8; 16], h: bool) -> bool
     ensures { result ≡ partner_here t instance dodagid h (instance_of r) }
 {
@@ -23,6 +26,7 @@ pub fn is_partner(r: InstanceRow, t: u64, instance: u8, dodagid: [u8; 16], h: bo
 }
 
 // The first request row of that key and that H that is live at t, or the length.
+#[tactic(auto, using(lemmas::proofs::Cases::cases, first::proofs::Search::at_start, first::proofs::Search::at_hit, first::proofs::Search::at_miss, first::proofs::Search::at_end))]
 pub fn find_partner(rows: &[InstanceRow], t: u64, instance: u8, dodagid: [u8; 16], h: bool) -> usize
     ensures { result ≡ first (partner_here t instance dodagid h) (map instance_of rows.now) }
 {

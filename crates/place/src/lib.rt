@@ -1,12 +1,14 @@
 // Where an accepted call's rows go: 01, "A new row takes the lowest-numbered row that isn't live, a request row before its reply row", and
 // whether there is room for them.
+#![tactic(auto)]
+
 ghost use Rattle.std.specs.Prelude.{◌≡◌, true, false, ltb};
 ghost use Rattle.place.specs.Places.{HasRow, HasRoute, Placed, RoutePlaced};
 
 use row::{InstanceRow, RouteRow};
 
 // Where the row and, where there is one, the reply row behind it go. A number past the table's end is none.
-#[derive(Drop)]
+#[derive(Clone, Copy)]
 pub struct Places {
     pub ok: bool,
     pub first: usize,
@@ -14,7 +16,7 @@ pub struct Places {
 }
 
 // Where the route goes. A number past the table's end is none.
-#[derive(Drop)]
+#[derive(Clone, Copy)]
 pub struct RoutePlace {
     pub ok: bool,
     pub hop: usize,
@@ -73,6 +75,7 @@ fn no_route(rows: usize) -> RoutePlace
 // ---- over the lent tables
 
 // In the place of the live row at `at`, else at the lowest row that is not live; the reply row at the lowest one left.
+#[tactic(auto, using(lemmas::proofs::Cases::cases, crate::proofs::Laws::from_start, crate::proofs::Laws::become_one, crate::proofs::Laws::become_two, crate::proofs::Laws::new_one, crate::proofs::Laws::new_two, crate::proofs::Laws::new_none))]
 pub fn place_rows(rows: &[InstanceRow], t: u64, is: bool, at: usize, replies: bool) -> Places
     requires { HasRow rows.now t is at }
     ensures { Placed rows.now t is at replies result }
@@ -94,6 +97,7 @@ pub fn place_rows(rows: &[InstanceRow], t: u64, is: bool, at: usize, replies: bo
 }
 
 // In the place of the live route at `at`, else at the lowest row that is not live; nowhere where there is no route to store.
+#[tactic(auto, using(lemmas::proofs::Cases::cases, crate::proofs::Laws::route_become, crate::proofs::Laws::route_new, crate::proofs::Laws::route_none))]
 pub fn place_route(routes: &[RouteRow], t: u64, routed: bool, is: bool, at: usize) -> RoutePlace
     requires { HasRoute routes.now t is at }
     ensures { RoutePlaced routes.now t routed is at result }

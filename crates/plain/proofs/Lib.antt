@@ -1,3 +1,2 @@
-pub mod Elem
 pub mod Marked
 pub mod Whole

@@ -1,4 +1,6 @@
 // What is sent, written into its buffer.
+#![tactic(auto)]
+
 ghost use Rattle.std.specs.Prelude.{◌≤◌, ◌≡◌, true, length, take};
 ghost use Rattle.lemmas.specs.Written.{Written};
 ghost use Rattle.plain.specs.Octets.{octets_of, elided};
@@ -85,6 +87,7 @@ fn targets_of(p: Post) -> [Target; 8]
 // ---- over the lent post
 
 // A message with the first n addresses of a vector.
+#[tactic(auto, using(lemmas::proofs::Cases::cases, crate::proofs::Laws::parts_fit, crate::proofs::Laws::parts_written))]
 fn put_parsed(out: &mut [u8], p: &Post, n: usize, vector: &[[u8; 16]; 16]) -> usize
     requires { Sendable p.now.message.discovery n × (p.now.message.count ≤ 8) × (short_prefixes (take p.now.message.count p.now.message.targets) ≡ true) × (1236 ≤ length out.old) }
     ensures { Written (octets_of (message_with p.now.message (take n vector.now))) out.old out.new result }
@@ -117,6 +120,7 @@ fn put_dio(out: &mut [u8], o: &Own, p: &Post, vector: &[[u8; 16]; 16]) -> usize
 }
 
 // OrigNode's path, turned round where it came asymmetric.
+#[tactic(auto, using(lemmas::proofs::Cases::cases, crate::proofs::Laws::turned_path, crate::proofs::Laws::straight_path))]
 fn put_route_path(out: &mut [u8], p: &Post, vector: &[[u8; 16]; 16]) -> usize
     requires { (p.now.message.n ≤ 16) × (1236 ≤ length out.old) }
     ensures { Written (elided 0 (post_path p.now vector.now)) out.old out.new result }
@@ -130,6 +134,7 @@ fn put_route_path(out: &mut [u8], p: &Post, vector: &[[u8; 16]; 16]) -> usize
 }
 
 // What goes into a buffer: its octets at the front, the rest as it was.
+#[tactic(auto, using(lemmas::proofs::Cases::cases, lemmas::proofs::Buffer::written_none, crate::proofs::Laws::as_written), unfolding(decision::specs::Decision::octets_as))]
 pub fn put_post(out: &mut [u8], o: &Own, p: &Post, vector: &[[u8; 16]; 16]) -> usize
     requires { Fits (settings_of o.now) p.now vector.now × (length vector.now ≡ 16) × (1236 ≤ length out.old) }
     ensures { Written (post_octets (settings_of o.now) p.now vector.now) out.old out.new result }

@@ -1,8 +1,11 @@
 // The first bits of an address, octet by octet.
+#![tactic(auto)]
+
 ghost use Rattle.std.specs.Prelude.{◌≡◌, ◌-◌};
 ghost use Rattle.plain.specs.Address.{keep_bits, first_bits};
 
 // The first k bits of an octet, the others 0.
+#[tactic(auto, using(lemmas::proofs::Cases::cases, crate::proofs::Laws::keep_le, crate::proofs::Laws::keep_all, lemmas::proofs::Rules::keep_none), unfolding(plain::specs::Address::keep_bits))]
 fn keep_bits(k: u8, x: u8) -> u8
     ensures { result ≡ keep_bits k x }
 {
@@ -24,6 +27,7 @@ fn past_octet(k: u8) -> u8
 }
 
 // The first k bits of an address, octet by octet.
+#[tactic(auto, using(crate::proofs::Laws::keep_more, crate::proofs::Laws::keep_end, lemmas::proofs::Cases::cases))]
 pub fn cut_bits(k: u8, a: [u8; 16]) -> [u8; 16]
     ensures { result ≡ first_bits k a }
 {

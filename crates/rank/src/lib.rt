@@ -1,8 +1,11 @@
 // Ranks and RankLimit (01, "Rank and freshness").
+#![tactic(auto)]
+
 ghost use Rattle.std.specs.Prelude.{◌≡◌};
 ghost use Rattle.plain.specs.Rank.{integer_part, over_limit, rank_refused};
 
 // The integer part of a rank, where `step` is MinHopRankIncrease. A step of 0, which no message that is read has, gives 0.
+#[tactic(auto, using(lemmas::proofs::Cases::cases), unfolding(plain::specs::Rank::integer_part))]
 pub fn integer_part(step: u16, rank: u16) -> u16
     ensures { result ≡ integer_part step rank }
 {
@@ -10,6 +13,7 @@ pub fn integer_part(step: u16, rank: u16) -> u16
 }
 
 // Whether the integer parts of the advertised rank and of our own are over RankLimit.
+#[tactic(auto, using(lemmas::proofs::Cases::cases), unfolding(plain::specs::Rank::over_limit))]
 pub fn is_over_limit(limit: u8, theirs: u16, ours: u16, is_end: bool) -> bool
     ensures { result ≡ over_limit limit theirs ours is_end }
 {
@@ -27,6 +31,7 @@ pub fn is_over_limit(limit: u8, theirs: u16, ours: u16, is_end: bool) -> bool
 }
 
 // Whether a message is refused for its rank. The sum is made on 32 bits: it can be more than 65,535.
+#[tactic(auto, using(lemmas::proofs::Cases::cases), unfolding(plain::specs::Rank::rank_refused))]
 pub fn is_refused(step: u16, advertised: u16, increase: u16, limit: u8, is_end: bool) -> bool
     ensures { result ≡ rank_refused step advertised increase limit is_end }
 {

@@ -1,4 +1,6 @@
 // A message read from its octets, or refused by them (01, "Octets on the air").
+#![tactic(auto)]
+
 ghost use Rattle.std.specs.Prelude.{◌≡◌, false, List, ℕ, ◌<◌, length};
 ghost use Rattle.plain.specs.Octets.{unfit, hear};
 ghost use Rattle.option.specs.Follows.{part_of};
@@ -12,7 +14,7 @@ use scan::{Found, Scan};
 use targets::Targets;
 
 // Why octets are refused, or that they are heard.
-#[derive(Drop)]
+#[derive(Clone, Copy)]
 pub enum Refusal {
     Heard,
     Malformed,
@@ -23,7 +25,7 @@ pub enum Refusal {
 
 // A message in its octets: where `refusal` is Heard, the other fields are the message's. The vector's octets are the `size` octets of the
 // message from `at` on, and the targets the first `count` of `targets`.
-#[derive(Drop)]
+#[derive(Clone, Copy)]
 pub struct Reading {
     pub refusal: Refusal,
     pub base: Base,
@@ -37,6 +39,7 @@ pub struct Reading {
 }
 
 // The 14 octets of a Configuration, or zeros where there is none.
+#[tactic(auto, using(lemmas::proofs::Cases::cases, octets::proofs::Laws::over_end, option::proofs::Part::length_part, crate::proofs::Routes::configuration_size))]
 fn read_configuration(msg: &[u8], f: Found) -> [u8; 14]
     requires { Told 4 msg.now f }
     ensures { 0 < f.count → result ≡ part_of msg.now f.start f.end }
@@ -52,6 +55,7 @@ fn read_configuration(msg: &[u8], f: Found) -> [u8; 14]
 }
 
 // The RREQ or RREP of a message.
+#[tactic(auto, using(lemmas::proofs::Cases::cases, crate::proofs::Routes::route_reply, crate::proofs::Routes::route_request))]
 fn route(s: Scan) -> Found
     ensures { (msg : List ℕ) → Outlined msg s → unfit msg ≡ false → RouteAt msg result }
 {
@@ -62,6 +66,7 @@ fn route(s: Scan) -> Found
 }
 
 // A message that is not refused.
+#[tactic(auto, using(lemmas::proofs::Cases::cases, crate::proofs::Routes::h_is, crate::proofs::Routes::configuration_is, crate::proofs::Routes::part_after))]
 fn fill(msg: &[u8], s: Scan, base: Base, ts: Targets) -> Reading
     requires { Outlined msg.now s × (unfit msg.now ≡ false) }
     ensures { Filled msg.now ts base result }
@@ -122,6 +127,7 @@ fn refused(refusal: Refusal) -> Reading
 }
 
 // A message, or the first refusal of its octets that holds.
+#[tactic(auto, using(lemmas::proofs::Cases::cases, crate::proofs::Message::compr_most, crate::proofs::Message::bounded, crate::proofs::Message::refused_as, crate::proofs::Message::hear_malformed, crate::proofs::Message::hear_unfit, crate::proofs::Message::hear_unusable, fault::proofs::Counts::formed_long, fault::proofs::Counts::formed_good, fault::proofs::Counts::formed_outline))]
 pub fn read(msg: &[u8]) -> Reading
     ensures heard { heard_from msg.now result ≡ hear msg.now }
     ensures bounded { refusal_number result.refusal ≡ 0 → Bounded (length msg.now) result }

@@ -6,7 +6,7 @@ use base.Logic.{SProp}
 use contract.Lifetimes.{Lfts}
 use contract.Monad.{Fun}
 use contract.Notation.{connectives}
-use Rattle.std.specs.Borrow.{Bor}
+use Rattle.std.specs.Borrow.{Bor, MutBor}
 use denote.Triple.Entry.{Args}
 use denote.Triple.Spec.{exits}
 use types.Logic.{Logic}
@@ -23,14 +23,14 @@ use Rattle.called.specs.Calls.{Asked, Promised}
 use Rattle.calls.specs.contracts.message as message
 use Rattle.calls.specs.contracts.start as start
 
--- In both: any arguments and any result r; `now x` is what stands behind a reference x, and s are the lent parameters as the call left them.
+-- In both: any arguments and any result r; `x.now` is what stands behind a reference x, and s are the lent parameters as the call left them.
 -- What stands before the arguments is the program logic's.
 
 -- `calls::message`
 abbrev pub MessageContract : Type 2
 MessageContract =
     (M : Type 1) (𝓤 : Ura M) (𝓛 : Logic 𝓤) (mem : Memory → SProp 𝓤) (run : Routine → Fun 𝓤) (κs : Lfts 5)
-    (instances : Bor (List InstanceRow)) (routes : Bor (List RouteRow)) (forward reply : Bor (List ℕ)) (octets : Bor (List ℕ)) (o : Own)
+    (instances : MutBor (List InstanceRow)) (routes : MutBor (List RouteRow)) (forward reply : MutBor (List ℕ)) (octets : Bor (List ℕ)) (o : Own)
     (clock seq t : ℕ) (k : Link) (r : Outcome)
     → let a : Args message.signature κs = (instances, (routes, (forward, (reply, (octets, (o, (clock, (seq, (t, (k, tt)))))))))) in
     ((message.spec 𝓛 mem run κs a).requires tt ≡ (connectives 𝓤).⊤ₛ)
@@ -52,7 +52,7 @@ MessageContract =
 abbrev pub StartContract : Type 2
 StartContract =
     (M : Type 1) (𝓤 : Ura M) (𝓛 : Logic 𝓤) (mem : Memory → SProp 𝓤) (run : Routine → Fun 𝓤) (κs : Lfts 5)
-    (instances : Bor (List InstanceRow)) (routes : Bor (List RouteRow)) (forward reply : Bor (List ℕ)) (targets : Bor (List Target)) (o : Own)
+    (instances : MutBor (List InstanceRow)) (routes : MutBor (List RouteRow)) (forward reply : MutBor (List ℕ)) (targets : Bor (List Target)) (o : Own)
     (clock seq t : ℕ) (asking : Asking) (r : Outcome)
     → let a : Args start.signature κs = (instances, (routes, (forward, (reply, (targets, (o, (clock, (seq, (t, (asking, tt)))))))))) in
     ((start.spec 𝓛 mem run κs a).requires tt ≡ (connectives 𝓤).⊤ₛ)

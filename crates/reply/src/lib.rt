@@ -1,4 +1,6 @@
 // A received reply by value (01, "A reply"): the facts that it rests on, and whether its vector grows.
+#![tactic(auto)]
+
 ghost use Rattle.std.specs.Prelude.{◌≤◌, ◌≡◌, cond, true, not, ◌&&◌, List, []};
 ghost use Rattle.plain.specs.Address.{Address};
 ghost use Rattle.plain.specs.Rank.{own_rank};
@@ -15,7 +17,7 @@ use row::InstanceRow;
 
 // What the answer and the outcome of a reply rest on: the rows that the tables hold for it, whether it is symmetric, whether we are
 // OrigNode, our own rank, and how it stands to the live row. The rank is a sum that may not fit 16 bits.
-#[derive(Drop)]
+#[derive(Clone, Copy)]
 pub struct ReplyFacts {
     pub partner: InstanceRow,
     pub found: Found,
@@ -26,6 +28,7 @@ pub struct ReplyFacts {
     pub standing: Standing,
 }
 
+#[tactic(auto, using(lemmas::proofs::Cases::cases), unfolding(row::specs::Meaning::request_of))]
 fn is_symmetric(k: Link, partner: InstanceRow) -> bool
     ensures { result ≡ (request_of partner).s && not k.group }
 {
@@ -36,6 +39,7 @@ fn is_symmetric(k: Link, partner: InstanceRow) -> bool
 }
 
 // A symmetric reply keeps its rank.
+#[tactic(auto, using(lemmas::proofs::Choice::true_false, lemmas::proofs::Cases::cases))]
 fn own_rank(symmetric: bool, advertised: u16, increase: u16) -> u32
     ensures { (result ≡ cond symmetric advertised (own_rank advertised increase)) × (symmetric ≡ true → result ≤ 65535) }
 {
@@ -46,6 +50,7 @@ fn own_rank(symmetric: bool, advertised: u16, increase: u16) -> u32
 }
 
 // How a reply of that number stands to the live row, with our own rank.
+#[tactic(auto, using(lemmas::proofs::Cases::cases), unfolding(plain::specs::Reply::reply_standing, message::specs::Message::row_found, row::specs::Meaning::reply_of))]
 fn how_it_stands(f: Found, seq: u8, rank: u32) -> Standing
     ensures { result ≡ reply_standing (reply_found f) seq rank }
 {
@@ -58,6 +63,7 @@ fn how_it_stands(f: Found, seq: u8, rank: u32) -> Standing
 }
 
 // The facts of a reply.
+#[tactic(auto, using(lemmas::proofs::Cases::cases), unfolding(crate::specs::Facts::answered_of, plain::specs::Reply::answered_with, message::specs::Message::message_in, row::specs::Meaning::request_of))]
 pub fn gather(
     o: Own,
     k: Link,
@@ -88,6 +94,7 @@ pub fn gather(
 // ---- What it comes to
 
 // Whether our addresses are added to the vector. Answer 16 is asked only there.
+#[tactic(auto, using(lemmas::proofs::Cases::cases), unfolding(plain::specs::Reply::grows, crate::specs::Facts::answered_of, message::specs::Message::message_in))]
 pub fn does_grow(p: Parsed, w: ReplyFacts) -> bool
     ensures { (v : List Address) → result ≡ grows (message_in p v) (answered_of w) }
 {

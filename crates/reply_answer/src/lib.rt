@@ -1,4 +1,6 @@
 // The answer of a received reply, by value (01, "A reply").
+#![tactic(auto)]
+
 ghost use Rattle.std.specs.Prelude.{◌≤◌, ◌≡◌, not, ◌&&◌, ◌||◌, List, []};
 ghost use Rattle.plain.specs.Address.{Address};
 ghost use Rattle.plain.specs.Answers.{answer_of};
@@ -17,6 +19,7 @@ use own::Own;
 use reply::ReplyFacts;
 
 // Answer 9.
+#[tactic(auto, using(lemmas::proofs::Cases::cases), unfolding(plain::specs::Reply::reply_loops, reply::specs::Facts::answered_of, message::specs::Message::message_in))]
 fn loops(o: Own, p: Parsed, vector: &[[u8; 16]; 16], w: ReplyFacts) -> bool
     requires { p.n ≤ 16 }
     ensures { result ≡ reply_loops (settings_of o) (message_in p vector.now) (answered_of w) }
@@ -45,6 +48,7 @@ fn is_link_bad(k: Link, w: ReplyFacts) -> bool
 }
 
 // Answer 12, for an asymmetric reply.
+#[tactic(auto, using(lemmas::proofs::Cases::cases), unfolding(message::specs::Message::message_in))]
 fn is_rank_refused(k: Link, p: Parsed, w: ReplyFacts) -> bool
     ensures { (v : List Address) → result ≡ not w.symmetric && rank_refused (min_hop (message_in p v).configuration) p.base.rank k.increase p.discovery.limit w.orig }
 {
@@ -61,6 +65,7 @@ fn is_rank_refused(k: Link, p: Parsed, w: ReplyFacts) -> bool
 }
 
 // Answer 13.
+#[tactic(auto, using(lemmas::proofs::Cases::cases))]
 fn is_stale(p: Parsed, w: ReplyFacts) -> bool
     ensures { (v : List Address) → result ≡ is_stale w.standing || route_stale p.discovery.h (route_found w.route) (dest_seq (message_in p v)) }
 {
@@ -74,6 +79,7 @@ fn is_stale(p: Parsed, w: ReplyFacts) -> bool
 }
 
 // The first line that holds.
+#[tactic(auto, using(lemmas::proofs::Cases::cases, lemmas::proofs::Each::each_take, crate::proofs::Laws::full_is), unfolding(plain::specs::Reply::reply_lines, plain::specs::Answers::answer_of, reply::specs::Facts::answered_of, message::specs::Message::message_in, reply::specs::Facts::is_full))]
 pub fn judge(o: Own, k: Link, p: Parsed, vector: &[[u8; 16]; 16], w: ReplyFacts) -> Answer
     requires n_bound { (p.n ≤ 16) × (p.discovery.compr ≤ 16) }
     requires array { Array vector.now }

@@ -1,4 +1,6 @@
 // What is sent for a received reply that is answered 0, by value (01, "A reply").
+#![tactic(auto)]
+
 ghost use Rattle.std.specs.Prelude.{◌≤◌, ◌≡◌, cond, false, ltb, take};
 ghost use Rattle.plain.specs.Given as rules;
 ghost use Rattle.plain.specs.Request.{to_if};
@@ -18,6 +20,7 @@ use own::Own;
 use reply::ReplyFacts;
 
 // The message with our own rank.
+#[tactic(auto, using(lemmas::proofs::Cases::cases), unfolding(crate::specs::Goes::raised))]
 fn forwarded(p: Parsed, rank: u16) -> Parsed
     ensures { result ≡ raised p rank }
 {
@@ -37,6 +40,7 @@ fn forwarded(p: Parsed, rank: u16) -> Parsed
 }
 
 // The next node towards OrigNode, for a symmetric reply.
+#[tactic(auto, using(lemmas::proofs::Cases::cases))]
 fn next_node(o: Own, p: Parsed, vector: &[[u8; 16]; 16], w: ReplyFacts) -> [u8; 16]
     requires { p.n ≤ 16 }
     ensures { result ≡ cond p.discovery.h w.partner.neighbour (before (orig_node (message_in p vector.now)) o.receiving (take p.n vector.now)) }
@@ -66,6 +70,7 @@ fn which_way(orig: bool, n: usize, symmetric: bool) -> Way
     Way::Group
 }
 
+#[tactic(auto, using(lemmas::proofs::Cases::cases, lemmas::proofs::Choice::true_false, crate::proofs::Sends::goes_to), unfolding(plain::specs::Reply::next_destination, reply::specs::Facts::answered_of, message::specs::Message::message_in, row::specs::Meaning::request_of))]
 fn destination(o: Own, p: Parsed, vector: &[[u8; 16]; 16], w: ReplyFacts) -> Destination
     requires { p.n ≤ 16 }
     ensures { destination_of result ≡ cond w.orig (to_if (ltb 0 p.n) rules.Destination.caller) (next_destination (settings_of o) (message_in p vector.now) (answered_of w)) }
@@ -95,6 +100,7 @@ fn what_goes(orig: bool, n: usize) -> What
 }
 
 // What goes into the buffer, where none of the lines holds. The Post is built in one expression, sent or not, so that LLVM copies no part of it.
+#[tactic(auto, using(lemmas::proofs::Cases::cases, rule::proofs::Types::own_sixteen), unfolding(reply::specs::Facts::answered_of))]
 pub fn forward_post(o: Own, p: Parsed, vector: &[[u8; 16]; 16], w: ReplyFacts) -> Post
     requires { Heard p × Array vector.now × (w.rank ≤ 65535) × (is_full (settings_of o) (message_in p vector.now) (answered_of w) ≡ false) }
     ensures { Posts (settings_of o) vector.now (reply_sent (settings_of o) (message_in p vector.now) (answered_of w)).forward (reply_sent (settings_of o) (message_in p vector.now) (answered_of w)).forward_to result }

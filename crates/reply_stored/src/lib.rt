@@ -1,4 +1,6 @@
 // What a received reply that is answered 0 stores, by value (01, "A reply"): its row and its route.
+#![tactic(auto)]
+
 ghost use Rattle.std.specs.Prelude.{◌≤◌, ◌^◌, ◌≡◌, List, []};
 ghost use Rattle.plain.specs.Address.{Address};
 ghost use Rattle.plain.specs.Given.{Settings, ReplyRow};
@@ -18,9 +20,10 @@ use reply::ReplyFacts;
 use row::{InstanceRow, RouteRow};
 
 // An update keeps the row's deadline.
+#[tactic(auto, using(lemmas::proofs::Cases::cases, rule::proofs::Laws::deadline_kept, rule::proofs::Kept::kept_stays, rule::proofs::Kept::kept_new, rule::proofs::Kept::kept_none), unfolding(row::specs::Meaning::reply_of))]
 fn kept_deadline(t: u64, l: u8, w: ReplyFacts) -> Deadline
     requires { t ≤ 2 ^ 40 }
-    ensures* { λ r. ⌜ deadline_of r ≡ kept_deadline (λ (r : ReplyRow). r.deadline) w.standing (reply_found w.found) t l ⌝ }
+    ensures { deadline_of result ≡ kept_deadline (λ (r : ReplyRow). r.deadline) w.standing (reply_found w.found) t l }
 {
     let f = w.found;
     if f.is {
@@ -36,6 +39,7 @@ fn kept_deadline(t: u64, l: u8, w: ReplyFacts) -> Deadline
     deadline::of_l(t, l)
 }
 
+#[tactic(auto, using(lemmas::proofs::Cases::cases), unfolding(plain::specs::Reply::reply_row, reply::specs::Facts::answered_of, message::specs::Message::message_in, deadline::specs::Deadline::deadline_of))]
 fn reply_row(t: u64, p: Parsed, w: ReplyFacts) -> InstanceRow
     requires { (t ≤ 2 ^ 40) × (w.rank ≤ 65535) }
     ensures { (v : List Address) → result ≡ reply_record (reply_row t (message_in p v) (answered_of w)) }
@@ -54,6 +58,7 @@ fn reply_row(t: u64, p: Parsed, w: ReplyFacts) -> InstanceRow
 }
 
 // The route to TargNode, under the partner's number.
+#[tactic(auto, using(lemmas::proofs::Cases::cases), unfolding(crate::specs::Made::reply_route, message::specs::Message::message_in))]
 fn route(t: u64, k: Link, p: Parsed) -> RouteRow
     requires { t ≤ 2 ^ 40 }
     ensures { (v : List Address) → result ≡ route_record (reply_route t (received_by k []) (message_in p v)) }
@@ -77,6 +82,7 @@ fn route(t: u64, k: Link, p: Parsed) -> RouteRow
 }
 
 // What a reply that is answered 0 stores. No reply row stands behind its row.
+#[tactic(auto, using(lemmas::proofs::Cases::cases, crate::proofs::Outcome::accepts), unfolding(reply::specs::Facts::answered_of, message::specs::Message::message_in))]
 pub fn accepted(seq: u8, t: u64, k: Link, p: Parsed, w: ReplyFacts) -> Decided
     requires { (t ≤ 2 ^ 40) × (w.rank ≤ 65535) }
     ensures { (x : Settings) (v : List Address) → Stores (accept_reply x seq t (received_by k []) (message_in p v) (answered_of w)) (reply_found w.found) (route_found w.route) result }

@@ -1,4 +1,6 @@
 // What a heard reply comes to, over the lent tables.
+#![tactic(auto)]
+
 ghost use Rattle.std.specs.Prelude.{◌≡◌, []};
 ghost use Rattle.plain.specs.Plain.{enact};
 ghost use Rattle.answer.specs.declared.Answer.TheVariants.{NoPartner};
@@ -44,6 +46,7 @@ fn is_found(f: Found) -> bool
 // ---- over the lent tables
 
 // What a reply that was heard comes to, from 8 on.
+#[tactic(auto, using(lemmas::proofs::Cases::cases, rule::proofs::Laws::posts_nothing, finish::proofs::Laws::refused_gives, finish::proofs::Settles::ready, finish::proofs::Decides::refused, finish::proofs::Decides::taken, crate::proofs::Laws::no_partner_is, crate::proofs::Laws::reply_is, crate::proofs::Answered::asking, crate::proofs::Answered::lines, crate::proofs::Answered::accept, crate::proofs::Answered::reply_decided, crate::proofs::Answered::reply_settled))]
 pub fn take_reply(
     instances: &mut [InstanceRow],
     routes: &mut [RouteRow],

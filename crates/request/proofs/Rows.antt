@@ -1,4 +1,5 @@
 -- The facts, from their parts.
+use borrow.Author.Rules.{rules}
 use mir.Val.{Val}
 use denote.Laws.{Is}
 use denote.Struct.Declared.{row}
@@ -27,7 +28,7 @@ use Rattle.request_targets.proofs.Rows.{list_eight}
 use Rattle.request_targets.proofs.Kept.{all_kept}
 
 pub facts_eight : (a : RequestFacts) (vs : List Val) → Is (row facts.the_type) a vs → length a.targets.list ≡ 8
-facts_eight a vs g = list_eight a.targets _ g.1.1.1.1.1.1.1.0
+facts_eight a vs g = search rules
 
 pub gathered_is : (x : Settings) (k : Link) (p : Parsed) (f : Found) (g : FoundRoute) (d : FreeDelta) (ts : Targets) (a : RequestFacts)
     → short_prefixes (take p.count p.targets) ≡ true

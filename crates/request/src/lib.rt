@@ -1,4 +1,6 @@
 // A received request by value (01, "A request"): the facts that it rests on, and whether it goes on and is replied to.
+#![tactic(auto)]
+
 ghost use Rattle.std.specs.Prelude.{◌≤◌, ◌≡◌, true, ◌||◌, List, [], eqb, ltb};
 ghost use Rattle.plain.specs.Address.{Address};
 ghost use Rattle.plain.specs.Rank.{min_hop, integer_part, own_rank};
@@ -15,7 +17,7 @@ use targets::Targets;
 
 // What the answer and the outcome of a request rest on: the rows that the tables hold for it, our own rank, how it stands to the live
 // row, whether we are TargNode, and the targets that stay. The rank is a sum that may not fit 16 bits.
-#[derive(Drop)]
+#[derive(Clone, Copy)]
 pub struct RequestFacts {
     pub row: Found,
     pub route: FoundRoute,
@@ -35,6 +37,7 @@ fn own_rank(advertised: u16, increase: u16) -> u32
 }
 
 // How a request of that number stands to the live row, with our own rank.
+#[tactic(auto, using(lemmas::proofs::Cases::cases), unfolding(plain::specs::Request::request_standing, message::specs::Message::row_found, row::specs::Meaning::request_of))]
 fn how_it_stands(f: Found, seq: u8, rank: u32) -> Standing
     ensures { result ≡ request_standing (request_found f) seq rank }
 {
@@ -47,6 +50,7 @@ fn how_it_stands(f: Found, seq: u8, rank: u32) -> Standing
 }
 
 // The facts of a request, of which we are TargNode or not.
+#[tactic(auto, using(lemmas::proofs::Cases::cases, targ_node::proofs::Rows::named_is, request_targets::proofs::Rows::named_kept, crate::proofs::Rows::gathered_is))]
 pub fn gather(
     o: Own,
     k: Link,
@@ -78,6 +82,7 @@ pub fn gather(
 // ---- What it comes to
 
 // The integer part of our own rank.
+#[tactic(auto, using(lemmas::proofs::Cases::cases), unfolding(plain::specs::Rank::integer_part))]
 fn integer_part(step: u16, rank: u32) -> u32
     ensures { result ≡ integer_part step rank }
 {
@@ -85,6 +90,7 @@ fn integer_part(step: u16, rank: u32) -> u32
 }
 
 // Whether our own rank is under RankLimit, if that is not 0: integer parts are compared.
+#[tactic(auto, using(lemmas::proofs::Cases::cases))]
 fn is_under_limit(p: Parsed, rank: u32) -> bool
     ensures { result ≡ eqb p.discovery.limit 0 || ltb (integer_part (min_hop (configuration_in p.configured p.configuration)) rank) p.discovery.limit }
 {
@@ -97,6 +103,7 @@ fn is_under_limit(p: Parsed, rank: u32) -> bool
 }
 
 // Whether a request goes on. Its vector plays no part in that.
+#[tactic(auto, using(lemmas::proofs::Cases::cases, crate::proofs::Rows::facts_eight, crate::proofs::Onward::forwards_some, crate::proofs::Onward::forwards_none))]
 pub fn forwards(p: Parsed, a: RequestFacts) -> bool
     ensures { result ≡ forwards (message_in p []) (asked_of a) }
 {
@@ -107,6 +114,7 @@ pub fn forwards(p: Parsed, a: RequestFacts) -> bool
 }
 
 // Whether we reply.
+#[tactic(auto, using(lemmas::proofs::Cases::cases), unfolding(plain::specs::Request::replies_now, crate::specs::Facts::asked_of))]
 pub fn replies_now(a: RequestFacts) -> bool
     ensures { result ≡ replies_now (asked_of a) }
 {

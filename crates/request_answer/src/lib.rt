@@ -1,4 +1,6 @@
 // The answer of a received request, by value (01, "A request").
+#![tactic(auto)]
+
 ghost use Rattle.std.specs.Prelude.{◌≡◌, not, ◌&&◌, ◌||◌, []};
 ghost use Rattle.plain.specs.Lists.{given};
 ghost use Rattle.plain.specs.Answers.{answer_of};
@@ -16,6 +18,7 @@ use own::Own;
 use request::RequestFacts;
 
 // Answer 12.
+#[tactic(auto, using(lemmas::proofs::Cases::cases))]
 fn is_rank_refused(p: Parsed, increase: u16, targ: bool) -> bool
     ensures { result ≡ rank_refused (min_hop (configuration_in p.configured p.configuration)) p.base.rank increase p.discovery.limit targ }
 {
@@ -29,6 +32,7 @@ fn is_rank_refused(p: Parsed, increase: u16, targ: bool) -> bool
 }
 
 // Answer 13.
+#[tactic(auto, using(lemmas::proofs::Cases::cases))]
 fn is_outdated(p: Parsed, a: RequestFacts) -> bool
     ensures { result ≡ is_stale a.standing || route_stale p.discovery.h (route_found a.route) p.discovery.number }
 {
@@ -41,6 +45,7 @@ fn is_outdated(p: Parsed, a: RequestFacts) -> bool
 }
 
 // Answer 15.
+#[tactic(auto, using(crate::proofs::Lines::given_delta, lemmas::proofs::Cases::cases))]
 fn lacks_delta(a: RequestFacts) -> bool
     ensures { result ≡ replies_now (asked_of a) && not (given (delta_found a.delta)) }
 {
@@ -62,6 +67,7 @@ fn adds_ours(p: Parsed, a: RequestFacts) -> bool
 }
 
 // The answer of a request.
+#[tactic(auto, using(lemmas::proofs::Cases::cases, lemmas::proofs::Each::each_take, crate::proofs::Lines::full_is), unfolding(plain::specs::Request::request_lines, plain::specs::Answers::answer_of, request::specs::Facts::asked_of, message::specs::Message::message_in, plain::specs::Request::forwards))]
 pub fn judge(o: Own, k: Link, p: Parsed, vector: &[[u8; 16]; 16], a: RequestFacts) -> Answer
     requires heard { Heard p }
     requires array { Array vector.now }

@@ -1,4 +1,6 @@
 // What goes on of a received request that is answered 0, by value (01, "A request").
+#![tactic(auto)]
+
 ghost use Rattle.std.specs.Prelude.{ℕ, ◌<◌, ◌≡◌, cond, true, false, not, List, [], take};
 ghost use Rattle.plain.specs.Address.{Address};
 ghost use Rattle.plain.specs.Given as rules;
@@ -16,6 +18,7 @@ use message::{Link, Parsed};
 use plain::Discovery;
 use request::RequestFacts;
 
+#[tactic(auto, using(lemmas::proofs::Cases::cases), unfolding(plain::specs::Request::with_flag))]
 fn with_flag(d: Discovery, flag: bool) -> Discovery
     ensures { result ≡ with_flag d flag }
 {
@@ -72,6 +75,7 @@ fn grows(on: bool, h: bool) -> bool
 }
 
 // What goes on to the group, where 16 is not answered. With H 0 ours are added.
+#[tactic(auto, using(lemmas::proofs::Cases::cases, crate::proofs::Sent::onward_either), unfolding(plain::specs::Request::accept_request, plain::specs::Request::forwards, message::specs::Message::message_in))]
 pub fn forward_post(k: Link, p: Parsed, a: RequestFacts) -> Post
     requires heard { Heard p }
     requires sendable { Sendable a }

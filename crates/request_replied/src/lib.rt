@@ -1,4 +1,6 @@
 // Our reply to a received request that is answered 0, by value (01, "A request").
+#![tactic(auto)]
+
 ghost use Rattle.std.specs.Prelude.{ℕ, ◌≡◌, cond, List, [], length};
 ghost use Rattle.plain.specs.Address.{Address};
 ghost use Rattle.plain.specs.Given as rules;
@@ -20,6 +22,7 @@ use plain::{Base, Discovery, Target};
 use request::RequestFacts;
 
 // The reply's base.
+#[tactic(auto, using(lemmas::proofs::Cases::cases), unfolding(plain::specs::Request::reply_message, message::specs::Message::message_in))]
 fn reply_base(o: Own, p: Parsed, delta: u8) -> Base
     ensures { (own : ℕ) (c : rules.Received) (vector : List Address) → result ≡ (reply_message (settings_of o) own c (message_in p vector) delta).base }
 {
@@ -37,6 +40,7 @@ fn reply_base(o: Own, p: Parsed, delta: u8) -> Base
 }
 
 // The reply's RREP: RankLimit is 0.
+#[tactic(auto, using(lemmas::proofs::Cases::cases), unfolding(plain::specs::Request::reply_message, message::specs::Message::message_in))]
 fn reply_discovery(p: Parsed, delta: u8) -> Discovery
     ensures { (x : rules.Settings) (own : ℕ) (c : rules.Received) (vector : List Address) → result ≡ (reply_message x own c (message_in p vector) delta).discovery }
 {
@@ -59,6 +63,7 @@ fn reply_count(k: Link, p: Parsed) -> usize
 }
 
 // The reply: one ART, OrigNode's, with our stepped number. The other places for targets are not the message's.
+#[tactic(auto, using(lemmas::proofs::Cases::cases, rule::proofs::Types::parsed_eight, crate::proofs::Sent::replied_is))]
 fn replied(o: Own, k: Link, p: Parsed, seq: u8, delta: u8) -> Parsed
     ensures { Replied (settings_of o) k p seq delta result }
 {
@@ -97,6 +102,7 @@ fn reply_way(on: bool, s: bool) -> Way
     Way::Nowhere
 }
 
+#[tactic(auto, using(lemmas::proofs::Cases::cases, crate::proofs::Sent::reply_goes))]
 fn reply_to(on: bool, k: Link, p: Parsed) -> Destination
     ensures { destination_of result ≡ to_if on (reply_destination (received_by k []) (message_in p [])) }
 {
@@ -108,6 +114,7 @@ fn reply_to(on: bool, k: Link, p: Parsed) -> Destination
 }
 
 // Our reply, if we reply. `seq` is our number before it is stepped.
+#[tactic(auto, using(lemmas::proofs::Cases::cases), unfolding(plain::specs::Request::accept_request, message::specs::Message::message_in, request::specs::Facts::asked_of))]
 pub fn reply_post(o: Own, k: Link, p: Parsed, a: RequestFacts, seq: u8) -> Post
     requires { Heard p }
     ensures { (t : ℕ) (vector : List Address) → length vector ≡ 16 → Posts (settings_of o) vector (accept_request (settings_of o) seq t (received_by k []) (message_in p vector) (asked_of a)).sent.reply (accept_request (settings_of o) seq t (received_by k []) (message_in p vector) (asked_of a)).sent.reply_to result }

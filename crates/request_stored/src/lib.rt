@@ -1,4 +1,6 @@
 // What a received request that is answered 0 stores, by value (01, "A request"): the rows that it leaves, and our number after it.
+#![tactic(auto)]
+
 ghost use Rattle.std.specs.Prelude.{◌≤◌, ◌^◌, ◌≡◌, cond, List, []};
 ghost use Rattle.plain.specs.Address.{Address};
 ghost use Rattle.plain.specs.Given.{RequestRow};
@@ -20,9 +22,10 @@ use row::{InstanceRow, RouteRow};
 // ---- The request row
 
 // The deadline of the request row: an update leaves it as it is.
+#[tactic(auto, using(lemmas::proofs::Cases::cases, rule::proofs::Laws::deadline_kept, rule::proofs::Kept::kept_stays, rule::proofs::Kept::kept_new, rule::proofs::Kept::kept_none), unfolding(row::specs::Meaning::request_of))]
 fn kept_deadline(t: u64, l: u8, a: RequestFacts) -> Deadline
     requires { t ≤ 2 ^ 40 }
-    ensures* { λ r. ⌜ deadline_of r ≡ kept_deadline (λ (r : RequestRow). r.deadline) a.standing (request_found a.row) t l ⌝ }
+    ensures { deadline_of result ≡ kept_deadline (λ (r : RequestRow). r.deadline) a.standing (request_found a.row) t l }
 {
     let s = a.standing;
     let f = a.row;
@@ -39,6 +42,7 @@ fn kept_deadline(t: u64, l: u8, a: RequestFacts) -> Deadline
 }
 
 // The request row.
+#[tactic(auto, using(lemmas::proofs::Cases::cases, crate::proofs::Made::request_is))]
 fn request_row(t: u64, k: Link, p: Parsed, a: RequestFacts) -> InstanceRow
     requires t_bound { t ≤ 2 ^ 40 }
     requires sendable { Sendable a }
@@ -67,6 +71,7 @@ fn request_row(t: u64, k: Link, p: Parsed, a: RequestFacts) -> InstanceRow
 // ---- The reply row, the route and our number
 
 // What the row of our own reply holds, with our stepped number.
+#[tactic(auto, using(lemmas::proofs::Cases::cases, crate::proofs::Made::reply_is))]
 fn reply_fields(o: Own, t: u64, seq: u8, p: Parsed, delta: u8) -> ReplyFields
     requires { t ≤ 2 ^ 40 }
     ensures { reply_in result ≡ own_reply_row (settings_of o) t seq (message_in p []) delta }
@@ -114,6 +119,7 @@ fn seq_after(replies: bool, next: u8, seq: u8) -> u8
 }
 
 // What a request that is answered 0 stores.
+#[tactic(auto, using(lemmas::proofs::Cases::cases, crate::proofs::Accept::accepted_is))]
 pub fn accepted(o: Own, seq: u8, t: u64, k: Link, p: Parsed, a: RequestFacts) -> Decided
     requires t_bound { t ≤ 2 ^ 40 }
     requires sendable { Sendable a }

@@ -1,4 +1,6 @@
 // What a heard request comes to, over the lent tables.
+#![tactic(auto)]
+
 ghost use Rattle.std.specs.Prelude.{[]};
 ghost use Rattle.plain.specs.Plain.{enact};
 ghost use Rattle.own.specs.Settings.{settings_of};
@@ -13,6 +15,7 @@ use own::Own;
 use row::{InstanceRow, RouteRow};
 
 // What a request that was heard comes to, from 9 on.
+#[tactic(auto, using(lemmas::proofs::Cases::cases, rule::proofs::Types::own_sixteen, finish::proofs::Settles::ready, finish::proofs::Decides::refused, finish::proofs::Decides::taken, crate::proofs::Laws::row_few, crate::proofs::Laws::asked_is, crate::proofs::Requested::asking, crate::proofs::Requested::lines, crate::proofs::Requested::accept, crate::proofs::Requested::request_decided, crate::proofs::Requested::request_settled))]
 pub fn take_request(
     instances: &mut [InstanceRow],
     routes: &mut [RouteRow],

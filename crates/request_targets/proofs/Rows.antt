@@ -1,4 +1,5 @@
 -- What the row that was found, and the message, say of targets.
+use borrow.Author.Rules.{rules}
 use Prim.Native.Nat.{◌≤◌}
 use mir.Val.{Val}
 use denote.Laws.{Is}
@@ -36,13 +37,13 @@ module _ (f : Found) where
 -- ---- What the types of the parameters say
 
 pub row_eight : (r : InstanceRow) (vs : List Val) → Is (row instance.the_type) r vs → length r.targets ≡ 8
-row_eight r vs g = length_mapped _ r.targets 8 g.1.1.1.1.1.1.1.1.1.1.1.1.1.0.1.0.1
+row_eight r vs g = search rules
 
 pub list_eight : (ts : Targets) (vs : List Val) → Is (row targets.the_type) ts vs → length ts.list ≡ 8
-list_eight ts vs g = length_mapped _ ts.list 8 g.1.1.1.1.0.1.0.1
+list_eight ts vs g = search rules
 
 pub found_eight : (f : Found) (vs : List Val) → Is (row found.the_type) f vs → length f.row.targets ≡ 8
-found_eight f vs g = row_eight f.row _ g.1.1.1.1.0
+found_eight f vs g = search rules
 
 -- ---- The targets of a message
 

@@ -1,10 +1,13 @@
 // Two routes, by value: whether they have one key, and are twins (01, answer 2).
+#![tactic(auto)]
+
 ghost use Rattle.std.specs.Prelude.{◌≡◌, eqb};
 ghost use Rattle.key.specs.Pair.{ending_of};
 ghost use Rattle.route_key.specs.Pair.{same_three, twin_routes};
 
 use row::RouteRow;
 
+#[tactic(auto, using(lemmas::proofs::Cases::cases), unfolding(crate::specs::Pair::same_three))]
 fn is_same_three(a: RouteRow, b: RouteRow) -> bool
     ensures { result ≡ same_three a b }
 {
@@ -21,6 +24,7 @@ fn is_same_three(a: RouteRow, b: RouteRow) -> bool
     false
 }
 
+#[tactic(auto, using(lemmas::proofs::Cases::cases), unfolding(key::specs::Pair::twins_by))]
 pub fn are_twin_routes(a: RouteRow, b: RouteRow, t: u64) -> bool
     ensures { result ≡ twin_routes t a b }
 {

@@ -1,4 +1,6 @@
 // Whether two live routes have one key (answer 2), found as in crates/twins.
+#![tactic(auto)]
+
 ghost use Rattle.std.specs.Prelude.{◌≡◌, map, ◌<◌, eqb, length, get_or, take};
 ghost use Rattle.plain.specs.Lists.{any, any_two};
 ghost use Rattle.plain.specs.Table.{live_rows, route_deadline};
@@ -11,6 +13,7 @@ ghost use Rattle.filter.specs.Filter.{in_class};
 
 use row::RouteRow;
 
+#[tactic(auto, using(lemmas::proofs::Cases::cases, lemmas::proofs::Front::is_found, lemmas::proofs::Front::not_here, lemmas::proofs::Front::nowhere))]
 fn scan_routes(routes: &[RouteRow], j: usize, t: u64) -> bool
     requires { j < length routes.now }
     ensures { result ≡ any (λ a. twin_routes t a (get_or routes.now j no_route)) (take j routes.now) }
@@ -25,6 +28,7 @@ fn scan_routes(routes: &[RouteRow], j: usize, t: u64) -> bool
     false
 }
 
+#[tactic(auto, using(lemmas::proofs::Cases::cases, lemmas::proofs::Front::is_found, lemmas::proofs::Front::not_here, lemmas::proofs::Front::nowhere))]
 fn has_route_ending(routes: &[RouteRow], j: usize) -> bool
     requires { j < length routes.now }
     ensures { result ≡ any (λ a. eqb (ending_of a.destination) (ending_of (get_or routes.now j no_route).destination)) (take j routes.now) }
@@ -40,6 +44,7 @@ fn has_route_ending(routes: &[RouteRow], j: usize) -> bool
     false
 }
 
+#[tactic(auto, using(lemmas::proofs::Cases::cases, key::proofs::Any::two_start, key::proofs::Any::two_hit, key::proofs::Any::two_more, key::proofs::Any::two_end, key::proofs::Any::any_less, lemmas::proofs::Choice::cond_true, route_key::proofs::Plain::three_parts), unfolding(key::specs::Pair::twins_by))]
 fn every_pair_of_routes(routes: &[RouteRow], t: u64) -> bool
     ensures { result ≡ any_two (twin_routes t) routes.now }
 {
@@ -55,6 +60,7 @@ fn every_pair_of_routes(routes: &[RouteRow], t: u64) -> bool
     false
 }
 
+#[tactic(auto, using(lemmas::proofs::Cases::cases, filter::proofs::Joins::route_table, filter::proofs::Filter::passed_none, filter::proofs::Filter::passed_all, filter::proofs::Filter::asked, filter::proofs::Filter::unasked, filter::proofs::Filter::one_chosen, filter::proofs::Filter::one_class, filter::proofs::Filter::all_class))]
 fn few_routes(routes: &[RouteRow], t: u64) -> bool
     ensures { result ≡ any_two (twin_routes t) routes.now }
 {
@@ -76,6 +82,7 @@ fn few_routes(routes: &[RouteRow], t: u64) -> bool
     false
 }
 
+#[tactic(auto, using(lemmas::proofs::Cases::cases, filter::proofs::Joins::route_table, filter::proofs::Filter::passed_none, filter::proofs::Filter::passed_all, filter::proofs::Filter::asked, filter::proofs::Filter::unasked))]
 fn pass_routes(routes: &[RouteRow], t: u64, mask: u64, p: u64) -> bool
     ensures { result ≡ any_two (in_class hash_route mask p (twin_routes t)) routes.now }
 {
@@ -98,6 +105,7 @@ fn pass_routes(routes: &[RouteRow], t: u64, mask: u64, p: u64) -> bool
 }
 
 // The first pass is a call of its own: with a single call `pass_routes` would be inlined, and its filter would stand in every call's frame.
+#[tactic(auto, using(lemmas::proofs::Cases::cases, filter::proofs::Filter::below_first, filter::proofs::Filter::below_all, filter::proofs::Filter::one_class, filter::proofs::Joins::route_table))]
 fn passes_routes(routes: &[RouteRow], t: u64) -> bool
     ensures { result ≡ any_two (twin_routes t) routes.now }
 {
@@ -116,6 +124,7 @@ fn passes_routes(routes: &[RouteRow], t: u64) -> bool
 }
 
 // Two routes of one source, destination and RPLInstanceID, both live at the clock.
+#[tactic(auto, using(lemmas::proofs::Cases::cases, route_key::proofs::Plain::routes_twins))]
 pub fn has_twins_route(routes: &[RouteRow], clock: u64) -> bool
     ensures { result ≡ any_two route_twins (live_rows route_deadline clock (map route_of routes.now)) }
 {

@@ -1,4 +1,6 @@
 // The rows of the two tables as records, and how one is made. What a record means is in specs/.
+#![tactic(auto)]
+
 ghost use Rattle.std.specs.Prelude.{◌≡◌, cond, ◌≤◌, take, replicate};
 ghost use Rattle.std.proofs.Math.Option.{some, none};
 ghost use Rattle.plain.specs.Blank.{no_target, Padded};
@@ -9,7 +11,7 @@ use plain::Target;
 
 // One instance row, written by a host too: each value of each field has a meaning.
 #[repr(C)]
-#[derive(Drop)]
+#[derive(Clone, Copy)]
 pub struct InstanceRow {
     // 1 a request row, 2 a reply row, any other value: not in use
     pub kind: u8,
@@ -32,7 +34,7 @@ pub struct InstanceRow {
 
 // One route.
 #[repr(C)]
-#[derive(Drop)]
+#[derive(Clone, Copy)]
 pub struct RouteRow {
     // 1: in use, any other value: not
     pub kind: u8,
@@ -66,6 +68,7 @@ fn blank() -> Target
     }
 }
 
+#[tactic(auto, using(lemmas::proofs::Cases::cases))]
 fn blanks() -> [Target; 8]
     ensures { result ≡ replicate 8 no_target }
 {
@@ -74,6 +77,7 @@ fn blanks() -> [Target; 8]
 }
 
 // A request row, of targets that are blank past the count already.
+#[tactic(auto, using(lemmas::proofs::Cases::cases, crate::proofs::Laws::endless_bit, crate::proofs::Laws::length_count, crate::proofs::Laws::padded_whole), unfolding(crate::specs::Record::request_record))]
 pub fn padded_request_row(
     instance: u8,
     dodagid: [u8; 16],
@@ -108,6 +112,7 @@ pub fn padded_request_row(
     }
 }
 
+#[tactic(auto, using(lemmas::proofs::Cases::cases, crate::proofs::Laws::endless_bit), unfolding(crate::specs::Record::reply_record))]
 pub fn reply_row(
     instance: u8,
     dodagid: [u8; 16],
@@ -136,6 +141,7 @@ pub fn reply_row(
     }
 }
 
+#[tactic(auto, using(lemmas::proofs::Cases::cases, crate::proofs::Laws::endless_bit), unfolding(crate::specs::Record::route_record))]
 pub fn route_row(
     source: [u8; 16],
     destination: [u8; 16],

@@ -1,6 +1,7 @@
 -- What the types of values say: the lengths of their arrays, as a parameter's `.good` has them.
 use Prim.Native.Nat.{ℕ}
 use mir.Val.{Val}
+use borrow.Author.Rules.{rules}
 use denote.Laws.{Is}
 use denote.Struct.Declared.{row}
 use mathlib.Core.Path.{◌≡◌, sym, ◌∙◌}
@@ -15,8 +16,7 @@ pub length_mapped : {X Y : Type 0} (h : X → Y) (l : List X) (n : ℕ) → leng
 length_mapped h l n e = sym (length-map l h) ∙ e
 
 pub own_sixteen : (o : Own) (vs : List Val) → Is (row own.the_type) o vs → (length o.receiving ≡ 16) × (length o.sending ≡ 16)
-own_sixteen o vs g =
-    (length_mapped _ o.receiving 16 g.1.1.0.1.0.1, length_mapped _ o.sending 16 g.1.1.1.0.1.0.1)
+own_sixteen o vs g = (search rules, search rules)
 
 pub parsed_eight : (p : Parsed) (vs : List Val) → Is (row parsed.the_type) p vs → length p.targets ≡ 8
-parsed_eight p vs g = length_mapped _ p.targets 8 g.1.1.1.1.1.1.1.1.0.1.0.1
+parsed_eight p vs g = search rules

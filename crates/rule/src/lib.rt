@@ -1,5 +1,7 @@
 // What the rules for a request and for a reply share: a stale route, MinHopRankIncrease, 16, the route that is stored, and a base with
 // another rank.
+#![tactic(auto)]
+
 ghost use Rattle.std.specs.Prelude.{◌≡◌, false, ◌&&◌, List, ◌^◌, ◌≤◌, length};
 ghost use Rattle.lemmas.specs.Each.{WholeVector};
 ghost use Rattle.plain.specs.Address.{Address};
@@ -17,6 +19,7 @@ use row::RouteRow;
 // ---- what is asked
 
 // Whether the live route has a number that a message's does not replace.
+#[tactic(auto, using(lemmas::proofs::Cases::cases), unfolding(plain::specs::Request::route_stale, message::specs::Message::route_found, row::specs::Meaning::route_in))]
 pub fn is_route_stale(h: bool, g: FoundRoute, seq: u8) -> bool
     ensures { result ≡ route_stale h (route_found g) seq }
 {
@@ -53,6 +56,7 @@ pub fn cannot_add(o: Own, adds: bool, compr: u8, n: usize) -> bool
 // ---- what is stored and sent
 
 // The route of a message that came from `next`.
+#[tactic(auto, using(lemmas::proofs::Cases::cases), unfolding(plain::specs::Request::route_row, deadline::specs::Deadline::deadline_of))]
 pub fn route(
     t: u64,
     source: [u8; 16],
@@ -70,6 +74,7 @@ pub fn route(
     row::route_row(source, destination, instance, next, seq, d.endless, d.at)
 }
 
+#[tactic(auto, using(lemmas::proofs::Cases::cases), unfolding(plain::specs::Request::with_rank))]
 pub fn with_rank(b: Base, rank: u16) -> Base
     ensures { result ≡ with_rank b rank }
 {

@@ -1,4 +1,6 @@
 // A pass over the options of a message (01, "Octets on the air").
+#![tactic(auto)]
+
 ghost use Rattle.std.specs.Prelude.{ℕ, ◌≡◌, true};
 ghost use Rattle.scan.specs.Seen.{Noted};
 ghost use Rattle.scan.specs.Scanned.{fresh_scan, OptionTaken, Scanned};
@@ -6,7 +8,7 @@ ghost use Rattle.scan.specs.Scanned.{fresh_scan, OptionTaken, Scanned};
 use option::Next;
 
 // The options of one type: how many, as far as 2, and where the body of the first one is.
-#[derive(Drop)]
+#[derive(Clone, Copy)]
 pub struct Found {
     pub count: usize,
     pub start: usize,
@@ -14,7 +16,7 @@ pub struct Found {
 }
 
 // What a pass has found. `bad`: an option is past the end or has a wrong body.
-#[derive(Drop)]
+#[derive(Clone, Copy)]
 pub struct Scan {
     pub bad: bool,
     pub configuration: Found,
@@ -24,6 +26,7 @@ pub struct Scan {
 }
 
 // What is found of a type after one more option of that type.
+#[tactic(auto, using(lemmas::proofs::Cases::cases, crate::proofs::Laws::seen_first))]
 fn noted(f: Found, start: usize, end: usize) -> Found
     ensures { (kind : ℕ) → Noted kind kind start end f result }
 {
@@ -42,6 +45,7 @@ fn noted(f: Found, start: usize, end: usize) -> Found
 }
 
 // What a pass has found after one more option. Most types are none of these four.
+#[tactic(auto, using(lemmas::proofs::Cases::cases, crate::proofs::Laws::seen_other, crate::proofs::Laws::noted_as, crate::proofs::Laws::apart))]
 fn with_option(s: Scan, kind: u8, start: usize, end: usize) -> Scan
     ensures { OptionTaken kind start end s result }
 {
@@ -90,6 +94,7 @@ fn malformed(s: Scan) -> Scan
 }
 
 // All options of a message, each read in its turn. The pass ends at the first bad one.
+#[tactic(auto, using(crate::proofs::Passing::passing_first, crate::proofs::Passing::scanned_bad, crate::proofs::Passing::scanned_out, crate::proofs::Passing::scanned_end, crate::proofs::Passing::scanned_cut, crate::proofs::Passing::passing_pad, option::proofs::Turn::pad_placed, option::proofs::Turn::body_placed, lemmas::proofs::Cases::cases))]
 pub fn read_options(msg: &[u8]) -> Scan
     ensures { Scanned msg.now result }
 {

@@ -1,4 +1,6 @@
 // What the table of instance rows holds for a call: the live rows of its keys, and a partner.
+#![tactic(auto)]
+
 ghost use Rattle.std.specs.Prelude.{◌≡◌, true, false, ℕ, ◌≤◌};
 ghost use Rattle.plain.specs.Lists.{given};
 ghost use Rattle.row.specs.Meaning.{no_row};
@@ -16,6 +18,7 @@ fn found(at: usize, row: InstanceRow) -> Found
     Found { is: true, at, row }
 }
 
+#[tactic(auto, using(lemmas::proofs::Cases::cases))]
 fn not_found(at: usize) -> Found
     ensures { result ≡ record { is = false; at = at; row = no_row } }
 {
@@ -30,6 +33,7 @@ fn not_found(at: usize) -> Found
 // ---- over the lent table
 
 // The live request row of a key.
+#[tactic(auto, using(lemmas::proofs::Cases::cases, lemmas::proofs::Choice::true_false, crate::proofs::Laws::request_ask, crate::proofs::Laws::hit, crate::proofs::Laws::miss, crate::proofs::Laws::hit_live, crate::proofs::Laws::hit_kind), unfolding(message::specs::Message::row_found, crate::specs::Seen::request_seen))]
 pub fn search_request(rows: &[InstanceRow], t: u64, instance: u8, dodagid: [u8; 16]) -> Found
     ensures found { ((clock : ℕ) → clock ≤ t → request_found result ≡ request_seen clock rows.now t instance dodagid) × (result.is ≡ true → result.row.kind ≡ 1) }
     ensures here { LiveRow rows.now t result }
@@ -42,6 +46,7 @@ pub fn search_request(rows: &[InstanceRow], t: u64, instance: u8, dodagid: [u8; 
 }
 
 // Whether a request row of a key is live: a start needs to know no more of it.
+#[tactic(auto, using(lemmas::proofs::Cases::cases, crate::proofs::Laws::request_ask, crate::proofs::Laws::hit, crate::proofs::Laws::miss), unfolding(crate::specs::Seen::request_seen))]
 pub fn has_request(rows: &[InstanceRow], t: u64, instance: u8, dodagid: [u8; 16]) -> bool
     ensures { (clock : ℕ) → clock ≤ t → result ≡ given (request_seen clock rows.now t instance dodagid) }
 {
@@ -53,6 +58,7 @@ pub fn has_request(rows: &[InstanceRow], t: u64, instance: u8, dodagid: [u8; 16]
 }
 
 // The live reply row of a key.
+#[tactic(auto, using(lemmas::proofs::Cases::cases, crate::proofs::Laws::reply_ask, crate::proofs::Laws::hit, crate::proofs::Laws::miss, crate::proofs::Laws::hit_live), unfolding(message::specs::Message::row_found, crate::specs::Seen::reply_seen))]
 pub fn search_reply(rows: &[InstanceRow], t: u64, instance: u8, dodagid: [u8; 16]) -> Found
     ensures found { (clock : ℕ) → clock ≤ t → reply_found result ≡ reply_seen clock rows.now t instance dodagid }
     ensures here { LiveRow rows.now t result }
@@ -65,6 +71,7 @@ pub fn search_reply(rows: &[InstanceRow], t: u64, instance: u8, dodagid: [u8; 16
 }
 
 // "a live partner request row of the same H"
+#[tactic(auto, using(lemmas::proofs::Cases::cases, crate::proofs::Laws::partner_ask, crate::proofs::Laws::hit, crate::proofs::Laws::miss), unfolding(message::specs::Message::row_found, crate::specs::Seen::partner_seen))]
 pub fn search_partner(
     rows: &[InstanceRow],
     t: u64,

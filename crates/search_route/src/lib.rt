@@ -1,4 +1,6 @@
 // What the table of routes holds for a call: the live route of its key.
+#![tactic(auto)]
+
 ghost use Rattle.std.specs.Prelude.{◌≡◌, true, false, ℕ, ◌≤◌};
 ghost use Rattle.row.specs.Meaning.{no_route};
 ghost use Rattle.search_route.specs.Seen.{route_seen, LiveRoute};
@@ -19,6 +21,7 @@ fn found_route(at: usize, route: RouteRow) -> FoundRoute
     }
 }
 
+#[tactic(auto, using(lemmas::proofs::Cases::cases))]
 fn no_route_found(at: usize) -> FoundRoute
     ensures { result ≡ record { is = false; at = at; route = no_route } }
 {
@@ -33,6 +36,7 @@ fn no_route_found(at: usize) -> FoundRoute
 // ---- over the lent table
 
 // The live route of a key.
+#[tactic(auto, using(lemmas::proofs::Cases::cases, search::proofs::Laws::hit, search::proofs::Laws::miss, search::proofs::Laws::hit_live, crate::proofs::Laws::route_ask), unfolding(message::specs::Message::route_found, crate::specs::Seen::route_seen))]
 pub fn search_route(
     routes: &[RouteRow],
     t: u64,

@@ -1,10 +1,13 @@
 // Sequence numbers (01, "Rank and freshness"): the order, and what follows from it for a row and for a route.
+#![tactic(auto)]
+
 ghost use Rattle.std.specs.Prelude.{◌≡◌};
 ghost use Rattle.plain.specs.Rank.{freshness, standing, outdated};
 
 use plain::{Freshness, Standing};
 
 // How a stands to b: Newer where a is the newer one.
+#[tactic(auto, using(lemmas::proofs::Cases::cases), unfolding(plain::specs::Rank::freshness))]
 pub fn compare(a: u8, b: u8) -> Freshness
     ensures { result ≡ freshness a b }
 {
@@ -29,6 +32,7 @@ pub fn compare(a: u8, b: u8) -> Freshness
 
 // How a message stands to the live row of its key, by how its number stands to the row's: `replied` is the row's, and `lower` tells
 // that our own rank is lower than the row's.
+#[tactic(auto, using(lemmas::proofs::Cases::cases), unfolding(plain::specs::Rank::standing))]
 pub fn standing(f: Freshness, replied: bool, lower: bool) -> Standing
     ensures { result ≡ standing f replied lower }
 {
@@ -50,6 +54,7 @@ pub fn standing(f: Freshness, replied: bool, lower: bool) -> Standing
 }
 
 // Whether a message is outdated, by how the number of the live route stands to the message's.
+#[tactic(auto, using(lemmas::proofs::Cases::cases), unfolding(plain::specs::Rank::outdated))]
 pub fn is_outdated(f: Freshness) -> bool
     ensures { result ≡ outdated f }
 {

@@ -1,4 +1,6 @@
 // How a message stands to the live row of its key: the three ways that a rule asks.
+#![tactic(auto)]
+
 ghost use Rattle.std.specs.Prelude.{◌≡◌};
 ghost use Rattle.plain.specs.Request.{is_stale, is_nothing_new, is_update};
 

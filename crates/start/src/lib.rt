@@ -1,4 +1,6 @@
 // The start of our own discovery by value (01, "A request"): what it brings, and its answer.
+#![tactic(auto)]
+
 ghost use Rattle.std.specs.Prelude.{◌≤◌, ◌≡◌};
 ghost use Rattle.answer.specs.Answer.{answer_number};
 ghost use Rattle.own.specs.Settings.{settings_of};
@@ -8,7 +10,7 @@ use answer::Answer;
 use own::Own;
 
 // What a start brings, but for its targets.
-#[derive(Drop)]
+#[derive(Clone, Copy)]
 pub struct Asking {
     pub instance: u8,
     pub h: bool,
@@ -26,6 +28,7 @@ pub fn asked_instance(s: Asking) -> u8
 }
 
 // The answer of a start. `taken`: a row of its key is live.
+#[tactic(auto, using(lemmas::proofs::Cases::cases), unfolding(crate::specs::Start::start_answer))]
 pub fn judge(o: Own, s: Asking, taken: bool) -> Answer
     requires { s.compr ≤ 15 }
     ensures { answer_number result ≡ start_answer (settings_of o) s taken }

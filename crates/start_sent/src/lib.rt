@@ -1,4 +1,6 @@
 // What a start of our own discovery that is answered 0 sends, by value (01, "A request").
+#![tactic(auto)]
+
 ghost use Rattle.std.specs.Prelude.{ℕ, ◌≡◌, cond, List, []};
 ghost use Rattle.plain.specs.Address.{Address};
 ghost use Rattle.plain.specs.Request.{start_message, accept_start};
@@ -24,6 +26,7 @@ fn compr_sent(h: bool, compr: u8) -> u8
 }
 
 // The request that is sent.
+#[tactic(auto, using(lemmas::proofs::Cases::cases), unfolding(message::specs::Message::message_in, plain::specs::Request::start_message))]
 fn start_message(o: Own, seq: u8, s: Asking, ts: Targets) -> Parsed
     ensures { (message_in result [] ≡ start_message (settings_of o) seq (start_of s []) (list_of ts)) × (result.n ≡ 0) × (result.count ≡ ts.count) }
 {
@@ -58,6 +61,7 @@ fn start_message(o: Own, seq: u8, s: Asking, ts: Targets) -> Parsed
 }
 
 // What a start sends, to the group. `seq` is our number before it is stepped. No vector was received: whatever stands for one plays no part.
+#[tactic(auto, using(lemmas::proofs::Cases::cases, crate::proofs::Sent::start_posts), unfolding(plain::specs::Request::accept_start, plain::specs::Request::start_message))]
 pub fn start_post(o: Own, seq: u8, s: Asking, ts: Targets) -> Post
     requires { Sendable s ts }
     ensures { (t : ℕ) (vector : List Address) (targets : List plain.Target) → Posts (settings_of o) vector (accept_start (settings_of o) seq t (start_of s targets) (list_of ts)).sent.forward (accept_start (settings_of o) seq t (start_of s targets) (list_of ts)).sent.forward_to result }

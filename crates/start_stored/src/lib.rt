@@ -1,4 +1,6 @@
 // What a start of our own discovery that is answered 0 stores, by value (01, "A request"): its row, and our number after it.
+#![tactic(auto)]
+
 ghost use Rattle.std.specs.Prelude.{◌≤◌, ◌^◌, ◌≡◌, List, []};
 ghost use Rattle.std.proofs.Math.Option.{none};
 ghost use Rattle.plain.specs.Blank.{Padded};
@@ -18,6 +20,7 @@ use start::Asking;
 use targets::Targets;
 
 // Its row, with our stepped number: all its targets stay, those that are ours too.
+#[tactic(auto, using(lemmas::proofs::Cases::cases, crate::proofs::Stored::row_is))]
 fn start_row(o: Own, seq: u8, t: u64, s: Asking, ts: Targets) -> InstanceRow
     requires { (t ≤ 2 ^ 40) × (ts.count ≤ 8) × Padded ts.count ts.list }
     ensures { result ≡ request_record (start_row (settings_of o) t seq (start_of s []) (list_of ts)) }
@@ -42,6 +45,7 @@ fn start_row(o: Own, seq: u8, t: u64, s: Asking, ts: Targets) -> InstanceRow
 }
 
 // What a start that is answered 0 stores. It stores no route, and no reply row.
+#[tactic(auto, using(lemmas::proofs::Cases::cases, crate::proofs::Stored::stored_is))]
 pub fn accepted(o: Own, seq: u8, t: u64, s: Asking, ts: Targets) -> Decided
     requires { (t ≤ 2 ^ 40) × (ts.count ≤ 8) × Padded ts.count ts.list }
     ensures { (targets : List plain.Target) → Stores {B = rules.RequestRow} (accept_start (settings_of o) seq t (start_of s targets) (list_of ts)) none none result }

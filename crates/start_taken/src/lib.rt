@@ -1,4 +1,6 @@
 // What a start of our own discovery comes to, over the lent tables.
+#![tactic(auto)]
+
 ghost use Rattle.std.specs.Prelude.{◌≡◌, false, List, replicate};
 ghost use Rattle.plain.specs.Address.{zero_address};
 ghost use Rattle.plain.specs.Plain.{enact};
@@ -37,6 +39,7 @@ fn no_vector() -> [[u8; 16]; 16]
 }
 
 // What a start of our own discovery comes to, from 10 on. It is stored in a new row, or refused: no row of its key is written over.
+#[tactic(auto, using(lemmas::proofs::Cases::cases, rule::proofs::Laws::posts_nothing, finish::proofs::Laws::refused_gives, crate::proofs::Laws::start_answer_lem, crate::proofs::Laws::new_settled, crate::proofs::Laws::new_ready), unfolding(crate::specs::Taken::start_decision, plain::specs::Request::accept_start))]
 pub fn take_start(
     instances: &mut [InstanceRow],
     routes: &mut [RouteRow],

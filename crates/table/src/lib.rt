@@ -1,4 +1,6 @@
 // The two lent tables: whether every row is good, and stores of whole rows.
+#![tactic(auto)]
+
 ghost use Rattle.std.specs.Prelude.{◌≡◌, map, set};
 ghost use Rattle.plain.specs.Answers.{good_instance, good_route, all_good};
 ghost use Rattle.row.specs.Meaning.{instance_of, route_of};
@@ -8,6 +10,7 @@ use row::{InstanceRow, RouteRow};
 // ---- instance rows
 
 // No row in use is wrong.
+#[tactic(auto, using(lemmas::proofs::Cases::cases, lemmas::proofs::Walk::walk_on, lemmas::proofs::Walk::walk_stop, lemmas::proofs::Walk::walk_end, lemmas::proofs::Walk::all_map))]
 pub fn all_good(rows: &[InstanceRow]) -> bool
     ensures { result ≡ all_good good_instance (map instance_of rows.now) }
 {
@@ -35,6 +38,7 @@ pub fn put_row(rows: &mut [InstanceRow], i: usize, r: InstanceRow)
 // ---- routes
 
 // No route in use is wrong.
+#[tactic(auto, using(lemmas::proofs::Cases::cases, lemmas::proofs::Walk::walk_on, lemmas::proofs::Walk::walk_stop, lemmas::proofs::Walk::walk_end, lemmas::proofs::Walk::all_map))]
 pub fn all_good_routes(routes: &[RouteRow]) -> bool
     ensures { result ≡ all_good good_route (map route_of routes.now) }
 {

@@ -1,4 +1,2 @@
-pub mod Elem
-pub mod Lent
 pub mod Number
 pub mod Counts

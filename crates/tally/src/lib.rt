@@ -1,4 +1,6 @@
 // The tally: how many calls had each answer. The host lends it; it is no part of the node's state.
+#![tactic(auto)]
+
 ghost use Rattle.std.specs.Prelude.{◌≡◌, ◌+◌, ◌%◌, ◌^◌};
 ghost use Rattle.plain.specs.Tally.{raised};
 ghost use Rattle.answer.specs.Answer.{answer_number};
@@ -7,12 +9,13 @@ use answer::Answer;
 
 // 01, "eighteen 32-bit counts, one for each answer".
 #[repr(C)]
-#[derive(Drop)]
+#[derive(Clone, Copy)]
 pub struct Tally {
     pub counts: [u32; 18],
 }
 
 // The place of an answer's count.
+#[tactic(auto, using(lemmas::proofs::Cases::cases, std::proofs::Common::rules))]
 fn place_of(a: Answer) -> usize
     ensures { result ≡ answer_number a }
 {
@@ -27,6 +30,7 @@ fn one_more(x: u32) -> u32
 }
 
 // An answer's number is below 18, so that its count is always there.
+#[tactic(auto, using(lemmas::proofs::Cases::cases, std::proofs::Common::arith, std::proofs::Common::rules, crate::proofs::Number::number_below), unfolding(plain::specs::Tally::raised))]
 fn raise_at(c: &mut [u32; 18], a: Answer)
     ensures { c.new ≡ raised (answer_number a) c.old }
 {
@@ -34,8 +38,7 @@ fn raise_at(c: &mut [u32; 18], a: Answer)
     c[k] = one_more(c[k]);
 }
 
-// "one record, lent by the host and changed in place": the counts are lent out of the record, so that no other count is copied. The walk of
-// that is by hand (proofs/raise/Proof/Walk.antt).
+// "one record, lent by the host and changed in place": the counts are lent out of the record, so that no other count is copied.
 pub fn raise(t: &mut Tally, a: Answer)
     ensures { t.new.counts ≡ raised (answer_number a) t.old.counts }
 {

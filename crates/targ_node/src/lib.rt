@@ -1,4 +1,6 @@
 // The targets of a received request, and whether we are TargNode (01, "A request"), by value.
+#![tactic(auto)]
+
 ghost use Rattle.std.specs.Prelude.{◌≡◌, false, List};
 ghost use Rattle.plain.specs.Address.{Address};
 ghost use Rattle.plain.specs.Request.{are_targ_node};
@@ -23,6 +25,7 @@ pub fn named_in(p: Parsed) -> Targets
 }
 
 // "We are TargNode if a target in the message equals one of our addresses, or shares its first Prefix Length bits."
+#[tactic(auto, using(lemmas::proofs::Cases::cases, crate::proofs::Rows::named_is))]
 pub fn is_targ_node(o: Own, p: Parsed) -> bool
     requires { Heard p }
     ensures { (vector : List Address) → result ≡ are_targ_node (settings_of o) (message_in p vector) }

@@ -1,4 +1,6 @@
 // Targets that are collected, each once, in a list with room for eight: how many there are, and where the next one goes.
+#![tactic(auto)]
+
 ghost use Rattle.std.specs.Prelude.{◌≡◌, replicate};
 ghost use Rattle.plain.specs.Blank.{no_target};
 ghost use Rattle.targets.specs.Collected.{place_for, counted, none_yet};
@@ -6,7 +8,7 @@ ghost use Rattle.targets.specs.Collected.{place_for, counted, none_yet};
 use plain::Target;
 
 // Targets, each once: the first `count` of the list. `over`: there were more than eight.
-#[derive(Drop)]
+#[derive(Clone, Copy)]
 pub struct Targets {
     pub over: bool,
     pub count: usize,
@@ -14,7 +16,7 @@ pub struct Targets {
 }
 
 // How many targets are collected. `over`: there were more than eight.
-#[derive(Drop)]
+#[derive(Clone, Copy)]
 pub struct Count {
     pub over: bool,
     pub n: usize,
@@ -28,6 +30,7 @@ pub fn place_for(listed: bool, n: usize) -> usize
 }
 
 // How many are collected, when the next one went to a place.
+#[tactic(auto, using(lemmas::proofs::Cases::cases))]
 pub fn counted(c: Count, at: usize) -> Count
     ensures { result ≡ counted c at }
 {

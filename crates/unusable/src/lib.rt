@@ -1,7 +1,10 @@
 // Addresses that no node may have: sixteen octets by value (01, "Octets on the air").
+#![tactic(auto)]
+
 ghost use Rattle.std.specs.Prelude.{◌≡◌};
 ghost use Rattle.plain.specs.Address.{link_local, all_zero, unusable};
 
+#[tactic(auto, using(lemmas::proofs::Cases::cases))]
 fn is_link_local(a: [u8; 16]) -> bool
     ensures { result ≡ link_local a }
 {
@@ -11,6 +14,7 @@ fn is_link_local(a: [u8; 16]) -> bool
     a[1] / 64 == 2
 }
 
+#[tactic(auto, using(lemmas::proofs::Walk::walk_stop, lemmas::proofs::Walk::walk_on, lemmas::proofs::Walk::walk_end, lemmas::proofs::Cases::cases))]
 fn is_all_zero(a: [u8; 16]) -> bool
     ensures { result ≡ all_zero a }
 {
@@ -25,6 +29,7 @@ fn is_all_zero(a: [u8; 16]) -> bool
 }
 
 // Whether an address is link-local, multicast or all zero.
+#[tactic(auto, using(lemmas::proofs::Cases::cases), unfolding(plain::specs::Address::unusable))]
 pub fn is_unusable(a: [u8; 16]) -> bool
     ensures { result ≡ unusable a }
 {

@@ -1,4 +1,6 @@
 // The writer of a message: it lends what is left of the buffer to the writer of each part in turn.
+#![tactic(auto)]
+
 ghost use Rattle.std.specs.Prelude.{◌≡◌, true, ◌≤◌, length, take};
 ghost use Rattle.lemmas.specs.Written.{Written};
 ghost use Rattle.plain.specs.Octets.{octets_of};
@@ -12,6 +14,7 @@ use writer_base::{put_base, put_configuration};
 use writer_option::put_discovery;
 
 // A whole message.
+#[tactic(auto, using(lemmas::proofs::Cases::cases, lemmas::proofs::Buffer::written_then, crate::proofs::Lengths::message_sizes), unfolding(plain::specs::Octets::octets_of))]
 pub fn put_message(
     out: &mut [u8],
     base: Base,

@@ -1,4 +1,6 @@
 // The writer of the ARTs: it writes at the front of the part of the buffer that it is lent, and answers how many octets it wrote.
+#![tactic(auto)]
+
 ghost use Rattle.std.specs.Prelude.{◌≡◌, true, ◌≤◌, length, take};
 ghost use mathlib.Core.List.{map, flatten};
 ghost use Rattle.lemmas.specs.Written.{Written};
@@ -10,6 +12,7 @@ use plain::Target;
 use writer_octets::put_octets;
 
 // How many octets of a target are sent.
+#[tactic(auto, using(lemmas::proofs::Cases::cases))]
 fn target_octets(plen: u8) -> usize
     ensures { result ≡ prefix_octets plen }
 {
@@ -20,6 +23,7 @@ fn target_octets(plen: u8) -> usize
 }
 
 // Type, length, Dest SeqNo and Prefix Length of an ART with so many octets of a target.
+#[tactic(auto, using(lemmas::proofs::Cases::cases, writer_base::proofs::Stores::stored, crate::proofs::Words::art_word))]
 fn put_art_head(out: &mut [u8], t: Target, size: usize) -> usize
     requires { (size ≤ 16) × (4 ≤ length out.old) }
     ensures { Written (art_head t size) out.old out.new result }
@@ -32,6 +36,7 @@ fn put_art_head(out: &mut [u8], t: Target, size: usize) -> usize
 }
 
 // An ART.
+#[tactic(auto, using(lemmas::proofs::Cases::cases, lemmas::proofs::Buffer::written_then, lemmas::proofs::Rules::most_octets_lem, crate::proofs::Lengths::art_parts))]
 pub fn put_art(out: &mut [u8], t: Target) -> usize
     requires { (t.plen ≤ 127) × (length (art_octets t) ≤ length out.old) }
     ensures { Written (art_octets t) out.old out.new result }
@@ -44,6 +49,7 @@ pub fn put_art(out: &mut [u8], t: Target) -> usize
 }
 
 // An ART for each of the first so many targets.
+#[tactic(auto, using(lemmas::proofs::Cases::cases, lemmas::proofs::Buffer::written_then, lemmas::proofs::Buffer::written_none, lemmas::proofs::Targets::target_past, crate::proofs::Lengths::short_at, writer_octets::proofs::Parts::parts_none, writer_octets::proofs::Parts::parts_more, writer_octets::proofs::Parts::parts_room))]
 pub fn put_arts(out: &mut [u8], count: usize, targets: [Target; 8]) -> usize
     requires { (count ≤ 8) × (short_prefixes (take count targets) ≡ true) × (length (flatten (map art_octets (take count targets))) ≤ length out.old) }
     ensures { Written (flatten (map art_octets (take count targets))) out.old out.new result }

@@ -1,5 +1,7 @@
 // Writers of the base and of the DODAG Configuration: each writes at the front of the part of the buffer that it is lent, and answers how many
 // octets it wrote.
+#![tactic(auto)]
+
 ghost use Rattle.std.specs.Prelude.{cond, ◌≤◌, length};
 ghost use Rattle.std.proofs.Math.Option.{some, none};
 ghost use Rattle.lemmas.specs.Written.{Written};
@@ -10,6 +12,7 @@ use plain::Base;
 use writer_octets::put_octets;
 
 // The base up to the DODAGID. MOP is 4.
+#[tactic(auto, using(lemmas::proofs::Cases::cases, crate::proofs::Stores::high_octet, crate::proofs::Stores::stored, crate::proofs::Stores::base_word))]
 fn put_base_head(out: &mut [u8], b: Base) -> usize
     requires { 8 ≤ length out.old }
     ensures { Written (base_head b) out.old out.new result }
@@ -26,6 +29,7 @@ fn put_base_head(out: &mut [u8], b: Base) -> usize
 }
 
 // The base.
+#[tactic(auto, using(lemmas::proofs::Cases::cases, lemmas::proofs::Buffer::written_then), unfolding(plain::specs::Octets::base_octets))]
 pub fn put_base(out: &mut [u8], b: Base) -> usize
     requires { 24 ≤ length out.old }
     ensures { Written (base_octets b) out.old out.new result }
@@ -37,6 +41,7 @@ pub fn put_base(out: &mut [u8], b: Base) -> usize
 }
 
 // The DODAG Configuration, if it is present.
+#[tactic(auto, using(lemmas::proofs::Cases::cases, lemmas::proofs::Buffer::length_written, lemmas::proofs::Buffer::written_then, lemmas::proofs::Buffer::written_none, crate::proofs::Lengths::configuration_some, crate::proofs::Lengths::configuration_none, crate::proofs::Stores::stored))]
 pub fn put_configuration(out: &mut [u8], present: bool, octets: [u8; 14]) -> usize
     requires { length (configuration_octets (cond present (some octets) none)) ≤ length out.old }
     ensures { Written (configuration_octets (cond present (some octets) none)) out.old out.new result }

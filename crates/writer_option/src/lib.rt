@@ -1,4 +1,6 @@
 // The writer of the RREQ or RREP: it writes at the front of the part of the buffer that it is lent, and answers how many octets it wrote.
+#![tactic(auto)]
+
 ghost use Rattle.std.specs.Prelude.{◌≡◌, cond, [], ◌∷◌, ◌≤◌, length, take};
 ghost use Rattle.lemmas.specs.Written.{Written};
 ghost use Rattle.plain.specs.Octets.{word, number_bits, rreq_type, rrep_type, route_octets};
@@ -21,6 +23,7 @@ fn compr_sent(d: Discovery) -> u8
 }
 
 // The first two octets of an RREQ or RREP: S or G, H, X, Compr, L, RankLimit.
+#[tactic(auto, using(lemmas::proofs::Cases::cases), unfolding(crate::specs::Heads::route_word, plain::specs::Octets::word, plain::specs::Octets::sum))]
 fn route_word(d: Discovery) -> u16
     ensures { result ≡ route_word d }
 {
@@ -33,6 +36,7 @@ fn route_word(d: Discovery) -> u16
 }
 
 // The third octet: Orig SeqNo, or Delta and two bits 0.
+#[tactic(auto, using(lemmas::proofs::Cases::cases), unfolding(plain::specs::Octets::word, plain::specs::Octets::sum))]
 fn number_octet(d: Discovery) -> u8
     ensures { result ≡ word (number_bits d.reply) (d.number ∷ 0 ∷ []) }
 {
@@ -52,6 +56,7 @@ fn route_type(d: Discovery) -> u8
 }
 
 // Type, length and the three octets before a vector of so many octets.
+#[tactic(auto, using(lemmas::proofs::Cases::cases, writer_base::proofs::Stores::high_octet, writer_base::proofs::Stores::stored))]
 fn put_route_head(out: &mut [u8], d: Discovery, size: usize) -> usize
     requires { (size ≤ 252) × (5 ≤ length out.old) }
     ensures { Written (route_head d size) out.old out.new result }
@@ -66,6 +71,7 @@ fn put_route_head(out: &mut [u8], d: Discovery, size: usize) -> usize
 }
 
 // The RREQ or RREP with its vector, which is none with H 1.
+#[tactic(auto, using(lemmas::proofs::Cases::cases, lemmas::proofs::Buffer::written_then, writer_octets::proofs::Addresses::elided_taken, crate::proofs::Lengths::route_parts, crate::proofs::Lengths::route_bare))]
 pub fn put_discovery(out: &mut [u8], d: Discovery, n: usize, vector: &[[u8; 16]; 16]) -> usize
     requires { Sendable d n × (length (route_octets d (take n vector.now)) ≤ length out.old) }
     ensures { Written (route_octets d (take n vector.now)) out.old out.new result }

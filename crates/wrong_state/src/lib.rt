@@ -1,4 +1,6 @@
 // Answer 2, asked of every call: of the own number, and of both lent tables.
+#![tactic(auto)]
+
 ghost use Rattle.std.specs.Prelude.{◌≡◌};
 ghost use Rattle.plain.specs.Answers.{wrong_state, good_state, view_of};
 ghost use Rattle.answer.specs.declared.Answer.TheVariants.{WrongState};
@@ -14,6 +16,7 @@ pub fn wrong_state() -> Answer
 }
 
 // 2, asked of every call: own number 0, a row in use that is wrong, two live rows of one key.
+#[tactic(auto, using(lemmas::proofs::Cases::cases, crate::proofs::Laws::wrong_own, crate::proofs::Laws::wrong_left, crate::proofs::Laws::wrong_right, crate::proofs::Laws::wrong_pair, crate::proofs::Laws::wrong_last, crate::proofs::Laws::and_are))]
 pub fn is_wrong(instances: &[InstanceRow], routes: &[RouteRow], clock: u64, seq: u8) -> bool
     ensures { result ≡ wrong_state (good_state (state_of clock seq instances.now routes.now)) (view_of (state_of clock seq instances.now routes.now)) }
 {

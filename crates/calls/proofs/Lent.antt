@@ -1,2 +1,0 @@
-pub mod message
-pub mod start

@@ -1,3 +1,0 @@
-pub mod collect
-pub mod is_listed
-pub mod put_target

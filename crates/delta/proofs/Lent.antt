@@ -1,2 +1,0 @@
-pub mod free_delta
-pub mod free_delta_if

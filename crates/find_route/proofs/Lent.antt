@@ -1,2 +1,0 @@
-pub mod find_route
-pub mod find_spare_route

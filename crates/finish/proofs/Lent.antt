@@ -1,3 +1,0 @@
-pub mod finish
-pub mod put_second
-pub mod store

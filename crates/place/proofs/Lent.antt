@@ -1,2 +1,0 @@
-pub mod place_route
-pub mod place_rows

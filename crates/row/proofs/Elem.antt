@@ -1,2 +1,0 @@
-pub mod InstanceRow
-pub mod RouteRow

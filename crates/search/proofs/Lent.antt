@@ -1,4 +1,0 @@
-pub mod has_request
-pub mod search_partner
-pub mod search_reply
-pub mod search_request

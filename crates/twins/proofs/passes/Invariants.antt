@@ -1,0 +1,10 @@
+use Prim.Native.Nat.{◌+◌, ◌-◌, ◌≤◌, ◌<◌}
+use Rattle.filter.proofs.Filter.{Below}
+use Rattle.filter.proofs.Joins.{row_table}
+use Rattle.twins.proofs.passes.Given as goal
+
+abbrev pub invariant-loop-p : goal.invariant-loop-p
+invariant-loop-p l = (l.mask < 65536) × (l.p ≤ l.mask + 1) × Below (row_table l.t) l.mask l.rows l.p
+
+abbrev pub decreases-loop-p : goal.decreases-loop-p
+decreases-loop-p l = l.mask + 1 - l.p
