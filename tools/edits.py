@@ -16,7 +16,7 @@ def read(path):
 def crates():
     """name -> what it stands on, in the order of crates.txt"""
     lines = [l.split('#')[0] for l in read(os.path.join(ROOT, 'crates.txt')).split('\n')]
-    return {l.split(':')[0].strip(): l.split(':')[1].split() for l in lines if ':' in l}
+    return {l.split(':')[0].split()[0]: l.split(':')[1].split() for l in lines if ':' in l}
 
 
 class Function:
