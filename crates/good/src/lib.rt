@@ -23,7 +23,7 @@ fn is_good_deadline(endless: u8, deadline: u64) -> bool
     true
 }
 
-#[tactic(auto, using(lemmas::proofs::Targets::target_past, crate::proofs::Laws::count_over, crate::proofs::Laws::count_within, crate::proofs::Laws::good_at, crate::proofs::Laws::bad_at, lemmas::proofs::Front::front_below, lemmas::proofs::Front::front_past, lemmas::proofs::Walk::walk_stop, lemmas::proofs::Walk::walk_on, lemmas::proofs::Walk::walk_end, lemmas::proofs::Cases::cases))]
+#[tactic(auto, using(crate::proofs::Laws::count_over, crate::proofs::Laws::count_within, crate::proofs::Laws::good_on, crate::proofs::Laws::good_stop, crate::proofs::Laws::good_end, lemmas::proofs::Cases::cases))]
 fn are_good_targets(count: u8, targets: [Target; 8]) -> bool
     ensures { result ≡ leb (length (targets_of count targets)) most_targets && all short_prefix (targets_of count targets) }
 {

@@ -28,6 +28,7 @@ pub fn grown_count(o: Own, h: bool, n: usize) -> usize
 }
 
 // 16: with ours added a vector of n addresses is past 16 addresses or 252 octets.
+#[tactic(auto, using(lemmas::proofs::Cases::cases, crate::proofs::Growth::past_addresses, crate::proofs::Growth::past_octets))]
 pub fn cannot_grow(o: Own, compr: u8, n: usize) -> bool
     requires { (compr ≤ 16) × (n ≤ 16) }
     ensures { (v : List Address) → length v ≡ n → WholeVector v → result ≡ cannot_grow compr (grown (settings_of o) false v) }

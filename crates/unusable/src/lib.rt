@@ -14,7 +14,7 @@ fn is_link_local(a: [u8; 16]) -> bool
     a[1] / 64 == 2
 }
 
-#[tactic(auto, using(lemmas::proofs::Walk::walk_stop, lemmas::proofs::Walk::walk_on, lemmas::proofs::Walk::walk_end, lemmas::proofs::Cases::cases))]
+#[tactic(auto, using(crate::proofs::Laws::zero_stop, crate::proofs::Laws::zero_on, crate::proofs::Laws::zero_end, lemmas::proofs::Cases::cases))]
 fn is_all_zero(a: [u8; 16]) -> bool
     ensures { result ≡ all_zero a }
 {

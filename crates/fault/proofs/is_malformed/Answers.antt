@@ -1,6 +1,7 @@
 use Prim.Native.Nat.{◌<◌}
 use mathlib.Core.Path.{◌≡◌, sym, ◌∙◌}
 use mathlib.Core.Bool.{true, not, ◌&&◌, ◌||◌}
+use native.Mathlib.Omega.{arith}
 use lib.Dec.{eqb, ltb}
 use borrow.Author.Tests.{le-ltb}
 use Rattle.plain.specs.Octets.{options_of, of_type, first_body, art_type, plen_of, reply_counts, malformed}
@@ -22,7 +23,7 @@ asks : (c : Else-s)
     ltb 1 a.s.configuration.count
     || (reply_counts (options_of a.msg.now) && not (eqb (plen_of (first_body (of_type art_type (options_of a.msg.now)))) 0))
     ≡ malformed a.msg.now
-asks c = malformed_is (outlined c) c.if-msg-lt24.false (sym c.requires.bad ∙ c.if-s.false)
+asks c = malformed_is (outlined c) (omega arith) (sym c.requires.bad ∙ c.if-s.false)
 
 -- where the options are a reply's
 reply : (c : Then-is_reply) → reply_counts (options_of c.args.msg.now) ≡ true
@@ -52,8 +53,8 @@ pub returns-then-is_reply : goal.returns-then-is_reply
 returns-then-is_reply c =
     let r = (goal.at.returns-then-is_reply c).Then-is_reply in
     rw (c.prefix_length.ensures, ← (c.requires.told c.if-s.false).art.body (art r))
-    (rw (le-ltb 1 _ c.if-s-gt1.false, reply r) at (asks (goal.at.returns-then-is_reply c).Else-s))
+    (rw (le-ltb 1 c.args.s.configuration.count (omega arith), reply r) at (asks (goal.at.returns-then-is_reply c).Else-s))
 
 pub returns : goal.returns
 returns c =
-    rw (le-ltb 1 _ c.if-s-gt1.false, sym (c.is_reply.ensures _ (outlined (goal.at.returns c).Else-s)) ∙ c.if-is_reply.false) at (asks (goal.at.returns c).Else-s)
+    rw (le-ltb 1 c.args.s.configuration.count (omega arith), sym (c.is_reply.ensures _ (outlined (goal.at.returns c).Else-s)) ∙ c.if-is_reply.false) at (asks (goal.at.returns c).Else-s)
