@@ -1,14 +1,16 @@
 -- A host's calls keep what demand 3's claim asks of real calls, and the tally counts them.
 use Prim.Native.Nat.{ℕ}
-use mathlib.Core.Path.{◌≡◌, refl, sym, ap, ap₂, ◌∙◌}
+use mathlib.Core.Path.{◌≡◌, refl, sym, ap, ap₂, subst, ◌∙◌}
 use mathlib.Core.List.{List, [], ◌∷◌, ◌++◌, map}
 use lib.ListN.{length, drop, get_or}
 use Rattle.lemmas.specs.Written.{over}
-use Rattle.plain.specs.Given.{Destination}
+use Rattle.plain.specs.Given.{Settings, State, Destination}
 use Rattle.plain.specs.Tally.{cleared, raised, tallied}
+use Rattle.memory.specs.Claim.{Kept, Ran}
+use Rattle.memory.proofs.Memory.{more_memory}
 use Rattle.tally.proofs.Counts.{counted}
 use Rattle.host.specs.Host.{way_number, neighbour_in}
-use Rattle.host.specs.Runs.{HostCall, result_of, told_to, Keeps, Tallies, TallyClaim}
+use Rattle.host.specs.Runs.{HostCall, result_of, told_to, done_by, Keeps, HostRan, HostClaim, Tallies, TallyClaim}
 
 -- ---- Demand 3
 
@@ -32,6 +34,14 @@ keeps e g = record {
   forward = octets_at e.told.forward_length (result_of e).sent.forward e.forward e.forward' g.forward_length g.forward_octets;
   reply = octets_at e.told.reply_length (result_of e).sent.reply e.reply e.reply' g.reply_length g.reply_octets;
 }
+
+host_ran : (x : Settings) (s : State) (es : List HostCall) → HostRan x s es → Ran x s (map done_by es)
+host_ran x s [] r = tt
+host_ran x s (e ∷ es) (own, before, g, more) =
+    (before, subst (λ (y : Settings). Kept y (done_by e)) own (keeps e g), host_ran x (done_by e).after es more)
+
+pub host_claim : HostClaim
+host_claim x s u es fs f r g w = more_memory x s u (map done_by es) (map done_by fs) f (host_ran x s es r) g (host_ran x u fs w)
 
 -- ---- The tally
 

@@ -1,10 +1,10 @@
--- A host's calls: the promise of an exported call is the promise that demand 3's claim asks of a real call, and the tally counts the calls.
-use Rattle.std.specs.Prelude.{ℕ, ◌<◌, ◌≡◌, cond, List, [], ◌∷◌, map, eqb, get_or}
+-- A host's calls: what each promises, demand 3 of lists of them, and the tally.
+use Rattle.std.specs.Prelude.{ℕ, ◌<◌, ◌≤◌, ◌≡◌, cond, List, [], ◌∷◌, map, eqb, length, get_or}
 use Rattle.plain.specs.Address.{Address}
-use Rattle.plain.specs.Given.{Settings, Call, Destination}
+use Rattle.plain.specs.Given.{Settings, Call, State, Destination}
 use Rattle.plain.specs.Plain.{Result, step}
 use Rattle.plain.specs.Tally.{answers, cleared, tally_of}
-use Rattle.memory.specs.Claim.{Done, Kept}
+use Rattle.memory.specs.Claim.{Done, Kept, Fresh, left, calls, MoreMemory}
 use Rattle.row.specs.declared.InstanceRow.{InstanceRow}
 use Rattle.row.specs.declared.RouteRow.{RouteRow}
 use Rattle.finish.specs.Gives.{state_of}
@@ -65,6 +65,26 @@ done_by e = record {
 -- memory's claim is about lists of calls that are `Kept`
 abbrev pub Keeps : Type 0
 Keeps = (e : HostCall) → HostPromised e → Kept e.settings (done_by e)
+
+-- "Each call gets the tables, clock and own sequence number that the last one left, and nobody else writes them meanwhile": a host's calls
+-- of one node, with its settings, from a state, each of which keeps its promise.
+abbrev pub HostRan : Settings → State → List HostCall → Type 0
+HostRan x s [] = Unit {0}
+HostRan x s (e ∷ es) = (e.settings ≡ x) × ((done_by e).before ≡ s) × HostPromised e × HostRan x (done_by e).after es
+
+-- "More memory never changes an answer", of the calls that a host makes: `es`, of a first node from s, and `fs`, of a second one from u.
+-- `Fresh`, `left`, `calls` and `MoreMemory` are memory's (specs/Claim.antt), each with its words.
+abbrev pub HostClaim : Type 0
+HostClaim =
+    (x : Settings) (s u : State) (es fs : List HostCall)
+    -- "A fresh node, with any settings and any number of rows in each table, is fed the list."
+    → Fresh s → HostRan x s es
+    -- "A second fresh node, with the same settings and at least as many rows in each table"
+    → Fresh u → HostRan x u fs
+    → length s.instances ≤ length u.instances → length s.routes ≤ length u.routes
+    -- "is fed the rest alike, with buffers as long as before"
+    → calls (map done_by fs) ≡ calls (left (map done_by es))
+    → MoreMemory x s u (map done_by es) (map done_by fs)
 
 -- ---- The tally
 

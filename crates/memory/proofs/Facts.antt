@@ -34,7 +34,7 @@ keeps P x f s (c ∷ cs) p = keeps P x f (step x s c).state cs (f s c cs p)
 pub own_number : OwnNumber
 own_number x n m cs = keeps (λ (cs : List Call) (s : State). Own s.own) x (λ s c cs p. step_own x s c p) (fresh n m) cs (omega arith)
 
-fresh_sound : (n m : ℕ) → Sound (fresh n m)
+pub fresh_sound : (n m : ℕ) → Sound (fresh n m)
 fresh_sound n m = record {
   own = omega arith;
   good = record { instances = unused_rows GoodInstance n; routes = unused_rows GoodRoute m };

@@ -72,7 +72,7 @@ left_run x (e ∷ es) s u r m = go (eqb e.answer 17) refl (λ v w. left_run x es
 -- ---- Fresh nodes
 
 -- a fresh node is the plain node's fresh state
-fresh_is : (s : State) → Fresh s → s ≡ fresh (length s.instances) (length s.routes)
+pub fresh_is : (s : State) → Fresh s → s ≡ fresh (length s.instances) (length s.routes)
 fresh_is s f = λ i. record { clock = f.clock i; own = f.own i; instances = f.instances i; routes = f.routes i }
 
 fresh_sim : (n m k l : ℕ) → n ≤ k → m ≤ l → Sim (fresh n m) (fresh k l)

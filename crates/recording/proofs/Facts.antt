@@ -1,5 +1,5 @@
 -- Facts about real calls and recordings.
-use mathlib.Core.Path.{◌≡◌, ap, ◌∙◌}
+use mathlib.Core.Path.{◌≡◌, sym, ap, subst, ◌∙◌}
 use mathlib.Core.List.{List, [], ◌∷◌, ◌++◌}
 use native.Mathlib.Omega.{arith}
 use lib.ListN.{length, drop}
@@ -7,12 +7,15 @@ use Rattle.plain.specs.Given.{State, Sent}
 use Rattle.plain.specs.Plain.{nothing, step}
 use Rattle.memory.proofs.Facts as rules
 use Rattle.memory.proofs.Own as number
+use Rattle.memory.specs.Facts.{Proper}
+use Rattle.memory.proofs.Memory.{fresh_is}
+use Rattle.memory.proofs.Sound.{Sound, step_sound, sound_not_two}
 use Rattle.own.specs.Settings.{settings_of}
 use Rattle.own.specs.declared.Own.{Own}
 use Rattle.called.specs.Calls.{Node, Called, fed}
-use Rattle.recording.specs.Recording.{node_after, Recorded}
-use Rattle.recording.specs.Facts.{RefusalKeeps, ClockRises, OwnNumbers, OwnNumber}
-use Rattle.recording.proofs.Real.{state_in}
+use Rattle.recording.specs.Recording.{node_after, Recorded, calls}
+use Rattle.recording.specs.Facts.{RefusalKeeps, ClockRises, OwnNumbers, OwnNumber, NoTwos, NeverTwo}
+use Rattle.recording.proofs.Real.{state_in, fresh}
 
 pub refusal_keeps : RefusalKeeps
 refusal_keeps o e p n = record {
@@ -50,3 +53,19 @@ own_numbers o n (e ∷ es) h r = (k.0, k.1, own_numbers o (node_after e) es k r.
 
 pub own_number : OwnNumber
 own_number o n es f r = own_numbers o n es (rw f.own (omega arith)) r
+
+-- a call from a sound state is not answered 2, and leaves a sound state
+no_twos : (o : Own) (n : Node) (es : List Called) → Sound (state_in n) → Recorded o n es → Proper (calls es) → NoTwos es
+no_twos o n [] h r q = tt
+no_twos o n (e ∷ es) h r q = (
+  λ z. sound_not_two (settings_of o) (state_in e.before) (fed e) before (sym r.1.answer ∙ z),
+  no_twos o (node_after e) es (subst Sound (sym r.1.state) (step_sound (settings_of o) (state_in e.before) (fed e) q.0 before)) r.2 q.1,
+)
+  where
+    before : Sound (state_in e.before)
+    before = subst (λ (m : Node). Sound (state_in m)) (sym r.0) h
+
+pub never_two : NeverTwo
+never_two o n es f r =
+    no_twos o n es
+    (subst Sound (sym (fresh_is (state_in n) (fresh n f))) (rules.fresh_sound (length (state_in n).instances) (length (state_in n).routes))) r

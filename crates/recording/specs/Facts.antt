@@ -1,9 +1,10 @@
 -- Facts about real calls and recordings that a reader would ask for.
 use Rattle.std.specs.Prelude.{◌≤◌, ◌<◌, ◌≡◌, List, [], ◌∷◌}
+use Rattle.memory.specs.Facts.{Proper}
 use Rattle.answer.specs.Answer.{answer_number}
 use Rattle.own.specs.declared.Own.{Own}
 use Rattle.called.specs.Calls.{Node, Called, Promised}
-use Rattle.recording.specs.Recording.{Recorded, Fresh, node_after}
+use Rattle.recording.specs.Recording.{Recorded, Fresh, node_after, calls}
 
 -- "After a refusal both lengths are zero, and tables, buffers, own sequence number and clock are as they stood" (demand 1).
 pub record Unchanged (e : Called) : Type 0 where
@@ -29,3 +30,12 @@ OwnNumbers (e ∷ es) = (0 < e.outcome.seq) × (e.outcome.seq < 256) × OwnNumbe
 -- so each call from a fresh node
 abbrev pub OwnNumber : Type 0
 OwnNumber = (o : Own) (n : Node) (es : List Called) → Fresh n → Recorded o n es → OwnNumbers es
+
+-- no call is answered 2
+abbrev pub NoTwos : List Called → Type 0
+NoTwos [] = Unit {0}
+NoTwos (e ∷ es) = ¬ (answer_number e.outcome.answer ≡ 2) × NoTwos es
+
+-- so each call from a fresh node; the octets of each message are below 256, as all that code can be handed are
+abbrev pub NeverTwo : Type 0
+NeverTwo = (o : Own) (n : Node) (es : List Called) → Fresh n → Recorded o n es → Proper (calls es) → NoTwos es
