@@ -57,17 +57,20 @@ module _ (count : ℕ) (ts : List Target) (eight : length ts ≡ 8) where
   pub count_within : count ≤ 8 → leb (length (targets_of count ts)) 8 && all short_prefix (targets_of count ts) ≡ all short_prefix (take count ts)
   count_within h = rw (length_targets count ts, le-leb count 8 h, targets_within count ts (omega arith))
 
-  -- what is left of them at i, where i is below the count
+  -- the target at i is good, where i is below the count
+  pub good_at : (i : ℕ) → i < count → (get_or ts i target_past).plen ≤ 127 → short_prefix (get_or (take count ts) i target_past) ≡ true
+  good_at i h g = rw (get_or-take count ts i target_past h) (le-leb (get_or ts i target_past).plen 127 g)
+
+  pub bad_at : (i : ℕ) → i < count → 127 < (get_or ts i target_past).plen → short_prefix (get_or (take count ts) i target_past) ≡ false
+  bad_at i h g = rw (get_or-take count ts i target_past h) (lt-leb (get_or ts i target_past).plen 127 g)
+
+  -- and so are those that are left at i
   module _ (i : ℕ) (h : i < count) (m : count ≤ 8) where
     pub good_on : (get_or ts i target_past).plen ≤ 127 → all short_prefix (drop i (take count ts)) ≡ all short_prefix (drop (i + 1) (take count ts))
-    good_on g =
-        walk_on false short_prefix target_past (take count ts) i refl (front_below count ts (omega arith) i h)
-        (rw (get_or-take count ts i target_past h) (le-leb (get_or ts i target_past).plen 127 g))
+    good_on g = walk_on false short_prefix target_past (take count ts) i refl (front_below count ts (omega arith) i h) (good_at i h g)
 
     pub good_stop : 127 < (get_or ts i target_past).plen → all short_prefix (drop i (take count ts)) ≡ false
-    good_stop g =
-        walk_stop false short_prefix target_past (take count ts) i refl (front_below count ts (omega arith) i h)
-        (rw (get_or-take count ts i target_past h) (lt-leb (get_or ts i target_past).plen 127 g))
+    good_stop g = walk_stop false short_prefix target_past (take count ts) i refl (front_below count ts (omega arith) i h) (bad_at i h g)
 
   pub good_end : (i : ℕ) → count ≤ i → count ≤ 8 → all short_prefix (drop i (take count ts)) ≡ true
   good_end i h m = walk_end false short_prefix target_past (take count ts) i refl (front_past count ts (omega arith) i h)
