@@ -1,7 +1,7 @@
 -- The tie to the code: the contract that is proved of an exported call asks nothing ("Any bytes, link facts and lent tables may be handed in",
 -- demand 1) and ensures `HostPromised` of that call, which is what demand 3 and the tally's claim ask of each call of a list (host,
 -- specs/Runs.antt). `spec` is what the prover makes of the clauses in crates/kajakulm/src/lib.rt and holds the function's proof to;
--- it is no file of the repository.
+-- it is no file of the repository. kajakulm_c has these clauses word for word; its own contracts are not cited here.
 use Rattle.std.specs.Prelude.{ℕ, ◌≡◌, List, length}
 use seplogic.Ra.Ura.{Ura}
 use base.Logic.{SProp}

@@ -1,2 +1,2 @@
-// The exported calls' contracts as the prover holds them. No code: specs/ says what they are.
+// The contracts of kajakulm's calls, which kajakulm_c exports, as the prover holds them. No code: specs/ says what they are.
 #![tactic(auto)]
