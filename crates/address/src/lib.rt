@@ -5,23 +5,15 @@ ghost use Rattle.std.specs.Prelude.{◌≡◌};
 ghost use Rattle.plain.specs.Lists.{same};
 ghost use Rattle.plain.specs.Address.{first_bits, agree};
 
-// Whether two addresses are the same: they share all sixteen octets. Most differ in their last octet, so that one is compared first. A loop of
-// its own, and not `shares_first`, since it is compiled to one comparison of all octets.
-#[tactic(auto, using(lemmas::proofs::Walk::same_miss, lemmas::proofs::Walk::same_hit, lemmas::proofs::Walk::same_end, lemmas::proofs::Same::differ, lemmas::proofs::Cases::cases))]
+// Whether two addresses are the same: they share all sixteen octets. Most differ in their last octet, so that one is compared first.
+#[tactic(auto, using(lemmas::proofs::Cases::cases, lemmas::proofs::Same::differ, lemmas::proofs::Library::pointwise_same))]
 pub fn is_same(a: [u8; 16], b: [u8; 16]) -> bool
     ensures { result ≡ same a b }
 {
     if a[15] != b[15] {
         return false;
     }
-    let mut k: usize = 0;
-    while k < 16 {
-        if a[k] != b[k] {
-            return false;
-        }
-        k += 1;
-    }
-    true
+    a == b
 }
 
 // The first k bits of an address, the others 0. Most are asked for whole.

@@ -7,3 +7,4 @@ pub mod Same
 pub mod Each
 pub mod Rules
 pub mod Targets
+pub mod Library

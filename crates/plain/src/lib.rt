@@ -2,7 +2,7 @@
 #![tactic(auto)]
 
 // How one sequence number stands to another (01, "Rank and freshness").
-#[derive(Clone, Copy)]
+#[derive(Clone, Copy, PartialEq, Eq)]
 pub enum Freshness {
     Newer,
     Older,
@@ -12,7 +12,7 @@ pub enum Freshness {
 
 // A target with its Dest SeqNo (01, "ART"): Prefix Length 0 is a whole address.
 #[repr(C)]
-#[derive(Clone, Copy)]
+#[derive(Clone, Copy, PartialEq, Eq, Default)]
 pub struct Target {
     pub seq: u8,
     pub plen: u8,
@@ -20,7 +20,7 @@ pub struct Target {
 }
 
 // The base object (01, "RFC 6550, 6.3.1"). DTSN, Flags and Reserved are sent 0 and MOP is 4: they are no fields of it.
-#[derive(Clone, Copy)]
+#[derive(Clone, Copy, PartialEq, Eq, Default)]
 pub struct Base {
     pub instance: u8,
     pub version: u8,
@@ -32,7 +32,7 @@ pub struct Base {
 
 // An RREQ or, where `reply` is true, an RREP, without its vector. `flag` is S in an RREQ and G in an RREP; `number` is Orig SeqNo in
 // an RREQ and Delta in an RREP. With H 1 Compr is 0.
-#[derive(Clone, Copy)]
+#[derive(Clone, Copy, PartialEq, Eq, Default)]
 pub struct Discovery {
     pub reply: bool,
     pub flag: bool,
@@ -45,7 +45,7 @@ pub struct Discovery {
 
 // How a message's number and rank stand to the live row of its key, if there is one (01, "A request"; a reply row "is updated or
 // refused (13, 14) as a request row").
-#[derive(Clone, Copy)]
+#[derive(Clone, Copy, PartialEq, Eq)]
 pub enum Standing {
     // There is no live row.
     IsNew,

@@ -14,18 +14,10 @@ fn is_link_local(a: [u8; 16]) -> bool
     a[1] / 64 == 2
 }
 
-#[tactic(auto, using(crate::proofs::Laws::zero_stop, crate::proofs::Laws::zero_on, crate::proofs::Laws::zero_end, lemmas::proofs::Cases::cases))]
 fn is_all_zero(a: [u8; 16]) -> bool
     ensures { result ≡ all_zero a }
 {
-    let mut i: usize = 0;
-    while i < 16 {
-        if 0 != a[i] {
-            return false;
-        }
-        i = i + 1;
-    }
-    true
+    a.iter().all(|&x| 0 == x)
 }
 
 // Whether an address is link-local, multicast or all zero.
