@@ -1,14 +1,9 @@
--- What a deadline's two fields mean, and what is known of one that was made here.
-use Rattle.std.specs.Prelude.{ℕ, ◌^◌, ◌≤◌, ◌≡◌, true, cond}
-use Rattle.std.proofs.Math.Option.{Option, some, none}
-use Rattle.deadline.specs.declared.Deadline.{Deadline}
+-- What is known of a deadline that was made here.
+use Rattle.std.specs.Prelude.{ℕ, ◌^◌, ◌≤◌, ◌≡◌, Option, IfSome}
+use Rattle.std.proofs.Math.Option as rules
+use Rattle.lemmas.specs.Optional.{of_option}
 
--- the time, or none where it is endless
-unfoldable pub deadline_of : Deadline → Option ℕ
-deadline_of d = cond d.endless none (some d.at)
-
--- a deadline that means what is given, and makes no 2: "a deadline above 2^41"
-pub record Means (given : Option ℕ) (d : Deadline) : Type 0 where
-  pub means : deadline_of d ≡ given
-  pub bounded : d.at ≤ 2 ^ 41
-  pub cleared : d.endless ≡ true → d.at ≡ 0
+-- a deadline that is what is given, none where it is endless, and makes no 2: "a deadline above 2^41"
+pub record Means (given : rules.Option ℕ) (d : Option ℕ) : Type 0 where
+  pub means : of_option d ≡ given
+  pub bounded : IfSome d (λ at. at ≤ 2 ^ 41)

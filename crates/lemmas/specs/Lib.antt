@@ -1,2 +1,3 @@
 pub mod Written
 pub mod Each
+pub mod Optional

@@ -58,12 +58,6 @@ pub route_back : (r : Route) → route_of (route_record r) ≡ some r
 unfolding route_of route_in route_record
 route_back r = rw (deadline_back r.deadline)
 
--- ---- what the functions ask
-
-pub endless_bit : (e : Bool) (d : ℕ) → endless_of (cond e none (some d)) ≡ bit e
-endless_bit true d = refl
-endless_bit false d = refl
-
 -- a list that is blank past the first `count` is those over blank ones
 module _ (count : ℕ) (ts : List Target) (eight : length ts ≡ 8) (h : count ≤ 8) where
   pub length_count : length (take count ts) ≡ count

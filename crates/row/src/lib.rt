@@ -1,11 +1,11 @@
 // The rows of the two tables as records, and how one is made. What a record means is in specs/.
 #![tactic(auto)]
 
-ghost use Rattle.std.specs.Prelude.{◌≡◌, cond, ◌≤◌, take, replicate};
-ghost use Rattle.std.proofs.Math.Option.{some, none};
+ghost use Rattle.std.specs.Prelude.{◌≡◌, ◌≤◌, take, replicate};
+ghost use Rattle.lemmas.specs.Optional.{of_option};
 ghost use Rattle.plain.specs.Blank.{no_target, Padded};
-ghost use Rattle.row.specs.Meaning.{no_row, no_route};
-ghost use Rattle.row.specs.Record.{until_of, request_record, reply_record, route_record};
+ghost use Rattle.row.specs.Meaning.{deadline_of, no_row, no_route};
+ghost use Rattle.row.specs.Record.{endless_of, until_of, request_record, reply_record, route_record};
 
 use plain::Target;
 
@@ -49,35 +49,45 @@ pub struct RouteRow {
 
 // ---- rows that are written
 
-fn until(endless: bool, deadline: u64) -> u64
-    ensures { result ≡ until_of (cond endless none (some deadline)) }
+// A deadline's two fields: whether there is none, and when it is.
+#[tactic(auto, using(lemmas::proofs::Cases::cases))]
+fn endless(deadline: Option<u64>) -> u8
+    ensures { result ≡ endless_of (of_option deadline) }
 {
-    if endless {
-        return 0;
-    }
-    deadline
+    u8::from(deadline.is_none())
 }
 
+#[tactic(auto, using(lemmas::proofs::Cases::cases))]
+fn until(deadline: Option<u64>) -> u64
+    ensures { result ≡ until_of (of_option deadline) }
+{
+    deadline.unwrap_or(0)
+}
+
+// The deadline that two fields of a row mean.
+#[tactic(auto, using(lemmas::proofs::Cases::cases), unfolding(crate::specs::Meaning::deadline_of))]
+pub fn deadline(endless: u8, deadline: u64) -> Option<u64>
+    ensures { of_option result ≡ deadline_of endless deadline }
+{
+    if endless == 0 { Some(deadline) } else { None }
+}
+
+#[tactic(auto, using(lemmas::proofs::Cases::cases))]
 fn blank() -> Target
     ensures { result ≡ no_target }
 {
-    Target {
-        seq: 0,
-        plen: 0,
-        addr: [0; 16],
-    }
+    Target::default()
 }
 
 #[tactic(auto, using(lemmas::proofs::Cases::cases))]
 fn blanks() -> [Target; 8]
     ensures { result ≡ replicate 8 no_target }
 {
-    let b = blank();
-    [b; 8]
+    [blank(); 8]
 }
 
 // A request row, of targets that are blank past the count already.
-#[tactic(auto, using(lemmas::proofs::Cases::cases, crate::proofs::Laws::endless_bit, crate::proofs::Laws::length_count, crate::proofs::Laws::padded_whole), unfolding(crate::specs::Record::request_record))]
+#[tactic(auto, using(lemmas::proofs::Cases::cases, crate::proofs::Laws::length_count, crate::proofs::Laws::padded_whole), unfolding(crate::specs::Record::request_record))]
 pub fn padded_request_row(
     instance: u8,
     dodagid: [u8; 16],
@@ -89,11 +99,10 @@ pub fn padded_request_row(
     count: u8,
     targets: [Target; 8],
     replied: bool,
-    endless: bool,
-    deadline: u64,
+    deadline: Option<u64>,
 ) -> InstanceRow
     requires { (count ≤ 8) × Padded count targets }
-    ensures { result ≡ request_record (record { instance = instance; dodagid = dodagid; seq = seq; s = s; h = h; rank = rank; neighbour = neighbour; targets = take count targets; replied = replied; deadline = cond endless none (some deadline) }) }
+    ensures { result ≡ request_record (record { instance = instance; dodagid = dodagid; seq = seq; s = s; h = h; rank = rank; neighbour = neighbour; targets = take count targets; replied = replied; deadline = of_option deadline }) }
 {
     InstanceRow {
         kind: 1,
@@ -102,74 +111,65 @@ pub fn padded_request_row(
         s: flag::bit(s),
         h: flag::bit(h),
         replied: flag::bit(replied),
-        endless: flag::bit(endless),
+        endless: endless(deadline),
         count,
         rank,
         dodagid,
         neighbour,
         targets,
-        deadline: until(endless, deadline),
+        deadline: until(deadline),
     }
 }
 
-#[tactic(auto, using(lemmas::proofs::Cases::cases, crate::proofs::Laws::endless_bit), unfolding(crate::specs::Record::reply_record))]
+#[tactic(auto, using(lemmas::proofs::Cases::cases), unfolding(crate::specs::Record::reply_record))]
 pub fn reply_row(
     instance: u8,
     dodagid: [u8; 16],
     seq: u8,
     rank: u16,
-    endless: bool,
-    deadline: u64,
+    deadline: Option<u64>,
 ) -> InstanceRow
-    ensures { result ≡ reply_record (record { instance = instance; dodagid = dodagid; seq = seq; rank = rank; deadline = cond endless none (some deadline) }) }
+    ensures { result ≡ reply_record (record { instance = instance; dodagid = dodagid; seq = seq; rank = rank; deadline = of_option deadline }) }
 {
-    let ts = blanks();
     InstanceRow {
         kind: 2,
         instance,
         seq,
-        s: 0,
-        h: 0,
-        replied: 0,
-        endless: flag::bit(endless),
-        count: 0,
+        endless: endless(deadline),
         rank,
         dodagid,
-        neighbour: [0; 16],
-        targets: ts,
-        deadline: until(endless, deadline),
+        deadline: until(deadline),
+        ..no_row()
     }
 }
 
-#[tactic(auto, using(lemmas::proofs::Cases::cases, crate::proofs::Laws::endless_bit), unfolding(crate::specs::Record::route_record))]
+#[tactic(auto, using(lemmas::proofs::Cases::cases), unfolding(crate::specs::Record::route_record))]
 pub fn route_row(
     source: [u8; 16],
     destination: [u8; 16],
     instance: u8,
     next: [u8; 16],
     seq: u8,
-    endless: bool,
-    deadline: u64,
+    deadline: Option<u64>,
 ) -> RouteRow
-    ensures { result ≡ route_record (record { source = source; destination = destination; instance = instance; next_hop = next; seq = seq; deadline = cond endless none (some deadline) }) }
+    ensures { result ≡ route_record (record { source = source; destination = destination; instance = instance; next_hop = next; seq = seq; deadline = of_option deadline }) }
 {
     RouteRow {
         kind: 1,
         instance,
         seq,
-        endless: flag::bit(endless),
+        endless: endless(deadline),
         source,
         destination,
         next,
-        deadline: until(endless, deadline),
+        deadline: until(deadline),
     }
 }
 
-// A row that is not in use.
+// A row that is not in use. Its fields are written out: a derived default is told of an array octet by octet, and the proof does not close.
 pub fn no_row() -> InstanceRow
     ensures { result ≡ no_row }
 {
-    let ts = blanks();
     InstanceRow {
         kind: 0,
         instance: 0,
@@ -180,9 +180,9 @@ pub fn no_row() -> InstanceRow
         endless: 0,
         count: 0,
         rank: 0,
-        dodagid: [0u8; 16],
-        neighbour: [0u8; 16],
-        targets: ts,
+        dodagid: [0; 16],
+        neighbour: [0; 16],
+        targets: blanks(),
         deadline: 0,
     }
 }
@@ -196,9 +196,9 @@ pub fn no_route() -> RouteRow
         instance: 0,
         seq: 0,
         endless: 0,
-        source: [0u8; 16],
-        destination: [0u8; 16],
-        next: [0u8; 16],
+        source: [0; 16],
+        destination: [0; 16],
+        next: [0; 16],
         deadline: 0,
     }
 }
