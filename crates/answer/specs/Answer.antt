@@ -1,11 +1,10 @@
 -- 01's number for each answer, and what a destination means.
-use Rattle.std.specs.Prelude.{ℕ, List}
+use Rattle.std.specs.Prelude.{ℕ}
 use Rattle.plain.specs.Given.{Destination}
 use Rattle.answer.specs.declared.Answer.{Answer}
 use Rattle.answer.specs.declared.Answer.TheVariants.{Done, BadCall, WrongState, Malformed, Unfit, BadDodagid, TooMany, OwnDodagid, NoPartner, Loop, CannotElide, LinkNotGood, RankRefused, Stale, NothingNew, NoDelta, VectorFull, NoRow}
-use Rattle.answer.specs.declared.Way.{Way}
-use Rattle.answer.specs.declared.Way.TheVariants.{Nowhere, Group, Neighbour, Caller}
 use Rattle.answer.specs.declared.Destination as code
+use Rattle.answer.specs.declared.Destination.TheVariants.{Nowhere, Group, Neighbour, Caller}
 
 -- 01, "Answer numbers"
 abbrev pub answer_number : Answer → ℕ
@@ -28,13 +27,9 @@ answer_number NoDelta = 15
 answer_number VectorFull = 16
 answer_number NoRow = 17
 
--- "to the group, to which neighbour, to the caller (OrigNode's path) or, at length 0, nowhere": a is the neighbour's address
-abbrev pub way_of : Way → List ℕ → Destination
-way_of Nowhere a = Destination.nowhere
-way_of Group a = Destination.group
-way_of Neighbour a = Destination.neighbour a
-way_of Caller a = Destination.caller
-
--- the destination that the code's record means
+-- "to the group, to which neighbour, to the caller (OrigNode's path) or, at length 0, nowhere"
 abbrev pub destination_of : code.Destination → Destination
-destination_of d = way_of d.way d.neighbour
+destination_of Nowhere = Destination.nowhere
+destination_of Group = Destination.group
+destination_of (Neighbour a) = Destination.neighbour a
+destination_of Caller = Destination.caller

@@ -6,7 +6,7 @@ ghost use Rattle.plain.specs.Given as given;
 ghost use Rattle.answer.specs.Answer.{answer_number, destination_of};
 
 // 01, "Answer numbers": the table's lines.
-#[derive(Clone, Copy)]
+#[derive(Clone, Copy, PartialEq, Eq)]
 pub enum Answer {
     Done,
     BadCall,
@@ -57,25 +57,15 @@ pub fn number(a: Answer) -> u8
 
 // Where a buffer's octets are to go: "whether to the group, to which neighbour, to the caller (OrigNode's path) or, at length 0, nowhere".
 #[derive(Clone, Copy)]
-pub enum Way {
+pub enum Destination {
     Nowhere,
     Group,
-    Neighbour,
+    Neighbour([u8; 16]),
     Caller,
-}
-
-// A way with its neighbour's address, all zero for every other way.
-#[derive(Clone, Copy)]
-pub struct Destination {
-    pub neighbour: [u8; 16],
-    pub way: Way,
 }
 
 pub fn to_group() -> Destination
     ensures { destination_of result ≡ given.Destination.group }
 {
-    Destination {
-        way: Way::Group,
-        neighbour: [0; 16],
-    }
+    Destination::Group
 }

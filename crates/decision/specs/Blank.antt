@@ -1,7 +1,7 @@
 -- What is not sent, and what is read past the end of a lent slice of posts or decisions.
-use Rattle.std.specs.Prelude.{false}
+use Rattle.std.specs.Prelude.{false, None}
 use Rattle.plain.specs.Address.{zero_address}
-use Rattle.answer.specs.declared.Way.TheVariants.{Nowhere}
+use Rattle.answer.specs.declared.Destination.TheVariants.{Nowhere}
 use Rattle.row.specs.Meaning.{no_row, no_route}
 use Rattle.message.specs.Blank.{no_message}
 use Rattle.decision.specs.declared.What.TheVariants.{Nothing}
@@ -16,12 +16,12 @@ no_post = record {
   message = no_message;
   grown = false;
   turned = false;
-  to = record { way = Nowhere; neighbour = zero_address };
+  to = Nowhere;
 }
 
 -- no reply row is stored
 abbrev pub no_reply : ReplyFields
-no_reply = record { instance = 0; seq = 0; endless = false; rank = 0; dodagid = zero_address; deadline = 0 }
+no_reply = record { instance = 0; seq = 0; rank = 0; dodagid = zero_address; deadline = None }
 
 -- nothing is stored
 abbrev pub no_decision : Decided

@@ -1,6 +1,6 @@
 -- What a decision means: what the rules send and store.
 use Rattle.std.specs.Prelude.{ℕ, ◌≤◌, ◌≡◌, true, false, cond, List, [], reverse, eqb, length, take}
-use Rattle.std.proofs.Math.Option.{Option, some, none}
+use Rattle.std.proofs.Math.Option.{Option}
 use Rattle.plain.specs.Address.{Address}
 use Rattle.plain.specs.Given.{Settings, ReplyRow, Instance, Route, Destination}
 use Rattle.plain.specs.Table.{Numbered, Change, put}
@@ -11,7 +11,7 @@ use Rattle.row.specs.Meaning.{request_of, reply_of, route_in}
 use Rattle.row.specs.Record.{request_record, reply_record, route_record}
 use Rattle.row.specs.declared.InstanceRow.{InstanceRow}
 use Rattle.writer_option.specs.Sendable.{Sendable, short_prefixes}
-use Rattle.message.specs.Message.{configuration_in}
+use Rattle.lemmas.specs.Optional.{of_option}
 use Rattle.decision.specs.declared.What.{What}
 use Rattle.decision.specs.declared.What.TheVariants.{Nothing, Dio, Path}
 use Rattle.decision.specs.declared.Post.{Post}
@@ -27,7 +27,7 @@ post_vector x p vector = cond p.grown (grown x false (take p.message.n vector)) 
 unfoldable pub post_message : Settings → Post → List Address → Message
 post_message x p vector = record {
   base = p.message.base;
-  configuration = configuration_in p.message.configured p.message.configuration;
+  configuration = of_option p.message.configuration;
   discovery = p.message.discovery;
   vector = post_vector x p vector;
   targets = take p.message.count p.message.targets;
@@ -75,7 +75,7 @@ reply_in f = record {
   dodagid = f.dodagid;
   seq = f.seq;
   rank = f.rank;
-  deadline = cond f.endless none (some f.deadline);
+  deadline = of_option f.deadline;
 }
 
 -- what becomes of the tables, where the live row of the call's key and the live route are given

@@ -4,11 +4,12 @@
 
 ghost use Rattle.std.specs.Prelude.{◌≡◌, cond};
 ghost use Rattle.decision.specs.declared.What.TheVariants.{Nothing, Dio};
+ghost use Rattle.message.specs.Blank.{no_message};
 ghost use Rattle.decision.specs.Blank.{no_post, no_reply};
 
-use answer::{Destination, Way};
+use answer::Destination;
 use message::Parsed;
-use plain::{Base, Discovery, Target};
+use plain::{Base, Discovery};
 use row::{InstanceRow, RouteRow};
 
 // What goes into a buffer.
@@ -34,12 +35,11 @@ pub struct Post {
 // there is no padding between fields: it would be copied too, and the copy would wait for the writes beside it.
 #[derive(Clone, Copy)]
 pub struct ReplyFields {
-    pub deadline: u64,
+    pub deadline: Option<u64>,
     pub dodagid: [u8; 16],
     pub rank: u16,
     pub instance: u8,
     pub seq: u8,
-    pub endless: bool,
 }
 
 // What is stored. `second`, a reply row, is stored where `replies`, `route` where `routed`.
@@ -53,50 +53,35 @@ pub struct Decided {
     pub routed: bool,
 }
 
+fn no_base() -> Base
+    ensures { result ≡ no_message.base }
+{
+    Base::default()
+}
+
+fn no_discovery() -> Discovery
+    ensures { result ≡ no_message.discovery }
+{
+    Discovery::default()
+}
+
 // Nothing is sent.
 pub fn no_post() -> Post
     ensures { result ≡ no_post }
 {
-    let zero = [0u8; 16];
-    let blank = Target {
-        seq: 0,
-        plen: 0,
-        addr: zero,
-    };
-    let base = Base {
-        instance: 0,
-        version: 0,
-        rank: 0,
-        g: false,
-        prf: 0,
-        dodagid: zero,
-    };
-    let discovery = Discovery {
-        reply: false,
-        flag: false,
-        h: false,
-        compr: 0,
-        l: 0,
-        limit: 0,
-        number: 0,
-    };
     Post {
         what: What::Nothing,
         message: Parsed {
-            base,
-            configured: false,
-            configuration: [0u8; 14],
-            discovery,
+            base: no_base(),
+            configuration: None,
+            discovery: no_discovery(),
             n: 0,
             count: 0,
-            targets: [blank; 8],
+            targets: targets::blank_list(),
         },
         grown: false,
         turned: false,
-        to: Destination {
-            way: Way::Nowhere,
-            neighbour: zero,
-        },
+        to: Destination::Nowhere,
     }
 }
 
@@ -107,10 +92,9 @@ pub fn no_reply() -> ReplyFields
     ReplyFields {
         instance: 0,
         seq: 0,
-        endless: false,
         rank: 0,
-        dodagid: [0u8; 16],
-        deadline: 0,
+        dodagid: [0; 16],
+        deadline: None,
     }
 }
 
@@ -118,8 +102,5 @@ pub fn no_reply() -> ReplyFields
 pub fn dio_if(on: bool) -> What
     ensures { result ≡ cond on Dio Nothing }
 {
-    if on {
-        return What::Dio;
-    }
-    What::Nothing
+    if on { What::Dio } else { What::Nothing }
 }

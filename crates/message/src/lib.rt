@@ -2,9 +2,10 @@
 // each means is in specs/. And what several rules ask of it.
 #![tactic(auto)]
 
-ghost use Rattle.std.specs.Prelude.{◌≡◌, []};
+ghost use Rattle.std.specs.Prelude.{◌≡◌, [], Option, option_map};
 ghost use Rattle.plain.specs.Request.{s_out, delta_or0};
-ghost use Rattle.message.specs.Message.{message_in, received_by, delta_found};
+ghost use Rattle.lemmas.specs.Optional.{of_option};
+ghost use Rattle.message.specs.Message.{message_in, received_by, number_of};
 
 use plain::{Base, Discovery, Target};
 use row::{InstanceRow, RouteRow};
@@ -14,8 +15,7 @@ use row::{InstanceRow, RouteRow};
 #[derive(Clone, Copy)]
 pub struct Parsed {
     pub base: Base,
-    pub configured: bool,
-    pub configuration: [u8; 14],
+    pub configuration: Option<[u8; 14]>,
     pub discovery: Discovery,
     pub n: usize,
     pub count: usize,
@@ -32,36 +32,18 @@ pub struct Link {
     pub group: bool,
 }
 
-// The live instance row of a key and its number, where there is one.
+// A live row of one of the tables, and its number.
 #[derive(Clone, Copy)]
-pub struct Found {
-    pub is: bool,
+pub struct Found<R> {
     pub at: usize,
-    pub row: InstanceRow,
+    pub row: R,
 }
 
-// The live route of a key and its number, where there is one.
-#[derive(Clone, Copy)]
-pub struct FoundRoute {
-    pub is: bool,
-    pub at: usize,
-    pub route: RouteRow,
-}
-
-// The live row of a call's key and its number, and the live route, where there are any.
+// The numbers of the live row of a call's key and of the live route, where there are any.
 #[derive(Clone, Copy)]
 pub struct Live {
-    pub is: bool,
-    pub at: usize,
-    pub routed: bool,
-    pub hop: usize,
-}
-
-// A Delta that is free, where there is one.
-#[derive(Clone, Copy)]
-pub struct FreeDelta {
-    pub is: bool,
-    pub delta: u8,
+    pub row: Option<usize>,
+    pub route: Option<usize>,
 }
 
 // S out: S in and downward good.
@@ -73,11 +55,11 @@ pub fn s_out(k: Link, p: Parsed) -> bool
 }
 
 // Delta, where one is free.
-#[tactic(auto, using(lemmas::proofs::Cases::cases, crate::proofs::Laws::delta_or))]
-pub fn delta_or_0(d: FreeDelta) -> u8
-    ensures { result ≡ delta_or0 (delta_found d) }
+#[tactic(auto, using(lemmas::proofs::Cases::cases))]
+pub fn delta_or_0(d: Option<u8>) -> u8
+    ensures { result ≡ delta_or0 (of_option d) }
 {
-    if d.is { d.delta } else { 0 }
+    d.unwrap_or(0)
 }
 
 // The message's RPLInstanceID.
@@ -91,19 +73,16 @@ pub fn instance_of(p: Parsed) -> u8
 pub fn dodagid_of(p: Parsed) -> [u8; 16]
     ensures { result ≡ p.base.dodagid }
 {
-    let b = p.base;
-    let a = b.dodagid;
-    a
+    p.base.dodagid
 }
 
 // What a call is about in the tables, from what was found.
-pub fn live_of(f: Found, g: FoundRoute) -> Live
-    ensures { result ≡ record { is = f.is; at = f.at; routed = g.is; hop = g.at } }
+#[tactic(auto, using(lemmas::proofs::Cases::cases))]
+pub fn live_of(f: Option<Found<InstanceRow>>, g: Option<Found<RouteRow>>) -> Live
+    ensures { result ≡ record { row = option_map number_of f; route = option_map number_of g } }
 {
     Live {
-        is: f.is,
-        at: f.at,
-        routed: g.is,
-        hop: g.at,
+        row: f.map(|x| x.at),
+        route: g.map(|x| x.at),
     }
 }

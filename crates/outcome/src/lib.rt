@@ -7,7 +7,7 @@ ghost use Rattle.decision.specs.Decision.{reply_in};
 ghost use Rattle.answer.specs.declared.Answer.TheVariants.{Done, NoRow};
 ghost use Rattle.outcome.specs.Nothing.{nothing_sent};
 
-use answer::{Answer, Destination, Way};
+use answer::{Answer, Destination};
 use decision::Decided;
 use row::InstanceRow;
 
@@ -32,23 +32,20 @@ pub struct Outcome {
 fn nothing() -> Sent
     ensures { result ≡ nothing_sent }
 {
-    let to = Destination {
-        way: Way::Nowhere,
-        neighbour: [0u8; 16],
-    };
-    Sent { size: 0, to }
+    Sent {
+        size: 0,
+        to: Destination::Nowhere,
+    }
 }
 
 // A refusal: lengths zero, destinations nowhere, clock and own number as they stood.
 pub fn refused(a: Answer, clock: u64, seq: u8) -> Outcome
     ensures { result ≡ record { answer = a; forward = nothing_sent; reply = nothing_sent; clock = clock; seq = seq } }
 {
-    let forward = nothing();
-    let reply = nothing();
     Outcome {
         answer: a,
-        forward,
-        reply,
+        forward: nothing(),
+        reply: nothing(),
         clock,
         seq,
     }
@@ -65,12 +62,10 @@ pub fn accepted(
 ) -> Outcome
     ensures { result ≡ record { answer = Done; forward = record { size = n; to = there }; reply = record { size = m; to = back }; clock = t; seq = own } }
 {
-    let forward = Sent { size: n, to: there };
-    let reply = Sent { size: m, to: back };
     Outcome {
         answer: Answer::Done,
-        forward,
-        reply,
+        forward: Sent { size: n, to: there },
+        reply: Sent { size: m, to: back },
         clock: t,
         seq: own,
     }
@@ -89,14 +84,12 @@ pub fn second_of(d: Decided) -> InstanceRow
     ensures { result ≡ reply_record (reply_in d.second) }
 {
     let f = d.second;
-    let dodagid = f.dodagid;
-    row::reply_row(f.instance, dodagid, f.seq, f.rank, f.endless, f.deadline)
+    row::reply_row(f.instance, f.dodagid, f.seq, f.rank, f.deadline)
 }
 
 // The answer of a call.
 pub fn answer_of(r: Outcome) -> Answer
     ensures { result ≡ r.answer }
 {
-    let answer = r.answer;
-    answer
+    r.answer
 }

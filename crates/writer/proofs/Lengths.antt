@@ -1,7 +1,8 @@
 -- How long a message is.
 use Prim.Native.Nat.{ℕ, ◌+◌, ◌≤◌}
 use mathlib.Core.Path.{◌≡◌}
-use mathlib.Core.Bool.{Bool, true}
+use mathlib.Core.Bool.{true}
+use Rattle.std.specs.Prelude.{Option, IfSome}
 use mathlib.Core.List.{List, ◌++◌, map, flatten}
 use native.Mathlib.Omega.{arith}
 use lib.ListN.{length, take, length-append, length-take}
@@ -37,12 +38,12 @@ pub record Sizes (m : Message) : Type 0 where
   pub route : length (route_octets m.discovery m.vector) ≤ 257
   pub arts : length (flatten (map art_octets m.targets)) ≤ 160
 
-module _ (b : Base) (configured : Bool) (configuration : List ℕ) (d : Discovery) (n : ℕ) (vector : List Address) (count : ℕ) (targets : List Target) where
-  pub message_sizes : length b.dodagid ≡ 16 → length configuration ≡ 14 → Sendable d n → n ≤ length vector → WholeVector vector → count ≤ 8
-      → short_prefixes (take count targets) ≡ true → Sizes (message_from b configured configuration d n vector count targets)
+module _ (b : Base) (configuration : Option (List ℕ)) (d : Discovery) (n : ℕ) (vector : List Address) (count : ℕ) (targets : List Target) where
+  pub message_sizes : length b.dodagid ≡ 16 → IfSome configuration (λ c. length c ≡ 14) → Sendable d n → n ≤ length vector → WholeVector vector → count ≤ 8
+      → short_prefixes (take count targets) ≡ true → Sizes (message_from b configuration d n vector count targets)
   message_sizes eb ec s hn e ht es = record {
     base = omega (arith, base_length b);
-    configuration = configuration_le configured configuration ec;
+    configuration = configuration_le configuration ec;
     route =
         let k : length (take n vector) ≡ n = omega (arith, length-take n vector) in
         route_le d (take n vector) (rw k s) (each_take (λ (a : Address). length a ≡ 16) n vector e);

@@ -1,6 +1,6 @@
 -- A message as the code holds it.
-use Rattle.std.specs.Prelude.{ℕ, Bool, cond, List, take}
-use Rattle.std.proofs.Math.Option.{some, none}
+use Rattle.std.specs.Prelude.{ℕ, List, take, Option}
+use Rattle.lemmas.specs.Optional.{of_option}
 use Rattle.plain.specs.Address.{Address}
 use Rattle.plain.specs.Octets.{Message}
 use Rattle.plain.specs.declared.Target.{Target}
@@ -8,10 +8,10 @@ use Rattle.plain.specs.declared.Base.{Base}
 use Rattle.plain.specs.declared.Discovery.{Discovery}
 
 -- the message of a base, a Configuration if there is one, an RREQ or RREP, the first n addresses and the first `count` targets
-abbrev pub message_from : Base → Bool → List ℕ → Discovery → ℕ → List Address → ℕ → List Target → Message
-message_from base configured configuration d n vector count targets = record {
+abbrev pub message_from : Base → Option (List ℕ) → Discovery → ℕ → List Address → ℕ → List Target → Message
+message_from base configuration d n vector count targets = record {
   base = base;
-  configuration = cond configured (some configuration) none;
+  configuration = of_option configuration;
   discovery = d;
   vector = take n vector;
   targets = take count targets;

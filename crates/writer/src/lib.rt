@@ -18,8 +18,7 @@ use writer_option::put_discovery;
 pub fn put_message(
     out: &mut [u8],
     base: Base,
-    configured: bool,
-    configuration: [u8; 14],
+    configuration: Option<[u8; 14]>,
     d: Discovery,
     n: usize,
     vector: &[[u8; 16]; 16],
@@ -27,11 +26,11 @@ pub fn put_message(
     targets: [Target; 8],
 ) -> usize
     requires { Sendable d n × (count ≤ 8) × (short_prefixes (take count targets) ≡ true) × (457 ≤ length out.old) }
-    ensures { Written (octets_of (message_from base configured configuration d n vector.now count targets)) out.old out.new result }
+    ensures { Written (octets_of (message_from base configuration d n vector.now count targets)) out.old out.new result }
 {
     whole(vector);
     let a = put_base(out, base);
-    let b = a + put_configuration(&mut out[a..], configured, configuration);
+    let b = a + put_configuration(&mut out[a..], configuration);
     let c = b + put_discovery(&mut out[b..], d, n, vector);
     c + put_arts(&mut out[c..], count, targets)
 }

@@ -2,8 +2,8 @@
 // octets it wrote.
 #![tactic(auto)]
 
-ghost use Rattle.std.specs.Prelude.{cond, ◌≤◌, length};
-ghost use Rattle.std.proofs.Math.Option.{some, none};
+ghost use Rattle.std.specs.Prelude.{◌≤◌, length};
+ghost use Rattle.lemmas.specs.Optional.{of_option};
 ghost use Rattle.lemmas.specs.Written.{Written};
 ghost use Rattle.plain.specs.Octets.{base_octets, configuration_octets};
 ghost use Rattle.writer_base.specs.Heads.{base_head};
@@ -34,23 +34,22 @@ pub fn put_base(out: &mut [u8], b: Base) -> usize
     requires { 24 ≤ length out.old }
     ensures { Written (base_octets b) out.old out.new result }
 {
-    let dodagid = b.dodagid;
     let n = put_base_head(out, b);
-    let m = put_octets(&mut out[n..], &dodagid);
+    let m = put_octets(&mut out[n..], &b.dodagid);
     n + m
 }
 
 // The DODAG Configuration, if it is present.
 #[tactic(auto, using(lemmas::proofs::Cases::cases, lemmas::proofs::Buffer::length_written, lemmas::proofs::Buffer::written_then, lemmas::proofs::Buffer::written_none, crate::proofs::Lengths::configuration_some, crate::proofs::Lengths::configuration_none, crate::proofs::Stores::stored))]
-pub fn put_configuration(out: &mut [u8], present: bool, octets: [u8; 14]) -> usize
-    requires { length (configuration_octets (cond present (some octets) none)) ≤ length out.old }
-    ensures { Written (configuration_octets (cond present (some octets) none)) out.old out.new result }
+pub fn put_configuration(out: &mut [u8], configuration: Option<[u8; 14]>) -> usize
+    requires { length (configuration_octets (of_option configuration)) ≤ length out.old }
+    ensures { Written (configuration_octets (of_option configuration)) out.old out.new result }
 {
-    if present {
-        out[0] = 0x04;
-        out[1] = 14;
-        let m = put_octets(&mut out[2..], &octets);
-        return 2 + m;
-    }
-    0
+    let Some(octets) = configuration else {
+        return 0;
+    };
+    out[0] = 0x04;
+    out[1] = 14;
+    let m = put_octets(&mut out[2..], &octets);
+    2 + m
 }

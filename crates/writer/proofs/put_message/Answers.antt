@@ -12,13 +12,13 @@ use Rattle.writer.proofs.put_message.Goals as goal
 
 -- how many octets each part of the message has at most
 sizes-from : (s : After-whole) → length s.args.vector.now ≡ 16 → WholeVector s.args.vector.now
-    → Sizes (message_from s.args.base s.args.configured s.args.configuration s.args.d s.args.n s.args.vector.now s.args.count s.args.targets)
+    → Sizes (message_from s.args.base s.args.configuration s.args.d s.args.n s.args.vector.now s.args.count s.args.targets)
 sizes-from s k w =
     let a = s.args in
-    message_sizes a.base a.configured a.configuration a.d a.n a.vector.now a.count a.targets (search rules) (search rules) s.requires.0
+    message_sizes a.base a.configuration a.d a.n a.vector.now a.count a.targets (search rules) (search rules) s.requires.0
     (search rules) w s.requires.1 s.requires.2
 
-sizes : (c : After-whole) → let a = c.args in Sizes (message_from a.base a.configured a.configuration a.d a.n a.vector.now a.count a.targets)
+sizes : (c : After-whole) → let a = c.args in Sizes (message_from a.base a.configuration a.d a.n a.vector.now a.count a.targets)
 sizes c = sizes-from c c.whole.ensures.0 c.whole.ensures.1
 
 pub put_configuration-requires : goal.put_configuration-requires
@@ -34,3 +34,6 @@ returns c =
     let v = written_then _ _ _ _ _ _ _ p c.put_configuration.ensures in
     let w = written_then _ _ _ _ _ _ _ v c.put_discovery.ensures in
     written_then _ _ _ _ _ _ _ w c.put_arts.ensures
+
+pub put_arts-requires : goal.put_arts-requires
+put_arts-requires c = let z = sizes (goal.at.put_arts-requires c).After-whole in (c.requires.1, c.requires.2, simp (length-take, length-drop) (omega arith))
