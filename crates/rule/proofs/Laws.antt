@@ -11,8 +11,6 @@ use lib.Seq.{length-take-le}
 use Rattle.plain.specs.Address.{Address}
 use Rattle.plain.specs.Lists.{all}
 use Rattle.plain.specs.Given.{Settings, Destination}
-use Rattle.deadline.specs.Deadline as lasting
-use Rattle.row.specs.Meaning.{deadline_of}
 use Rattle.message.specs.declared.Parsed.{Parsed}
 use Rattle.writer_option.specs.Sendable.{Sendable}
 use Rattle.decision.specs.Blank.{no_post}
@@ -41,14 +39,3 @@ posts_nothing x vector = record {
     prefixes = refl;
   };
 }
-
--- ---- Deadlines
-
--- a row's deadline by value means the row's
-pub deadline_kept : (endless at : ℕ) → lasting.deadline_of (record { endless = not (eqb endless 0); at = at }) ≡ deadline_of endless at
-unfolding lasting.deadline_of deadline_of
-deadline_kept endless at = go (eqb endless 0)
-  where
-    go : (b : Bool) → cond (not b) none (some at) ≡ cond b (some at) none
-    go true = refl
-    go false = refl
