@@ -1,4 +1,2 @@
 -- how long addresses are
 pub mod Long
--- turned round
-pub mod Turned

@@ -18,19 +18,11 @@ pub fn whole(vector: &[[u8; 16]; 16])
 }
 
 // The first n addresses turned round.
-#[tactic(auto, using(lemmas::proofs::Cases::cases, crate::proofs::Turned::turned_none, crate::proofs::Turned::turned_more, crate::proofs::Turned::turned_all))]
 pub fn reversed(n: usize, vector: &[[u8; 16]; 16]) -> [[u8; 16]; 16]
     requires { n ≤ 16 }
     ensures { take n result ≡ reverse (take n vector.now) }
 {
-    let addresses = &vector[..];
-    let mut r = [[0u8; 16]; 16];
-    let mut i: usize = 0;
-    while i < n {
-        let from = n - i - 1;
-        let a = addresses[from];
-        r[i] = a;
-        i = i + 1;
-    }
+    let mut r = *vector;
+    r[..n].reverse();
     r
 }

@@ -10,7 +10,7 @@ use plain::Target;
 pub fn octet_at(octets: &[u8], i: usize) -> u8
     ensures { result ≡ octet_at octets.now i }
 {
-    if i < octets.len() { octets[i] } else { 0 }
+    octets.get(i).copied().unwrap_or(0)
 }
 
 // How many bits a Prefix Length stands for.
@@ -22,10 +22,10 @@ pub fn prefix_bits(plen: u8) -> u8
 }
 
 // How many octets hold them.
-fn prefix_octets(plen: u8) -> usize
+pub fn prefix_octets(plen: u8) -> usize
     ensures { result ≡ prefix_octets plen }
 {
-    (prefix_bits(plen) as usize + 7) / 8
+    usize::from(prefix_bits(plen)).div_ceil(8)
 }
 
 // The Prefix Length of an ART.
@@ -41,10 +41,7 @@ pub fn prefix_length(body: &[u8]) -> u8
 pub fn is_bad_art(body: &[u8]) -> bool
     ensures { result ≡ bad_art body.now }
 {
-    if body.len() < 2 {
-        return true;
-    }
-    body.len() != 2 + prefix_octets(prefix_length(body))
+    body.len() < 2 || body.len() != 2 + prefix_octets(prefix_length(body))
 }
 
 // The target of an ART, with spare bits 0.
@@ -65,14 +62,9 @@ pub fn read_target(body: &[u8]) -> Target
 }
 
 // Whether two targets have the same prefix length and meaningful bits.
-#[tactic(auto, using(lemmas::proofs::Cases::cases, crate::proofs::Laws::same_near), unfolding(plain::specs::Octets::same_target))]
+#[tactic(auto, using(lemmas::proofs::Cases::cases), unfolding(plain::specs::Octets::same_target))]
 pub fn same_target(a: Target, b: Target) -> bool
     ensures { result ≡ same_target a b }
 {
-    let x = a.addr;
-    let y = b.addr;
-    if a.plen != b.plen {
-        return false;
-    }
-    address::do_agree(prefix_bits(a.plen), x, y)
+    a.plen == b.plen && address::do_agree(prefix_bits(a.plen), a.addr, b.addr)
 }

@@ -7,13 +7,13 @@ ghost use Rattle.plain.specs.Octets.{base_of};
 
 use plain::Base;
 
-#[tactic(auto, using(lemmas::proofs::Cases::cases, octets::proofs::Laws::over_end, option::proofs::Part::length_part), unfolding(plain::specs::Octets::base_of))]
+#[tactic(auto, using(lemmas::proofs::Cases::cases, option::proofs::Part::length_part), unfolding(plain::specs::Octets::base_of))]
 pub fn read_dodagid(msg: &[u8]) -> [u8; 16]
     requires { 24 ≤ length msg.now }
     ensures { result ≡ (base_of msg.now).dodagid }
 {
     let mut dodagid = [0u8; 16];
-    octets::put_over(&mut dodagid, 0, &msg[8..24]);
+    dodagid.copy_from_slice(&msg[8..24]);
     dodagid
 }
 

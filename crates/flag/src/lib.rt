@@ -7,5 +7,5 @@ ghost use Rattle.plain.specs.Octets.{bit};
 pub fn bit(b: bool) -> u8
     ensures { (result ≡ bit b) × (result ≤ 1) }
 {
-    if b { 1 } else { 0 }
+    u8::from(b)
 }

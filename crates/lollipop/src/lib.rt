@@ -6,19 +6,12 @@ ghost use Rattle.plain.specs.Rank.{same_side, low_is_newer};
 
 use plain::Freshness;
 
-// By how much two numbers differ.
-fn difference(a: u8, b: u8) -> u8
-    ensures { result ≡ a - b + (b - a) }
-{
-    if b < a { a - b } else { b - a }
-}
-
 // How a stands to b, both on the same side of 128.
 #[tactic(auto, using(lemmas::proofs::Cases::cases))]
 pub fn on_same_side(a: u8, b: u8) -> Freshness
     ensures { result ≡ same_side a b }
 {
-    if 16 < difference(a, b) {
+    if 16 < a.abs_diff(b) {
         return Freshness::NotComparable;
     }
     if b < a {
@@ -35,5 +28,5 @@ pub fn on_same_side(a: u8, b: u8) -> Freshness
 pub fn is_low_newer(high: u8, low: u8) -> bool
     ensures { result ≡ low_is_newer high low }
 {
-    256 + (low as u16) - (high as u16) <= 16
+    256 + u16::from(low) - u16::from(high) <= 16
 }

@@ -8,10 +8,11 @@ ghost use Rattle.plain.specs.Octets.{word_at, bad_configuration, h_of, compr_of,
 pub fn word_at(octets: &[u8], i: u8) -> u16
     ensures { result ≡ word_at octets.now i }
 {
-    let first = i as usize;
-    let high = art::octet_at(octets, first) as u16;
-    let low = art::octet_at(octets, first + 1) as u16;
-    high * 256 + low
+    let first = usize::from(i);
+    u16::from_be_bytes([
+        art::octet_at(octets, first),
+        art::octet_at(octets, first + 1),
+    ])
 }
 
 // Whether a DODAG Configuration has another length than 14, or a 0 where none may be.
@@ -19,16 +20,10 @@ pub fn word_at(octets: &[u8], i: u8) -> u16
 pub fn is_bad_configuration(body: &[u8]) -> bool
     ensures { result ≡ bad_configuration body.now }
 {
-    if body.len() != 14 {
-        return true;
-    }
-    if word_at(body, 6) == 0 {
-        return true;
-    }
-    if art::octet_at(body, 11) == 0 {
-        return true;
-    }
-    word_at(body, 12) == 0
+    body.len() != 14
+        || word_at(body, 6) == 0
+        || art::octet_at(body, 11) == 0
+        || word_at(body, 12) == 0
 }
 
 // H of an RREQ or RREP.

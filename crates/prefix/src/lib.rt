@@ -19,13 +19,6 @@ fn keep_bits(k: u8, x: u8) -> u8
     x >> spare << spare
 }
 
-// What is left of k bits after the first eight.
-fn past_octet(k: u8) -> u8
-    ensures { result ≡ k - 8 }
-{
-    if k < 8 { 0 } else { k - 8 }
-}
-
 // The first k bits of an address, octet by octet.
 #[tactic(auto, using(crate::proofs::Laws::keep_more, crate::proofs::Laws::keep_end, lemmas::proofs::Cases::cases))]
 pub fn cut_bits(k: u8, a: [u8; 16]) -> [u8; 16]
@@ -33,11 +26,9 @@ pub fn cut_bits(k: u8, a: [u8; 16]) -> [u8; 16]
 {
     let mut kept = [0u8; 16];
     let mut left = k;
-    let mut i: usize = 0;
-    while i < 16 {
+    for i in 0..16 {
         kept[i] = keep_bits(left, a[i]);
-        left = past_octet(left);
-        i = i + 1;
+        left = left.saturating_sub(8);
     }
     kept
 }

@@ -9,7 +9,7 @@ ghost use Rattle.plain.specs.Rank.{integer_part, over_limit, rank_refused};
 pub fn integer_part(step: u16, rank: u16) -> u16
     ensures { result ≡ integer_part step rank }
 {
-    if step == 0 { 0 } else { rank / step }
+    rank.checked_div(step).unwrap_or(0)
 }
 
 // Whether the integer parts of the advertised rank and of our own are over RankLimit.
@@ -17,17 +17,8 @@ pub fn integer_part(step: u16, rank: u16) -> u16
 pub fn is_over_limit(limit: u8, theirs: u16, ours: u16, is_end: bool) -> bool
     ensures { result ≡ over_limit limit theirs ours is_end }
 {
-    if limit == 0 {
-        return false;
-    }
-    let most = limit as u16;
-    if most <= theirs {
-        return true;
-    }
-    if most < ours {
-        return true;
-    }
-    if ours == most { !is_end } else { false }
+    let most = u16::from(limit);
+    limit != 0 && (most <= theirs || most < ours || (ours == most && !is_end))
 }
 
 // Whether a message is refused for its rank. The sum is made on 32 bits: it can be more than 65,535.
@@ -35,11 +26,8 @@ pub fn is_over_limit(limit: u8, theirs: u16, ours: u16, is_end: bool) -> bool
 pub fn is_refused(step: u16, advertised: u16, increase: u16, limit: u8, is_end: bool) -> bool
     ensures { result ≡ rank_refused step advertised increase limit is_end }
 {
-    if increase < step {
-        return true;
-    }
-    let own = (advertised as u32) + (increase as u32);
-    if 65535 <= own {
+    let own = u32::from(advertised) + u32::from(increase);
+    if increase < step || 65535 <= own {
         return true;
     }
     let theirs = integer_part(step, advertised);

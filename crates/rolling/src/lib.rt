@@ -21,7 +21,7 @@ pub fn step(own: u8) -> u8
 pub fn plus_delta(instance: u8, delta: u8) -> u8
     ensures { result ≡ plus_delta instance delta }
 {
-    std::num::wrapping_add_u8(instance, delta)
+    instance.wrapping_add(delta)
 }
 
 // The request's RPLInstanceID, from its reply's.
@@ -29,5 +29,5 @@ pub fn plus_delta(instance: u8, delta: u8) -> u8
 pub fn minus_delta(instance: u8, delta: u8) -> u8
     ensures { result ≡ minus_delta instance delta }
 {
-    std::num::wrapping_sub_u8(instance, delta)
+    instance.wrapping_sub(delta)
 }

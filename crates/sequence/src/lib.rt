@@ -41,10 +41,7 @@ pub fn standing(f: Freshness, replied: bool, lower: bool) -> Standing
         Freshness::Older => Standing::Stale,
         Freshness::NotComparable => Standing::Stale,
         Freshness::Equal => {
-            if replied {
-                return Standing::NothingNew;
-            }
-            if lower {
+            if lower && !replied {
                 Standing::Update
             } else {
                 Standing::NothingNew
@@ -58,10 +55,5 @@ pub fn standing(f: Freshness, replied: bool, lower: bool) -> Standing
 pub fn is_outdated(f: Freshness) -> bool
     ensures { result ≡ outdated f }
 {
-    match f {
-        Freshness::Newer => true,
-        Freshness::NotComparable => true,
-        Freshness::Equal => false,
-        Freshness::Older => false,
-    }
+    matches!(f, Freshness::Newer | Freshness::NotComparable)
 }

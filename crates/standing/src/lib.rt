@@ -9,35 +9,17 @@ use plain::Standing;
 pub fn is_stale(st: Standing) -> bool
     ensures { result ≡ is_stale st }
 {
-    match st {
-        Standing::Stale => true,
-        Standing::IsNew => false,
-        Standing::Afresh => false,
-        Standing::Update => false,
-        Standing::NothingNew => false,
-    }
+    st == Standing::Stale
 }
 
 pub fn is_nothing_new(st: Standing) -> bool
     ensures { result ≡ is_nothing_new st }
 {
-    match st {
-        Standing::NothingNew => true,
-        Standing::IsNew => false,
-        Standing::Afresh => false,
-        Standing::Update => false,
-        Standing::Stale => false,
-    }
+    st == Standing::NothingNew
 }
 
 pub fn is_update(st: Standing) -> bool
     ensures { result ≡ is_update st }
 {
-    match st {
-        Standing::Update => true,
-        Standing::IsNew => false,
-        Standing::Afresh => false,
-        Standing::Stale => false,
-        Standing::NothingNew => false,
-    }
+    st == Standing::Update
 }

@@ -1,7 +1,7 @@
 // The tally: how many calls had each answer. The host lends it; it is no part of the node's state.
 #![tactic(auto)]
 
-ghost use Rattle.std.specs.Prelude.{◌≡◌, ◌+◌, ◌%◌, ◌^◌};
+ghost use Rattle.std.specs.Prelude.{◌≡◌};
 ghost use Rattle.plain.specs.Tally.{raised};
 ghost use Rattle.answer.specs.Answer.{answer_number};
 
@@ -22,20 +22,13 @@ fn place_of(a: Answer) -> usize
     answer::number(a) as usize
 }
 
-// "the tally counts wrap too"
-fn one_more(x: u32) -> u32
-    ensures { result ≡ (x + 1) % 2 ^ 32 }
-{
-    std::num::wrapping_add_u32(x, 1)
-}
-
-// An answer's number is below 18, so that its count is always there.
+// An answer's number is below 18, so that its count is always there. "the tally counts wrap too"
 #[tactic(auto, using(lemmas::proofs::Cases::cases, std::proofs::Common::arith, std::proofs::Common::rules, crate::proofs::Number::number_below), unfolding(plain::specs::Tally::raised))]
 fn raise_at(c: &mut [u32; 18], a: Answer)
     ensures { c.new ≡ raised (answer_number a) c.old }
 {
     let k = place_of(a);
-    c[k] = one_more(c[k]);
+    c[k] = c[k].wrapping_add(1);
 }
 
 // "one record, lent by the host and changed in place": the counts are lent out of the record, so that no other count is copied.

@@ -13,15 +13,13 @@ pub fn addresses(part: &[u8], compr: u8, dodagid: [u8; 16]) -> [[u8; 16]; 16]
     let width = 16 - compr as usize;
     let n = part.len() / width;
     let mut vector = [[0u8; 16]; 16];
-    let mut at: usize = 0;
-    let mut i: usize = 0;
-    while i < n {
+    let mut at = 0;
+    for i in 0..n {
         let end = at + width;
         // written in place: a copy would wait for the octet writes
         vector[i] = dodagid;
         octets::put_over(&mut vector[i], compr as usize, &part[at..end]);
         at = end;
-        i = i + 1;
     }
     vector
 }

@@ -5,7 +5,6 @@ use mathlib.Core.Bool.{true}
 use mathlib.Core.List.{List, [], ◌∷◌, ◌++◌, map, flatten}
 use native.Mathlib.Omega.{arith}
 use lib.ListN.{length, get_or, take, length-append, length-take}
-use lib.Seq.{get_or-take}
 use borrow.Author.Tests.{leb-true}
 use Rattle.lemmas.proofs.Choice.{and_left, and_right}
 use Rattle.plain.specs.Lists.{all}
@@ -18,11 +17,9 @@ use Rattle.plain.specs.Answers.{short_prefix}
 use Rattle.writer_option.specs.Sendable.{short_prefixes}
 use Rattle.writer_art.specs.Heads.{art_head}
 
--- each of the first n targets has a Prefix Length that can be sent
-pub short_at : (n : ℕ) (ts : List Target) (i : ℕ) → i < n → i < length ts → short_prefixes (take n ts) ≡ true → (get_or ts i target_past).plen ≤ 127
-short_at n ts i h k e =
-    leb-true (get_or ts i target_past).plen 127
-    (rw (get_or-take n ts i target_past h) at (all_at short_prefix target_past (take n ts) i (omega (arith, length-take n ts)) e))
+-- each target has a Prefix Length that can be sent
+pub short_at : (ts : List Target) (i : ℕ) → i < length ts → short_prefixes ts ≡ true → (get_or ts i target_past).plen ≤ 127
+short_at ts i h e = leb-true (get_or ts i target_past).plen 127 (all_at short_prefix target_past ts i h e)
 
 -- an ART is its head and so many octets of its target
 pub art_parts : (t : Target) (size : ℕ) → size ≡ prefix_octets t.plen → size ≤ length t.addr → art_octets t ≡ art_head t size ++ take size t.addr

@@ -4,44 +4,29 @@
 ghost use Rattle.std.specs.Prelude.{◌≡◌, true, ◌≤◌, length, take};
 ghost use mathlib.Core.List.{map, flatten};
 ghost use Rattle.lemmas.specs.Written.{Written};
-ghost use Rattle.plain.specs.Octets.{prefix_octets, art_octets};
+ghost use Rattle.plain.specs.Octets.{art_octets};
 ghost use Rattle.writer_option.specs.Sendable.{short_prefixes};
 ghost use Rattle.writer_art.specs.Heads.{art_head};
 
 use plain::Target;
 use writer_octets::put_octets;
 
-// How many octets of a target are sent.
-#[tactic(auto, using(lemmas::proofs::Cases::cases))]
-fn target_octets(plen: u8) -> usize
-    ensures { result ≡ prefix_octets plen }
-{
-    if plen == 0 {
-        return 16;
-    }
-    (plen as usize + 7) / 8
-}
-
 // Type, length, Dest SeqNo and Prefix Length of an ART with so many octets of a target.
-#[tactic(auto, using(lemmas::proofs::Cases::cases, writer_base::proofs::Stores::stored, crate::proofs::Words::art_word))]
+#[tactic(auto, using(lemmas::proofs::Cases::cases, crate::proofs::Words::art_word))]
 fn put_art_head(out: &mut [u8], t: Target, size: usize) -> usize
     requires { (size ≤ 16) × (4 ≤ length out.old) }
     ensures { Written (art_head t size) out.old out.new result }
 {
-    out[0] = 0x0d;
-    out[1] = (size + 2) as u8;
-    out[2] = t.seq;
-    out[3] = t.plen % 128;
-    4
+    put_octets(out, &[0x0d, (size + 2) as u8, t.seq, t.plen % 128])
 }
 
-// An ART.
+// An ART, with as many octets of its target as Prefix Length says.
 #[tactic(auto, using(lemmas::proofs::Cases::cases, lemmas::proofs::Buffer::written_then, lemmas::proofs::Rules::most_octets_lem, crate::proofs::Lengths::art_parts))]
 pub fn put_art(out: &mut [u8], t: Target) -> usize
     requires { (t.plen ≤ 127) × (length (art_octets t) ≤ length out.old) }
     ensures { Written (art_octets t) out.old out.new result }
 {
-    let size = target_octets(t.plen);
+    let size = art::prefix_octets(t.plen);
     let a = t.addr;
     let n = put_art_head(out, t, size);
     let m = put_octets(&mut out[n..], &a[..size]);
@@ -54,13 +39,9 @@ pub fn put_arts(out: &mut [u8], count: usize, targets: [Target; 8]) -> usize
     requires { (count ≤ 8) × (short_prefixes (take count targets) ≡ true) × (length (flatten (map art_octets (take count targets))) ≤ length out.old) }
     ensures { Written (flatten (map art_octets (take count targets))) out.old out.new result }
 {
-    let mut at: usize = 0;
-    let mut i: usize = 0;
-    while i < count {
-        let t = targets[i];
-        let m = put_art(&mut out[at..], t);
-        at = at + m;
-        i = i + 1;
+    let mut at = 0;
+    for t in &targets[..count] {
+        at += put_art(&mut out[at..], *t);
     }
     at
 }

@@ -23,21 +23,20 @@ module _ {A : Type 0} (f : A → List ℕ) where
       → flatten (map f (take (i + 1) xs)) ≡ flatten (map f (take i xs)) ++ f (get_or xs i d)
   parts_more i xs d h = rw add-one (suc_parts i xs d h)
 
-  parts_before : (i n : ℕ) (xs : List A) (d : A) → i < n → i < length xs
-      → length (flatten (map f (take i xs))) + length (f (get_or xs i d)) ≤ length (flatten (map f (take n xs)))
+  parts_before : (i : ℕ) (xs : List A) (d : A) → i < length xs
+      → length (flatten (map f (take i xs))) + length (f (get_or xs i d)) ≤ length (flatten (map f xs))
   unfolding flatten
-  parts_before i zero xs d h k = absurd (omega arith)
-  parts_before i (suc n) [] d h k = absurd (omega arith)
-  parts_before zero (suc n) (x ∷ xs) d h k = omega (arith, length-append (f x) (flatten (map f (take n xs))))
-  parts_before (suc i) (suc n) (x ∷ xs) d h k =
+  parts_before i [] d h = absurd (omega arith)
+  parts_before zero (x ∷ xs) d h = omega (arith, length-append (f x) (flatten (map f xs)))
+  parts_before (suc i) (x ∷ xs) d h =
       omega (
         arith,
         length-append (f x) (flatten (map f (take i xs))),
-        length-append (f x) (flatten (map f (take n xs))),
-        parts_before i n xs d (omega arith) (omega arith),
+        length-append (f x) (flatten (map f xs)),
+        parts_before i xs d (omega arith),
       )
 
-  -- where a buffer has room for n parts, it has room for part i after those before it
-  pub parts_room : (i n at : ℕ) (xs : List A) (d : A) (out₀ out : List ℕ) → i < n → n ≤ length xs → Written (flatten (map f (take i xs))) out₀ out at
-      → length (flatten (map f (take n xs))) ≤ length out₀ → length out ≡ length out₀ → at + length (f (get_or xs i d)) ≤ length out
-  parts_room i n at xs d out₀ out h k w m e = omega (arith, parts_before i n xs d h (omega arith), w.count)
+  -- where a buffer has room for all parts, it has room for part i after those before it
+  pub parts_room : (i at : ℕ) (xs : List A) (d : A) (out₀ out : List ℕ) → i < length xs → Written (flatten (map f (take i xs))) out₀ out at
+      → length (flatten (map f xs)) ≤ length out₀ → length out ≡ length out₀ → at + length (f (get_or xs i d)) ≤ length out
+  parts_room i at xs d out₀ out h w m e = omega (arith, parts_before i xs d h, w.count)

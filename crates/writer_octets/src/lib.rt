@@ -7,17 +7,12 @@ ghost use Rattle.plain.specs.Address.{elide};
 ghost use Rattle.plain.specs.Octets.{elided};
 
 // Octets as they are.
-#[tactic(auto, using(lemmas::proofs::Buffer::copied_more, lemmas::proofs::Cases::cases))]
 pub fn put_octets(out: &mut [u8], octets: &[u8]) -> usize
     requires { length octets.now ≤ length out.old }
     ensures { Written octets.now out.old out.new result }
 {
-    let mut i: usize = 0;
-    while i < octets.len() {
-        out[i] = octets[i];
-        i = i + 1;
-    }
-    i
+    out[..octets.len()].copy_from_slice(octets);
+    octets.len()
 }
 
 // An address without its first Compr octets.
@@ -35,14 +30,9 @@ pub fn put_vector(out: &mut [u8], compr: usize, n: usize, vector: &[[u8; 16]; 16
     requires { (compr ≤ 16) × (n ≤ 16) × (length (elided compr (take n vector.now)) ≤ length out.old) }
     ensures { Written (elided compr (take n vector.now)) out.old out.new result }
 {
-    let addresses = &vector[..];
-    let mut at: usize = 0;
-    let mut i: usize = 0;
-    while i < n {
-        let a = addresses[i];
-        let m = put_address(&mut out[at..], compr, a);
-        at = at + m;
-        i = i + 1;
+    let mut at = 0;
+    for a in &vector[..n] {
+        at += put_address(&mut out[at..], compr, *a);
     }
     at
 }

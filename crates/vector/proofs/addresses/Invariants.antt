@@ -1,11 +1,7 @@
-use Prim.Native.Nat.{◌≤◌, ◌-◌}
 use mathlib.Core.Path.{◌≡◌}
 use lib.ListN.{length}
 use Rattle.vector.proofs.Laws.{Restoring}
 use Rattle.vector.proofs.addresses.Given as goal
 
 abbrev pub invariant-loop-i : goal.invariant-loop-i
-invariant-loop-i l = (l.i ≤ l.n) × (length l.vector ≡ 16) × Restoring l.compr l.n l.dodagid l.part l.vector l.at l.i
-
-abbrev pub decreases-loop-i : goal.decreases-loop-i
-decreases-loop-i l = l.n - l.i
+invariant-loop-i l = (length l.vector ≡ 16) × Restoring l.compr l.n l.dodagid l.part l.vector l.at l.i

@@ -25,6 +25,6 @@ put_art_head-n-requires c = let z = sized (goal.at.put_art_head-n-requires c).St
 pub returns : goal.returns
 returns c =
     let z = sized (goal.at.returns c).Start in
-    let e = c.target_octets-size.ensures in
+    let e = c.prefix_octets-size.ensures in
     rw (art_parts c.args.t _ e (omega arith))
     (written_then _ _ _ _ _ _ _ c.put_art_head-n.ensures c.put_octets-m.ensures)
