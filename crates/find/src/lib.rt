@@ -11,47 +11,33 @@ ghost use Rattle.first.specs.Spare.{dead};
 use row::InstanceRow;
 
 // The first request row of that key that is live at t, or the length.
-#[tactic(auto, using(lemmas::proofs::Cases::cases, first::proofs::Search::at_start, first::proofs::Search::at_hit, first::proofs::Search::at_miss, first::proofs::Search::at_end))]
 pub fn find_request(rows: &[InstanceRow], t: u64, instance: u8, dodagid: [u8; 16]) -> usize
     ensures { result ≡ first (request_here t instance dodagid) (map instance_of rows.now) }
 {
-    let mut i: usize = 0;
-    while i < rows.len() {
-        if keyed::is_request(rows[i], t, instance, dodagid) {
-            return i;
-        }
-        i += 1;
-    }
-    i
+    rows.iter()
+        .position(|r| keyed::is_request(*r, t, instance, dodagid))
+        .unwrap_or(rows.len())
 }
 
 // The first reply row of that key that is live at t, or the length.
-#[tactic(auto, using(lemmas::proofs::Cases::cases, first::proofs::Search::at_start, first::proofs::Search::at_hit, first::proofs::Search::at_miss, first::proofs::Search::at_end))]
 pub fn find_reply(rows: &[InstanceRow], t: u64, instance: u8, dodagid: [u8; 16]) -> usize
     ensures { result ≡ first (reply_here t instance dodagid) (map instance_of rows.now) }
 {
-    let mut i: usize = 0;
-    while i < rows.len() {
-        if keyed::is_reply(rows[i], t, instance, dodagid) {
-            return i;
-        }
-        i += 1;
-    }
-    i
+    rows.iter()
+        .position(|r| keyed::is_reply(*r, t, instance, dodagid))
+        .unwrap_or(rows.len())
 }
 
 // The first row from `from` on that is not live at t, or the length (`from` itself, where that is past the length).
-#[tactic(auto, using(lemmas::proofs::Cases::cases, first::proofs::Search::at_from, first::proofs::Search::at_hit, first::proofs::Search::at_miss, first::proofs::Search::at_end))]
 pub fn find_spare(rows: &[InstanceRow], t: u64, from: usize) -> usize
     ensures { result ≡ first_from (dead instance_deadline t) from (map instance_of rows.now) }
 {
-    let mut i: usize = from;
-    while i < rows.len() {
-        if live::is_live(rows[i], t) {
-            i += 1;
-        } else {
-            return i;
-        }
+    if rows.len() < from {
+        return from;
     }
-    i
+    let rest = &rows[from..];
+    from + rest
+        .iter()
+        .position(|r| !live::is_live(*r, t))
+        .unwrap_or(rest.len())
 }

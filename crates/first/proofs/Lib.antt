@@ -1,4 +1,5 @@
 pub mod Found
+pub mod Library
 pub mod Room
 pub mod Search
 pub mod Store

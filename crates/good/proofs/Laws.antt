@@ -1,25 +1,23 @@
 -- When a row is good.
-use Prim.Native.Nat.{ℕ, ◌+◌, ◌≤◌, ◌<◌}
+use Prim.Native.Nat.{ℕ, ◌≤◌, ◌<◌}
 use mathlib.Core.Path.{◌≡◌, refl}
 use mathlib.Core.Bool.{Bool, true, false, cond, ◌&&◌}
 use mathlib.Core.List.{List}
 use mathlib.Core.Option.{some, none}
 use native.Mathlib.Omega.{arith}
 use lib.Dec.{eqb, leb}
-use lib.ListN.{length, get_or, take, drop}
-use lib.Seq.{take-take, get_or-take}
+use lib.ListN.{length, take}
+use lib.Seq.{take-take}
 use borrow.Author.Tests.{le-leb, lt-leb}
 use Rattle.plain.specs.Lists.{all}
 use Rattle.plain.specs.Given.{Instance}
 use Rattle.plain.specs.Answers.{short_prefix, good_if, good_deadline, good_instance}
 use Rattle.plain.specs.declared.Target.{Target}
 use Rattle.lemmas.proofs.Choice.{and_right, and_both}
-use Rattle.lemmas.proofs.Front.{front_below, front_past}
-use Rattle.lemmas.proofs.Walk.{all_take, walk_stop, walk_on, walk_end}
+use Rattle.lemmas.proofs.Walk.{all_take}
 use Rattle.row.specs.Meaning.{deadline_of, targets_of, request_of, reply_of, instance_of}
 use Rattle.row.specs.declared.InstanceRow.{InstanceRow}
 use Rattle.row.proofs.Laws.{length_targets, targets_within}
-use Rattle.lemmas.proofs.Targets.{target_past}
 
 -- of at most four targets, of which the first four are good, each is good
 pub few_good : (count : ℕ) (ts : List Target) → length ts ≡ 8 → count ≤ 4
@@ -48,7 +46,7 @@ plainly_good r g d = go (eqb r.kind 1) (eqb r.kind 2)
     go false true = d
     go false false = refl
 
--- ---- what the loop over targets asks
+-- ---- what is asked of targets
 
 module _ (count : ℕ) (ts : List Target) (eight : length ts ≡ 8) where
   pub count_over : 8 < count → leb (length (targets_of count ts)) 8 && all short_prefix (targets_of count ts) ≡ false
@@ -56,21 +54,3 @@ module _ (count : ℕ) (ts : List Target) (eight : length ts ≡ 8) where
 
   pub count_within : count ≤ 8 → leb (length (targets_of count ts)) 8 && all short_prefix (targets_of count ts) ≡ all short_prefix (take count ts)
   count_within h = rw (length_targets count ts, le-leb count 8 h, targets_within count ts (omega arith))
-
-  -- the target at i is good, where i is below the count
-  pub good_at : (i : ℕ) → i < count → (get_or ts i target_past).plen ≤ 127 → short_prefix (get_or (take count ts) i target_past) ≡ true
-  good_at i h g = rw (get_or-take count ts i target_past h) (le-leb (get_or ts i target_past).plen 127 g)
-
-  pub bad_at : (i : ℕ) → i < count → 127 < (get_or ts i target_past).plen → short_prefix (get_or (take count ts) i target_past) ≡ false
-  bad_at i h g = rw (get_or-take count ts i target_past h) (lt-leb (get_or ts i target_past).plen 127 g)
-
-  -- and so are those that are left at i
-  module _ (i : ℕ) (h : i < count) (m : count ≤ 8) where
-    pub good_on : (get_or ts i target_past).plen ≤ 127 → all short_prefix (drop i (take count ts)) ≡ all short_prefix (drop (i + 1) (take count ts))
-    good_on g = walk_on false short_prefix target_past (take count ts) i refl (front_below count ts (omega arith) i h) (good_at i h g)
-
-    pub good_stop : 127 < (get_or ts i target_past).plen → all short_prefix (drop i (take count ts)) ≡ false
-    good_stop g = walk_stop false short_prefix target_past (take count ts) i refl (front_below count ts (omega arith) i h) (bad_at i h g)
-
-  pub good_end : (i : ℕ) → count ≤ i → count ≤ 8 → all short_prefix (drop i (take count ts)) ≡ true
-  good_end i h m = walk_end false short_prefix target_past (take count ts) i refl (front_past count ts (omega arith) i h)

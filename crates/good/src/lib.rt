@@ -17,29 +17,17 @@ use row::{InstanceRow, RouteRow};
 fn is_good_deadline(endless: u8, deadline: u64) -> bool
     ensures { result ≡ good_deadline (deadline_of endless deadline) }
 {
-    if endless == 0 {
-        return deadline <= 2199023255552;
-    }
-    true
+    endless != 0 || deadline <= 2199023255552
 }
 
-#[tactic(auto, using(crate::proofs::Laws::count_over, crate::proofs::Laws::count_within, crate::proofs::Laws::good_on, crate::proofs::Laws::good_stop, crate::proofs::Laws::good_end, lemmas::proofs::Cases::cases))]
+#[tactic(auto, using(crate::proofs::Laws::count_over, crate::proofs::Laws::count_within, lemmas::proofs::Cases::cases))]
 fn are_good_targets(count: u8, targets: [Target; 8]) -> bool
     ensures { result ≡ leb (length (targets_of count targets)) most_targets && all short_prefix (targets_of count targets) }
 {
     if 8 < count {
         return false;
     }
-    let mut i: u8 = 0;
-    while i < count {
-        let k = i as usize;
-        let t = targets[k];
-        if 127 < t.plen {
-            return false;
-        }
-        i += 1;
-    }
-    true
+    targets[..count as usize].iter().all(|t| t.plen <= 127)
 }
 
 // At most four targets, as most rows have, none of them wrong: asked without a branch that goes by the count. If false, nothing is known.
@@ -47,10 +35,7 @@ fn are_good_targets(count: u8, targets: [Target; 8]) -> bool
 fn are_few_good(count: u8, targets: [Target; 8]) -> bool
     ensures { result ≡ true → leb (length (targets_of count targets)) most_targets && all short_prefix (targets_of count targets) ≡ true }
 {
-    if 4 < count {
-        return false;
-    }
-    are_good_targets(4, targets)
+    count <= 4 && are_good_targets(4, targets)
 }
 
 // ---- a row
@@ -60,11 +45,7 @@ fn are_few_good(count: u8, targets: [Target; 8]) -> bool
 fn is_plainly_good(r: InstanceRow) -> bool
     ensures { result ≡ true → good_if good_instance (instance_of r) ≡ true }
 {
-    let ts = r.targets;
-    if are_few_good(r.count, ts) {
-        return is_good_deadline(r.endless, r.deadline);
-    }
-    false
+    are_few_good(r.count, r.targets) && is_good_deadline(r.endless, r.deadline)
 }
 
 // By kind: in a mixed table this branch cannot be predicted.
@@ -72,34 +53,22 @@ fn is_plainly_good(r: InstanceRow) -> bool
 fn is_good_of_kind(r: InstanceRow) -> bool
     ensures { result ≡ good_if good_instance (instance_of r) }
 {
-    if r.kind == 1 {
-        let ts = r.targets;
-        if are_good_targets(r.count, ts) {
-            return is_good_deadline(r.endless, r.deadline);
-        }
-        return false;
+    match r.kind {
+        1 => are_good_targets(r.count, r.targets) && is_good_deadline(r.endless, r.deadline),
+        2 => is_good_deadline(r.endless, r.deadline),
+        _ => true,
     }
-    if r.kind == 2 {
-        return is_good_deadline(r.endless, r.deadline);
-    }
-    true
 }
 
 pub fn is_good(r: InstanceRow) -> bool
     ensures { result ≡ good_if good_instance (instance_of r) }
 {
-    if is_plainly_good(r) {
-        return true;
-    }
-    is_good_of_kind(r)
+    is_plainly_good(r) || is_good_of_kind(r)
 }
 
 #[tactic(auto, using(lemmas::proofs::Cases::cases), unfolding(row::specs::Meaning::route_of, row::specs::Meaning::route_in, plain::specs::Answers::good_route))]
 pub fn is_good_route(r: RouteRow) -> bool
     ensures { result ≡ good_if good_route (route_of r) }
 {
-    if r.kind == 1 {
-        return is_good_deadline(r.endless, r.deadline);
-    }
-    true
+    r.kind != 1 || is_good_deadline(r.endless, r.deadline)
 }

@@ -22,20 +22,14 @@ pub fn does_last(endless: u8, deadline: u64, t: u64) -> bool
 fn is_used(kind: u8) -> bool
     ensures { result ≡ eqb kind 1 || eqb kind 2 }
 {
-    if kind == 0 {
-        return false;
-    }
-    kind <= 2
+    kind != 0 && kind <= 2
 }
 
 #[tactic(auto, using(lemmas::proofs::Cases::cases, crate::proofs::Laws::live_used, crate::proofs::Laws::live_unused))]
 pub fn is_live(r: InstanceRow, t: u64) -> bool
     ensures { result ≡ live instance_deadline t (instance_of r) }
 {
-    if is_used(r.kind) {
-        return does_last(r.endless, r.deadline, t);
-    }
-    false
+    is_used(r.kind) && does_last(r.endless, r.deadline, t)
 }
 
 // ---- a route
@@ -44,8 +38,5 @@ pub fn is_live(r: InstanceRow, t: u64) -> bool
 pub fn is_live_route(r: RouteRow, t: u64) -> bool
     ensures { result ≡ live route_deadline t (route_of r) }
 {
-    if r.kind == 1 {
-        return does_last(r.endless, r.deadline, t);
-    }
-    false
+    r.kind == 1 && does_last(r.endless, r.deadline, t)
 }

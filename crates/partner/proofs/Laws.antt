@@ -1,9 +1,8 @@
 -- One row: a request row of that key, and its H.
 use Prim.Native.Nat.{ℕ}
 use mathlib.Core.Path.{◌≡◌, refl, sym, ◌∙◌}
-use mathlib.Core.Bool.{Bool, true, false, cond, not, beq, ◌&&◌}
+use mathlib.Core.Bool.{Bool, true, false, cond, beq, ◌&&◌}
 use lib.Dec.{eqb}
-use borrow.Author.Tests.{ne_eqb}
 use Rattle.plain.specs.Address.{Address}
 use Rattle.plain.specs.Answers.{request_for}
 use Rattle.lemmas.proofs.Choice.{true_false}
@@ -23,7 +22,7 @@ module _ (r : InstanceRow) (t instance : ℕ) (dodagid : Address) (h : Bool) whe
       both true x e = rw e
       both false x e = refl
 
-  partner_is : request_here t instance dodagid (instance_of r) ≡ true → partner_here t instance dodagid h (instance_of r) ≡ beq (flag r.h) h
+  pub partner_is : request_here t instance dodagid (instance_of r) ≡ true → partner_here t instance dodagid h (instance_of r) ≡ beq (flag r.h) h
   unfolding request_of
   partner_is e =
       sort_here request_sort (partner_for t instance dodagid h) r
@@ -32,17 +31,3 @@ module _ (r : InstanceRow) (t instance : ℕ) (dodagid : Address) (h : Bool) whe
       both : (k x : Bool) → cond k x false ≡ true → cond k (x && beq (flag r.h) h) false ≡ beq (flag r.h) h
       both true x e = rw e
       both false x e = true_false (sym e)
-
-  pub partner_off : request_here t instance dodagid (instance_of r) ≡ true → r.h ≡ 0 → partner_here t instance dodagid h (instance_of r) ≡ not h
-  partner_off e z = partner_is e ∙ rw z (off h)
-    where
-      off : (b : Bool) → beq false b ≡ not b
-      off true = refl
-      off false = refl
-
-  pub partner_on : request_here t instance dodagid (instance_of r) ≡ true → (r.h ≡ 0 → ⊥) → partner_here t instance dodagid h (instance_of r) ≡ h
-  partner_on e z = partner_is e ∙ rw (ne_eqb r.h 0 z) (on h)
-    where
-      on : (b : Bool) → beq true b ≡ b
-      on true = refl
-      on false = refl

@@ -7,58 +7,45 @@ ghost use Rattle.row.specs.Meaning.{instance_of, route_of};
 
 use row::{InstanceRow, RouteRow};
 
+// ---- either table
+
+// Writes one row. Past the end nothing changes.
+pub fn put<T: Copy>(items: &mut [T], i: usize, item: T)
+    ensures { items.new ≡ set items.old i item }
+{
+    if i < items.len() {
+        items[i] = item;
+    }
+}
+
 // ---- instance rows
 
 // No row in use is wrong.
-#[tactic(auto, using(lemmas::proofs::Cases::cases, lemmas::proofs::Walk::walk_on, lemmas::proofs::Walk::walk_stop, lemmas::proofs::Walk::walk_end, lemmas::proofs::Walk::all_map))]
 pub fn all_good(rows: &[InstanceRow]) -> bool
     ensures { result ≡ all_good good_instance (map instance_of rows.now) }
 {
-    let mut i: usize = 0;
-    while i < rows.len() {
-        if good::is_good(rows[i]) {
-            i += 1;
-        } else {
-            return false;
-        }
-    }
-    true
+    rows.iter().all(|r| good::is_good(*r))
 }
 
 // Past the end nothing changes.
 pub fn put_row(rows: &mut [InstanceRow], i: usize, r: InstanceRow)
     ensures { rows.new ≡ set rows.old i r }
 {
-    if i < rows.len() {
-        rows[i] = r;
-        return;
-    }
+    put(rows, i, r);
 }
 
 // ---- routes
 
 // No route in use is wrong.
-#[tactic(auto, using(lemmas::proofs::Cases::cases, lemmas::proofs::Walk::walk_on, lemmas::proofs::Walk::walk_stop, lemmas::proofs::Walk::walk_end, lemmas::proofs::Walk::all_map))]
 pub fn all_good_routes(routes: &[RouteRow]) -> bool
     ensures { result ≡ all_good good_route (map route_of routes.now) }
 {
-    let mut i: usize = 0;
-    while i < routes.len() {
-        if good::is_good_route(routes[i]) {
-            i += 1;
-        } else {
-            return false;
-        }
-    }
-    true
+    routes.iter().all(|r| good::is_good_route(*r))
 }
 
 // Past the end nothing changes.
 pub fn put_route(routes: &mut [RouteRow], i: usize, r: RouteRow)
     ensures { routes.new ≡ set routes.old i r }
 {
-    if i < routes.len() {
-        routes[i] = r;
-        return;
-    }
+    put(routes, i, r);
 }
