@@ -25,14 +25,12 @@ pub fn grown_vector(
         return *vector;
     }
     addresses::whole(vector);
-    let receiving = o.receiving;
-    let sending = o.sending;
     let mut grown = *vector;
-    grown[n] = receiving;
+    grown[n] = o.receiving;
     let next = n + 1;
     if count == next {
         return grown;
     }
-    grown[next] = sending;
+    grown[next] = o.sending;
     grown
 }
