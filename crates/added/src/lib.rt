@@ -25,12 +25,15 @@ pub fn grown_vector(
         return *vector;
     }
     addresses::whole(vector);
+    // an array that is stored has to come from a variable
+    let receiving = o.receiving;
+    let sending = o.sending;
     let mut grown = *vector;
-    grown[n] = o.receiving;
+    grown[n] = receiving;
     let next = n + 1;
     if count == next {
         return grown;
     }
-    grown[next] = o.sending;
+    grown[next] = sending;
     grown
 }

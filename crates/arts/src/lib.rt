@@ -28,10 +28,7 @@ pub fn read_targets(msg: &[u8]) -> Targets
                     c = collect::collect(&mut list, c, art::read_target(&msg[start..end]));
                 }
             }
-            Next::End => {
-                return targets::targets_in(list, c);
-            }
-            Next::Cut => {
+            Next::End | Next::Cut => {
                 return targets::targets_in(list, c);
             }
         }

@@ -11,12 +11,7 @@ use start::Asking;
 pub fn is_bad(g: Gathering, l: u8, compr: u8, limit: u8) -> bool
     ensures { Judged g l compr limit result }
 {
-    g.targets.count == 0
-        || g.targets.over
-        || g.long
-        || 3 < l
-        || 15 < compr
-        || 127 < limit
+    g.targets.count == 0 || g.targets.over || g.long || 3 < l || 15 < compr || 127 < limit
 }
 
 // 1, asked of a start: its targets and its fields.
