@@ -25,6 +25,7 @@ pub fn grown_vector(
         return *vector;
     }
     addresses::whole(vector);
+    // an array that is stored has to come from a variable
     let receiving = o.receiving;
     let sending = o.sending;
     let mut grown = *vector;

@@ -74,8 +74,8 @@ module _ {msg : List ℕ} {ts : Targets} {at left : ℕ} {n : Next} (w : Turn (C
   pub gathered_cut : n ≡ Cut → Gathered (once same_target (art_targets (options_of msg))) ts
   gathered_cut e = gathered_none w.inv (rw (cut_next w e))
 
-  pub collecting_pad : n ≡ Pad → Collecting msg ts (at + 1) (left - 1)
-  collecting_pad e = record { good = rw (pad_next w e) at w.inv.good; collected = rw (pad_next w e) at w.inv.collected; padded = w.inv.padded }
+  pub collecting_pad : {more : ℕ} → n ≡ Pad → more ≡ left - 1 → Collecting msg ts (at + 1) more
+  collecting_pad e m = rw m (record { good = rw (pad_next w e) at w.inv.good; collected = rw (pad_next w e) at w.inv.collected; padded = w.inv.padded })
 
   module _ {kind start end : ℕ} (e : n ≡ Body kind start end) where
     rest : Option (List Opt)
@@ -88,20 +88,20 @@ module _ {msg : List ℕ} {ts : Targets} {at left : ℕ} {n : Next} (w : Turn (C
     pub art_here : kind ≡ art_type → bad_art (part_of msg start end) ≡ false
     art_here k = art_good_lem kind _ k (first_good kind (part_of msg start end) rest good_here)
 
-    pub collecting_other : (kind ≡ art_type → ⊥) → Collecting msg ts end (left - 1)
+    pub collecting_other : {more : ℕ} → (kind ≡ art_type → ⊥) → more ≡ left - 1 → Collecting msg ts end more
     unfolding rest
-    collecting_other k = record {
+    collecting_other k m = rw m (record {
       good = rest_good kind (part_of msg start end) rest good_here;
       collected = rw (body_next w e, other_first kind (part_of msg start end) rest k) at w.inv.collected;
       padded = w.inv.padded;
-    }
+    })
 
-    pub collecting_art : {r : Targets} {t : Target} → kind ≡ art_type → t ≡ target_of (part_of msg start end)
+    pub collecting_art : {r : Targets} {t : Target} {next : ℕ} → kind ≡ art_type → t ≡ target_of (part_of msg start end)
         → ((all more : List Target) → Collected all (t ∷ more) ts → Collected all more r)
-        → (Padded ts.count ts.list → Padded r.count r.list) → Collecting msg r end (left - 1)
+        → (Padded ts.count ts.list → Padded r.count r.list) → next ≡ left - 1 → Collecting msg r end next
     unfolding rest
-    collecting_art k q j b = let g = rest_good kind (part_of msg start end) rest good_here in record {
+    collecting_art k q j b m = let g = rest_good kind (part_of msg start end) rest good_here in rw m (record {
       good = g;
       collected = j _ _ (rw q (rw (body_next w e, art_first kind (part_of msg start end) rest k g) at w.inv.collected));
       padded = b w.inv.padded;
-    }
+    })

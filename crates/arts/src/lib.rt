@@ -3,22 +3,10 @@
 
 ghost use Rattle.std.specs.Prelude.{◌≡◌, false};
 ghost use Rattle.plain.specs.Octets.{options_of, of_type, art_type, any_bad, targets_of};
-ghost use Rattle.targets.specs.Collected.{targets_in, Gathered};
+ghost use Rattle.targets.specs.Collected.{Gathered};
 
 use option::Next;
-use plain::Target;
-use targets::{Count, Targets};
-
-// The targets that are collected in a list.
-fn targets_in(list: [Target; 8], c: Count) -> Targets
-    ensures { result ≡ targets_in list c }
-{
-    Targets {
-        over: c.over,
-        count: c.n,
-        list,
-    }
-}
+use targets::Targets;
 
 // The targets of all ARTs of a message whose options are not bad, each once.
 #[tactic(auto, using(lemmas::proofs::Cases::cases, targets::proofs::Laws::none_collected, option::proofs::Turn::pad_placed, option::proofs::Turn::body_placed, crate::proofs::Collecting::art_targets, crate::proofs::Collecting::gathered_out, crate::proofs::Collecting::gathered_end, crate::proofs::Collecting::gathered_cut, crate::proofs::Collecting::collecting_pad))]
@@ -29,9 +17,7 @@ pub fn read_targets(msg: &[u8]) -> Targets
     let mut list = targets::blank_list();
     let mut c = targets::none_yet();
     let mut at = 24;
-    let mut left = msg.len();
-    while 0 < left {
-        left = left - 1;
+    for _ in 0..msg.len() {
         match option::next_option(msg, at) {
             Next::Pad => {
                 at = at + 1;
@@ -42,13 +28,10 @@ pub fn read_targets(msg: &[u8]) -> Targets
                     c = collect::collect(&mut list, c, art::read_target(&msg[start..end]));
                 }
             }
-            Next::End => {
-                return targets_in(list, c);
-            }
-            Next::Cut => {
-                return targets_in(list, c);
+            Next::End | Next::Cut => {
+                return targets::targets_in(list, c);
             }
         }
     }
-    targets_in(list, c)
+    targets::targets_in(list, c)
 }

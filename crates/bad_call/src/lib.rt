@@ -13,22 +13,10 @@ use own::Own;
 pub fn is_bad(o: Own, clock: u64, t: u64, forward: usize, reply: usize) -> bool
     ensures { result ≡ bad_lent (settings_of o) clock (lent_by t forward reply) }
 {
-    let receiving = o.receiving;
-    let sending = o.sending;
-    if t < clock {
-        return true;
-    }
-    if 1099511627776 < t {
-        return true;
-    }
-    if forward < 1236 {
-        return true;
-    }
-    if reply < 1236 {
-        return true;
-    }
-    if unusable::is_unusable(receiving) {
-        return true;
-    }
-    unusable::is_unusable(sending)
+    t < clock
+        || 1099511627776 < t
+        || forward < 1236
+        || reply < 1236
+        || unusable::is_unusable(o.receiving)
+        || unusable::is_unusable(o.sending)
 }

@@ -11,23 +11,7 @@ use start::Asking;
 pub fn is_bad(g: Gathering, l: u8, compr: u8, limit: u8) -> bool
     ensures { Judged g l compr limit result }
 {
-    let ts = g.targets;
-    if ts.count == 0 {
-        return true;
-    }
-    if ts.over {
-        return true;
-    }
-    if g.long {
-        return true;
-    }
-    if 3 < l {
-        return true;
-    }
-    if 15 < compr {
-        return true;
-    }
-    127 < limit
+    g.targets.count == 0 || g.targets.over || g.long || 3 < l || 15 < compr || 127 < limit
 }
 
 // 1, asked of a start: its targets and its fields.

@@ -10,19 +10,11 @@ use plain::Target;
 use targets::Count;
 
 // Whether a target is among the first n of a list.
-#[tactic(auto, using(lemmas::proofs::Cases::cases, lemmas::proofs::Front::is_found, lemmas::proofs::Front::not_here, lemmas::proofs::Front::nowhere))]
 pub fn is_listed(t: Target, list: &[Target], n: usize) -> bool
     requires { n ≤ length list.now }
     ensures { result ≡ any (same_target t) (take n list.now) }
 {
-    let mut i: usize = 0;
-    while i < n {
-        if art::same_target(t, list[i]) {
-            return true;
-        }
-        i = i + 1;
-    }
-    false
+    list[..n].iter().any(|u| art::same_target(t, *u))
 }
 
 // Stores a target at a place; past the end of the list nothing changes.
@@ -31,7 +23,6 @@ fn put_target(list: &mut [Target], at: usize, t: Target)
 {
     if at < list.len() {
         list[at] = t;
-        return;
     }
 }
 

@@ -12,13 +12,7 @@ use scan::Scan;
 fn is_request(s: Scan) -> bool
     ensures { (msg : List ℕ) → Outlined msg s → result ≡ request_counts (options_of msg) }
 {
-    if s.rreq.count != 1 {
-        return false;
-    }
-    if s.rrep.count != 0 {
-        return false;
-    }
-    0 < s.art.count
+    s.rreq.count == 1 && s.rrep.count == 0 && 0 < s.art.count
 }
 
 // Whether the options are a reply's: one RREP, no RREQ, one ART.
@@ -26,13 +20,7 @@ fn is_request(s: Scan) -> bool
 pub fn is_reply(s: Scan) -> bool
     ensures { (msg : List ℕ) → Outlined msg s → result ≡ reply_counts (options_of msg) }
 {
-    if s.rrep.count != 1 {
-        return false;
-    }
-    if s.rreq.count != 0 {
-        return false;
-    }
-    s.art.count == 1
+    s.rrep.count == 1 && s.rreq.count == 0 && s.art.count == 1
 }
 
 // Whether the message is cut or malformed.
@@ -41,21 +29,10 @@ pub fn is_malformed(msg: &[u8], s: Scan) -> bool
     requires { Scanned msg.now s }
     ensures { result ≡ malformed msg.now }
 {
-    if msg.len() < 24 {
+    if msg.len() < 24 || s.bad || 1 < s.configuration.count {
         return true;
     }
-    if s.bad {
-        return true;
-    }
-    if 1 < s.configuration.count {
-        return true;
-    }
-    if is_reply(s) {
-        let start = s.art.start;
-        let end = s.art.end;
-        return art::prefix_length(&msg[start..end]) != 0;
-    }
-    false
+    is_reply(s) && art::prefix_length(&msg[s.art.start..s.art.end]) != 0
 }
 
 // Whether MOP is not 4, or the counts of options are wrong.
@@ -64,16 +41,7 @@ pub fn is_unfit(msg: &[u8], s: Scan) -> bool
     requires { Outlined msg.now s }
     ensures { result ≡ unfit msg.now }
 {
-    if art::octet_at(msg, 4) / 8 % 8 != 4 {
-        return true;
-    }
-    if is_request(s) {
-        return false;
-    }
-    if is_reply(s) {
-        return false;
-    }
-    true
+    art::octet_at(msg, 4) / 8 % 8 != 4 || !(is_request(s) || is_reply(s))
 }
 
 // Whether there are over 16 vector addresses or over 8 targets.
@@ -83,8 +51,5 @@ pub fn is_too_many(size: usize, compr: u8, over: bool) -> bool
     ensures { result ≡ (ltb 16 (size / (16 - compr)) || over) }
 {
     let width = 16 - compr as usize;
-    if 16 < size / width {
-        return true;
-    }
-    over
+    16 < size / width || over
 }

@@ -3,12 +3,11 @@
 #![tactic(auto)]
 
 ghost use Rattle.std.specs.Prelude.{◌≡◌, ◌||◌};
-ghost use Rattle.targets.specs.Collected.{targets_in};
 ghost use Rattle.plain.specs.Answers.{long_prefix};
 ghost use Rattle.gather.specs.Gathers.{Gathers};
 
 use plain::Target;
-use targets::{Count, Targets};
+use targets::Targets;
 
 // What is gathered: the targets, and whether a prefix is over 127.
 #[derive(Clone, Copy)]
@@ -21,19 +20,7 @@ pub struct Gathering {
 fn is_long(long: bool, t: Target) -> bool
     ensures { result ≡ long || long_prefix t }
 {
-    if long { true } else { 127 < t.plen }
-}
-
-// What is gathered.
-fn gathered(list: [Target; 8], c: Count, long: bool) -> Gathering
-    ensures { result ≡ record { targets = targets_in list c; long = long } }
-{
-    let targets = Targets {
-        over: c.over,
-        count: c.n,
-        list,
-    };
-    Gathering { targets, long }
+    long || 127 < t.plen
 }
 
 // The targets that are handed in.
@@ -44,11 +31,12 @@ pub fn gather(given: &[Target]) -> Gathering
     let mut list = targets::blank_list();
     let mut c = targets::none_yet();
     let mut long = false;
-    let mut i: usize = 0;
-    while i < given.len() {
-        c = collect::collect(&mut list, c, spare::whole_bits(given[i]));
-        long = is_long(long, given[i]);
-        i += 1;
+    for t in given {
+        c = collect::collect(&mut list, c, spare::whole_bits(*t));
+        long = is_long(long, *t);
     }
-    gathered(list, c, long)
+    Gathering {
+        targets: targets::targets_in(list, c),
+        long,
+    }
 }

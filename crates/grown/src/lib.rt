@@ -19,9 +19,7 @@ pub fn grown_count(o: Own, h: bool, n: usize) -> usize
     if h {
         return n;
     }
-    let receiving = o.receiving;
-    let sending = o.sending;
-    if address::is_same(receiving, sending) {
+    if address::is_same(o.receiving, o.sending) {
         return n + 1;
     }
     n + 2
@@ -34,9 +32,6 @@ pub fn cannot_grow(o: Own, compr: u8, n: usize) -> bool
     ensures { (v : List Address) → length v ≡ n → WholeVector v → result ≡ cannot_grow compr (grown (settings_of o) false v) }
 {
     let addresses = grown_count(o, false, n);
-    if 16 < addresses {
-        return true;
-    }
     let octets = (16 - compr) as usize;
-    252 < addresses * octets
+    16 < addresses || 252 < addresses * octets
 }

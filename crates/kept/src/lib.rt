@@ -44,18 +44,6 @@ pub fn keep_if(kept: Targets, t: Target, keep: bool) -> Targets
     }
 }
 
-fn count_of(ts: Targets) -> usize
-    ensures { result ≡ ts.count }
-{
-    ts.count
-}
-
-fn list_of(ts: Targets) -> [Target; 8]
-    ensures { result ≡ ts.list }
-{
-    ts.list
-}
-
 // The targets of a message that are also in the row, in the message's order and with its Dest SeqNos.
 #[tactic(auto, using(lemmas::proofs::Cases::cases, crate::proofs::Sifted::sift_more, crate::proofs::Sifted::sift_end), unfolding(plain::specs::Request::common))]
 pub fn common(ts: Targets, row: Targets) -> Targets
@@ -63,16 +51,9 @@ pub fn common(ts: Targets, row: Targets) -> Targets
     requires count_bound_2 { row.count ≤ 8 }
     ensures { Kept (common (list_of ts) (list_of row)) result }
 {
-    let n = count_of(ts);
-    let list = list_of(ts);
-    let m = count_of(row);
-    let held = list_of(row);
     let mut kept = nothing();
-    let mut i: usize = 0;
-    while i < n {
-        let t = list[i];
-        kept = keep_if(kept, t, collect::is_listed(t, &held, m));
-        i = i + 1;
+    for t in &ts.list[..ts.count] {
+        kept = keep_if(kept, *t, collect::is_listed(*t, &row.list, row.count));
     }
     kept
 }

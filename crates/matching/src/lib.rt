@@ -10,22 +10,13 @@ ghost use Rattle.kept.specs.Kept.{list_of, Kept};
 use targets::Targets;
 
 // Whether we are TargNode: one of the targets matches us.
-#[tactic(auto, using(lemmas::proofs::Front::is_found, lemmas::proofs::Front::not_here, lemmas::proofs::Front::nowhere, lemmas::proofs::Cases::cases))]
 pub fn is_named(ts: Targets, receiving: [u8; 16], sending: [u8; 16]) -> bool
     requires { ts.count ≤ 8 }
     ensures { result ≡ any (matches_us (settings receiving sending)) (list_of ts) }
 {
-    let n = ts.count;
-    let list = ts.list;
-    let mut i: usize = 0;
-    while i < n {
-        let t = list[i];
-        if ours::matches_us(t, receiving, sending) {
-            return true;
-        }
-        i = i + 1;
-    }
-    false
+    ts.list[..ts.count]
+        .iter()
+        .any(|t| ours::matches_us(*t, receiving, sending))
 }
 
 // The targets that do not match us, in their order.
@@ -34,14 +25,9 @@ pub fn not_ours(ts: Targets, receiving: [u8; 16], sending: [u8; 16]) -> Targets
     requires { ts.count ≤ 8 }
     ensures { Kept (not_ours (settings receiving sending) (list_of ts)) result }
 {
-    let n = ts.count;
-    let list = ts.list;
     let mut kept = kept::nothing();
-    let mut i: usize = 0;
-    while i < n {
-        let t = list[i];
-        kept = kept::keep_if(kept, t, !ours::matches_us(t, receiving, sending));
-        i = i + 1;
+    for t in &ts.list[..ts.count] {
+        kept = kept::keep_if(kept, *t, !ours::matches_us(*t, receiving, sending));
     }
     kept
 }

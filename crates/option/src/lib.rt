@@ -47,17 +47,11 @@ pub fn next_option(msg: &[u8], at: usize) -> Next
 pub fn is_bad_option(kind: u8, body: &[u8]) -> bool
     ensures { result ≡ bad_option (option_of kind body.now) }
 {
-    if kind == 0x04 {
-        return option_body::is_bad_configuration(body);
+    match kind {
+        0x04 => option_body::is_bad_configuration(body),
+        0x0B => option_body::is_bad_route(body),
+        0x0C => option_body::is_bad_route(body),
+        0x0D => art::is_bad_art(body),
+        _ => false,
     }
-    if kind == 0x0B {
-        return option_body::is_bad_route(body);
-    }
-    if kind == 0x0C {
-        return option_body::is_bad_route(body);
-    }
-    if kind == 0x0D {
-        return art::is_bad_art(body);
-    }
-    false
 }

@@ -12,8 +12,7 @@ use plain::Target;
 fn does_match(t: Target, a: [u8; 16]) -> bool
     ensures { result ≡ matches t a }
 {
-    let prefix = t.addr;
-    address::do_agree(art::prefix_bits(t.plen), prefix, a)
+    address::do_agree(art::prefix_bits(t.plen), t.addr, a)
 }
 
 // Whether a target matches one of our addresses.
@@ -21,8 +20,5 @@ fn does_match(t: Target, a: [u8; 16]) -> bool
 pub fn matches_us(t: Target, receiving: [u8; 16], sending: [u8; 16]) -> bool
     ensures { result ≡ matches_us (settings receiving sending) t }
 {
-    if does_match(t, receiving) {
-        return true;
-    }
-    does_match(t, sending)
+    does_match(t, receiving) || does_match(t, sending)
 }

@@ -17,8 +17,7 @@ pub struct Own {
 pub fn receiving_of(o: Own) -> [u8; 16]
     ensures { result ≡ o.receiving }
 {
-    let a = o.receiving;
-    a
+    o.receiving
 }
 
 // Whether an address is our receiving or sending one.
@@ -26,12 +25,7 @@ pub fn receiving_of(o: Own) -> [u8; 16]
 pub fn is_ours(o: Own, a: [u8; 16]) -> bool
     ensures { result ≡ ours (settings_of o) a }
 {
-    let receiving = o.receiving;
-    if address::is_same(a, receiving) {
-        return true;
-    }
-    let sending = o.sending;
-    address::is_same(a, sending)
+    address::is_same(a, o.receiving) || address::is_same(a, o.sending)
 }
 
 // 10: H is 0 and one of our addresses differs from the DODAGID in the first Compr octets.
@@ -40,13 +34,6 @@ pub fn cannot_elide(o: Own, h: bool, compr: u8, dodagid: [u8; 16]) -> bool
     requires { compr ≤ 16 }
     ensures { result ≡ cannot_elide (settings_of o) h compr dodagid }
 {
-    if h {
-        return false;
-    }
-    let receiving = o.receiving;
-    if shared::shares_first(compr, dodagid, receiving) {
-        let sending = o.sending;
-        return !shared::shares_first(compr, dodagid, sending);
-    }
-    true
+    !h && !(shared::shares_first(compr, dodagid, o.receiving)
+        && shared::shares_first(compr, dodagid, o.sending))
 }

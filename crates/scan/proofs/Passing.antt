@@ -97,23 +97,23 @@ module _ {msg : List ℕ} {s : Scan} {at left : ℕ} {n : Next} (w : Turn (Passi
   pub scanned_cut : n ≡ Cut → any_bad (options_of msg) ≡ true
   scanned_cut e = sym w.inv.same ∙ rw (cut_next w e)
 
-  pub passing_pad : n ≡ Pad → Passing msg s (at + 1) (left - 1)
-  passing_pad e = record {
+  pub passing_pad : {more : ℕ} → n ≡ Pad → more ≡ left - 1 → Passing msg s (at + 1) more
+  passing_pad e m = rw m (record {
     bad = w.inv.bad;
     same = sym (ap any_bad (pad_next w e)) ∙ w.inv.same;
     ahead = λ all rest p q. w.inv.ahead all rest p (pad_next w e ∙ q);
-  }
+  })
 
   module _ {kind start end : ℕ} (e : n ≡ Body kind start end) where
     pub bad_body : bad_option (option_of kind (part_of msg start end)) ≡ true → any_bad (options_of msg) ≡ true
     bad_body b = sym w.inv.same ∙ ap any_bad (body_next w e) ∙ bad_first _ (options_in (left - 1) (drop end msg)) b
 
-    pub passing_body : {r : Scan} → bad_option (option_of kind (part_of msg start end)) ≡ false → OptionTaken kind start end s r
-        → Passing msg r end (left - 1)
-    passing_body g t = let p = body_placed w e in record {
+    pub passing_body : {r : Scan} {more : ℕ} → bad_option (option_of kind (part_of msg start end)) ≡ false → OptionTaken kind start end s r
+        → more ≡ left - 1 → Passing msg r end more
+    passing_body g t m = let p = body_placed w e in rw m (record {
       bad = t.bad ∙ w.inv.bad;
       same = sym (ap any_bad (body_next w e) ∙ right_first _ (options_in (left - 1) (drop end msg)) g) ∙ w.inv.same;
       ahead = λ all rest a q.
           t.ahead msg all rest (record { order = p.0; short = p.1; within = p.2; good = g })
           (w.inv.ahead all _ a (body_next w e ∙ rw q));
-    }
+    })

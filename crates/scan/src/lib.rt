@@ -37,11 +37,7 @@ fn noted(f: Found, start: usize, end: usize) -> Found
             end,
         };
     }
-    Found {
-        count: 2,
-        start: f.start,
-        end: f.end,
-    }
+    Found { count: 2, ..f }
 }
 
 // What a pass has found after one more option. Most types are none of these four.
@@ -50,20 +46,12 @@ fn with_option(s: Scan, kind: u8, start: usize, end: usize) -> Scan
     ensures { OptionTaken kind start end s result }
 {
     let mut r = s;
-    if kind == 0x04 {
-        r.configuration = noted(s.configuration, start, end);
-        return r;
-    }
-    if kind == 0x0B {
-        r.rreq = noted(s.rreq, start, end);
-        return r;
-    }
-    if kind == 0x0C {
-        r.rrep = noted(s.rrep, start, end);
-        return r;
-    }
-    if kind == 0x0D {
-        r.art = noted(s.art, start, end);
+    match kind {
+        0x04 => r.configuration = noted(s.configuration, start, end),
+        0x0B => r.rreq = noted(s.rreq, start, end),
+        0x0C => r.rrep = noted(s.rrep, start, end),
+        0x0D => r.art = noted(s.art, start, end),
+        _ => {}
     }
     r
 }
@@ -88,9 +76,7 @@ fn fresh() -> Scan
 fn malformed(s: Scan) -> Scan
     ensures { result.bad ≡ true }
 {
-    let mut r = s;
-    r.bad = true;
-    r
+    Scan { bad: true, ..s }
 }
 
 // All options of a message, each read in its turn. The pass ends at the first bad one.
@@ -100,9 +86,7 @@ pub fn read_options(msg: &[u8]) -> Scan
 {
     let mut s = fresh();
     let mut at: usize = 24;
-    let mut left = msg.len();
-    while 0 < left {
-        left = left - 1;
+    for _ in 0..msg.len() {
         match option::next_option(msg, at) {
             Next::Pad => {
                 at = at + 1;

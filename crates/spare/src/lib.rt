@@ -11,11 +11,8 @@ use plain::Target;
 pub fn whole_bits(t: Target) -> Target
     ensures { result ≡ whole_bits t }
 {
-    let given = t.addr;
-    let kept = address::first_bits(art::prefix_bits(t.plen), given);
     Target {
-        seq: t.seq,
-        plen: t.plen,
-        addr: kept,
+        addr: address::first_bits(art::prefix_bits(t.plen), t.addr),
+        ..t
     }
 }

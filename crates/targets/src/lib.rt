@@ -3,7 +3,7 @@
 
 ghost use Rattle.std.specs.Prelude.{◌≡◌, replicate};
 ghost use Rattle.plain.specs.Blank.{no_target};
-ghost use Rattle.targets.specs.Collected.{place_for, counted, none_yet};
+ghost use Rattle.targets.specs.Collected.{place_for, counted, none_yet, targets_in};
 
 use plain::Target;
 
@@ -35,13 +35,10 @@ pub fn counted(c: Count, at: usize) -> Count
     ensures { result ≡ counted c at }
 {
     if at < 8 {
-        return Count {
-            over: c.over,
-            n: at + 1,
-        };
+        return Count { n: at + 1, ..c };
     }
     if at == 8 {
-        return Count { over: true, n: c.n };
+        return Count { over: true, ..c };
     }
     c
 }
@@ -63,4 +60,15 @@ pub fn none_yet() -> Count
     ensures { result ≡ none_yet }
 {
     Count { over: false, n: 0 }
+}
+
+// The targets that are collected in a list.
+pub fn targets_in(list: [Target; 8], c: Count) -> Targets
+    ensures { result ≡ targets_in list c }
+{
+    Targets {
+        over: c.over,
+        count: c.n,
+        list,
+    }
 }

@@ -55,6 +55,7 @@ returns-then-is_reply c =
     rw (c.prefix_length.ensures, ← (c.requires.told c.if-s.false).art.body (art r))
     (rw (le-ltb 1 c.args.s.configuration.count (omega arith), reply r) at (asks (goal.at.returns-then-is_reply c).Else-s))
 
-pub returns : goal.returns
-returns c =
-    rw (le-ltb 1 c.args.s.configuration.count (omega arith), sym (c.is_reply.ensures _ (outlined (goal.at.returns c).Else-s)) ∙ c.if-is_reply.false) at (asks (goal.at.returns c).Else-s)
+pub returns-else-is_reply : goal.returns-else-is_reply
+returns-else-is_reply c =
+    c.if-is_reply.false
+    ∙ rw (le-ltb 1 c.args.s.configuration.count (omega arith), sym (c.is_reply.ensures _ (outlined (goal.at.returns-else-is_reply c).Else-s)) ∙ c.if-is_reply.false) at (asks (goal.at.returns-else-is_reply c).Else-s)

@@ -1,9 +1,10 @@
 use mathlib.Core.Path.{refl}
+use native.Mathlib.Omega.{arith}
 use Rattle.scan.proofs.Laws.{seen_other, noted_as, apart}
 use Rattle.scan.proofs.with_option.Goals as goal
 
-pub returns-then-kind-eq4 : goal.returns-then-kind-eq4
-returns-then-kind-eq4 c = let h = c.if-kind-eq4.true in record {
+pub returns-in-4 : goal.returns-in-4
+returns-in-4 c = let h = c.in-4.is in record {
   bad = refl;
   ahead = λ msg all rest w v. record {
     configuration = noted_as h c.noted-r.ensures msg all rest w v.configuration;
@@ -13,46 +14,46 @@ returns-then-kind-eq4 c = let h = c.if-kind-eq4.true in record {
   };
 }
 
-pub returns-then-kind-eq11 : goal.returns-then-kind-eq11
-returns-then-kind-eq11 c = let h = c.if-kind-eq11.true in record {
+pub returns-in-11 : goal.returns-in-11
+returns-in-11 c = let h = c.in-11.is in record {
   bad = refl;
   ahead = λ msg all rest w v. record {
     configuration = seen_other w v.configuration (apart 11 4 refl _ h);
-    rreq = noted_as h c.noted-r-then-kind-eq11.ensures msg all rest w v.rreq;
+    rreq = noted_as h c.noted-r-in-11.ensures msg all rest w v.rreq;
     rrep = seen_other w v.rrep (apart 11 12 refl _ h);
     art = seen_other w v.art (apart 11 13 refl _ h);
   };
 }
 
-pub returns-then-kind-eq12 : goal.returns-then-kind-eq12
-returns-then-kind-eq12 c = let h = c.if-kind-eq12.true in record {
+pub returns-in-12 : goal.returns-in-12
+returns-in-12 c = let h = c.in-12.is in record {
   bad = refl;
   ahead = λ msg all rest w v. record {
     configuration = seen_other w v.configuration (apart 12 4 refl _ h);
     rreq = seen_other w v.rreq (apart 12 11 refl _ h);
-    rrep = noted_as h c.noted-r-then-kind-eq12.ensures msg all rest w v.rrep;
+    rrep = noted_as h c.noted-r-in-12.ensures msg all rest w v.rrep;
     art = seen_other w v.art (apart 12 13 refl _ h);
   };
 }
 
-pub returns-then-kind-eq13 : goal.returns-then-kind-eq13
-returns-then-kind-eq13 c = let h = c.if-kind-eq13.true in record {
+pub returns-in-13 : goal.returns-in-13
+returns-in-13 c = let h = c.in-13.is in record {
   bad = refl;
   ahead = λ msg all rest w v. record {
     configuration = seen_other w v.configuration (apart 13 4 refl _ h);
     rreq = seen_other w v.rreq (apart 13 11 refl _ h);
     rrep = seen_other w v.rrep (apart 13 12 refl _ h);
-    art = noted_as h c.noted-r-then-kind-eq13.ensures msg all rest w v.art;
+    art = noted_as h c.noted-r-in-13.ensures msg all rest w v.art;
   };
 }
 
-pub returns-else-kind-eq13 : goal.returns-else-kind-eq13
-returns-else-kind-eq13 c = record {
+pub returns-in_default : goal.returns-in_default
+returns-in_default c = record {
   bad = refl;
   ahead = λ msg all rest w v. record {
-    configuration = seen_other w v.configuration c.if-kind-eq4.false;
-    rreq = seen_other w v.rreq c.if-kind-eq11.false;
-    rrep = seen_other w v.rrep c.if-kind-eq12.false;
-    art = seen_other w v.art c.if-kind-eq13.false;
+    configuration = seen_other w v.configuration (λ e. omega arith);
+    rreq = seen_other w v.rreq (λ e. omega arith);
+    rrep = seen_other w v.rrep (λ e. omega arith);
+    art = seen_other w v.art (λ e. omega arith);
   };
 }
