@@ -20,17 +20,9 @@ pub fn wrong_state() -> Answer
 pub fn is_wrong(instances: &[InstanceRow], routes: &[RouteRow], clock: u64, seq: u8) -> bool
     ensures { result ≡ wrong_state (good_state (state_of clock seq instances.now routes.now)) (view_of (state_of clock seq instances.now routes.now)) }
 {
-    if seq == 0 {
-        return true;
-    }
-    if table::all_good(instances) {
-        if table::all_good_routes(routes) {
-            if twins::has_twins(instances, clock) {
-                return true;
-            }
-            return route_twins::has_twins_route(routes, clock);
-        }
-        return true;
-    }
-    true
+    seq == 0
+        || !table::all_good(instances)
+        || !table::all_good_routes(routes)
+        || twins::has_twins(instances, clock)
+        || route_twins::has_twins_route(routes, clock)
 }
