@@ -1,4 +1,4 @@
-use Rattle.std.proofs.Common.{ℕ, ◌<◌, ◌%◌, arith}
+use Rattle.std.proofs.Common.{◌%◌, arith}
 use Rattle.slot.proofs.Laws.{scaled}
 use Rattle.slot.proofs.slot_of.Goals as goal
 

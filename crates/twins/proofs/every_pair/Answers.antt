@@ -1,6 +1,5 @@
 use Rattle.std.proofs.Common.{eqb, take, sym, ◌∙◌, rules}
 use borrow.Author.Tests.{eq-eqb}
-use Rattle.lemmas.proofs.Choice.{cond_true}
 use Rattle.key.specs.Pair.{twins_by}
 use Rattle.key.proofs.Any.{two_start, two_hit, two_more, any_less}
 use Rattle.key.proofs.Plain.{twins_are}
