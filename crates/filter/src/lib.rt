@@ -1,8 +1,109 @@
-// The filter that the search for twins goes by: the words in which the hash of a key has its bits.
+// The filter that the search for twins goes by: the words in which the hash of a key has its bits. And a row of either table, as the search asks
+// for it.
 #![tactic(auto)]
 
-ghost use Rattle.std.specs.Prelude.{◌≡◌, ◌<◌};
+ghost use Rattle.std.specs.Prelude.{◌≡◌, ◌<◌, ℕ, Bool, true};
+ghost use Rattle.plain.specs.Table.{live, instance_deadline, route_deadline};
+ghost use Rattle.row.specs.Meaning.{instance_of, route_of};
+ghost use Rattle.key.specs.Pair.{same_key, ending_of, twins_by};
+ghost use Rattle.key.proofs.Plain.{row_ended};
+ghost use Rattle.route_key.specs.Pair.{same_three};
+ghost use Rattle.route_key.proofs.Plain.{route_ended};
+ghost use Rattle.hash.specs.Hash.{hash_row, hash_route};
+ghost use Rattle.hash.proofs.Keyed.{row_hashed, route_hashed};
 ghost use Rattle.filter.specs.Filter.{bits_of, maybe_of, marked_of};
+
+use row::{InstanceRow, RouteRow};
+
+// A row that has a key, and is live or not.
+pub trait Keyed: Copy {
+    ghost key: { Self → Self → Bool };
+
+    ghost live: { ℕ → Self → Bool };
+
+    ghost hash: { Self → ℕ };
+
+    // the last octet of an address of the key
+    ghost ending: { Self → ℕ };
+
+    ghost hashed: { (a b : Self) → key a b ≡ true → hash a ≡ hash b };
+
+    ghost ended: { (a b : Self) → key a b ≡ true → ending a ≡ ending b };
+
+    fn are_twins(self, b: Self, t: u64) -> bool
+        ensures { result ≡ twins_by key (live t) self b };
+
+    fn is_live(self, t: u64) -> bool
+        ensures { result ≡ live t self };
+
+    fn hash(self) -> u64
+        ensures { result ≡ hash self };
+
+    fn ending(self) -> u8
+        ensures { result ≡ ending self };
+}
+
+impl Keyed for InstanceRow {
+    ghost key = { same_key };
+
+    ghost live = { λ t r. live instance_deadline t (instance_of r) };
+
+    ghost hash = { hash_row };
+
+    ghost ending = { λ r. ending_of r.dodagid };
+
+    ghost hashed = { row_hashed };
+
+    ghost ended = { row_ended };
+
+    fn are_twins(self, b: InstanceRow, t: u64) -> bool {
+        key::are_twins(self, b, t)
+    }
+
+    fn is_live(self, t: u64) -> bool {
+        live::is_live(self, t)
+    }
+
+    fn hash(self) -> u64 {
+        hash::hash_row(self)
+    }
+
+    fn ending(self) -> u8 {
+        key::ending(self)
+    }
+}
+
+impl Keyed for RouteRow {
+    ghost key = { same_three };
+
+    ghost live = { λ t r. live route_deadline t (route_of r) };
+
+    ghost hash = { hash_route };
+
+    ghost ending = { λ r. ending_of r.destination };
+
+    ghost hashed = { route_hashed };
+
+    ghost ended = { route_ended };
+
+    fn are_twins(self, b: RouteRow, t: u64) -> bool {
+        route_key::are_twin_routes(self, b, t)
+    }
+
+    fn is_live(self, t: u64) -> bool {
+        live::is_live_route(self, t)
+    }
+
+    fn hash(self) -> u64 {
+        hash::hash_route(self)
+    }
+
+    fn ending(self) -> u8 {
+        route_key::route_ending(self)
+    }
+}
+
+// ---- the words
 
 // The five bits are told by other parts of the hash than the word is (crates/slot).
 #[tactic(auto, using(lemmas::proofs::Cases::cases), unfolding(crate::specs::Filter::bits_of))]
@@ -21,45 +122,19 @@ fn bits_of(h: u64) -> u64
 pub fn maybe(on: bool, w: u64, h: u64) -> bool
     ensures { result ≡ maybe_of on w h }
 {
-    if on {
-        let b = bits_of(h);
-        return w | b == w;
-    }
-    false
+    on && w | bits_of(h) == w
 }
 
 #[tactic(auto, using(lemmas::proofs::Cases::cases), unfolding(crate::specs::Filter::marked_of))]
 pub fn marked(on: bool, w: u64, h: u64) -> u64
     ensures { result ≡ marked_of on w h }
 {
-    if on {
-        let b = bits_of(h);
-        return w | b;
-    }
-    w
+    if on { w | bits_of(h) } else { w }
 }
 
 // One class for each 4,096 rows, up to 64. Any mask gives the same answer, so no clause says which.
 pub fn mask_for(n: usize) -> u64
     ensures { result < 65536 }
 {
-    if n <= 4096 {
-        return 0;
-    }
-    if n <= 8192 {
-        return 1;
-    }
-    if n <= 16384 {
-        return 3;
-    }
-    if n <= 32768 {
-        return 7;
-    }
-    if n <= 65536 {
-        return 15;
-    }
-    if n <= 131072 {
-        return 31;
-    }
-    63
+    n.div_ceil(4096).clamp(1, 64).next_power_of_two() as u64 - 1
 }

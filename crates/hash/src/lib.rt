@@ -1,24 +1,17 @@
 // The hash of a key, for the filter that the search for twins goes by.
 #![tactic(auto)]
 
-ghost use Rattle.std.specs.Prelude.{◌≡◌, ◌+◌, ◌*◌};
-ghost use Rattle.hash.specs.Hash.{quad_of, mix_of, spread_of, finish_of, hash_address, hash_row, hash_route};
+ghost use Rattle.std.specs.Prelude.{◌≡◌};
+ghost use Rattle.hash.specs.Hash.{mix_of, spread_of, finish_of, hash_address, hash_row, hash_route};
 
 use row::{InstanceRow, RouteRow};
 
-#[tactic(auto, using(lemmas::proofs::Cases::cases), unfolding(crate::specs::Hash::quad_of))]
-fn quad(a: u8, b: u8, c: u8, d: u8) -> u32
-    ensures { result ≡ quad_of a b c d }
-{
-    a as u32 + b as u32 * 256 + c as u32 * 65536 + d as u32 * 16777216
-}
-
-// Products of 32 bits by 32 bits: std has no product that wraps.
+// Products of 32 bits by 32 bits fit: none wraps.
 #[tactic(auto, using(lemmas::proofs::Cases::cases), unfolding(crate::specs::Hash::spread_of))]
 fn spread(a: u32, b: u32) -> u64
     ensures { result ≡ spread_of a b }
 {
-    a as u64 * 2654435769 ^ b as u64 * 2246822519
+    u64::from(a) * 2654435769 ^ u64::from(b) * 2246822519
 }
 
 // The words are first put together in pairs, since products cost most. In most addresses one word of a pair is part of a prefix that all
@@ -27,7 +20,7 @@ fn spread(a: u32, b: u32) -> u64
 fn mix(k: u16, a: u32, b: u32, c: u32, d: u32) -> u64
     ensures { result ≡ mix_of k a b c d }
 {
-    spread(a ^ d ^ k as u32, b ^ c)
+    spread(a ^ d ^ u32::from(k), b ^ c)
 }
 
 // The middle bits of the products, spread once more.
@@ -38,30 +31,23 @@ fn finish(x: u64) -> u64
     x / 65536 % 4294967296 * 2654435769
 }
 
-#[tactic(auto, using(lemmas::proofs::Cases::cases), unfolding(crate::specs::Hash::hash_address))]
+#[tactic(auto, using(lemmas::proofs::Cases::cases), unfolding(crate::specs::Hash::hash_address, crate::specs::Hash::quad_of))]
 fn hash_address(k: u16, d: [u8; 16]) -> u64
     ensures { result ≡ hash_address k d }
 {
-    let a = quad(d[0], d[1], d[2], d[3]);
-    let b = quad(d[4], d[5], d[6], d[7]);
-    let c = quad(d[8], d[9], d[10], d[11]);
-    let e = quad(d[12], d[13], d[14], d[15]);
+    let a = u32::from_le_bytes([d[0], d[1], d[2], d[3]]);
+    let b = u32::from_le_bytes([d[4], d[5], d[6], d[7]]);
+    let c = u32::from_le_bytes([d[8], d[9], d[10], d[11]]);
+    let e = u32::from_le_bytes([d[12], d[13], d[14], d[15]]);
     mix(k, a, b, c, e)
-}
-
-fn pair(a: u8, b: u8) -> u16
-    ensures { result ≡ a + b * 256 }
-{
-    a as u16 + b as u16 * 256
 }
 
 #[tactic(auto, using(lemmas::proofs::Cases::cases))]
 pub fn hash_row(r: InstanceRow) -> u64
     ensures { result ≡ hash_row r }
 {
-    let d = r.dodagid;
-    let k = pair(r.kind, r.instance);
-    finish(hash_address(k, d))
+    let k = u16::from_le_bytes([r.kind, r.instance]);
+    finish(hash_address(k, r.dodagid))
 }
 
 // The two addresses count in different ways, so that a route and its way back have two hashes.
@@ -69,9 +55,7 @@ pub fn hash_row(r: InstanceRow) -> u64
 pub fn hash_route(r: RouteRow) -> u64
     ensures { result ≡ hash_route r }
 {
-    let s = r.source;
-    let d = r.destination;
-    let x = hash_address(r.instance as u16, s);
-    let y = hash_address(0, d);
+    let x = hash_address(u16::from(r.instance), r.source);
+    let y = hash_address(0, r.destination);
     finish(x ^ y / 2048)
 }

@@ -1,6 +1,6 @@
 -- `any` and `any_two` place by place, and at a loop that goes through the list.
 use Prim.Native.Nat.{ℕ, zero, suc, ◌+◌, ◌<◌, ◌≤◌}
-use mathlib.Core.Path.{◌≡◌, refl, sym, ◌∙◌}
+use mathlib.Core.Path.{◌≡◌, refl, sym, ap, ◌∙◌}
 use mathlib.Core.Bool.{Bool, true, false, ◌||◌, or-false}
 use mathlib.Core.List.{List, [], ◌∷◌, ◌++◌}
 use native.Mathlib.Omega.{arith}
@@ -80,21 +80,23 @@ module _ {A : Type 0} (p : A → A → Bool) where
   unfolding any_two
   two_start xs = refl
 
-  pub two_more : (xs : List A) (j : ℕ) (d : A) → j < length xs → any_two p (take j xs) ≡ false
-      → any (λ (x : A). p x (get_or xs j d)) (take j xs) ≡ false → any_two p (take (j + 1) xs) ≡ false
-  two_more xs j d h e f =
-      rw (add-one, take-suc xs j d h, two_snoc (take j xs) (get_or xs j d))
-      (or_neither (any_two p (take j xs)) (any (λ (x : A). p x (get_or xs j d)) (take j xs)) e f)
+  -- .. and r is the row at j
+  module _ (xs : List A) (j : ℕ) (r : A) (low : j < length xs) (at : r ≡ get_or xs j r) where
+    to_row : take (suc j) xs ≡ take j xs ++ (r ∷ [])
+    to_row = take-suc xs j r low ∙ ap (λ y. take j xs ++ (y ∷ [])) (sym at)
 
-  pub two_hit : (xs : List A) (j : ℕ) (d : A) → j < length xs → any (λ (x : A). p x (get_or xs j d)) (take j xs) ≡ true → any_two p xs ≡ true
-  two_hit xs j d h e = so (any_two p xs) none_so
-    where
-      none_so : any_two p xs ≡ false → ⊥
-      none_so n =
-          let f : any_two p (take (suc j) xs) ≡ false = two_front (take (suc j) xs) (drop (suc j) xs) (rw (take-append-drop (suc j) xs) n) in
-          let g : any_two p (take j xs ++ (get_or xs j d ∷ [])) ≡ false = rw (take-suc xs j d h) at f in
-          true_false (sym e ∙ or_right (any_two p (take j xs)) (any (λ (x : A). p x (get_or xs j d)) (take j xs))
-          (sym (two_snoc (take j xs) (get_or xs j d)) ∙ g))
+    pub two_more : any_two p (take j xs) ≡ false → any (λ (x : A). p x r) (take j xs) ≡ false → any_two p (take (j + 1) xs) ≡ false
+    two_more e f =
+        rw (add-one, to_row, two_snoc (take j xs) r) (or_neither (any_two p (take j xs)) (any (λ (x : A). p x r) (take j xs)) e f)
+
+    pub two_hit : any (λ (x : A). p x r) (take j xs) ≡ true → any_two p xs ≡ true
+    two_hit e = so (any_two p xs) none_so
+      where
+        none_so : any_two p xs ≡ false → ⊥
+        none_so n =
+            let f : any_two p (take (suc j) xs) ≡ false = two_front (take (suc j) xs) (drop (suc j) xs) (rw (take-append-drop (suc j) xs) n) in
+            let g : any_two p (take j xs ++ (r ∷ [])) ≡ false = rw to_row at f in
+            true_false (sym e ∙ or_right (any_two p (take j xs)) (any (λ (x : A). p x r) (take j xs)) (sym (two_snoc (take j xs) r) ∙ g))
 
   pub two_end : (xs : List A) (j : ℕ) → length xs ≤ j → any_two p (take j xs) ≡ false → any_two p xs ≡ false
   two_end xs j h e = rw (take_all j xs h) at e

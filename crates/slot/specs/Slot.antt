@@ -4,11 +4,9 @@ use Rattle.std.specs.Int.Bits.{bit_and}
 
 -- ---- the words
 
-unfoldable pub few_slot_of : ℕ → ℕ
-few_slot_of h = h % 4294967296 / 67108864
-
-unfoldable pub slot_of : ℕ → ℕ
-slot_of h = h % 4294967296 * 3 / 8388608
+-- the word of n, by the low half of the hash
+unfoldable pub slot_of : ℕ → ℕ → ℕ
+slot_of n h = h % 4294967296 * n / 4294967296
 
 -- ---- the passes
 

@@ -16,21 +16,13 @@ pub fn wrong_state() -> Answer
 }
 
 // 2, asked of every call: own number 0, a row in use that is wrong, two live rows of one key.
-#[tactic(auto, using(lemmas::proofs::Cases::cases, crate::proofs::Laws::wrong_own, crate::proofs::Laws::wrong_left, crate::proofs::Laws::wrong_right, crate::proofs::Laws::wrong_pair, crate::proofs::Laws::wrong_last, crate::proofs::Laws::and_are))]
+#[tactic(auto, using(lemmas::proofs::Cases::cases))]
 pub fn is_wrong(instances: &[InstanceRow], routes: &[RouteRow], clock: u64, seq: u8) -> bool
     ensures { result ≡ wrong_state (good_state (state_of clock seq instances.now routes.now)) (view_of (state_of clock seq instances.now routes.now)) }
 {
-    if seq == 0 {
-        return true;
-    }
-    if table::all_good(instances) {
-        if table::all_good_routes(routes) {
-            if twins::has_twins(instances, clock) {
-                return true;
-            }
-            return route_twins::has_twins_route(routes, clock);
-        }
-        return true;
-    }
-    true
+    seq == 0
+        || !table::all_good(instances)
+        || !table::all_good_routes(routes)
+        || twins::has_twins(instances, clock)
+        || route_twins::has_twins_route(routes, clock)
 }

@@ -1,36 +1,31 @@
-use Prim.Native.Nat.{◌-◌}
-use mathlib.Core.Path.{sym, ap, ◌∙◌}
-use lib.Dec.{eqb}
-use lib.ListN.{get_or, take}
-use Rattle.row.specs.declared.InstanceRow.{InstanceRow}
-use Rattle.row.specs.Meaning.{no_row}
-use Rattle.key.specs.Pair.{same_key, twin_rows, ending_of, twins_by}
-use Rattle.key.proofs.Any.{two_start, two_hit, two_more, any_less}
-use Rattle.lemmas.proofs.Choice.{cond_true}
-use Rattle.key.proofs.Plain.{key_parts}
-use borrow.Author.Rules.{rules}
+use Rattle.std.proofs.Common.{eqb, take, sym, ◌∙◌, rules}
 use borrow.Author.Tests.{eq-eqb}
-use Rattle.twins.proofs.every_pair.Goals.{then-has_ending+else-scan, else-has_ending}
+use Rattle.key.specs.Pair.{twins_by}
+use Rattle.key.proofs.Any.{two_start, two_hit, two_more, any_less}
+use Rattle.key.proofs.Plain.{twins_are}
+use Rattle.twins.proofs.every_pair.Goals.{else-has_ending-via-then-has_ending+else-scan, else-has_ending-via-else-has_ending}
 use Rattle.twins.proofs.every_pair.Goals as goal
 
 pub loop-j-init : goal.loop-j-init
-loop-j-init c = (search rules, two_start (twin_rows c.args.t) c.args.rows.now)
+loop-j-init g c = let m = g.R.Keyed in (search rules, two_start (twins_by m.key (m.live c.args.t)) c.args.rows.now)
 
 pub returns-then-scan : goal.returns-then-scan
-returns-then-scan c = let a = c.args in
-    let l = c.loop-j in
-    sym (two_hit (twin_rows a.t) a.rows.now l.j no_row (search rules) (sym c.scan.ensures ∙ c.if-scan.true))
+returns-then-scan g c =
+    let m = g.R.Keyed in
+    let a = c.args in
+    sym (two_hit (twins_by m.key (m.live a.t)) a.rows.now c.loop-j.j c.index-rows-j.result (search rules) c.index-rows-j.is (sym c.scan.ensures ∙ c.if-scan.true))
 
 pub loop-j-preserved : goal.loop-j-preserved
-unfolding twins_by
-loop-j-preserved c = let a = c.args in
+loop-j-preserved g c =
+    let m = g.R.Keyed in
+    let a = c.args in
     let l = c.loop-j in
-    let row = get_or a.rows.now l.j no_row in (
+    let row = c.index-rows-j.result in (
       search rules,
-      two_more (twin_rows a.t) a.rows.now l.j no_row (search rules) l.invariant.1
-          (elim c.if-has_ending.branch [
-            | then-has_ending+else-scan w ↦ sym w.scan.ensures ∙ w.if-scan.false
-            | else-has_ending w ↦ any_less (λ (x : InstanceRow). twin_rows a.t x row) (λ (x : InstanceRow). eqb (ending_of x.dodagid) (ending_of row.dodagid))
-                (λ x e. eq-eqb _ _ (ap ending_of (key_parts x row (cond_true (same_key x row) _ e).0).2)) (take l.j a.rows.now) (sym c.has_ending.ensures ∙ w.if-has_ending.false)
+      two_more (twins_by m.key (m.live a.t)) a.rows.now l.j row (search rules) c.index-rows-j.is l.invariant.1
+          (elim c.else-has_ending.branch [
+            | else-has_ending-via-then-has_ending+else-scan w ↦ sym w.scan.ensures ∙ w.if-scan.false
+            | else-has_ending-via-else-has_ending w ↦ any_less (λ x. twins_by m.key (m.live a.t) x row) (λ x. eqb (m.ending x) (m.ending row))
+                (λ x e. eq-eqb _ _ (m.ended x row (twins_are m.key (m.live a.t) x row e).0)) (take l.j a.rows.now) (sym (rw c.ending.ensures at c.has_ending.ensures) ∙ w.if-has_ending.false)
           ]),
     )

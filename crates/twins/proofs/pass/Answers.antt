@@ -1,42 +1,28 @@
-use Rattle.row.specs.Meaning.{no_row}
-use Rattle.std.proofs.lemmas.List.{get_or_default}
-use Rattle.filter.proofs.Joins.{row_table}
-use Prim.Native.Nat.{◌-◌}
-use mathlib.Core.Path.{sym, ◌∙◌}
+use Rattle.std.proofs.Common.{sym, ◌∙◌, rules}
+use lib.ListN.{length-replicate}
 use Rattle.slot.specs.Slot.{slot_of}
-use Rattle.filter.proofs.Filter.{passed_none, passed_hit, passed_more, asked, unasked}
-use borrow.Author.Rules.{rules}
-use Rattle.twins.proofs.pass.Goals.{then-maybe+else-scan, else-maybe}
+use Rattle.filter.proofs.Filter.{table, passed_none, passed_hit, passed_more, asked, unasked}
+use Rattle.twins.proofs.pass.Goals.{else-maybe-via-then-maybe+else-scan, else-maybe-via-else-maybe}
 use Rattle.twins.proofs.pass.Goals as goal
 
 pub loop-j-init : goal.loop-j-init
-loop-j-init c = passed_none slot_of (row_table c.args.t) c.args.mask c.args.p c.args.rows.now 1536 _ (search rules)
+loop-j-init g c =
+    let m = g.R.Keyed in
+    let a = c.args in
+    passed_none (slot_of g.row.N) (table m.key (m.live a.t) m.hash m.hashed) a.mask a.p a.rows.now g.row.N _ (length-replicate g.row.N 0)
 
 pub returns-then-scan : goal.returns-then-scan
-returns-then-scan c = let a = c.args in
-    let l = c.loop-j in
-    let h = c.hash_row-h in
-    let he = rw (get_or_default a.rows.now l.j _ no_row (search rules)) at h.ensures in
-    let v = c.is_live in
-    let ve = rw (get_or_default a.rows.now l.j _ no_row (search rules)) at v.ensures in
-    let o = c.is_chosen-on in
-    let s = c.slot_of-s in
-    let m = c.maybe in
-    let e = c.scan in
-    sym (passed_hit slot_of (row_table a.t) a.mask a.p a.rows.now l.j h.result s.result v.result o.result m.result l.words (search rules) he ve o.ensures s.ensures.value m.ensures e.result c.if-maybe.true e.ensures c.if-scan.true)
+returns-then-scan g c =
+    let m = g.R.Keyed in
+    let a = c.args in
+    sym (passed_hit (slot_of g.row.N) (table m.key (m.live a.t) m.hash m.hashed) a.mask a.p a.rows.now c.loop-j.j c.hash-h.result c.slot_of-s.result c.is_live.result c.is_chosen-on.result c.maybe.result c.loop-j.words c.index-rows-j.result (search rules) c.index-rows-j.is c.hash-h.ensures c.is_live.ensures c.is_chosen-on.ensures c.slot_of-s.ensures.value c.maybe.ensures c.scan.result c.if-maybe.true c.scan.ensures c.if-scan.true)
 
 pub loop-j-preserved : goal.loop-j-preserved
-loop-j-preserved c = let a = c.args in
-    let l = c.loop-j in
-    let h = c.hash_row-h in
-    let he = rw (get_or_default a.rows.now l.j _ no_row (search rules)) at h.ensures in
-    let v = c.is_live in
-    let ve = rw (get_or_default a.rows.now l.j _ no_row (search rules)) at v.ensures in
-    let o = c.is_chosen-on in
-    let s = c.slot_of-s in
-    let m = c.maybe in
-    passed_more slot_of (row_table a.t) a.mask a.p a.rows.now l.j h.result s.result v.result o.result m.result l.words (search rules) he ve o.ensures s.ensures.value m.ensures 1536 c.marked.result l.invariant (search rules)
-    (elim c.if-maybe.branch [
-      | then-maybe+else-scan w ↦ asked m.result w.scan.result _ w.if-maybe.true w.scan.ensures ∙ w.if-scan.false
-      | else-maybe w ↦ unasked m.result _ w.if-maybe.false
+loop-j-preserved g c =
+    let m = g.R.Keyed in
+    let a = c.args in
+    passed_more (slot_of g.row.N) (table m.key (m.live a.t) m.hash m.hashed) a.mask a.p a.rows.now c.loop-j.j c.hash-h.result c.slot_of-s.result c.is_live.result c.is_chosen-on.result c.maybe.result c.loop-j.words c.index-rows-j.result (search rules) c.index-rows-j.is c.hash-h.ensures c.is_live.ensures c.is_chosen-on.ensures c.slot_of-s.ensures.value c.maybe.ensures g.row.N c.marked.result c.loop-j.invariant (search rules)
+    (elim c.else-maybe.branch [
+      | else-maybe-via-then-maybe+else-scan w ↦ asked c.maybe.result w.scan.result _ w.if-maybe.true w.scan.ensures ∙ w.if-scan.false
+      | else-maybe-via-else-maybe w ↦ unasked c.maybe.result _ w.if-maybe.false
     ]) c.marked.ensures

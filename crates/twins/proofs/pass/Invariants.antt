@@ -1,12 +1,8 @@
-use Rattle.filter.proofs.Joins.{row_table}
-use Prim.Native.Nat.{◌-◌}
-use lib.ListN.{length}
 use Rattle.slot.specs.Slot.{slot_of}
-use Rattle.filter.proofs.Filter.{Passed}
+use Rattle.filter.proofs.Filter.{table, Passed}
 use Rattle.twins.proofs.pass.Given as goal
 
 abbrev pub invariant-loop-j : goal.invariant-loop-j
-invariant-loop-j l = Passed slot_of (row_table l.t) l.mask l.p l.rows 1536 l.j l.words
-
-abbrev pub decreases-loop-j : goal.decreases-loop-j
-decreases-loop-j l = length l.rows - l.j
+invariant-loop-j g l =
+    let m = g.R.Keyed in
+    Passed (slot_of g.row.N) (table m.key (m.live l.t) m.hash m.hashed) l.mask l.p l.rows g.row.N l.j l.words
