@@ -1,6 +1,9 @@
 // What the programs' lines are made of: octets in hexadecimal, targets. And what fills a buffer from their input.
 #![tactic(auto)]
 
+ghost use Rattle.std.specs.Prelude.{◌≡◌, IfOk, IsTrue};
+ghost use Rattle.std.specs.Io.KnownBytes.{Consumes};
+
 use plain::Target;
 use std::fmt;
 use std::io;
@@ -33,7 +36,9 @@ impl<'a> fmt::Display for Targets<'a> {
 }
 
 // Fills a buffer: whether the input had as many octets. An input that ends is no error.
-pub fn read_full<R: Read>(input: &mut R, buf: &mut [u8]) -> io::Result<bool> {
+pub fn read_full<R: Read>(input: &mut R, buf: &mut [u8]) -> io::Result<bool>
+    ensures { IfOk result (λ whole. IsTrue whole → Consumes (R.remaining input.old) (R.remaining input.new) buf.new) }
+{
     match input.read_exact(buf) {
         Ok(()) => Ok(true),
         Err(e) if e.kind() == ErrorKind::UnexpectedEof => Ok(false),
