@@ -5,9 +5,8 @@ ghost use Rattle.std.specs.Prelude.{◌≡◌, IfOk, IsTrue};
 ghost use Rattle.std.specs.Io.KnownBytes.{Consumes};
 
 use plain::Target;
-use std::fmt;
-use std::io;
 use std::io::{ErrorKind, Read};
+use std::{fmt, io};
 
 // Octets in hexadecimal, two digits each.
 #[derive(Clone, Copy)]
