@@ -2,71 +2,27 @@
 #![tactic(auto)]
 
 use answer::{Destination, Way};
+use line::{Hex, Targets};
 use outcome::{Outcome, Sent};
-use plain::Target;
 use row::{InstanceRow, RouteRow};
-use std::io;
 use std::io::Write;
+use std::{fmt, io};
 use tally::Tally;
 
-pub fn words<W: Write>(out: &mut W, s: &[u8]) -> io::Result<()> {
+fn words<W: Write>(out: &mut W, s: &[u8]) -> io::Result<()> {
     out.write_all(s)
 }
 
-pub fn decimal<W: Write>(out: &mut W, n: u64) -> io::Result<()> {
-    write!(out, " {n}")
-}
-
-fn flag<W: Write>(out: &mut W, x: u8) -> io::Result<()> {
-    if x == 0 {
-        decimal(out, 0)
-    } else {
-        decimal(out, 1)
-    }
-}
-
-// The ASCII digit of a number below 16.
-fn digit(x: u8) -> u8 {
-    if x < 10 {
-        return b'0' + x;
-    }
-    if x < 16 {
-        return b'a' - 10 + x;
-    }
-    b'?'
-}
-
-fn octet<W: Write>(out: &mut W, x: u8) -> io::Result<()> {
-    let two = [digit(x / 16), digit(x % 16)];
-    words(out, &two)
-}
-
-#[tactic(auto, using(lemmas::proofs::Cases::cases))]
-fn octets<W: Write>(out: &mut W, s: &[u8]) -> io::Result<()> {
-    let mut i: usize = 0;
-    while i < s.len() {
-        octet(out, s[i])?;
-        i = i + 1;
-    }
-    Ok(())
-}
-
 fn address<W: Write>(out: &mut W, a: [u8; 16]) -> io::Result<()> {
-    words(out, b" ")?;
-    octets(out, &a)
+    write!(out, " {}", Hex(&a))
 }
 
 // The first n octets of a buffer, where there are any.
-pub fn buffer<W: Write>(out: &mut W, name: &[u8], s: &[u8], n: usize) -> io::Result<()> {
-    if n == 0 {
+pub fn buffer<W: Write>(out: &mut W, name: &str, s: &[u8], n: usize) -> io::Result<()> {
+    if n == 0 || s.len() < n {
         return Ok(());
     }
-    if s.len() < n {
-        return Ok(());
-    }
-    words(out, name)?;
-    octets(out, &s[..n])?;
-    words(out, b"\n")
+    writeln!(out, "{name} {}", Hex(&s[..n]))
 }
 
 // ---- an outcome
@@ -82,156 +38,134 @@ fn destination<W: Write>(out: &mut W, d: Destination) -> io::Result<()> {
     }
 }
 
-fn sent<W: Write>(out: &mut W, s: Sent) -> io::Result<()> {
-    let to = s.to;
-    decimal(out, s.size as u64)?;
-    destination(out, to)
+fn sent<W: Write>(out: &mut W, name: &str, s: Sent) -> io::Result<()> {
+    write!(out, " {name} {}", s.size)?;
+    destination(out, s.to)
 }
 
 pub fn outcome<W: Write>(out: &mut W, number: u32, r: Outcome) -> io::Result<()> {
-    let a = r.answer;
-    let f = r.forward;
-    let b = r.reply;
-    words(out, b"call")?;
-    decimal(out, number as u64)?;
-    words(out, b" answer")?;
-    decimal(out, answer::number(a) as u64)?;
-    words(out, b" forward")?;
-    sent(out, f)?;
-    words(out, b" reply")?;
-    sent(out, b)?;
-    words(out, b" clock")?;
-    decimal(out, r.clock)?;
-    words(out, b" number")?;
-    decimal(out, r.seq as u64)?;
-    words(out, b"\n")
+    write!(out, "call {number} answer {}", answer::number(r.answer))?;
+    sent(out, "forward", r.forward)?;
+    sent(out, "reply", r.reply)?;
+    writeln!(out, " clock {} number {}", r.clock, r.seq)
 }
 
-#[tactic(auto, using(lemmas::proofs::Cases::cases))]
-pub fn tally<W: Write>(out: &mut W, t: Tally) -> io::Result<()> {
-    let counts = t.counts;
-    words(out, b"tally")?;
-    let mut i: usize = 0;
-    while i < 18 {
-        decimal(out, counts[i] as u64)?;
-        i = i + 1;
+pub fn tally<W: Write>(out: &mut W, t: &Tally) -> io::Result<()> {
+    write!(out, "tally")?;
+    for n in &t.counts {
+        write!(out, " {n}")?;
     }
-    words(out, b"\n")
+    writeln!(out)
 }
 
 // ---- rows
 
-fn deadline<W: Write>(out: &mut W, endless: u8, at: u64) -> io::Result<()> {
-    if endless == 0 {
-        decimal(out, at)
-    } else {
-        words(out, b" endless")
-    }
+// Until when a row lives.
+#[derive(Clone, Copy)]
+struct Until {
+    endless: u8,
+    deadline: u64,
 }
 
-fn target<W: Write>(out: &mut W, t: Target) -> io::Result<()> {
-    let a = t.addr;
-    decimal(out, t.seq as u64)?;
-    words(out, b"/")?;
-    write!(out, "{}", t.plen)?;
-    words(out, b"/")?;
-    octets(out, &a)
-}
-
-// The first `count` targets, of which there are 8 at most.
-#[tactic(auto, using(lemmas::proofs::Cases::cases))]
-fn targets<W: Write>(out: &mut W, count: u8, ts: [Target; 8]) -> io::Result<()> {
-    decimal(out, count as u64)?;
-    let mut i: u8 = 0;
-    while i < count {
-        if 8 <= i {
-            return Ok(());
+impl fmt::Display for Until {
+    fn fmt<W: fmt::Write>(&self, f: &mut fmt::Formatter<W>) -> fmt::Result {
+        if self.endless == 0 {
+            write!(f, "{}", self.deadline)
+        } else {
+            write!(f, "endless")
         }
-        let k = i as usize;
-        let t = ts[k];
-        target(out, t)?;
-        i = i + 1;
     }
-    Ok(())
 }
 
 // What 01 names for a request row.
-fn request_row<W: Write>(out: &mut W, r: InstanceRow) -> io::Result<()> {
-    let dodagid = r.dodagid;
-    let neighbour = r.neighbour;
-    let ts = r.targets;
-    words(out, b" request")?;
-    decimal(out, r.instance as u64)?;
-    address(out, dodagid)?;
-    decimal(out, r.seq as u64)?;
-    flag(out, r.s)?;
-    flag(out, r.h)?;
-    decimal(out, r.rank as u64)?;
-    address(out, neighbour)?;
-    flag(out, r.replied)?;
-    deadline(out, r.endless, r.deadline)?;
-    targets(out, r.count, ts)
+#[derive(Clone, Copy)]
+struct Request<'a>(&'a InstanceRow);
+
+impl<'a> fmt::Display for Request<'a> {
+    fn fmt<W: fmt::Write>(&self, f: &mut fmt::Formatter<W>) -> fmt::Result {
+        let r = self.0;
+        write!(f, "request {} {} {}", r.instance, Hex(&r.dodagid), r.seq)?;
+        write!(f, " {} {}", u8::from(r.s != 0), u8::from(r.h != 0))?;
+        write!(
+            f,
+            " {} {} {}",
+            r.rank,
+            Hex(&r.neighbour),
+            u8::from(r.replied != 0)
+        )?;
+        let until = Until {
+            endless: r.endless,
+            deadline: r.deadline,
+        };
+        let count = usize::from(r.count);
+        write!(f, " {until} {count}{}", Targets(&r.targets[..count.min(8)]))
+    }
 }
 
 // What 01 names for a reply row.
-fn reply_row<W: Write>(out: &mut W, r: InstanceRow) -> io::Result<()> {
-    let dodagid = r.dodagid;
-    words(out, b" reply")?;
-    decimal(out, r.instance as u64)?;
-    address(out, dodagid)?;
-    decimal(out, r.seq as u64)?;
-    decimal(out, r.rank as u64)?;
-    deadline(out, r.endless, r.deadline)
-}
+#[derive(Clone, Copy)]
+struct Reply<'a>(&'a InstanceRow);
 
-// An instance row that is live at the clock.
-fn row<W: Write>(out: &mut W, number: usize, r: InstanceRow, clock: u64) -> io::Result<()> {
-    if live::is_live(r, clock) {
-        words(out, b"row")?;
-        decimal(out, number as u64)?;
-        if r.kind == 1 {
-            request_row(out, r)?;
-        } else {
-            reply_row(out, r)?;
-        }
-        words(out, b"\n")?;
+impl<'a> fmt::Display for Reply<'a> {
+    fn fmt<W: fmt::Write>(&self, f: &mut fmt::Formatter<W>) -> fmt::Result {
+        let r = self.0;
+        let until = Until {
+            endless: r.endless,
+            deadline: r.deadline,
+        };
+        write!(
+            f,
+            "reply {} {} {} {} {until}",
+            r.instance,
+            Hex(&r.dodagid),
+            r.seq,
+            r.rank
+        )
     }
-    Ok(())
 }
 
-// A route that is live at the clock.
-fn route<W: Write>(out: &mut W, number: usize, r: RouteRow, clock: u64) -> io::Result<()> {
-    if live::is_live_route(r, clock) {
-        let source = r.source;
-        let destination = r.destination;
-        let next = r.next;
-        words(out, b"route")?;
-        decimal(out, number as u64)?;
-        address(out, source)?;
-        address(out, destination)?;
-        decimal(out, r.instance as u64)?;
-        address(out, next)?;
-        decimal(out, r.seq as u64)?;
-        deadline(out, r.endless, r.deadline)?;
-        words(out, b"\n")?;
+// A route, after its number.
+#[derive(Clone, Copy)]
+struct Route<'a>(&'a RouteRow);
+
+impl<'a> fmt::Display for Route<'a> {
+    fn fmt<W: fmt::Write>(&self, f: &mut fmt::Formatter<W>) -> fmt::Result {
+        let r = self.0;
+        let until = Until {
+            endless: r.endless,
+            deadline: r.deadline,
+        };
+        write!(
+            f,
+            "{} {} {}",
+            Hex(&r.source),
+            Hex(&r.destination),
+            r.instance
+        )?;
+        write!(f, " {} {} {until}", Hex(&r.next), r.seq)
     }
-    Ok(())
 }
 
+// The instance rows that are live at the clock.
 pub fn rows<W: Write>(out: &mut W, rows: &[InstanceRow], clock: u64) -> io::Result<()> {
-    let mut i: usize = 0;
-    while i < rows.len() {
-        row(out, i, rows[i], clock)?;
-        i = i + 1;
+    for (i, r) in rows.iter().enumerate() {
+        if live::is_live(*r, clock) {
+            if r.kind == 1 {
+                writeln!(out, "row {i} {}", Request(r))?;
+            } else {
+                writeln!(out, "row {i} {}", Reply(r))?;
+            }
+        }
     }
     Ok(())
 }
 
+// The routes that are live at the clock.
 pub fn routes<W: Write>(out: &mut W, routes: &[RouteRow], clock: u64) -> io::Result<()> {
-    let mut i: usize = 0;
-    while i < routes.len() {
-        route(out, i, routes[i], clock)?;
-        i = i + 1;
+    for (i, r) in routes.iter().enumerate() {
+        if live::is_live_route(*r, clock) {
+            writeln!(out, "route {i} {}", Route(r))?;
+        }
     }
     Ok(())
 }

@@ -8,8 +8,6 @@
 //   e           the end of the list
 #![tactic(auto)]
 
-ghost use Rattle.std.specs.Prelude.{◌≤◌};
-
 use outcome::Outcome;
 use own::Own;
 use row::{InstanceRow, RouteRow};
@@ -17,9 +15,10 @@ use start::Asking;
 use std::io;
 use std::io::{Read, Write};
 use tally::Tally;
+use trace_input::Kind;
 
-// What the host keeps for its node beside the tables: its settings, clock and own number, the lengths of the buffers that it lends, and
-// how many calls it made.
+// What a node's host keeps for it by value: its settings, clock and own number, how much it lends of each buffer, and how many calls
+// it made.
 #[derive(Clone, Copy)]
 struct Host {
     own: Own,
@@ -30,52 +29,15 @@ struct Host {
     calls: u32,
 }
 
-// ---- by value
-
-fn fresh(own: Own) -> Host {
-    Host {
-        own,
-        clock: 0,
-        seq: 240,
-        forward: 1236,
-        reply: 1236,
-        calls: 0,
-    }
-}
-
-// The host after a call.
-fn after(h: Host, r: Outcome) -> Host {
-    let own = h.own;
-    Host {
-        own,
-        clock: r.clock,
-        seq: r.seq,
-        forward: h.forward,
-        reply: h.reply,
-        calls: std::num::wrapping_add_u32(h.calls, 1),
-    }
-}
-
-// The host after something handed in that is not a row.
-fn handed(h: Host, kind: u8, o: &[u8]) -> Host {
-    let mut next = h;
-    if kind == b'a' {
-        next.own = trace_input::own_at(o);
-        return next;
-    }
-    if kind == b'b' {
-        next.forward = trace_input::pair_at(o, 0) as usize;
-        next.reply = trace_input::pair_at(o, 2) as usize;
-        return next;
-    }
-    if kind == b'c' {
-        next.clock = trace_input::eight_at(o, 0);
-        return next;
-    }
-    if kind == b'd' {
-        next.seq = trace_input::octet_at(o, 0);
-    }
-    next
+// A node on the tables that are lent to it, with its host's buffers and tally.
+#[derive(Drop)]
+struct Node<'a> {
+    instances: &'a mut [InstanceRow],
+    routes: &'a mut [RouteRow],
+    forward: [u8; 2048],
+    reply: [u8; 2048],
+    host: Host,
+    tally: Tally,
 }
 
 // What a start brings, after its time.
@@ -89,238 +51,148 @@ fn asking_at(o: &[u8]) -> Asking {
     }
 }
 
-fn least(a: usize, b: usize) -> usize
-    ensures { result ≤ b }
-{
-    if a < b {
-        return a;
-    }
-    b
-}
-
-fn forward_size(r: Outcome) -> usize {
-    let f = r.forward;
-    f.size
-}
-
-fn reply_size(r: Outcome) -> usize {
-    let f = r.reply;
-    f.size
-}
-
-fn no_tally() -> Tally {
-    Tally { counts: [0u32; 18] }
-}
-
-// ---- over the lent tables
-
-#[tactic(auto, using(lemmas::proofs::Cases::cases, std::proofs::Common::rules))]
-fn print_call<W: Write>(
-    out: &mut W,
-    instances: &[InstanceRow],
-    routes: &[RouteRow],
-    forward: &[u8],
-    reply: &[u8],
-    r: Outcome,
-    h: Host,
-) -> io::Result<()> {
-    trace_print::outcome(out, h.calls, r)?;
-    trace_print::buffer(out, b"forward ", forward, forward_size(r))?;
-    trace_print::buffer(out, b"reply ", reply, reply_size(r))?;
-    trace_print::rows(out, instances, h.clock)?;
-    trace_print::routes(out, routes, h.clock)
-}
-
-// A received message: what the call comes to.
-#[tactic(auto, using(lemmas::proofs::Cases::cases, std::proofs::Common::rules))]
-fn message(
-    instances: &mut [InstanceRow],
-    routes: &mut [RouteRow],
-    forward: &mut [u8],
-    reply: &mut [u8],
-    o: &[u8],
-    h: Host,
-) -> Outcome {
-    let from = trace_input::message_from(o);
-    let own = h.own;
-    let t = trace_input::eight_at(o, 0);
-    let k = trace_input::link_at(o);
-    calls::message(
-        instances,
-        routes,
-        forward,
-        reply,
-        &o[from..],
-        own,
-        h.clock,
-        h.seq,
-        t,
-        k,
-    )
-}
-
-// A start: what the call comes to.
-#[tactic(auto, using(lemmas::proofs::Cases::cases, std::proofs::Common::sym, std::proofs::Common::rules))]
-fn start(
-    instances: &mut [InstanceRow],
-    routes: &mut [RouteRow],
-    forward: &mut [u8],
-    reply: &mut [u8],
-    o: &[u8],
-    h: Host,
-) -> Outcome {
-    let targets = trace_input::targets_at(o);
-    let n = trace_input::target_count(o);
-    let own = h.own;
-    let t = trace_input::eight_at(o, 0);
-    let s = asking_at(o);
-    calls::start(
-        instances,
-        routes,
-        forward,
-        reply,
-        &targets[..n],
-        own,
-        h.clock,
-        h.seq,
-        t,
-        s,
-    )
-}
-
-// Counts a call and prints what it came to.
-#[tactic(auto, using(lemmas::proofs::Cases::cases, std::proofs::Common::rules))]
-fn tell<W: Write>(
-    out: &mut W,
-    instances: &[InstanceRow],
-    routes: &[RouteRow],
-    forward: &[u8],
-    reply: &[u8],
-    tally: &mut Tally,
-    r: Outcome,
-    h: Host,
-) -> io::Result<Host> {
-    tally::raise(tally, outcome::answer_of(r));
-    let next = after(h, r);
-    print_call(out, instances, routes, forward, reply, r, next)?;
-    Ok(next)
-}
-
-// A call with buffers of the lengths that the host keeps.
-#[tactic(auto, using(lemmas::proofs::Cases::cases, std::proofs::Common::sym, std::proofs::Common::rules))]
-fn call(
-    instances: &mut [InstanceRow],
-    routes: &mut [RouteRow],
-    forward: &mut [u8],
-    reply: &mut [u8],
-    kind: u8,
-    o: &[u8],
-    h: Host,
-) -> Outcome {
-    let n = least(h.forward, forward.len());
-    let m = least(h.reply, reply.len());
-    if kind == b'm' {
-        return message(instances, routes, &mut forward[..n], &mut reply[..m], o, h);
-    }
-    start(instances, routes, &mut forward[..n], &mut reply[..m], o, h)
-}
-
-// One record: a call, or something handed in.
-#[tactic(auto, using(lemmas::proofs::Cases::cases, std::proofs::Common::rules))]
-fn turn<W: Write>(
-    out: &mut W,
-    instances: &mut [InstanceRow],
-    routes: &mut [RouteRow],
-    forward: &mut [u8],
-    reply: &mut [u8],
-    tally: &mut Tally,
-    kind: u8,
-    o: &[u8],
-    h: Host,
-) -> io::Result<Host> {
-    if trace_input::is_call(kind) {
-        let r = call(instances, routes, forward, reply, kind, o, h);
-        return tell(out, instances, routes, forward, reply, tally, r, h);
-    }
-    trace_input::hand_in(instances, routes, kind, o);
-    trace_input::hand_in_count(tally, kind, o);
-    Ok(handed(h, kind, o))
-}
-
-// The records of a list after its first, until its end.
-#[tactic(auto, using(lemmas::proofs::Cases::cases, std::proofs::Common::length, std::proofs::Common::sym, std::proofs::Common::rules))]
-fn serve<R: Read, W: Write>(
-    input: &mut R,
-    out: &mut W,
-    instances: &mut [InstanceRow],
-    routes: &mut [RouteRow],
-    own: Own,
-) -> io::Result<()> {
-    let mut forward = [0u8; 2048];
-    let mut reply = [0u8; 2048];
-    let mut octets = [0u8; 2048];
-    let mut tally = no_tally();
-    let mut h = fresh(own);
-    let mut left: usize = 65536;
-    while 0 < left {
-        left = left - 1;
-        let head = trace_input::read_record(input, &mut octets)?;
-        let size = head.size;
-        if head.kind == 0 {
-            return Ok(());
-        }
-        if head.kind == b'e' {
-            return trace_print::tally(out, tally);
-        }
-        h = turn(
-            out,
+impl<'a> Node<'a> {
+    fn fresh(instances: &'a mut [InstanceRow], routes: &'a mut [RouteRow], own: Own) -> Node<'a> {
+        let host = Host {
+            own,
+            clock: 0,
+            seq: 240,
+            forward: 1236,
+            reply: 1236,
+            calls: 0,
+        };
+        Node {
             instances,
             routes,
-            &mut forward,
-            &mut reply,
-            &mut tally,
-            head.kind,
-            &octets[..size],
-            h,
-        )?;
+            forward: [0; 2048],
+            reply: [0; 2048],
+            host,
+            tally: Tally { counts: [0; 18] },
+        }
     }
-    Ok(())
+
+    // A received message: what the call comes to.
+    fn message(&mut self, o: &[u8]) -> Outcome {
+        let h = self.host;
+        let forward = &mut self.forward[..];
+        let reply = &mut self.reply[..];
+        let from = trace_input::message_from(o);
+        calls::message(
+            self.instances,
+            self.routes,
+            &mut forward[..h.forward.min(2048)],
+            &mut reply[..h.reply.min(2048)],
+            &o[from..],
+            h.own,
+            h.clock,
+            h.seq,
+            trace_input::eight_at(o, 0),
+            trace_input::link_at(o),
+        )
+    }
+
+    // A start: what the call comes to.
+    fn start(&mut self, o: &[u8]) -> Outcome {
+        let h = self.host;
+        let forward = &mut self.forward[..];
+        let reply = &mut self.reply[..];
+        let targets = trace_input::targets_at(o);
+        let n = trace_input::target_count(o);
+        calls::start(
+            self.instances,
+            self.routes,
+            &mut forward[..h.forward.min(2048)],
+            &mut reply[..h.reply.min(2048)],
+            &targets[..n],
+            h.own,
+            h.clock,
+            h.seq,
+            trace_input::eight_at(o, 0),
+            asking_at(o),
+        )
+    }
+
+    // Counts a call and prints what it came to.
+    fn tell<W: Write>(&mut self, out: &mut W, r: Outcome) -> io::Result<()> {
+        tally::raise(&mut self.tally, outcome::answer_of(r));
+        let calls = self.host.calls.wrapping_add(1);
+        self.host.clock = r.clock;
+        self.host.seq = r.seq;
+        self.host.calls = calls;
+        trace_print::outcome(out, calls, r)?;
+        trace_print::buffer(out, "forward", &self.forward, r.forward.size)?;
+        trace_print::buffer(out, "reply", &self.reply, r.reply.size)?;
+        trace_print::rows(out, self.instances, r.clock)?;
+        trace_print::routes(out, self.routes, r.clock)
+    }
+
+    // One record: a call, or something handed in.
+    fn turn<W: Write>(&mut self, out: &mut W, kind: Kind, o: &[u8]) -> io::Result<()> {
+        match kind {
+            Kind::Message => {
+                let r = self.message(o);
+                self.tell(out, r)?;
+            }
+            Kind::Start => {
+                let r = self.start(o);
+                self.tell(out, r)?;
+            }
+            Kind::Own => self.host.own = trace_input::own_at(o),
+            Kind::Buffers => {
+                self.host.forward = usize::from(trace_input::pair_at(o, 0));
+                self.host.reply = usize::from(trace_input::pair_at(o, 2));
+            }
+            Kind::Clock => self.host.clock = trace_input::eight_at(o, 0),
+            Kind::Number => self.host.seq = trace_input::octet_at(o, 0),
+            Kind::Row => trace_input::hand_in_row(self.instances, o),
+            Kind::Route => trace_input::hand_in_route(self.routes, o),
+            Kind::Count => trace_input::hand_in_count(&mut self.tally, o),
+            Kind::Fresh | Kind::End | Kind::Other => {}
+        }
+        Ok(())
+    }
+
+    // The records of a list after its first, until its end.
+    fn serve<R: Read, W: Write>(&mut self, input: &mut R, out: &mut W) -> io::Result<()> {
+        let mut octets = [0u8; 2048];
+        for _ in 0..65536 {
+            let Some(head) = trace_input::read_record(input, &mut octets)? else {
+                return Ok(());
+            };
+            if head.kind == Kind::End {
+                return trace_print::tally(out, &self.tally);
+            }
+            self.turn(out, head.kind, &octets[..head.size])?;
+        }
+        Ok(())
+    }
 }
 
 // One list on a fresh node: whether there was one.
-#[tactic(auto, using(lemmas::proofs::Cases::cases, std::proofs::Common::sym, std::proofs::Common::rules))]
 fn list<R: Read, W: Write>(input: &mut R, out: &mut W, number: u64) -> io::Result<bool> {
     let mut octets = [0u8; 2048];
-    let head = trace_input::read_record(input, &mut octets)?;
-    if head.kind != b'n' {
+    let Some(head) = trace_input::read_record(input, &mut octets)? else {
+        return Ok(false);
+    };
+    if head.kind != Kind::Fresh {
         return Ok(false);
     }
-    let n = trace_input::rows_at(&octets, 32);
-    let m = trace_input::rows_at(&octets, 34);
-    let mut instances = [trace_input::no_row(); 80];
-    let mut routes = [trace_input::no_route(); 80];
-    trace_print::words(out, b"list")?;
-    trace_print::decimal(out, number)?;
-    trace_print::words(out, b"\n")?;
-    serve(
-        input,
-        out,
-        &mut instances[..n],
-        &mut routes[..m],
-        trace_input::own_at(&octets),
-    )?;
+    let mut instances = [row::no_row(); 80];
+    let mut routes = [row::no_route(); 80];
+    let instances = &mut instances[..trace_input::rows_at(&octets, 32)];
+    let routes = &mut routes[..trace_input::rows_at(&octets, 34)];
+    writeln!(out, "list {number}")?;
+    let mut node = Node::fresh(instances, routes, trace_input::own_at(&octets));
+    node.serve(input, out)?;
     Ok(true)
 }
 
-#[tactic(auto, using(lemmas::proofs::Cases::cases))]
 fn main(rt: HostRuntime) -> io::Result<()> {
     let mut input = rt.reader();
     let mut out = io::writer(&rt);
-    let mut number: u64 = 0;
-    while number < 65536 {
-        number = number + 1;
+    for number in 1u64..=65536 {
         if !list(&mut input, &mut out, number)? {
-            return out.flush();
+            break;
         }
     }
     out.flush()
