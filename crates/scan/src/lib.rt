@@ -7,7 +7,8 @@ ghost use Rattle.scan.specs.Scanned.{fresh_scan, OptionTaken, Scanned};
 
 use option::Next;
 
-// The options of one type: how many, as far as 2, and where the body of the first one is.
+// The options of one type: how many, as far as 2, and where the body of the first one is. A count, and no Option of a place: the rules tell
+// none, one and more apart.
 #[derive(Clone, Copy)]
 pub struct Found {
     pub count: usize,
