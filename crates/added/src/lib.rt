@@ -25,7 +25,7 @@ pub fn grown_vector(
         return *vector;
     }
     addresses::whole(vector);
-    // an array that is stored has to come from a variable
+    // copies: the borrow checker has an array stored only from a variable
     let receiving = o.receiving;
     let sending = o.sending;
     let mut grown = *vector;

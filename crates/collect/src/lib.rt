@@ -17,7 +17,7 @@ pub fn is_listed(t: Target, list: &[Target], n: usize) -> bool
     list[..n].iter().any(|u| art::same_target(t, *u))
 }
 
-// Stores a target at a place; past the end of the list nothing changes.
+// Stores a target at a place; past the end of the list nothing changes. A test, since `get_mut` says nothing of what the list becomes.
 fn put_target(list: &mut [Target], at: usize, t: Target)
     ensures { list.new ≡ set list.old at t }
 {

@@ -3,12 +3,13 @@
 
 ghost use Rattle.std.specs.Prelude.{ℕ, ◌≡◌, true};
 ghost use Rattle.scan.specs.Seen.{Noted};
-ghost use Rattle.scan.specs.Scanned.{fresh_scan, OptionTaken, Scanned};
+ghost use Rattle.scan.specs.Scanned.{OptionTaken, Scanned};
 
 use option::Next;
 
-// The options of one type: how many, as far as 2, and where the body of the first one is.
-#[derive(Clone, Copy)]
+// The options of one type: how many, as far as 2, and where the body of the first one is. A count, and no Option of a place: the rules tell
+// none, one and more apart.
+#[derive(Clone, Copy, Default)]
 pub struct Found {
     pub count: usize,
     pub start: usize,
@@ -16,7 +17,7 @@ pub struct Found {
 }
 
 // What a pass has found. `bad`: an option is past the end or has a wrong body.
-#[derive(Clone, Copy)]
+#[derive(Clone, Copy, Default)]
 pub struct Scan {
     pub bad: bool,
     pub configuration: Found,
@@ -56,23 +57,6 @@ fn with_option(s: Scan, kind: u8, start: usize, end: usize) -> Scan
     r
 }
 
-fn fresh() -> Scan
-    ensures { result ≡ fresh_scan }
-{
-    let none = Found {
-        count: 0,
-        start: 0,
-        end: 0,
-    };
-    Scan {
-        bad: false,
-        configuration: none,
-        rreq: none,
-        rrep: none,
-        art: none,
-    }
-}
-
 fn malformed(s: Scan) -> Scan
     ensures { result.bad ≡ true }
 {
@@ -84,7 +68,7 @@ fn malformed(s: Scan) -> Scan
 pub fn read_options(msg: &[u8]) -> Scan
     ensures { Scanned msg.now result }
 {
-    let mut s = fresh();
+    let mut s = Scan::default();
     let mut at: usize = 24;
     for _ in 0..msg.len() {
         match option::next_option(msg, at) {

@@ -7,7 +7,8 @@ ghost use Rattle.targets.specs.Collected.{place_for, counted, none_yet, targets_
 
 use plain::Target;
 
-// Targets, each once: the first `count` of the list. `over`: there were more than eight.
+// Targets, each once: the first `count` of the list, which is an array, as there is no heap. `over`: there were more than
+// eight. It stands beside the list, and is no variant, since contracts speak of the list in either case.
 #[derive(Clone, Copy)]
 pub struct Targets {
     pub over: bool,
@@ -15,7 +16,7 @@ pub struct Targets {
     pub list: [Target; 8],
 }
 
-// How many targets are collected. `over`: there were more than eight.
+// How many targets are collected. `over`: there were more than eight. The list is apart, as it is lent to the loop that collects.
 #[derive(Clone, Copy)]
 pub struct Count {
     pub over: bool,
@@ -23,6 +24,7 @@ pub struct Count {
 }
 
 // Where the next target goes, behind the n that are collected: to place 8 where there is no room, to 9 where it is listed already.
+// Places, and no variants: neither is in the list, so that whoever stores there stores nothing.
 pub fn place_for(listed: bool, n: usize) -> usize
     ensures { result ≡ place_for listed n }
 {
