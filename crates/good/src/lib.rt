@@ -24,6 +24,7 @@ fn is_good_deadline(endless: u8, deadline: u64) -> bool
 fn are_good_targets(count: u8, targets: [Target; 8]) -> bool
     ensures { result ≡ leb (length (targets_of count targets)) most_targets && all short_prefix (targets_of count targets) }
 {
+    // By itself, so that no goal of the chain has the number in its name.
     if 8 < count {
         return false;
     }
@@ -48,7 +49,7 @@ fn is_plainly_good(r: InstanceRow) -> bool
     are_few_good(r.count, r.targets) && is_good_deadline(r.endless, r.deadline)
 }
 
-// By kind: in a mixed table this branch cannot be predicted.
+// By kind, a number as C lends it: in a mixed table this branch cannot be predicted.
 #[tactic(auto, using(lemmas::proofs::Cases::cases), unfolding(row::specs::Meaning::instance_of, row::specs::Meaning::request_of, row::specs::Meaning::reply_of, plain::specs::Answers::good_instance))]
 fn is_good_of_kind(r: InstanceRow) -> bool
     ensures { result ≡ good_if good_instance (instance_of r) }

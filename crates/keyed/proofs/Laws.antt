@@ -1,6 +1,6 @@
 -- The row that a record of a kind means.
 use Prim.Native.Nat.{ℕ}
-use mathlib.Core.Path.{◌≡◌, refl, sym}
+use mathlib.Core.Path.{◌≡◌, refl}
 use mathlib.Core.Bool.{Bool, true, false, cond, ◌&&◌}
 use mathlib.Core.Option.{Option, some, none}
 use native.Mathlib.Omega.{arith}
@@ -12,9 +12,9 @@ use Rattle.plain.specs.Table.{lasts, instance_deadline, route_deadline}
 use Rattle.row.specs.Meaning.{deadline_of, request_of, reply_of, instance_of, route_in, route_of, no_row, no_route}
 use Rattle.row.specs.declared.InstanceRow.{InstanceRow}
 use Rattle.row.specs.declared.RouteRow.{RouteRow}
-use Rattle.keyed.specs.Look.{of_row, held, here, row_here, request_here, reply_here, route_here}
+use Rattle.keyed.specs.Look.{of_row, held, here, route_here}
 use Rattle.plain.specs.Address.{Address}
-use Rattle.plain.specs.Answers.{as_request, as_reply, request_for, reply_for, route_for}
+use Rattle.plain.specs.Answers.{as_request, as_reply, route_for}
 
 pub request_part : (r : InstanceRow) → of_row as_request (instance_of r) ≡ cond (eqb r.kind 1) (some (request_of r)) none
 unfolding instance_of
@@ -137,16 +137,6 @@ module _ (S : Sort) (p : S.Row → Bool) (r : S.Record) where
       go : (k : Bool) → held p (cond k (some (S.row r)) none) ≡ cond k (p (S.row r)) false
       go true = refl
       go false = refl
-
--- a request row and a reply row of a key, told of the record
-module _ (t instance : ℕ) (dodagid : Address) (r : InstanceRow) where
-  pub request_is : row_here 1 t instance dodagid r ≡ request_here t instance dodagid (instance_of r)
-  unfolding request_of
-  request_is = sym (sort_here request_sort (request_for t instance dodagid) r)
-
-  pub reply_is : row_here 2 t instance dodagid r ≡ reply_here t instance dodagid (instance_of r)
-  unfolding reply_of
-  reply_is = sym (sort_here reply_sort (reply_for t instance dodagid) r)
 
 -- a route of those three, told of the record
 pub route_is : (t : ℕ) (source destination : Address) (instance : ℕ) (r : RouteRow)

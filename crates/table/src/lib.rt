@@ -18,7 +18,7 @@ pub fn put<T: Copy>(items: &mut [T], i: usize, item: T)
     }
 }
 
-// ---- instance rows
+// ---- instance rows (put_row and put_route are public by themselves, and stay)
 
 // No row in use is wrong.
 pub fn all_good(rows: &[InstanceRow]) -> bool
