@@ -1,10 +1,11 @@
 // Two sequence numbers on the same side of 128, and on the two sides (01, "Rank and freshness").
 #![tactic(auto)]
 
-ghost use Rattle.std.specs.Prelude.{◌≡◌, ◌+◌, ◌-◌};
+ghost use Rattle.std.specs.Prelude.{◌≡◌};
 ghost use Rattle.plain.specs.Rank.{same_side, low_is_newer};
 
 use plain::Freshness;
+use std::cmp::Ordering;
 
 // How a stands to b, both on the same side of 128.
 #[tactic(auto, using(lemmas::proofs::Cases::cases))]
@@ -14,13 +15,10 @@ pub fn on_same_side(a: u8, b: u8) -> Freshness
     if 16 < a.abs_diff(b) {
         return Freshness::NotComparable;
     }
-    if b < a {
-        return Freshness::Newer;
-    }
-    if a < b {
-        Freshness::Older
-    } else {
-        Freshness::Equal
+    match a.cmp(&b) {
+        Ordering::Greater => Freshness::Newer,
+        Ordering::Less => Freshness::Older,
+        Ordering::Equal => Freshness::Equal,
     }
 }
 

@@ -56,6 +56,6 @@ pub fn is_bad_route(body: &[u8]) -> bool
     if has_h(body) {
         return 3 < body.len();
     }
-    let width = 16 - compr_of(body) as usize;
+    let width = 16 - usize::from(compr_of(body));
     (body.len() - 3) % width != 0
 }

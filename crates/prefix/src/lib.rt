@@ -1,10 +1,10 @@
 // The first bits of an address, octet by octet.
 #![tactic(auto)]
 
-ghost use Rattle.std.specs.Prelude.{◌≡◌, ◌-◌};
+ghost use Rattle.std.specs.Prelude.{◌≡◌};
 ghost use Rattle.plain.specs.Address.{keep_bits, first_bits};
 
-// The first k bits of an octet, the others 0.
+// The first k bits of an octet, the others 0. Its eight bits cannot be shifted out at once, so that 0 is asked by itself.
 #[tactic(auto, using(lemmas::proofs::Cases::cases, crate::proofs::Laws::keep_le, crate::proofs::Laws::keep_all, lemmas::proofs::Rules::keep_none), unfolding(plain::specs::Address::keep_bits))]
 fn keep_bits(k: u8, x: u8) -> u8
     ensures { result ≡ keep_bits k x }
@@ -19,7 +19,7 @@ fn keep_bits(k: u8, x: u8) -> u8
     x >> spare << spare
 }
 
-// The first k bits of an address, octet by octet.
+// The first k bits of an address, octet by octet. By index: of what a zip with `iter_mut` writes the library tells nothing.
 #[tactic(auto, using(crate::proofs::Laws::keep_more, crate::proofs::Laws::keep_end, lemmas::proofs::Cases::cases))]
 pub fn cut_bits(k: u8, a: [u8; 16]) -> [u8; 16]
     ensures { result ≡ first_bits k a }

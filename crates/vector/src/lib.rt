@@ -4,7 +4,8 @@
 ghost use Rattle.std.specs.Prelude.{◌≡◌, ◌-◌, ◌/◌, ◌≤◌, length, take};
 ghost use Rattle.plain.specs.Octets.{restored};
 
-// The whole addresses of a vector's octets: as many as they are, from the first on.
+// The whole addresses of a vector's octets: as many as they are, from the first on. By index: of what a zip with `iter_mut` writes the library
+// tells nothing.
 #[tactic(auto, using(octets::proofs::Laws::over_end, crate::proofs::Laws::restoring_first, crate::proofs::Laws::restoring_last, lemmas::proofs::Cases::cases))]
 pub fn addresses(part: &[u8], compr: u8, dodagid: [u8; 16]) -> [[u8; 16]; 16]
     requires { (compr ≤ 15) × (length part.now / (16 - compr) ≤ 16) }
