@@ -1,8 +1,9 @@
 // What the programs' lines are made of: octets in hexadecimal, targets. And what fills a buffer from their input.
 #![tactic(auto)]
 
-ghost use Rattle.std.specs.Prelude.{◌≡◌, IfOk, IsTrue};
+ghost use Rattle.std.specs.Prelude.{IfOk, IsTrue, Some};
 ghost use Rattle.std.specs.Io.KnownBytes.{Consumes};
+ghost use Rattle.line.specs.Hex.{hex};
 
 use plain::Target;
 use std::io::{ErrorKind, Read};
@@ -13,8 +14,10 @@ use std::{fmt, io};
 pub struct Hex<'a>(pub &'a [u8]);
 
 impl<'a> fmt::Display for Hex<'a> {
+    ghost output = { λ h. Some (hex h.0.now) };
+
     fn fmt<W: fmt::Write>(&self, f: &mut fmt::Formatter<W>) -> fmt::Result {
-        for x in self.0 {
+        for &x in self.0 {
             write!(f, "{x:02x}")?;
         }
         Ok(())

@@ -59,7 +59,7 @@ pub struct Head {
 
 // ---- a line
 
-// The number that a hexadecimal digit stands for; any other letter, a capital one too, stands for 0.
+// The number that a hexadecimal digit stands for. Any other letter stands for 0, a capital one too, which `to_digit` would take.
 fn value(digit: u8) -> u8
     ensures { result < 16 }
 {

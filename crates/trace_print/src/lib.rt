@@ -146,7 +146,7 @@ impl<'a> fmt::Display for Route<'a> {
     }
 }
 
-// The instance rows that are live at the clock.
+// The instance rows that are live at the clock. A row's kind is the number that C writes into the record.
 pub fn rows<W: Write>(out: &mut W, rows: &[InstanceRow], clock: u64) -> io::Result<()> {
     for (i, r) in rows.iter().enumerate() {
         if live::is_live(*r, clock) {
