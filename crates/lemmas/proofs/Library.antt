@@ -1,7 +1,7 @@
 -- The library's words about lists in the rules' words (plain's specs/Lists): what `==` at arrays and a chain of iterators answer.
 use Prim.Native.Nat.{ℕ, suc}
 use mathlib.Core.Path.{◌≡◌, refl, ap, ◌∙◌}
-use mathlib.Core.Bool.{Bool, true, false, cond, ◌&&◌, ◌||◌}
+use mathlib.Core.Bool.{Bool, true, false, not, cond, ◌&&◌, ◌||◌}
 use mathlib.Core.List.{List, [], ◌∷◌}
 use lib.Dec.{eqb}
 use lib.ListN.{length}
@@ -15,6 +15,7 @@ use Rattle.std.specs.List.{list_all, list_any, filter, FoldsTo}
 use Rattle.std.specs.Option.{MatchOption}
 use Rattle.std.specs.Prelude.{Option}
 use Rattle.plain.specs.Lists.{all, any, count, same}
+use Rattle.lemmas.proofs.Walk.{settled_by}
 
 -- `a == b` of two addresses
 pub pointwise_same : (a b : List ℕ) → pointwise eqb a b ≡ same a b
@@ -43,9 +44,13 @@ filter_counted p (x ∷ xs) = go (p x) (filter_counted p xs)
     go true e = ap suc e
     go false e = e
 
--- what `all` and `any` answer after a chain that yields ys
-pub all_run : {S A B F : Type 0} {steps : S → Option A → S → Type 0} {v : A → B} {g : Mut F (A × Unit {0}) Bool} {s : S} {ys : List B} (test : B → Bool) (u : S) (f : F) → (r : Bool) → (xs : List A) × (o : Option A) × (j : F) × YieldsThen steps s xs o u × FoldsTo (λ p x q. Called g p (x, tt) true q) f xs j × MatchOption o (r ≡ true) (λ x. (r ≡ false) × ((h : F) × Called g j (x, tt) false h)) → YieldsList steps v s ys → ((x : A) (b : Bool) (q : F) → Called g f (x, tt) b q → (q ≡ f) × (b ≡ test (v x))) → r ≡ all test ys
-all_run test u f r ran it step = all_from_yields_List test u f r ran it step ∙ all_listed test _
-
-pub any_run : {S A B F : Type 0} {steps : S → Option A → S → Type 0} {v : A → B} {g : Mut F (A × Unit {0}) Bool} {s : S} {ys : List B} (test : B → Bool) (u : S) (f : F) → (r : Bool) → (xs : List A) × (o : Option A) × (j : F) × YieldsThen steps s xs o u × FoldsTo (λ p x q. Called g p (x, tt) false q) f xs j × MatchOption o (r ≡ false) (λ x. (r ≡ true) × ((h : F) × Called g j (x, tt) true h)) → YieldsList steps v s ys → ((x : A) (b : Bool) (q : F) → Called g f (x, tt) b q → (q ≡ f) × (b ≡ test (v x))) → r ≡ any test ys
-any_run test u f r ran it step = any_from_yields_List test u f r ran it step ∙ any_listed test _
+-- What `any` (by = true) and `all` (by = false) answer after a chain that yields ys: either ends at the first item whose test is `by`.
+pub settled_run : {S A B F : Type 0} {steps : S → Option A → S → Type 0} {v : A → B} {g : Mut F (A × Unit {0}) Bool} {s : S} {ys : List B}
+    (by : Bool) (test : B → Bool) (u : S) (f : F) (r : Bool)
+    → (xs : List A) × (o : Option A) × (j : F) × YieldsThen steps s xs o u × FoldsTo (λ p x q. Called g p (x, tt) (not by) q) f xs j
+        × MatchOption o (r ≡ not by) (λ x. (r ≡ by) × ((h : F) × Called g j (x, tt) by h))
+    → YieldsList steps v s ys
+    → ((x : A) (b : Bool) (q : F) → Called g f (x, tt) b q → (q ≡ f) × (b ≡ test (v x)))
+    → r ≡ settled_by by test ys
+settled_run true test u f r ran it step = any_from_yields_List test u f r ran it step ∙ any_listed test _
+settled_run false test u f r ran it step = all_from_yields_List test u f r ran it step ∙ all_listed test _
