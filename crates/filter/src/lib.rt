@@ -105,7 +105,8 @@ impl Keyed for RouteRow {
 
 // ---- the words
 
-// The five bits are told by other parts of the hash than the word is (crates/slot).
+// The five bits are told by other parts of the hash than the word is (crates/slot). Written out: a loop over the divisors is no plainer, and would
+// stand in the loop of a pass.
 #[tactic(auto, using(lemmas::proofs::Cases::cases), unfolding(crate::specs::Filter::bits_of))]
 fn bits_of(h: u64) -> u64
     ensures { result ≡ bits_of h }
