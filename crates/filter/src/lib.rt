@@ -1,21 +1,21 @@
-// The filter that the search for twins goes by: the words in which the hash of a key has its bits. And a row of either table, as the search asks
-// for it.
+// What the search for twins goes by: what it asks of a row of either table, and the filter, the words in which the hash of a key has its bits.
 #![tactic(auto)]
 
 ghost use Rattle.std.specs.Prelude.{◌≡◌, ◌<◌, ℕ, Bool, true};
+ghost use Rattle.std.proofs.Common.{ap};
 ghost use Rattle.plain.specs.Table.{live, instance_deadline, route_deadline};
 ghost use Rattle.row.specs.Meaning.{instance_of, route_of};
 ghost use Rattle.key.specs.Pair.{same_key, ending_of, twins_by};
-ghost use Rattle.key.proofs.Plain.{row_ended};
+ghost use Rattle.key.proofs.Plain.{key_parts};
 ghost use Rattle.route_key.specs.Pair.{same_three};
-ghost use Rattle.route_key.proofs.Plain.{route_ended};
+ghost use Rattle.route_key.proofs.Plain.{three_parts};
 ghost use Rattle.hash.specs.Hash.{hash_row, hash_route};
 ghost use Rattle.hash.proofs.Keyed.{row_hashed, route_hashed};
 ghost use Rattle.filter.specs.Filter.{bits_of, maybe_of, marked_of};
 
 use row::{InstanceRow, RouteRow};
 
-// A row that has a key, and is live or not.
+// A row of a table: it has a key, and is live or not. Rows of one key have one hash and one ending, and more the search does not rest on.
 pub trait Keyed: Copy {
     ghost key: { Self → Self → Bool };
 
@@ -54,7 +54,7 @@ impl Keyed for InstanceRow {
 
     ghost hashed = { row_hashed };
 
-    ghost ended = { row_ended };
+    ghost ended = { λ a b e. ap ending_of (key_parts a b e).2 };
 
     fn are_twins(self, b: InstanceRow, t: u64) -> bool {
         key::are_twins(self, b, t)
@@ -84,7 +84,7 @@ impl Keyed for RouteRow {
 
     ghost hashed = { route_hashed };
 
-    ghost ended = { route_ended };
+    ghost ended = { λ a b e. ap ending_of (three_parts a b e).1 };
 
     fn are_twins(self, b: RouteRow, t: u64) -> bool {
         route_key::are_twin_routes(self, b, t)
@@ -105,7 +105,8 @@ impl Keyed for RouteRow {
 
 // ---- the words
 
-// The five bits are told by other parts of the hash than the word is (crates/slot).
+// The five bits are told by other parts of the hash than the word is (crates/slot). Written out: a loop over the divisors is no plainer, and would
+// stand in the loop of a pass.
 #[tactic(auto, using(lemmas::proofs::Cases::cases), unfolding(crate::specs::Filter::bits_of))]
 fn bits_of(h: u64) -> u64
     ensures { result ≡ bits_of h }

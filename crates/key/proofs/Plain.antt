@@ -1,6 +1,6 @@
 -- Twins among instance rows are twins among the live rows of the plain node's table.
 use Prim.Native.Nat.{ℕ, suc}
-use mathlib.Core.Path.{◌≡◌, refl, sym, ap, ◌∙◌}
+use mathlib.Core.Path.{◌≡◌, refl, sym, ◌∙◌}
 use mathlib.Core.Bool.{Bool, true, false, cond, ◌&&◌, ◌||◌, and-true, or-false}
 use mathlib.Core.List.{List, [], ◌∷◌, ◌++◌, map}
 use mathlib.Core.Option.{Option, some, none}
@@ -18,7 +18,7 @@ use Rattle.keyed.specs.Look.{of_row, held}
 use Rattle.keyed.proofs.Laws.{request_part, reply_part}
 use Rattle.row.specs.declared.InstanceRow.{InstanceRow}
 use Rattle.first.proofs.Found.{seen, kind_cons}
-use Rattle.key.specs.Pair.{same_key, twin_rows, twins_by, ending_of}
+use Rattle.key.specs.Pair.{same_key, twin_rows, twins_by}
 use Rattle.key.proofs.Any.{two_same, two_either}
 
 pub key_near : (a b : InstanceRow) → eqb a.kind b.kind ≡ true → same a.dodagid b.dodagid ≡ true
@@ -37,9 +37,6 @@ key_parts a b e =
       eqb-true a.instance b.instance (and_left (eqb a.instance b.instance) (same a.dodagid b.dodagid) r),
       same_equal a.dodagid b.dodagid (and_right (eqb a.instance b.instance) (same a.dodagid b.dodagid) r),
     )
-
-pub row_ended : (a b : InstanceRow) → same_key a b ≡ true → ending_of a.dodagid ≡ ending_of b.dodagid
-row_ended a b e = ap ending_of (key_parts a b e).2
 
 -- twins are of one key, and both live
 pub twins_are : {A : Type 0} (key : A → A → Bool) (lives : A → Bool) (a b : A) → twins_by key lives a b ≡ true

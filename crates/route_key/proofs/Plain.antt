@@ -1,6 +1,6 @@
 -- Twins among routes are twins among the live rows of the plain node's table.
 use Prim.Native.Nat.{ℕ}
-use mathlib.Core.Path.{◌≡◌, refl, sym, ap, ◌∙◌}
+use mathlib.Core.Path.{◌≡◌, refl, sym, ◌∙◌}
 use mathlib.Core.Bool.{Bool, true, false, cond, ◌&&◌}
 use mathlib.Core.List.{List, map}
 use mathlib.Core.Option.{some, none}
@@ -18,7 +18,6 @@ use Rattle.row.specs.declared.RouteRow.{RouteRow}
 use Rattle.keyed.specs.Look.{of_row}
 use Rattle.keyed.proofs.Laws.{route_part}
 use Rattle.first.proofs.Found.{seen}
-use Rattle.key.specs.Pair.{ending_of}
 use Rattle.key.proofs.Any.{two_same}
 use Rattle.key.proofs.Plain.{both, two_seen, both_none, cond_self, pair_is}
 use Rattle.route_key.specs.Pair.{same_three, twin_routes}
@@ -34,9 +33,6 @@ three_parts a b e =
       same_equal a.destination b.destination (and_right (same a.source b.source) (same a.destination b.destination) r),
       eqb-true a.instance b.instance (and_right two (eqb a.instance b.instance) e),
     )
-
-pub route_ended : (a b : RouteRow) → same_three a b ≡ true → ending_of a.destination ≡ ending_of b.destination
-route_ended a b e = ap ending_of (three_parts a b e).1
 
 live_route_lem : (t : ℕ) (r : RouteRow) → live route_deadline t (route_of r) ≡ true → r.kind ≡ 1
 unfolding route_of
