@@ -84,7 +84,7 @@ unfolding heard_from
 from_number msg (Ok r) = refl
 from_number msg (Err refusal) = refl
 
-refused_some : (refusal : Refusal) → refusal_number refusal ≡ 0 → ⊥
+pub refused_some : (refusal : Refusal) → refusal_number refusal ≡ 0 → ⊥
 refused_some Malformed e = absurd (omega (arith, e))
 refused_some Unfit e = absurd (omega (arith, e))
 refused_some Unusable e = absurd (omega (arith, e))
