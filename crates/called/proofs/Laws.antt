@@ -29,9 +29,11 @@ use Rattle.message.specs.Message.{message_in, received_by}
 use Rattle.message.specs.declared.Link.{Link}
 use Rattle.message.specs.declared.Parsed.{Parsed}
 use Rattle.reader.specs.Reading.{refusal_number, heard_from, Bounded}
+use Rattle.std.specs.Prelude.{Ok, Err}
 use Rattle.reader.specs.declared.Reading.{Reading}
+use Rattle.reader.specs.declared.Refusal.{Refusal}
 use Rattle.heard.specs.Parsed.{parsed_of}
-use Rattle.heard.proofs.Laws.{message_is, reply_is, base_is, heard_sound, first_lines, first_lent, first_own, first_wrong, first_none, lines_refused, lines_heard}
+use Rattle.heard.proofs.Laws.{message_is, reply_is, base_is, heard_sound, first_lines, first_lent, first_own, first_wrong, first_none, refused_some, lines_refused, lines_heard}
 use Rattle.outcome.specs.Nothing.{nothing_sent}
 use Rattle.finish.specs.Gives.{state_of, decision_of, Gives}
 use Rattle.outcome.specs.declared.Outcome.{Outcome}
@@ -187,8 +189,7 @@ long octets z = lt-ltb 1236 (length octets) z
 -- what is known of a message that was read, where none of 1 to 6 refuses it
 pub record Read (h : Handed) (k : Link) (octets : List ℕ) (r : Reading) : Type 0 where
   pub admitted : Admitted h (Event.message (received_by k octets))
-  pub heard : heard_from octets r ≡ hear octets
-  pub accepted : refusal_number r.refusal ≡ 0
+  pub heard : heard_from octets (Ok r) ≡ hear octets
   pub bounded : Bounded (length octets) r
 
 -- and where 7 does not either: it is parsed, and its vector restored
@@ -198,21 +199,17 @@ pub record Understood (h : Handed) (k : Link) (octets : List ℕ) (r : Reading) 
   pub parsed : p ≡ parsed_of r
   pub vector : take (r.size / (16 - r.discovery.compr)) v ≡ restored r.discovery.compr r.base.dodagid (take r.size (drop r.at octets))
 
--- the octets are refused, or the message is read: `a` is what they answer, `n` its number
-module _ {h : Handed} {k : Link} {octets : List ℕ} (q : Admitted h (Event.message (received_by k octets))) (r : Reading) (f : heard_from octets r ≡ hear octets)
-    (a : Answer) (a-is : answer_number a ≡ refusal_number r.refusal) (n : ℕ) (n-is : n ≡ answer_number a) where
-  pub octets_refused : (n ≡ 0 → ⊥) → (o : Outcome) → o ≡ refused_with h a → Refused h (Event.message (received_by k octets)) o
-  octets_refused z o o_is =
-      let nonzero : answer_number a ≡ 0 → ⊥ = λ y. z (n-is ∙ y) in
-      refusal h (Event.message (received_by k octets)) a o (answer_number a)
-      (lines_refused h.settings (good_state (from h)) (view_of (from h)) (lent_in h) (received_by k octets) q.lent q.event q.state octets refl r f
-      (answer_number a) (sym a-is) nonzero)
-      nonzero refl o_is
+-- the octets are refused, or the message is read
+module _ {h : Handed} {k : Link} {octets : List ℕ} (q : Admitted h (Event.message (received_by k octets))) where
+  pub octets_refused : (why : Refusal) → heard_from octets (Err why) ≡ hear octets → (a : Answer) → answer_number a ≡ refusal_number why
+      → (o : Outcome) → o ≡ refused_with h a → Refused h (Event.message (received_by k octets)) o
+  octets_refused why f a a-is o o_is =
+      refusal h (Event.message (received_by k octets)) a o (refusal_number why)
+      (lines_refused h.settings (good_state (from h)) (view_of (from h)) (lent_in h) (received_by k octets) q.lent q.event q.state octets refl why f)
+      (refused_some why) a-is o_is
 
-  pub octets_read : n ≡ 0 → (refusal_number r.refusal ≡ 0 → Bounded (length octets) r) → Read h k octets r
-  octets_read z b =
-      let e = sym a-is ∙ sym n-is ∙ z in
-      record { admitted = q; heard = f; accepted = e; bounded = b e }
+  pub octets_read : (r : Reading) → heard_from octets (Ok r) ≡ hear octets → Bounded (length octets) r → Read h k octets r
+  octets_read r f b = record { admitted = q; heard = f; bounded = b }
 
 module _ {h : Handed} {k : Link} {octets : List ℕ} {r : Reading} (read : Read h k octets r) where
   abbrev e : Received
@@ -220,7 +217,7 @@ module _ {h : Handed} {k : Link} {octets : List ℕ} {r : Reading} (read : Read 
 
   base_ours : ours h.settings (message_of octets).base.dodagid ≡ ours h.settings r.base.dodagid
   unfolding message_of
-  base_ours = ap (λ (z : Address). ours h.settings z) (sym (ap (λ q. q.dodagid) (base_is octets r read.heard read.accepted)))
+  base_ours = ap (λ (z : Address). ours h.settings z) (sym (ap (λ q. q.dodagid) (base_is octets r read.heard)))
 
   -- the lines from 8 on
   abbrev rest : List Line
@@ -229,7 +226,7 @@ module _ {h : Handed} {k : Link} {octets : List ℕ} {r : Reading} (read : Read 
   heard_lines : answer_to h (Event.message e) ≡ cond (ours h.settings r.base.dodagid) 7 (answer_of rest)
   heard_lines =
       let q = read.admitted in
-      lines_heard h.settings (good_state (from h)) (view_of (from h)) (lent_in h) e q.lent q.event q.state octets refl r read.heard read.accepted
+      lines_heard h.settings (good_state (from h)) (view_of (from h)) (lent_in h) e q.lent q.event q.state octets refl r read.heard
       ∙ ap (λ (b : Bool). cond b 7 (answer_of rest)) base_ours
 
   pub own_refused : ours h.settings r.base.dodagid ≡ true → (a : Answer) → a ≡ OwnDodagid → (o : Outcome) → o ≡ refused_with h a → Refused h (Event.message e) o
@@ -247,14 +244,14 @@ module _ {h : Handed} {k : Link} {octets : List ℕ} {r : Reading} {p : Parsed} 
             (good_is (good_state (from h)) (view_of (from h)) u.read.admitted.state);
         forward_room = b.2;
         reply_room = b.3;
-        heard = rw u.parsed (heard_sound octets r u.read.heard u.read.accepted u.read.bounded);
+        heard = rw u.parsed (heard_sound octets r u.read.heard u.read.bounded);
       }
 
   m_is : message_in p v ≡ message_of octets
-  m_is = rw u.parsed (message_is octets r u.read.heard u.read.accepted v u.vector)
+  m_is = rw u.parsed (message_is octets r u.read.heard v u.vector)
 
   is_reply : (message_of octets).discovery.reply ≡ r.discovery.reply
-  is_reply = reply_is octets r u.read.heard u.read.accepted
+  is_reply = reply_is octets r u.read.heard
 
   -- neither 1 nor 2 to 7
   message_on : answer_to h (Event.message (received_by k octets)) ≡ answer_of (rest u.read)

@@ -3,52 +3,24 @@
 #![tactic(auto)]
 
 ghost use Rattle.std.specs.Prelude.{◌≡◌};
-ghost use Rattle.plain.specs.Request.{ours};
-ghost use Rattle.own.specs.Settings.{settings_of};
+ghost use Rattle.answer.specs.declared.Answer.TheVariants.{BadCall};
+ghost use Rattle.outcome.specs.Nothing.{nothing_sent};
 ghost use Rattle.called.specs.Calls.{Asked, Promised};
-ghost use Rattle.answer.specs.declared.Answer.TheVariants.{BadCall, OwnDodagid};
 
 use answer::Answer;
-use gather::Gathering;
 use message::Link;
 use outcome::Outcome;
 use own::Own;
 use plain::Target;
-use reader::Reading;
 use row::{InstanceRow, RouteRow};
 use start::Asking;
-use targets::Targets;
 
-// ---- by value
-
-fn bad_call() -> Answer
-    ensures { result ≡ BadCall }
+// Answer 1.
+fn bad_call(clock: u64, seq: u8) -> Outcome
+    ensures { result ≡ record { answer = BadCall; forward = nothing_sent; reply = nothing_sent; clock = clock; seq = seq } }
 {
-    Answer::BadCall
+    outcome::refused(Answer::BadCall, clock, seq)
 }
-
-fn own_dodagid() -> Answer
-    ensures { result ≡ OwnDodagid }
-{
-    Answer::OwnDodagid
-}
-
-fn has_own_dodagid(o: Own, r: Reading) -> bool
-    ensures { result ≡ ours (settings_of o) r.base.dodagid }
-{
-    let b = r.base;
-    let a = b.dodagid;
-    own::is_ours(o, a)
-}
-
-fn targets_of(g: Gathering) -> Targets
-    ensures { result ≡ g.targets }
-{
-    let ts = g.targets;
-    ts
-}
-
-// ---- over the lent tables
 
 // A received message.
 #[tactic(auto, using(lemmas::proofs::Cases::cases, called::proofs::Laws::is_bad, called::proofs::Laws::is_bad_event, called::proofs::Laws::short, called::proofs::Laws::long, called::proofs::Laws::octets_refused, called::proofs::Laws::octets_read, called::proofs::Laws::own_refused, called::proofs::Laws::taken, called::proofs::Laws::reply_step, called::proofs::Laws::request_step))]
@@ -78,21 +50,20 @@ pub fn message(
     }) }
 {
     if bad_call::is_bad(o, clock, t, forward.len(), reply.len()) {
-        return outcome::refused(bad_call(), clock, seq);
+        return bad_call(clock, seq);
     }
     if 1236 < octets.len() {
-        return outcome::refused(bad_call(), clock, seq);
+        return bad_call(clock, seq);
     }
     if wrong_state::is_wrong(instances, routes, clock, seq) {
         return outcome::refused(wrong_state::wrong_state(), clock, seq);
     }
-    let r = reader::read(octets);
-    let a = heard::octets_answer(r);
-    if answer::number(a) != 0 {
-        return outcome::refused(a, clock, seq);
-    }
-    if has_own_dodagid(o, r) {
-        return outcome::refused(own_dodagid(), clock, seq);
+    let r = match reader::read(octets) {
+        Ok(r) => r,
+        Err(refusal) => return outcome::refused(heard::octets_answer(refusal), clock, seq),
+    };
+    if own::is_ours(o, r.base.dodagid) {
+        return outcome::refused(Answer::OwnDodagid, clock, seq);
     }
     let p = heard::parsed(r);
     let v = heard::vector_of(octets, r);
@@ -134,11 +105,11 @@ pub fn start(
     }) }
 {
     if bad_call::is_bad(o, clock, t, forward.len(), reply.len()) {
-        return outcome::refused(bad_call(), clock, seq);
+        return bad_call(clock, seq);
     }
     let g = gather::gather(targets);
     if bad_start::is_bad_start(g, s) {
-        return outcome::refused(bad_call(), clock, seq);
+        return bad_call(clock, seq);
     }
     if wrong_state::is_wrong(instances, routes, clock, seq) {
         return outcome::refused(wrong_state::wrong_state(), clock, seq);
@@ -153,6 +124,6 @@ pub fn start(
         seq,
         t,
         s,
-        targets_of(g),
+        g.targets,
     )
 }

@@ -7,7 +7,7 @@ use native.Mathlib.Omega.{arith}
 use native.Mathlib.Nat.{div-mul-le_self}
 use lib.Dec.{eqb}
 use lib.ListN.{length, take, drop}
-use borrow.Author.Tests.{ne_eqb, eqb-true}
+use borrow.Author.Tests.{ne_eqb}
 use Rattle.plain.specs.Address.{Address, unusable}
 use Rattle.plain.specs.Given.{Settings, Lent, Received, Event}
 use Rattle.plain.specs.Answers.{Line, answer_of, View, short_prefix, bad_lent, long_message, wrong_state}
@@ -18,7 +18,10 @@ use Rattle.plain.specs.Plain.{lines, message_lines}
 use Rattle.plain.specs.declared.Base.{Base}
 use Rattle.lemmas.proofs.Each.{each_settles}
 use Rattle.lemmas.proofs.Targets.{targets_short}
+use Rattle.std.specs.Prelude.{Result, Ok, Err}
 use Rattle.reader.specs.declared.Reading.{Reading}
+use Rattle.reader.specs.declared.Refusal.{Refusal}
+use Rattle.reader.specs.declared.Refusal.TheVariants.{Malformed, Unfit, Unusable, TooMany}
 use Rattle.reader.specs.Reading.{refusal_number, message_read, heard_from, Bounded}
 use Rattle.reader.proofs.Part.{part_length}
 use Rattle.message.specs.Message.{message_in}
@@ -71,14 +74,21 @@ chosen_number false false true d m n k e = rw (← e)
 chosen_number false false false true m n k e = rw (← e)
 chosen_number false false false false m n k e = rw (← e)
 
-from_number : (msg : List ℕ) (r : Reading) → number_of (heard_from msg r) ≡ refusal_number r.refusal
+-- the number of a refusal, and 0 where a message is read
+abbrev number_read : Result Reading Refusal → ℕ
+number_read (Ok r) = 0
+number_read (Err refusal) = refusal_number refusal
+
+from_number : (msg : List ℕ) (read : Result Reading Refusal) → number_of (heard_from msg read) ≡ number_read read
 unfolding heard_from
-from_number msg r = go (eqb (refusal_number r.refusal) 0) refl
-  where
-    go : (t : Bool) → eqb (refusal_number r.refusal) 0 ≡ t
-        → number_of (cond t (octets.Heard.heard (message_read msg r)) (octets.Heard.refused (refusal_number r.refusal))) ≡ refusal_number r.refusal
-    go true e = sym (eqb-true (refusal_number r.refusal) 0 e)
-    go false e = refl
+from_number msg (Ok r) = refl
+from_number msg (Err refusal) = refl
+
+pub refused_some : (refusal : Refusal) → refusal_number refusal ≡ 0 → ⊥
+refused_some Malformed e = absurd (omega (arith, e))
+refused_some Unfit e = absurd (omega (arith, e))
+refused_some Unusable e = absurd (omega (arith, e))
+refused_some TooMany e = absurd (omega (arith, e))
 
 -- ---- The message
 
@@ -86,12 +96,11 @@ base_of_lem : (msg : List ℕ) → (message_of msg).base ≡ base_of msg
 unfolding message_of
 base_of_lem msg = refl
 
-module _ (msg : List ℕ) (r : Reading) (e : heard_from msg r ≡ hear msg) (z : refusal_number r.refusal ≡ 0) where
+module _ (msg : List ℕ) (r : Reading) (e : heard_from msg (Ok r) ≡ hear msg) where
   pub message_read_lem : message_read msg r ≡ message_of msg
   unfolding heard_from hear
   message_read_lem =
-      let q = rw z at e in
-      ap (message_or (message_of msg)) q
+      ap (message_or (message_of msg)) e
       ∙ chosen_message (malformed msg) (unfit msg) (unusable (base_of msg).dodagid) (too_many (message_of msg)) (message_of msg)
 
   pub message_is : (v : List Address)
@@ -146,24 +155,25 @@ module _ (lent own wrong : Bool) (rest : List Line) where
 module _ (x : Settings) (good : Bool) (v : View) (c : Lent) (e : Received) where
   module _ (a : bad_lent x v.clock c ≡ false) where
     module _ (l : long_message e.octets ≡ false) where
-      module _ (w : wrong_state good v ≡ false) (msg : List ℕ) (q : e.octets ≡ msg) (r : Reading) (f : heard_from msg r ≡ hear msg) where
+      module _ (w : wrong_state good v ≡ false) (msg : List ℕ) (q : e.octets ≡ msg) where
         -- 3, 4, 5 and 6, or the lines after them
-        lines_are : answer_of (lines x good v c (Event.message e))
-            ≡ cond (eqb (refusal_number r.refusal) 0)
+        lines_are : (read : Result Reading Refusal) → heard_from msg read ≡ hear msg → answer_of (lines x good v c (Event.message e))
+            ≡ cond (eqb (number_read read) 0)
             (cond (ours x (base_of msg).dodagid) 7 (answer_of (message_lines x v c.time e (message_of msg))))
-            (refusal_number r.refusal)
+            (number_read read)
         unfolding lines answer_of hear
-        lines_are =
+        lines_are read f =
             rw (a, l, w, q)
             (chosen_number (malformed msg) (unfit msg) (unusable (base_of msg).dodagid) (too_many (message_of msg)) (message_of msg) _ _
-            (sym (ap number_of f) ∙ from_number msg r))
+            (sym (ap number_of f) ∙ from_number msg read))
 
-        pub lines_refused : (k : ℕ) → refusal_number r.refusal ≡ k → (k ≡ 0 → ⊥) → answer_of (lines x good v c (Event.message e)) ≡ k
-        lines_refused k n z = rw (n, ne_eqb k 0 z) at lines_are
+        pub lines_refused : (refusal : Refusal) → heard_from msg (Err refusal) ≡ hear msg
+            → answer_of (lines x good v c (Event.message e)) ≡ refusal_number refusal
+        lines_refused refusal f = rw (ne_eqb (refusal_number refusal) 0 (refused_some refusal)) at (lines_are (Err refusal) f)
 
-        pub lines_heard : refusal_number r.refusal ≡ 0
+        pub lines_heard : (r : Reading) → heard_from msg (Ok r) ≡ hear msg
             → answer_of (lines x good v c (Event.message e))
             ≡ cond (ours x (message_of msg).base.dodagid) 7 (answer_of (message_lines x v c.time e (message_of msg)))
-        lines_heard n =
-            (rw n at lines_are)
+        lines_heard r f =
+            lines_are (Ok r) f
             ∙ ap (λ (b : Base). cond (ours x b.dodagid) 7 (answer_of (message_lines x v c.time e (message_of msg)))) (sym (base_of_lem msg))

@@ -7,7 +7,6 @@ use Rattle.message.specs.declared.Parsed.{Parsed}
 unfoldable pub parsed_of : Reading → Parsed
 parsed_of r = record {
   base = r.base;
-  configured = r.configured;
   configuration = r.configuration;
   discovery = r.discovery;
   n = r.size / (16 - r.discovery.compr);

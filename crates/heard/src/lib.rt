@@ -17,16 +17,12 @@ pub fn parsed(r: Reading) -> Parsed
     requires { r.discovery.compr ≤ 15 }
     ensures { result ≡ parsed_of r }
 {
-    let base = r.base;
-    let configuration = r.configuration;
-    let discovery = r.discovery;
     let targets = r.targets;
-    let width = 16 - discovery.compr as usize;
+    let width = 16 - r.discovery.compr as usize;
     Parsed {
-        base,
-        configured: r.configured,
-        configuration,
-        discovery,
+        base: r.base,
+        configuration: r.configuration,
+        discovery: r.discovery,
         n: r.size / width,
         count: r.count,
         targets,
@@ -40,21 +36,16 @@ pub fn vector_of(octets: &[u8], r: Reading) -> [[u8; 16]; 16]
     ensures { take (r.size / (16 - r.discovery.compr)) result
         ≡ restored r.discovery.compr r.base.dodagid (take r.size (drop r.at octets.now)) }
 {
-    let base = r.base;
-    let discovery = r.discovery;
-    let dodagid = base.dodagid;
     let at = r.at;
     let end = r.at + r.size;
-    vector::addresses(&octets[at..end], discovery.compr, dodagid)
+    vector::addresses(&octets[at..end], r.discovery.compr, r.base.dodagid)
 }
 
-// The answer that the octets alone give.
-pub fn octets_answer(r: Reading) -> Answer
-    ensures { answer_number result ≡ refusal_number r.refusal }
+// The answer that the octets alone give. Both types are of crates below, so that this is no `From`.
+pub fn octets_answer(refusal: Refusal) -> Answer
+    ensures { answer_number result ≡ refusal_number refusal }
 {
-    let refusal = r.refusal;
     match refusal {
-        Refusal::Heard => Answer::Done,
         Refusal::Malformed => Answer::Malformed,
         Refusal::Unfit => Answer::Unfit,
         Refusal::Unusable => Answer::BadDodagid,

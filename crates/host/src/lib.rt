@@ -5,7 +5,7 @@ ghost use Rattle.std.specs.Prelude.{◌≡◌};
 ghost use Rattle.answer.specs.Answer.{destination_of};
 ghost use Rattle.host.specs.Host.{way_number, neighbour_in, host_of};
 
-use answer::{Destination, Way};
+use answer::Destination;
 use outcome::Outcome;
 
 // What a call comes to, beside the rows and octets that it writes. A neighbour's address is all zero unless the way is 2.
@@ -23,46 +23,40 @@ pub struct HostOutcome {
     pub reply_neighbour: [u8; 16],
 }
 
+#[tactic(auto, using(lemmas::proofs::Cases::cases))]
 fn way_number(d: Destination) -> u8
     ensures { result ≡ way_number (destination_of d) }
 {
-    let w = d.way;
-    match w {
-        Way::Nowhere => 0,
-        Way::Group => 1,
-        Way::Neighbour => 2,
-        Way::Caller => 3,
+    match d {
+        Destination::Nowhere => 0,
+        Destination::Group => 1,
+        Destination::Neighbour(_) => 2,
+        Destination::Caller => 3,
     }
 }
 
-#[tactic(auto, using(lemmas::proofs::Cases::cases, crate::proofs::Told::told_neighbour, crate::proofs::Told::told_none))]
+#[tactic(auto, using(lemmas::proofs::Cases::cases))]
 fn neighbour_in(d: Destination) -> [u8; 16]
     ensures { result ≡ neighbour_in (destination_of d) }
 {
-    let a = d.neighbour;
-    if way_number(d) == 2 {
-        return a;
+    match d {
+        Destination::Neighbour(a) => a,
+        Destination::Nowhere | Destination::Group | Destination::Caller => [0; 16],
     }
-    [0; 16]
 }
 
 pub fn host_outcome(r: Outcome) -> HostOutcome
     ensures { result ≡ host_of r }
 {
-    let a = r.answer;
-    let f = r.forward;
-    let g = r.reply;
-    let there = f.to;
-    let back = g.to;
-    let forward_neighbour = neighbour_in(there);
-    let reply_neighbour = neighbour_in(back);
+    let forward_neighbour = neighbour_in(r.forward.to);
+    let reply_neighbour = neighbour_in(r.reply.to);
     HostOutcome {
-        answer: answer::number(a),
+        answer: answer::number(r.answer),
         seq: r.seq,
-        forward_way: way_number(there),
-        reply_way: way_number(back),
-        forward_length: f.size as u64,
-        reply_length: g.size as u64,
+        forward_way: way_number(r.forward.to),
+        reply_way: way_number(r.reply.to),
+        forward_length: r.forward.size as u64,
+        reply_length: r.reply.size as u64,
         clock: r.clock,
         forward_neighbour,
         reply_neighbour,

@@ -23,6 +23,7 @@ use Rattle.decision.specs.Decision.{post_vector, post_message, post_path, octets
 use Rattle.decision.specs.declared.Post.{Post}
 use Rattle.decision.specs.declared.What.{What}
 use Rattle.post.specs.With.{message_with}
+use Rattle.std.specs.Prelude.{Option}
 
 module _ (x : Settings) (p : Post) (vector : List Address) (fits : Fits x p vector) (long : length vector ≡ 16) where
   taken_length : length (take p.message.n vector) ≡ p.message.n
@@ -79,15 +80,15 @@ as_written x p vector before after r k e w =
     subst (λ (z : List ℕ). Written z before after r) (sym (ap (λ (q : What). octets_as q x p vector) e)) w
 
 -- a message from its parts, as they are taken out of a post
-module _ (m : Parsed) (base : Base) (configured : Bool) (configuration : List ℕ) (d : Discovery) (n count : ℕ) (targets : List Target)
-    (eb : base ≡ m.base) (ec : configured ≡ m.configured) (eo : configuration ≡ m.configuration) (ed : d ≡ m.discovery)
+module _ (m : Parsed) (base : Base) (configuration : Option (List ℕ)) (d : Discovery) (n count : ℕ) (targets : List Target)
+    (eb : base ≡ m.base) (eo : configuration ≡ m.configuration) (ed : d ≡ m.discovery)
     (en : count ≡ m.count) (et : targets ≡ m.targets) where
   pub parts_fit : Sendable m.discovery n → m.count ≤ 8 → short_prefixes (take m.count m.targets) ≡ true
       → Sendable d n × (count ≤ 8) × (short_prefixes (take count targets) ≡ true)
   parts_fit s h q = rw (ed, en, et) (s, h, q)
 
   pub parts_written : (v : List Address) (before after : List ℕ) (r : ℕ)
-      → Written (octets_of (message_from base configured configuration d n v count targets)) before after r
+      → Written (octets_of (message_from base configuration d n v count targets)) before after r
       → Written (octets_of (message_with m (take n v))) before after r
   parts_written v before after r w =
-      subst (λ (z : Message). Written (octets_of z) before after r) (rw (eb, ec, eo, ed, en, et)) w
+      subst (λ (z : Message). Written (octets_of z) before after r) (rw (eb, eo, ed, en, et)) w

@@ -1,5 +1,5 @@
 -- A message that is heard, and answers 5 and 6.
-use Prim.Native.Nat.{ℕ, zero, suc, ◌-◌, ◌/◌, ◌≤◌, ◌<◌}
+use Prim.Native.Nat.{ℕ, zero, suc, ◌-◌, ◌/◌, ◌≤◌}
 use mathlib.Core.Path.{◌≡◌, refl, sym, ap, ◌∙◌}
 use mathlib.Core.Bool.{true, false, ◌||◌}
 use mathlib.Core.List.{List}
@@ -7,7 +7,7 @@ use mathlib.Core.Option.{Option}
 use native.Mathlib.Omega.{arith}
 use lib.Dec.{ltb}
 use lib.ListN.{length, take, drop, length-take, length-drop, length-map}
-use borrow.Author.Tests.{ltb-false, ne_eqb}
+use borrow.Author.Tests.{ltb-false}
 use Rattle.lemmas.proofs.Choice.{or_left, or_right}
 use Rattle.plain.specs.Address.{Address, unusable}
 use Rattle.plain.specs.Octets.{options_of, of_type, art_type, targets_of, base_of, parts, restored, address_octets, route_body, vector_octets, compr_of, discovery_of, message_of, too_many, malformed, unfit, hear}
@@ -18,8 +18,8 @@ use Rattle.targets.specs.declared.Targets.{Targets}
 use Rattle.targets.specs.Collected.{Gathered}
 use Rattle.option_body.proofs.Laws.{compr_below}
 use Rattle.reader.specs.declared.Reading.{Reading}
-use Rattle.reader.specs.declared.Refusal.{Refusal}
-use Rattle.reader.specs.Reading.{refusal_number, message_read, heard_from, Bounded}
+use Rattle.std.specs.Prelude.{Ok}
+use Rattle.reader.specs.Reading.{message_read, heard_from, Bounded}
 use Rattle.reader.specs.Parts.{Filled}
 use Rattle.plain.specs.Octets as octets
 
@@ -76,10 +76,10 @@ module _ {msg : List ℕ} {ts : Targets} {r : Reading} (v : Gathered (targets_of
     unfolding hear
     hear_many e = rw (a, b, c, ← many_is, e)
 
-    pub hear_heard : ltb 16 (r.size / (16 - r.discovery.compr)) || ts.over ≡ false → heard_from msg r ≡ hear msg
+    pub hear_heard : ltb 16 (r.size / (16 - r.discovery.compr)) || ts.over ≡ false → heard_from msg (Ok r) ≡ hear msg
     unfolding hear heard_from
     hear_heard e =
-        rw (w.number, a, b, c, ← many_is, e) (ap octets.Heard.heard (message_is (or_right (ltb 16 (r.size / (16 - r.discovery.compr))) _ e)))
+        rw (a, b, c, ← many_is, e) (ap octets.Heard.heard (message_is (or_right (ltb 16 (r.size / (16 - r.discovery.compr))) _ e)))
 
   pub bounded : ltb 16 (r.size / (16 - r.discovery.compr)) || ts.over ≡ false → Bounded (length msg) r
   bounded e = record {
@@ -93,13 +93,6 @@ module _ {msg : List ℕ} {ts : Targets} {r : Reading} (v : Gathered (targets_of
   }
 
 -- ---- Refusals
-
-pub refused_as : (msg : List ℕ) (r : Reading) (f : Refusal) → r.refusal ≡ f → 0 < refusal_number f
-    → hear msg ≡ octets.Heard.refused (refusal_number f)
-    → (heard_from msg r ≡ hear msg) × (refusal_number r.refusal ≡ 0 → Bounded (length msg) r)
-unfolding heard_from
-refused_as msg r f e p h =
-    (rw (h, e, ne_eqb (refusal_number f) 0 (λ z. omega arith)), λ z. absurd (omega (arith, ap refusal_number e)))
 
 module _ (msg : List ℕ) where
   pub hear_malformed : malformed msg ≡ true → hear msg ≡ octets.Heard.refused 3

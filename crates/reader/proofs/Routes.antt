@@ -1,14 +1,14 @@
 -- Where the RREQ or RREP and the Configuration are.
 use Prim.Native.Nat.{ℕ, zero, suc, ◌+◌, ◌-◌, ◌≤◌, ◌<◌}
 use mathlib.Core.Path.{◌≡◌, refl, sym, ap, ◌∙◌}
-use mathlib.Core.Bool.{Bool, true, false, cond, not, ◌||◌}
+use mathlib.Core.Bool.{Bool, true, false, not, ◌||◌}
 use mathlib.Core.List.{List, [], ◌∷◌}
 use mathlib.Core.Option.{some, none}
 use native.Mathlib.Omega.{arith}
 use lib.Dec.{eqb, ltb}
 use lib.ListN.{length, take, drop}
 use lib.Seq.{drop-drop, take-nil}
-use borrow.Author.Tests.{lt-ltb, le-ltb, ltb-false, eqb-true, not-false}
+use borrow.Author.Tests.{ltb-false, eqb-true, not-false}
 use Rattle.lemmas.proofs.Choice.{or_left, or_right, true_false}
 use Rattle.plain.specs.Octets.{Opt, options_of, of_type, first_body, route_body, configuration_type, configuration_of, bad_option, bad_route, bad_configuration, reply_counts, request_counts, unfit, mop_of, h_of, discovery_of}
 use Rattle.plain.specs.declared.Discovery.{Discovery}
@@ -39,17 +39,24 @@ configuration_size {msg} {start} {end} w =
     let q : eqb (length (part_of msg start end)) 14 ≡ true = not-false _ (or_left _ _ (or_left _ _ (or_left _ _ w.good))) in
     omega (arith, eqb-true (length (part_of msg start end)) 14 q, length_part msg start end w.within, w.order)
 
-pub configuration_is : {msg : List ℕ} {f : Found} (c : List ℕ) → Told configuration_type msg f
-    → (0 < f.count → c ≡ part_of msg f.start f.end)
-    → cond (ltb 0 f.count) (some c) none ≡ configuration_of (of_type configuration_type (options_of msg))
-configuration_is {msg} {f} c v h = go (of_type configuration_type (options_of msg)) refl
-  where
-    go : (os : List Opt) → of_type configuration_type (options_of msg) ≡ os → cond (ltb 0 f.count) (some c) none ≡ configuration_of os
-    go [] e = let q = rw e at v.count in rw (le-ltb 0 f.count (omega (arith, q)))
-    go (o ∷ os) e =
-        let q = rw e at v.count in
-        let p : 0 < f.count = omega (arith, q) in
-        rw (lt-ltb 0 f.count p) (ap some (h p ∙ sym (v.body p) ∙ ap first_body e))
+module _ {msg : List ℕ} {f : Found} (v : Told configuration_type msg f) where
+  pub configuration_none : f.count ≡ 0 → none ≡ configuration_of (of_type configuration_type (options_of msg))
+  configuration_none z = go (of_type configuration_type (options_of msg)) refl
+    where
+      go : (os : List Opt) → of_type configuration_type (options_of msg) ≡ os → none ≡ configuration_of os
+      go [] e = refl
+      go (o ∷ os) e = let q = rw e at v.count in absurd (omega (arith, q, z))
+
+  pub configuration_some : (c : List ℕ) → (f.count ≡ 0 → ⊥) → c ≡ part_of msg f.start f.end
+      → some c ≡ configuration_of (of_type configuration_type (options_of msg))
+  configuration_some c n h = go (of_type configuration_type (options_of msg)) refl
+    where
+      go : (os : List Opt) → of_type configuration_type (options_of msg) ≡ os → some c ≡ configuration_of os
+      go [] e = let q = rw e at v.count in absurd (n (omega (arith, q)))
+      go (o ∷ os) e =
+          let q = rw e at v.count in
+          let p : 0 < f.count = omega (arith, q) in
+          ap some (h ∙ sym (v.body p) ∙ ap first_body e)
 
 -- ---- The RREQ or RREP
 

@@ -1,16 +1,15 @@
 -- What a Reading stands for.
-use Rattle.std.specs.Prelude.{ℕ, ◌+◌, ◌-◌, ◌/◌, ◌≤◌, ◌≡◌, true, cond, List, eqb, take, drop}
-use Rattle.std.proofs.Math.Option.{some, none}
+use Rattle.std.specs.Prelude.{ℕ, ◌+◌, ◌-◌, ◌/◌, ◌≤◌, ◌≡◌, true, List, take, drop, Result, Ok, Err}
+use Rattle.lemmas.specs.Optional.{of_option}
 use Rattle.plain.specs.Blank.{Padded}
 use Rattle.plain.specs.Octets as octets
 use Rattle.reader.specs.declared.Refusal.{Refusal}
-use Rattle.reader.specs.declared.Refusal.TheVariants.{Heard, Malformed, Unfit, Unusable, TooMany}
+use Rattle.reader.specs.declared.Refusal.TheVariants.{Malformed, Unfit, Unusable, TooMany}
 use Rattle.reader.specs.declared.Reading.{Reading}
 
 -- "Answer numbers": 3 "message cut or malformed", 4 "MOP is not 4, or option counts wrong", 5 "DODAGID link-local, multicast or all zero",
--- 6 "over 16 vector addresses or over 8 targets"; 0 where the octets refuse nothing
+-- 6 "over 16 vector addresses or over 8 targets"
 abbrev pub refusal_number : Refusal → ℕ
-refusal_number Heard = 0
 refusal_number Malformed = 3
 refusal_number Unfit = 4
 refusal_number Unusable = 5
@@ -20,17 +19,16 @@ refusal_number TooMany = 6
 abbrev pub message_read : List ℕ → Reading → octets.Message
 message_read msg r = record {
   base = r.base;
-  configuration = cond r.configured (some r.configuration) none;
+  configuration = of_option r.configuration;
   discovery = r.discovery;
   vector = octets.restored r.discovery.compr r.base.dodagid (take r.size (drop r.at msg));
   targets = take r.count r.targets;
 }
 
 -- a refusal by its number, or a message
-unfoldable pub heard_from : List ℕ → Reading → octets.Heard
-heard_from msg r =
-    cond (eqb (refusal_number r.refusal) 0) (octets.Heard.heard (message_read msg r))
-    (octets.Heard.refused (refusal_number r.refusal))
+unfoldable pub heard_from : List ℕ → Result Reading Refusal → octets.Heard
+heard_from msg (Ok r) = octets.Heard.heard (message_read msg r)
+heard_from msg (Err refusal) = octets.Heard.refused (refusal_number refusal)
 
 -- What holds of a message that is heard: at most 16 addresses and 8 targets, a vector of an option's octets, and none with H 1.
 -- Past its targets the list is blank.

@@ -51,8 +51,7 @@ fn start_message(o: Own, seq: u8, s: Asking, ts: Targets) -> Parsed
     };
     Parsed {
         base,
-        configured: false,
-        configuration: [0; 14],
+        configuration: None,
         discovery,
         n: 0,
         count: ts.count,

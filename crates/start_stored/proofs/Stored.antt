@@ -1,9 +1,11 @@
 -- What a start stores, from its parts.
+use Rattle.std.specs.Prelude.{Option}
+use Rattle.lemmas.specs.Optional.{of_option}
 use Prim.Native.Nat.{ℕ}
 use mathlib.Core.Path.{◌≡◌, sym, ◌∙◌}
-use mathlib.Core.Bool.{true, false, cond}
+use mathlib.Core.Bool.{true, false}
 use mathlib.Core.List.{List, []}
-use mathlib.Core.Option.{none, some}
+use mathlib.Core.Option.{none}
 use lib.ListN.{take}
 use Rattle.plain.specs.Address.{zero_address}
 use Rattle.plain.specs.Given.{Settings, RequestRow, Instance}
@@ -11,8 +13,6 @@ use Rattle.plain.specs.Rank.{stepped, row_deadline}
 use Rattle.plain.specs.Request.{start_row, accept_start, with_reply_row, route_change}
 use Rattle.plain.specs.declared.Target.{Target}
 use Rattle.lemmas.proofs.Choice.{true_false}
-use Rattle.deadline.specs.Deadline.{deadline_of}
-use Rattle.deadline.specs.declared.Deadline.{Deadline}
 use Rattle.row.specs.Record.{request_record}
 use Rattle.targets.specs.declared.Targets.{Targets}
 use Rattle.kept.specs.Kept.{list_of}
@@ -23,7 +23,7 @@ use Rattle.start.specs.Start.{start_of}
 use Rattle.start.specs.declared.Asking.{Asking}
 
 -- its row
-pub row_is : (x : Settings) (t own : ℕ) (s : Asking) (ts : Targets) (end : Deadline) → deadline_of end ≡ row_deadline t s.l
+pub row_is : (x : Settings) (t own : ℕ) (s : Asking) (ts : Targets) (end : Option ℕ) → of_option end ≡ row_deadline t s.l
     → request_record (record {
       instance = s.instance;
       dodagid = x.receiving;
@@ -34,10 +34,10 @@ pub row_is : (x : Settings) (t own : ℕ) (s : Asking) (ts : Targets) (end : Dea
       neighbour = zero_address;
       targets = take ts.count ts.list;
       replied = false;
-      deadline = cond end.endless none (some end.at);
+      deadline = of_option end;
     })
     ≡ request_record (start_row x t own (start_of s []) (list_of ts))
-unfolding deadline_of start_row
+unfolding start_row
 row_is x t own s ts end e = rw e
 
 -- what is stored, with our stepped number

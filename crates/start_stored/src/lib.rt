@@ -39,8 +39,7 @@ fn start_row(o: Own, seq: u8, t: u64, s: Asking, ts: Targets) -> InstanceRow
         ts.count as u8,
         list,
         false,
-        end.endless,
-        end.at,
+        end,
     )
 }
 

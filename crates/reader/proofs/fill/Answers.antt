@@ -1,7 +1,7 @@
 use mathlib.Core.Path.{refl, sym, ◌∙◌}
 use native.Mathlib.Omega.{arith}
 use Rattle.reader.specs.Parts.{RouteAt}
-use Rattle.reader.proofs.Routes.{h_is, configuration_is, part_after}
+use Rattle.reader.proofs.Routes.{h_is, part_after}
 use Rattle.reader.proofs.fill.Goals.{After-route-body}
 use Rattle.reader.proofs.fill.Goals as goal
 
@@ -15,14 +15,13 @@ returns c =
     let v = c.requires.0 in
     let f = c.route-body.result in
     record {
-      number = refl;
       base_is = refl;
-      configuration = configuration_is _ v.configuration c.read_configuration-octets.ensures;
-      discovery = rw (w.body, ← c.is_reply.ensures _ v) c.discovery.ensures;
+      configuration = c.read_configuration-configuration.ensures;
+      discovery = rw (w.body, ← c.is_reply.ensures _ v) c.discovery-discovery.ensures;
       vector = rw w.body (sym (part_after c.args.msg.now f.start f.end 3));
       within = omega (arith, w.long, w.within);
       short = omega (arith, w.long, w.short);
-      alone = λ h. omega (arith, w.alone (sym (h_is _ _ _ c.discovery.ensures) ∙ h));
+      alone = λ h. omega (arith, w.alone (sym (h_is _ _ _ c.discovery-discovery.ensures) ∙ h));
       count = refl;
       targets = refl;
     }

@@ -1,11 +1,11 @@
 use mathlib.Core.Path.{◌≡◌, sym, ◌∙◌}
 use mathlib.Core.Bool.{false}
-use native.Mathlib.Omega.{arith}
 use Rattle.plain.specs.Address.{unusable}
 use Rattle.plain.specs.Octets.{base_of, malformed, unfit}
+use Rattle.reader.specs.Reading.{heard_from}
 use Rattle.scan.specs.Scanned.{Outlined}
 use Rattle.reader.specs.Parts.{Filled}
-use Rattle.reader.proofs.Message.{hear_many, hear_heard, bounded, refused_as}
+use Rattle.reader.proofs.Message.{hear_many, hear_heard, bounded}
 use Rattle.fault.proofs.Counts.{formed_outline}
 use Rattle.reader.proofs.read.Goals.{After-fill-r, Else-has_unusable_dodagid, Else-is_malformed, Else-is_unfit}
 use Rattle.reader.proofs.read.Goals as goal
@@ -35,11 +35,13 @@ filled c = rw c.read_base-base.ensures at c.fill-r.ensures
 -- ---- the parts
 
 pub returns-then-is_too_many : goal.returns-then-is_too_many
+unfolding heard_from
 returns-then-is_too_many c =
     let e = sym c.is_too_many.ensures ∙ c.if-is_too_many.true in
-    let r = refused_as _ c.refused-then-is_too_many.result _ c.refused-then-is_too_many.ensures (omega arith)
-    (hear_many c.read_targets-ts.ensures (filled (goal.at.returns-then-is_too_many c).After-fill-r) (formed (goal.at.returns-then-is_too_many c).Else-is_malformed) (fit (goal.at.returns-then-is_too_many c).Else-is_unfit) (usable (goal.at.returns-then-is_too_many c).Else-has_unusable_dodagid) e) in
-    record { heard = r.0; bounded = r.1 }
+    record {
+      heard = sym (hear_many c.read_targets-ts.ensures (filled (goal.at.returns-then-is_too_many c).After-fill-r) (formed (goal.at.returns-then-is_too_many c).Else-is_malformed) (fit (goal.at.returns-then-is_too_many c).Else-is_unfit) (usable (goal.at.returns-then-is_too_many c).Else-has_unusable_dodagid) e);
+      bounded = tt;
+    }
 
 pub returns : goal.returns
 returns c =
@@ -47,5 +49,5 @@ returns c =
     let e = sym c.is_too_many.ensures ∙ c.if-is_too_many.false in
     record {
       heard = hear_heard v (filled (goal.at.returns c).After-fill-r) (formed (goal.at.returns c).Else-is_malformed) (fit (goal.at.returns c).Else-is_unfit) (usable (goal.at.returns c).Else-has_unusable_dodagid) e;
-      bounded = λ _. bounded v (filled (goal.at.returns c).After-fill-r) e;
+      bounded = bounded v (filled (goal.at.returns c).After-fill-r) e;
     }
