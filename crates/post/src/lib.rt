@@ -13,7 +13,7 @@ use decision::{Post, What};
 use own::Own;
 
 // A message with the first n addresses of a vector.
-#[tactic(auto, using(lemmas::proofs::Cases::cases, crate::proofs::Laws::parts_fit, crate::proofs::Laws::parts_written))]
+#[tactic(auto, using(lemmas::proofs::Cases::cases))]
 fn put_parsed(out: &mut [u8], p: &Post, n: usize, vector: &[[u8; 16]; 16]) -> usize
     requires { Sendable p.now.message.discovery n × (p.now.message.count ≤ 8) × (short_prefixes (take p.now.message.count p.now.message.targets) ≡ true) × (1236 ≤ length out.old) }
     ensures { Written (octets_of (message_with p.now.message (take n vector.now))) out.old out.new result }
@@ -31,6 +31,7 @@ fn put_parsed(out: &mut [u8], p: &Post, n: usize, vector: &[[u8; 16]; 16]) -> us
 }
 
 // A message, with our addresses added where it has grown.
+#[tactic(auto, using(lemmas::proofs::Cases::cases, crate::proofs::Laws::plain_sendable))]
 fn put_dio(out: &mut [u8], o: &Own, p: &Post, vector: &[[u8; 16]; 16]) -> usize
     requires { Fits (settings_of o.now) p.now vector.now × (length vector.now ≡ 16) × (1236 ≤ length out.old) }
     ensures { Written (octets_of (post_message (settings_of o.now) p.now vector.now)) out.old out.new result }
@@ -45,7 +46,7 @@ fn put_dio(out: &mut [u8], o: &Own, p: &Post, vector: &[[u8; 16]; 16]) -> usize
 }
 
 // OrigNode's path, turned round where it came asymmetric.
-#[tactic(auto, using(lemmas::proofs::Cases::cases, crate::proofs::Laws::turned_path, crate::proofs::Laws::straight_path))]
+#[tactic(auto, using(lemmas::proofs::Cases::cases))]
 fn put_route_path(out: &mut [u8], p: &Post, vector: &[[u8; 16]; 16]) -> usize
     requires { (p.now.message.n ≤ 16) × (1236 ≤ length out.old) }
     ensures { Written (elided 0 (post_path p.now vector.now)) out.old out.new result }
