@@ -60,7 +60,8 @@ fn destination(o: Own, p: Parsed, vector: &[[u8; 16]; 16], w: ReplyFacts) -> Des
     Destination::Group
 }
 
-// What goes on: at OrigNode the path, for the caller, if there is one; between the ends the reply.
+// What goes on: at OrigNode the path, for the caller, if there is one; between the ends the reply. A What holds no octets: they are written from
+// the Post, which has the same fields whatever goes on.
 fn what_goes(orig: bool, n: usize) -> What
     ensures { result ≡ what_goes orig n }
 {
@@ -79,6 +80,7 @@ pub fn forward_post(o: Own, p: Parsed, vector: &[[u8; 16]; 16], w: ReplyFacts) -
     requires { Heard p × Array vector.now × (w.rank ≤ 65535) × (is_full (settings_of o) (message_in p vector.now) (answered_of w) ≡ false) }
     ensures { Posts (settings_of o) vector.now (reply_sent (settings_of o) (message_in p vector.now) (answered_of w)).forward (reply_sent (settings_of o) (message_in p vector.now) (answered_of w)).forward_to result }
 {
+    // the rank has 16 bits where it goes on: `try_from` would bring a refusal that no call meets
     let message = forwarded(p, w.rank as u16);
     let grown = reply::does_grow(p, w);
     let to = destination(o, p, vector, w);

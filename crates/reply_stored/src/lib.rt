@@ -16,7 +16,7 @@ use message::{Link, Parsed};
 use reply::ReplyFacts;
 use row::{InstanceRow, RouteRow};
 
-// An update keeps the row's deadline.
+// An update keeps the row's deadline. The rank has 16 bits: `try_from` would bring a refusal that no call meets.
 #[tactic(auto, using(lemmas::proofs::Cases::cases), unfolding(plain::specs::Reply::reply_row, reply::specs::Facts::answered_of, message::specs::Message::message_in))]
 fn reply_row(t: u64, p: Parsed, w: ReplyFacts) -> InstanceRow
     requires { (t ≤ 2 ^ 40) × (w.rank ≤ 65535) }
@@ -31,7 +31,7 @@ fn reply_row(t: u64, p: Parsed, w: ReplyFacts) -> InstanceRow
     )
 }
 
-// The route to TargNode, under the partner's number.
+// The route to TargNode, under the partner's number, which has a name for the proof.
 #[tactic(auto, using(lemmas::proofs::Cases::cases), unfolding(crate::specs::Made::reply_route, message::specs::Message::message_in))]
 fn route(t: u64, k: Link, p: Parsed) -> RouteRow
     requires { t ≤ 2 ^ 40 }
