@@ -10,18 +10,18 @@ ghost use Rattle.message.specs.Message.{message_in, received_by, reply_found, ro
 ghost use Rattle.own.specs.Settings.{settings_of};
 ghost use Rattle.reply.specs.Facts.{answered_of, Gathered};
 
-use message::{Found, FoundRoute, Link, Parsed};
+use message::{Found, Link, Parsed};
 use own::Own;
 use plain::Standing;
-use row::InstanceRow;
+use row::{InstanceRow, RouteRow};
 
 // What the answer and the outcome of a reply rest on: the rows that the tables hold for it, whether it is symmetric, whether we are
 // OrigNode, our own rank, and how it stands to the live row. The rank is a sum that may not fit 16 bits.
 #[derive(Clone, Copy)]
 pub struct ReplyFacts {
     pub partner: InstanceRow,
-    pub found: Found,
-    pub route: FoundRoute,
+    pub found: Option<Found<InstanceRow>>,
+    pub route: Option<Found<RouteRow>>,
     pub symmetric: bool,
     pub orig: bool,
     pub rank: u32,
@@ -32,10 +32,7 @@ pub struct ReplyFacts {
 fn is_symmetric(k: Link, partner: InstanceRow) -> bool
     ensures { result ≡ (request_of partner).s && not k.group }
 {
-    if partner.s == 0 {
-        return false;
-    }
-    !k.group
+    partner.s != 0 && !k.group
 }
 
 // A symmetric reply keeps its rank.
@@ -44,22 +41,21 @@ fn own_rank(symmetric: bool, advertised: u16, increase: u16) -> u32
     ensures { (result ≡ cond symmetric advertised (own_rank advertised increase)) × (symmetric ≡ true → result ≤ 65535) }
 {
     if symmetric {
-        return advertised as u32;
+        return u32::from(advertised);
     }
-    (advertised as u32) + (increase as u32)
+    u32::from(advertised) + u32::from(increase)
 }
 
 // How a reply of that number stands to the live row, with our own rank.
 #[tactic(auto, using(lemmas::proofs::Cases::cases), unfolding(plain::specs::Reply::reply_standing, message::specs::Message::row_found, row::specs::Meaning::reply_of))]
-fn how_it_stands(f: Found, seq: u8, rank: u32) -> Standing
+fn how_it_stands(f: Option<Found<InstanceRow>>, seq: u8, rank: u32) -> Standing
     ensures { result ≡ reply_standing (reply_found f) seq rank }
 {
-    if f.is {
-        let lower = rank < (f.row.rank as u32);
-        let order = sequence::compare(seq, f.row.seq);
-        return sequence::standing(order, false, lower);
-    }
-    Standing::IsNew
+    let Some(found) = f else {
+        return Standing::IsNew;
+    };
+    let lower = rank < u32::from(found.row.rank);
+    sequence::standing(sequence::compare(seq, found.row.seq), false, lower)
 }
 
 // The facts of a reply.
@@ -69,25 +65,21 @@ pub fn gather(
     k: Link,
     p: Parsed,
     partner: InstanceRow,
-    f: Found,
-    g: FoundRoute,
+    f: Option<Found<InstanceRow>>,
+    g: Option<Found<RouteRow>>,
 ) -> ReplyFacts
     ensures { (v : List Address) → Gathered (answered_with (settings_of o) (received_by k []) (message_in p v) (request_of partner) (reply_found f) (route_found g)) result }
 {
     let symmetric = is_symmetric(k, partner);
     let rank = own_rank(symmetric, p.base.rank, k.increase);
-    let dodagid = partner.dodagid;
-    let orig = own::is_ours(o, dodagid);
-    let seq = pairing::dest_seq(p);
-    let standing = how_it_stands(f, seq, rank);
     ReplyFacts {
         partner,
         found: f,
         route: g,
         symmetric,
-        orig,
+        orig: own::is_ours(o, partner.dodagid),
         rank,
-        standing,
+        standing: how_it_stands(f, pairing::dest_seq(p), rank),
     }
 }
 
@@ -98,11 +90,5 @@ pub fn gather(
 pub fn does_grow(p: Parsed, w: ReplyFacts) -> bool
     ensures { (v : List Address) → result ≡ grows (message_in p v) (answered_of w) }
 {
-    if w.symmetric {
-        return false;
-    }
-    if w.orig {
-        return false;
-    }
-    !p.discovery.h
+    !w.symmetric && !w.orig && !p.discovery.h
 }

@@ -28,11 +28,7 @@ fn loops(o: Own, p: Parsed, vector: &[[u8; 16]; 16], w: ReplyFacts) -> bool
         return false;
     }
     if w.symmetric {
-        if w.orig {
-            return false;
-        }
-        let receiving = o.receiving;
-        return !loops::stands_once(receiving, p.n, vector);
+        return !w.orig && !loops::stands_once(o.receiving, p.n, vector);
     }
     loops::has_ours(o, p.n, vector)
 }
@@ -41,10 +37,7 @@ fn loops(o: Own, p: Parsed, vector: &[[u8; 16]; 16], w: ReplyFacts) -> bool
 fn is_link_bad(k: Link, w: ReplyFacts) -> bool
     ensures { result ≡ not w.symmetric && not k.downward }
 {
-    if k.downward {
-        return false;
-    }
-    !w.symmetric
+    !w.symmetric && !k.downward
 }
 
 // Answer 12, for an asymmetric reply.
@@ -52,16 +45,14 @@ fn is_link_bad(k: Link, w: ReplyFacts) -> bool
 fn is_rank_refused(k: Link, p: Parsed, w: ReplyFacts) -> bool
     ensures { (v : List Address) → result ≡ not w.symmetric && rank_refused (min_hop (message_in p v).configuration) p.base.rank k.increase p.discovery.limit w.orig }
 {
-    if w.symmetric {
-        return false;
-    }
-    rank::is_refused(
-        rule::step_of(p),
-        p.base.rank,
-        k.increase,
-        p.discovery.limit,
-        w.orig,
-    )
+    !w.symmetric
+        && rank::is_refused(
+            rule::step_of(p),
+            p.base.rank,
+            k.increase,
+            p.discovery.limit,
+            w.orig,
+        )
 }
 
 // Answer 13.
@@ -69,13 +60,8 @@ fn is_rank_refused(k: Link, p: Parsed, w: ReplyFacts) -> bool
 fn is_stale(p: Parsed, w: ReplyFacts) -> bool
     ensures { (v : List Address) → result ≡ is_stale w.standing || route_stale p.discovery.h (route_found w.route) (dest_seq (message_in p v)) }
 {
-    let standing = w.standing;
-    if standing::is_stale(standing) {
-        return true;
-    }
-    let g = w.route;
-    let seq = pairing::dest_seq(p);
-    rule::is_route_stale(p.discovery.h, g, seq)
+    standing::is_stale(w.standing)
+        || rule::is_route_stale(p.discovery.h, w.route, pairing::dest_seq(p))
 }
 
 // The first line that holds.
@@ -88,8 +74,7 @@ pub fn judge(o: Own, k: Link, p: Parsed, vector: &[[u8; 16]; 16], w: ReplyFacts)
     if loops(o, p, vector, w) {
         return Answer::Loop;
     }
-    let dodagid = p.base.dodagid;
-    if own::cannot_elide(o, p.discovery.h, p.discovery.compr, dodagid) {
+    if own::cannot_elide(o, p.discovery.h, p.discovery.compr, p.base.dodagid) {
         return Answer::CannotElide;
     }
     if is_link_bad(k, w) {
@@ -101,8 +86,7 @@ pub fn judge(o: Own, k: Link, p: Parsed, vector: &[[u8; 16]; 16], w: ReplyFacts)
     if is_stale(p, w) {
         return Answer::Stale;
     }
-    let standing = w.standing;
-    if standing::is_nothing_new(standing) {
+    if standing::is_nothing_new(w.standing) {
         return Answer::NothingNew;
     }
     if rule::cannot_add(o, reply::does_grow(p, w), p.discovery.compr, p.n) {

@@ -14,9 +14,8 @@ use Rattle.plain.specs.Octets.{Message, octets_of, elided}
 use Rattle.plain.specs.Request.{grown, cannot_grow, to_if}
 use Rattle.plain.specs.Reply.{Answered, grows, path, next_destination, forwarded_reply, reply_sent}
 use Rattle.lemmas.proofs.Choice.{cond_case, true_false, or_left, or_right}
-use Rattle.answer.specs.Answer.{destination_of, way_of}
+use Rattle.answer.specs.Answer.{destination_of}
 use Rattle.answer.specs.declared.Destination as code
-use Rattle.answer.specs.declared.Way.TheVariants.{Nowhere, Caller}
 use Rattle.writer_option.specs.Sendable.{Sendable}
 use Rattle.message.specs.Message.{message_in}
 use Rattle.message.specs.declared.Parsed.{Parsed}
@@ -32,7 +31,7 @@ use Rattle.rule.specs.Heard.{Heard}
 use Rattle.decision.specs.Decision.{Posts, Fits}
 use Rattle.rule.proofs.Laws.{heard_sendable}
 use Rattle.reply.specs.Facts.{is_full}
-use Rattle.reply_sent.specs.Goes.{raised, which_way, what_goes}
+use Rattle.reply_sent.specs.Goes.{raised, what_goes}
 use Rattle.reply.proofs.Laws.{grows_h}
 
 -- ---- The path
@@ -183,16 +182,3 @@ module _ (x : Settings) (p : Parsed) (vector : List Address) (a : Answered) (e :
           go false o z f =
               let s : w ≡ Dio = q ∙ sym (other a.is_orig (cond (eqb p.n 0) Nothing Path) Dio o) in
               rw s (posts_reply o (d ∙ sym (other a.is_orig (to_if (ltb 0 p.n) Destination.caller) (next_destination x (message_in p vector) a) o)))
-
--- ---- Where it goes
-
--- the neighbour plays a part only where it is symmetric
-pub goes_to : (orig : Bool) (n : ℕ) (s : Bool) (next b : Address) → (s ≡ true → next ≡ b)
-    → way_of (which_way orig n s) next ≡ cond orig (to_if (ltb 0 n) Destination.caller) (cond s (Destination.neighbour b) Destination.group)
-goes_to true n s next b f = go (eqb n 0) refl
-  where
-    go : (z : Bool) → eqb n 0 ≡ z → way_of (cond (eqb n 0) Nowhere Caller) next ≡ to_if (ltb 0 n) Destination.caller
-    go true q = let m : n ≡ 0 = eqb-true n 0 q in rw m refl
-    go false q = let m : n ≡ 0 → ⊥ = eqb-false n 0 q in rw (q, lt-ltb 0 n (omega arith)) refl
-goes_to false n true next b f = ap Destination.neighbour (f refl)
-goes_to false n false next b f = refl

@@ -1,8 +1,6 @@
--- What goes on of a reply, and which way.
+-- What goes on of a reply.
 use Rattle.std.specs.Prelude.{ℕ, Bool, cond, eqb}
 use Rattle.plain.specs.Request.{with_rank}
-use Rattle.answer.specs.declared.Way.{Way}
-use Rattle.answer.specs.declared.Way.TheVariants.{Nowhere, Group, Neighbour, Caller}
 use Rattle.message.specs.declared.Parsed.{Parsed}
 use Rattle.decision.specs.declared.What.{What}
 use Rattle.decision.specs.declared.What.TheVariants.{Nothing, Dio, Path}
@@ -11,7 +9,6 @@ use Rattle.decision.specs.declared.What.TheVariants.{Nothing, Dio, Path}
 unfoldable pub raised : Parsed → ℕ → Parsed
 raised p rank = record {
   base = with_rank p.base rank;
-  configured = p.configured;
   configuration = p.configuration;
   discovery = p.discovery;
   n = p.n;
@@ -19,10 +16,6 @@ raised p rank = record {
   targets = p.targets;
 }
 
--- "OrigNode .. sends nothing": of n addresses it tells the caller; between the ends the reply goes to the group, or to a neighbour if
--- symmetric
-abbrev pub which_way : Bool → ℕ → Bool → Way
-which_way orig n symmetric = cond orig (cond (eqb n 0) Nowhere Caller) (cond symmetric Neighbour Group)
-
+-- "OrigNode .. sends nothing": of n addresses it tells the caller; between the ends the reply goes on
 abbrev pub what_goes : Bool → ℕ → What
 what_goes orig n = cond orig (cond (eqb n 0) Nothing Path) Dio

@@ -1,2 +1,2 @@
--- what goes on, and which way
+-- what goes on
 pub mod Goes

@@ -11,9 +11,9 @@ ghost use Rattle.decision.specs.Decision.{Posts};
 ghost use Rattle.own.specs.Settings.{settings_of};
 ghost use Rattle.rule.specs.Heard.{Heard, Array};
 ghost use Rattle.reply.specs.Facts.{answered_of, is_full};
-ghost use Rattle.reply_sent.specs.Goes.{raised, which_way, what_goes};
+ghost use Rattle.reply_sent.specs.Goes.{raised, what_goes};
 
-use answer::{Destination, Way};
+use answer::Destination;
 use decision::{Post, What};
 use message::Parsed;
 use own::Own;
@@ -24,18 +24,9 @@ use reply::ReplyFacts;
 fn forwarded(p: Parsed, rank: u16) -> Parsed
     ensures { result ≡ raised p rank }
 {
-    let base = rule::with_rank(p.base, rank);
-    let configuration = p.configuration;
-    let discovery = p.discovery;
-    let targets = p.targets;
     Parsed {
-        base,
-        configured: p.configured,
-        configuration,
-        discovery,
-        n: p.n,
-        count: p.count,
-        targets,
+        base: rule::with_rank(p.base, rank),
+        ..p
     }
 }
 
@@ -46,47 +37,31 @@ fn next_node(o: Own, p: Parsed, vector: &[[u8; 16]; 16], w: ReplyFacts) -> [u8; 
     ensures { result ≡ cond p.discovery.h w.partner.neighbour (before (orig_node (message_in p vector.now)) o.receiving (take p.n vector.now)) }
 {
     if p.discovery.h {
-        let partner = w.partner;
-        return partner.neighbour;
+        return w.partner.neighbour;
     }
-    let first = pairing::orig_node(p);
-    let receiving = o.receiving;
-    path::address_before(first, receiving, p.n, vector)
+    path::address_before(pairing::orig_node(p), o.receiving, p.n, vector)
 }
 
-// Which way it goes: at OrigNode a path to the caller; between the ends to a neighbour if symmetric, else to the group.
-fn which_way(orig: bool, n: usize, symmetric: bool) -> Way
-    ensures { result ≡ which_way orig n symmetric }
-{
-    if orig {
-        if n == 0 {
-            return Way::Nowhere;
-        }
-        return Way::Caller;
-    }
-    if symmetric {
-        return Way::Neighbour;
-    }
-    Way::Group
-}
-
-#[tactic(auto, using(lemmas::proofs::Cases::cases, lemmas::proofs::Choice::true_false, crate::proofs::Sends::goes_to), unfolding(plain::specs::Reply::next_destination, reply::specs::Facts::answered_of, message::specs::Message::message_in, row::specs::Meaning::request_of))]
+// Where it goes: at OrigNode a path to the caller; between the ends to a neighbour if symmetric, else to the group.
+#[tactic(auto, using(lemmas::proofs::Cases::cases, lemmas::proofs::Choice::true_false), unfolding(plain::specs::Reply::next_destination, reply::specs::Facts::answered_of, message::specs::Message::message_in, row::specs::Meaning::request_of))]
 fn destination(o: Own, p: Parsed, vector: &[[u8; 16]; 16], w: ReplyFacts) -> Destination
     requires { p.n ≤ 16 }
     ensures { destination_of result ≡ cond w.orig (to_if (ltb 0 p.n) rules.Destination.caller) (next_destination (settings_of o) (message_in p vector.now) (answered_of w)) }
 {
-    let way = which_way(w.orig, p.n, w.symmetric);
+    if w.orig {
+        if p.n == 0 {
+            return Destination::Nowhere;
+        }
+        return Destination::Caller;
+    }
     if w.symmetric {
-        let neighbour = next_node(o, p, vector, w);
-        return Destination { way, neighbour };
+        return Destination::Neighbour(next_node(o, p, vector, w));
     }
-    Destination {
-        way,
-        neighbour: [0; 16],
-    }
+    Destination::Group
 }
 
-// What goes on: at OrigNode the path, for the caller, if there is one; between the ends the reply.
+// What goes on: at OrigNode the path, for the caller, if there is one; between the ends the reply. A What holds no octets: they are written from
+// the Post, which has the same fields whatever goes on.
 fn what_goes(orig: bool, n: usize) -> What
     ensures { result ≡ what_goes orig n }
 {
@@ -105,6 +80,7 @@ pub fn forward_post(o: Own, p: Parsed, vector: &[[u8; 16]; 16], w: ReplyFacts) -
     requires { Heard p × Array vector.now × (w.rank ≤ 65535) × (is_full (settings_of o) (message_in p vector.now) (answered_of w) ≡ false) }
     ensures { Posts (settings_of o) vector.now (reply_sent (settings_of o) (message_in p vector.now) (answered_of w)).forward (reply_sent (settings_of o) (message_in p vector.now) (answered_of w)).forward_to result }
 {
+    // the rank has 16 bits where it goes on: `try_from` would bring a refusal that no call meets
     let message = forwarded(p, w.rank as u16);
     let grown = reply::does_grow(p, w);
     let to = destination(o, p, vector, w);

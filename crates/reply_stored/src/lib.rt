@@ -3,81 +3,49 @@
 
 ghost use Rattle.std.specs.Prelude.{◌≤◌, ◌^◌, ◌≡◌, List, []};
 ghost use Rattle.plain.specs.Address.{Address};
-ghost use Rattle.plain.specs.Given.{Settings, ReplyRow};
-ghost use Rattle.plain.specs.Request.{kept_deadline};
+ghost use Rattle.plain.specs.Given.{Settings};
 ghost use Rattle.plain.specs.Reply.{reply_row, accept_reply};
-ghost use Rattle.deadline.specs.Deadline.{deadline_of};
 ghost use Rattle.row.specs.Record.{reply_record, route_record};
 ghost use Rattle.message.specs.Message.{message_in, received_by, reply_found, route_found};
 ghost use Rattle.decision.specs.Decision.{Stores};
 ghost use Rattle.reply.specs.Facts.{answered_of};
 ghost use Rattle.reply_stored.specs.Made.{reply_route};
 
-use deadline::Deadline;
 use decision::Decided;
 use message::{Link, Parsed};
 use reply::ReplyFacts;
 use row::{InstanceRow, RouteRow};
 
-// An update keeps the row's deadline.
-#[tactic(auto, using(lemmas::proofs::Cases::cases, rule::proofs::Laws::deadline_kept, rule::proofs::Kept::kept_stays, rule::proofs::Kept::kept_new, rule::proofs::Kept::kept_none), unfolding(row::specs::Meaning::reply_of))]
-fn kept_deadline(t: u64, l: u8, w: ReplyFacts) -> Deadline
-    requires { t ≤ 2 ^ 40 }
-    ensures { deadline_of result ≡ kept_deadline (λ (r : ReplyRow). r.deadline) w.standing (reply_found w.found) t l }
-{
-    let f = w.found;
-    if f.is {
-        let standing = w.standing;
-        if standing::is_update(standing) {
-            return Deadline {
-                endless: f.row.endless != 0,
-                at: f.row.deadline,
-            };
-        }
-        return deadline::of_l(t, l);
-    }
-    deadline::of_l(t, l)
-}
-
-#[tactic(auto, using(lemmas::proofs::Cases::cases), unfolding(plain::specs::Reply::reply_row, reply::specs::Facts::answered_of, message::specs::Message::message_in, deadline::specs::Deadline::deadline_of))]
+// An update keeps the row's deadline. The rank has 16 bits: `try_from` would bring a refusal that no call meets.
+#[tactic(auto, using(lemmas::proofs::Cases::cases), unfolding(plain::specs::Reply::reply_row, reply::specs::Facts::answered_of, message::specs::Message::message_in))]
 fn reply_row(t: u64, p: Parsed, w: ReplyFacts) -> InstanceRow
     requires { (t ≤ 2 ^ 40) × (w.rank ≤ 65535) }
     ensures { (v : List Address) → result ≡ reply_record (reply_row t (message_in p v) (answered_of w)) }
 {
-    let dodagid = p.base.dodagid;
-    let seq = pairing::dest_seq(p);
-    let d = kept_deadline(t, p.discovery.l, w);
     row::reply_row(
         p.base.instance,
-        dodagid,
-        seq,
+        p.base.dodagid,
+        pairing::dest_seq(p),
         w.rank as u16,
-        d.endless,
-        d.at,
+        rule::kept_deadline(t, p.discovery.l, w.standing, w.found),
     )
 }
 
-// The route to TargNode, under the partner's number.
+// The route to TargNode, under the partner's number, which has a name for the proof.
 #[tactic(auto, using(lemmas::proofs::Cases::cases), unfolding(crate::specs::Made::reply_route, message::specs::Message::message_in))]
 fn route(t: u64, k: Link, p: Parsed) -> RouteRow
     requires { t ≤ 2 ^ 40 }
     ensures { (v : List Address) → result ≡ route_record (reply_route t (received_by k []) (message_in p v)) }
 {
-    let source = pairing::orig_node(p);
-    let destination = p.base.dodagid;
     let number = pairing::partner_number(p);
-    let next = k.neighbour;
-    let seq = pairing::dest_seq(p);
-    let configuration = p.configuration;
     rule::route(
         t,
-        source,
-        destination,
+        pairing::orig_node(p),
+        p.base.dodagid,
         number,
-        next,
-        seq,
-        p.configured,
-        configuration,
+        k.neighbour,
+        pairing::dest_seq(p),
+        p.configuration,
     )
 }
 
@@ -87,15 +55,12 @@ pub fn accepted(seq: u8, t: u64, k: Link, p: Parsed, w: ReplyFacts) -> Decided
     requires { (t ≤ 2 ^ 40) × (w.rank ≤ 65535) }
     ensures { (x : Settings) (v : List Address) → Stores (accept_reply x seq t (received_by k []) (message_in p v) (answered_of w)) (reply_found w.found) (route_found w.route) result }
 {
-    let row = reply_row(t, p, w);
-    let route = route(t, k, p);
-    let none = decision::no_reply();
     Decided {
-        row,
+        row: reply_row(t, p, w),
         replies: false,
-        second: none,
+        second: decision::no_reply(),
         routed: p.discovery.h,
-        route,
+        route: route(t, k, p),
         seq,
     }
 }

@@ -3,7 +3,6 @@
 
 ghost use Rattle.std.specs.Prelude.{◌≡◌, []};
 ghost use Rattle.plain.specs.Plain.{enact};
-ghost use Rattle.answer.specs.declared.Answer.TheVariants.{NoPartner};
 ghost use Rattle.own.specs.Settings.{settings_of};
 ghost use Rattle.message.specs.Message.{message_in, received_by};
 ghost use Rattle.rule.specs.Taken.{Taken};
@@ -11,39 +10,10 @@ ghost use Rattle.finish.specs.Gives.{state_of, Gives};
 ghost use Rattle.reply_taken.specs.Decision.{reply_decision};
 
 use answer::Answer;
-use message::{Found, Link, Parsed};
+use message::{Link, Parsed};
 use outcome::Outcome;
 use own::Own;
 use row::{InstanceRow, RouteRow};
-
-// ---- by value
-
-fn h_of(p: Parsed) -> bool
-    ensures { result ≡ p.discovery.h }
-{
-    p.discovery.h
-}
-
-fn no_partner() -> Answer
-    ensures { result ≡ NoPartner }
-{
-    Answer::NoPartner
-}
-
-fn found_row(f: Found) -> InstanceRow
-    ensures { result ≡ f.row }
-{
-    let r = f.row;
-    r
-}
-
-fn is_found(f: Found) -> bool
-    ensures { result ≡ f.is }
-{
-    f.is
-}
-
-// ---- over the lent tables
 
 // What a reply that was heard comes to, from 8 on.
 #[tactic(auto, using(lemmas::proofs::Cases::cases, rule::proofs::Laws::posts_nothing, finish::proofs::Laws::refused_gives, finish::proofs::Settles::ready, finish::proofs::Decides::refused, finish::proofs::Decides::taken, crate::proofs::Laws::no_partner_is, crate::proofs::Laws::reply_is, crate::proofs::Answered::asking, crate::proofs::Answered::lines, crate::proofs::Answered::accept, crate::proofs::Answered::reply_decided, crate::proofs::Answered::reply_settled))]
@@ -66,23 +36,21 @@ pub fn take_reply(
     addresses::whole(vector);
     let number = pairing::partner_number(*p);
     let orig = pairing::orig_node(*p);
-    let w = search::search_partner(instances, t, number, orig, h_of(*p));
-    if is_found(w) {
-        let dodagid = message::dodagid_of(*p);
-        let f = search::search_reply(instances, t, message::instance_of(*p), dodagid);
-        let g = search_route::search_route(routes, t, orig, dodagid, number);
-        let a = reply::gather(o, k, *p, found_row(w), f, g);
-        let answer = reply_answer::judge(o, k, *p, vector, a);
-        if answer::number(answer) != 0 {
-            return outcome::refused(answer, clock, seq);
-        }
-        let d = reply_stored::accepted(seq, t, k, *p, a);
-        let there = reply_sent::forward_post(o, *p, vector, a);
-        let back = decision::no_post();
-        let l = message::live_of(f, g);
-        return finish::finish(
-            instances, routes, forward, reply, o, clock, seq, t, vector, &d, &there, &back, l,
-        );
+    let Some(partner) = search::search_partner(instances, t, number, orig, p.discovery.h) else {
+        return outcome::refused(Answer::NoPartner, clock, seq);
+    };
+    let f = search::search_reply(instances, t, p.base.instance, p.base.dodagid);
+    let g = search_route::search_route(routes, t, orig, p.base.dodagid, number);
+    let a = reply::gather(o, k, *p, partner.row, f, g);
+    let answer = reply_answer::judge(o, k, *p, vector, a);
+    if answer != Answer::Done {
+        return outcome::refused(answer, clock, seq);
     }
-    outcome::refused(no_partner(), clock, seq)
+    let d = reply_stored::accepted(seq, t, k, *p, a);
+    let there = reply_sent::forward_post(o, *p, vector, a);
+    let back = decision::no_post();
+    let l = message::live_of(f, g);
+    finish::finish(
+        instances, routes, forward, reply, o, clock, seq, t, vector, &d, &there, &back, l,
+    )
 }

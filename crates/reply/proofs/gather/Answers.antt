@@ -10,9 +10,9 @@ unfolding answered_of answered_with message_in request_of
 returns c = λ v. record {
   means =
       rw (
-        c.how_it_stands-standing.ensures,
-        c.dest_seq-seq.ensures v,
-        c.is_ours-orig.ensures,
+        c.how_it_stands.ensures,
+        c.dest_seq.ensures v,
+        c.is_ours.ensures,
         c.own_rank-rank.ensures.0,
         c.is_symmetric-symmetric.ensures,
       ) refl;

@@ -9,5 +9,5 @@ unfolding answered_of message_in
 returns c =
     λ x v.
     let s = c.args in
-    accepts x s.seq s.t (received_by s.k []) (message_in s.p v) (answered_of s.w) _ _ _ (c.reply_row-row.ensures v)
-    (c.route-route.ensures v)
+    accepts x s.seq s.t (received_by s.k []) (message_in s.p v) (answered_of s.w) _ _ _ (c.reply_row.ensures v)
+    (c.route.ensures v)

@@ -1,4 +1,3 @@
-use Rattle.deadline.specs.Deadline.{deadline_of}
 use Rattle.plain.specs.Reply.{reply_row}
 use Rattle.reply.specs.Facts.{answered_of}
 use Rattle.message.specs.Message.{message_in}
@@ -6,5 +5,5 @@ use mathlib.Core.Path.{refl, ◌∙◌}
 use Rattle.reply_stored.proofs.reply_row.Goals as goal
 
 pub returns : goal.returns
-unfolding reply_row answered_of message_in deadline_of
-returns c = λ v. c.reply_row.ensures ∙ rw (← c.dest_seq-seq.ensures v, ← c.kept_deadline-d.ensures) refl
+unfolding reply_row answered_of message_in
+returns c = λ v. c.reply_row.ensures ∙ rw (← c.dest_seq.ensures v, ← c.kept_deadline.ensures.reply) refl

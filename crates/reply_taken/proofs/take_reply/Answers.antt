@@ -1,6 +1,7 @@
-use mathlib.Core.Path.{◌≡◌, sym, ap, ◌∙◌}
+use mathlib.Core.Path.{◌≡◌, refl, sym, ◌∙◌}
 use mathlib.Core.List.{List, []}
 use native.Mathlib.Omega.{arith}
+use Rattle.std.proofs.Common.{rules}
 use Rattle.plain.specs.Address.{Address}
 use Rattle.plain.specs.Given.{Settings, Destination}
 use Rattle.plain.specs.Answers.{view_of, answer_of}
@@ -16,7 +17,7 @@ use Rattle.finish.proofs.Settles.{ready}
 use Rattle.finish.proofs.Decides.{refused, taken}
 use Rattle.reply_taken.proofs.Laws.{no_partner_is, reply_is, answered_is}
 use Rattle.reply_taken.proofs.Answered.{Known, asking, lines, accept, reply_decided, reply_rank, reply_room_lem, reply_settled}
-use Rattle.reply_taken.proofs.take_reply.Goals.{After-gather-a, After-no_post-back, Else-number-ne0}
+use Rattle.reply_taken.proofs.take_reply.Goals.{After-gather-a, After-no_post-back, Then-ne, Else-ne}
 use Rattle.reply_taken.proofs.take_reply.Goals as goal
 
 -- ---- what is known
@@ -28,7 +29,7 @@ known : (c : After-gather-a)
     c.args.routes.now c.args.o
     c.args.k c.args.p.now
     c.args.vector.now c.search_reply-f.result
-    c.search_route-g.result c.search_partner-w.result.row c.found_row.result c.gather-a.result
+    c.search_route-g.result c.in-Some.partner.row c.gather-a.result
 known c =
     let a = c.args in
     let rows = a.instances.now in
@@ -36,31 +37,30 @@ known c =
     let vector = a.vector.now in
     let number = c.partner_number-number in
     let orig = c.orig_node-orig in
-    let h = c.h_of in
-    let w = c.search_partner-w in
-    let is = c.is_found in
-    let dodagid = c.dodagid_of-dodagid in
-    let instance = c.instance_of in
+    let w = c.search_partner in
     let f = c.search_reply-f in
     let g = c.search_route-g in
     record {
-      same = c.found_row.ensures;
       gathered = c.gather-a.ensures vector;
       found =
-          answered_is a.clock a.seq a.t rows routes a.o a.k a.p.now vector number.result orig.result h.result
-          (number.ensures vector) (orig.ensures vector) h.ensures w.result (w.ensures a.clock c.requires.later) instance.result
-          dodagid.result instance.ensures dodagid.ensures f.result g.result (f.ensures.found a.clock c.requires.later)
-          (g.ensures.found a.clock c.requires.later);
+          answered_is a.clock a.seq a.t rows routes a.o a.k a.p.now vector number.result orig.result (number.ensures vector)
+          (orig.ensures vector) w.result (w.ensures a.clock c.requires.later) f.result g.result
+          (f.ensures.found a.clock c.requires.later) (g.ensures.found a.clock c.requires.later);
       decided =
-          reply_is a.clock a.seq a.t rows routes a.o a.k a.p.now vector number.result orig.result h.result
-          (number.ensures vector) (orig.ensures vector) h.ensures w.result (w.ensures a.clock c.requires.later) is.result is.ensures
-          c.if-is_found.true;
+          reply_is a.clock a.seq a.t rows routes a.o a.k a.p.now vector number.result orig.result (number.ensures vector)
+          (orig.ensures vector) w.result (w.ensures a.clock c.requires.later) c.in-Some.partner c.in-Some.is;
     }
 
--- and where the answer is 0
-zero : (c : Else-number-ne0) (h : Known c.args.clock c.args.seq c.args.t c.args.instances.now c.args.routes.now c.args.o c.args.k c.args.p.now c.args.vector.now c.search_reply-f.result
-    c.search_route-g.result c.search_partner-w.result.row c.found_row.result c.gather-a.result) → answer_of (lines h (answered_of c.gather-a.result)) ≡ 0
-zero c h = sym c.judge-answer.ensures ∙ (sym c.number.ensures ∙ c.if-number-ne0.false)
+-- and where the answer is 0, or is not
+done : (c : Else-ne) → answer_number c.judge-answer.result ≡ 0
+done c = search (rules, c.ne.ensures, c.if-ne.false)
+
+not_done : (c : Then-ne) → answer_number c.judge-answer.result ≡ 0 → ⊥
+not_done c e = search (rules, c.ne.ensures, c.if-ne.true, e)
+
+zero : (c : Else-ne) (h : Known c.args.clock c.args.seq c.args.t c.args.instances.now c.args.routes.now c.args.o c.args.k c.args.p.now c.args.vector.now c.search_reply-f.result
+    c.search_route-g.result c.in-Some.partner.row c.gather-a.result) → answer_of (lines h (answered_of c.gather-a.result)) ≡ 0
+zero c h = sym c.judge-answer.ensures ∙ done c
 
 -- no reply of our own is written
 quiet : (c : After-no_post-back) → (x : Settings) (vector : List Address) → Posts x vector [] Destination.nowhere c.no_post-back.result
@@ -68,21 +68,35 @@ quiet c x vector = rw c.no_post-back.ensures (posts_nothing x vector)
 
 -- ---- the parts
 
-pub returns-then-number-ne0 : goal.returns-then-number-ne0
-returns-then-number-ne0 c =
+pub returns-in-None : goal.returns-in-None
+returns-in-None c =
     let a = c.args in
-    let h = known (goal.at.returns-then-number-ne0 c).After-gather-a in
+    let rows = a.instances.now in
+    let routes = a.routes.now in
+    let vector = a.vector.now in
+    let number = c.partner_number-number in
+    let orig = c.orig_node-orig in
+    let w = c.search_partner in
+    rw (no_partner_is a.clock a.seq a.t rows routes a.o a.k a.p.now vector number.result orig.result (number.ensures vector)
+    (orig.ensures vector) w.result (w.ensures a.clock c.requires.later) c.in-None.is)
+    (refused_gives a.clock a.seq a.t rows routes a.forward.now a.reply.now 8 (idle (view_of (state_of a.clock a.seq rows routes))) _
+    c.refused.result refl (λ z. absurd (omega arith)) c.refused.ensures)
+
+pub returns-then-ne : goal.returns-then-ne
+returns-then-ne c =
+    let a = c.args in
+    let h = known (goal.at.returns-then-ne c).After-gather-a in
     refused (lines h) (accept h) (answered_of c.gather-a.result) (asking h) h.gathered.means _ (reply_decided h) a.clock a.seq a.t
-    a.instances.now a.routes.now a.forward.now a.reply.now c.judge-answer.result c.number.result
-    c.refused.result c.judge-answer.ensures c.number.ensures c.if-number-ne0.true c.refused.ensures
+    a.instances.now a.routes.now a.forward.now a.reply.now c.judge-answer.result (answer_number c.judge-answer.result)
+    c.refused-2.result c.judge-answer.ensures refl (not_done (goal.at.returns-then-ne c).Then-ne) c.refused-2.ensures
 
 pub accepted-d-requires : goal.accepted-d-requires
-accepted-d-requires c = (c.requires.time, reply_rank (known (goal.at.accepted-d-requires c).After-gather-a) (zero (goal.at.accepted-d-requires c).Else-number-ne0 (known (goal.at.accepted-d-requires c).After-gather-a)))
+accepted-d-requires c = (c.requires.time, reply_rank (known (goal.at.accepted-d-requires c).After-gather-a) (zero (goal.at.accepted-d-requires c).Else-ne (known (goal.at.accepted-d-requires c).After-gather-a)))
 
 pub forward_post-there-requires : goal.forward_post-there-requires
 forward_post-there-requires c =
     let h = known (goal.at.forward_post-there-requires c).After-gather-a in
-    let z = zero (goal.at.forward_post-there-requires c).Else-number-ne0 (known (goal.at.forward_post-there-requires c).After-gather-a) in
+    let z = zero (goal.at.forward_post-there-requires c).Else-ne (known (goal.at.forward_post-there-requires c).After-gather-a) in
     let v = c.whole in
     (c.requires.heard, record { places = v.ensures.0; whole = v.ensures.1 }, reply_rank h z, reply_room_lem h z)
 
@@ -101,33 +115,16 @@ finish-requires c =
     (record { within = g.ensures.here.within; lives = g.ensures.here.lives }) c.requires.forward_room c.requires.reply_room
     v.ensures.0 there.ensures.fits (quiet (goal.at.finish-requires c).After-no_post-back (settings_of a.o) vector).fits
 
-pub returns-then-is_found : goal.returns-then-is_found
-returns-then-is_found c =
+pub returns : goal.returns
+returns c =
     let a = c.args in
     let vector = a.vector.now in
-    let h = known (goal.at.returns-then-is_found c).After-gather-a in
+    let h = known (goal.at.returns c).After-gather-a in
     let d = c.accepted-d in
     let there = c.forward_post-there in
     let back = c.no_post-back in
     let l = c.live_of-l in
-    rw (taken (lines h) (accept h) (answered_of c.gather-a.result) (asking h) h.gathered.means _ (reply_decided h) (zero (goal.at.returns-then-is_found c).Else-number-ne0 (known (goal.at.returns-then-is_found c).After-gather-a)))
+    rw (taken (lines h) (accept h) (answered_of c.gather-a.result) (asking h) h.gathered.means _ (reply_decided h) (zero (goal.at.returns c).Else-ne (known (goal.at.returns c).After-gather-a)))
     (c.finish.ensures _
     (reply_settled h l.result l.ensures d.result there.result back.result (d.ensures (settings_of a.o) vector) there.ensures
-    (quiet (goal.at.returns-then-is_found c).After-no_post-back (settings_of a.o) vector)))
-
-pub returns : goal.returns
-returns c =
-    let a = c.args in
-    let rows = a.instances.now in
-    let routes = a.routes.now in
-    let vector = a.vector.now in
-    let number = c.partner_number-number in
-    let orig = c.orig_node-orig in
-    let h = c.h_of in
-    let w = c.search_partner-w in
-    let is = c.is_found in
-    rw (no_partner_is a.clock a.seq a.t rows routes a.o a.k a.p.now vector number.result orig.result h.result
-    (number.ensures vector) (orig.ensures vector) h.ensures w.result (w.ensures a.clock c.requires.later) is.result is.ensures
-    c.if-is_found.false)
-    (refused_gives a.clock a.seq a.t rows routes a.forward.now a.reply.now 8 (idle (view_of (state_of a.clock a.seq rows routes))) _
-    c.refused-2.result (ap answer_number c.no_partner.ensures) (λ z. absurd (omega arith)) c.refused-2.ensures)
+    (quiet (goal.at.returns c).After-no_post-back (settings_of a.o) vector)))
