@@ -22,7 +22,6 @@ use Rattle.targets.specs.declared.Targets.{Targets}
 use Rattle.message.specs.declared.Found.{Found}
 use Rattle.message.specs.declared.Parsed.{Parsed}
 use Rattle.rule.specs.Heard.{Heard}
-use Rattle.rule.proofs.Types.{length_mapped}
 
 pub targets_found : (f : Found InstanceRow) → f.row.count ≤ 8 → length f.row.targets ≡ 8
     → take f.row.count f.row.targets ≡ row_targets (request_found (Some f))
