@@ -26,7 +26,6 @@ use Rattle.row.specs.declared.RouteRow.{RouteRow}
 use Rattle.message.specs.declared.Parsed.{Parsed}
 use Rattle.message.specs.declared.Link.{Link}
 use Rattle.request.specs.Facts.{asked_of, Gathered}
-use Rattle.request_targets.proofs.Rows.{list_eight}
 use Rattle.request_targets.proofs.Kept.{all_kept}
 
 pub facts_eight : (a : RequestFacts) (vs : List Val) → Is (row facts.the_type) a vs → length a.targets.list ≡ 8
