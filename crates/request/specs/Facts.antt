@@ -4,7 +4,8 @@ use Rattle.plain.specs.Blank.{Padded}
 use Rattle.plain.specs.Request.{Asked}
 use Rattle.writer_option.specs.Sendable.{short_prefixes}
 use Rattle.kept.specs.Kept.{list_of}
-use Rattle.message.specs.Message.{request_found, route_found, delta_found}
+use Rattle.lemmas.specs.Optional.{of_option}
+use Rattle.message.specs.Message.{request_found, route_found}
 use Rattle.request.specs.declared.RequestFacts.{RequestFacts}
 
 unfoldable pub asked_of : RequestFacts → Asked
@@ -15,7 +16,7 @@ asked_of a = record {
   standing = a.standing;
   is_targ = a.targ;
   targets = list_of a.targets;
-  delta = delta_found a.delta;
+  delta = of_option a.delta;
 }
 
 -- The rank and the targets of facts that are no 12, and of any message that was heard, can be stored and sent. Past the targets the list is

@@ -1,31 +1,33 @@
 // A received request by value (01, "A request"): the facts that it rests on, and whether it goes on and is replied to.
 #![tactic(auto)]
 
-ghost use Rattle.std.specs.Prelude.{◌≤◌, ◌≡◌, true, ◌||◌, List, [], eqb, ltb};
+ghost use Rattle.std.specs.Prelude.{◌≤◌, ◌≡◌, ◌||◌, List, [], eqb, ltb, IfSome};
+ghost use Rattle.lemmas.specs.Optional.{of_option};
 ghost use Rattle.plain.specs.Address.{Address};
 ghost use Rattle.plain.specs.Rank.{min_hop, integer_part, own_rank};
 ghost use Rattle.plain.specs.Request.{are_targ_node, request_standing, asked_with, forwards, replies_now};
 ghost use Rattle.own.specs.Settings.{settings_of};
-ghost use Rattle.message.specs.Message.{configuration_in, message_in, received_by, request_found, route_found, delta_found};
+ghost use Rattle.message.specs.Message.{message_in, received_by, request_found, route_found};
 ghost use Rattle.request.specs.Facts.{asked_of, Gathered};
 ghost use Rattle.rule.specs.Heard.{Heard};
 
-use message::{Found, FoundRoute, FreeDelta, Link, Parsed};
+use message::{Found, Link, Parsed};
 use own::Own;
 use plain::Standing;
+use row::{InstanceRow, RouteRow};
 use targets::Targets;
 
 // What the answer and the outcome of a request rest on: the rows that the tables hold for it, our own rank, how it stands to the live
 // row, whether we are TargNode, and the targets that stay. The rank is a sum that may not fit 16 bits.
 #[derive(Clone, Copy)]
 pub struct RequestFacts {
-    pub row: Found,
-    pub route: FoundRoute,
+    pub row: Option<Found<InstanceRow>>,
+    pub route: Option<Found<RouteRow>>,
     pub rank: u32,
     pub standing: Standing,
     pub targ: bool,
     pub targets: Targets,
-    pub delta: FreeDelta,
+    pub delta: Option<u8>,
 }
 
 // ---- The facts
@@ -33,20 +35,20 @@ pub struct RequestFacts {
 fn own_rank(advertised: u16, increase: u16) -> u32
     ensures { result ≡ own_rank advertised increase }
 {
-    (advertised as u32) + (increase as u32)
+    u32::from(advertised) + u32::from(increase)
 }
 
 // How a request of that number stands to the live row, with our own rank.
 #[tactic(auto, using(lemmas::proofs::Cases::cases), unfolding(plain::specs::Request::request_standing, message::specs::Message::row_found, row::specs::Meaning::request_of))]
-fn how_it_stands(f: Found, seq: u8, rank: u32) -> Standing
+fn how_it_stands(f: Option<Found<InstanceRow>>, seq: u8, rank: u32) -> Standing
     ensures { result ≡ request_standing (request_found f) seq rank }
 {
-    if f.is {
-        let lower = rank < (f.row.rank as u32);
-        let order = sequence::compare(seq, f.row.seq);
-        return sequence::standing(order, f.row.replied != 0, lower);
-    }
-    Standing::IsNew
+    let Some(found) = f else {
+        return Standing::IsNew;
+    };
+    let lower = rank < u32::from(found.row.rank);
+    let order = sequence::compare(seq, found.row.seq);
+    sequence::standing(order, found.row.replied != 0, lower)
 }
 
 // The facts of a request, of which we are TargNode or not.
@@ -56,14 +58,14 @@ pub fn gather(
     k: Link,
     p: Parsed,
     targ: bool,
-    f: Found,
-    g: FoundRoute,
-    d: FreeDelta,
+    f: Option<Found<InstanceRow>>,
+    g: Option<Found<RouteRow>>,
+    d: Option<u8>,
 ) -> RequestFacts
     requires heard { Heard p }
     requires targ_value { targ ≡ are_targ_node (settings_of o) (message_in p []) }
-    requires count_bound { f.is ≡ true → f.row.count ≤ 8 }
-    ensures { (vector : List Address) → Gathered (asked_with (settings_of o) (received_by k []) (message_in p vector) (request_found f) (route_found g) (delta_found d)) result }
+    requires count_bound { IfSome f (λ x. x.row.count ≤ 8) }
+    ensures { (vector : List Address) → Gathered (asked_with (settings_of o) (received_by k []) (message_in p vector) (request_found f) (route_found g) (of_option d)) result }
 {
     let rank = own_rank(p.base.rank, k.increase);
     let standing = how_it_stands(f, p.discovery.number, rank);
@@ -86,20 +88,16 @@ pub fn gather(
 fn integer_part(step: u16, rank: u32) -> u32
     ensures { result ≡ integer_part step rank }
 {
-    if step == 0 { 0 } else { rank / (step as u32) }
+    if step == 0 { 0 } else { rank / u32::from(step) }
 }
 
 // Whether our own rank is under RankLimit, if that is not 0: integer parts are compared.
 #[tactic(auto, using(lemmas::proofs::Cases::cases))]
 fn is_under_limit(p: Parsed, rank: u32) -> bool
-    ensures { result ≡ eqb p.discovery.limit 0 || ltb (integer_part (min_hop (configuration_in p.configured p.configuration)) rank) p.discovery.limit }
+    ensures { result ≡ eqb p.discovery.limit 0 || ltb (integer_part (min_hop (of_option p.configuration)) rank) p.discovery.limit }
 {
     let limit = p.discovery.limit;
-    if limit == 0 {
-        return true;
-    }
-    let part = integer_part(rule::step_of(p), rank);
-    part < (limit as u32)
+    limit == 0 || integer_part(rule::step_of(p), rank) < u32::from(limit)
 }
 
 // Whether a request goes on. Its vector plays no part in that.
@@ -107,10 +105,7 @@ fn is_under_limit(p: Parsed, rank: u32) -> bool
 pub fn forwards(p: Parsed, a: RequestFacts) -> bool
     ensures { result ≡ forwards (message_in p []) (asked_of a) }
 {
-    if 0 < a.targets.count {
-        return is_under_limit(p, a.rank);
-    }
-    false
+    0 < a.targets.count && is_under_limit(p, a.rank)
 }
 
 // Whether we reply.
@@ -118,10 +113,5 @@ pub fn forwards(p: Parsed, a: RequestFacts) -> bool
 pub fn replies_now(a: RequestFacts) -> bool
     ensures { result ≡ replies_now (asked_of a) }
 {
-    if a.targ {
-        let s = a.standing;
-        let updates = standing::is_update(s);
-        return !updates;
-    }
-    false
+    a.targ && !standing::is_update(a.standing)
 }

@@ -1,9 +1,9 @@
 -- Answers 15 and 16 of a request, and what is known where no line holds.
 use Prim.Native.Nat.{ℕ, ◌≤◌, ◌<◌}
 use mathlib.Core.Path.{◌≡◌, refl, ◌∙◌}
-use mathlib.Core.Bool.{Bool, true, false, cond, not, ◌&&◌}
+use mathlib.Core.Bool.{Bool, true, false, not, ◌&&◌}
 use mathlib.Core.List.{List, []}
-use mathlib.Core.Option.{some, none}
+use Rattle.std.specs.Prelude.{Option, Some, None, is_some}
 use native.Mathlib.Omega.{arith}
 use lib.Dec.{ltb}
 use lib.ListN.{length, take, length-take}
@@ -22,21 +22,20 @@ use Rattle.lemmas.specs.Each.{WholeVector}
 use Rattle.grown.proofs.Growth.{whole_grown}
 use Rattle.lemmas.proofs.Each.{each_take}
 use Rattle.lemmas.proofs.Rules.{elided_length}
-use Rattle.message.specs.Message.{configuration_in, message_in, received_by, delta_found}
-use Rattle.message.specs.declared.FreeDelta.{FreeDelta}
+use Rattle.lemmas.specs.Optional.{of_option}
+use Rattle.message.specs.Message.{message_in, received_by}
 use Rattle.message.specs.declared.Parsed.{Parsed}
 use Rattle.message.specs.declared.Link.{Link}
 use Rattle.request.specs.Facts.{asked_of}
 use Rattle.request.specs.Room.{Roomy}
 use Rattle.request.specs.declared.RequestFacts.{RequestFacts}
 
-pub given_delta : (d : FreeDelta) → given (delta_found d) ≡ d.is
-unfolding delta_found
-given_delta d = go d.is
-  where
-    go : (b : Bool) → given (cond b (some d.delta) none) ≡ b
-    go true = refl
-    go false = refl
+-- 15: whether no Delta is given
+pub delta_given : (d : Option ℕ) (b : Bool) → is_some d ≡ not b → b ≡ not (given (of_option d))
+delta_given None true e = refl
+delta_given None false e = e
+delta_given (Some x) true e = e
+delta_given (Some x) false e = refl
 
 -- 16: ours are added where the request goes on and H is 0
 full_added : (x : Settings) (goes h : Bool) (compr : ℕ) (v : List Address)
@@ -57,7 +56,7 @@ full_is x p a v adds r ea er =
 
 module _ (x : Settings) (k : Link) (p : Parsed) (v : List Address) (a : RequestFacts)
     (zero_is : answer_of (request_lines x (received_by k []) (message_in p v) (asked_of a)) ≡ 0) where
-  quiet : (rank_refused (min_hop (configuration_in p.configured p.configuration)) p.base.rank k.increase p.discovery.limit a.targ ≡ false)
+  quiet : (rank_refused (min_hop (of_option p.configuration)) p.base.rank k.increase p.discovery.limit a.targ ≡ false)
       × (forwards (message_in p []) (asked_of a) && not p.discovery.h
       && cannot_grow p.discovery.compr (grown x p.discovery.h (take p.n v)) ≡ false)
   unfolding request_lines asked_of message_in forwards
@@ -74,7 +73,7 @@ module _ (x : Settings) (k : Link) (p : Parsed) (v : List Address) (a : RequestF
   -- our own rank fits
   pub rank_fits : own_rank p.base.rank k.increase < 65535
   rank_fits =
-      own_fits (min_hop (configuration_in p.configured p.configuration)) p.base.rank k.increase p.discovery.limit a.targ
+      own_fits (min_hop (of_option p.configuration)) p.base.rank k.increase p.discovery.limit a.targ
       quiet.0
 
 -- where 16 is not answered, the vector has room for ours

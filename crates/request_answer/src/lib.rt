@@ -8,7 +8,8 @@ ghost use Rattle.plain.specs.Rank.{min_hop, rank_refused};
 ghost use Rattle.plain.specs.Request.{is_stale, route_stale, forwards, replies_now, request_lines};
 ghost use Rattle.answer.specs.Answer.{answer_number};
 ghost use Rattle.own.specs.Settings.{settings_of};
-ghost use Rattle.message.specs.Message.{configuration_in, message_in, received_by, route_found, delta_found};
+ghost use Rattle.lemmas.specs.Optional.{of_option};
+ghost use Rattle.message.specs.Message.{message_in, received_by, route_found};
 ghost use Rattle.request.specs.Facts.{asked_of};
 ghost use Rattle.rule.specs.Heard.{Heard, Array};
 
@@ -20,7 +21,7 @@ use request::RequestFacts;
 // Answer 12.
 #[tactic(auto, using(lemmas::proofs::Cases::cases))]
 fn is_rank_refused(p: Parsed, increase: u16, targ: bool) -> bool
-    ensures { result ≡ rank_refused (min_hop (configuration_in p.configured p.configuration)) p.base.rank increase p.discovery.limit targ }
+    ensures { result ≡ rank_refused (min_hop (of_option p.configuration)) p.base.rank increase p.discovery.limit targ }
 {
     rank::is_refused(
         rule::step_of(p),
@@ -36,34 +37,23 @@ fn is_rank_refused(p: Parsed, increase: u16, targ: bool) -> bool
 fn is_outdated(p: Parsed, a: RequestFacts) -> bool
     ensures { result ≡ is_stale a.standing || route_stale p.discovery.h (route_found a.route) p.discovery.number }
 {
-    let s = a.standing;
-    if standing::is_stale(s) {
-        return true;
-    }
-    let g = a.route;
-    rule::is_route_stale(p.discovery.h, g, p.discovery.number)
+    standing::is_stale(a.standing)
+        || rule::is_route_stale(p.discovery.h, a.route, p.discovery.number)
 }
 
 // Answer 15.
-#[tactic(auto, using(crate::proofs::Lines::given_delta, lemmas::proofs::Cases::cases))]
+#[tactic(auto, using(crate::proofs::Lines::delta_given, lemmas::proofs::Cases::cases))]
 fn lacks_delta(a: RequestFacts) -> bool
-    ensures { result ≡ replies_now (asked_of a) && not (given (delta_found a.delta)) }
+    ensures { result ≡ replies_now (asked_of a) && not (given (of_option a.delta)) }
 {
-    if request::replies_now(a) {
-        return !a.delta.is;
-    }
-    false
+    request::replies_now(a) && a.delta.is_none()
 }
 
 // Whether ours are added to the vector: the request goes on, and H is 0. Answer 16 is asked only there.
 fn adds_ours(p: Parsed, a: RequestFacts) -> bool
     ensures { result ≡ forwards (message_in p []) (asked_of a) && not p.discovery.h }
 {
-    let goes_on = request::forwards(p, a);
-    if goes_on {
-        return !p.discovery.h;
-    }
-    false
+    request::forwards(p, a) && !p.discovery.h
 }
 
 // The answer of a request.
@@ -73,12 +63,10 @@ pub fn judge(o: Own, k: Link, p: Parsed, vector: &[[u8; 16]; 16], a: RequestFact
     requires array { Array vector.now }
     ensures { answer_number result ≡ answer_of (request_lines (settings_of o) (received_by k []) (message_in p vector.now) (asked_of a)) }
 {
-    let dodagid = p.base.dodagid;
-    let s = a.standing;
     if loops::has_ours(o, p.n, vector) {
         return Answer::Loop;
     }
-    if own::cannot_elide(o, p.discovery.h, p.discovery.compr, dodagid) {
+    if own::cannot_elide(o, p.discovery.h, p.discovery.compr, p.base.dodagid) {
         return Answer::CannotElide;
     }
     if !k.upward {
@@ -90,7 +78,7 @@ pub fn judge(o: Own, k: Link, p: Parsed, vector: &[[u8; 16]; 16], a: RequestFact
     if is_outdated(p, a) {
         return Answer::Stale;
     }
-    if standing::is_nothing_new(s) {
+    if standing::is_nothing_new(a.standing) {
         return Answer::NothingNew;
     }
     if lacks_delta(a) {

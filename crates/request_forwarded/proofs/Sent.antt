@@ -31,7 +31,6 @@ use Rattle.request.specs.declared.RequestFacts.{RequestFacts}
 abbrev pub onward : Link → Parsed → RequestFacts → Parsed
 onward k p a = record {
   base = with_rank p.base a.rank;
-  configured = p.configured;
   configuration = p.configuration;
   discovery = with_flag p.discovery (s_out (received_by k []) (message_in p []));
   n = p.n;

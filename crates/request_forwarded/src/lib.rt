@@ -12,7 +12,7 @@ ghost use Rattle.rule.specs.Heard.{Heard};
 ghost use Rattle.request.specs.Facts.{asked_of, Sendable};
 ghost use Rattle.request.specs.Room.{Roomy};
 
-use answer::{Destination, Way};
+use answer::Destination;
 use decision::Post;
 use message::{Link, Parsed};
 use plain::Discovery;
@@ -22,56 +22,38 @@ use request::RequestFacts;
 fn with_flag(d: Discovery, flag: bool) -> Discovery
     ensures { result ≡ with_flag d flag }
 {
-    Discovery {
-        reply: d.reply,
-        flag,
-        h: d.h,
-        compr: d.compr,
-        l: d.l,
-        limit: d.limit,
-        number: d.number,
-    }
+    Discovery { flag, ..d }
 }
 
 // The request as it goes on, but for our addresses.
 fn forwarded(k: Link, p: Parsed, a: RequestFacts) -> Parsed
     requires { a.rank < 65536 }
-    ensures { result ≡ record { base = with_rank p.base a.rank; configured = p.configured; configuration = p.configuration; discovery = with_flag p.discovery (s_out (received_by k []) (message_in p [])); n = p.n; count = a.targets.count; targets = a.targets.list } }
+    ensures { result ≡ record { base = with_rank p.base a.rank; configuration = p.configuration; discovery = with_flag p.discovery (s_out (received_by k []) (message_in p [])); n = p.n; count = a.targets.count; targets = a.targets.list } }
 {
-    let received = p.base;
-    let base = rule::with_rank(received, a.rank as u16);
-    let configuration = p.configuration;
-    let asked = p.discovery;
-    let discovery = with_flag(asked, message::s_out(k, p));
-    let kept = a.targets.list;
+    let targets = a.targets.list;
     Parsed {
-        base,
-        configured: p.configured,
-        configuration,
-        discovery,
-        n: p.n,
+        base: rule::with_rank(p.base, a.rank as u16),
+        discovery: with_flag(p.discovery, message::s_out(k, p)),
         count: a.targets.count,
-        targets: kept,
+        targets,
+        ..p
     }
 }
 
 fn group_if(on: bool) -> Destination
     ensures { destination_of result ≡ to_if on rules.Destination.group }
 {
-    let way = if on { Way::Group } else { Way::Nowhere };
-    Destination {
-        way,
-        neighbour: [0; 16],
+    if on {
+        Destination::Group
+    } else {
+        Destination::Nowhere
     }
 }
 
 fn grows(on: bool, h: bool) -> bool
     ensures { result ≡ cond on (not h) false }
 {
-    if on {
-        return !h;
-    }
-    false
+    on && !h
 }
 
 // What goes on to the group, where 16 is not answered. With H 0 ours are added.

@@ -13,8 +13,7 @@ use Rattle.plain.specs.Octets.{octets_of}
 use Rattle.plain.specs.Request.{grown, s_out, reply_message, whole_target, octets_if, to_if}
 use Rattle.plain.specs.declared.Base.{Base}
 use Rattle.plain.specs.declared.Discovery.{Discovery}
-use Rattle.answer.specs.Answer.{destination_of, way_of}
-use Rattle.answer.specs.declared.Way.TheVariants.{Nowhere, Group, Neighbour}
+use Rattle.answer.specs.Answer.{destination_of}
 use Rattle.answer.specs.declared.Destination as code
 use Rattle.writer_option.specs.Sendable.{Sendable, short_prefixes}
 use Rattle.message.specs.Message.{message_in, received_by}
@@ -49,7 +48,6 @@ module _ (x : Settings) (k : Link) (p : Parsed) (own delta : ℕ) where
       → length p.targets ≡ 8
       → Replied x k p own delta (record {
         base = base;
-        configured = p.configured;
         configuration = p.configuration;
         discovery = discovery;
         n = n;
@@ -103,9 +101,3 @@ module _ (x : Settings) (k : Link) (p : Parsed) (own delta : ℕ) where
     reply_either false w dest ew et v l =
         let q = reply_silent v l in
         rw ew (silent_posts x v m to et (omega (arith, e.addresses, g.addresses)) q.0 e.targets q.1)
-
--- where it goes
-pub reply_goes : (on s : Bool) (a : Address) → way_of (cond on (cond s Neighbour Group) Nowhere) a ≡ to_if on (cond s (Destination.neighbour a) Destination.group)
-reply_goes true true a = refl
-reply_goes true false a = refl
-reply_goes false s a = refl

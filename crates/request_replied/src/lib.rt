@@ -6,7 +6,6 @@ ghost use Rattle.plain.specs.Address.{Address};
 ghost use Rattle.plain.specs.Given as rules;
 ghost use Rattle.plain.specs.Request.{s_out, reply_message, reply_destination, to_if, accept_request};
 ghost use Rattle.answer.specs.Answer.{destination_of};
-ghost use Rattle.answer.specs.declared.Way.TheVariants.{Nowhere, Group, Neighbour};
 ghost use Rattle.own.specs.Settings.{settings_of};
 ghost use Rattle.message.specs.Message.{message_in, received_by};
 ghost use Rattle.decision.specs.Decision.{Posts};
@@ -14,7 +13,7 @@ ghost use Rattle.rule.specs.Heard.{Heard};
 ghost use Rattle.request.specs.Facts.{asked_of};
 ghost use Rattle.request_replied.specs.Replied.{Replied};
 
-use answer::{Destination, Way};
+use answer::Destination;
 use decision::Post;
 use message::{Link, Parsed};
 use own::Own;
@@ -27,15 +26,11 @@ fn reply_base(o: Own, p: Parsed, delta: u8) -> Base
     ensures { (own : ℕ) (c : rules.Received) (vector : List Address) → result ≡ (reply_message (settings_of o) own c (message_in p vector) delta).base }
 {
     let receiving = o.receiving;
-    let instance = rolling::plus_delta(p.base.instance, delta);
-    let step = rule::step_of(p);
     Base {
-        instance,
-        version: 0,
-        rank: step,
-        g: false,
-        prf: 0,
+        instance: rolling::plus_delta(p.base.instance, delta),
+        rank: rule::step_of(p),
         dodagid: receiving,
+        ..Base::default()
     }
 }
 
@@ -47,11 +42,9 @@ fn reply_discovery(p: Parsed, delta: u8) -> Discovery
     Discovery {
         reply: true,
         flag: false,
-        h: p.discovery.h,
-        compr: p.discovery.compr,
-        l: p.discovery.l,
         limit: 0,
         number: delta,
+        ..p.discovery
     }
 }
 
@@ -67,7 +60,6 @@ fn reply_count(k: Link, p: Parsed) -> usize
 fn replied(o: Own, k: Link, p: Parsed, seq: u8, delta: u8) -> Parsed
     ensures { Replied (settings_of o) k p seq delta result }
 {
-    let configuration = p.configuration;
     let orig = p.base.dodagid;
     let target = Target {
         seq,
@@ -80,37 +72,27 @@ fn replied(o: Own, k: Link, p: Parsed, seq: u8, delta: u8) -> Parsed
     targets[0] = target;
     Parsed {
         base,
-        configured: p.configured,
-        configuration,
         discovery,
         n: reply_count(k, p),
         count: 1,
         targets,
+        ..p
     }
 }
 
 // Where our reply goes, if we reply.
-fn reply_way(on: bool, s: bool) -> Way
-    ensures { result ≡ cond on (cond s Neighbour Group) Nowhere }
-{
-    if on {
-        if s {
-            return Way::Neighbour;
-        }
-        return Way::Group;
-    }
-    Way::Nowhere
-}
-
-#[tactic(auto, using(lemmas::proofs::Cases::cases, crate::proofs::Sent::reply_goes))]
+#[tactic(auto, using(lemmas::proofs::Cases::cases))]
 fn reply_to(on: bool, k: Link, p: Parsed) -> Destination
     ensures { destination_of result ≡ to_if on (reply_destination (received_by k []) (message_in p [])) }
 {
-    let neighbour = k.neighbour;
-    Destination {
-        way: reply_way(on, message::s_out(k, p)),
-        neighbour,
+    if !on {
+        return Destination::Nowhere;
     }
+    if message::s_out(k, p) {
+        let neighbour = k.neighbour;
+        return Destination::Neighbour(neighbour);
+    }
+    Destination::Group
 }
 
 // Our reply, if we reply. `seq` is our number before it is stepped.
@@ -119,9 +101,8 @@ pub fn reply_post(o: Own, k: Link, p: Parsed, a: RequestFacts, seq: u8) -> Post
     requires { Heard p }
     ensures { (t : ℕ) (vector : List Address) → length vector ≡ 16 → Posts (settings_of o) vector (accept_request (settings_of o) seq t (received_by k []) (message_in p vector) (asked_of a)).sent.reply (accept_request (settings_of o) seq t (received_by k []) (message_in p vector) (asked_of a)).sent.reply_to result }
 {
-    let free = a.delta;
     let on = request::replies_now(a);
-    let message = replied(o, k, p, rolling::step(seq), message::delta_or_0(free));
+    let message = replied(o, k, p, rolling::step(seq), message::delta_or_0(a.delta));
     let to = reply_to(on, k, p);
     Post {
         what: decision::dio_if(on),

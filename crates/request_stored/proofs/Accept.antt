@@ -12,7 +12,8 @@ use Rattle.row.specs.Record.{request_record, route_record}
 use Rattle.decision.proofs.Laws.{meant, again, route_meant}
 use Rattle.decision.specs.Decision.{reply_in, instances_by, record_of, routes_by, Stores}
 use Rattle.decision.specs.declared.Decided.{Decided}
-use Rattle.message.specs.Message.{configuration_in, message_in, received_by, request_found, route_found, delta_found}
+use Rattle.lemmas.specs.Optional.{of_option}
+use Rattle.message.specs.Message.{message_in, received_by, request_found, route_found}
 use Rattle.message.specs.declared.Parsed.{Parsed}
 use Rattle.message.specs.declared.Link.{Link}
 use Rattle.request.specs.Facts.{asked_of}
@@ -51,7 +52,7 @@ module _ (x : Settings) (own t : ℕ) (c : Received) (m : Message) (a : Asked) (
 
 module _ (x : Settings) (own t : ℕ) (k : Link) (p : Parsed) (a : RequestFacts) (r : Decided) (next delta : ℕ) where
   pub accepted_is : next ≡ stepped own
-      → delta ≡ delta_or0 (delta_found a.delta)
+      → delta ≡ delta_or0 (of_option a.delta)
       → r.row ≡ request_record (request_row t (received_by k []) (message_in p []) (asked_of a))
       → r.replies ≡ replies_now (asked_of a)
       → reply_in r.second ≡ own_reply_row x t next (message_in p []) delta
@@ -59,7 +60,7 @@ module _ (x : Settings) (own t : ℕ) (k : Link) (p : Parsed) (a : RequestFacts)
       → r.route
       ≡ route_record
       (route_row t x.receiving p.base.dodagid p.base.instance k.neighbour p.discovery.number
-      (configuration_in p.configured p.configuration))
+      (of_option p.configuration))
       → r.seq ≡ cond r.replies next own
       → (v : List Address)
       → Stores (accept_request x own t (received_by k []) (message_in p v) (asked_of a)) (request_found a.row) (route_found a.route) r

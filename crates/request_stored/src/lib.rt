@@ -3,16 +3,14 @@
 
 ghost use Rattle.std.specs.Prelude.{◌≤◌, ◌^◌, ◌≡◌, cond, List, []};
 ghost use Rattle.plain.specs.Address.{Address};
-ghost use Rattle.plain.specs.Given.{RequestRow};
-ghost use Rattle.plain.specs.Request.{kept_deadline, request_row, own_reply_row, route_row, accept_request};
+ghost use Rattle.plain.specs.Request.{request_row, own_reply_row, route_row, accept_request};
 ghost use Rattle.row.specs.Record.{request_record, route_record};
-ghost use Rattle.deadline.specs.Deadline.{deadline_of};
+ghost use Rattle.lemmas.specs.Optional.{of_option};
 ghost use Rattle.own.specs.Settings.{settings_of};
-ghost use Rattle.message.specs.Message.{configuration_in, message_in, received_by, request_found, route_found};
+ghost use Rattle.message.specs.Message.{message_in, received_by, request_found, route_found};
 ghost use Rattle.decision.specs.Decision.{reply_in, Stores};
 ghost use Rattle.request.specs.Facts.{asked_of, Sendable};
 
-use deadline::Deadline;
 use decision::{Decided, ReplyFields};
 use message::{Link, Parsed};
 use own::Own;
@@ -21,26 +19,6 @@ use row::{InstanceRow, RouteRow};
 
 // ---- The request row
 
-// The deadline of the request row: an update leaves it as it is.
-#[tactic(auto, using(lemmas::proofs::Cases::cases, rule::proofs::Laws::deadline_kept, rule::proofs::Kept::kept_stays, rule::proofs::Kept::kept_new, rule::proofs::Kept::kept_none), unfolding(row::specs::Meaning::request_of))]
-fn kept_deadline(t: u64, l: u8, a: RequestFacts) -> Deadline
-    requires { t ≤ 2 ^ 40 }
-    ensures { deadline_of result ≡ kept_deadline (λ (r : RequestRow). r.deadline) a.standing (request_found a.row) t l }
-{
-    let s = a.standing;
-    let f = a.row;
-    if standing::is_update(s) {
-        if f.is {
-            return Deadline {
-                endless: f.row.endless != 0,
-                at: f.row.deadline,
-            };
-        }
-        return deadline::of_l(t, l);
-    }
-    deadline::of_l(t, l)
-}
-
 // The request row.
 #[tactic(auto, using(lemmas::proofs::Cases::cases, crate::proofs::Made::request_is))]
 fn request_row(t: u64, k: Link, p: Parsed, a: RequestFacts) -> InstanceRow
@@ -48,66 +26,52 @@ fn request_row(t: u64, k: Link, p: Parsed, a: RequestFacts) -> InstanceRow
     requires sendable { Sendable a }
     ensures { result ≡ request_record (request_row t (received_by k []) (message_in p []) (asked_of a)) }
 {
-    let dodagid = p.base.dodagid;
-    let neighbour = k.neighbour;
-    let list = a.targets.list;
-    let end = kept_deadline(t, p.discovery.l, a);
     row::padded_request_row(
         p.base.instance,
-        dodagid,
+        p.base.dodagid,
         p.discovery.number,
         message::s_out(k, p),
         p.discovery.h,
         a.rank as u16,
-        neighbour,
+        k.neighbour,
         a.targets.count as u8,
-        list,
+        a.targets.list,
         request::replies_now(a),
-        end.endless,
-        end.at,
+        rule::kept_deadline(t, p.discovery.l, a.standing, a.row),
     )
 }
 
 // ---- The reply row, the route and our number
 
 // What the row of our own reply holds, with our stepped number.
-#[tactic(auto, using(lemmas::proofs::Cases::cases, crate::proofs::Made::reply_is))]
+#[tactic(auto, using(lemmas::proofs::Cases::cases), unfolding(decision::specs::Decision::reply_in, plain::specs::Request::own_reply_row, message::specs::Message::message_in))]
 fn reply_fields(o: Own, t: u64, seq: u8, p: Parsed, delta: u8) -> ReplyFields
     requires { t ≤ 2 ^ 40 }
     ensures { reply_in result ≡ own_reply_row (settings_of o) t seq (message_in p []) delta }
 {
     let receiving = o.receiving;
-    let instance = rolling::plus_delta(p.base.instance, delta);
-    let rank = rule::step_of(p);
-    let end = deadline::of_l(t, p.discovery.l);
     ReplyFields {
-        instance,
+        instance: rolling::plus_delta(p.base.instance, delta),
         seq,
-        endless: end.endless,
-        rank,
+        rank: rule::step_of(p),
         dodagid: receiving,
-        deadline: end.at,
+        deadline: deadline::of_l(t, p.discovery.l),
     }
 }
 
 // The route, with H 1.
 fn route_to(o: Own, t: u64, k: Link, p: Parsed) -> RouteRow
     requires { t ≤ 2 ^ 40 }
-    ensures { result ≡ route_record (route_row t o.receiving p.base.dodagid p.base.instance k.neighbour p.discovery.number (configuration_in p.configured p.configuration)) }
+    ensures { result ≡ route_record (route_row t o.receiving p.base.dodagid p.base.instance k.neighbour p.discovery.number (of_option p.configuration)) }
 {
-    let receiving = o.receiving;
-    let dodagid = p.base.dodagid;
-    let neighbour = k.neighbour;
-    let configuration = p.configuration;
     rule::route(
         t,
-        receiving,
-        dodagid,
+        o.receiving,
+        p.base.dodagid,
         p.base.instance,
-        neighbour,
+        k.neighbour,
         p.discovery.number,
-        p.configured,
-        configuration,
+        p.configuration,
     )
 }
 
@@ -125,9 +89,8 @@ pub fn accepted(o: Own, seq: u8, t: u64, k: Link, p: Parsed, a: RequestFacts) ->
     requires sendable { Sendable a }
     ensures { (vector : List Address) → Stores (accept_request (settings_of o) seq t (received_by k []) (message_in p vector) (asked_of a)) (request_found a.row) (route_found a.route) result }
 {
-    let free = a.delta;
     let next = rolling::step(seq);
-    let delta = message::delta_or_0(free);
+    let delta = message::delta_or_0(a.delta);
     let replies = request::replies_now(a);
     let row = request_row(t, k, p, a);
     let second = reply_fields(o, t, next, p, delta);

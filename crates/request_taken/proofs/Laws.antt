@@ -4,6 +4,9 @@ use mathlib.Core.Path.{◌≡◌, refl, sym, ◌∙◌}
 use mathlib.Core.Bool.{Bool, true, false, ◌&&◌}
 use mathlib.Core.List.{List, [], map}
 use mathlib.Core.Option.{Option}
+use Rattle.std.specs.Prelude as core
+use Rattle.std.specs.Prelude.{Some, None, IfSome}
+use Rattle.lemmas.specs.Optional.{of_option}
 use native.Mathlib.Omega.{arith}
 use lib.Dec.{leb}
 use lib.ListN.{length}
@@ -23,12 +26,10 @@ use Rattle.row.specs.declared.InstanceRow.{InstanceRow}
 use Rattle.row.specs.declared.RouteRow.{RouteRow}
 use Rattle.own.specs.Settings.{settings_of}
 use Rattle.own.specs.declared.Own.{Own}
-use Rattle.message.specs.Message.{message_in, received_by, request_found, route_found, delta_found}
+use Rattle.message.specs.Message.{message_in, received_by, request_found, route_found}
 use Rattle.message.specs.declared.Parsed.{Parsed}
 use Rattle.message.specs.declared.Link.{Link}
 use Rattle.message.specs.declared.Found.{Found}
-use Rattle.message.specs.declared.FoundRoute.{FoundRoute}
-use Rattle.message.specs.declared.FreeDelta.{FreeDelta}
 use Rattle.search.specs.Seen.{request_seen, LiveRow}
 use Rattle.search_route.specs.Seen.{route_seen}
 use Rattle.delta.specs.Delta.{delta_seen}
@@ -36,13 +37,14 @@ use Rattle.finish.specs.Gives.{state_of}
 
 -- ---- a found row has at most 8 targets
 
-pub row_few : (rows : List InstanceRow) (t : ℕ) (f : Found) → all_good good_instance (map instance_of rows) ≡ true → LiveRow rows t f
-    → (f.is ≡ true → f.row.kind ≡ 1) → f.is ≡ true → f.row.count ≤ 8
+pub row_few : (rows : List InstanceRow) (t : ℕ) (f : core.Option (Found InstanceRow)) → all_good good_instance (map instance_of rows) ≡ true
+    → LiveRow rows t f → IfSome f (λ x. x.row.kind ≡ 1) → IfSome f (λ x. x.row.count ≤ 8)
 unfolding instance_of good_instance request_of
-row_few rows t f g l k i =
-    let a = all_at (λ r. good_if good_instance (instance_of r)) no_row rows f.at (l.within i) (sym (all_map (good_if good_instance) instance_of rows) ∙ g) in
-    let b : good_if good_instance (instance_of f.row) ≡ true = rw (l.stands i) a in
-    let c : good_instance (Instance.request (request_of f.row)) ≡ true = rw (k i) at b in
+row_few rows t None g l k = k
+row_few rows t (Some f) g l k =
+    let a = all_at (λ r. good_if good_instance (instance_of r)) no_row rows f.at l.within (sym (all_map (good_if good_instance) instance_of rows) ∙ g) in
+    let b : good_if good_instance (instance_of f.row) ≡ true = rw l.stands a in
+    let c : good_instance (Instance.request (request_of f.row)) ≡ true = rw k at b in
     let ts = targets_of f.row.count f.row.targets in
     let d =
     and_left (leb (length ts) most_targets) (all short_prefix ts)
@@ -67,7 +69,7 @@ not_targ x own t c m row route d e n = rw n (record { answers = refl; outcomes =
 
 module _ (clock seq t : ℕ) (rows : List InstanceRow) (routes : List RouteRow) (o : Own) (k : Link) (p : Parsed) (vector : List Address)
     (instance : ℕ) (dodagid receiving : Address) (e1 : instance ≡ p.base.instance) (e2 : dodagid ≡ p.base.dodagid) (e3 : receiving ≡ o.receiving)
-    (f : Found) (g : FoundRoute) (free : FreeDelta)
+    (f : core.Option (Found InstanceRow)) (g : core.Option (Found RouteRow)) (free : core.Option ℕ)
     (sf : request_found f ≡ request_seen clock rows t instance dodagid)
     (sg : route_found g ≡ route_seen clock routes t receiving dodagid instance) where
   abbrev xs : Settings
@@ -82,12 +84,12 @@ module _ (clock seq t : ℕ) (rows : List InstanceRow) (routes : List RouteRow) 
   asked_with_lem d sd = rw (sf, sg, sd, e1, e2, e3)
 
   pub asked_is : (targ : Bool) → targ ≡ are_targ_node xs (message_in p vector)
-      → (targ ≡ true → delta_found free ≡ delta_seen clock rows t instance receiving)
+      → (targ ≡ true → of_option free ≡ delta_seen clock rows t instance receiving)
       → Alike xs seq t (received_by k []) (message_in p vector)
-      (asked_with xs (received_by k []) (message_in p vector) (request_found f) (route_found g) (delta_found free))
+      (asked_with xs (received_by k []) (message_in p vector) (request_found f) (route_found g) (of_option free))
       (asked xs view t (received_by k []) (message_in p vector))
-  asked_is true et sd = alike_same xs seq t (received_by k []) (message_in p vector) _ _ (asked_with_lem (delta_found free) (sd refl))
+  asked_is true et sd = alike_same xs seq t (received_by k []) (message_in p vector) _ _ (asked_with_lem (of_option free) (sd refl))
   asked_is false et sd =
       rw (← asked_with_lem (delta_seen clock rows t instance receiving) refl)
-      (not_targ xs seq t (received_by k []) (message_in p vector) (request_found f) (route_found g) (delta_found free)
+      (not_targ xs seq t (received_by k []) (message_in p vector) (request_found f) (route_found g) (of_option free)
       (delta_seen clock rows t instance receiving) (sym et))

@@ -3,6 +3,8 @@ use Prim.Native.Nat.{ℕ, ◌≤◌}
 use mathlib.Core.Path.{◌≡◌, refl, ap}
 use mathlib.Core.Bool.{true}
 use mathlib.Core.List.{List, []}
+use Rattle.std.specs.Prelude.{Option, option_map}
+use Rattle.lemmas.specs.Optional.{of_option}
 use native.Mathlib.Omega.{arith}
 use lib.ListN.{length, take}
 use Rattle.plain.specs.Address.{Address}
@@ -17,12 +19,10 @@ use Rattle.row.specs.declared.RouteRow.{RouteRow}
 use Rattle.lemmas.specs.Each.{WholeVector}
 use Rattle.own.specs.Settings.{settings_of}
 use Rattle.own.specs.declared.Own.{Own}
-use Rattle.message.specs.Message.{message_in, received_by, request_found, route_found, delta_found, row_found}
+use Rattle.message.specs.Message.{message_in, received_by, number_of, request_found, route_found, row_found}
 use Rattle.message.specs.declared.Parsed.{Parsed}
 use Rattle.message.specs.declared.Link.{Link}
 use Rattle.message.specs.declared.Found.{Found}
-use Rattle.message.specs.declared.FoundRoute.{FoundRoute}
-use Rattle.message.specs.declared.FreeDelta.{FreeDelta}
 use Rattle.decision.specs.Decision.{Posts, Stores}
 use Rattle.decision.specs.declared.Decided.{Decided}
 use Rattle.decision.specs.declared.Post.{Post}
@@ -39,14 +39,14 @@ use Rattle.finish.proofs.Decides.{settles}
 -- What is known of a request when its facts are gathered: what they mean, and that from this it has the answer and the outcome that it has by the
 -- tables.
 pub record Known (clock seq t : ℕ) (rows : List InstanceRow) (routes : List RouteRow) (o : Own) (k : Link) (p : Parsed) (vector : List Address)
-    (f : Found) (g : FoundRoute) (free : FreeDelta) (a : RequestFacts) : Type 0 where
-  pub gathered : Gathered (asked_with (settings_of o) (received_by k []) (message_in p vector) (request_found f) (route_found g) (delta_found free)) a
+    (f : Option (Found InstanceRow)) (g : Option (Found RouteRow)) (free : Option ℕ) (a : RequestFacts) : Type 0 where
+  pub gathered : Gathered (asked_with (settings_of o) (received_by k []) (message_in p vector) (request_found f) (route_found g) (of_option free)) a
   pub found : Alike (settings_of o) seq t (received_by k []) (message_in p vector)
-      (asked_with (settings_of o) (received_by k []) (message_in p vector) (request_found f) (route_found g) (delta_found free))
+      (asked_with (settings_of o) (received_by k []) (message_in p vector) (request_found f) (route_found g) (of_option free))
       (asked (settings_of o) (view_of (state_of clock seq rows routes)) t (received_by k []) (message_in p vector))
 
 module _ {clock seq t : ℕ} {rows : List InstanceRow} {routes : List RouteRow} {o : Own} {k : Link} {p : Parsed} {vector : List Address}
-    {f : Found} {g : FoundRoute} {free : FreeDelta} {a : RequestFacts} (h : Known clock seq t rows routes o k p vector f g free a) where
+    {f : Option (Found InstanceRow)} {g : Option (Found RouteRow)} {free : Option ℕ} {a : RequestFacts} (h : Known clock seq t rows routes o k p vector f g free a) where
   abbrev x : Settings
   x = settings_of o
 
@@ -60,7 +60,7 @@ module _ {clock seq t : ℕ} {rows : List InstanceRow} {routes : List RouteRow} 
   m = message_in p vector
 
   abbrev pub asking : Asked
-  asking = asked_with x c m (request_found f) (route_found g) (delta_found free)
+  asking = asked_with x c m (request_found f) (route_found g) (of_option free)
 
   abbrev pub lines : Asked → List Line
   lines = request_lines x c m
@@ -91,7 +91,7 @@ module _ {clock seq t : ℕ} {rows : List InstanceRow} {routes : List RouteRow} 
     request_room few er es whole = has_room x k p vector a zero few er es whole
 
   -- what is stored and sent is the rules'
-  pub request_settled : (l : Live) → l ≡ record { is = f.is; at = f.at; routed = g.is; hop = g.at } → (d : Decided) (there back : Post)
+  pub request_settled : (l : Live) → l ≡ record { row = option_map number_of f; route = option_map number_of g } → (d : Decided) (there back : Post)
       → Stores (accept (asked_of a)) (request_found a.row) (route_found a.route) d
       → Posts x vector (accept (asked_of a)).sent.forward (accept (asked_of a)).sent.forward_to there
       → Posts x vector (accept (asked_of a)).sent.reply (accept (asked_of a)).sent.reply_to back

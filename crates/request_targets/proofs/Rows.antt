@@ -4,12 +4,12 @@ use Prim.Native.Nat.{◌≤◌}
 use mir.Val.{Val}
 use denote.Laws.{Is}
 use denote.Struct.Declared.{row}
-use Rattle.message.specs.contracts.Found as found
 use Rattle.row.specs.contracts.InstanceRow as instance
 use Rattle.targets.specs.contracts.Targets as targets
 use mathlib.Core.Path.{◌≡◌, refl, sym}
-use mathlib.Core.Bool.{true, false}
+use mathlib.Core.Bool.{false}
 use mathlib.Core.List.{List, []}
+use Rattle.std.specs.Prelude.{Some, None}
 use native.Mathlib.Omega.{arith}
 use lib.ListN.{length, take}
 use Rattle.plain.specs.Request.{row_targets}
@@ -22,17 +22,15 @@ use Rattle.targets.specs.declared.Targets.{Targets}
 use Rattle.message.specs.declared.Found.{Found}
 use Rattle.message.specs.declared.Parsed.{Parsed}
 use Rattle.rule.specs.Heard.{Heard}
-use Rattle.rule.proofs.Types.{length_mapped}
 
-module _ (f : Found) where
-  pub targets_found : f.is ≡ true → f.row.count ≤ 8 → length f.row.targets ≡ 8
-      → take f.row.count f.row.targets ≡ row_targets (request_found f)
-  unfolding row_found request_of
-  targets_found e h n = rw e (sym (targets_within f.row.count f.row.targets (omega arith)))
+pub targets_found : (f : Found InstanceRow) → f.row.count ≤ 8 → length f.row.targets ≡ 8
+    → take f.row.count f.row.targets ≡ row_targets (request_found (Some f))
+unfolding row_found request_of
+targets_found f h n = sym (targets_within f.row.count f.row.targets (omega arith))
 
-  pub none_found : f.is ≡ false → [] ≡ row_targets (request_found f)
-  unfolding row_found
-  none_found e = rw e refl
+pub none_found : [] ≡ row_targets (request_found None)
+unfolding row_found
+none_found = refl
 
 -- ---- What the types of the parameters say
 
@@ -41,9 +39,6 @@ row_eight r vs g = search rules
 
 pub list_eight : (ts : Targets) (vs : List Val) → Is (row targets.the_type) ts vs → length ts.list ≡ 8
 list_eight ts vs g = search rules
-
-pub found_eight : (f : Found) (vs : List Val) → Is (row found.the_type) f vs → length f.row.targets ≡ 8
-found_eight f vs g = search rules
 
 -- ---- The targets of a message
 
