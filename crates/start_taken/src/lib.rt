@@ -1,7 +1,7 @@
 // What a start of our own discovery comes to, over the lent tables.
 #![tactic(auto)]
 
-ghost use Rattle.std.specs.Prelude.{◌≡◌, false, List, replicate};
+ghost use Rattle.std.specs.Prelude.{◌≡◌, List, replicate, None};
 ghost use Rattle.plain.specs.Address.{zero_address};
 ghost use Rattle.plain.specs.Plain.{enact};
 ghost use Rattle.plain.specs.declared.Target as plain;
@@ -11,6 +11,7 @@ ghost use Rattle.start.specs.Start.{start_of};
 ghost use Rattle.finish.specs.Gives.{state_of, Gives};
 ghost use Rattle.start_taken.specs.Taken.{TakenStart, start_decision};
 
+use answer::Answer;
 use message::Live;
 use outcome::Outcome;
 use own::Own;
@@ -20,13 +21,11 @@ use targets::Targets;
 
 // A start is about no live row.
 fn none_live() -> Live
-    ensures { result ≡ record { is = false; at = 0; routed = false; hop = 0 } }
+    ensures { result ≡ record { row = None; route = None } }
 {
     Live {
-        is: false,
-        at: 0,
-        routed: false,
-        hop: 0,
+        row: None,
+        route: None,
     }
 }
 
@@ -34,8 +33,7 @@ fn none_live() -> Live
 fn no_vector() -> [[u8; 16]; 16]
     ensures { result ≡ replicate 16 zero_address }
 {
-    let a = [0u8; 16];
-    [a; 16]
+    [[0; 16]; 16]
 }
 
 // What a start of our own discovery comes to, from 10 on. It is stored in a new row, or refused: no row of its key is written over.
@@ -55,10 +53,9 @@ pub fn take_start(
     requires { TakenStart clock t forward.old reply.old s ts }
     ensures { (targets : List plain.Target) → Gives (enact t (state_of clock seq instances.old routes.old) (start_decision (settings_of o) (state_of clock seq instances.old routes.old) t (start_of s targets) (list_of ts))) instances.old instances.new routes.old routes.new forward.old forward.new reply.old reply.new result }
 {
-    let receiving = own::receiving_of(o);
-    let taken = search::has_request(instances, t, start::asked_instance(s), receiving);
+    let taken = search::has_request(instances, t, s.instance, o.receiving);
     let answer = start::judge(o, s, taken);
-    if answer::number(answer) != 0 {
+    if answer != Answer::Done {
         return outcome::refused(answer, clock, seq);
     }
     let d = start_stored::accepted(o, seq, t, s, ts);

@@ -1,53 +1,56 @@
-use mathlib.Core.Path.{sym, ap, ◌∙◌}
-use lib.ListN.{length, length-replicate}
-use Rattle.plain.specs.Address.{zero_address}
+use mathlib.Core.Path.{◌≡◌, sym, ap, ◌∙◌}
 use mathlib.Core.List.{[]}
+use lib.ListN.{length, length-replicate}
 use borrow.Author.Tests.{eq-eqb}
+use Rattle.std.proofs.Common.{rules}
+use Rattle.plain.specs.Address.{zero_address}
 use Rattle.plain.specs.Given.{Destination}
 use Rattle.plain.specs.Request.{accept_start}
+use Rattle.answer.specs.Answer.{answer_number}
 use Rattle.own.specs.Settings.{settings_of}
 use Rattle.decision.specs.Decision.{Posts}
 use Rattle.rule.proofs.Laws.{posts_nothing}
 use Rattle.finish.proofs.Laws.{refused_gives}
 use Rattle.start_taken.specs.Taken.{start_decision}
 use Rattle.start_taken.proofs.Laws.{start_answer_lem, new_settled, new_ready}
+use Rattle.start_taken.proofs.take_start.Goals.{After-no_post-back, Then-ne, Else-ne}
 use Rattle.start_taken.proofs.take_start.Goals as goal
 
-pub returns-then-number-ne0 : goal.returns-then-number-ne0
+-- ---- what is known
+
+-- where the answer is 0, or is not
+done : (c : Else-ne) → answer_number c.judge-answer.result ≡ 0
+done c = search (rules, c.ne.ensures, c.if-ne.false)
+
+not_done : (c : Then-ne) → answer_number c.judge-answer.result ≡ 0 → ⊥
+not_done c e = search (rules, c.ne.ensures, c.if-ne.true, e)
+
+-- no reply of our own is written
+quiet : (c : After-no_post-back) → Posts (settings_of c.args.o) c.no_vector-vector.result [] Destination.nowhere c.no_post-back.result
+quiet c = rw c.no_post-back.ensures (posts_nothing (settings_of c.args.o) _)
+
+-- ---- the parts
+
+pub returns-then-ne : goal.returns-then-ne
 unfolding start_decision
-returns-then-number-ne0 c =
+returns-then-ne c =
     λ targets.
     let a = c.args in
     let rows = a.instances.now in
     let routes = a.routes.now in
-    let receiving = c.receiving_of-receiving in
-    let instance = c.asked_instance in
     let is = c.has_request-taken in
     let judge = c.judge-answer in
-    let number = c.number in
-    let e =
-    judge.ensures ∙ start_answer_lem a.clock a.seq a.t rows routes a.o a.s instance.result receiving.result instance.ensures receiving.ensures is.result (is.ensures a.clock c.requires.later) targets in
+    let e = judge.ensures ∙ start_answer_lem a.clock a.seq a.t rows routes a.o a.s is.result (is.ensures a.clock c.requires.later) targets in
     refused_gives a.clock a.seq a.t rows routes a.forward.now a.reply.now _ _ judge.result c.refused.result e
-    (λ z. c.if-number-ne0.true (number.ensures ∙ (e ∙ z))) c.refused.ensures
+    (λ z. not_done (goal.at.returns-then-ne c).Then-ne (e ∙ z)) c.refused.ensures
 
 pub finish-requires : goal.finish-requires
 finish-requires c =
     let a = c.args in
-    let rows = a.instances.now in
-    let routes = a.routes.now in
-    let receiving = c.receiving_of-receiving in
-    let instance = c.asked_instance in
-    let is = c.has_request-taken in
-    let judge = c.judge-answer in
-    let number = c.number in
-    let d = c.accepted-d in
     let there = c.start_post-there in
-    let back = c.no_post-back in
-    let vector = c.no_vector-vector.result in
-    let l = c.none_live in
-    let quiet : Posts (settings_of a.o) vector [] Destination.nowhere back.result = rw back.ensures (posts_nothing (settings_of a.o) vector) in
-    new_ready l.result l.ensures (settings_of a.o) a.t rows routes a.forward.now a.reply.now vector there.result back.result
-    c.requires.forward_room c.requires.reply_room (ap length c.no_vector-vector.ensures ∙ length-replicate 16 zero_address) (there.ensures a.t vector []).fits quiet.fits
+    new_ready c.none_live.result c.none_live.ensures (settings_of a.o) a.t a.instances.now a.routes.now a.forward.now a.reply.now c.no_vector-vector.result there.result c.no_post-back.result
+    c.requires.forward_room c.requires.reply_room (ap length c.no_vector-vector.ensures ∙ length-replicate 16 zero_address) (there.ensures a.t _ []).fits
+    (quiet (goal.at.finish-requires c).After-no_post-back).fits
 
 pub returns : goal.returns
 unfolding start_decision accept_start
@@ -56,19 +59,12 @@ returns c =
     let a = c.args in
     let rows = a.instances.now in
     let routes = a.routes.now in
-    let receiving = c.receiving_of-receiving in
-    let instance = c.asked_instance in
     let is = c.has_request-taken in
     let judge = c.judge-answer in
-    let number = c.number in
-    let d = c.accepted-d in
-    let there = c.start_post-there in
-    let back = c.no_post-back in
-    let vector = c.no_vector-vector.result in
-    let l = c.none_live in
-    let quiet : Posts (settings_of a.o) vector [] Destination.nowhere back.result = rw back.ensures (posts_nothing (settings_of a.o) vector) in
-    let zero = sym (start_answer_lem a.clock a.seq a.t rows routes a.o a.s instance.result receiving.result instance.ensures receiving.ensures is.result (is.ensures a.clock c.requires.later) targets) ∙ (sym judge.ensures ∙ (sym number.ensures ∙ c.if-number-ne0.false)) in
+    let zero =
+    sym (start_answer_lem a.clock a.seq a.t rows routes a.o a.s is.result (is.ensures a.clock c.requires.later) targets)
+    ∙ (sym judge.ensures ∙ done (goal.at.returns c).Else-ne) in
     rw (eq-eqb _ 0 zero)
     (c.finish.ensures _
-    (new_settled l.result l.ensures (settings_of a.o) vector _ d.result there.result back.result (d.ensures targets)
-    (there.ensures a.t vector targets) quiet))
+    (new_settled c.none_live.result c.none_live.ensures (settings_of a.o) c.no_vector-vector.result _ c.accepted-d.result c.start_post-there.result c.no_post-back.result
+    (c.accepted-d.ensures targets) (c.start_post-there.ensures a.t c.no_vector-vector.result targets) (quiet (goal.at.returns c).After-no_post-back)))
