@@ -1,4 +1,5 @@
 // A vector with our two addresses added.
+// Vectors are arrays of fixed room, as there is no heap, with counts beside them.
 #![tactic(auto)]
 
 ghost use Rattle.std.specs.Prelude.{◌≡◌, ◌≤◌, take};

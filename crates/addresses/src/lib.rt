@@ -1,4 +1,5 @@
 // Sixteen addresses in an array: that each is whole, and the first of them turned round.
+// A vector is an array of fixed room, as there is no heap, with a count n beside it.
 #![tactic(auto)]
 
 ghost use Rattle.std.specs.Prelude.{◌≡◌, reverse, ◌≤◌, length, take};

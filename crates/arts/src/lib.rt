@@ -17,6 +17,7 @@ pub fn read_targets(msg: &[u8]) -> Targets
     let mut list = targets::blank_list();
     let mut c = targets::none_yet();
     let mut at = 24;
+    // an option moves `at` by its own size: the range says only that the pass ends
     for _ in 0..msg.len() {
         match option::next_option(msg, at) {
             Next::Pad => {

@@ -1,4 +1,5 @@
 // The base object of a message (01, "RFC 6550, 6.3.1"), and 5: a DODAGID that is link-local, multicast or all zero.
+// Fields of bits are taken by / and %, as in crates/option_body.
 #![tactic(auto)]
 
 ghost use Rattle.std.specs.Prelude.{◌≡◌, ◌≤◌, length};

@@ -1,4 +1,4 @@
-// Targets collected one after the other in a lent list.
+// Targets collected one after the other in a lent list of fixed room, as there is no heap: the first n are collected.
 #![tactic(auto)]
 
 ghost use Rattle.std.specs.Prelude.{◌≡◌, ◌≤◌, length, take, set};
@@ -9,6 +9,7 @@ ghost use Rattle.targets.specs.Collected.{Joined};
 use plain::Target;
 use targets::Count;
 
+// List and n are two parameters: its contract speaks of both, and may not change.
 // Whether a target is among the first n of a list.
 pub fn is_listed(t: Target, list: &[Target], n: usize) -> bool
     requires { n ≤ length list.now }

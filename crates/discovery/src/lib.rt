@@ -1,4 +1,5 @@
 // What an RREQ or RREP says, but for its vector (01, "Octets on the air").
+// Fields of bits are taken by / and %, as in crates/option_body.
 #![tactic(auto)]
 
 ghost use Rattle.std.specs.Prelude.{◌≡◌};

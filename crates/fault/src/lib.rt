@@ -29,6 +29,7 @@ pub fn is_malformed(msg: &[u8], s: Scan) -> bool
     requires { Scanned msg.now s }
     ensures { result ≡ malformed msg.now }
 {
+    // returned early: in one chain of || and && a proof does not close
     if msg.len() < 24 || s.bad || 1 < s.configuration.count {
         return true;
     }

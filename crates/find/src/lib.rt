@@ -1,4 +1,5 @@
 // Searches over the lent table of instance rows.
+// Each is a chain of its own: a search that takes the test would be `position` itself.
 #![tactic(auto)]
 
 ghost use Rattle.std.specs.Prelude.{◌≡◌, map};

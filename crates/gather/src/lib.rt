@@ -9,7 +9,7 @@ ghost use Rattle.gather.specs.Gathers.{Gathers};
 use plain::Target;
 use targets::Targets;
 
-// What is gathered: the targets, and whether a prefix is over 127.
+// What is gathered: the targets, and whether a prefix is over 127, which is asked apart of how many they are.
 #[derive(Clone, Copy)]
 pub struct Gathering {
     pub targets: Targets,

@@ -1,4 +1,5 @@
-// One row of each table, by value: whether it is good. A row in use that is not makes the state wrong (01, answer 2).
+// One row of each table, by value: whether it is good. A row in use that is not makes the state wrong (01, answer 2). Kind, `endless` and the count of
+// targets are numbers, as the records of the C interface have them.
 #![tactic(auto)]
 
 ghost use Rattle.std.specs.Prelude.{◌≡◌, true, ◌&&◌, leb, length};

@@ -31,6 +31,7 @@ fn finish(x: u64) -> u64
     x / 65536 % 4294967296 * 2654435769
 }
 
+// The octets are named one by one: an array of four taken from a slice would be a Result that cannot be Err.
 #[tactic(auto, using(lemmas::proofs::Cases::cases), unfolding(crate::specs::Hash::hash_address, crate::specs::Hash::quad_of))]
 fn hash_address(k: u16, d: [u8; 16]) -> u64
     ensures { result ≡ hash_address k d }

@@ -27,24 +27,23 @@ pub fn keep_if(kept: Targets, t: Target, keep: bool) -> Targets
     requires { (kept.count < 8) × Padded kept.count kept.list }
     ensures { Kept (cond keep (list_of kept ++ (t ∷ [])) (list_of kept)) result × (result.count ≤ kept.count + 1) }
 {
-    let n = kept.count;
-    let mut list = kept.list;
-    if keep {
-        list[n] = t;
+    if !keep {
         return Targets {
             over: false,
-            count: n + 1,
-            list,
+            ..kept
         };
     }
+    let mut list = kept.list;
+    list[kept.count] = t;
     Targets {
         over: false,
-        count: n,
+        count: kept.count + 1,
         list,
     }
 }
 
-// The targets of a message that are also in the row, in the message's order and with its Dest SeqNos.
+// The targets of a message that are also in the row, in the message's order and with its Dest SeqNos. A loop, and no
+// `filter`: there is no heap to collect in.
 #[tactic(auto, using(lemmas::proofs::Cases::cases, crate::proofs::Sifted::sift_more, crate::proofs::Sifted::sift_end), unfolding(plain::specs::Request::common))]
 pub fn common(ts: Targets, row: Targets) -> Targets
     requires count_bound { ts.count ≤ 8 }

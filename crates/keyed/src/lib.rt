@@ -1,4 +1,5 @@
-// One row by value: the request row, the reply row or the route of a key, live at a time.
+// One row by value: the request row, the reply row or the route of a key, live at a time. Kind and `endless` are numbers, as the records of the C
+// interface have them.
 #![tactic(auto)]
 
 ghost use Rattle.std.specs.Prelude.{◌≡◌};
@@ -36,6 +37,7 @@ pub fn is_reply(r: InstanceRow, t: u64, instance: u8, dodagid: [u8; 16]) -> bool
 
 // ---- a route
 
+// By itself: it reads another record and another key than is_of.
 // A route of those three, live at t. Many routes have one source, our own, so the destination is compared first.
 #[tactic(auto, using(lemmas::proofs::Cases::cases, crate::proofs::Laws::route_is, lemmas::proofs::Choice::and_false, lemmas::proofs::Choice::cond_false))]
 pub fn is_route(r: RouteRow, t: u64, source: [u8; 16], destination: [u8; 16], instance: u8) -> bool

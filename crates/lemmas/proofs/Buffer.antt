@@ -1,25 +1,12 @@
 -- Writing at the front of a buffer, and at the front of the part that is left.
-use Prim.Native.Nat.{ℕ, zero, suc, ◌+◌, ◌-◌, ◌≤◌, ◌<◌}
+use Prim.Native.Nat.{ℕ, ◌+◌, ◌-◌, ◌≤◌}
 use mathlib.Core.Path.{◌≡◌, refl, sym, ap, ◌∙◌}
-use mathlib.Core.List.{List, [], ◌∷◌, ◌++◌, append_assoc, append-nil}
+use mathlib.Core.List.{List, [], ◌++◌, append_assoc, append-nil}
 use native.Mathlib.Omega.{arith}
-use native.Mathlib.Numerals.{add-one}
-use lib.ListN.{length, get_or, take, drop, set, length-append, length-drop, drop_of_length-le}
+use lib.ListN.{length, take, drop, length-append, length-drop, drop_of_length-le}
 use lib.Seq.{take_at, drop_at, drop-drop, take-length}
 use borrow.Rule.Slice.PartMut.{put_mid}
 use Rattle.lemmas.specs.Written.{over, Written}
-
-copied_suc : {A : Type 0} (z : A) (i : ℕ) (s d : List A) → i < length s → i < length d
-    → set (take i s ++ drop i d) i (get_or s i z) ≡ take (suc i) s ++ drop (suc i) d
-copied_suc z i [] d p q = absurd (omega arith)
-copied_suc z i (x ∷ s) [] p q = absurd (omega arith)
-copied_suc z zero (x ∷ s) (y ∷ d) p q = refl
-copied_suc z (suc i) (x ∷ s) (y ∷ d) p q = ap (λ t. x ∷ t) (copied_suc z i s d (omega arith) (omega arith))
-
--- a turn of a loop that copies s to the front of d
-pub copied_more : {A : Type 0} (z : A) (i : ℕ) (s d : List A) → i < length s → i < length d
-    → set (take i s ++ drop i d) i (get_or s i z) ≡ take (i + 1) s ++ drop (i + 1) d
-copied_more z i s d p q = rw add-one (copied_suc z i s d p q)
 
 -- all of d from n on, as a part that is lent has it, is the rest of d
 pub rest_is : {A : Type 0} (n : ℕ) (d : List A) → take (length d - n) (drop n d) ≡ drop n d

@@ -2,7 +2,6 @@ pub mod Cases
 pub mod Choice
 pub mod Buffer
 pub mod Walk
-pub mod Front
 pub mod Same
 pub mod Each
 pub mod Rules

@@ -1,14 +1,13 @@
--- Loops over a list from its front: what is said of the whole list is said of what is left of it at i.
-use Prim.Native.Nat.{ℕ, zero, suc, ◌+◌, ◌<◌, ◌≤◌}
-use mathlib.Core.Path.{◌≡◌, refl, ◌∙◌}
-use mathlib.Core.Bool.{Bool, true, false, not}
+-- A list from its front: what is left of it at i, and what is so of each of its elements.
+use Prim.Native.Nat.{ℕ, zero, suc, ◌+◌, ◌<◌}
+use mathlib.Core.Path.{◌≡◌, refl}
+use mathlib.Core.Bool.{Bool, true, false}
 use mathlib.Core.List.{List, [], ◌∷◌, map}
 use native.Mathlib.Omega.{arith}
 use native.Mathlib.Numerals.{add-one}
-use lib.Dec.{eqb}
-use lib.ListN.{length, get_or, take, drop, drop_of_length-le}
+use lib.ListN.{length, get_or, take, drop}
 use lib.Seq.{drop-cons}
-use Rattle.plain.specs.Lists.{any, all, same}
+use Rattle.plain.specs.Lists.{any, all}
 use Rattle.lemmas.proofs.Choice.{and_left, and_right, and_both}
 
 -- what is left at i is the element there and what is left at i + 1
@@ -19,32 +18,6 @@ left_at xs i d h = rw add-one (drop-cons xs i d h)
 abbrev pub settled_by : {A : Type 0} → Bool → (A → Bool) → List A → Bool
 settled_by true p xs = any p xs
 settled_by false p xs = all p xs
-
-module _ {A : Type 0} (by : Bool) (p : A → Bool) (d : A) where
-  pub walk_stop : {b : Bool} (xs : List A) (i : ℕ) → b ≡ settled_by by p (drop i xs) → i < length xs → p (get_or xs i d) ≡ by → b ≡ by
-  unfolding any all
-  walk_stop xs i v h e = v ∙ rw (left_at xs i d h) (go by e)
-    where
-      go : (by : Bool) → p (get_or xs i d) ≡ by → settled_by by p (get_or xs i d ∷ drop (i + 1) xs) ≡ by
-      go true e = rw e
-      go false e = rw e
-
-  pub walk_on : {b : Bool} (xs : List A) (i : ℕ) → b ≡ settled_by by p (drop i xs) → i < length xs → p (get_or xs i d) ≡ not by
-      → b ≡ settled_by by p (drop (i + 1) xs)
-  unfolding any all
-  walk_on xs i v h e = v ∙ rw (left_at xs i d h) (go by e)
-    where
-      go : (by : Bool) → p (get_or xs i d) ≡ not by → settled_by by p (get_or xs i d ∷ drop (i + 1) xs) ≡ settled_by by p (drop (i + 1) xs)
-      go true e = rw e
-      go false e = rw e
-
-  pub walk_end : {b : Bool} (xs : List A) (i : ℕ) → b ≡ settled_by by p (drop i xs) → length xs ≤ i → b ≡ not by
-  unfolding any all
-  walk_end xs i v h = v ∙ rw (drop_of_length-le xs {i = i} h) (go by)
-    where
-      go : (by : Bool) → settled_by by p [] ≡ not by
-      go true = refl
-      go false = refl
 
 module _ {A : Type 0} (p : A → Bool) (d : A) where
   -- each of them is so: the one at i, and those before n
@@ -64,18 +37,3 @@ pub all_map : {A B : Type 0} (p : B → Bool) (f : A → B) (xs : List A) → al
 unfolding all
 all_map p f [] = refl
 all_map p f (x ∷ xs) = rw (all_map p f xs)
-
--- two lists side by side
-pub same_miss : (xs ys : List ℕ) (i : ℕ) → same xs ys ≡ same (drop i xs) (drop i ys) → i < length xs → i < length ys
-    → eqb (get_or xs i 0) (get_or ys i 0) ≡ false → same xs ys ≡ false
-unfolding same
-same_miss xs ys i v h k e = v ∙ rw (left_at xs i 0 h, left_at ys i 0 k, e)
-
-pub same_hit : (xs ys : List ℕ) (i : ℕ) → same xs ys ≡ same (drop i xs) (drop i ys) → i < length xs → i < length ys
-    → eqb (get_or xs i 0) (get_or ys i 0) ≡ true → same xs ys ≡ same (drop (i + 1) xs) (drop (i + 1) ys)
-unfolding same
-same_hit xs ys i v h k e = v ∙ rw (left_at xs i 0 h, left_at ys i 0 k, e)
-
-pub same_end : (xs ys : List ℕ) (i : ℕ) → same xs ys ≡ same (drop i xs) (drop i ys) → length xs ≤ i → length ys ≤ i → same xs ys ≡ true
-unfolding same
-same_end xs ys i v h k = v ∙ rw (drop_of_length-le xs {i = i} h, drop_of_length-le ys {i = i} k)

@@ -1,4 +1,4 @@
-// One row of each table, by value: whether it is live.
+// One row of each table, by value: whether it is live. Kind and `endless` are numbers, as the records of the C interface have them.
 #![tactic(auto)]
 
 ghost use Rattle.std.specs.Prelude.{◌≡◌, ◌||◌, eqb};

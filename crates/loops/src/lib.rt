@@ -1,4 +1,5 @@
-// 9, asked of a vector: one of our addresses in it, and an address exactly once in it. Of an array of addresses the first n are the vector.
+// 9, asked of a vector: one of our addresses in it, and an address exactly once in it. Of an array of addresses the first n
+// are the vector: there is no heap, and so fixed room and a count.
 #![tactic(auto)]
 
 ghost use Rattle.std.specs.Prelude.{◌≡◌, ◌≤◌, take, eqb};

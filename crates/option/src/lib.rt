@@ -14,7 +14,7 @@ pub enum Next {
     Cut,
 }
 
-// What stands at `at`.
+// What stands at `at`. Positions are tested before they are read: with `get` each of the three refusals would be a test as well.
 #[tactic(auto, using(lemmas::proofs::Cases::cases, crate::proofs::Laws::at_end, crate::proofs::Laws::at_last, crate::proofs::Laws::at_cut, crate::proofs::Laws::at_body))]
 pub fn next_option(msg: &[u8], at: usize) -> Next
     ensures { Follows msg.now at result }

@@ -1,4 +1,5 @@
 // The body of a DODAG Configuration, and of an RREQ or RREP: a word of it, H and Compr, and whether it is good (01, "Octets on the air").
+// Fields of bits are taken by / and %, as the rules' `fields` tells them: shifts and masks would need laws of their own.
 #![tactic(auto)]
 
 ghost use Rattle.std.specs.Prelude.{◌≡◌};
@@ -45,6 +46,7 @@ pub fn compr_of(body: &[u8]) -> u8
     (word_at(body, 0) / 512 % 16) as u8
 }
 
+// Three returns: with H 1 another thing is asked, and one expression would be longer.
 // Whether an RREQ or RREP is too short, has a vector with H 1, or a vector that is no whole number of addresses.
 #[tactic(auto, using(crate::proofs::Laws::compr_below, crate::proofs::Laws::vector_is, lemmas::proofs::Cases::cases), unfolding(plain::specs::Octets::bad_route))]
 pub fn is_bad_route(body: &[u8]) -> bool

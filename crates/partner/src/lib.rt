@@ -8,6 +8,7 @@ ghost use Rattle.partner.specs.Partner.{partner_here};
 
 use row::InstanceRow;
 
+// The row's H is a number, as the record of the C interface has it.
 // A request row of that key and that H, live at t.
 #[tactic(auto, using(lemmas::proofs::Cases::cases, crate::proofs::Laws::partner_not, crate::proofs::Laws::partner_is))]
 pub fn is_partner(r: InstanceRow, t: u64, instance: u8, dodagid: [u8; 16], h: bool) -> bool

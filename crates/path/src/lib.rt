@@ -1,4 +1,4 @@
-// The address before ours in a vector. Of an array of addresses the first n are the vector.
+// The address before ours in a vector. Of an array of addresses the first n are the vector: there is no heap, and so fixed room and a count.
 #![tactic(auto)]
 
 ghost use Rattle.std.specs.Prelude.{◌≡◌, ◌≤◌, take};

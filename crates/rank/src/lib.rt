@@ -31,6 +31,7 @@ pub fn is_refused(step: u16, advertised: u16, increase: u16, limit: u8, is_end: 
         return true;
     }
     let theirs = integer_part(step, advertised);
+    // it fits after the test: try_from would bring a Result that cannot be Err
     let ours = integer_part(step, own as u16);
     is_over_limit(limit, theirs, ours, is_end)
 }

@@ -1,4 +1,5 @@
-// Two routes, by value: whether they have one key, and are twins (01, answer 2).
+// Two routes, by value: whether they have one key, and are twins (01, answer 2). Instance rows have another key, and so functions of their own
+// (crates/key): what both tables share is the trait Keyed (crates/filter).
 #![tactic(auto)]
 
 ghost use Rattle.std.specs.Prelude.{◌≡◌};

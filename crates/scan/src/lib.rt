@@ -46,6 +46,7 @@ fn noted(f: Found, start: usize, end: usize) -> Found
 fn with_option(s: Scan, kind: u8, start: usize, end: usize) -> Scan
     ensures { OptionTaken kind start end s result }
 {
+    // copied once, then one field of four: a struct update in each branch is no plainer
     let mut r = s;
     match kind {
         0x04 => r.configuration = noted(s.configuration, start, end),
@@ -70,6 +71,7 @@ pub fn read_options(msg: &[u8]) -> Scan
 {
     let mut s = Scan::default();
     let mut at: usize = 24;
+    // an option moves `at` by its own size: the range says only that the pass ends
     for _ in 0..msg.len() {
         match option::next_option(msg, at) {
             Next::Pad => {

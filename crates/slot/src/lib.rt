@@ -4,7 +4,8 @@
 ghost use Rattle.std.specs.Prelude.{◌≡◌, ◌<◌, ◌≤◌};
 ghost use Rattle.slot.specs.Slot.{slot_of, class_of, chosen_of};
 
-// The low half of the hash, scaled from 2^32 to the filter's words: cheaper than a remainder.
+// The low half of the hash, scaled from 2^32 to the filter's words: cheaper than a remainder. By `as`: there is no From
+// between u64 and usize, and TryFrom would bring a Result that cannot be Err.
 #[tactic(auto, using(lemmas::proofs::Cases::cases), unfolding(crate::specs::Slot::slot_of))]
 pub fn slot_of<const N: usize>(h: u64) -> usize
     requires some { 0 < N }

@@ -18,7 +18,7 @@ pub fn put<T: Copy>(items: &mut [T], i: usize, item: T)
     }
 }
 
-// ---- instance rows (put_row and put_route are public by themselves, and stay)
+// ---- instance rows (put_row and put_route stand beside put: what calls them, and their clauses, may not change)
 
 // No row in use is wrong.
 pub fn all_good(rows: &[InstanceRow]) -> bool

@@ -14,7 +14,7 @@ pub struct Tally {
     pub counts: [u32; 18],
 }
 
-// The place of an answer's count.
+// The place of an answer's count. A step by itself, so that the number is known as an index.
 #[tactic(auto, using(lemmas::proofs::Cases::cases, std::proofs::Common::rules))]
 fn place_of(a: Answer) -> usize
     ensures { result ≡ answer_number a }

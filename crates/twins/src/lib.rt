@@ -49,6 +49,7 @@ fn pass<R: Keyed, const N: usize>(rows: &[R], t: u64, mask: u64, p: u64) -> bool
     requires most { N ≤ 4294967296 }
     ensures { result ≡ any_two (in_class R.hash mask p (twins_by R.key (R.live t))) rows.now }
 {
+    // by index: a word is read and written at a place that the hash tells
     let mut words = [0u64; N];
     for (j, row) in rows.iter().enumerate() {
         let h = row.hash();
@@ -71,6 +72,7 @@ fn passes<R: Keyed>(rows: &[R], t: u64) -> bool
     (0..mask + 1).any(|p| pass::<R, 1536>(rows, t, mask, p))
 }
 
+// By two ifs: a match on ranges is no plainer.
 // Two rows of one key, both live at time t.
 pub fn has_pair<R: Keyed>(rows: &[R], t: u64) -> bool
     ensures { result ≡ any_two (twins_by R.key (R.live t)) rows.now }

@@ -1,4 +1,5 @@
 // The addresses of a vector (01, "Vector addresses drop their first Compr octets, shared with the DODAGID").
+// They are an array of fixed room, as there is no heap: how many they are follows from the octets.
 #![tactic(auto)]
 
 ghost use Rattle.std.specs.Prelude.{◌≡◌, ◌-◌, ◌/◌, ◌≤◌, length, take};

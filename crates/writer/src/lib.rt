@@ -1,4 +1,5 @@
 // The writer of a message: it lends what is left of the buffer to the writer of each part in turn.
+// Vector and targets are arrays of fixed room, as there is no heap, each with a count beside it.
 #![tactic(auto)]
 
 ghost use Rattle.std.specs.Prelude.{◌≡◌, true, ◌≤◌, length, take};

@@ -1,4 +1,5 @@
 // The writer of the ARTs: it writes at the front of the part of the buffer that it is lent, and answers how many octets it wrote.
+// The targets are an array of fixed room, as there is no heap, with a count beside it.
 #![tactic(auto)]
 
 ghost use Rattle.std.specs.Prelude.{◌≡◌, true, ◌≤◌, length, take};

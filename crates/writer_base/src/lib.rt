@@ -11,7 +11,7 @@ ghost use Rattle.writer_base.specs.Heads.{base_head};
 use plain::Base;
 use writer_octets::put_octets;
 
-// The base up to the DODAGID. MOP is 4.
+// The base up to the DODAGID. MOP is 4. Fields of bits are put together by factors, as the rules' `word` tells them: shifts would need laws of their own.
 #[tactic(auto, using(lemmas::proofs::Cases::cases, crate::proofs::Stores::high_octet, crate::proofs::Stores::stored, crate::proofs::Stores::base_word))]
 fn put_base_head(out: &mut [u8], b: Base) -> usize
     requires { 8 ≤ length out.old }

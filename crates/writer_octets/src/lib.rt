@@ -1,4 +1,5 @@
 // Writers of octets and addresses: each writes at the front of the part of the buffer that it is lent, and answers how many octets it wrote.
+// A vector is an array of fixed room, as there is no heap, with a count n beside it.
 #![tactic(auto)]
 
 ghost use Rattle.std.specs.Prelude.{◌≤◌, length, take};

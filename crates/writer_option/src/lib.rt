@@ -1,4 +1,5 @@
 // The writer of the RREQ or RREP: it writes at the front of the part of the buffer that it is lent, and answers how many octets it wrote.
+// A vector is an array of fixed room, as there is no heap, with a count n beside it.
 #![tactic(auto)]
 
 ghost use Rattle.std.specs.Prelude.{◌≡◌, cond, [], ◌∷◌, ◌≤◌, length, take};
@@ -22,7 +23,7 @@ fn compr_sent(d: Discovery) -> u8
     d.compr
 }
 
-// The first two octets of an RREQ or RREP: S or G, H, X, Compr, L, RankLimit.
+// The first two octets of an RREQ or RREP: S or G, H, X, Compr, L, RankLimit. By factors, as the rules' `word` tells the fields.
 #[tactic(auto, using(lemmas::proofs::Cases::cases), unfolding(crate::specs::Heads::route_word, plain::specs::Octets::word, plain::specs::Octets::sum))]
 fn route_word(d: Discovery) -> u16
     ensures { result ≡ route_word d }
