@@ -21,7 +21,7 @@ use Rattle.decision.specs.Decision.{Fits, Posts, Stores, instance_meant, instanc
 use Rattle.decision.specs.declared.Decided.{Decided}
 use Rattle.decision.specs.declared.Post.{Post}
 use Rattle.place.specs.Places as place
-use Rattle.place.specs.Places.{HasRow, HasRoute, hop_change}
+use Rattle.place.specs.Places.{hop_change}
 use Rattle.finish.specs.Gives.{Ready, Settled}
 
 put_number : {R B : Type 0} (kind : R → B) (f : core.Option (Found R)) (r : Instance)
@@ -35,15 +35,10 @@ hop_number false g r = refl
 hop_number true None r = refl
 hop_number true (Some g) r = refl
 
-has_row : (rows : List InstanceRow) (t : ℕ) (f : core.Option (Found InstanceRow)) → IfSome f (λ x. x.at < length rows)
-    → IfSome f (λ x. live instance_deadline t (instance_of (get_or rows x.at no_row)) ≡ true) → HasRow rows t (option_map number_of f)
-has_row rows t None h e = record { within = h; lives = e }
-has_row rows t (Some f) h e = record { within = h; lives = e }
-
-has_route : (routes : List RouteRow) (t : ℕ) (g : core.Option (Found RouteRow)) → IfSome g (λ x. x.at < length routes)
-    → IfSome g (λ x. live route_deadline t (route_of (get_or routes x.at no_route)) ≡ true) → HasRoute routes t (option_map number_of g)
-has_route routes t None h e = record { within = h; lives = e }
-has_route routes t (Some g) h e = record { within = h; lives = e }
+-- what holds of the number of what was found
+at_number : {R : Type 0} (P : ℕ → Type 0) (f : core.Option (Found R)) → IfSome f (λ x. P x.at) → IfSome (option_map number_of f) P
+at_number P None h = h
+at_number P (Some f) h = h
 
 module _ (f : core.Option (Found InstanceRow)) (g : core.Option (Found RouteRow)) (l : Live)
     (el : l ≡ record { row = option_map number_of f; route = option_map number_of g }) where
@@ -75,8 +70,14 @@ module _ (f : core.Option (Found InstanceRow)) (g : core.Option (Found RouteRow)
   ready x t rows routes forward reply vector there back hf lf hg lg p q n ff fr =
       rw el
       (record {
-        row = has_row rows t f hf lf;
-        route = has_route routes t g hg lg;
+        row = record {
+          within = at_number (λ k. k < length rows) f hf;
+          lives = at_number (λ k. live instance_deadline t (instance_of (get_or rows k no_row)) ≡ true) f lf;
+        };
+        route = record {
+          within = at_number (λ k. k < length routes) g hg;
+          lives = at_number (λ k. live route_deadline t (route_of (get_or routes k no_route)) ≡ true) g lg;
+        };
         forward_room = p;
         reply_room = q;
         places = n;
