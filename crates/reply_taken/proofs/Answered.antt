@@ -89,5 +89,5 @@ module _ {clock seq t : ℕ} {rows : List InstanceRow} {routes : List RouteRow} 
       → Settled x vector (accept asking) l d there back
   unfolding answered_with answered_of row_found accept_reply reply_sent
   reply_settled l el d there back w pf pr =
-      settles lines accept (answered_of a) asking h.gathered.means (λ (q : Answered). q.row) (λ (q : Answered). q.route) f
-      (reply_of f.row) g l el refl refl x vector d there back w pf pr
+      settles lines accept (answered_of a) asking h.gathered.means (λ (q : Answered). q.row) (λ (q : Answered). q.route)
+      reply_of f g l el refl refl x vector d there back w pf pr

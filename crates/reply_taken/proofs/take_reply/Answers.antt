@@ -68,8 +68,8 @@ quiet c x vector = rw c.no_post-back.ensures (posts_nothing x vector)
 
 -- ---- the parts
 
-pub returns-in-None : goal.returns-in-None
-returns-in-None c =
+pub returns-in_default : goal.returns-in_default
+returns-in_default c =
     let a = c.args in
     let rows = a.instances.now in
     let routes = a.routes.now in
@@ -78,7 +78,7 @@ returns-in-None c =
     let orig = c.orig_node-orig in
     let w = c.search_partner in
     rw (no_partner_is a.clock a.seq a.t rows routes a.o a.k a.p.now vector number.result orig.result (number.ensures vector)
-    (orig.ensures vector) w.result (w.ensures a.clock c.requires.later) c.in-None.is)
+    (orig.ensures vector) w.result (w.ensures a.clock c.requires.later) c.in_default.is)
     (refused_gives a.clock a.seq a.t rows routes a.forward.now a.reply.now 8 (idle (view_of (state_of a.clock a.seq rows routes))) _
     c.refused.result refl (λ z. absurd (omega arith)) c.refused.ensures)
 
@@ -88,7 +88,7 @@ returns-then-ne c =
     let h = known (goal.at.returns-then-ne c).After-gather-a in
     refused (lines h) (accept h) (answered_of c.gather-a.result) (asking h) h.gathered.means _ (reply_decided h) a.clock a.seq a.t
     a.instances.now a.routes.now a.forward.now a.reply.now c.judge-answer.result (answer_number c.judge-answer.result)
-    c.refused-2.result c.judge-answer.ensures refl (not_done (goal.at.returns-then-ne c).Then-ne) c.refused-2.ensures
+    c.refused-then-ne.result c.judge-answer.ensures refl (not_done (goal.at.returns-then-ne c).Then-ne) c.refused-then-ne.ensures
 
 pub accepted-d-requires : goal.accepted-d-requires
 accepted-d-requires c = (c.requires.time, reply_rank (known (goal.at.accepted-d-requires c).After-gather-a) (zero (goal.at.accepted-d-requires c).Else-ne (known (goal.at.accepted-d-requires c).After-gather-a)))
@@ -111,8 +111,8 @@ finish-requires c =
     let back = c.no_post-back in
     let l = c.live_of-l in
     ready f.result g.result l.result l.ensures (settings_of a.o) a.t a.instances.now a.routes.now
-    a.forward.now a.reply.now vector there.result back.result (record { within = f.ensures.here.within; lives = f.ensures.here.lives })
-    (record { within = g.ensures.here.within; lives = g.ensures.here.lives }) c.requires.forward_room c.requires.reply_room
+    a.forward.now a.reply.now vector there.result back.result f.ensures.here.within f.ensures.here.lives
+    g.ensures.here.within g.ensures.here.lives c.requires.forward_room c.requires.reply_room
     v.ensures.0 there.ensures.fits (quiet (goal.at.finish-requires c).After-no_post-back (settings_of a.o) vector).fits
 
 pub returns : goal.returns
