@@ -5,33 +5,29 @@ ghost use Rattle.std.specs.Prelude.{◌≡◌, map};
 ghost use Rattle.plain.specs.Table.{route_deadline};
 ghost use Rattle.row.specs.Meaning.{route_of};
 ghost use Rattle.keyed.specs.Look.{route_here};
-ghost use Rattle.first.specs.First.{first};
+ghost use Rattle.first.specs.First.{found_at};
 ghost use Rattle.first.specs.Spare.{dead};
 
 use row::RouteRow;
 
-// The first route of those three that is live at t, or the length.
+// The first route of those three that is live at t.
 pub fn find_route(
     routes: &[RouteRow],
     t: u64,
     source: [u8; 16],
     destination: [u8; 16],
     instance: u8,
-) -> usize
-    ensures { result ≡ first (route_here t source destination instance) (map route_of routes.now) }
+) -> Option<usize>
+    ensures { result ≡ found_at (route_here t source destination instance) (map route_of routes.now) }
 {
     routes
         .iter()
         .position(|r| keyed::is_route(*r, t, source, destination, instance))
-        .unwrap_or(routes.len())
 }
 
-// The first route that is not live at t, or the length.
-pub fn find_spare_route(routes: &[RouteRow], t: u64) -> usize
-    ensures { result ≡ first (dead route_deadline t) (map route_of routes.now) }
+// The first route that is not live at t.
+pub fn find_spare_route(routes: &[RouteRow], t: u64) -> Option<usize>
+    ensures { result ≡ found_at (dead route_deadline t) (map route_of routes.now) }
 {
-    routes
-        .iter()
-        .position(|r| !live::is_live_route(*r, t))
-        .unwrap_or(routes.len())
+    routes.iter().position(|r| !live::is_live_route(*r, t))
 }

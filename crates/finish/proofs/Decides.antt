@@ -5,6 +5,8 @@ use mathlib.Core.Path.{◌≡◌, sym, ap, subst, ◌∙◌}
 use mathlib.Core.List.{List}
 use mathlib.Core.Option.{Option}
 use borrow.Author.Tests.{eq-eqb}
+use Rattle.std.specs.Prelude as core
+use Rattle.std.specs.Option.{option_map}
 use Rattle.plain.specs.Address.{Address}
 use Rattle.plain.specs.Given.{Settings, Route}
 use Rattle.plain.specs.Table.{Numbered}
@@ -16,9 +18,8 @@ use Rattle.answer.specs.Answer.{answer_number}
 use Rattle.answer.specs.declared.Answer.{Answer}
 use Rattle.row.specs.declared.InstanceRow.{InstanceRow}
 use Rattle.row.specs.declared.RouteRow.{RouteRow}
-use Rattle.message.specs.Message.{numbered, route_found}
+use Rattle.message.specs.Message.{number_of, numbered, route_found}
 use Rattle.message.specs.declared.Found.{Found}
-use Rattle.message.specs.declared.FoundRoute.{FoundRoute}
 use Rattle.decision.specs.Decision.{Posts, Stores}
 use Rattle.decision.specs.declared.Decided.{Decided}
 use Rattle.decision.specs.declared.Post.{Post}
@@ -45,16 +46,17 @@ module _ {Q : Type 0} (lines : Q → List Line) (accept : Q → Accepted) (told 
     taken zero = decided ∙ rw (eq-eqb (answer_of (lines asking)) 0 (sym (ap (λ (q : Q). answer_of (lines q)) means) ∙ zero))
 
   -- what is stored and sent is the rules': `row` and `route` are what the facts found of a kind B
-  pub settles : {B : Type 0} (row : Q → Option (Numbered B)) (route : Q → Option (Numbered Route)) (f : Found) (b : B) (g : FoundRoute) (l : Live)
-      → l ≡ record { is = f.is; at = f.at; routed = g.is; hop = g.at }
-      → row asking ≡ numbered f.is f.at b → route asking ≡ route_found g
+  pub settles : {B : Type 0} (row : Q → Option (Numbered B)) (route : Q → Option (Numbered Route)) (kind : InstanceRow → B)
+      (f : core.Option (Found InstanceRow)) (g : core.Option (Found RouteRow)) (l : Live)
+      → l ≡ record { row = option_map number_of f; route = option_map number_of g }
+      → row asking ≡ numbered kind f → route asking ≡ route_found g
       → (x : Settings) (vector : List Address) (d : Decided) (there back : Post)
       → Stores (accept told) (row told) (route told) d
       → Posts x vector (accept told).sent.forward (accept told).sent.forward_to there
       → Posts x vector (accept told).sent.reply (accept told).sent.reply_to back
       → Settled x vector (accept asking) l d there back
-  settles row route f b g l el er eg x vector d there back w pf pr =
-      settled f b g l el x vector (accept asking) d there back
+  settles row route kind f g l el er eg x vector d there back w pf pr =
+      settled f g l el kind x vector (accept asking) d there back
       (rw (← er, ← eg) (subst (λ (q : Q). Stores (accept q) (row q) (route q) d) means w))
       (subst (λ (q : Q). Posts x vector (accept q).sent.forward (accept q).sent.forward_to there) means pf)
       (subst (λ (q : Q). Posts x vector (accept q).sent.reply (accept q).sent.reply_to back) means pr)

@@ -9,16 +9,18 @@ use native.Mathlib.Omega.{arith}
 use lib.Dec.{eqb}
 use lib.ListN.{length, get_or, set}
 use borrow.Author.Tests.{ne_eqb}
+use Rattle.std.specs.Prelude as core
+use Rattle.std.specs.Prelude.{Some, None, is_some}
+use Rattle.std.proofs.lemmas.Option.{none-some}
+use Rattle.lemmas.proofs.Choice.{and_false}
 use Rattle.lemmas.specs.Written.{over, Written}
-use Rattle.lemmas.proofs.Choice.{and_left, and_right}
 use Rattle.plain.specs.Address.{Address}
 use Rattle.plain.specs.Given.{Settings, Instance}
 use Rattle.plain.specs.Table.{has_room, placed, instance_deadline, route_deadline}
 use Rattle.plain.specs.Request.{Accepted}
 use Rattle.plain.specs.Plain as plain
 use Rattle.plain.specs.Plain.{enact, place, refused_by, stored}
-use Rattle.answer.specs.Answer.{answer_number, destination_of}
-use Rattle.answer.specs.declared.Destination.{Destination}
+use Rattle.answer.specs.Answer.{answer_number}
 use Rattle.answer.specs.declared.Answer.{Answer}
 use Rattle.answer.specs.declared.Answer.TheVariants.{Done, NoRow}
 use Rattle.row.specs.Meaning.{instance_of, route_of, request_of, reply_of, route_in, no_row, no_route}
@@ -30,7 +32,7 @@ use Rattle.decision.specs.Decision.{post_octets, instance_meant, record_of, repl
 use Rattle.decision.proofs.Laws.{again}
 use Rattle.decision.specs.declared.Decided.{Decided}
 use Rattle.decision.specs.declared.Post.{Post}
-use Rattle.place.specs.Places.{Placed, RoutePlaced}
+use Rattle.place.specs.Places.{Placed, RoutePlaced, set_at}
 use Rattle.place.specs.declared.Places as P
 use Rattle.place.specs.declared.RoutePlace.{RoutePlace}
 use Rattle.message.specs.declared.Live.{Live}
@@ -74,9 +76,10 @@ set_or P (x ∷ l) zero a d h (suc k) = inl refl
 set_or P (x ∷ l) (suc i) a d h zero = inl refl
 set_or P (x ∷ l) (suc i) a d h (suc k) = set_or P l i a d (λ q. h (omega arith)) k
 
-pub records_two : (rows : List InstanceRow) (i j : ℕ) (one two : InstanceRow) → record_of (instance_meant one) ≡ one
-    → record_of (instance_meant two) ≡ two → Records rows (set (set rows i one) j two)
-records_two rows i j one two e f k =
+pub records_two : (rows : List InstanceRow) (i : ℕ) (j : core.Option ℕ) (one two : InstanceRow) → record_of (instance_meant one) ≡ one
+    → record_of (instance_meant two) ≡ two → Records rows (set_at (set rows i one) j two)
+records_two rows i None one two e f k = set_or (λ (z : InstanceRow). record_of (instance_meant z) ≡ z) rows i one no_row (λ _. e) k
+records_two rows i (Some j) one two e f k =
     ⊎_elim
     (λ (q : get_or (set (set rows i one) j two) k no_row ≡ get_or (set rows i one) k no_row).
     ⊎_elim (λ (p : get_or (set rows i one) k no_row ≡ get_or rows k no_row). inl (q ∙ p))
@@ -86,9 +89,11 @@ records_two rows i j one two e f k =
     (λ p. inr p)
     (set_or (λ (z : InstanceRow). record_of (instance_meant z) ≡ z) (set rows i one) j two no_row (λ _. f) k)
 
-pub records_route : (routes : List RouteRow) (i : ℕ) (r : RouteRow) → (i < length routes → route_record (route_in r) ≡ r)
-    → RouteRecords routes (set routes i r)
-records_route routes i r e k = set_or (λ (z : RouteRow). route_record (route_in z) ≡ z) routes i r no_route e k
+pub records_route : (routes : List RouteRow) (i : core.Option ℕ) (r : RouteRow) (routed : Bool) → (routed ≡ true → route_record (route_in r) ≡ r)
+    → (routed ≡ false → i ≡ None) → RouteRecords routes (set_at routes i r)
+records_route routes None r routed e f k = inl refl
+records_route routes (Some i) r true e f k = set_or (λ (z : RouteRow). route_record (route_in z) ≡ z) routes i r no_route (λ _. e refl) k
+records_route routes (Some i) r false e f k = absurd (none-some i (sym (f refl)))
 
 -- ---- a refusal
 
@@ -119,73 +124,73 @@ module _ (clock seq t : ℕ) (rows : List InstanceRow) (routes : List RouteRow) 
   -- ---- a call that the rules answer 0: 17, or stored and sent
 
   module _ (x : Settings) (vector : List Address) (acc : Accepted) (l : Live) (d : Decided) (there back : Post)
-      (w : Settled x vector acc l d there back) (p : P.Places) (q : RoutePlace) (replying routed : Bool) (er : replying ≡ d.replies)
-      (eh : routed ≡ d.routed) (pr : Placed rows t l.is l.at replying p) (qr : RoutePlaced routes t routed l.routed l.hop q) where
-    pp : Placed rows t l.is l.at d.replies p
-    pp = subst (λ (b : Bool). Placed rows t l.is l.at b p) er pr
-
-    qq : RoutePlaced routes t d.routed l.routed l.hop q
-    qq = subst (λ (b : Bool). RoutePlaced routes t b l.routed l.hop q) eh qr
-
-    room_is : has_room instance_deadline t acc.instances (map instance_of rows) && has_room route_deadline t acc.routes (map route_of routes)
-        ≡ p.ok && q.ok
-    room_is =
-        rw (
-          ← w.instances,
-          ← w.routes,
-          ← pp.room (instance_meant d.row) (reply_in d.second),
-          ← qq.room (route_in d.route),
-        )
-
-    taken_is : enact t (state_of clock seq rows routes) (plain.Decision.take acc)
-        ≡ cond (p.ok && q.ok) (record { answer = 0; sent = acc.sent; state = stored t acc (state_of clock seq rows routes) }) (refused_by 17 (state_of clock seq rows routes))
-    unfolding enact place
-    taken_is = rw room_is
-
-    pub full_gives : (b : Bool) (r : Outcome) → b ≡ p.ok && q.ok → b ≡ false
+      (w : Settled x vector acc l d there back) (r : Outcome) where
+    -- 17, by the room in both tables
+    full_gives : has_room instance_deadline t acc.instances (map instance_of rows) && has_room route_deadline t acc.routes (map route_of routes) ≡ false
         → r ≡ record { answer = NoRow; forward = nothing_sent; reply = nothing_sent; clock = clock; seq = seq }
         → Gives (enact t (state_of clock seq rows routes) (plain.Decision.take acc)) rows rows routes routes forward forward reply reply r
-    full_gives b r e g f = rw (taken_is, sym e ∙ g) (refusal_gives 17 NoRow r refl f)
+    unfolding enact place
+    full_gives e f = rw e (refusal_gives 17 NoRow r refl f)
 
-    route_record_lem : (b : Bool) → d.routed ≡ b → q.hop < length routes → route_record (route_in d.route) ≡ d.route
-    route_record_lem true g h = w.route g
-    route_record_lem false g h = absurd (omega (arith, qq.unrouted g))
+    module _ (o : core.Option P.Places) (pp : Placed rows t l.row d.replies o) where
+      rows_room : has_room instance_deadline t acc.instances (map instance_of rows) ≡ is_some o
+      rows_room = rw (← w.instances) (sym (pp.room (instance_meant d.row) (reply_in d.second)))
 
-    -- `own`, `to` and `from` are what the outcome says of the own number and of both destinations
-    module _ (rows' : List InstanceRow) (routes' : List RouteRow) (forward' reply' : List ℕ) (n m own : ℕ) (to from : Destination) where
-      pub done_gives : (b : Bool) (r : Outcome) → b ≡ p.ok && q.ok → b ≡ true
-          → rows' ≡ set (set rows p.first d.row) p.second (reply_record (reply_in d.second)) → routes' ≡ set routes q.hop d.route
-          → Written (post_octets x there vector) forward forward' n → Written (post_octets x back vector) reply reply' m
-          → own ≡ d.seq → to ≡ there.to → from ≡ back.to
-          → r ≡ record { answer = Done; forward = record { size = n; to = to }; reply = record { size = m; to = from }; clock = t; seq = own }
-          → Gives (enact t (state_of clock seq rows routes) (plain.Decision.take acc)) rows rows' routes routes' forward forward' reply reply' r
-      unfolding record_of
-      done_gives b r e₀ e₁ s1 s2 u v eo et ef f =
-          let e : p.ok && q.ok ≡ true = sym e₀ ∙ e₁ in
-          let po : p.ok ≡ true = and_left p.ok q.ok e in
-          let qo : q.ok ≡ true = and_right p.ok q.ok e in
-          rw (taken_is, e, s1, s2, f) (record {
-            answer = refl;
-            state = λ i. record {
-              clock = t;
-              own = (eo ∙ w.own) i;
-              instances = (
-                  pp.stored po d.row (reply_record (reply_in d.second)) (instance_meant d.row) (reply_in d.second) (instance_means d.row w.row)
-                  (λ z. reply_back (reply_in d.second))
-                  ∙ ap (λ z. placed instance_deadline t z (map instance_of rows)) w.instances
-                  ) i;
-              routes = (
-                  qq.stored qo d.route (route_in d.route) (λ z. route_means d.route (w.route z))
-                  ∙ ap (λ z. placed route_deadline t z (map route_of routes)) w.routes
-                  ) i;
-            };
-            forward_length = u.count ∙ ap length w.forward.sends;
-            reply_length = v.count ∙ ap length w.reply.sends;
-            forward_to = ap destination_of et ∙ w.forward.goes;
-            reply_to = ap destination_of ef ∙ w.reply.goes;
-            forward_octets = u.holds ∙ ap (λ z. over z forward) w.forward.sends;
-            reply_octets = v.holds ∙ ap (λ z. over z reply) w.reply.sends;
-            instances = records_two rows p.first p.second d.row (reply_record (reply_in d.second)) w.row (again (Instance.reply (reply_in d.second)));
-            hops = records_route routes q.hop d.route (route_record_lem d.routed refl);
-            kept = λ z. absurd (z refl);
-          })
+      pub no_row_gives : o ≡ None
+          → r ≡ record { answer = NoRow; forward = nothing_sent; reply = nothing_sent; clock = clock; seq = seq }
+          → Gives (enact t (state_of clock seq rows routes) (plain.Decision.take acc)) rows rows routes routes forward forward reply reply r
+      no_row_gives e f = full_gives (rw (rows_room, e) refl) f
+
+      module _ (u : core.Option RoutePlace) (qq : RoutePlaced routes t d.routed l.route u) where
+        routes_room : has_room route_deadline t acc.routes (map route_of routes) ≡ is_some u
+        routes_room = rw (← w.routes) (sym (qq.room (route_in d.route)))
+
+        pub no_route_gives : u ≡ None
+            → r ≡ record { answer = NoRow; forward = nothing_sent; reply = nothing_sent; clock = clock; seq = seq }
+            → Gives (enact t (state_of clock seq rows routes) (plain.Decision.take acc)) rows rows routes routes forward forward reply reply r
+        no_route_gives e f = full_gives (rw (routes_room, e) (and_false _)) f
+
+        module _ (p : P.Places) (q : RoutePlace) (e : o ≡ Some p) (g : u ≡ Some q) where
+          taken_is : enact t (state_of clock seq rows routes) (plain.Decision.take acc)
+              ≡ record { answer = 0; sent = acc.sent; state = stored t acc (state_of clock seq rows routes) }
+          unfolding enact place
+          taken_is = rw (rows_room, routes_room, e, g) refl
+
+          placed_at : Placed rows t l.row d.replies (Some p)
+          placed_at = rw e at pp
+
+          routed_at : RoutePlaced routes t d.routed l.route (Some q)
+          routed_at = rw g at qq
+
+          module _ (rows' : List InstanceRow) (routes' : List RouteRow) (forward' reply' : List ℕ) (n m : ℕ) where
+            pub done_gives : rows' ≡ set_at (set rows p.first d.row) p.second (reply_record (reply_in d.second)) → routes' ≡ set_at routes q.hop d.route
+                → Written (post_octets x there vector) forward forward' n → Written (post_octets x back vector) reply reply' m
+                → r ≡ record { answer = Done; forward = record { size = n; to = there.to }; reply = record { size = m; to = back.to }; clock = t; seq = d.seq }
+                → Gives (enact t (state_of clock seq rows routes) (plain.Decision.take acc)) rows rows' routes routes' forward forward' reply reply' r
+            unfolding record_of
+            done_gives s1 s2 u v f =
+                rw (taken_is, s1, s2, f) (record {
+                  answer = refl;
+                  state = λ i. record {
+                    clock = t;
+                    own = w.own i;
+                    instances = (
+                        placed_at.stored d.row (reply_record (reply_in d.second)) (instance_meant d.row) (reply_in d.second) (instance_means d.row w.row)
+                        (λ z. reply_back (reply_in d.second))
+                        ∙ ap (λ z. placed instance_deadline t z (map instance_of rows)) w.instances
+                        ) i;
+                    routes = (
+                        routed_at.stored d.route (route_in d.route) (λ z. route_means d.route (w.route z))
+                        ∙ ap (λ z. placed route_deadline t z (map route_of routes)) w.routes
+                        ) i;
+                  };
+                  forward_length = u.count ∙ ap length w.forward.sends;
+                  reply_length = v.count ∙ ap length w.reply.sends;
+                  forward_to = w.forward.goes;
+                  reply_to = w.reply.goes;
+                  forward_octets = u.holds ∙ ap (λ z. over z forward) w.forward.sends;
+                  reply_octets = v.holds ∙ ap (λ z. over z reply) w.reply.sends;
+                  instances = records_two rows p.first p.second d.row (reply_record (reply_in d.second)) w.row (again (Instance.reply (reply_in d.second)));
+                  hops = records_route routes q.hop d.route d.routed w.route routed_at.unrouted;
+                  kept = λ z. absurd (z refl);
+                })

@@ -54,8 +54,8 @@ pub record Gives (res : plain.Result) (rows rows' : List InstanceRow) (routes ro
 
 -- what must hold of a call that is finished
 pub record Ready (x : Settings) (t : ℕ) (rows : List InstanceRow) (routes : List RouteRow) (forward reply : List ℕ) (vector : List Address) (there back : Post) (l : Live) : Type 0 where
-  pub row : HasRow rows t l.is l.at
-  pub route : HasRoute routes t l.routed l.hop
+  pub row : HasRow rows t l.row
+  pub route : HasRoute routes t l.route
   pub forward_room : 1236 ≤ length forward
   pub reply_room : 1236 ≤ length reply
   pub places : length vector ≡ 16
@@ -67,7 +67,7 @@ pub record Settled (x : Settings) (vector : List Address) (acc : Accepted) (l : 
   pub forward : Posts x vector acc.sent.forward acc.sent.forward_to there
   pub reply : Posts x vector acc.sent.reply acc.sent.reply_to back
   pub own : d.seq ≡ acc.own
-  pub instances : row_change l.is l.at (instance_meant d.row) d.replies (reply_in d.second) ≡ acc.instances
-  pub routes : hop_change d.routed l.routed l.hop (route_in d.route) ≡ acc.routes
+  pub instances : row_change l.row (instance_meant d.row) d.replies (reply_in d.second) ≡ acc.instances
+  pub routes : hop_change d.routed l.route (route_in d.route) ≡ acc.routes
   pub row : record_of (instance_meant d.row) ≡ d.row
   pub route : d.routed ≡ true → route_record (route_in d.route) ≡ d.route

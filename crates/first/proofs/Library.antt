@@ -1,24 +1,24 @@
 -- What `position` answers after a chain that yields the records of a table: the number of the first whose meaning is so.
-use Prim.Native.Nat.{ℕ, suc, ◌+◌, ◌≤◌}
-use mathlib.Core.Path.{◌≡◌, refl, ap, ◌∙◌}
+use Prim.Native.Nat.{ℕ, suc, ◌+◌, ◌-◌, ◌<◌, ◌≤◌}
+use mathlib.Core.Path.{◌≡◌, refl, sym, ap, ◌∙◌}
 use mathlib.Core.Bool.{Bool, true, false, cond}
 use mathlib.Core.List.{List, [], ◌∷◌, map}
 use native.Mathlib.Omega.{arith}
 use lib.Dec.{ltb}
-use borrow.Author.Tests.{ltb-false}
-use lib.ListN.{length, length-map, drop, drop_of_length-le}
+use borrow.Author.Tests.{lt-ltb, le-ltb, ltb-true, ltb-false}
+use lib.ListN.{length, length-map, length-drop, drop}
 use denote.Param.Members.{Mut}
 use Rattle.std.proofs.lemmas.Iterator.{YieldsList}
 use Rattle.std.proofs.lemmas.Iterator.Search.{position_from_yields_List}
+use Rattle.std.proofs.lemmas.Option.{cond_some, none-some}
 use Rattle.std.proofs.lemmas.List.Recursion.{is_position_or_len}
 use Rattle.std.specs.Fn.{Called}
 use Rattle.std.specs.Iterator.{YieldsThen}
 use Rattle.std.specs.List.{FoldsTo, position_or_len}
-use Rattle.std.specs.Option.{MatchOption}
+use Rattle.std.specs.Option.{MatchOption, is_some, unwrap_or}
 use Rattle.std.specs.Prelude.{Option, Some, None}
-use Rattle.std.specs.Option.{unwrap_or}
 use Rattle.first.proofs.Search.{map_drop}
-use Rattle.first.specs.First.{first, first_from, below, found_at}
+use Rattle.first.specs.First.{first, first_from, below, found_at, found_from}
 
 -- the library's word for the first number is `first`
 pub first_listed : {R A : Type 0} (read : R → A) (p : A → Bool) (rows : List R) → first p (map read rows) ≡ position_or_len (λ r. p (read r)) rows
@@ -39,34 +39,97 @@ pub position_run : {S T R A F : Type 0} {steps : S → Option T → S → Type 0
 position_run {rows = rows} read p u f r ran it step =
     position_from_yields_List (λ r. p (read r)) u f r ran it step ∙ rw (first_listed read p rows, length-map rows read)
 
--- ---- a number below the length, and the length in its place
+-- ---- a number below the length
 
-pub below_or : {A : Type 0} (xs : List A) (k : ℕ) → k ≤ length xs → unwrap_or (below xs k) (length xs) ≡ k
-below_or xs k h = go (ltb k (length xs)) refl
-  where
-    go : (b : Bool) → ltb k (length xs) ≡ b → unwrap_or (cond b (Some k) None) (length xs) ≡ k
-    go true e = refl
-    go false e = let n : length xs ≤ k = ltb-false k (length xs) e in omega arith
+module _ {A : Type 0} (xs : List A) (n : ℕ) where
+  below_is : n < length xs → below xs n ≡ Some n
+  below_is h = rw (lt-ltb n (length xs) h) refl
 
-pub found_or : {A : Type 0} (p : A → Bool) (xs : List A) → unwrap_or (found_at p xs) (length xs) ≡ first p xs
-found_or p xs = below_or xs (first p xs) (first_within p xs)
+  below_not : length xs ≤ n → below xs n ≡ None
+  below_not h = rw (le-ltb n (length xs) h) refl
 
--- the same of what `position` answered over the records
-pub number_run : {R A : Type 0} (read : R → A) (p : A → Bool) (rows : List R) (r : Option ℕ) → r ≡ found_at p (map read rows)
-    → unwrap_or r (length rows) ≡ first p (map read rows)
-number_run read p rows r e = rw (e, ← length-map rows read) (found_or p (map read rows))
+  below_some : (k : ℕ) → below xs n ≡ Some k → (n < length xs) × (n ≡ k)
+  below_some k e = let b = cond_some (ltb n (length xs)) n k e in (ltb-true n (length xs) b.0, b.1)
 
--- ---- from an element on
+  below_none : below xs n ≡ None → length xs ≤ n
+  below_none = go (ltb n (length xs)) refl
+    where
+      go : (b : Bool) → ltb n (length xs) ≡ b → cond b (Some n) None ≡ None → length xs ≤ n
+      go true e f = absurd (none-some n (sym f))
+      go false e f = ltb-false n (length xs) e
 
--- past the end it is that element's own number
-pub past_end : {R A : Type 0} (read : R → A) (p : A → Bool) (i : ℕ) (rows : List R) → length rows ≤ i → i ≡ first_from p i (map read rows)
-unfolding first
-past_end read p i rows h =
-    let z : first p (map read (drop i rows)) ≡ 0 = rw (drop_of_length-le rows {i = i} h) in
-    rw (map_drop read i rows) (omega arith)
+  -- the length in place of none
+  below_or : n ≤ length xs → unwrap_or (below xs n) (length xs) ≡ n
+  below_or h = go (ltb n (length xs)) refl
+    where
+      go : (b : Bool) → ltb n (length xs) ≡ b → unwrap_or (cond b (Some n) None) (length xs) ≡ n
+      go true e = refl
+      go false e = let m : length xs ≤ n = ltb-false n (length xs) e in omega arith
 
--- what `position` answered over the rest
-pub from_run : {R A : Type 0} (read : R → A) (p : A → Bool) (rows : List R) (i : ℕ) (rest : List R) (r : Option ℕ) (n : ℕ) → rest ≡ drop i rows
-    → n ≡ unwrap_or r (length rest) → r ≡ found_at p (map read rest) → i + n ≡ first_from p i (map read rows)
-from_run read p rows i rest r n e h f =
-    rw (map_drop read i rows, ← e) (ap (λ k. i + k) (h ∙ number_run read p rest r f))
+  below_told : is_some (below xs n) ≡ ltb n (length xs)
+  below_told = go (ltb n (length xs))
+    where
+      go : (b : Bool) → is_some (cond b (Some n) None) ≡ b
+      go true = refl
+      go false = refl
+
+-- ---- what is known of the answer of a search
+
+module _ {R A : Type 0} (read : R → A) (p : A → Bool) (rows : List R) (r : Option ℕ) where
+  module _ (e : r ≡ found_at p (map read rows)) where
+    -- a number is the first, and below the length
+    pub found_first : (k : ℕ) → r ≡ Some k → k ≡ first p (map read rows)
+    found_first k f = sym (below_some (map read rows) (first p (map read rows)) k (sym e ∙ f)).1
+
+    pub found_within : (k : ℕ) → r ≡ Some k → k < length rows
+    found_within k f =
+        let b = below_some (map read rows) (first p (map read rows)) k (sym e ∙ f) in
+        rw (b.1, length-map rows read) at b.0
+
+    -- none: the first is the length
+    pub found_past : r ≡ None → length rows ≤ first p (map read rows)
+    found_past f = rw (length-map rows read) at (below_none (map read rows) (first p (map read rows)) (sym e ∙ f))
+
+    -- whether there is one
+    pub found_told : is_some r ≡ ltb (first p (map read rows)) (length rows)
+    found_told = rw (e, ← length-map rows read) (below_told (map read rows) (first p (map read rows)))
+
+    -- the length in place of none
+    pub found_or : unwrap_or r (length rows) ≡ first p (map read rows)
+    found_or =
+        rw (e, ← length-map rows read) (below_or (map read rows) (first p (map read rows)) (first_within p (map read rows)))
+
+  module _ (i : ℕ) (e : r ≡ found_from p i (map read rows)) where
+    pub from_first : (k : ℕ) → r ≡ Some k → k ≡ first_from p i (map read rows)
+    from_first k f = sym (below_some (map read rows) (first_from p i (map read rows)) k (sym e ∙ f)).1
+
+    pub from_within : (k : ℕ) → r ≡ Some k → k < length rows
+    from_within k f =
+        let b = below_some (map read rows) (first_from p i (map read rows)) k (sym e ∙ f) in
+        rw (b.1, length-map rows read) at b.0
+
+    pub from_past : r ≡ None → length rows ≤ first_from p i (map read rows)
+    from_past f = rw (length-map rows read) at (below_none (map read rows) (first_from p i (map read rows)) (sym e ∙ f))
+
+-- ---- a search from an element on
+
+module _ {R A : Type 0} (read : R → A) (p : A → Bool) (rows : List R) (i : ℕ) where
+  module _ (rest : List R) (r : Option ℕ) (e : rest ≡ drop i rows) (f : r ≡ found_at p (map read rest)) where
+    on : first_from p i (map read rows) ≡ i + first p (map read rest)
+    on = rw (map_drop read i rows, ← e) refl
+
+    pub rest_some : (k : ℕ) → r ≡ Some k → Some (i + k) ≡ found_from p i (map read rows)
+    rest_some k g =
+        let a : first_from p i (map read rows) ≡ i + k = on ∙ ap (λ n. i + n) (sym (found_first read p rest r f k g)) in
+        let b : k < length rest = found_within read p rest r f k g in
+        let c : length rest ≡ length rows - i = ap length e ∙ length-drop i rows in
+        let l = length-map rows read in
+        rw a (sym (below_is (map read rows) (i + k) (omega (arith, b, c, l))))
+
+    pub rest_none : r ≡ None → None ≡ found_from p i (map read rows)
+    rest_none g =
+        let a = on in
+        let b : length rest ≤ first p (map read rest) = found_past read p rest r f g in
+        let c : length rest ≡ length rows - i = ap length e ∙ length-drop i rows in
+        let l = length-map rows read in
+        sym (below_not (map read rows) (first_from p i (map read rows)) (omega (arith, a, b, c, l)))

@@ -3,7 +3,7 @@
 
 ghost use Rattle.std.specs.Prelude.{◌≡◌, map};
 ghost use Rattle.row.specs.Meaning.{instance_of};
-ghost use Rattle.first.specs.First.{first};
+ghost use Rattle.first.specs.First.{found_at};
 ghost use Rattle.partner.specs.Partner.{partner_here};
 
 use row::InstanceRow;
@@ -16,11 +16,16 @@ pub fn is_partner(r: InstanceRow, t: u64, instance: u8, dodagid: [u8; 16], h: bo
     keyed::is_request(r, t, instance, dodagid) && (r.h != 0) == h
 }
 
-// The first request row of that key and that H that is live at t, or the length.
-pub fn find_partner(rows: &[InstanceRow], t: u64, instance: u8, dodagid: [u8; 16], h: bool) -> usize
-    ensures { result ≡ first (partner_here t instance dodagid h) (map instance_of rows.now) }
+// The first request row of that key and that H that is live at t.
+pub fn find_partner(
+    rows: &[InstanceRow],
+    t: u64,
+    instance: u8,
+    dodagid: [u8; 16],
+    h: bool,
+) -> Option<usize>
+    ensures { result ≡ found_at (partner_here t instance dodagid h) (map instance_of rows.now) }
 {
     rows.iter()
         .position(|r| is_partner(*r, t, instance, dodagid, h))
-        .unwrap_or(rows.len())
 }

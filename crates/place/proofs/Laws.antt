@@ -1,13 +1,13 @@
 -- Each way in which an accepted call's rows are placed.
 use Prim.Native.Nat.{ℕ, ◌+◌, ◌<◌, ◌≤◌}
-use mathlib.Core.Path.{◌≡◌, refl, sym, ap, ◌∙◌}
+use mathlib.Core.Path.{◌≡◌, refl, sym, ◌∙◌}
 use mathlib.Core.Bool.{Bool, true, false}
 use mathlib.Core.List.{List, map}
 use native.Mathlib.Omega.{arith}
-use lib.Dec.{ltb}
-use lib.ListN.{length, get_or, set, length-set}
-use lib.Seq.{set_out}
-use borrow.Author.Tests.{lt-ltb, le-ltb, ltb-true}
+use lib.ListN.{length, get_or}
+use borrow.Author.Tests.{lt-ltb, le-ltb}
+use Rattle.std.specs.Prelude as core
+use Rattle.std.specs.Prelude.{Some, None}
 use Rattle.plain.specs.Given.{Instance}
 use Rattle.plain.specs.Table.{live, instance_deadline, route_deadline}
 use Rattle.plain.specs.Request.{with_reply_row}
@@ -15,98 +15,137 @@ use Rattle.lemmas.proofs.Choice.{true_false}
 use Rattle.row.specs.Meaning.{instance_of, route_of, no_row, no_route}
 use Rattle.row.specs.declared.InstanceRow.{InstanceRow}
 use Rattle.row.specs.declared.RouteRow.{RouteRow}
-use Rattle.first.specs.First.{first, first_from}
+use Rattle.first.specs.First.{first, first_from, found_at, found_from}
 use Rattle.first.specs.Spare.{dead}
+use Rattle.first.proofs.Library.{found_first, found_within, found_past, from_first, from_within, from_past}
 use Rattle.first.proofs.Room.{room_none, room_one, room_two}
 use Rattle.first.proofs.Store.{store_none, store_become, store_new, store_new_two, store_become_new}
-use Rattle.place.specs.declared.Places as P
-use Rattle.place.specs.declared.RoutePlace.{RoutePlace}
 use Rattle.place.specs.Places.{row_change, hop_change, Placed, RoutePlaced}
 
--- the first from the start on
-pub from_start : (t k : ℕ) (rows : List InstanceRow) → k ≡ first_from (dead instance_deadline t) 0 (map instance_of rows)
-    → k ≡ first (dead instance_deadline t) (map instance_of rows)
-from_start t k rows e = omega arith
+module _ (rows : List InstanceRow) (t : ℕ) where
+  -- `r` is what a search for a spare row answers, from the start on
+  module _ (r : core.Option ℕ) (e : r ≡ found_from (dead instance_deadline t) 0 (map instance_of rows)) where
+    spare_first : (k : ℕ) → r ≡ Some k → k ≡ first (dead instance_deadline t) (map instance_of rows)
+    spare_first k g = let a = from_first instance_of (dead instance_deadline t) rows r 0 e k g in omega (arith, a)
 
--- a store past the end changes nothing
-past_end : {A : Type 0} (rows : List A) (i : ℕ) (one two : A) → set (set rows i one) (length rows) two ≡ set rows i one
-past_end rows i one two = set_out (set rows i one) (length rows) two (omega (arith, length-set rows i one))
+    spare_within : (k : ℕ) → r ≡ Some k → k < length rows
+    spare_within = from_within instance_of (dead instance_deadline t) rows r 0 e
 
-module _ (rows : List InstanceRow) (t : ℕ) (at : ℕ) (p : P.Places) where
-  -- in the place of a live row, alone
-  pub become_one : at < length rows → live instance_deadline t (instance_of (get_or rows at no_row)) ≡ true
-      → p ≡ record { ok = ltb at (length rows); first = at; second = length rows } → Placed rows t true at false p
-  unfolding with_reply_row
-  become_one h l e = record {
-    room = λ r s. rw e (lt-ltb at (length rows) h ∙ sym (room_none instance_deadline t instance_of rows (row_change true at r false s) refl));
-    stored = rw e (λ o one two r s a b. ap (map instance_of) (past_end rows at one two) ∙ store_become instance_of instance_deadline t rows no_row {B = ℕ} (record { number = at; row = 0 }) at one r refl h l a);
-    second = λ o. rw e;
-  }
+    spare_past : r ≡ None → length rows ≤ first (dead instance_deadline t) (map instance_of rows)
+    spare_past g = let a = from_past instance_of (dead instance_deadline t) rows r 0 e g in omega (arith, a)
 
-  -- in the place of a live row, with a reply row behind it
-  pub become_two : (k : ℕ) → at < length rows → live instance_deadline t (instance_of (get_or rows at no_row)) ≡ true
-      → k ≡ first (dead instance_deadline t) (map instance_of rows)
-      → p ≡ record { ok = ltb k (length rows); first = at; second = k } → Placed rows t true at true p
-  unfolding with_reply_row
-  become_two k h l f e = record {
-    room = λ r s. rw e (sym (room_one instance_deadline t instance_of rows (row_change true at r true s) refl k f));
-    stored = rw e (λ o one two r s a b. store_become_new instance_of instance_deadline t rows no_row k at one two r (Instance.reply s) h l f (ltb-true k (length rows) o) a (b refl));
-    second = λ o. true_false o;
-  }
+  -- in the place of a live row
+  module _ (k : ℕ) (h : k < length rows) (l : live instance_deadline t (instance_of (get_or rows k no_row)) ≡ true) where
+    pub become_one : Placed rows t (Some k) false (Some (record { first = k; second = None }))
+    unfolding with_reply_row
+    become_one = record {
+      room = λ r s. sym (room_none instance_deadline t instance_of rows (row_change (Some k) r false s) refl);
+      stored = λ one two r s a b. store_become instance_of instance_deadline t rows no_row {B = ℕ} (record { number = k; row = 0 }) k one r refl h l a;
+      second = λ o. refl;
+    }
 
-  -- a new row, alone
-  pub new_one : (k : ℕ) → k ≡ first (dead instance_deadline t) (map instance_of rows)
-      → p ≡ record { ok = ltb k (length rows); first = k; second = length rows } → Placed rows t false at false p
-  unfolding with_reply_row
-  new_one k f e = record {
-    room = λ r s. rw e (sym (room_one instance_deadline t instance_of rows (row_change false at r false s) refl k f));
-    stored = rw e (λ o one two r s a b. ap (map instance_of) (past_end rows k one two) ∙ store_new instance_of instance_deadline t rows no_row k one r f (ltb-true k (length rows) o) a);
-    second = λ o. rw e;
-  }
+    -- with a reply row behind it
+    module _ (r : core.Option ℕ) (e : r ≡ found_from (dead instance_deadline t) 0 (map instance_of rows)) where
+      pub become_two : (n : ℕ) → r ≡ Some n → Placed rows t (Some k) true (Some (record { first = k; second = Some n }))
+      unfolding with_reply_row
+      become_two n g = record {
+        room = λ c s. sym (room_one instance_deadline t instance_of rows (row_change (Some k) c true s) refl n (spare_first r e n g)
+            ∙ lt-ltb n (length rows) (spare_within r e n g));
+        stored = λ one two c s a b. store_become_new instance_of instance_deadline t rows no_row n k one two c (Instance.reply s) h l (spare_first r e n g) (spare_within r e n g) a (b refl);
+        second = λ o. true_false o;
+      }
 
-  -- a new row with a reply row behind it
-  pub new_two : (j k : ℕ) → j ≡ first (dead instance_deadline t) (map instance_of rows)
-      → k ≡ first_from (dead instance_deadline t) (j + 1) (map instance_of rows)
-      → p ≡ record { ok = ltb k (length rows); first = j; second = k } → Placed rows t false at true p
-  unfolding with_reply_row
-  new_two j k f g e = record {
-    room = λ r s. rw e (sym (room_two instance_deadline t instance_of rows (row_change false at r true s) refl j k f g));
-    stored = rw e (λ o one two r s a b. store_new_two instance_of instance_deadline t rows no_row j k one two r (Instance.reply s) f g (ltb-true k (length rows) o) a (b refl));
-    second = λ o. true_false o;
-  }
+      pub become_none : r ≡ None → Placed rows t (Some k) true None
+      unfolding with_reply_row
+      become_none g = record {
+        room = λ c s. sym (room_one instance_deadline t instance_of rows (row_change (Some k) c true s) refl _ refl
+            ∙ le-ltb _ (length rows) (spare_past r e g));
+        stored = tt;
+        second = tt;
+      }
 
-  -- no row that is not live
-  pub new_none : (j : ℕ) → j ≡ first (dead instance_deadline t) (map instance_of rows) → length rows ≤ j
-      → p ≡ record { ok = false; first = length rows; second = length rows } → Placed rows t false at true p
-  unfolding with_reply_row
-  new_none j f h e = record {
-    room = λ r s. rw e
-        (sym (room_two instance_deadline t instance_of rows (row_change false at r true s) refl j _ f refl
-        ∙ le-ltb (first_from (dead instance_deadline t) (j + 1) (map instance_of rows)) (length rows) (omega arith)));
-    stored = rw e (λ o. true_false (sym o));
-    second = λ o. true_false o;
-  }
+  -- a new row
+  module _ (r : core.Option ℕ) (e : r ≡ found_from (dead instance_deadline t) 0 (map instance_of rows)) where
+    -- no row that is not live
+    pub new_none : r ≡ None → (replies : Bool) → Placed rows t None replies None
+    unfolding with_reply_row
+    new_none g false = record {
+      room = λ c s. sym (room_one instance_deadline t instance_of rows (row_change None c false s) refl _ refl
+          ∙ le-ltb _ (length rows) (spare_past r e g));
+      stored = tt;
+      second = tt;
+    }
+    new_none g true = record {
+      room = λ c s. let p = spare_past r e g in sym (room_two instance_deadline t instance_of rows (row_change None c true s) refl _ _ refl refl
+          ∙ le-ltb (first_from (dead instance_deadline t) (first (dead instance_deadline t) (map instance_of rows) + 1) (map instance_of rows)) (length rows) (omega (arith, p)));
+      stored = tt;
+      second = tt;
+    }
 
-module _ (routes : List RouteRow) (t : ℕ) (at : ℕ) (p : RoutePlace) where
-  pub route_become : at < length routes → live route_deadline t (route_of (get_or routes at no_route)) ≡ true
-      → p ≡ record { ok = ltb at (length routes); hop = at } → RoutePlaced routes t true true at p
-  route_become h l e = record {
-    room = λ r. rw e (lt-ltb at (length routes) h ∙ sym (room_none route_deadline t route_of routes (hop_change true true at r) refl));
-    stored = rw e (λ o new r a. store_become route_of route_deadline t routes no_route {B = ℕ} (record { number = at; row = 0 }) at new r refl h l (a refl));
+    module _ (j : ℕ) (g : r ≡ Some j) where
+      pub new_one : Placed rows t None false (Some (record { first = j; second = None }))
+      unfolding with_reply_row
+      new_one = record {
+        room = λ c s. sym (room_one instance_deadline t instance_of rows (row_change None c false s) refl j (spare_first r e j g)
+            ∙ lt-ltb j (length rows) (spare_within r e j g));
+        stored = λ one two c s a b. store_new instance_of instance_deadline t rows no_row j one c (spare_first r e j g) (spare_within r e j g) a;
+        second = λ o. refl;
+      }
+
+      -- with a reply row behind it
+      module _ (q : core.Option ℕ) (f : q ≡ found_from (dead instance_deadline t) (j + 1) (map instance_of rows)) where
+        pub new_two : (n : ℕ) → q ≡ Some n → Placed rows t None true (Some (record { first = j; second = Some n }))
+        unfolding with_reply_row
+        new_two n p =
+            let a = from_first instance_of (dead instance_deadline t) rows q (j + 1) f n p in
+            let b = from_within instance_of (dead instance_deadline t) rows q (j + 1) f n p in
+            record {
+              room = λ c s. sym (room_two instance_deadline t instance_of rows (row_change None c true s) refl j n (spare_first r e j g) a
+                  ∙ lt-ltb n (length rows) b);
+              stored = λ one two c s u v. store_new_two instance_of instance_deadline t rows no_row j n one two c (Instance.reply s) (spare_first r e j g) a b u (v refl);
+              second = λ o. true_false o;
+            }
+
+        pub new_full : q ≡ None → Placed rows t None true None
+        unfolding with_reply_row
+        new_full p = record {
+          room = λ c s. sym (room_two instance_deadline t instance_of rows (row_change None c true s) refl j _ (spare_first r e j g) refl
+              ∙ le-ltb _ (length rows) (from_past instance_of (dead instance_deadline t) rows q (j + 1) f p));
+          stored = tt;
+          second = tt;
+        }
+
+module _ (routes : List RouteRow) (t : ℕ) where
+  pub route_become : (k : ℕ) → k < length routes → live route_deadline t (route_of (get_or routes k no_route)) ≡ true
+      → RoutePlaced routes t true (Some k) (Some (record { hop = Some k }))
+  route_become k h l = record {
+    room = λ c. sym (room_none route_deadline t route_of routes (hop_change true (Some k) c) refl);
+    stored = λ new c a. store_become route_of route_deadline t routes no_route {B = ℕ} (record { number = k; row = 0 }) k new c refl h l (a refl);
     unrouted = λ o. true_false o;
   }
 
-  pub route_new : (k : ℕ) → k ≡ first (dead route_deadline t) (map route_of routes)
-      → p ≡ record { ok = ltb k (length routes); hop = k } → RoutePlaced routes t true false at p
-  route_new k f e = record {
-    room = λ r. rw e (sym (room_one route_deadline t route_of routes (hop_change true false at r) refl k f));
-    stored = rw e (λ o new r a. store_new route_of route_deadline t routes no_route k new r f (ltb-true k (length routes) o) (a refl));
-    unrouted = λ o. true_false o;
-  }
+  module _ (r : core.Option ℕ) (e : r ≡ found_at (dead route_deadline t) (map route_of routes)) where
+    pub route_new : (k : ℕ) → r ≡ Some k → RoutePlaced routes t true None (Some (record { hop = Some k }))
+    route_new k g =
+        let a = found_first route_of (dead route_deadline t) routes r e k g in
+        let b = found_within route_of (dead route_deadline t) routes r e k g in
+        record {
+          room = λ c. sym (room_one route_deadline t route_of routes (hop_change true None c) refl k a ∙ lt-ltb k (length routes) b);
+          stored = λ new c u. store_new route_of route_deadline t routes no_route k new c a b (u refl);
+          unrouted = λ o. true_false o;
+        }
 
-  pub route_none : (is : Bool) → p ≡ record { ok = true; hop = length routes } → RoutePlaced routes t false is at p
-  route_none is e = record {
-    room = λ r. rw e (sym (room_none route_deadline t route_of routes (hop_change false is at r) refl));
-    stored = rw e (λ o new r a. ap (map route_of) (set_out routes (length routes) new (omega arith)) ∙ sym (store_none route_of route_deadline t routes no_route));
-    unrouted = λ o. rw e;
+    pub route_full : r ≡ None → RoutePlaced routes t true None None
+    route_full g = record {
+      room = λ c. sym (room_one route_deadline t route_of routes (hop_change true None c) refl _ refl
+          ∙ le-ltb _ (length routes) (found_past route_of (dead route_deadline t) routes r e g));
+      stored = tt;
+      unrouted = tt;
+    }
+
+  pub route_none : (at : core.Option ℕ) → RoutePlaced routes t false at (Some (record { hop = None }))
+  route_none at = record {
+    room = λ c. sym (room_none route_deadline t route_of routes (hop_change false at c) refl);
+    stored = λ new c a. sym (store_none route_of route_deadline t routes no_route);
+    unrouted = λ o. refl;
   }

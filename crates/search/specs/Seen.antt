@@ -1,5 +1,6 @@
 -- What the rules see of lent tables, live at the clock: the live rows of a key at a call's time t.
-use Rattle.std.specs.Prelude.{ℕ, ◌<◌, ◌≡◌, Bool, true, List, [], map, length, get_or}
+use Rattle.std.specs.Prelude.{ℕ, ◌<◌, ◌≡◌, Bool, true, List, [], map, length, get_or, IfSome}
+use Rattle.std.specs.Prelude as core
 use Rattle.std.proofs.Math.Option.{Option}
 use Rattle.plain.specs.Lists.{first_of}
 use Rattle.plain.specs.Address.{Address}
@@ -32,7 +33,7 @@ partner_seen clock rows t instance dodagid h =
     first_of (λ (n : Numbered RequestRow). partner_for t instance dodagid h n.row) (requests (seen_at clock rows []).instances)
 
 -- where a row was found, it stands there and is live
-pub record LiveRow (rows : List InstanceRow) (t : ℕ) (f : Found) : Type 0 where
-  pub within : f.is ≡ true → f.at < length rows
-  pub stands : f.is ≡ true → f.row ≡ get_or rows f.at no_row
-  pub lives : f.is ≡ true → live instance_deadline t (instance_of (get_or rows f.at no_row)) ≡ true
+pub record LiveRow (rows : List InstanceRow) (t : ℕ) (f : core.Option (Found InstanceRow)) : Type 0 where
+  pub within : IfSome f (λ x. x.at < length rows)
+  pub stands : IfSome f (λ x. x.row ≡ get_or rows x.at no_row)
+  pub lives : IfSome f (λ x. live instance_deadline t (instance_of (get_or rows x.at no_row)) ≡ true)

@@ -1,33 +1,28 @@
 -- What a search for a route answers is what the rules find.
 use Prim.Native.Nat.{ℕ, ◌<◌}
-use mathlib.Core.Path.{◌≡◌, sym}
-use mathlib.Core.Bool.{true, false, ◌&&◌}
+use mathlib.Core.Path.{◌≡◌}
+use mathlib.Core.Bool.{true, ◌&&◌}
 use mathlib.Core.List.{List}
 use lib.Dec.{eqb}
 use lib.ListN.{length, get_or}
+use Rattle.std.specs.Prelude.{Some}
 use Rattle.plain.specs.Lists.{same}
 use Rattle.plain.specs.Address.{Address}
 use Rattle.plain.specs.Table.{lasts, live, route_deadline}
 use Rattle.plain.specs.Answers.{route_for}
 use Rattle.lemmas.proofs.Rules.{every_kind}
-use Rattle.lemmas.proofs.Choice.{and_right, true_false}
+use Rattle.lemmas.proofs.Choice.{and_right}
 use Rattle.row.specs.Meaning.{route_of, no_route}
 use Rattle.keyed.proofs.Laws.{route_sort}
 use Rattle.row.specs.declared.RouteRow.{RouteRow}
-use Rattle.message.specs.declared.FoundRoute.{FoundRoute}
 use Rattle.search.proofs.Laws.{Ask}
 use Rattle.search_route.specs.Seen.{LiveRoute}
 
 -- ---- what a search hands on
 
-module _ (routes : List RouteRow) (f : FoundRoute) (k : ℕ) where
-  module _ (e : f ≡ record { is = true; at = k; route = get_or routes k no_route }) where
-    pub live_route_hit : (t : ℕ) → k < length routes → live route_deadline t (route_of (get_or routes k no_route)) ≡ true → LiveRoute routes t f
-    live_route_hit t h l = record { within = rw e (λ _. h); lives = rw e (λ _. l) }
-
-  module _ (e : f ≡ record { is = false; at = k; route = no_route }) where
-    pub live_route_miss : (t : ℕ) → LiveRoute routes t f
-    live_route_miss t = record { within = rw e (λ q. true_false (sym q)); lives = rw e (λ q. true_false (sym q)) }
+pub live_route_hit : (routes : List RouteRow) (t k : ℕ) (x : RouteRow) → k < length routes
+    → live route_deadline t (route_of (get_or routes k no_route)) ≡ true → LiveRoute routes t (Some (record { at = k; row = x }))
+live_route_hit routes t k x h l = record { within = h; lives = l }
 
 -- ---- a route is asked for
 

@@ -1,10 +1,10 @@
-use Prim.Native.Nat.{◌-◌}
-use Rattle.delta.proofs.Laws.{tried_more, tried_free}
-use borrow.Author.Rules.{rules}
+use Rattle.std.proofs.Common.{rules, tests, refl}
+use Rattle.std.proofs.lemmas.Iterator.{YieldsList-from_range}
+use Rattle.std.proofs.lemmas.Iterator.Search.{find_from_yields_List}
+use Rattle.delta.proofs.Laws.{is_free, found_free}
 use Rattle.delta.proofs.free_delta.Goals as goal
 
-pub loop-delta-preserved : goal.loop-delta-preserved
-loop-delta-preserved c = (search rules, tried_more c.args.rows.now c.args.t c.args.instance c.args.dodagid c.loop-delta.delta c.find_reply-i.result c.plus_delta-number.result c.loop-delta-test.true c.plus_delta-number.ensures c.find_reply-i.ensures c.if-i-rows.true c.loop-delta.invariant.1)
-
-pub returns-else-i-rows : goal.returns-else-i-rows
-returns-else-i-rows c = tried_free c.args.rows.now c.args.t c.args.instance c.args.dodagid c.loop-delta.delta c.find_reply-i.result c.plus_delta-number.result c.loop-delta-test.true c.plus_delta-number.ensures c.find_reply-i.ensures c.free.result c.if-i-rows.false c.free.ensures c.loop-delta.invariant.1
+pub returns : goal.returns
+returns c =
+    found_free c.args.rows.now c.args.t c.args.instance c.args.dodagid c.find.result
+    (find_from_yields_List (is_free c.args.rows.now c.args.t c.args.instance c.args.dodagid) _ _ c.find.result c.find.ensures.ran (YieldsList-from_range 0 64 64 refl refl) (λ x b q k. search (rules, tests)))

@@ -1,33 +1,28 @@
+use borrow.Author.Rules.{rules}
 use Rattle.own.specs.Settings.{settings_of}
-use Rattle.finish.proofs.Laws.{full_gives, done_gives}
+use Rattle.finish.proofs.Laws.{no_row_gives, no_route_gives, done_gives}
+use Rattle.finish.proofs.finish.Goals.{in_default-via-in-Some+in_default, in_default-via-in_default}
 use Rattle.finish.proofs.finish.Goals as goal
 
-pub returns-then-has_room : goal.returns-then-has_room
-returns-then-has_room c =
-    λ acc w.
+pub returns-in_default : goal.returns-in_default
+returns-in_default c =
+    λ acc s.
     let a = c.args in
-    let p = c.place_rows-p in
-    let q = c.place_route-q in
-    let i = c.is_replying in
-    let h = c.is_routed in
-    let s = c.store in
-    let n = c.put_post-n in
-    let m = c.put_post-m in
-    let own = c.own_of in
-    let to = c.to_of in
-    let from = c.to_of-then-has_room in
-    let room = c.has_room in
-    done_gives a.clock a.seq a.t a.instances.now a.routes.now a.forward.now a.reply.now (settings_of a.o) a.vector.now acc a.l a.d.now a.there.now a.back.now w p.result q.result i.result h.result i.ensures h.ensures p.ensures q.ensures _ _ _ _ n.result m.result
-    own.result to.result from.result room.result c.accepted.result room.ensures c.if-has_room.true s.ensures.instances s.ensures.routes
-    n.ensures m.ensures own.ensures to.ensures from.ensures c.accepted.ensures
+    let p = c.place_rows in
+    let q = c.place_route in
+    elim c.in_default.branch [
+      | in_default-via-in-Some+in_default w ↦ no_route_gives a.clock a.seq a.t a.instances.now a.routes.now a.forward.now a.reply.now (settings_of a.o) a.vector.now acc a.l a.d.now a.there.now a.back.now s c.without_room.result p.result p.ensures q.result q.ensures (search rules) c.without_room.ensures
+      | in_default-via-in_default w ↦ no_row_gives a.clock a.seq a.t a.instances.now a.routes.now a.forward.now a.reply.now (settings_of a.o) a.vector.now acc a.l a.d.now a.there.now a.back.now s c.without_room.result p.result p.ensures (search rules) c.without_room.ensures
+    ]
 
 pub returns : goal.returns
 returns c =
-    λ acc w.
+    λ acc s.
     let a = c.args in
-    let p = c.place_rows-p in
-    let q = c.place_route-q in
-    let i = c.is_replying in
-    let h = c.is_routed in
-    let room = c.has_room in
-    full_gives a.clock a.seq a.t a.instances.now a.routes.now a.forward.now a.reply.now (settings_of a.o) a.vector.now acc a.l a.d.now a.there.now a.back.now w p.result q.result i.result h.result i.ensures h.ensures p.ensures q.ensures room.result c.without_room.result room.ensures c.if-has_room.false c.without_room.ensures
+    let p = c.place_rows in
+    let q = c.place_route in
+    let k = c.in-Some-Some in
+    let n = c.put_post-n in
+    let m = c.put_post-m in
+    done_gives a.clock a.seq a.t a.instances.now a.routes.now a.forward.now a.reply.now (settings_of a.o) a.vector.now acc a.l a.d.now a.there.now a.back.now s c.accepted.result p.result p.ensures q.result q.ensures k.p k.q k.is-0 k.is-1 _ _ _ _ n.result m.result
+    c.store.ensures.instances c.store.ensures.routes n.ensures m.ensures c.accepted.ensures

@@ -1,49 +1,32 @@
-use mathlib.Core.Path.{sym, ◌∙◌}
 use Rattle.own.specs.Settings.{settings_of}
-use Rattle.post.proofs.Laws.{grown_sendable, grown_written, plain_sendable, plain_written}
+use Rattle.post.proofs.Laws.{grown_sendable, grown_written, plain_written}
 use borrow.Author.Rules.{rules}
 use Rattle.post.proofs.put_dio.Goals as goal
 
 pub grown_vector-v-requires : goal.grown_vector-v-requires
 grown_vector-v-requires c =
-    let k = c.addresses_of-received in
-    let n = c.grown_count-n in (
-      n.ensures,
-      (grown_sendable (settings_of c.args.o.now) c.args.p.now c.args.vector.now c.requires.0 c.requires.1
-          (sym c.is_grown.ensures ∙ c.if-is_grown.true) k.result n.result k.ensures n.ensures).addresses,
-    )
+    let a = c.args in
+    let n = c.grown_count-n in
+    (n.ensures, (grown_sendable (settings_of a.o.now) a.p.now a.vector.now c.requires.0 c.requires.1 c.if-p.true n.result n.ensures).addresses)
 
 pub put_parsed-requires : goal.put_parsed-requires
 put_parsed-requires c =
-    let k = c.addresses_of-received in
+    let a = c.args in
     let n = c.grown_count-n in (
-      grown_sendable (settings_of c.args.o.now) c.args.p.now c.args.vector.now c.requires.0 c.requires.1
-          (sym c.is_grown.ensures ∙ c.if-is_grown.true) k.result n.result k.ensures n.ensures,
+      grown_sendable (settings_of a.o.now) a.p.now a.vector.now c.requires.0 c.requires.1 c.if-p.true n.result n.ensures,
       c.requires.0.targets,
       c.requires.0.prefixes,
       search rules,
     )
 
-pub returns-then-is_grown : goal.returns-then-is_grown
-returns-then-is_grown c =
-    let k = c.addresses_of-received in
+pub returns-then-p : goal.returns-then-p
+returns-then-p c =
+    let a = c.args in
     let n = c.grown_count-n in
-    grown_written (settings_of c.args.o.now) c.args.p.now c.args.vector.now c.requires.0 c.requires.1
-    (sym c.is_grown.ensures ∙ c.if-is_grown.true) k.result n.result k.ensures n.ensures _ _ _ _ c.grown_vector-v.ensures
-    c.put_parsed.ensures
-
-pub put_parsed-requires-2 : goal.put_parsed-requires-2
-put_parsed-requires-2 c =
-    let k = c.addresses_of-received in (
-      plain_sendable (settings_of c.args.o.now) c.args.p.now c.args.vector.now c.requires.0 c.requires.1
-          (sym c.is_grown.ensures ∙ c.if-is_grown.false) k.result k.ensures,
-      c.requires.0.targets,
-      c.requires.0.prefixes,
-      search rules,
-    )
+    grown_written (settings_of a.o.now) a.p.now a.vector.now c.requires.0 c.requires.1 c.if-p.true n.result n.ensures _ _ _ _
+    c.grown_vector-v.ensures c.put_parsed.ensures
 
 pub returns : goal.returns
 returns c =
-    let k = c.addresses_of-received in
-    plain_written (settings_of c.args.o.now) c.args.p.now c.args.vector.now c.requires.0 c.requires.1
-    (sym c.is_grown.ensures ∙ c.if-is_grown.false) k.result k.ensures _ _ _ c.put_parsed-2.ensures
+    let a = c.args in
+    plain_written (settings_of a.o.now) a.p.now a.vector.now c.requires.0 c.requires.1 c.if-p.false _ _ _ c.put_parsed-2.ensures

@@ -1,32 +1,27 @@
-use Rattle.std.proofs.Common.{◌≡◌, ◌∙◌, ap, get_or, true}
-use Rattle.std.proofs.lemmas.List.{get_or_default}
-use Rattle.row.specs.Meaning.{no_row}
-use Rattle.message.specs.Message.{reply_found, row_found}
+use Rattle.message.specs.Message.{row_found}
 use Rattle.search.specs.Seen.{reply_seen}
-use Rattle.search.proofs.Laws.{reply_ask, hit, miss, hit_live, live_hit, live_miss}
+use Rattle.search.proofs.Laws.{reply_ask, hit, miss, hit_within, hit_live, live_hit}
 use Rattle.search.proofs.search_reply.Goals as goal
 
-pub returns-then-i-rows : goal.returns-then-i-rows
+pub returns-in_err-at-clause-found : goal.returns-in_err-at-clause-found
 unfolding row_found reply_seen
-returns-then-i-rows c =
+returns-in_err-at-clause-found c =
     let a = c.args in
-    let k = c.find_reply-i in
-    let f = c.found in
-    let low = c.if-i-rows.true in
-    let e : f.result ≡ record { is = true; at = k.result; row = get_or a.rows.now k.result no_row } =
-    f.ensures ∙ ap (λ r. record { is = true; at = k.result; row = r }) (get_or_default a.rows.now k.result _ no_row low) in
-    record {
-      found = hit a.t (reply_ask a.t a.instance a.dodagid) a.rows.now k.result k.ensures (reply_found f.result) low (ap reply_found e);
-      here = live_hit a.rows.now f.result k.result e a.t low (hit_live a.t (reply_ask a.t a.instance a.dodagid) a.rows.now k.result k.ensures low);
-    }
+    let r = c.find_reply in
+    rw c.from_residual.ensures (miss a.t (reply_ask a.t a.instance a.dodagid) a.rows.now r.result r.ensures c.in_err-at.was)
 
-pub returns : goal.returns
+pub returns-clause-found : goal.returns-clause-found
 unfolding row_found reply_seen
-returns c =
+returns-clause-found c =
     let a = c.args in
-    let k = c.find_reply-i in
-    let f = c.not_found in
-    record {
-      found = miss a.t (reply_ask a.t a.instance a.dodagid) a.rows.now k.result k.ensures (reply_found f.result) c.if-i-rows.false (ap reply_found f.ensures);
-      here = live_miss a.rows.now f.result k.result f.ensures a.t;
-    }
+    let r = c.find_reply in
+    let k = c.in_ok-at in
+    hit a.t (reply_ask a.t a.instance a.dodagid) a.rows.now r.result r.ensures k.at k.was _
+
+pub returns-clause-here : goal.returns-clause-here
+returns-clause-here c =
+    let a = c.args in
+    let r = c.find_reply in
+    let k = c.in_ok-at in
+    let ask = reply_ask a.t a.instance a.dodagid in
+    live_hit a.rows.now a.t k.at _ (hit_within a.t ask a.rows.now r.result r.ensures k.at k.was) (hit_live a.t ask a.rows.now r.result r.ensures k.at k.was)
