@@ -35,13 +35,7 @@ pub fn take_request(
 {
     addresses::whole(vector);
     let f = search::search_request(instances, t, p.base.instance, p.base.dodagid);
-    let g = search_route::search_route(
-        routes,
-        t,
-        o.receiving,
-        p.base.dodagid,
-        p.base.instance,
-    );
+    let g = search_route::search_route(routes, t, o.receiving, p.base.dodagid, p.base.instance);
     let targ = targ_node::is_targ_node(o, *p);
     let free = delta::free_delta_if(targ, instances, t, p.base.instance, o.receiving);
     let a = request::gather(o, k, *p, targ, f, g, free);
