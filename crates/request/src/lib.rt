@@ -83,21 +83,15 @@ pub fn gather(
 
 // ---- What it comes to
 
-// The integer part of our own rank.
+// Whether our own rank is under RankLimit, if that is not 0: integer parts are compared, and a step of 0 gives 0. Our own rank may not fit
+// the 16 bits that rank::integer_part takes.
 #[tactic(auto, using(lemmas::proofs::Cases::cases), unfolding(plain::specs::Rank::integer_part))]
-fn integer_part(step: u16, rank: u32) -> u32
-    ensures { result ≡ integer_part step rank }
-{
-    if step == 0 { 0 } else { rank / u32::from(step) }
-}
-
-// Whether our own rank is under RankLimit, if that is not 0: integer parts are compared.
-#[tactic(auto, using(lemmas::proofs::Cases::cases))]
 fn is_under_limit(p: Parsed, rank: u32) -> bool
     ensures { result ≡ eqb p.discovery.limit 0 || ltb (integer_part (min_hop (of_option p.configuration)) rank) p.discovery.limit }
 {
     let limit = p.discovery.limit;
-    limit == 0 || integer_part(rule::step_of(p), rank) < u32::from(limit)
+    let step = u32::from(rule::step_of(p));
+    limit == 0 || rank.checked_div(step).unwrap_or(0) < u32::from(limit)
 }
 
 // Whether a request goes on. Its vector plays no part in that.

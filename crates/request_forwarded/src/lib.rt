@@ -25,7 +25,7 @@ fn with_flag(d: Discovery, flag: bool) -> Discovery
     Discovery { flag, ..d }
 }
 
-// The request as it goes on, but for our addresses.
+// The request as it goes on, but for our addresses. Its rank fits by what is required.
 fn forwarded(k: Link, p: Parsed, a: RequestFacts) -> Parsed
     requires { a.rank < 65536 }
     ensures { result ≡ record { base = with_rank p.base a.rank; configuration = p.configuration; discovery = with_flag p.discovery (s_out (received_by k []) (message_in p [])); n = p.n; count = a.targets.count; targets = a.targets.list } }

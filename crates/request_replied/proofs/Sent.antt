@@ -10,7 +10,7 @@ use Rattle.plain.specs.Lists.{all}
 use Rattle.plain.specs.Address.{Address}
 use Rattle.plain.specs.Given.{Settings, Received, Destination}
 use Rattle.plain.specs.Octets.{octets_of}
-use Rattle.plain.specs.Request.{grown, s_out, reply_message, whole_target, octets_if, to_if}
+use Rattle.plain.specs.Request.{s_out, reply_message, whole_target, octets_if, to_if}
 use Rattle.plain.specs.declared.Base.{Base}
 use Rattle.plain.specs.declared.Discovery.{Discovery}
 use Rattle.answer.specs.Answer.{destination_of}

@@ -19,7 +19,7 @@ use row::{InstanceRow, RouteRow};
 
 // ---- The request row
 
-// The request row.
+// The request row. Its rank and count fit by what is required: `try_from` would bring a refusal that cannot happen.
 #[tactic(auto, using(lemmas::proofs::Cases::cases, crate::proofs::Made::request_is))]
 fn request_row(t: u64, k: Link, p: Parsed, a: RequestFacts) -> InstanceRow
     requires t_bound { t ≤ 2 ^ 40 }

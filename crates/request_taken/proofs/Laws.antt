@@ -68,28 +68,27 @@ unfolding asked_with request_lines answer_of accept_request replies_now forwards
 not_targ x own t c m row route d e n = rw n (record { answers = refl; outcomes = refl })
 
 module _ (clock seq t : ℕ) (rows : List InstanceRow) (routes : List RouteRow) (o : Own) (k : Link) (p : Parsed) (vector : List Address)
-    (instance : ℕ) (dodagid receiving : Address) (e1 : instance ≡ p.base.instance) (e2 : dodagid ≡ p.base.dodagid) (e3 : receiving ≡ o.receiving)
     (f : core.Option (Found InstanceRow)) (g : core.Option (Found RouteRow)) (free : core.Option ℕ)
-    (sf : request_found f ≡ request_seen clock rows t instance dodagid)
-    (sg : route_found g ≡ route_seen clock routes t receiving dodagid instance) where
+    (sf : request_found f ≡ request_seen clock rows t p.base.instance p.base.dodagid)
+    (sg : route_found g ≡ route_seen clock routes t o.receiving p.base.dodagid p.base.instance) where
   abbrev xs : Settings
   xs = settings_of o
 
   abbrev view : View
   view = view_of (state_of clock seq rows routes)
 
-  asked_with_lem : (d : Option ℕ) → d ≡ delta_seen clock rows t instance receiving
+  asked_with_lem : (d : Option ℕ) → d ≡ delta_seen clock rows t p.base.instance o.receiving
       → asked_with xs (received_by k []) (message_in p vector) (request_found f) (route_found g) d ≡ asked xs view t (received_by k []) (message_in p vector)
   unfolding asked request_seen route_seen delta_seen free_delta delta_taken message_in
-  asked_with_lem d sd = rw (sf, sg, sd, e1, e2, e3)
+  asked_with_lem d sd = rw (sf, sg, sd)
 
   pub asked_is : (targ : Bool) → targ ≡ are_targ_node xs (message_in p vector)
-      → (targ ≡ true → of_option free ≡ delta_seen clock rows t instance receiving)
+      → (targ ≡ true → of_option free ≡ delta_seen clock rows t p.base.instance o.receiving)
       → Alike xs seq t (received_by k []) (message_in p vector)
       (asked_with xs (received_by k []) (message_in p vector) (request_found f) (route_found g) (of_option free))
       (asked xs view t (received_by k []) (message_in p vector))
   asked_is true et sd = alike_same xs seq t (received_by k []) (message_in p vector) _ _ (asked_with_lem (of_option free) (sd refl))
   asked_is false et sd =
-      rw (← asked_with_lem (delta_seen clock rows t instance receiving) refl)
+      rw (← asked_with_lem (delta_seen clock rows t p.base.instance o.receiving) refl)
       (not_targ xs seq t (received_by k []) (message_in p vector) (request_found f) (route_found g) (of_option free)
-      (delta_seen clock rows t instance receiving) (sym et))
+      (delta_seen clock rows t p.base.instance o.receiving) (sym et))

@@ -98,5 +98,5 @@ module _ {clock seq t : ℕ} {rows : List InstanceRow} {routes : List RouteRow} 
       → Settled x vector (accept asking) l d there back
   unfolding asked_with asked_of row_found
   request_settled l el d there back w pf pr =
-      settles lines accept (asked_of a) asking h.gathered.means (λ (q : Asked). q.row) (λ (q : Asked). q.route) f
-      (request_of f.row) g l el refl refl x vector d there back w pf pr
+      settles lines accept (asked_of a) asking h.gathered.means (λ (q : Asked). q.row) (λ (q : Asked). q.route) request_of f
+      g l el refl refl x vector d there back w pf pr

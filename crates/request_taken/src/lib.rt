@@ -9,6 +9,7 @@ ghost use Rattle.rule.specs.Taken.{Taken};
 ghost use Rattle.finish.specs.Gives.{state_of, Gives};
 ghost use Rattle.request_taken.specs.Decision.{request_decision};
 
+use answer::Answer;
 use message::{Link, Parsed};
 use outcome::Outcome;
 use own::Own;
@@ -33,16 +34,13 @@ pub fn take_request(
     ensures { Gives (enact t (state_of clock seq instances.old routes.old) (request_decision (settings_of o) (state_of clock seq instances.old routes.old) t (received_by k []) (message_in p.now vector.now))) instances.old instances.new routes.old routes.new forward.old forward.new reply.old reply.new result }
 {
     addresses::whole(vector);
-    let instance = message::instance_of(*p);
-    let dodagid = message::dodagid_of(*p);
-    let receiving = own::receiving_of(o);
-    let f = search::search_request(instances, t, instance, dodagid);
-    let g = search_route::search_route(routes, t, receiving, dodagid, instance);
+    let f = search::search_request(instances, t, p.base.instance, p.base.dodagid);
+    let g = search_route::search_route(routes, t, o.receiving, p.base.dodagid, p.base.instance);
     let targ = targ_node::is_targ_node(o, *p);
-    let free = delta::free_delta_if(targ, instances, t, instance, receiving);
+    let free = delta::free_delta_if(targ, instances, t, p.base.instance, o.receiving);
     let a = request::gather(o, k, *p, targ, f, g, free);
     let answer = request_answer::judge(o, k, *p, vector, a);
-    if answer::number(answer) != 0 {
+    if answer != Answer::Done {
         return outcome::refused(answer, clock, seq);
     }
     let d = request_stored::accepted(o, seq, t, k, *p, a);

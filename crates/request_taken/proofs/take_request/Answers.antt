@@ -1,6 +1,7 @@
-use Rattle.std.proofs.Common.{length}
-use mathlib.Core.Path.{◌≡◌, sym, ◌∙◌}
+use mathlib.Core.Path.{◌≡◌, refl, sym, ◌∙◌}
+use lib.ListN.{length}
 use Rattle.plain.specs.Answers.{answer_of}
+use Rattle.answer.specs.Answer.{answer_number}
 use Rattle.own.specs.Settings.{settings_of}
 use Rattle.decision.specs.Decision.{Posts}
 use Rattle.request.specs.Facts.{asked_of}
@@ -8,8 +9,8 @@ use Rattle.finish.proofs.Settles.{ready}
 use Rattle.finish.proofs.Decides.{refused, taken}
 use Rattle.request_taken.proofs.Laws.{asked_is}
 use Rattle.request_taken.proofs.Requested.{Known, asking, lines, accept, request_decided, request_sendable, request_room, request_settled}
-use borrow.Author.Rules.{rules}
-use Rattle.request_taken.proofs.take_request.Goals.{After-forward_post-there, After-gather-a, Else-number-ne0}
+use Rattle.std.proofs.Common.{rules}
+use Rattle.request_taken.proofs.take_request.Goals.{After-forward_post-there, After-gather-a, Then-ne, Else-ne}
 use Rattle.request_taken.proofs.take_request.Goals as goal
 
 -- ---- what is known
@@ -25,9 +26,6 @@ known : (c : After-gather-a)
 known c =
     let a = c.args in
     let vector = a.vector.now in
-    let instance = c.instance_of-instance in
-    let dodagid = c.dodagid_of-dodagid in
-    let receiving = c.receiving_of-receiving in
     let f = c.search_request-f in
     let g = c.search_route-g in
     let targ = c.is_targ_node-targ in
@@ -35,16 +33,21 @@ known c =
     record {
       gathered = c.gather-a.ensures vector;
       found =
-          asked_is a.clock a.seq a.t a.instances.now a.routes.now a.o a.k a.p.now vector instance.result dodagid.result
-          receiving.result instance.ensures dodagid.ensures receiving.ensures f.result g.result free.result
+          asked_is a.clock a.seq a.t a.instances.now a.routes.now a.o a.k a.p.now vector f.result g.result free.result
           (f.ensures.found.0 a.clock c.requires.later) (g.ensures.found a.clock c.requires.later) targ.result (targ.ensures vector)
           (λ e. free.ensures e a.clock c.requires.later);
     }
 
--- and where the answer is 0
-zero : (c : Else-number-ne0) (h : Known c.args.clock c.args.seq c.args.t c.args.instances.now c.args.routes.now c.args.o c.args.k c.args.p.now c.args.vector.now c.search_request-f.result
+-- and where the answer is 0, or is not
+done : (c : Else-ne) → answer_number c.judge-answer.result ≡ 0
+done c = search (rules, c.ne.ensures, c.if-ne.false)
+
+not_done : (c : Then-ne) → answer_number c.judge-answer.result ≡ 0 → ⊥
+not_done c e = search (rules, c.ne.ensures, c.if-ne.true, e)
+
+zero : (c : Else-ne) (h : Known c.args.clock c.args.seq c.args.t c.args.instances.now c.args.routes.now c.args.o c.args.k c.args.p.now c.args.vector.now c.search_request-f.result
     c.search_route-g.result c.free_delta_if-free.result c.gather-a.result) → answer_of (lines h (asked_of c.gather-a.result)) ≡ 0
-zero c h = sym c.judge-answer.ensures ∙ (sym c.number.ensures ∙ c.if-number-ne0.false)
+zero c h = sym c.judge-answer.ensures ∙ done c
 
 -- the forward that is written
 forwarded : (c : After-forward_post-there) (h : Known c.args.clock c.args.seq c.args.t c.args.instances.now c.args.routes.now c.args.o c.args.k c.args.p.now c.args.vector.now c.search_request-f.result
@@ -61,19 +64,19 @@ forwarded c h z =
 
 -- ---- the parts
 
-pub returns-then-number-ne0 : goal.returns-then-number-ne0
-returns-then-number-ne0 c =
+pub returns-then-ne : goal.returns-then-ne
+returns-then-ne c =
     let a = c.args in
-    let h = known (goal.at.returns-then-number-ne0 c).After-gather-a in
+    let h = known (goal.at.returns-then-ne c).After-gather-a in
     refused (lines h) (accept h) (asked_of c.gather-a.result) (asking h) h.gathered.means _ (request_decided h) a.clock a.seq a.t
-    a.instances.now a.routes.now a.forward.now a.reply.now c.judge-answer.result c.number.result
-    c.refused.result c.judge-answer.ensures c.number.ensures c.if-number-ne0.true c.refused.ensures
+    a.instances.now a.routes.now a.forward.now a.reply.now c.judge-answer.result (answer_number c.judge-answer.result)
+    c.refused.result c.judge-answer.ensures refl (not_done (goal.at.returns-then-ne c).Then-ne) c.refused.ensures
 
 pub accepted-d-requires : goal.accepted-d-requires
-accepted-d-requires c = record { t_bound = c.requires.time; sendable = request_sendable (known (goal.at.accepted-d-requires c).After-gather-a) (zero (goal.at.accepted-d-requires c).Else-number-ne0 (known (goal.at.accepted-d-requires c).After-gather-a)) }
+accepted-d-requires c = record { t_bound = c.requires.time; sendable = request_sendable (known (goal.at.accepted-d-requires c).After-gather-a) (zero (goal.at.accepted-d-requires c).Else-ne (known (goal.at.accepted-d-requires c).After-gather-a)) }
 
 pub forward_post-there-requires : goal.forward_post-there-requires
-forward_post-there-requires c = record { heard = c.requires.heard; sendable = request_sendable (known (goal.at.forward_post-there-requires c).After-gather-a) (zero (goal.at.forward_post-there-requires c).Else-number-ne0 (known (goal.at.forward_post-there-requires c).After-gather-a)) }
+forward_post-there-requires c = record { heard = c.requires.heard; sendable = request_sendable (known (goal.at.forward_post-there-requires c).After-gather-a) (zero (goal.at.forward_post-there-requires c).Else-ne (known (goal.at.forward_post-there-requires c).After-gather-a)) }
 
 pub finish-requires : goal.finish-requires
 finish-requires c =
@@ -85,9 +88,9 @@ finish-requires c =
     let back = c.reply_post-back in
     let l = c.live_of-l in
     ready f.result g.result l.result l.ensures (settings_of a.o) a.t a.instances.now a.routes.now
-    a.forward.now a.reply.now a.vector.now there.result back.result (record { within = f.ensures.here.within; lives = f.ensures.here.lives })
-    (record { within = g.ensures.here.within; lives = g.ensures.here.lives }) c.requires.forward_room
-    c.requires.reply_room w.ensures.0 (forwarded (goal.at.finish-requires c).After-forward_post-there (known (goal.at.finish-requires c).After-gather-a) (zero (goal.at.finish-requires c).Else-number-ne0 (known (goal.at.finish-requires c).After-gather-a))).fits
+    a.forward.now a.reply.now a.vector.now there.result back.result f.ensures.here.within f.ensures.here.lives
+    g.ensures.here.within g.ensures.here.lives c.requires.forward_room
+    c.requires.reply_room w.ensures.0 (forwarded (goal.at.finish-requires c).After-forward_post-there (known (goal.at.finish-requires c).After-gather-a) (zero (goal.at.finish-requires c).Else-ne (known (goal.at.finish-requires c).After-gather-a))).fits
     (back.ensures a.t a.vector.now w.ensures.0).fits
 
 pub returns : goal.returns
@@ -100,7 +103,7 @@ returns c =
     let there = c.forward_post-there in
     let back = c.reply_post-back in
     let l = c.live_of-l in
-    rw (taken (lines h) (accept h) (asked_of c.gather-a.result) (asking h) h.gathered.means _ (request_decided h) (zero (goal.at.returns c).Else-number-ne0 (known (goal.at.returns c).After-gather-a)))
+    rw (taken (lines h) (accept h) (asked_of c.gather-a.result) (asking h) h.gathered.means _ (request_decided h) (zero (goal.at.returns c).Else-ne (known (goal.at.returns c).After-gather-a)))
     (c.finish.ensures _
-    (request_settled h l.result l.ensures d.result there.result back.result (d.ensures vector) (forwarded (goal.at.returns c).After-forward_post-there (known (goal.at.returns c).After-gather-a) (zero (goal.at.returns c).Else-number-ne0 (known (goal.at.returns c).After-gather-a)))
+    (request_settled h l.result l.ensures d.result there.result back.result (d.ensures vector) (forwarded (goal.at.returns c).After-forward_post-there (known (goal.at.returns c).After-gather-a) (zero (goal.at.returns c).Else-ne (known (goal.at.returns c).After-gather-a)))
     (back.ensures a.t vector w.ensures.0)))
