@@ -1,9 +1,9 @@
 use mathlib.Core.Path.{◌≡◌, sym, ap, ◌∙◌}
-use mathlib.Core.List.{[]}
+use mathlib.Core.List.{List, []}
 use lib.ListN.{length, length-replicate}
 use borrow.Author.Tests.{eq-eqb}
 use Rattle.std.proofs.Common.{rules}
-use Rattle.plain.specs.Address.{zero_address}
+use Rattle.plain.specs.Address.{Address, zero_address}
 use Rattle.plain.specs.Given.{Destination}
 use Rattle.plain.specs.Request.{accept_start}
 use Rattle.answer.specs.Answer.{answer_number}
@@ -26,8 +26,8 @@ not_done : (c : Then-ne) → answer_number c.judge-answer.result ≡ 0 → ⊥
 not_done c e = search (rules, c.ne.ensures, c.if-ne.true, e)
 
 -- no reply of our own is written
-quiet : (c : After-no_post-back) → Posts (settings_of c.args.o) c.no_vector-vector.result [] Destination.nowhere c.no_post-back.result
-quiet c = rw c.no_post-back.ensures (posts_nothing (settings_of c.args.o) _)
+quiet : (c : After-no_post-back) (vector : List Address) → Posts (settings_of c.args.o) vector [] Destination.nowhere c.no_post-back.result
+quiet c vector = rw c.no_post-back.ensures (posts_nothing (settings_of c.args.o) vector)
 
 -- ---- the parts
 
@@ -50,7 +50,7 @@ finish-requires c =
     let there = c.start_post-there in
     new_ready c.none_live.result c.none_live.ensures (settings_of a.o) a.t a.instances.now a.routes.now a.forward.now a.reply.now c.no_vector-vector.result there.result c.no_post-back.result
     c.requires.forward_room c.requires.reply_room (ap length c.no_vector-vector.ensures ∙ length-replicate 16 zero_address) (there.ensures a.t _ []).fits
-    (quiet (goal.at.finish-requires c).After-no_post-back).fits
+    (quiet (goal.at.finish-requires c).After-no_post-back _).fits
 
 pub returns : goal.returns
 unfolding start_decision accept_start
@@ -67,4 +67,4 @@ returns c =
     rw (eq-eqb _ 0 zero)
     (c.finish.ensures _
     (new_settled c.none_live.result c.none_live.ensures (settings_of a.o) c.no_vector-vector.result _ c.accepted-d.result c.start_post-there.result c.no_post-back.result
-    (c.accepted-d.ensures targets) (c.start_post-there.ensures a.t c.no_vector-vector.result targets) (quiet (goal.at.returns c).After-no_post-back)))
+    (c.accepted-d.ensures targets) (c.start_post-there.ensures a.t c.no_vector-vector.result targets) (quiet (goal.at.returns c).After-no_post-back _)))
