@@ -115,15 +115,6 @@ pub fn start(
         return outcome::refused(wrong_state::wrong_state(), clock, seq);
     }
     start_taken::take_start(
-        instances,
-        routes,
-        forward,
-        reply,
-        o,
-        clock,
-        seq,
-        t,
-        s,
-        g.targets,
+        instances, routes, forward, reply, o, clock, seq, t, s, g.targets,
     )
 }

@@ -48,7 +48,7 @@ filter_counted p (x ∷ xs) = go (p x) (filter_counted p xs)
 pub settled_run : {S A B F : Type 0} {steps : S → Option A → S → Type 0} {v : A → B} {g : Mut F (A × Unit {0}) Bool} {s : S} {ys : List B}
     (by : Bool) (test : B → Bool) (u : S) (f : F) (r : Bool)
     → (xs : List A) × (o : Option A) × (j : F) × YieldsThen steps s xs o u × FoldsTo (λ p x q. Called g p (x, tt) (not by) q) f xs j
-        × MatchOption o (r ≡ not by) (λ x. (r ≡ by) × ((h : F) × Called g j (x, tt) by h))
+    × MatchOption o (r ≡ not by) (λ x. (r ≡ by) × ((h : F) × Called g j (x, tt) by h))
     → YieldsList steps v s ys
     → ((x : A) (b : Bool) (q : F) → Called g f (x, tt) b q → (q ≡ f) × (b ≡ test (v x)))
     → r ≡ settled_by by test ys
