@@ -32,6 +32,7 @@ pub struct HostStart {
 pub fn link_of(k: HostLink) -> Link
     ensures { result ≡ link_of k }
 {
+    // an array goes into a struct from a variable alone: the borrow checker covers no other form
     let neighbour = k.neighbour;
     Link {
         neighbour,

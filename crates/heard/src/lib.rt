@@ -17,6 +17,7 @@ pub fn parsed(r: Reading) -> Parsed
     requires { r.discovery.compr ≤ 15 }
     ensures { result ≡ parsed_of r }
 {
+    // an array goes into a struct from a variable alone: the borrow checker covers no other form
     let targets = r.targets;
     let width = 16 - r.discovery.compr as usize;
     Parsed {

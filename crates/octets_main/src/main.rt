@@ -24,11 +24,10 @@ fn print_base<W: Write>(out: &mut W, b: Base) -> io::Result<()> {
     )
 }
 
-fn print_configuration<W: Write>(out: &mut W, configured: bool, c: [u8; 14]) -> io::Result<()> {
-    if configured {
-        write!(out, " {}", Hex(&c))
-    } else {
-        write!(out, " -")
+fn print_configuration<W: Write>(out: &mut W, configuration: Option<[u8; 14]>) -> io::Result<()> {
+    match configuration {
+        Some(c) => write!(out, " {}", Hex(&c)),
+        None => write!(out, " -"),
     }
 }
 
@@ -62,7 +61,6 @@ fn print_message<W: Write>(out: &mut W, msg: &[u8], r: Reading) -> io::Result<()
 {
     let b = r.base;
     let d = r.discovery;
-    let c = r.configuration;
     let targets = r.targets;
     let at = r.at;
     let end = r.at + r.size;
@@ -70,7 +68,7 @@ fn print_message<W: Write>(out: &mut W, msg: &[u8], r: Reading) -> io::Result<()
     print_decimal(out, 0)?;
     print_kind(out, d.reply)?;
     print_base(out, b)?;
-    print_configuration(out, r.configured, c)?;
+    print_configuration(out, r.configuration)?;
     print_discovery(out, d)?;
     print_vector(out, r.size / (16 - d.compr as usize), &v)?;
     write!(out, " {}{}", r.count, Targets(&targets[..r.count]))
@@ -79,14 +77,12 @@ fn print_message<W: Write>(out: &mut W, msg: &[u8], r: Reading) -> io::Result<()
 // One message: its number, then its answer and, where it is heard, its fields.
 fn show<W: Write>(out: &mut W, number: u64, msg: &[u8]) -> io::Result<()> {
     write!(out, "{number}")?;
-    let r = reader::read(msg);
-    let refusal = r.refusal;
-    match refusal {
-        Refusal::Heard => print_message(out, msg, r)?,
-        Refusal::Malformed => print_decimal(out, 3)?,
-        Refusal::Unfit => print_decimal(out, 4)?,
-        Refusal::Unusable => print_decimal(out, 5)?,
-        Refusal::TooMany => print_decimal(out, 6)?,
+    match reader::read(msg) {
+        Ok(r) => print_message(out, msg, r)?,
+        Err(Refusal::Malformed) => print_decimal(out, 3)?,
+        Err(Refusal::Unfit) => print_decimal(out, 4)?,
+        Err(Refusal::Unusable) => print_decimal(out, 5)?,
+        Err(Refusal::TooMany) => print_decimal(out, 6)?,
     }
     out.write_all(b"\n")
 }

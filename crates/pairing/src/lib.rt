@@ -29,9 +29,7 @@ fn only_target(count: usize, targets: [Target; 8]) -> Target
 pub fn orig_node(p: Parsed) -> [u8; 16]
     ensures { (v : List Address) → result ≡ orig_node (message_in p v) }
 {
-    let targets = p.targets;
-    let t = only_target(p.count, targets);
-    t.addr
+    only_target(p.count, p.targets).addr
 }
 
 // Dest SeqNo.
@@ -39,9 +37,7 @@ pub fn orig_node(p: Parsed) -> [u8; 16]
 pub fn dest_seq(p: Parsed) -> u8
     ensures { (v : List Address) → result ≡ dest_seq (message_in p v) }
 {
-    let targets = p.targets;
-    let t = only_target(p.count, targets);
-    t.seq
+    only_target(p.count, p.targets).seq
 }
 
 // The partner's RPLInstanceID.

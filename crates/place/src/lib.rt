@@ -6,7 +6,8 @@ ghost use Rattle.place.specs.Places.{HasRow, HasRoute, Placed, RoutePlaced};
 
 use row::{InstanceRow, RouteRow};
 
-// Where the row and, where there is one, the reply row behind it go.
+// Where the row and, where there is one, the reply row behind it go. A struct here and below, and no tuple or Option of an Option: it says which
+// number is which.
 #[derive(Clone, Copy)]
 pub struct Places {
     pub first: usize,

@@ -64,7 +64,7 @@ fn is_stale(p: Parsed, w: ReplyFacts) -> bool
         || rule::is_route_stale(p.discovery.h, w.route, pairing::dest_seq(p))
 }
 
-// The first line that holds.
+// The first line that holds. One `if` a line: each has its own number, and a table of closures would be no plainer.
 #[tactic(auto, using(lemmas::proofs::Cases::cases, lemmas::proofs::Each::each_take, crate::proofs::Laws::full_is), unfolding(plain::specs::Reply::reply_lines, plain::specs::Answers::answer_of, reply::specs::Facts::answered_of, message::specs::Message::message_in, reply::specs::Facts::is_full))]
 pub fn judge(o: Own, k: Link, p: Parsed, vector: &[[u8; 16]; 16], w: ReplyFacts) -> Answer
     requires n_bound { (p.n ≤ 16) × (p.discovery.compr ≤ 16) }

@@ -56,7 +56,7 @@ fn adds_ours(p: Parsed, a: RequestFacts) -> bool
     request::forwards(p, a) && !p.discovery.h
 }
 
-// The answer of a request.
+// The answer of a request: the first line that holds. One `if` a line: each has its own number, and a table of closures would be no plainer.
 #[tactic(auto, using(lemmas::proofs::Cases::cases, lemmas::proofs::Each::each_take, crate::proofs::Lines::full_is), unfolding(plain::specs::Request::request_lines, plain::specs::Answers::answer_of, request::specs::Facts::asked_of, message::specs::Message::message_in, plain::specs::Request::forwards))]
 pub fn judge(o: Own, k: Link, p: Parsed, vector: &[[u8; 16]; 16], a: RequestFacts) -> Answer
     requires heard { Heard p }

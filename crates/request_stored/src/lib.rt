@@ -32,6 +32,7 @@ fn request_row(t: u64, k: Link, p: Parsed, a: RequestFacts) -> InstanceRow
         p.discovery.number,
         message::s_out(k, p),
         p.discovery.h,
+        // Sendable says that rank and count fit: `try_from` would bring a refusal that cannot happen
         a.rank as u16,
         k.neighbour,
         a.targets.count as u8,
@@ -49,6 +50,7 @@ fn reply_fields(o: Own, t: u64, seq: u8, p: Parsed, delta: u8) -> ReplyFields
     requires { t ≤ 2 ^ 40 }
     ensures { reply_in result ≡ own_reply_row (settings_of o) t seq (message_in p []) delta }
 {
+    // an array goes into a struct from a variable alone: the borrow checker covers no other form
     let receiving = o.receiving;
     ReplyFields {
         instance: rolling::plus_delta(p.base.instance, delta),

@@ -30,6 +30,7 @@ fn compr_sent(h: bool, compr: u8) -> u8
 fn start_message(o: Own, seq: u8, s: Asking, ts: Targets) -> Parsed
     ensures { (message_in result [] ≡ start_message (settings_of o) seq (start_of s []) (list_of ts)) × (result.n ≡ 0) × (result.count ≡ ts.count) }
 {
+    // an array goes into a struct from a variable alone: the borrow checker covers no other form
     let receiving = o.receiving;
     let list = ts.list;
     let base = Base {

@@ -25,19 +25,17 @@ fn start_row(o: Own, seq: u8, t: u64, s: Asking, ts: Targets) -> InstanceRow
     requires { (t ≤ 2 ^ 40) × (ts.count ≤ 8) × Padded ts.count ts.list }
     ensures { result ≡ request_record (start_row (settings_of o) t seq (start_of s []) (list_of ts)) }
 {
-    let receiving = o.receiving;
-    let list = ts.list;
     let end = deadline::of_l(t, s.l);
     row::padded_request_row(
         s.instance,
-        receiving,
+        o.receiving,
         seq,
         true,
         s.h,
         256,
         [0; 16],
         ts.count as u8,
-        list,
+        ts.list,
         false,
         end,
     )

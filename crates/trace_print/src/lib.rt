@@ -1,21 +1,13 @@
 // What traces_main prints: lines of words, decimal numbers, and octets in hexadecimal.
 #![tactic(auto)]
 
-use answer::{Destination, Way};
+use answer::Destination;
 use line::{Hex, Targets};
 use outcome::{Outcome, Sent};
 use row::{InstanceRow, RouteRow};
 use std::io::Write;
 use std::{fmt, io};
 use tally::Tally;
-
-fn words<W: Write>(out: &mut W, s: &[u8]) -> io::Result<()> {
-    out.write_all(s)
-}
-
-fn address<W: Write>(out: &mut W, a: [u8; 16]) -> io::Result<()> {
-    write!(out, " {}", Hex(&a))
-}
 
 // The first n octets of a buffer, where there are any.
 pub fn buffer<W: Write>(out: &mut W, name: &str, s: &[u8], n: usize) -> io::Result<()> {
@@ -28,13 +20,11 @@ pub fn buffer<W: Write>(out: &mut W, name: &str, s: &[u8], n: usize) -> io::Resu
 // ---- an outcome
 
 fn destination<W: Write>(out: &mut W, d: Destination) -> io::Result<()> {
-    let w = d.way;
-    let a = d.neighbour;
-    match w {
-        Way::Nowhere => words(out, b" nowhere"),
-        Way::Group => words(out, b" group"),
-        Way::Neighbour => address(out, a),
-        Way::Caller => words(out, b" caller"),
+    match d {
+        Destination::Nowhere => write!(out, " nowhere"),
+        Destination::Group => write!(out, " group"),
+        Destination::Neighbour(a) => write!(out, " {}", Hex(&a)),
+        Destination::Caller => write!(out, " caller"),
     }
 }
 

@@ -29,7 +29,7 @@ brought c = Event.start (start_of c.args.s c.args.targets.now)
 pub returns-then-is_bad : goal.returns-then-is_bad
 returns-then-is_bad c =
     let s = (goal.at.returns-then-is_bad c).Start in
-    bad_lent_lem (handed s) (brought s) _ c.refused.result (sym c.is_bad.ensures ∙ c.if-is_bad.true) c.bad_call.ensures c.refused.ensures
+    bad_lent_lem (handed s) (brought s) _ c.bad_call.result (sym c.is_bad.ensures ∙ c.if-is_bad.true) refl c.bad_call.ensures
 
 pub returns-then-is_bad_start : goal.returns-then-is_bad_start
 returns-then-is_bad_start c =
@@ -37,8 +37,8 @@ returns-then-is_bad_start c =
     let lent : is_bad (handed s) ≡ false = sym c.is_bad.ensures ∙ c.if-is_bad.false in
     let judged : c.is_bad_start.result ≡ is_bad_event (brought s) =
     c.is_bad_start.ensures.told (start_of c.args.s c.args.targets.now) c.gather-g.ensures refl refl refl in
-    bad_event (handed s) (brought s) _ c.refused-then-is_bad_start.result lent (sym judged ∙ c.if-is_bad_start.true)
-    c.bad_call-then-is_bad_start.ensures c.refused-then-is_bad_start.ensures
+    bad_event (handed s) (brought s) _ c.bad_call-then-is_bad_start.result lent (sym judged ∙ c.if-is_bad_start.true) refl
+    c.bad_call-then-is_bad_start.ensures
 
 pub returns-then-is_wrong : goal.returns-then-is_wrong
 returns-then-is_wrong c =
@@ -47,8 +47,8 @@ returns-then-is_wrong c =
     let judged : c.is_bad_start.result ≡ is_bad_event (brought s) =
     c.is_bad_start.ensures.told (start_of c.args.s c.args.targets.now) c.gather-g.ensures refl refl refl in
     let event : is_bad_event (brought s) ≡ false = sym judged ∙ c.if-is_bad_start.false in
-    wrong_state_lem (handed s) (brought s) _ c.refused-then-is_wrong.result lent event (sym c.is_wrong.ensures ∙ c.if-is_wrong.true)
-    c.wrong_state.ensures c.refused-then-is_wrong.ensures
+    wrong_state_lem (handed s) (brought s) _ c.refused.result lent event (sym c.is_wrong.ensures ∙ c.if-is_wrong.true)
+    c.wrong_state.ensures c.refused.ensures
 
 pub take_start-requires : goal.take_start-requires
 take_start-requires c =
@@ -59,8 +59,7 @@ take_start-requires c =
     let event : is_bad_event (brought s) ≡ false = sym judged ∙ c.if-is_bad_start.false in
     let admitted : Admitted (handed s) (brought s) = record { lent = lent; event = event; state = sym c.is_wrong.ensures ∙ c.if-is_wrong.false } in
     let g = c.gather-g in
-    let ts = c.targets_of in
-    taken_start admitted g.result g.ensures ts.result ts.ensures
+    taken_start admitted g.result g.ensures _ refl
 
 pub returns : goal.returns
 returns c =
@@ -71,5 +70,4 @@ returns c =
     let event : is_bad_event (brought s) ≡ false = sym judged ∙ c.if-is_bad_start.false in
     let admitted : Admitted (handed s) (brought s) = record { lent = lent; event = event; state = sym c.is_wrong.ensures ∙ c.if-is_wrong.false } in
     let g = c.gather-g in
-    let ts = c.targets_of in
-    rw (start_step admitted g.result g.ensures ts.result ts.ensures) (c.take_start.ensures c.args.targets.now)
+    rw (start_step admitted g.result g.ensures _ refl) (c.take_start.ensures c.args.targets.now)
