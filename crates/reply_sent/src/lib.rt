@@ -81,7 +81,6 @@ pub fn forward_post(o: Own, p: Parsed, vector: &[[u8; 16]; 16], w: ReplyFacts) -
     ensures { Posts (settings_of o) vector.now (reply_sent (settings_of o) (message_in p vector.now) (answered_of w)).forward (reply_sent (settings_of o) (message_in p vector.now) (answered_of w)).forward_to result }
 {
     // the rank has 16 bits where it goes on: `try_from` would bring a refusal that no call meets
-    // the rank fits, as is required: `try_from` would bring a refusal that cannot happen
     let message = forwarded(p, w.rank as u16);
     let grown = reply::does_grow(p, w);
     let to = destination(o, p, vector, w);

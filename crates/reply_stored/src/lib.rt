@@ -26,7 +26,6 @@ fn reply_row(t: u64, p: Parsed, w: ReplyFacts) -> InstanceRow
         p.base.instance,
         p.base.dodagid,
         pairing::dest_seq(p),
-        // it fits, as is required: `try_from` would bring a refusal that cannot happen
         w.rank as u16,
         rule::kept_deadline(t, p.discovery.l, w.standing, w.found),
     )

@@ -32,7 +32,6 @@ fn request_row(t: u64, k: Link, p: Parsed, a: RequestFacts) -> InstanceRow
         p.discovery.number,
         message::s_out(k, p),
         p.discovery.h,
-        // Sendable says that rank and count fit: `try_from` would bring a refusal that cannot happen
         a.rank as u16,
         k.neighbour,
         a.targets.count as u8,
