@@ -1,5 +1,5 @@
 -- What is not sent, and what is read past the end of a lent slice of posts or decisions.
-use Rattle.std.specs.Prelude.{false, None}
+use Rattle.std.specs.Prelude.{false, Some}
 use Rattle.plain.specs.Address.{zero_address}
 use Rattle.answer.specs.declared.Destination.TheVariants.{Nowhere}
 use Rattle.row.specs.Meaning.{no_row, no_route}
@@ -21,7 +21,7 @@ no_post = record {
 
 -- no reply row is stored
 abbrev pub no_reply : ReplyFields
-no_reply = record { instance = 0; seq = 0; rank = 0; dodagid = zero_address; deadline = None }
+no_reply = record { instance = 0; seq = 0; rank = 0; dodagid = zero_address; deadline = Some 0 }
 
 -- nothing is stored
 abbrev pub no_decision : Decided

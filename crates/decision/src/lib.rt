@@ -94,7 +94,7 @@ pub fn no_reply() -> ReplyFields
         seq: 0,
         rank: 0,
         dodagid: [0; 16],
-        deadline: None,
+        deadline: Some(0),
     }
 }
 
