@@ -4,16 +4,14 @@
 ghost use Rattle.std.specs.Prelude.{◌≡◌, ◌<◌, ◌≤◌};
 ghost use Rattle.slot.specs.Slot.{slot_of, class_of, chosen_of};
 
-// The low half of the hash, scaled from 2^32 to the filter's words: cheaper than a remainder. By `as`: there is no From
-// between u64 and usize, and TryFrom would bring a Result that cannot be Err.
+// The low half of the hash, scaled from 2^32 to the filter's words: cheaper than a remainder. On 128 bits no number of words is too many. By `as`:
+// there is no From between usize and u128, and TryFrom would bring a Result that cannot be Err.
 #[tactic(auto, using(lemmas::proofs::Cases::cases), unfolding(crate::specs::Slot::slot_of))]
 pub fn slot_of<const N: usize>(h: u64) -> usize
-    requires some { 0 < N }
-    requires most { N ≤ 4294967296 }
     ensures value { result ≡ slot_of N h }
-    ensures upper_bound { result < N }
+    ensures upper_bound { 0 < N → result < N }
 {
-    (h % 4294967296 * N as u64 / 4294967296) as usize
+    (u128::from(h % 4294967296) * N as u128 / 4294967296) as usize
 }
 
 #[tactic(auto, using(lemmas::proofs::Cases::cases), unfolding(crate::specs::Slot::class_of))]
