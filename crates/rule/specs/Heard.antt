@@ -1,5 +1,5 @@
 -- What holds of every message that was heard: no 6, its RREQ or RREP came in an option, Compr has four bits and Prefix Length seven. Past
--- its targets the list is blank.
+-- its targets the list is blank. No invariant of Parsed says it: heard's `parsed` makes one of any Reading, read from a message or not.
 use Rattle.std.specs.Prelude.{◌≤◌, ◌*◌, ◌-◌, ◌≡◌, true, false, List, length, take}
 use Rattle.plain.specs.Address.{Address}
 use Rattle.plain.specs.Blank.{Padded}
