@@ -137,5 +137,6 @@ pub fn marked(on: bool, w: u64, h: u64) -> u64
 pub fn mask_for(n: usize) -> u64
     ensures { result < 65536 }
 {
+    // by `as`: there is no From from usize to u64
     n.div_ceil(4096).clamp(1, 64).next_power_of_two() as u64 - 1
 }

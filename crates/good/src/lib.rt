@@ -29,7 +29,7 @@ fn are_good_targets(count: u8, targets: [Target; 8]) -> bool
     if 8 < count {
         return false;
     }
-    targets[..count as usize].iter().all(|t| t.plen <= 127)
+    targets[..usize::from(count)].iter().all(|t| t.plen <= 127)
 }
 
 // At most four targets, as most rows have, none of them wrong: asked without a branch that goes by the count. If false, nothing is known.

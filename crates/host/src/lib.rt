@@ -55,6 +55,7 @@ pub fn host_outcome(r: Outcome) -> HostOutcome
         seq: r.seq,
         forward_way: way_number(r.forward.to),
         reply_way: way_number(r.reply.to),
+        // by `as`: there is no From from usize to u64
         forward_length: r.forward.size as u64,
         reply_length: r.reply.size as u64,
         clock: r.clock,

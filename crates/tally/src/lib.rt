@@ -19,7 +19,7 @@ pub struct Tally {
 fn place_of(a: Answer) -> usize
     ensures { result ≡ answer_number a }
 {
-    answer::number(a) as usize
+    usize::from(answer::number(a))
 }
 
 // An answer's number is below 18, so that its count is always there. "the tally counts wrap too"
