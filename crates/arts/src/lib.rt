@@ -25,7 +25,7 @@ pub fn read_targets(msg: &[u8]) -> Targets
             }
             Next::Body { kind, start, end } => {
                 at = end;
-                if kind == 0x0D {
+                if kind == option::ART {
                     c = collect::collect(&mut list, c, art::read_target(&msg[start..end]));
                 }
             }

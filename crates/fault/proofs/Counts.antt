@@ -9,6 +9,7 @@ use lib.ListN.{length}
 use borrow.Author.Tests.{eq-eqb, ne_eqb, lt-ltb, le-ltb, eqb-true, eqb-false, ltb-true, ltb-false}
 use Rattle.lemmas.proofs.Choice.{and_left, and_right, or_left, or_right}
 use Rattle.plain.specs.Octets.{octet_at, options_of, of_type, first_body, any_bad, art_type, plen_of, request_counts, reply_counts, malformed, unfit, mop_of, fields, sum}
+use Rattle.option.specs.Follows.{part_of}
 use Rattle.scan.specs.declared.Scan.{Scan}
 use Rattle.scan.specs.Scanned.{Outlined, Scanned}
 
@@ -24,6 +25,11 @@ module _ (m n k : ℕ) (h : m ≤ 1) (e : min 2 n ≡ k) where
 
   over_is : ltb m k ≡ ltb m n
   over_is = same_test _ _ (λ q. lt-ltb m n (omega (arith, ltb-true m k q))) (λ q. le-ltb m n (omega (arith, ltb-false m k q)))
+
+or_third : (a b c d : Bool) → c ≡ true → a || b || c || d ≡ true
+or_third true b c d e = refl
+or_third false true c d e = refl
+or_third false false c d e = rw e
 
 pub once_some : (n : ℕ) → eqb n 1 ≡ true → 0 < n
 once_some n e = omega (arith, eqb-true n 1 e)
@@ -41,17 +47,38 @@ module _ {msg : List ℕ} {s : Scan} (v : Outlined msg s) where
   unfolding reply_counts
   reply_is = rw (just_is 1 _ _ (omega arith) v.rrep.count, just_is 0 _ _ (omega arith) v.rreq.count, just_is 1 _ _ (omega arith) v.art.count)
 
-  pub reply_art : reply_counts (options_of msg) ≡ true → 0 < s.art.count
-  reply_art e = once_some s.art.count (and_right (eqb s.rrep.count 1 && eqb s.rreq.count 0) _ (reply_is ∙ e))
+  -- what `fault::is_reply` says
+  module _ {b : Bool} (f : (m : List ℕ) → Outlined m s → b ≡ reply_counts (options_of m)) where
+    -- a reply has an ART
+    module _ (e : b ≡ true) where
+      reply_art : 0 < s.art.count
+      reply_art = once_some s.art.count (and_right (eqb s.rrep.count 1 && eqb s.rreq.count 0) _ (reply_is ∙ sym (f msg v) ∙ e))
 
-  -- ---- Answer 3
+      pub art_order : s.art.start ≤ s.art.end
+      art_order = (v.art.right reply_art).order
 
-  pub malformed_is : 24 ≤ length msg → any_bad (options_of msg) ≡ false
-      → ltb 1 s.configuration.count
-      || (reply_counts (options_of msg) && not (eqb (plen_of (first_body (of_type art_type (options_of msg)))) 0))
-      ≡ malformed msg
+      pub art_within : s.art.end ≤ length msg
+      art_within = (v.art.right reply_art).within
+
+    -- ---- Answer 3
+
+    module _ (h : any_bad (options_of msg) ≡ false) (l : 24 ≤ length msg) (q : s.configuration.count ≤ 1) where
+      malformed_is : b && not (eqb (plen_of (first_body (of_type art_type (options_of msg)))) 0) ≡ malformed msg
+      unfolding malformed
+      malformed_is =
+          rw (f msg v, le-ltb (length msg) 24 l, h, ← over_is 1 _ _ (omega arith) v.configuration.count, le-ltb 1 s.configuration.count q)
+
+      pub malformed_reply : b ≡ true → not (eqb (plen_of (part_of msg s.art.start s.art.end)) 0) ≡ malformed msg
+      malformed_reply e = rw (← v.art.body (reply_art e)) (rw e at malformed_is)
+
+      pub malformed_other : b ≡ false → b ≡ malformed msg
+      malformed_other e = rw e (rw e at malformed_is)
+
+  pub malformed_many : any_bad (options_of msg) ≡ false → 1 < s.configuration.count → malformed msg ≡ true
   unfolding malformed
-  malformed_is h e = rw (le-ltb (length msg) 24 h, e, over_is 1 _ _ (omega arith) v.configuration.count)
+  malformed_many h q =
+      or_third (ltb (length msg) 24) (any_bad (options_of msg)) _ _
+      (sym (over_is 1 _ _ (omega arith) v.configuration.count) ∙ lt-ltb 1 s.configuration.count q)
 
 pub malformed_short : (msg : List ℕ) → length msg < 24 → malformed msg ≡ true
 unfolding malformed
@@ -73,9 +100,6 @@ module _ (msg : List ℕ) (e : malformed msg ≡ false) where
   pub formed_good : any_bad (options_of msg) ≡ false
   unfolding malformed
   formed_good = or_right (ltb (length msg) 24) _ (or_left _ _ (or_left _ _ e))
-
-  pub formed_outline : (s : Scan) → Scanned msg s → Outlined msg s
-  formed_outline s v = v.told (v.bad ∙ formed_good)
 
 -- ---- Answer 4
 

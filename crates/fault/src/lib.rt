@@ -1,7 +1,7 @@
 // What the octets of a message are refused for, each asked by itself (01, "Octets on the air"): 3, 4 and 6.
 #![tactic(auto)]
 
-ghost use Rattle.std.specs.Prelude.{◌≡◌, ◌||◌, List, ℕ, ◌-◌, ◌/◌, ◌≤◌, ltb};
+ghost use Rattle.std.specs.Prelude.{◌≡◌, ◌||◌, List, ℕ, ◌-◌, ◌/◌, ◌≤◌, ltb, Some};
 ghost use Rattle.plain.specs.Octets.{options_of, request_counts, reply_counts, malformed, unfit};
 ghost use Rattle.scan.specs.Scanned.{Outlined, Scanned};
 
@@ -23,17 +23,15 @@ pub fn is_reply(s: Scan) -> bool
     s.rrep.count == 1 && s.rreq.count == 0 && s.art.count == 1
 }
 
-// Whether the message is cut or malformed.
-#[tactic(auto, using(lemmas::proofs::Cases::cases, crate::proofs::Counts::malformed_short, crate::proofs::Counts::malformed_bad, crate::proofs::Counts::malformed_is, crate::proofs::Counts::reply_art))]
+// Whether a message is malformed of which a pass has found its options.
+#[tactic(auto, using(lemmas::proofs::Cases::cases, crate::proofs::Counts::malformed_short, crate::proofs::Counts::malformed_many, crate::proofs::Counts::malformed_reply, crate::proofs::Counts::malformed_other, crate::proofs::Counts::art_order, crate::proofs::Counts::art_within))]
 pub fn is_malformed(msg: &[u8], s: Scan) -> bool
-    requires { Scanned msg.now s }
+    requires { Scanned msg.now (Some s) }
     ensures { result ≡ malformed msg.now }
 {
-    // returned early: in one chain of || and && a proof does not close
-    if msg.len() < 24 || s.bad || 1 < s.configuration.count {
-        return true;
-    }
-    is_reply(s) && art::prefix_length(&msg[s.art.start..s.art.end]) != 0
+    msg.len() < 24
+        || 1 < s.configuration.count
+        || is_reply(s) && art::prefix_length(&msg[s.art.start..s.art.end]) != 0
 }
 
 // Whether MOP is not 4, or the counts of options are wrong.
@@ -51,6 +49,6 @@ pub fn is_too_many(size: usize, compr: u8, over: bool) -> bool
     requires { compr ≤ 15 }
     ensures { result ≡ (ltb 16 (size / (16 - compr)) || over) }
 {
-    let width = 16 - compr as usize;
+    let width = 16 - usize::from(compr);
     16 < size / width || over
 }

@@ -5,6 +5,16 @@ ghost use Rattle.std.specs.Prelude.{◌≡◌};
 ghost use Rattle.plain.specs.Octets.{bad_option};
 ghost use Rattle.option.specs.Follows.{option_of, Follows};
 
+// The types of the options that mean something here.
+pub const CONFIGURATION: u8 = 0x04;
+
+pub const RREQ: u8 = 0x0B;
+
+pub const RREP: u8 = 0x0C;
+
+pub const ART: u8 = 0x0D;
+
+// A type is a number, and no enum: one would have to keep the number of every other type, and could tell a Configuration in two ways.
 // What stands at a position of a message: Pad1, an option with its type and the place of its body, the end, or an option past the end.
 #[derive(Clone, Copy)]
 pub enum Next {
@@ -30,7 +40,7 @@ pub fn next_option(msg: &[u8], at: usize) -> Next
     if msg.len() <= second {
         return Next::Cut;
     }
-    let size = msg[second] as usize;
+    let size = usize::from(msg[second]);
     let start = at + 2;
     if msg.len() - start < size {
         return Next::Cut;
@@ -42,16 +52,16 @@ pub fn next_option(msg: &[u8], at: usize) -> Next
     }
 }
 
-// Whether an option's body is wrong for its type.
+// Whether an option's body is wrong for its type, any number (see Next).
 #[tactic(auto, using(lemmas::proofs::Cases::cases), unfolding(plain::specs::Octets::bad_option))]
 pub fn is_bad_option(kind: u8, body: &[u8]) -> bool
     ensures { result ≡ bad_option (option_of kind body.now) }
 {
     match kind {
-        0x04 => option_body::is_bad_configuration(body),
-        0x0B => option_body::is_bad_route(body),
-        0x0C => option_body::is_bad_route(body),
-        0x0D => art::is_bad_art(body),
+        CONFIGURATION => option_body::is_bad_configuration(body),
+        RREQ => option_body::is_bad_route(body),
+        RREP => option_body::is_bad_route(body),
+        ART => art::is_bad_art(body),
         _ => false,
     }
 }

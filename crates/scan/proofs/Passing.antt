@@ -4,6 +4,7 @@ use mathlib.Core.Path.{◌≡◌, refl, sym, ap, ◌∙◌}
 use mathlib.Core.Bool.{true, false}
 use mathlib.Core.List.{List, []}
 use mathlib.Core.Option.{Option, some, none}
+use Rattle.std.specs.Prelude.{Some, None}
 use native.Mathlib.Omega.{arith}
 use lib.ListN.{length, drop}
 use borrow.Author.Tests.{ne_eqb}
@@ -21,7 +22,6 @@ use Rattle.option.proofs.Turn.{Turn, body_placed, end_next, cut_next, pad_next, 
 
 -- what holds before each turn: the options from `at` on, read in `left` steps, are those that are to come
 pub record Passing (msg : List ℕ) (s : Scan) (at left : ℕ) : Type 0 where
-  pub bad : s.bad ≡ false
   pub same : any_bad (options_in left (drop at msg)) ≡ any_bad (options_of msg)
   pub ahead : (all rest : List Opt) → options_of msg ≡ some all → options_in left (drop at msg) ≡ some rest → Ahead msg all rest s
 
@@ -43,7 +43,6 @@ seen_none wanted msg all rest e = record { few = omega arith; count = rw e (omeg
 
 pub passing_first : (msg : List ℕ) → Passing msg fresh_scan 24 (length msg)
 passing_first msg = record {
-  bad = refl;
   same = refl;
   ahead = λ all rest p q. let e : all ≡ rest = cc in record {
     configuration = seen_none _ msg all rest e;
@@ -69,49 +68,47 @@ outlined_all msg all s e v = record {
   art = told_all _ msg all _ e v.art;
 }
 
-pub scanned_bad : (msg : List ℕ) (r : Scan) → r.bad ≡ true → any_bad (options_of msg) ≡ true → Scanned msg r
-scanned_bad msg r e h = record { bad = e ∙ sym h; told = λ f. true_false (sym e ∙ f) }
+pub scanned_bad : (msg : List ℕ) → any_bad (options_of msg) ≡ true → Scanned msg None
+scanned_bad msg h = record { bad = sym h; told = tt }
 
 module _ {msg : List ℕ} {s : Scan} {at left : ℕ} (v : Passing msg s at left) where
   -- no option is to come
-  scanned_none : options_in left (drop at msg) ≡ some [] → Scanned msg s
+  scanned_none : options_in left (drop at msg) ≡ some [] → Scanned msg (Some s)
   unfolding any
   scanned_none e =
       let good : any_bad (options_of msg) ≡ false = sym v.same ∙ rw e in
-      record { bad = v.bad ∙ sym good; told = λ _. go (options_of msg) refl good }
+      record { bad = sym good; told = go (options_of msg) refl good }
     where
       go : (os : Option (List Opt)) → options_of msg ≡ os → any_bad os ≡ false → Outlined msg s
       go none p h = true_false h
       go (some all) p h = outlined_all msg all s p (v.ahead all [] p e)
 
-  pub scanned_out : left ≡ 0 → Scanned msg s
+  pub scanned_out : left ≡ 0 → Scanned msg (Some s)
   unfolding options_in
   scanned_out h = scanned_none (rw h)
 
 -- ---- One turn
 
 module _ {msg : List ℕ} {s : Scan} {at left : ℕ} {n : Next} (w : Turn (Passing msg s at left) msg at left n) where
-  pub scanned_end : n ≡ End → Scanned msg s
+  pub scanned_end : n ≡ End → Scanned msg (Some s)
   scanned_end e = scanned_none w.inv (end_next w e)
 
-  pub scanned_cut : n ≡ Cut → any_bad (options_of msg) ≡ true
-  scanned_cut e = sym w.inv.same ∙ rw (cut_next w e)
+  pub scanned_cut : n ≡ Cut → Scanned msg None
+  scanned_cut e = scanned_bad msg (sym w.inv.same ∙ rw (cut_next w e))
 
   pub passing_pad : {more : ℕ} → n ≡ Pad → more ≡ left - 1 → Passing msg s (at + 1) more
   passing_pad e m = rw m (record {
-    bad = w.inv.bad;
     same = sym (ap any_bad (pad_next w e)) ∙ w.inv.same;
     ahead = λ all rest p q. w.inv.ahead all rest p (pad_next w e ∙ q);
   })
 
   module _ {kind start end : ℕ} (e : n ≡ Body kind start end) where
-    pub bad_body : bad_option (option_of kind (part_of msg start end)) ≡ true → any_bad (options_of msg) ≡ true
-    bad_body b = sym w.inv.same ∙ ap any_bad (body_next w e) ∙ bad_first _ (options_in (left - 1) (drop end msg)) b
+    pub scanned_body : bad_option (option_of kind (part_of msg start end)) ≡ true → Scanned msg None
+    scanned_body b = scanned_bad msg (sym w.inv.same ∙ ap any_bad (body_next w e) ∙ bad_first _ (options_in (left - 1) (drop end msg)) b)
 
     pub passing_body : {r : Scan} {more : ℕ} → bad_option (option_of kind (part_of msg start end)) ≡ false → OptionTaken kind start end s r
         → more ≡ left - 1 → Passing msg r end more
     passing_body g t m = let p = body_placed w e in rw m (record {
-      bad = t.bad ∙ w.inv.bad;
       same = sym (ap any_bad (body_next w e) ∙ right_first _ (options_in (left - 1) (drop end msg)) g) ∙ w.inv.same;
       ahead = λ all rest a q.
           t.ahead msg all rest (record { order = p.0; short = p.1; within = p.2; good = g })

@@ -1,5 +1,5 @@
 -- A pass over the options of a message.
-use Rattle.std.specs.Prelude.{ℕ, ◌≡◌, false, List, ◌∷◌}
+use Rattle.std.specs.Prelude.{ℕ, ◌≡◌, List, ◌∷◌, Option, is_none, IfSome}
 use Rattle.plain.specs.Octets.{Opt, any_bad, options_of}
 use Rattle.plain.specs.Octets.{configuration_type, rreq_type, rrep_type, art_type}
 use Rattle.option.specs.Follows.{option_of, part_of}
@@ -13,7 +13,6 @@ none_found = record { count = 0; start = 0; end = 0 }
 
 abbrev pub fresh_scan : Scan
 fresh_scan = record {
-  bad = false;
   configuration = none_found;
   rreq = none_found;
   rrep = none_found;
@@ -29,7 +28,6 @@ pub record Ahead (msg : List ℕ) (all rest : List Opt) (s : Scan) : Type 0 wher
 
 -- the next option is taken in
 pub record OptionTaken (kind start end : ℕ) (s r : Scan) : Type 0 where
-  pub bad : r.bad ≡ s.bad
   pub ahead : (msg : List ℕ) (all rest : List Opt) → Right msg kind start end
       → Ahead msg all (option_of kind (part_of msg start end) ∷ rest) s → Ahead msg all rest r
 
@@ -40,6 +38,7 @@ pub record Outlined (msg : List ℕ) (s : Scan) : Type 0 where
   pub rrep : Told rrep_type msg s.rrep
   pub art : Told art_type msg s.art
 
-pub record Scanned (msg : List ℕ) (s : Scan) : Type 0 where
-  pub bad : s.bad ≡ any_bad (options_of msg)
-  pub told : s.bad ≡ false → Outlined msg s
+-- none, where an option is past the end or has a wrong body
+pub record Scanned (msg : List ℕ) (r : Option Scan) : Type 0 where
+  pub bad : is_none r ≡ any_bad (options_of msg)
+  pub told : IfSome r (Outlined msg)

@@ -1,7 +1,7 @@
 // A pass over the options of a message (01, "Octets on the air").
 #![tactic(auto)]
 
-ghost use Rattle.std.specs.Prelude.{ℕ, ◌≡◌, true};
+ghost use Rattle.std.specs.Prelude.{ℕ};
 ghost use Rattle.scan.specs.Seen.{Noted};
 ghost use Rattle.scan.specs.Scanned.{OptionTaken, Scanned};
 
@@ -16,10 +16,9 @@ pub struct Found {
     pub end: usize,
 }
 
-// What a pass has found. `bad`: an option is past the end or has a wrong body.
+// What a pass has found.
 #[derive(Clone, Copy, Default)]
 pub struct Scan {
-    pub bad: bool,
     pub configuration: Found,
     pub rreq: Found,
     pub rrep: Found,
@@ -41,7 +40,7 @@ fn noted(f: Found, start: usize, end: usize) -> Found
     Found { count: 2, ..f }
 }
 
-// What a pass has found after one more option. Most types are none of these four.
+// What a pass has found after one more option. Most types (see option::Next) are none of these four.
 #[tactic(auto, using(lemmas::proofs::Cases::cases, crate::proofs::Laws::seen_other, crate::proofs::Laws::noted_as, crate::proofs::Laws::apart))]
 fn with_option(s: Scan, kind: u8, start: usize, end: usize) -> Scan
     ensures { OptionTaken kind start end s result }
@@ -49,24 +48,18 @@ fn with_option(s: Scan, kind: u8, start: usize, end: usize) -> Scan
     // copied once, then one field of four: a struct update in each branch is no plainer
     let mut r = s;
     match kind {
-        0x04 => r.configuration = noted(s.configuration, start, end),
-        0x0B => r.rreq = noted(s.rreq, start, end),
-        0x0C => r.rrep = noted(s.rrep, start, end),
-        0x0D => r.art = noted(s.art, start, end),
+        option::CONFIGURATION => r.configuration = noted(s.configuration, start, end),
+        option::RREQ => r.rreq = noted(s.rreq, start, end),
+        option::RREP => r.rrep = noted(s.rrep, start, end),
+        option::ART => r.art = noted(s.art, start, end),
         _ => {}
     }
     r
 }
 
-fn malformed(s: Scan) -> Scan
-    ensures { result.bad ≡ true }
-{
-    Scan { bad: true, ..s }
-}
-
-// All options of a message, each read in its turn. The pass ends at the first bad one.
-#[tactic(auto, using(crate::proofs::Passing::passing_first, crate::proofs::Passing::scanned_bad, crate::proofs::Passing::scanned_out, crate::proofs::Passing::scanned_end, crate::proofs::Passing::scanned_cut, crate::proofs::Passing::passing_pad, option::proofs::Turn::pad_placed, option::proofs::Turn::body_placed, lemmas::proofs::Cases::cases))]
-pub fn read_options(msg: &[u8]) -> Scan
+// All options of a message, each read in its turn. None where one is past the end or has a wrong body: the pass ends at the first.
+#[tactic(auto, using(crate::proofs::Passing::passing_first, crate::proofs::Passing::scanned_out, crate::proofs::Passing::scanned_end, crate::proofs::Passing::scanned_cut, crate::proofs::Passing::passing_pad, option::proofs::Turn::pad_placed, option::proofs::Turn::body_placed, lemmas::proofs::Cases::cases))]
+pub fn read_options(msg: &[u8]) -> Option<Scan>
     ensures { Scanned msg.now result }
 {
     let mut s = Scan::default();
@@ -79,18 +72,14 @@ pub fn read_options(msg: &[u8]) -> Scan
             }
             Next::Body { kind, start, end } => {
                 if option::is_bad_option(kind, &msg[start..end]) {
-                    return malformed(s);
+                    return None;
                 }
                 s = with_option(s, kind, start, end);
                 at = end;
             }
-            Next::End => {
-                return s;
-            }
-            Next::Cut => {
-                return malformed(s);
-            }
+            Next::End => return Some(s),
+            Next::Cut => return None,
         }
     }
-    s
+    Some(s)
 }

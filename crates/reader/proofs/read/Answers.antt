@@ -3,10 +3,8 @@ use mathlib.Core.Bool.{false}
 use Rattle.plain.specs.Address.{unusable}
 use Rattle.plain.specs.Octets.{base_of, malformed, unfit}
 use Rattle.reader.specs.Reading.{heard_from}
-use Rattle.scan.specs.Scanned.{Outlined}
 use Rattle.reader.specs.Parts.{Filled}
 use Rattle.reader.proofs.Message.{hear_many, hear_heard, bounded}
-use Rattle.fault.proofs.Counts.{formed_outline}
 use Rattle.reader.proofs.read.Goals.{After-fill-r, Else-has_unusable_dodagid, Else-is_malformed, Else-is_unfit}
 use Rattle.reader.proofs.read.Goals as goal
 
@@ -15,9 +13,6 @@ use Rattle.reader.proofs.read.Goals as goal
 -- where the message is not malformed
 formed : (c : Else-is_malformed) → malformed c.args.msg.now ≡ false
 formed c = sym c.is_malformed.ensures ∙ c.if-is_malformed.false
-
-outlined : (c : Else-is_malformed) → Outlined c.args.msg.now c.read_options-s.result
-outlined c = formed_outline _ (formed c) _ c.read_options-s.ensures
 
 -- nor unfit
 fit : (c : Else-is_unfit) → unfit c.args.msg.now ≡ false

@@ -2,7 +2,7 @@ use Prim.Native.Nat.{◌-◌}
 use mathlib.Core.Path.{sym, ◌∙◌}
 use native.Mathlib.Omega.{arith}
 use lib.ListN.{length}
-use Rattle.scan.proofs.Passing.{Passing, scanned_bad, scanned_out, scanned_end, scanned_cut, passing_pad, bad_body, passing_body}
+use Rattle.scan.proofs.Passing.{Passing, scanned_out, scanned_end, scanned_cut, passing_pad, scanned_body, passing_body}
 use Rattle.option.proofs.Turn.{Turn}
 use Rattle.scan.proofs.read_options.Goals.{After-next_option, in-Pad, in-Body+else-is_bad_option}
 use Rattle.scan.proofs.read_options.Goals as goal
@@ -17,8 +17,7 @@ turn c = record { inv = c.loop.invariant; more = omega (arith, c.loop-test.true)
 
 pub returns-then-is_bad_option : goal.returns-then-is_bad_option
 returns-then-is_bad_option c =
-    let bad = sym c.is_bad_option.ensures ∙ c.if-is_bad_option.true in
-    scanned_bad _ _ c.malformed.ensures (bad_body (turn (goal.at.returns-then-is_bad_option c).After-next_option) c.in-Body.is bad)
+    scanned_body (turn (goal.at.returns-then-is_bad_option c).After-next_option) c.in-Body.is (sym c.is_bad_option.ensures ∙ c.if-is_bad_option.true)
 
 pub loop-preserved : goal.loop-preserved
 loop-preserved c =
@@ -33,7 +32,7 @@ pub returns-in-End : goal.returns-in-End
 returns-in-End c = scanned_end (turn (goal.at.returns-in-End c).After-next_option) c.in-End.is
 
 pub returns-in-Cut : goal.returns-in-Cut
-returns-in-Cut c = scanned_bad _ _ c.malformed-in-Cut.ensures (scanned_cut (turn (goal.at.returns-in-Cut c).After-next_option) c.in-Cut.is)
+returns-in-Cut c = scanned_cut (turn (goal.at.returns-in-Cut c).After-next_option) c.in-Cut.is
 
 pub returns : goal.returns
 returns c = scanned_out c.loop.invariant (omega arith)

@@ -5,7 +5,6 @@ use Rattle.scan.proofs.with_option.Goals as goal
 
 pub returns-in-4 : goal.returns-in-4
 returns-in-4 c = let h = c.in-4.is in record {
-  bad = refl;
   ahead = λ msg all rest w v. record {
     configuration = noted_as h c.noted-r.ensures msg all rest w v.configuration;
     rreq = seen_other w v.rreq (apart 4 11 refl _ h);
@@ -16,7 +15,6 @@ returns-in-4 c = let h = c.in-4.is in record {
 
 pub returns-in-11 : goal.returns-in-11
 returns-in-11 c = let h = c.in-11.is in record {
-  bad = refl;
   ahead = λ msg all rest w v. record {
     configuration = seen_other w v.configuration (apart 11 4 refl _ h);
     rreq = noted_as h c.noted-r-in-11.ensures msg all rest w v.rreq;
@@ -27,7 +25,6 @@ returns-in-11 c = let h = c.in-11.is in record {
 
 pub returns-in-12 : goal.returns-in-12
 returns-in-12 c = let h = c.in-12.is in record {
-  bad = refl;
   ahead = λ msg all rest w v. record {
     configuration = seen_other w v.configuration (apart 12 4 refl _ h);
     rreq = seen_other w v.rreq (apart 12 11 refl _ h);
@@ -38,7 +35,6 @@ returns-in-12 c = let h = c.in-12.is in record {
 
 pub returns-in-13 : goal.returns-in-13
 returns-in-13 c = let h = c.in-13.is in record {
-  bad = refl;
   ahead = λ msg all rest w v. record {
     configuration = seen_other w v.configuration (apart 13 4 refl _ h);
     rreq = seen_other w v.rreq (apart 13 11 refl _ h);
@@ -49,7 +45,6 @@ returns-in-13 c = let h = c.in-13.is in record {
 
 pub returns-in_default : goal.returns-in_default
 returns-in_default c = record {
-  bad = refl;
   ahead = λ msg all rest w v. record {
     configuration = seen_other w v.configuration (λ e. omega arith);
     rreq = seen_other w v.rreq (λ e. omega arith);
