@@ -18,6 +18,7 @@ pub fn discovery(reply: bool, body: &[u8]) -> Discovery
         flag: word / 32768 % 2 == 1,
         h: option_body::has_h(body),
         compr: option_body::compr_of(body),
+        // two bits and seven: `try_from` would bring a Result that cannot be Err
         l: (word / 128 % 4) as u8,
         limit: (word % 128) as u8,
         number: number_of(reply, body),

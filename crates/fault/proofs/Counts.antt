@@ -11,7 +11,7 @@ use Rattle.lemmas.proofs.Choice.{and_left, and_right, or_left, or_right}
 use Rattle.plain.specs.Octets.{octet_at, options_of, of_type, first_body, any_bad, art_type, plen_of, request_counts, reply_counts, malformed, unfit, mop_of, fields, sum}
 use Rattle.option.specs.Follows.{part_of}
 use Rattle.scan.specs.declared.Scan.{Scan}
-use Rattle.scan.specs.Scanned.{Outlined, Scanned}
+use Rattle.scan.specs.Scanned.{Outlined}
 
 same_test : (a b : Bool) → (a ≡ true → b ≡ true) → (a ≡ false → b ≡ false) → a ≡ b
 same_test true b f g = sym (f refl)

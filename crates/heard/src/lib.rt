@@ -19,7 +19,7 @@ pub fn parsed(r: Reading) -> Parsed
 {
     // an array goes into a struct from a variable alone: the borrow checker covers no other form
     let targets = r.targets;
-    let width = 16 - r.discovery.compr as usize;
+    let width = 16 - usize::from(r.discovery.compr);
     Parsed {
         base: r.base,
         configuration: r.configuration,
@@ -37,9 +37,8 @@ pub fn vector_of(octets: &[u8], r: Reading) -> [[u8; 16]; 16]
     ensures { take (r.size / (16 - r.discovery.compr)) result
         ≡ restored r.discovery.compr r.base.dodagid (take r.size (drop r.at octets.now)) }
 {
-    let at = r.at;
-    let end = r.at + r.size;
-    vector::addresses(&octets[at..end], r.discovery.compr, r.base.dodagid)
+    let part = &octets[r.at..r.at + r.size];
+    vector::addresses(part, r.discovery.compr, r.base.dodagid)
 }
 
 // The answer that the octets alone give. Both types are of crates below, so that this is no `From`.

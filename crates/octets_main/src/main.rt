@@ -6,13 +6,9 @@ ghost use Rattle.reader.specs.Reading.{Bounded};
 
 use line::{Hex, Targets, read_full};
 use plain::{Base, Discovery};
-use reader::{Reading, Refusal};
+use reader::Reading;
 use std::io;
 use std::io::{Read, Write};
-
-fn print_decimal<W: Write>(out: &mut W, n: u64) -> io::Result<()> {
-    write!(out, " {n}")
-}
 
 fn print_base<W: Write>(out: &mut W, b: Base) -> io::Result<()> {
     let g = u8::from(b.g);
@@ -55,23 +51,18 @@ fn print_vector<W: Write>(out: &mut W, n: usize, v: &[[u8; 16]]) -> io::Result<(
 }
 
 // A message that is heard, with its vector's addresses restored.
-#[tactic(auto, using(lemmas::proofs::Cases::cases, reader::proofs::Part::addresses_fit))]
+#[tactic(auto, using(lemmas::proofs::Cases::cases), unfolding(heard::specs::Parsed::parsed_of))]
 fn print_message<W: Write>(out: &mut W, msg: &[u8], r: Reading) -> io::Result<()>
     requires { Bounded (length msg.now) r }
 {
-    let b = r.base;
-    let d = r.discovery;
-    let targets = r.targets;
-    let at = r.at;
-    let end = r.at + r.size;
-    let v = vector::addresses(&msg[at..end], d.compr, b.dodagid);
-    print_decimal(out, 0)?;
-    print_kind(out, d.reply)?;
-    print_base(out, b)?;
-    print_configuration(out, r.configuration)?;
-    print_discovery(out, d)?;
-    print_vector(out, r.size / (16 - d.compr as usize), &v)?;
-    write!(out, " {}{}", r.count, Targets(&targets[..r.count]))
+    let p = heard::parsed(r);
+    write!(out, " 0")?;
+    print_kind(out, heard::is_reply(r))?;
+    print_base(out, p.base)?;
+    print_configuration(out, p.configuration)?;
+    print_discovery(out, p.discovery)?;
+    print_vector(out, p.n, &heard::vector_of(msg, r))?;
+    write!(out, " {}{}", p.count, Targets(&p.targets[..p.count]))
 }
 
 // One message: its number, then its answer and, where it is heard, its fields.
@@ -79,12 +70,9 @@ fn show<W: Write>(out: &mut W, number: u64, msg: &[u8]) -> io::Result<()> {
     write!(out, "{number}")?;
     match reader::read(msg) {
         Ok(r) => print_message(out, msg, r)?,
-        Err(Refusal::Malformed) => print_decimal(out, 3)?,
-        Err(Refusal::Unfit) => print_decimal(out, 4)?,
-        Err(Refusal::Unusable) => print_decimal(out, 5)?,
-        Err(Refusal::TooMany) => print_decimal(out, 6)?,
+        Err(refusal) => write!(out, " {}", answer::number(heard::octets_answer(refusal)))?,
     }
-    out.write_all(b"\n")
+    writeln!(out)
 }
 
 // The next record of the input: whether there was a whole one.

@@ -43,6 +43,7 @@ pub fn compr_of(body: &[u8]) -> u8
     if has_h(body) {
         return 0;
     }
+    // four bits, so that nothing is lost: `try_from` would bring a Result that cannot be Err
     (word_at(body, 0) / 512 % 16) as u8
 }
 
