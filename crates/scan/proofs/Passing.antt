@@ -111,6 +111,6 @@ module _ {msg : List ℕ} {s : Scan} {at left : ℕ} {n : Next} (w : Turn (Passi
     passing_body g t m = let p = body_placed w e in rw m (record {
       same = sym (ap any_bad (body_next w e) ∙ right_first _ (options_in (left - 1) (drop end msg)) g) ∙ w.inv.same;
       ahead = λ all rest a q.
-          t.ahead msg all rest (record { order = p.0; short = p.1; within = p.2; good = g })
+          t msg all rest (record { order = p.0; short = p.1; within = p.2; good = g })
           (w.inv.ahead all _ a (body_next w e ∙ rw q));
     })

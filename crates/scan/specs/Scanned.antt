@@ -27,9 +27,10 @@ pub record Ahead (msg : List ℕ) (all rest : List Opt) (s : Scan) : Type 0 wher
   pub art : Seen art_type msg all rest s.art
 
 -- the next option is taken in
-pub record OptionTaken (kind start end : ℕ) (s r : Scan) : Type 0 where
-  pub ahead : (msg : List ℕ) (all rest : List Opt) → Right msg kind start end
-      → Ahead msg all (option_of kind (part_of msg start end) ∷ rest) s → Ahead msg all rest r
+abbrev pub OptionTaken : ℕ → ℕ → ℕ → Scan → Scan → Type 0
+OptionTaken kind start end s r =
+    (msg : List ℕ) (all rest : List Opt) → Right msg kind start end
+    → Ahead msg all (option_of kind (part_of msg start end) ∷ rest) s → Ahead msg all rest r
 
 -- What a pass finds in a message whose options are not bad.
 pub record Outlined (msg : List ℕ) (s : Scan) : Type 0 where
