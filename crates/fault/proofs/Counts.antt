@@ -7,7 +7,7 @@ use native.Mathlib.Omega.{arith}
 use lib.Dec.{eqb, ltb}
 use lib.ListN.{length}
 use borrow.Author.Tests.{eq-eqb, ne_eqb, lt-ltb, le-ltb, eqb-true, eqb-false, ltb-true, ltb-false}
-use Rattle.lemmas.proofs.Choice.{and_left, and_right, or_left, or_right}
+use Rattle.lemmas.proofs.Choice.{and_left, and_right, or_left}
 use Rattle.plain.specs.Octets.{octet_at, options_of, of_type, first_body, any_bad, art_type, plen_of, request_counts, reply_counts, malformed, unfit, mop_of, fields, sum}
 use Rattle.option.specs.Follows.{part_of}
 use Rattle.scan.specs.declared.Scan.{Scan}
@@ -96,10 +96,6 @@ module _ (msg : List ℕ) (e : malformed msg ≡ false) where
   pub formed_long : 24 ≤ length msg
   unfolding malformed
   formed_long = ltb-false (length msg) 24 (or_left _ _ (or_left _ _ (or_left _ _ e)))
-
-  pub formed_good : any_bad (options_of msg) ≡ false
-  unfolding malformed
-  formed_good = or_right (ltb (length msg) 24) _ (or_left _ _ (or_left _ _ e))
 
 -- ---- Answer 4
 

@@ -23,7 +23,7 @@ pub fn is_reply(s: Scan) -> bool
     s.rrep.count == 1 && s.rreq.count == 0 && s.art.count == 1
 }
 
-// Whether a message is malformed of which a pass has found its options.
+// Whether a message whose options are not bad is cut or malformed.
 #[tactic(auto, using(lemmas::proofs::Cases::cases, crate::proofs::Counts::malformed_short, crate::proofs::Counts::malformed_many, crate::proofs::Counts::malformed_reply, crate::proofs::Counts::malformed_other, crate::proofs::Counts::art_order, crate::proofs::Counts::art_within))]
 pub fn is_malformed(msg: &[u8], s: Scan) -> bool
     requires { Scanned msg.now (Some s) }

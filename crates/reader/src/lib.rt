@@ -83,7 +83,7 @@ fn fill(msg: &[u8], s: Scan, base: Base, ts: Targets) -> Reading
 }
 
 // A message, or the first refusal of its octets that holds.
-#[tactic(auto, using(lemmas::proofs::Cases::cases, crate::proofs::Message::compr_most, crate::proofs::Message::bounded, crate::proofs::Message::hear_malformed, crate::proofs::Message::hear_unfit, crate::proofs::Message::hear_unusable, fault::proofs::Counts::malformed_bad, fault::proofs::Counts::formed_long, fault::proofs::Counts::formed_good), unfolding(crate::specs::Reading::heard_from))]
+#[tactic(auto, using(lemmas::proofs::Cases::cases, crate::proofs::Message::compr_most, crate::proofs::Message::bounded, crate::proofs::Message::hear_malformed, crate::proofs::Message::hear_unfit, crate::proofs::Message::hear_unusable, fault::proofs::Counts::malformed_bad, fault::proofs::Counts::formed_long), unfolding(crate::specs::Reading::heard_from))]
 pub fn read(msg: &[u8]) -> Result<Reading, Refusal>
     ensures heard { heard_from msg.now result ≡ hear msg.now }
     ensures bounded { IfOk result (Bounded (length msg.now)) }
