@@ -1,5 +1,4 @@
-// Sixteen addresses in an array: that each is whole, and the first of them turned round.
-// A vector is an array of fixed room, as there is no heap, with a count n beside it.
+// Sixteen addresses in an array: that each is whole. And a vector turned round.
 #![tactic(auto)]
 
 ghost use Rattle.std.specs.Prelude.{◌≡◌, reverse, ◌≤◌, length, take};
@@ -18,12 +17,14 @@ pub fn whole(vector: &[[u8; 16]; 16])
     known(*vector);
 }
 
-// The first n addresses turned round.
-pub fn reversed(n: usize, vector: &[[u8; 16]; 16]) -> [[u8; 16]; 16]
-    requires { n ≤ 16 }
-    ensures { take n result ≡ reverse (take n vector.now) }
+// A vector turned round, at the front of an array of fixed room, as there is no heap.
+pub fn reversed(vector: &[[u8; 16]]) -> [[u8; 16]; 16]
+    requires { length vector.now ≤ 16 }
+    ensures { take (length vector.now) result ≡ reverse vector.now }
 {
-    let mut r = *vector;
+    let n = vector.len();
+    let mut r = [[0u8; 16]; 16];
+    r[..n].copy_from_slice(vector);
     r[..n].reverse();
     r
 }

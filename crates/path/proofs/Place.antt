@@ -5,8 +5,7 @@ use mathlib.Core.Bool.{Bool, true, false, cond, not}
 use mathlib.Core.List.{List, [], ◌∷◌}
 use native.Mathlib.Omega.{arith}
 use lib.Dec.{eqb, ltb}
-use lib.ListN.{length, get_or, take}
-use lib.Seq.{get_or-take}
+use lib.ListN.{length, get_or}
 use borrow.Author.Tests.{ne_eqb, ltb-false}
 use Rattle.std.specs.Prelude.{Option}
 use Rattle.std.specs.Prelude.Option.{Some, None}
@@ -25,11 +24,11 @@ place_within p (x ∷ xs) = go (p x) (place_within p xs)
     go false h = omega arith
 
 -- what `position` answers, or the length where it finds nothing
-pub place_or_length : {A : Type 0} (p : A → Bool) (xs : List A) (n : ℕ) (r : Option ℕ) → n ≡ length xs
-    → r ≡ cond (ltb (position_or_len p xs) (length xs)) (Some (position_or_len p xs)) None → unwrap_or r n ≡ position_or_len p xs
-place_or_length p xs n r h e = ap (λ o. unwrap_or o n) e ∙ go (ltb (position_or_len p xs) (length xs)) refl
+pub place_or_length : {A : Type 0} (p : A → Bool) (xs : List A) (r : Option ℕ)
+    → r ≡ cond (ltb (position_or_len p xs) (length xs)) (Some (position_or_len p xs)) None → unwrap_or r (length xs) ≡ position_or_len p xs
+place_or_length p xs r e = ap (λ o. unwrap_or o (length xs)) e ∙ go (ltb (position_or_len p xs) (length xs)) refl
   where
-    go : (b : Bool) → ltb (position_or_len p xs) (length xs) ≡ b → unwrap_or (cond b (Some (position_or_len p xs)) None) n ≡ position_or_len p xs
+    go : (b : Bool) → ltb (position_or_len p xs) (length xs) ≡ b → unwrap_or (cond b (Some (position_or_len p xs)) None) (length xs) ≡ position_or_len p xs
     go true f = refl
     go false f = omega (arith, ltb-false (position_or_len p xs) (length xs) f, place_within p xs)
 
@@ -55,9 +54,9 @@ before_passed first a (y ∷ ys) = go (same a y) (before_passed y a ys ∙ passe
     go true h = refl
     go false h = h
 
-module _ (first a : Address) (n : ℕ) (v : List Address) (i : ℕ) (e : i ≡ position_or_len (same a) (take n v)) where
-  pub before_first : i ≡ 0 → first ≡ before first a (take n v)
-  before_first z = rw (before_passed first a (take n v), ← e, z)
+module _ (first a : Address) (v : List Address) (i : ℕ) (e : i ≡ position_or_len (same a) v) where
+  pub before_first : i ≡ 0 → first ≡ before first a v
+  before_first z = rw (before_passed first a v, ← e, z)
 
-  pub before_place : (i ≡ 0 → ⊥) → i ≤ n → get_or v (i - 1) [] ≡ before first a (take n v)
-  before_place z h = rw (before_passed first a (take n v), ← e, ne_eqb i 0 z, get_or-take n v (i - 1) [] (omega (arith, z)))
+  pub before_place : (i ≡ 0 → ⊥) → get_or v (i - 1) [] ≡ before first a v
+  before_place z = rw (before_passed first a v, ← e, ne_eqb i 0 z)

@@ -1,29 +1,27 @@
-// The address before ours in a vector. Of an array of addresses the first n are the vector: there is no heap, and so fixed room and a count.
+// The address before ours in a vector.
 #![tactic(auto)]
 
-ghost use Rattle.std.specs.Prelude.{◌≡◌, ◌≤◌, take};
+ghost use Rattle.std.specs.Prelude.{◌≡◌, ◌≤◌, length};
 ghost use Rattle.std.specs.List.{position_or_len};
 ghost use Rattle.plain.specs.Lists.{same};
 ghost use Rattle.plain.specs.Reply.{before};
 
 // Where `a` stands in a vector first, or the vector's length: what stands before it is at the place before that one. The addresses on the way
 // are not carried along, which would copy each.
-fn place_of(a: [u8; 16], n: usize, vector: &[[u8; 16]; 16]) -> usize
-    requires { n ≤ 16 }
-    ensures { (result ≤ n) × (result ≡ position_or_len (same a) (take n vector.now)) }
+fn place_of(a: [u8; 16], vector: &[[u8; 16]]) -> usize
+    ensures { (result ≤ length vector.now) × (result ≡ position_or_len (same a) vector.now) }
 {
-    vector[..n]
+    vector
         .iter()
         .position(|next| address::is_same(a, *next))
-        .unwrap_or(n)
+        .unwrap_or(vector.len())
 }
 
 // The address before `a` in a vector: `first` where nothing stands before it.
 #[tactic(auto, using(crate::proofs::Place::before_first, crate::proofs::Place::before_place, lemmas::proofs::Cases::cases))]
-pub fn address_before(first: [u8; 16], a: [u8; 16], n: usize, vector: &[[u8; 16]; 16]) -> [u8; 16]
-    requires { n ≤ 16 }
-    ensures { result ≡ before first a (take n vector.now) }
+pub fn address_before(first: [u8; 16], a: [u8; 16], vector: &[[u8; 16]]) -> [u8; 16]
+    ensures { result ≡ before first a vector.now }
 {
-    let i = place_of(a, n, vector);
+    let i = place_of(a, vector);
     if i == 0 { first } else { vector[i - 1] }
 }

@@ -1,6 +1,5 @@
-use mathlib.Core.Path.{◌≡◌, ◌∙◌}
+use mathlib.Core.Path.{◌∙◌}
 use native.Mathlib.Omega.{arith}
-use lib.ListN.{length, take, length-take}
 use Rattle.std.proofs.Common.{rules, tests}
 use Rattle.std.proofs.lemmas.Iterator.{YieldsList-from_slice}
 use Rattle.std.proofs.lemmas.Iterator.Search.{position_from_yields_List}
@@ -10,8 +9,7 @@ use Rattle.path.proofs.place_of.Goals as goal
 
 pub returns : goal.returns
 returns c =
-    let first = take c.args.n c.args.vector.now in
-    let n : c.args.n ≡ length (take c.args.n c.args.vector.now) = omega (arith, length-take c.args.n c.args.vector.now) in
-    let found = position_from_yields_List (same c.args.a) _ _ c.position.result c.position.ensures.ran (YieldsList-from_slice first cc) (λ x b q k. search (rules, tests)) in
-    let e = c.unwrap_or.ensures ∙ place_or_length (same c.args.a) first c.args.n c.position.result n found in
-    (omega (arith, e, n, place_within (same c.args.a) first), e)
+    let v = c.args.vector.now in
+    let found = position_from_yields_List (same c.args.a) _ _ c.position.result c.position.ensures.ran (YieldsList-from_slice v cc) (λ x b q k. search (rules, tests)) in
+    let e = c.unwrap_or.ensures ∙ place_or_length (same c.args.a) v c.position.result found in
+    (omega (arith, e, place_within (same c.args.a) v), e)
