@@ -11,17 +11,15 @@ use plain::Target;
 
 // A reply's one target. Without any it is all zero.
 #[tactic(auto, using(lemmas::proofs::Cases::cases, crate::proofs::Laws::only_first))]
-fn only_target(count: usize, targets: [Target; 8]) -> Target
-    ensures { result ≡ only_target (take count targets) }
+fn only_target(p: Parsed) -> Target
+    ensures { result ≡ only_target (take p.count p.targets) }
 {
-    if count == 0 {
-        return Target {
-            seq: 0,
-            plen: 0,
-            addr: [0; 16],
-        };
+    // no slice of the first `count`: it would ask that they are at most 8, and the public clauses hold of any count
+    if p.count == 0 {
+        Target::default()
+    } else {
+        p.targets[0]
     }
-    targets[0]
 }
 
 // The address of OrigNode, which is the partner's DODAGID.
@@ -29,7 +27,7 @@ fn only_target(count: usize, targets: [Target; 8]) -> Target
 pub fn orig_node(p: Parsed) -> [u8; 16]
     ensures { (v : List Address) → result ≡ orig_node (message_in p v) }
 {
-    only_target(p.count, p.targets).addr
+    only_target(p).addr
 }
 
 // Dest SeqNo.
@@ -37,7 +35,7 @@ pub fn orig_node(p: Parsed) -> [u8; 16]
 pub fn dest_seq(p: Parsed) -> u8
     ensures { (v : List Address) → result ≡ dest_seq (message_in p v) }
 {
-    only_target(p.count, p.targets).seq
+    only_target(p).seq
 }
 
 // The partner's RPLInstanceID.
