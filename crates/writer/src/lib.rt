@@ -1,14 +1,12 @@
 // The writer of a message: it lends what is left of the buffer to the writer of each part in turn.
-// Vector and targets are arrays of fixed room, as there is no heap, each with a count beside it.
 #![tactic(auto)]
 
-ghost use Rattle.std.specs.Prelude.{◌≡◌, true, ◌≤◌, length, take};
+ghost use Rattle.std.specs.Prelude.{◌≡◌, true, ◌≤◌, length};
 ghost use Rattle.lemmas.specs.Written.{Written};
 ghost use Rattle.plain.specs.Octets.{octets_of};
 ghost use Rattle.writer_option.specs.Sendable.{Sendable, short_prefixes};
 ghost use Rattle.writer.specs.Given.{message_from};
 
-use addresses::whole;
 use plain::{Base, Discovery, Target};
 use writer_art::put_arts;
 use writer_base::{put_base, put_configuration};
@@ -21,17 +19,14 @@ pub fn put_message(
     base: Base,
     configuration: Option<[u8; 14]>,
     d: Discovery,
-    n: usize,
-    vector: &[[u8; 16]; 16],
-    count: usize,
-    targets: [Target; 8],
+    vector: &[[u8; 16]],
+    targets: &[Target],
 ) -> usize
-    requires { Sendable d n × (count ≤ 8) × (short_prefixes (take count targets) ≡ true) × (457 ≤ length out.old) }
-    ensures { Written (octets_of (message_from base configuration d n vector.now count targets)) out.old out.new result }
+    requires { Sendable d (length vector.now) × (length targets.now ≤ 8) × (short_prefixes targets.now ≡ true) × (457 ≤ length out.old) }
+    ensures { Written (octets_of (message_from base configuration d vector.now targets.now)) out.old out.new result }
 {
-    whole(vector);
     let a = put_base(out, base);
     let b = a + put_configuration(&mut out[a..], configuration);
-    let c = b + put_discovery(&mut out[b..], d, n, vector);
-    c + put_arts(&mut out[c..], count, targets)
+    let c = b + put_discovery(&mut out[b..], d, vector);
+    c + put_arts(&mut out[c..], targets)
 }

@@ -1,8 +1,7 @@
 // The writer of the ARTs: it writes at the front of the part of the buffer that it is lent, and answers how many octets it wrote.
-// The targets are an array of fixed room, as there is no heap, with a count beside it.
 #![tactic(auto)]
 
-ghost use Rattle.std.specs.Prelude.{◌≡◌, true, ◌≤◌, length, take};
+ghost use Rattle.std.specs.Prelude.{◌≡◌, true, ◌≤◌, length};
 ghost use mathlib.Core.List.{map, flatten};
 ghost use Rattle.lemmas.specs.Written.{Written};
 ghost use Rattle.plain.specs.Octets.{art_octets};
@@ -18,6 +17,7 @@ fn put_art_head(out: &mut [u8], t: Target, size: usize) -> usize
     requires { (size ≤ 16) × (4 ≤ length out.old) }
     ensures { Written (art_head t size) out.old out.new result }
 {
+    // no `From` narrows a usize, and of `try_from` the refusal could not come: size is at most 16
     put_octets(out, &[0x0d, (size + 2) as u8, t.seq, t.plen % 128])
 }
 
@@ -28,20 +28,19 @@ pub fn put_art(out: &mut [u8], t: Target) -> usize
     ensures { Written (art_octets t) out.old out.new result }
 {
     let size = art::prefix_octets(t.plen);
-    let a = t.addr;
     let n = put_art_head(out, t, size);
-    let m = put_octets(&mut out[n..], &a[..size]);
+    let m = put_octets(&mut out[n..], &t.addr[..size]);
     n + m
 }
 
-// An ART for each of the first so many targets.
+// An ART for each target.
 #[tactic(auto, using(lemmas::proofs::Cases::cases, lemmas::proofs::Buffer::written_then, lemmas::proofs::Buffer::written_none, lemmas::proofs::Targets::target_past, crate::proofs::Lengths::short_at, writer_octets::proofs::Parts::parts_none, writer_octets::proofs::Parts::parts_more, writer_octets::proofs::Parts::parts_room))]
-pub fn put_arts(out: &mut [u8], count: usize, targets: [Target; 8]) -> usize
-    requires { (count ≤ 8) × (short_prefixes (take count targets) ≡ true) × (length (flatten (map art_octets (take count targets))) ≤ length out.old) }
-    ensures { Written (flatten (map art_octets (take count targets))) out.old out.new result }
+pub fn put_arts(out: &mut [u8], targets: &[Target]) -> usize
+    requires { (short_prefixes targets.now ≡ true) × (length (flatten (map art_octets targets.now)) ≤ length out.old) }
+    ensures { Written (flatten (map art_octets targets.now)) out.old out.new result }
 {
     let mut at = 0;
-    for t in &targets[..count] {
+    for t in targets {
         at += put_art(&mut out[at..], *t);
     }
     at

@@ -1,8 +1,7 @@
 // Writers of octets and addresses: each writes at the front of the part of the buffer that it is lent, and answers how many octets it wrote.
-// A vector is an array of fixed room, as there is no heap, with a count n beside it.
 #![tactic(auto)]
 
-ghost use Rattle.std.specs.Prelude.{◌≤◌, length, take};
+ghost use Rattle.std.specs.Prelude.{◌≤◌, length};
 ghost use Rattle.lemmas.specs.Written.{Written};
 ghost use Rattle.plain.specs.Address.{elide};
 ghost use Rattle.plain.specs.Octets.{elided};
@@ -25,25 +24,24 @@ fn put_address(out: &mut [u8], compr: usize, a: [u8; 16]) -> usize
     put_octets(out, &a[compr..])
 }
 
-// The first so many addresses, each without its first Compr octets.
+// The addresses of a vector, each without its first Compr octets.
 #[tactic(auto, using(lemmas::proofs::Cases::cases, lemmas::proofs::Buffer::written_then, lemmas::proofs::Buffer::written_none, crate::proofs::Parts::parts_none, crate::proofs::Parts::parts_more, crate::proofs::Parts::parts_room))]
-pub fn put_vector(out: &mut [u8], compr: usize, n: usize, vector: &[[u8; 16]; 16]) -> usize
-    requires { (compr ≤ 16) × (n ≤ 16) × (length (elided compr (take n vector.now)) ≤ length out.old) }
-    ensures { Written (elided compr (take n vector.now)) out.old out.new result }
+pub fn put_vector(out: &mut [u8], compr: usize, vector: &[[u8; 16]]) -> usize
+    requires { (compr ≤ 16) × (length (elided compr vector.now) ≤ length out.old) }
+    ensures { Written (elided compr vector.now) out.old out.new result }
 {
     let mut at = 0;
-    for a in &vector[..n] {
+    for a in vector {
         at += put_address(&mut out[at..], compr, *a);
     }
     at
 }
 
 // The whole addresses, one after the other.
-#[tactic(auto, using(lemmas::proofs::Cases::cases, crate::proofs::Addresses::elided_taken))]
-pub fn put_path(out: &mut [u8], n: usize, vector: &[[u8; 16]; 16]) -> usize
-    requires { (n ≤ 16) × (256 ≤ length out.old) }
-    ensures { Written (elided 0 (take n vector.now)) out.old out.new result }
+#[tactic(auto, using(lemmas::proofs::Cases::cases, crate::proofs::Addresses::told_length))]
+pub fn put_path(out: &mut [u8], vector: &[[u8; 16]]) -> usize
+    requires { (length vector.now ≤ 16) × (256 ≤ length out.old) }
+    ensures { Written (elided 0 vector.now) out.old out.new result }
 {
-    addresses::whole(vector);
-    put_vector(out, 0, n, vector)
+    put_vector(out, 0, vector)
 }

@@ -1,26 +1,21 @@
 // The writer of the RREQ or RREP: it writes at the front of the part of the buffer that it is lent, and answers how many octets it wrote.
-// A vector is an array of fixed room, as there is no heap, with a count n beside it.
 #![tactic(auto)]
 
-ghost use Rattle.std.specs.Prelude.{◌≡◌, cond, [], ◌∷◌, ◌≤◌, length, take};
+ghost use Rattle.std.specs.Prelude.{◌≡◌, cond, [], ◌∷◌, ◌≤◌, length};
 ghost use Rattle.lemmas.specs.Written.{Written};
 ghost use Rattle.plain.specs.Octets.{word, number_bits, rreq_type, rrep_type, route_octets};
 ghost use Rattle.writer_option.specs.Heads.{route_word, route_head};
 ghost use Rattle.writer_option.specs.Sendable.{Sendable};
 
-use addresses::whole;
 use flag::bit;
 use plain::Discovery;
 use writer_octets::put_vector;
 
 // Compr as it is sent: 0 with H 1.
-fn compr_sent(d: Discovery) -> u8
-    ensures { result ≡ cond d.h 0 d.compr }
+pub fn compr_sent(h: bool, compr: u8) -> u8
+    ensures { result ≡ cond h 0 compr }
 {
-    if d.h {
-        return 0;
-    }
-    d.compr
+    if h { 0 } else { compr }
 }
 
 // The first two octets of an RREQ or RREP: S or G, H, X, Compr, L, RankLimit. By factors, as the rules' `word` tells the fields.
@@ -28,11 +23,11 @@ fn compr_sent(d: Discovery) -> u8
 fn route_word(d: Discovery) -> u16
     ensures { result ≡ route_word d }
 {
-    let flag = bit(d.flag) as u16;
-    let h = bit(d.h) as u16;
-    let compr = (compr_sent(d) % 16) as u16;
-    let l = (d.l % 4) as u16;
-    let limit = (d.limit % 128) as u16;
+    let flag = u16::from(bit(d.flag));
+    let h = u16::from(bit(d.h));
+    let compr = u16::from(compr_sent(d.h, d.compr) % 16);
+    let l = u16::from(d.l % 4);
+    let limit = u16::from(d.limit % 128);
     flag * 32768 + h * 16384 + compr * 512 + l * 128 + limit
 }
 
@@ -41,19 +36,14 @@ fn route_word(d: Discovery) -> u16
 fn number_octet(d: Discovery) -> u8
     ensures { result ≡ word (number_bits d.reply) (d.number ∷ 0 ∷ []) }
 {
-    if d.reply {
-        return d.number % 64 * 4;
-    }
-    d.number
+    if d.reply { d.number % 64 * 4 } else { d.number }
 }
 
+// The option's type.
 fn route_type(d: Discovery) -> u8
     ensures { result ≡ cond d.reply rrep_type rreq_type }
 {
-    if d.reply {
-        return 0x0c;
-    }
-    0x0b
+    if d.reply { 0x0c } else { 0x0b }
 }
 
 // Type, length and the three octets before a vector of so many octets.
@@ -64,6 +54,7 @@ fn put_route_head(out: &mut [u8], d: Discovery, size: usize) -> usize
 {
     let w = route_word(d);
     out[0] = route_type(d);
+    // narrowed by `as`: no `From` narrows, and a Result of `try_from` could not be an Err here
     out[1] = (size + 3) as u8;
     out[2] = (w / 256) as u8;
     out[3] = (w % 256) as u8;
@@ -72,17 +63,16 @@ fn put_route_head(out: &mut [u8], d: Discovery, size: usize) -> usize
 }
 
 // The RREQ or RREP with its vector, which is none with H 1.
-#[tactic(auto, using(lemmas::proofs::Cases::cases, lemmas::proofs::Buffer::written_then, writer_octets::proofs::Addresses::elided_taken, crate::proofs::Lengths::route_parts, crate::proofs::Lengths::route_bare))]
-pub fn put_discovery(out: &mut [u8], d: Discovery, n: usize, vector: &[[u8; 16]; 16]) -> usize
-    requires { Sendable d n × (length (route_octets d (take n vector.now)) ≤ length out.old) }
-    ensures { Written (route_octets d (take n vector.now)) out.old out.new result }
+#[tactic(auto, using(lemmas::proofs::Cases::cases, lemmas::proofs::Buffer::written_then, writer_octets::proofs::Addresses::told_length, crate::proofs::Lengths::route_parts, crate::proofs::Lengths::route_bare))]
+pub fn put_discovery(out: &mut [u8], d: Discovery, vector: &[[u8; 16]]) -> usize
+    requires { Sendable d (length vector.now) × (length (route_octets d vector.now) ≤ length out.old) }
+    ensures { Written (route_octets d vector.now) out.old out.new result }
 {
     if d.h {
         return put_route_head(out, d, 0);
     }
-    whole(vector);
-    let compr = d.compr as usize;
-    let at = put_route_head(out, d, n * (16 - compr));
-    let m = put_vector(&mut out[at..], compr, n, vector);
+    let compr = usize::from(d.compr);
+    let at = put_route_head(out, d, vector.len() * (16 - compr));
+    let m = put_vector(&mut out[at..], compr, vector);
     at + m
 }
