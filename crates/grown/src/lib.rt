@@ -32,6 +32,6 @@ pub fn cannot_grow(o: Own, compr: u8, n: usize) -> bool
     ensures { (v : List Address) → length v ≡ n → WholeVector v → result ≡ cannot_grow compr (grown (settings_of o) false v) }
 {
     let addresses = grown_count(o, false, n);
-    let octets = (16 - compr) as usize;
+    let octets = usize::from(16 - compr);
     16 < addresses || 252 < addresses * octets
 }

@@ -11,7 +11,7 @@ use plain::{Base, Discovery, Target};
 use row::{InstanceRow, RouteRow};
 
 // A message but for its vector, which stands beside it as an array of addresses: the first `n` of these and the first `count` of the
-// targets are the message's.
+// targets are the message's. There is no heap, so a list that is kept has fixed room and a count.
 #[derive(Clone, Copy)]
 pub struct Parsed {
     pub base: Base,

@@ -28,9 +28,9 @@ fn loops(o: Own, p: Parsed, vector: &[[u8; 16]; 16], w: ReplyFacts) -> bool
         return false;
     }
     if w.symmetric {
-        return !w.orig && !loops::stands_once(o.receiving, p.n, vector);
+        return !w.orig && !loops::stands_once(o.receiving, &vector[..p.n]);
     }
-    loops::has_ours(o, p.n, vector)
+    loops::has_ours(o, &vector[..p.n])
 }
 
 // Answer 11: the link towards TargNode is asked of an asymmetric reply.

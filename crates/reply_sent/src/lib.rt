@@ -39,7 +39,7 @@ fn next_node(o: Own, p: Parsed, vector: &[[u8; 16]; 16], w: ReplyFacts) -> [u8; 
     if p.discovery.h {
         return w.partner.neighbour;
     }
-    path::address_before(pairing::orig_node(p), o.receiving, p.n, vector)
+    path::address_before(pairing::orig_node(p), o.receiving, &vector[..p.n])
 }
 
 // Where it goes: at OrigNode a path to the caller; between the ends to a neighbour if symmetric, else to the group.

@@ -63,7 +63,7 @@ pub fn judge(o: Own, k: Link, p: Parsed, vector: &[[u8; 16]; 16], a: RequestFact
     requires array { Array vector.now }
     ensures { answer_number result ≡ answer_of (request_lines (settings_of o) (received_by k []) (message_in p vector.now) (asked_of a)) }
 {
-    if loops::has_ours(o, p.n, vector) {
+    if loops::has_ours(o, &vector[..p.n]) {
         return Answer::Loop;
     }
     if own::cannot_elide(o, p.discovery.h, p.discovery.compr, p.base.dodagid) {

@@ -1,7 +1,7 @@
 // What a start of our own discovery that is answered 0 sends, by value (01, "A request").
 #![tactic(auto)]
 
-ghost use Rattle.std.specs.Prelude.{ℕ, ◌≡◌, cond, List, []};
+ghost use Rattle.std.specs.Prelude.{ℕ, ◌≡◌, List, []};
 ghost use Rattle.plain.specs.Address.{Address};
 ghost use Rattle.plain.specs.Request.{start_message, accept_start};
 ghost use Rattle.plain.specs.declared.Target as plain;
@@ -17,13 +17,6 @@ use own::Own;
 use plain::{Base, Discovery};
 use start::Asking;
 use targets::Targets;
-
-// Compr as it is sent: 0 with H 1.
-fn compr_sent(h: bool, compr: u8) -> u8
-    ensures { result ≡ cond h 0 compr }
-{
-    if h { 0 } else { compr }
-}
 
 // The request that is sent.
 #[tactic(auto, using(lemmas::proofs::Cases::cases), unfolding(message::specs::Message::message_in, plain::specs::Request::start_message))]
@@ -45,7 +38,7 @@ fn start_message(o: Own, seq: u8, s: Asking, ts: Targets) -> Parsed
         reply: false,
         flag: true,
         h: s.h,
-        compr: compr_sent(s.h, s.compr),
+        compr: writer_option::compr_sent(s.h, s.compr),
         l: s.l,
         limit: s.limit,
         number: seq,

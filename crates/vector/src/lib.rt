@@ -12,7 +12,8 @@ pub fn addresses(part: &[u8], compr: u8, dodagid: [u8; 16]) -> [[u8; 16]; 16]
     requires { (compr ≤ 15) × (length part.now / (16 - compr) ≤ 16) }
     ensures { take (length part.now / (16 - compr)) result ≡ restored compr dodagid part.now }
 {
-    let width = 16 - compr as usize;
+    let compr = usize::from(compr);
+    let width = 16 - compr;
     let n = part.len() / width;
     let mut vector = [[0u8; 16]; 16];
     let mut at = 0;
@@ -20,7 +21,7 @@ pub fn addresses(part: &[u8], compr: u8, dodagid: [u8; 16]) -> [[u8; 16]; 16]
         let end = at + width;
         // written in place: a copy would wait for the octet writes
         vector[i] = dodagid;
-        octets::put_over(&mut vector[i], compr as usize, &part[at..end]);
+        octets::put_over(&mut vector[i], compr, &part[at..end]);
         at = end;
     }
     vector

@@ -17,7 +17,7 @@ fn put_art_head(out: &mut [u8], t: Target, size: usize) -> usize
     requires { (size ≤ 16) × (4 ≤ length out.old) }
     ensures { Written (art_head t size) out.old out.new result }
 {
-    // no `From` narrows a usize, and of `try_from` the refusal could not come: size is at most 16
+    // narrowed by `as`: no `From` narrows, and a Result of `try_from` could not be an Err here
     put_octets(out, &[0x0d, (size + 2) as u8, t.seq, t.plen % 128])
 }
 

@@ -19,6 +19,7 @@ fn put_base_head(out: &mut [u8], b: Base) -> usize
 {
     out[0] = b.instance;
     out[1] = b.version;
+    // narrowed by `as`: no `From` narrows, and a Result of `try_from` could not be an Err here
     out[2] = (b.rank / 256) as u8;
     out[3] = (b.rank % 256) as u8;
     out[4] = flag::bit(b.g) * 128 + 4 * 8 + b.prf % 8;
