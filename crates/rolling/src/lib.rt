@@ -10,10 +10,7 @@ ghost use Rattle.plain.specs.Rank.{stepped, plus_delta, minus_delta};
 pub fn step(own: u8) -> u8
     ensures { result ≡ stepped own }
 {
-    if own == 127 {
-        return 1;
-    }
-    if own == 255 { 1 } else { own + 1 }
+    if own == 127 || own == 255 { 1 } else { own + 1 }
 }
 
 // The reply's RPLInstanceID, from its request's.

@@ -23,8 +23,7 @@ pub struct Asking {
 pub fn asked_instance(s: Asking) -> u8
     ensures { result ≡ s.instance }
 {
-    let instance = s.instance;
-    instance
+    s.instance
 }
 
 // The answer of a start. `taken`: a row of its key is live.
@@ -33,8 +32,7 @@ pub fn judge(o: Own, s: Asking, taken: bool) -> Answer
     requires { s.compr ≤ 15 }
     ensures { answer_number result ≡ start_answer (settings_of o) s taken }
 {
-    let dodagid = o.receiving;
-    if own::cannot_elide(o, s.h, s.compr, dodagid) {
+    if own::cannot_elide(o, s.h, s.compr, o.receiving) {
         return Answer::CannotElide;
     }
     if taken {

@@ -8,10 +8,7 @@ ghost use Rattle.plain.specs.Address.{link_local, all_zero, unusable};
 fn is_link_local(a: [u8; 16]) -> bool
     ensures { result ≡ link_local a }
 {
-    if a[0] != 0xfe {
-        return false;
-    }
-    a[1] / 64 == 2
+    a[0] == 0xfe && a[1] / 64 == 2
 }
 
 fn is_all_zero(a: [u8; 16]) -> bool
@@ -25,11 +22,5 @@ fn is_all_zero(a: [u8; 16]) -> bool
 pub fn is_unusable(a: [u8; 16]) -> bool
     ensures { result ≡ unusable a }
 {
-    if is_link_local(a) {
-        return true;
-    }
-    if a[0] == 0xff {
-        return true;
-    }
-    is_all_zero(a)
+    is_link_local(a) || a[0] == 0xff || is_all_zero(a)
 }
