@@ -41,9 +41,10 @@ fn own_rank(symmetric: bool, advertised: u16, increase: u16) -> u32
     ensures { (result ≡ cond symmetric advertised (own_rank advertised increase)) × (symmetric ≡ true → result ≤ 65535) }
 {
     if symmetric {
-        return u32::from(advertised);
+        u32::from(advertised)
+    } else {
+        rank::own_rank(advertised, increase)
     }
-    u32::from(advertised) + u32::from(increase)
 }
 
 // How a reply of that number stands to the live row, with our own rank.
@@ -51,6 +52,7 @@ fn own_rank(symmetric: bool, advertised: u16, increase: u16) -> u32
 fn how_it_stands(f: Option<Found<InstanceRow>>, seq: u8, rank: u32) -> Standing
     ensures { result ≡ reply_standing (reply_found f) seq rank }
 {
+    // beside request's: here `replied` is not asked, since a reply row has none
     let Some(found) = f else {
         return Standing::IsNew;
     };

@@ -4,7 +4,7 @@
 ghost use Rattle.std.specs.Prelude.{◌≤◌, ◌≡◌, ◌||◌, List, [], eqb, ltb, IfSome};
 ghost use Rattle.lemmas.specs.Optional.{of_option};
 ghost use Rattle.plain.specs.Address.{Address};
-ghost use Rattle.plain.specs.Rank.{min_hop, integer_part, own_rank};
+ghost use Rattle.plain.specs.Rank.{min_hop, integer_part};
 ghost use Rattle.plain.specs.Request.{are_targ_node, request_standing, asked_with, forwards, replies_now};
 ghost use Rattle.own.specs.Settings.{settings_of};
 ghost use Rattle.message.specs.Message.{message_in, received_by, request_found, route_found};
@@ -32,17 +32,12 @@ pub struct RequestFacts {
 
 // ---- The facts
 
-fn own_rank(advertised: u16, increase: u16) -> u32
-    ensures { result ≡ own_rank advertised increase }
-{
-    u32::from(advertised) + u32::from(increase)
-}
-
 // How a request of that number stands to the live row, with our own rank.
 #[tactic(auto, using(lemmas::proofs::Cases::cases), unfolding(plain::specs::Request::request_standing, message::specs::Message::row_found, row::specs::Meaning::request_of))]
 fn how_it_stands(f: Option<Found<InstanceRow>>, seq: u8, rank: u32) -> Standing
     ensures { result ≡ request_standing (request_found f) seq rank }
 {
+    // beside reply's: a reply row has no `replied`, so one function for both would be told whether to ask it
     let Some(found) = f else {
         return Standing::IsNew;
     };
@@ -67,7 +62,7 @@ pub fn gather(
     requires count_bound { IfSome f (λ x. x.row.count ≤ 8) }
     ensures { (vector : List Address) → Gathered (asked_with (settings_of o) (received_by k []) (message_in p vector) (request_found f) (route_found g) (of_option d)) result }
 {
-    let rank = own_rank(p.base.rank, k.increase);
+    let rank = rank::own_rank(p.base.rank, k.increase);
     let standing = how_it_stands(f, p.discovery.number, rank);
     let targets = request_targets::targets_kept(o, standing, f, targ_node::named_in(p), targ);
     RequestFacts {
@@ -89,9 +84,8 @@ pub fn gather(
 fn is_under_limit(p: Parsed, rank: u32) -> bool
     ensures { result ≡ eqb p.discovery.limit 0 || ltb (integer_part (min_hop (of_option p.configuration)) rank) p.discovery.limit }
 {
-    let limit = p.discovery.limit;
     let step = u32::from(rule::step_of(p));
-    limit == 0 || rank.checked_div(step).unwrap_or(0) < u32::from(limit)
+    p.discovery.limit == 0 || rank.checked_div(step).unwrap_or(0) < u32::from(p.discovery.limit)
 }
 
 // Whether a request goes on. Its vector plays no part in that.
