@@ -9,12 +9,12 @@ ghost use Rattle.targets.specs.Collected.{Joined};
 use plain::Target;
 use targets::Count;
 
-// List and n are two parameters: its contract speaks of both, and may not change.
 // Whether a target is among the first n of a list.
 pub fn is_listed(t: Target, list: &[Target], n: usize) -> bool
     requires { n ≤ length list.now }
     ensures { result ≡ any (same_target t) (take n list.now) }
 {
+    // list and n are two parameters: the contract speaks of both, and may not change
     list[..n].iter().any(|u| art::same_target(t, *u))
 }
 
@@ -33,8 +33,7 @@ pub fn collect(list: &mut [Target], c: Count, t: Target) -> Count
     requires { (c.n ≤ 8) × (length list.old ≡ 8) }
     ensures { Joined c list.old t result list.new }
 {
-    let n = c.n;
-    let at = targets::place_for(is_listed(t, list, n), n);
+    let at = targets::place_for(is_listed(t, list, c.n), c.n);
     put_target(list, at, t);
     targets::counted(c, at)
 }

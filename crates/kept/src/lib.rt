@@ -33,6 +33,7 @@ pub fn keep_if(kept: Targets, t: Target, keep: bool) -> Targets
             ..kept
         };
     }
+    // a copy, which is changed: an array goes into a struct from a variable alone
     let mut list = kept.list;
     list[kept.count] = t;
     Targets {

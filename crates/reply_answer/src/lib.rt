@@ -24,13 +24,12 @@ fn loops(o: Own, p: Parsed, vector: &[[u8; 16]; 16], w: ReplyFacts) -> bool
     requires { p.n ≤ 16 }
     ensures { result ≡ reply_loops (settings_of o) (message_in p vector.now) (answered_of w) }
 {
-    if p.discovery.h {
-        return false;
-    }
-    if w.symmetric {
-        return !w.orig && !loops::stands_once(o.receiving, &vector[..p.n]);
-    }
-    loops::has_ours(o, &vector[..p.n])
+    !p.discovery.h
+        && if w.symmetric {
+            !w.orig && !loops::stands_once(o.receiving, &vector[..p.n])
+        } else {
+            loops::has_ours(o, &vector[..p.n])
+        }
 }
 
 // Answer 11: the link towards TargNode is asked of an asymmetric reply.

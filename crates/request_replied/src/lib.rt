@@ -62,18 +62,15 @@ fn replied(o: Own, k: Link, p: Parsed, seq: u8, delta: u8) -> Parsed
     ensures { Replied (settings_of o) k p seq delta result }
 {
     let orig = p.base.dodagid;
-    let target = Target {
+    let mut targets = p.targets;
+    targets[0] = Target {
         seq,
         plen: 0,
         addr: orig,
     };
-    let base = reply_base(o, p, delta);
-    let discovery = reply_discovery(p, delta);
-    let mut targets = p.targets;
-    targets[0] = target;
     Parsed {
-        base,
-        discovery,
+        base: reply_base(o, p, delta),
+        discovery: reply_discovery(p, delta),
         n: reply_count(k, p),
         count: 1,
         targets,
@@ -87,13 +84,12 @@ fn reply_to(on: bool, k: Link, p: Parsed) -> Destination
     ensures { destination_of result ≡ to_if on (reply_destination (received_by k []) (message_in p [])) }
 {
     if !on {
-        return Destination::Nowhere;
+        Destination::Nowhere
+    } else if message::s_out(k, p) {
+        Destination::Neighbour(k.neighbour)
+    } else {
+        Destination::Group
     }
-    if message::s_out(k, p) {
-        let neighbour = k.neighbour;
-        return Destination::Neighbour(neighbour);
-    }
-    Destination::Group
 }
 
 // Our reply, if we reply. `seq` is our number before it is stepped.

@@ -30,18 +30,17 @@ fn start_message(o: Own, seq: u8, s: Asking, ts: Targets) -> Parsed
         instance: s.instance,
         version: 0,
         rank: 256,
-        g: false,
-        prf: 0,
         dodagid: receiving,
+        ..Base::default()
     };
     let discovery = Discovery {
-        reply: false,
         flag: true,
         h: s.h,
         compr: writer_option::compr_sent(s.h, s.compr),
         l: s.l,
         limit: s.limit,
         number: seq,
+        ..Discovery::default()
     };
     Parsed {
         base,
