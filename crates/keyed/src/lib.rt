@@ -37,12 +37,12 @@ pub fn is_reply(r: InstanceRow, t: u64, instance: u8, dodagid: [u8; 16]) -> bool
 
 // ---- a route
 
-// By itself: it reads another record and another key than is_of.
 // A route of those three, live at t. Many routes have one source, our own, so the destination is compared first.
 #[tactic(auto, using(lemmas::proofs::Cases::cases, crate::proofs::Laws::route_is, lemmas::proofs::Choice::and_false, lemmas::proofs::Choice::cond_false))]
 pub fn is_route(r: RouteRow, t: u64, source: [u8; 16], destination: [u8; 16], instance: u8) -> bool
     ensures { result ≡ route_here t source destination instance (route_of r) }
 {
+    // by itself: it reads another record and another key than is_of
     address::is_same(r.destination, destination)
         && r.kind == 1
         && address::is_same(r.source, source)

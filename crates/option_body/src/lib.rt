@@ -47,12 +47,12 @@ pub fn compr_of(body: &[u8]) -> u8
     (word_at(body, 0) / 512 % 16) as u8
 }
 
-// Three returns: with H 1 another thing is asked, and one expression would be longer.
 // Whether an RREQ or RREP is too short, has a vector with H 1, or a vector that is no whole number of addresses.
 #[tactic(auto, using(crate::proofs::Laws::compr_below, crate::proofs::Laws::vector_is, lemmas::proofs::Cases::cases), unfolding(plain::specs::Octets::bad_route))]
 pub fn is_bad_route(body: &[u8]) -> bool
     ensures { result ≡ bad_route body.now }
 {
+    // three returns: with H 1 another thing is asked, and one expression would be longer
     if body.len() < 3 {
         return true;
     }

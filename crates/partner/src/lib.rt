@@ -8,12 +8,12 @@ ghost use Rattle.partner.specs.Partner.{partner_here};
 
 use row::InstanceRow;
 
-// The row's H is a number, as the record of the C interface has it.
 // A request row of that key and that H, live at t.
 #[tactic(auto, using(lemmas::proofs::Cases::cases, crate::proofs::Laws::partner_not, crate::proofs::Laws::partner_is))]
 pub fn is_partner(r: InstanceRow, t: u64, instance: u8, dodagid: [u8; 16], h: bool) -> bool
     ensures { result ≡ partner_here t instance dodagid h (instance_of r) }
 {
+    // the row's H is a number, as the record of the C interface has it
     keyed::is_request(r, t, instance, dodagid) && (r.h != 0) == h
 }
 

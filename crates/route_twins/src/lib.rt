@@ -9,10 +9,10 @@ ghost use Rattle.row.specs.Meaning.{route_of};
 
 use row::RouteRow;
 
-// Public by itself, and so beside twins::has_pair: its clause may not change.
 // Two routes of one source, destination and RPLInstanceID, both live at the clock.
 pub fn has_twins_route(routes: &[RouteRow], clock: u64) -> bool
     ensures { result ≡ any_two route_twins (live_rows route_deadline clock (map route_of routes.now)) }
 {
+    // public by itself, and so beside twins::has_pair: its clause may not change
     twins::has_pair(routes, clock)
 }

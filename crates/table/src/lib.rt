@@ -20,7 +20,7 @@ pub fn put<T: Copy>(items: &mut [T], i: usize, item: T)
 
 // ---- instance rows (put_row and put_route stand beside put: what calls them, and their clauses, may not change)
 
-// No row in use is wrong.
+// No row in use is wrong. Rows and routes have one chain each: a function that took the test would be `all` itself.
 pub fn all_good(rows: &[InstanceRow]) -> bool
     ensures { result ≡ all_good good_instance (map instance_of rows.now) }
 {

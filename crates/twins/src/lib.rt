@@ -34,6 +34,7 @@ fn has_ending<R: Keyed>(rows: &[R], e: u8) -> bool
 fn every_pair<R: Keyed>(rows: &[R], t: u64) -> bool
     ensures { result ≡ any_two (twins_by R.key (R.live t)) rows.now }
 {
+    // a loop: as `any` it was tried, but its law asks the test of every number, and &rows[..j] is there only up to the table's end
     for (j, row) in rows.iter().enumerate() {
         if has_ending(&rows[..j], row.ending()) && scan(&rows[..j], row, t) {
             return true;
@@ -49,7 +50,7 @@ fn pass<R: Keyed, const N: usize>(rows: &[R], t: u64, mask: u64, p: u64) -> bool
     requires most { N ≤ 4294967296 }
     ensures { result ≡ any_two (in_class R.hash mask p (twins_by R.key (R.live t))) rows.now }
 {
-    // by index: a word is read and written at a place that the hash tells
+    // a loop, and no `any`: each turn writes the word that later turns read, at a place that the hash tells
     let mut words = [0u64; N];
     for (j, row) in rows.iter().enumerate() {
         let h = row.hash();
@@ -72,18 +73,15 @@ fn passes<R: Keyed>(rows: &[R], t: u64) -> bool
     (0..mask + 1).any(|p| pass::<R, 1536>(rows, t, mask, p))
 }
 
-// By two ifs: a match on ranges is no plainer.
 // Two rows of one key, both live at time t.
 pub fn has_pair<R: Keyed>(rows: &[R], t: u64) -> bool
     ensures { result ≡ any_two (twins_by R.key (R.live t)) rows.now }
 {
-    if rows.len() <= 16 {
-        return every_pair(rows, t);
+    match rows.len() {
+        0..=16 => every_pair(rows, t),
+        17..=128 => pass::<R, 64>(rows, t, 0, 0),
+        _ => passes(rows, t),
     }
-    if rows.len() <= 128 {
-        return pass::<R, 64>(rows, t, 0, 0);
-    }
-    passes(rows, t)
 }
 
 // Two request rows or two reply rows of one key, both live at the clock.
