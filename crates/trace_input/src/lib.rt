@@ -2,7 +2,10 @@
 // octets in hexadecimal. A number of several octets has its most significant octet first.
 #![tactic(auto)]
 
-ghost use Rattle.std.specs.Prelude.{◌<◌, ◌+◌, ◌*◌, ◌^◌, ◌≤◌, ◌≡◌, IfOk, IfSome, length};
+ghost use Rattle.std.specs.Prelude.{◌<◌, ◌+◌, ◌-◌, ◌*◌, ◌/◌, ◌^◌, ◌≤◌, ◌≡◌, IfOk, IfSome, length, min, set};
+ghost use Rattle.plain.specs.Octets.{octet_at};
+ghost use Rattle.row.specs.Meaning.{flag};
+ghost use Rattle.trace_input.specs.Input.{number_in, octets_in, target_in, targets_in, own_in, link_in, row_in, route_in};
 
 use line::read_full;
 use message::Link;
@@ -107,40 +110,53 @@ pub fn read_record<R: Read>(input: &mut R, octets: &mut [u8]) -> io::Result<Opti
 // ---- the parts of a record
 
 // The octet at i, 0 past the end.
-pub fn octet_at(o: &[u8], i: usize) -> u8 {
+pub fn octet_at(o: &[u8], i: usize) -> u8
+    ensures { result ≡ octet_at o.now i }
+{
     o.get(i).copied().unwrap_or(0)
 }
 
 // The N octets from a place on.
 fn octets_at<const N: usize>(o: &[u8], from: usize) -> [u8; N]
     requires { from + N < 2 ^ 64 }
+    ensures { result ≡ octets_in N o.now from }
 {
     array::from_fn(|i| octet_at(o, from + i))
 }
 
-pub fn flag_at(o: &[u8], i: usize) -> bool {
+pub fn flag_at(o: &[u8], i: usize) -> bool
+    ensures { result ≡ flag (octet_at o.now i) }
+{
     octet_at(o, i) != 0
 }
 
+#[tactic(auto, unfolding(crate::specs::Input::number_in, crate::specs::Input::octets_in))]
 pub fn pair_at(o: &[u8], i: usize) -> u16
     requires { i ≤ 4096 }
+    ensures { result ≡ number_in 2 o.now i }
 {
     u16::from_be_bytes(octets_at(o, i))
 }
 
+#[tactic(auto, unfolding(crate::specs::Input::number_in, crate::specs::Input::octets_in))]
 fn quad_at(o: &[u8], i: usize) -> u32
     requires { i ≤ 4000 }
+    ensures { result ≡ number_in 4 o.now i }
 {
     u32::from_be_bytes(octets_at(o, i))
 }
 
+#[tactic(auto, unfolding(crate::specs::Input::number_in, crate::specs::Input::octets_in))]
 pub fn eight_at(o: &[u8], i: usize) -> u64
     requires { i ≤ 3000 }
+    ensures { result ≡ number_in 8 o.now i }
 {
     u64::from_be_bytes(octets_at(o, i))
 }
 
-pub fn own_at(o: &[u8]) -> Own {
+pub fn own_at(o: &[u8]) -> Own
+    ensures { result ≡ own_in o.now }
+{
     Own {
         receiving: octets_at(o, 0),
         sending: octets_at(o, 16),
@@ -148,7 +164,9 @@ pub fn own_at(o: &[u8]) -> Own {
 }
 
 // The link facts of a message, after its time.
-pub fn link_at(o: &[u8]) -> Link {
+pub fn link_at(o: &[u8]) -> Link
+    ensures { result ≡ link_in o.now }
+{
     Link {
         neighbour: octets_at(o, 8),
         upward: flag_at(o, 24),
@@ -158,8 +176,10 @@ pub fn link_at(o: &[u8]) -> Link {
     }
 }
 
+#[tactic(auto, unfolding(crate::specs::Input::target_in))]
 fn target_at(o: &[u8], from: usize) -> Target
     requires { from ≤ 4000 }
+    ensures { result ≡ target_in o.now from }
 {
     Target {
         seq: octet_at(o, from),
@@ -171,27 +191,28 @@ fn target_at(o: &[u8], from: usize) -> Target
 // The N targets from a place on.
 fn targets_from<const N: usize>(o: &[u8], from: usize) -> [Target; N]
     requires { from + N * 18 ≤ 4000 }
+    ensures { result ≡ targets_in N o.now from }
 {
     array::from_fn(|i| target_at(o, from + i * 18))
 }
 
 // Where a message's octets start.
 pub fn message_from(o: &[u8]) -> usize
-    ensures { result ≤ length o.now }
+    ensures { (result ≡ min (length o.now) 29) × (result ≤ length o.now) }
 {
     o.len().min(29)
 }
 
 // How many targets a start has: 16 at most.
 pub fn target_count(o: &[u8]) -> usize
-    ensures { result ≤ 16 }
+    ensures { (result ≡ min ((length o.now - 13) / 18) 16) × (result ≤ 16) }
 {
     (o.len().saturating_sub(13) / 18).min(16)
 }
 
 // The targets of a start.
 pub fn targets_at(o: &[u8]) -> [Target; 16]
-    ensures { length result ≡ 16 }
+    ensures { (result ≡ targets_in 16 o.now 13) × (length result ≡ 16) }
 {
     targets_from(o, 13)
 }
@@ -199,13 +220,16 @@ pub fn targets_at(o: &[u8]) -> [Target; 16]
 // How many rows a table has: 80 at most.
 pub fn rows_at(o: &[u8], i: usize) -> usize
     requires { i ≤ 4096 }
-    ensures { result ≤ 80 }
+    ensures { (result ≡ min (number_in 2 o.now i) 80) × (result ≤ 80) }
 {
     usize::from(pair_at(o, i)).min(80)
 }
 
 // An instance row, after its number.
-fn row_at(o: &[u8]) -> InstanceRow {
+#[tactic(auto, unfolding(crate::specs::Input::row_in))]
+fn row_at(o: &[u8]) -> InstanceRow
+    ensures { result ≡ row_in o.now }
+{
     InstanceRow {
         kind: octet_at(o, 2),
         instance: octet_at(o, 3),
@@ -224,7 +248,10 @@ fn row_at(o: &[u8]) -> InstanceRow {
 }
 
 // A route, after its number.
-fn route_at(o: &[u8]) -> RouteRow {
+#[tactic(auto, unfolding(crate::specs::Input::route_in))]
+fn route_at(o: &[u8]) -> RouteRow
+    ensures { result ≡ route_in o.now }
+{
     RouteRow {
         kind: octet_at(o, 2),
         instance: octet_at(o, 3),
@@ -239,24 +266,36 @@ fn route_at(o: &[u8]) -> RouteRow {
 
 // ---- what a record hands in
 
-// A row of a table, at the number that stands first in the record, where the table has so many.
-fn put<T: Copy>(rows: &mut [T], o: &[u8], row: T) {
-    if let Some(place) = rows.get_mut(usize::from(pair_at(o, 0))) {
-        *place = row;
+// Writes one of a table or of the counts; past the end nothing changes. A test, since `get_mut` says nothing of what the list becomes.
+fn put<T: Copy>(items: &mut [T], i: usize, item: T)
+    ensures { items.new ≡ set items.old i item }
+{
+    if i < items.len() {
+        items[i] = item;
     }
 }
 
-pub fn hand_in_row(instances: &mut [InstanceRow], o: &[u8]) {
-    put(instances, o, row_at(o));
+// A row of a table, at the number that stands first in the record, where the table has so many.
+pub fn hand_in_row(instances: &mut [InstanceRow], o: &[u8])
+    ensures { instances.new ≡ set instances.old (number_in 2 o.now 0) (row_in o.now) }
+{
+    put(instances, usize::from(pair_at(o, 0)), row_at(o));
 }
 
-pub fn hand_in_route(routes: &mut [RouteRow], o: &[u8]) {
-    put(routes, o, route_at(o));
+// A route, in the same way.
+pub fn hand_in_route(routes: &mut [RouteRow], o: &[u8])
+    ensures { routes.new ≡ set routes.old (number_in 2 o.now 0) (route_in o.now) }
+{
+    put(routes, usize::from(pair_at(o, 0)), route_at(o));
 }
 
 // The tally's count of one answer.
-pub fn hand_in_count(tally: &mut Tally, o: &[u8]) {
-    if let Some(count) = tally.counts.get_mut(usize::from(octet_at(o, 0))) {
-        *count = quad_at(o, 1);
-    }
+pub fn hand_in_count(tally: &mut Tally, o: &[u8])
+    ensures { tally.new.counts ≡ set tally.old.counts (octet_at o.now 0) (number_in 4 o.now 1) }
+{
+    put(
+        &mut tally.counts,
+        usize::from(octet_at(o, 0)),
+        quad_at(o, 1),
+    );
 }
