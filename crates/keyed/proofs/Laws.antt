@@ -12,9 +12,9 @@ use Rattle.plain.specs.Table.{lasts, instance_deadline, route_deadline}
 use Rattle.row.specs.Meaning.{deadline_of, request_of, reply_of, instance_of, route_in, route_of, no_row, no_route}
 use Rattle.row.specs.declared.InstanceRow.{InstanceRow}
 use Rattle.row.specs.declared.RouteRow.{RouteRow}
-use Rattle.keyed.specs.Look.{of_row, held, here, route_here}
+use Rattle.keyed.specs.Look.{of_row, held, here, request_here, reply_here, route_here, row_here}
 use Rattle.plain.specs.Address.{Address}
-use Rattle.plain.specs.Answers.{as_request, as_reply, route_for}
+use Rattle.plain.specs.Answers.{as_request, as_reply, request_for, reply_for, route_for}
 
 pub request_part : (r : InstanceRow) → of_row as_request (instance_of r) ≡ cond (eqb r.kind 1) (some (request_of r)) none
 unfolding instance_of
@@ -69,48 +69,41 @@ pub record Sort : Type 1 where
   pub row : Record → Row
   pub parted : (r : Record) → of_row part (read r) ≡ cond (is r) (some (row r)) none
 
+-- instance rows of one kind
+abbrev instance_sort : (Row : Type 0) (part : Instance → Option Row) (ends : Row → Option ℕ) (kind : ℕ) (row : InstanceRow → Row)
+    → ((a : Instance) (b : Row) → part a ≡ some b → instance_deadline a ≡ ends b)
+    → ((r : InstanceRow) → of_row part (instance_of r) ≡ cond (eqb r.kind kind) (some (row r)) none) → Sort
+instance_sort Row part ends kind row ended parted = record {
+  Record = InstanceRow;
+  Meaning = Instance;
+  Row = Row;
+  read = instance_of;
+  deadline = instance_deadline;
+  part = part;
+  ends = ends;
+  ended = ended;
+  blank = no_row;
+  is = λ r. eqb r.kind kind;
+  row = row;
+  parted = parted;
+}
+
 pub request_ended : (a : Instance) (b : RequestRow) → as_request a ≡ some b → instance_deadline a ≡ b.deadline
-request_ended (Instance.request r) b e = let g : r ≡ b = cc in rw g
-request_ended (Instance.reply r) b e = let z : ◌≡◌ {A = ℕ} 0 1 = cc in absurd (omega arith)
+request_ended (Instance.request r) b e = cc
+request_ended (Instance.reply r) b e = cc
 
 abbrev pub request_sort : Sort
-request_sort = record {
-  Record = InstanceRow;
-  Meaning = Instance;
-  Row = RequestRow;
-  read = instance_of;
-  deadline = instance_deadline;
-  part = as_request;
-  ends = λ b. b.deadline;
-  ended = request_ended;
-  blank = no_row;
-  is = λ r. eqb r.kind 1;
-  row = request_of;
-  parted = request_part;
-}
+request_sort = instance_sort RequestRow as_request (λ b. b.deadline) 1 request_of request_ended request_part
 
 pub reply_ended : (a : Instance) (b : ReplyRow) → as_reply a ≡ some b → instance_deadline a ≡ b.deadline
-reply_ended (Instance.request r) b e = let z : ◌≡◌ {A = ℕ} 0 1 = cc in absurd (omega arith)
-reply_ended (Instance.reply r) b e = let g : r ≡ b = cc in rw g
+reply_ended (Instance.request r) b e = cc
+reply_ended (Instance.reply r) b e = cc
 
 abbrev pub reply_sort : Sort
-reply_sort = record {
-  Record = InstanceRow;
-  Meaning = Instance;
-  Row = ReplyRow;
-  read = instance_of;
-  deadline = instance_deadline;
-  part = as_reply;
-  ends = λ b. b.deadline;
-  ended = reply_ended;
-  blank = no_row;
-  is = λ r. eqb r.kind 2;
-  row = reply_of;
-  parted = reply_part;
-}
+reply_sort = instance_sort ReplyRow as_reply (λ b. b.deadline) 2 reply_of reply_ended reply_part
 
 pub route_ended : (a b : Route) → ◌≡◌ {A = Option Route} (some a) (some b) → route_deadline a ≡ route_deadline b
-route_ended a b e = let g : a ≡ b = cc in rw g
+route_ended a b e = cc
 
 abbrev pub route_sort : Sort
 route_sort = record {
@@ -137,6 +130,15 @@ module _ (S : Sort) (p : S.Row → Bool) (r : S.Record) where
       go : (k : Bool) → held p (cond k (some (S.row r)) none) ≡ cond k (p (S.row r)) false
       go true = refl
       go false = refl
+
+-- a row of that key, told of the record
+pub request_is : (t instance : ℕ) (dodagid : Address) (r : InstanceRow) → request_here t instance dodagid (instance_of r) ≡ row_here 1 t instance dodagid r
+unfolding request_of
+request_is t instance dodagid r = sort_here request_sort (request_for t instance dodagid) r
+
+pub reply_is : (t instance : ℕ) (dodagid : Address) (r : InstanceRow) → reply_here t instance dodagid (instance_of r) ≡ row_here 2 t instance dodagid r
+unfolding reply_of
+reply_is t instance dodagid r = sort_here reply_sort (reply_for t instance dodagid) r
 
 -- a route of those three, told of the record
 pub route_is : (t : ℕ) (source destination : Address) (instance : ℕ) (r : RouteRow)

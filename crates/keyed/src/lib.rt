@@ -22,6 +22,7 @@ fn is_of<const KIND: u8>(r: InstanceRow, t: u64, number: u8, dodagid: [u8; 16]) 
 }
 
 // A request row of that key, live at t.
+#[tactic(auto, using(crate::proofs::Laws::request_is))]
 pub fn is_request(r: InstanceRow, t: u64, instance: u8, dodagid: [u8; 16]) -> bool
     ensures { result ≡ request_here t instance dodagid (instance_of r) }
 {
@@ -29,6 +30,7 @@ pub fn is_request(r: InstanceRow, t: u64, instance: u8, dodagid: [u8; 16]) -> bo
 }
 
 // A reply row of that key, live at t.
+#[tactic(auto, using(crate::proofs::Laws::reply_is))]
 pub fn is_reply(r: InstanceRow, t: u64, instance: u8, dodagid: [u8; 16]) -> bool
     ensures { result ≡ reply_here t instance dodagid (instance_of r) }
 {
