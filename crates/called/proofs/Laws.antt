@@ -38,6 +38,8 @@ use Rattle.outcome.specs.Nothing.{nothing_sent}
 use Rattle.finish.specs.Gives.{state_of, decision_of, Gives}
 use Rattle.outcome.specs.declared.Outcome.{Outcome}
 use Rattle.finish.proofs.Laws.{refused_gives}
+use Rattle.own.specs.Settings.{settings_of}
+use Rattle.own.specs.declared.Own.{Own}
 use Rattle.bad_call.specs.Lent.{lent_by}
 use Rattle.rule.specs.Taken.{Taken}
 use Rattle.request_taken.specs.Decision.{request_decision}
@@ -67,6 +69,19 @@ pub record Handed : Type 0 where
   pub forward : List ℕ
   pub reply : List ℕ
 
+-- the arguments of a public call
+abbrev pub handed : Own → (clock seq time : ℕ) → List InstanceRow → List RouteRow → (forward reply : List ℕ) → Handed
+handed o clock seq time rows routes forward reply = record {
+  settings = settings_of o;
+  clock = clock;
+  seq = seq;
+  time = time;
+  rows = rows;
+  routes = routes;
+  forward = forward;
+  reply = reply;
+}
+
 abbrev from : Handed → State
 from h = state_of h.clock h.seq h.rows h.routes
 
@@ -91,6 +106,11 @@ pub record Admitted (h : Handed) (e : Event) : Type 0 where
   pub lent : is_bad h ≡ false
   pub event : is_bad_event e ≡ false
   pub state : is_wrong h ≡ false
+
+-- `bad` and `wrong` are what the code has been told of 1 and 2
+pub admit : {h : Handed} {e : Event} {bad wrong : Bool} → bad ≡ is_bad h → bad ≡ false → is_bad_event e ≡ false → wrong ≡ is_wrong h → wrong ≡ false
+    → Admitted h e
+admit b not_bad event w not_wrong = record { lent = sym b ∙ not_bad; event = event; state = sym w ∙ not_wrong }
 
 -- a state that is not 2: each row is good
 good_is : (good : Bool) (v : View) → wrong_state good v ≡ false → good ≡ true
