@@ -16,7 +16,7 @@ pub fn wrong_state() -> Answer
 }
 
 // 2, asked of every call: own number 0, a row in use that is wrong, two live rows of one key.
-#[tactic(auto, using(lemmas::proofs::Cases::cases))]
+#[tactic(auto, using(lemmas::proofs::Cases::cases), unfolding(plain::specs::Answers::wrong_state))]
 pub fn is_wrong(instances: &[InstanceRow], routes: &[RouteRow], clock: u64, seq: u8) -> bool
     ensures { result ≡ wrong_state (good_state (state_of clock seq instances.now routes.now)) (view_of (state_of clock seq instances.now routes.now)) }
 {
