@@ -50,19 +50,15 @@ pub fn tally<W: Write>(out: &mut W, t: &Tally) -> io::Result<()> {
 
 // ---- rows
 
-// Until when a row lives.
+// Until when a row lives, if it has a deadline.
 #[derive(Clone, Copy)]
-struct Until {
-    endless: u8,
-    deadline: u64,
-}
+struct Until(Option<u64>);
 
 impl fmt::Display for Until {
     fn fmt<W: fmt::Write>(&self, f: &mut fmt::Formatter<W>) -> fmt::Result {
-        if self.endless == 0 {
-            write!(f, "{}", self.deadline)
-        } else {
-            write!(f, "endless")
+        match self.0 {
+            Some(deadline) => write!(f, "{deadline}"),
+            None => write!(f, "endless"),
         }
     }
 }
@@ -83,10 +79,7 @@ impl<'a> fmt::Display for Request<'a> {
             Hex(&r.neighbour),
             u8::from(r.replied != 0)
         )?;
-        let until = Until {
-            endless: r.endless,
-            deadline: r.deadline,
-        };
+        let until = Until(row::deadline(r.endless, r.deadline));
         let count = usize::from(r.count);
         write!(f, " {until} {count}{}", Targets(&r.targets[..count.min(8)]))
     }
@@ -99,10 +92,7 @@ struct Reply<'a>(&'a InstanceRow);
 impl<'a> fmt::Display for Reply<'a> {
     fn fmt<W: fmt::Write>(&self, f: &mut fmt::Formatter<W>) -> fmt::Result {
         let r = self.0;
-        let until = Until {
-            endless: r.endless,
-            deadline: r.deadline,
-        };
+        let until = Until(row::deadline(r.endless, r.deadline));
         write!(
             f,
             "reply {} {} {} {} {until}",
@@ -121,10 +111,7 @@ struct Route<'a>(&'a RouteRow);
 impl<'a> fmt::Display for Route<'a> {
     fn fmt<W: fmt::Write>(&self, f: &mut fmt::Formatter<W>) -> fmt::Result {
         let r = self.0;
-        let until = Until {
-            endless: r.endless,
-            deadline: r.deadline,
-        };
+        let until = Until(row::deadline(r.endless, r.deadline));
         write!(
             f,
             "{} {} {}",

@@ -53,20 +53,19 @@ fn asking_at(o: &[u8]) -> Asking {
 
 impl<'a> Node<'a> {
     fn fresh(instances: &'a mut [InstanceRow], routes: &'a mut [RouteRow], own: Own) -> Node<'a> {
-        let host = Host {
-            own,
-            clock: 0,
-            seq: 240,
-            forward: 1236,
-            reply: 1236,
-            calls: 0,
-        };
         Node {
             instances,
             routes,
             forward: [0; 2048],
             reply: [0; 2048],
-            host,
+            host: Host {
+                own,
+                clock: 0,
+                seq: 240,
+                forward: 1236,
+                reply: 1236,
+                calls: 0,
+            },
             tally: Tally { counts: [0; 18] },
         }
     }
@@ -74,15 +73,12 @@ impl<'a> Node<'a> {
     // A received message: what the call comes to.
     fn message(&mut self, o: &[u8]) -> Outcome {
         let h = self.host;
-        let forward = &mut self.forward[..];
-        let reply = &mut self.reply[..];
-        let from = trace_input::message_from(o);
         calls::message(
             self.instances,
             self.routes,
-            &mut forward[..h.forward.min(2048)],
-            &mut reply[..h.reply.min(2048)],
-            &o[from..],
+            &mut self.forward[..h.forward.min(2048)],
+            &mut self.reply[..h.reply.min(2048)],
+            &o[trace_input::message_from(o)..],
             h.own,
             h.clock,
             h.seq,
@@ -94,16 +90,13 @@ impl<'a> Node<'a> {
     // A start: what the call comes to.
     fn start(&mut self, o: &[u8]) -> Outcome {
         let h = self.host;
-        let forward = &mut self.forward[..];
-        let reply = &mut self.reply[..];
         let targets = trace_input::targets_at(o);
-        let n = trace_input::target_count(o);
         calls::start(
             self.instances,
             self.routes,
-            &mut forward[..h.forward.min(2048)],
-            &mut reply[..h.reply.min(2048)],
-            &targets[..n],
+            &mut self.forward[..h.forward.min(2048)],
+            &mut self.reply[..h.reply.min(2048)],
+            &targets[..trace_input::target_count(o)],
             h.own,
             h.clock,
             h.seq,
@@ -115,11 +108,10 @@ impl<'a> Node<'a> {
     // Counts a call and prints what it came to.
     fn tell<W: Write>(&mut self, out: &mut W, r: Outcome) -> io::Result<()> {
         tally::raise(&mut self.tally, outcome::answer_of(r));
-        let calls = self.host.calls.wrapping_add(1);
         self.host.clock = r.clock;
         self.host.seq = r.seq;
-        self.host.calls = calls;
-        trace_print::outcome(out, calls, r)?;
+        self.host.calls = self.host.calls.wrapping_add(1);
+        trace_print::outcome(out, self.host.calls, r)?;
         trace_print::buffer(out, "forward", &self.forward, r.forward.size)?;
         trace_print::buffer(out, "reply", &self.reply, r.reply.size)?;
         trace_print::rows(out, self.instances, r.clock)?;

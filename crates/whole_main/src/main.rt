@@ -8,7 +8,7 @@ use own::Own;
 use std::io;
 use std::io::Write;
 
-// The first n octets of a buffer.
+// The first n octets of a buffer, with a space before each, which line::Hex does not write.
 fn print_octets<W: Write>(out: &mut W, s: &[u8], n: usize) -> io::Result<()> {
     for x in s.iter().take(n) {
         write!(out, " {x:02x}")?;
@@ -23,11 +23,13 @@ fn print_outcome<W: Write>(
     reply: &[u8],
 ) -> io::Result<()> {
     let answer = answer::number(r.answer);
-    let n = r.forward.size;
-    let m = r.reply.size;
-    writeln!(out, "answer {answer} forward {n} reply {m}")?;
-    print_octets(out, forward, n)?;
-    print_octets(out, reply, m)
+    writeln!(
+        out,
+        "answer {answer} forward {} reply {}",
+        r.forward.size, r.reply.size
+    )?;
+    print_octets(out, forward, r.forward.size)?;
+    print_octets(out, reply, r.reply.size)
 }
 
 // Both own addresses fd00::2.
