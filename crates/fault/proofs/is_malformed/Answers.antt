@@ -1,4 +1,5 @@
 use mathlib.Core.Path.{sym}
+use native.Mathlib.Omega.{arith}
 use Rattle.fault.proofs.Counts.{art_order, art_within, malformed_other}
 use Rattle.fault.proofs.is_malformed.Goals as goal
 
@@ -13,5 +14,4 @@ slice_bounds-prefix_length-end c = art_within c.requires.told c.is_reply.ensures
 
 pub returns-else-is_reply : goal.returns-else-is_reply
 returns-else-is_reply c =
-    let few = c.if-s-gt1.false in
-    malformed_other c.requires.told c.is_reply.ensures (sym c.requires.bad) few.0 few.1 c.if-is_reply.false
+    malformed_other c.requires.told c.is_reply.ensures (sym c.requires.bad) (omega arith) (omega arith) c.if-is_reply.false
