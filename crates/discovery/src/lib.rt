@@ -8,7 +8,7 @@ ghost use Rattle.plain.specs.Octets.{number_of, discovery_of};
 use plain::Discovery;
 
 // An RREQ or, where `reply` is true, an RREP, without its vector.
-#[tactic(auto, using(lemmas::proofs::Cases::cases, crate::proofs::Laws::discovery_is))]
+#[tactic(auto, using(lemmas::proofs::Cases::cases), unfolding(plain::specs::Octets::discovery_of, plain::specs::Octets::fields, plain::specs::Octets::sum))]
 pub fn discovery(reply: bool, body: &[u8]) -> Discovery
     ensures { result ≡ discovery_of reply body.now }
 {

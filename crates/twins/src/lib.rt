@@ -74,6 +74,7 @@ fn passes<R: Keyed>(rows: &[R], t: u64) -> bool
 }
 
 // Two rows of one key, both live at time t.
+#[tactic(auto, using(filter::proofs::Filter::whole_class))]
 pub fn has_pair<R: Keyed>(rows: &[R], t: u64) -> bool
     ensures { result ≡ any_two (twins_by R.key (R.live t)) rows.now }
 {
