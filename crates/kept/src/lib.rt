@@ -45,7 +45,7 @@ pub fn keep_if(kept: Targets, t: Target, keep: bool) -> Targets
 
 // The targets of a message that are also in the row, in the message's order and with its Dest SeqNos. A loop, and no
 // `filter`: there is no heap to collect in.
-#[tactic(auto, using(lemmas::proofs::Cases::cases, crate::proofs::Sifted::sift_more, crate::proofs::Sifted::sift_end), unfolding(plain::specs::Request::common))]
+#[tactic(auto, using(lemmas::proofs::Cases::cases, crate::proofs::Sifted::sift_end), unfolding(plain::specs::Request::common))]
 pub fn common(ts: Targets, row: Targets) -> Targets
     requires count_bound { ts.count ≤ 8 }
     requires count_bound_2 { row.count ≤ 8 }

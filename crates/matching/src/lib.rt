@@ -20,7 +20,7 @@ pub fn is_named(ts: Targets, receiving: [u8; 16], sending: [u8; 16]) -> bool
 }
 
 // The targets that do not match us, in their order. A loop, and no `filter`: there is no heap to collect in.
-#[tactic(auto, using(kept::proofs::Sifted::sift_more, kept::proofs::Sifted::sift_end, lemmas::proofs::Cases::cases))]
+#[tactic(auto, using(kept::proofs::Sifted::sift_end, lemmas::proofs::Cases::cases))]
 pub fn not_ours(ts: Targets, receiving: [u8; 16], sending: [u8; 16]) -> Targets
     requires { ts.count ≤ 8 }
     ensures { Kept (not_ours (settings receiving sending) (list_of ts)) result }

@@ -1,11 +1,5 @@
-use native.Mathlib.Omega.{arith}
-use Rattle.kept.specs.Kept.{list_of}
-use Rattle.kept.proofs.Sifted.{sift_more}
+use Rattle.kept.proofs.Sifted.{keep_more}
 use Rattle.kept.proofs.common.Goals as goal
 
 pub loop-t-preserved : goal.loop-t-preserved
-loop-t-preserved c =
-    let l = c.loop-t in
-    let k = c.keep_if-kept in
-    let e = rw c.is_listed.ensures at k.ensures.0.held.listed in
-    (k.ensures.0.held.whole, omega (arith, k.ensures.1, l.invariant.1), sift_more _ _ l.t-index (list_of l.kept) l.invariant.2 _ (list_of k.result) c.loop-t-test.true e, k.ensures.0.padded)
+loop-t-preserved c = keep_more _ c.loop-t.invariant c.loop-t-test.true c.is_listed.ensures c.keep_if-kept.ensures
