@@ -27,9 +27,9 @@ use Rattle.search.specs.Seen.{LiveRow}
 -- ---- what a search hands on
 
 -- `d` is what the code reads past the end
-pub live_hit : (rows : List InstanceRow) (t k : ℕ) (d : InstanceRow) → k < length rows
+pub live_hit : {rows : List InstanceRow} {t k : ℕ} (d : InstanceRow) → k < length rows
     → live instance_deadline t (instance_of (get_or rows k no_row)) ≡ true → LiveRow rows t (Some (record { at = k; row = get_or rows k d }))
-live_hit rows t k d h l = record { within = h; stands = get_or_default rows k d no_row h; lives = l }
+live_hit {rows = rows} {k = k} d h l = record { within = h; stands = get_or_default rows k d no_row h; lives = l }
 
 -- ---- request rows, reply rows, a partner, and routes (crates/search_route)
 
@@ -42,12 +42,12 @@ pub record Ask (t : ℕ) : Type 1 where
   pub all_are : (ns : List (Numbered sort.Meaning)) → all ns ≡ of_kind sort.part ns
 
 -- `r` is what a search for the first record of that kind answers
-module _ (t : ℕ) (A : Ask t) (rows : List A.sort.Record) (r : core.Option ℕ) (e : r ≡ found_at (here A.sort.part A.test) (map A.sort.read rows)) where
+module _ {t : ℕ} (A : Ask t) (rows : List A.sort.Record) {r : core.Option ℕ} (e : r ≡ found_at (here A.sort.part A.test) (map A.sort.read rows)) where
   -- what the rules see at a clock
   abbrev pub seen : ℕ → Option (Numbered A.sort.Row)
   seen clock = first_of (λ (n : Numbered A.sort.Row). A.test n.row) (A.all (live_rows A.sort.deadline clock (map A.sort.read rows)))
 
-  module _ (k : ℕ) (g : r ≡ Some k) where
+  module _ {k : ℕ} (g : r ≡ Some k) where
     at_first : k ≡ first (here A.sort.part A.test) (map A.sort.read rows)
     at_first = found_first A.sort.read (here A.sort.part A.test) rows r e k g
 
@@ -79,7 +79,7 @@ module _ (t : ℕ) (A : Ask t) (rows : List A.sort.Record) (r : core.Option ℕ)
     where
       go : (o : core.Option ℕ) → r ≡ o → is_some o ≡ given (seen clock)
       go None g = ap given (miss g clock l)
-      go (Some k) g = ap given (hit k g A.sort.blank clock l)
+      go (Some k) g = ap given (hit g A.sort.blank clock l)
 
 abbrev pub request_ask : (t instance : ℕ) → Address → Ask t
 request_ask t instance dodagid = record {

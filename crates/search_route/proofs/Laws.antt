@@ -20,9 +20,9 @@ use Rattle.search_route.specs.Seen.{LiveRoute}
 
 -- ---- what a search hands on
 
-pub live_route_hit : (routes : List RouteRow) (t k : ℕ) (x : RouteRow) → k < length routes
+pub live_route_hit : {routes : List RouteRow} {t k : ℕ} (x : RouteRow) → k < length routes
     → live route_deadline t (route_of (get_or routes k no_route)) ≡ true → LiveRoute routes t (Some (record { at = k; row = x }))
-live_route_hit routes t k x h l = record { within = h; lives = l }
+live_route_hit x h l = record { within = h; lives = l }
 
 -- ---- a route is asked for
 

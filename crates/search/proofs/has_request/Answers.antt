@@ -4,7 +4,4 @@ use Rattle.search.proofs.has_request.Goals as goal
 
 pub returns : goal.returns
 unfolding request_seen
-returns c =
-    let a = c.args in
-    let r = c.find_request in
-    rw c.is_some.ensures (told a.t (request_ask a.t a.instance a.dodagid) a.rows.now r.result r.ensures)
+returns c = rw c.is_some.ensures (told (request_ask c.args.t c.args.instance c.args.dodagid) _ c.find_request.ensures)

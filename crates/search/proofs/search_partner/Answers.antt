@@ -6,14 +6,8 @@ use Rattle.search.proofs.search_partner.Goals as goal
 pub returns-in_err-at : goal.returns-in_err-at
 unfolding row_found partner_seen
 returns-in_err-at c =
-    let a = c.args in
-    let r = c.find_partner in
-    rw c.from_residual.ensures (miss a.t (partner_ask a.t a.instance a.dodagid a.h) a.rows.now r.result r.ensures c.in_err-at.was)
+    rw c.from_residual.ensures (miss (partner_ask c.args.t c.args.instance c.args.dodagid c.args.h) _ c.find_partner.ensures c.in_err-at.was)
 
 pub returns : goal.returns
 unfolding row_found partner_seen
-returns c =
-    let a = c.args in
-    let r = c.find_partner in
-    let k = c.in_ok-at in
-    hit a.t (partner_ask a.t a.instance a.dodagid a.h) a.rows.now r.result r.ensures k.at k.was _
+returns c = hit (partner_ask c.args.t c.args.instance c.args.dodagid c.args.h) _ c.find_partner.ensures c.in_ok-at.was _

@@ -6,22 +6,13 @@ use Rattle.search.proofs.search_reply.Goals as goal
 pub returns-in_err-at-clause-found : goal.returns-in_err-at-clause-found
 unfolding row_found reply_seen
 returns-in_err-at-clause-found c =
-    let a = c.args in
-    let r = c.find_reply in
-    rw c.from_residual.ensures (miss a.t (reply_ask a.t a.instance a.dodagid) a.rows.now r.result r.ensures c.in_err-at.was)
+    rw c.from_residual.ensures (miss (reply_ask c.args.t c.args.instance c.args.dodagid) _ c.find_reply.ensures c.in_err-at.was)
 
 pub returns-clause-found : goal.returns-clause-found
 unfolding row_found reply_seen
-returns-clause-found c =
-    let a = c.args in
-    let r = c.find_reply in
-    let k = c.in_ok-at in
-    hit a.t (reply_ask a.t a.instance a.dodagid) a.rows.now r.result r.ensures k.at k.was _
+returns-clause-found c = hit (reply_ask c.args.t c.args.instance c.args.dodagid) _ c.find_reply.ensures c.in_ok-at.was _
 
 pub returns-clause-here : goal.returns-clause-here
 returns-clause-here c =
-    let a = c.args in
-    let r = c.find_reply in
-    let k = c.in_ok-at in
-    let ask = reply_ask a.t a.instance a.dodagid in
-    live_hit a.rows.now a.t k.at _ (hit_within a.t ask a.rows.now r.result r.ensures k.at k.was) (hit_live a.t ask a.rows.now r.result r.ensures k.at k.was)
+    let ask = reply_ask c.args.t c.args.instance c.args.dodagid in
+    live_hit _ (hit_within ask _ c.find_reply.ensures c.in_ok-at.was) (hit_live ask _ c.find_reply.ensures c.in_ok-at.was)
