@@ -1,7 +1,7 @@
 -- Twins among instance rows are twins among the live rows of the plain node's table.
 use Prim.Native.Nat.{ℕ, suc}
 use mathlib.Core.Path.{◌≡◌, refl, sym, ◌∙◌}
-use mathlib.Core.Bool.{Bool, true, false, cond, ◌&&◌, ◌||◌, and-true, or-false}
+use mathlib.Core.Bool.{Bool, true, false, cond, ◌&&◌, ◌||◌, or-false}
 use mathlib.Core.List.{List, [], ◌∷◌, ◌++◌, map}
 use mathlib.Core.Option.{Option, some, none}
 use mathlib.Core.Logic.{◌⊎◌, inl, inr}
@@ -20,11 +20,6 @@ use Rattle.row.specs.declared.InstanceRow.{InstanceRow}
 use Rattle.first.proofs.Found.{seen, kind_cons}
 use Rattle.key.specs.Pair.{same_key, twin_rows, twins_by}
 use Rattle.key.proofs.Any.{two_same, two_either}
-
-pub key_near : (a b : InstanceRow) → eqb a.kind b.kind ≡ true → same a.dodagid b.dodagid ≡ true
-    → same_key a b ≡ eqb a.instance b.instance
-unfolding same_key
-key_near a b k e = rw (k, e) (and-true (eqb a.instance b.instance))
 
 -- ---- what rows of one key have in common
 

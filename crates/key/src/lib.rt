@@ -8,7 +8,7 @@ ghost use Rattle.key.specs.Pair.{same_key, twin_rows, ending_of};
 use row::InstanceRow;
 
 // The addresses are compared first: few are the same, while kinds and numbers often are.
-#[tactic(auto, using(crate::proofs::Plain::key_near, lemmas::proofs::Cases::cases), unfolding(crate::specs::Pair::same_key))]
+#[tactic(auto, using(lemmas::proofs::Cases::cases), unfolding(crate::specs::Pair::same_key))]
 fn is_same_key(a: InstanceRow, b: InstanceRow) -> bool
     ensures { result ≡ same_key a b }
 {
