@@ -1,6 +1,8 @@
 -- The record that is written for a row means that row, and is written again for it.
-use mathlib.Core.Path.{◌≡◌, ap}
+use mathlib.Core.Path.{◌≡◌, refl, ap}
+use mathlib.Core.Bool.{Bool, true, false, cond}
 use mathlib.Core.Option.{Option, some, none}
+use Rattle.std.specs.Prelude.{Some, None, option_map, IfSome}
 use Rattle.plain.specs.Given.{Instance, Route}
 use Rattle.row.specs.Meaning.{instance_of, route_of, route_in}
 use Rattle.row.specs.Record.{request_record, reply_record, route_record}
@@ -22,3 +24,13 @@ again i = ap record_of (meant i)
 pub route_meant : (r : Route) → route_in (route_record r) ≡ r
 unfolding route_of route_in route_record
 route_meant r = ap (some_row r) (route_back r)
+
+-- the routes' records mean these, where a test says whether there is one
+pub routes_meant : (b : Bool) (r : Route) → option_map route_in (cond b (Some (route_record r)) None) ≡ cond b (Some r) None
+routes_meant true r = ap Some (route_meant r)
+routes_meant false r = refl
+
+-- and are written again
+pub routes_again : (b : Bool) (r : Route) → IfSome (cond b (Some (route_record r)) None) (λ r. route_record (route_in r) ≡ r)
+routes_again true r = ap route_record (route_meant r)
+routes_again false r = tt

@@ -1,21 +1,22 @@
 -- What a decision means: what the rules send and store.
-use Rattle.std.specs.Prelude.{ℕ, ◌≤◌, ◌≡◌, true, false, cond, List, [], reverse, eqb, length, take}
+use Rattle.std.specs.Prelude.{ℕ, ◌≤◌, ◌≡◌, true, false, cond, List, [], reverse, eqb, length, take, option_map, IfSome}
 use Rattle.std.proofs.Math.Option.{Option}
 use Rattle.plain.specs.Address.{Address}
-use Rattle.plain.specs.Given.{Settings, ReplyRow, Instance, Route, Destination}
+use Rattle.plain.specs.Given.{Settings, Instance, Route, Destination}
 use Rattle.plain.specs.Table.{Numbered, Change, put}
 use Rattle.plain.specs.Octets.{Message, octets_of, elided}
-use Rattle.plain.specs.Request.{Accepted, grown, route_change, with_reply_row}
+use Rattle.plain.specs.Request.{Accepted, grown}
 use Rattle.answer.specs.Answer.{destination_of}
 use Rattle.row.specs.Meaning.{request_of, reply_of, route_in}
 use Rattle.row.specs.Record.{request_record, reply_record, route_record}
+use Rattle.row.specs.Fields.{reply_in}
+use Rattle.row.specs.Change.{with_second, with_route}
 use Rattle.row.specs.declared.InstanceRow.{InstanceRow}
 use Rattle.writer_option.specs.Sendable.{Sendable, short_prefixes}
 use Rattle.lemmas.specs.Optional.{of_option}
 use Rattle.decision.specs.declared.What.{What}
 use Rattle.decision.specs.declared.What.TheVariants.{Nothing, Dio, Path}
 use Rattle.decision.specs.declared.Post.{Post}
-use Rattle.decision.specs.declared.ReplyFields.{ReplyFields}
 use Rattle.decision.specs.declared.Decided.{Decided}
 
 -- ---- What goes into a buffer
@@ -68,22 +69,12 @@ unfoldable pub record_of : Instance → InstanceRow
 record_of (Instance.request r) = request_record r
 record_of (Instance.reply r) = reply_record r
 
--- the reply row that has these fields
-unfoldable pub reply_in : ReplyFields → ReplyRow
-reply_in f = record {
-  instance = f.instance;
-  dodagid = f.dodagid;
-  seq = f.seq;
-  rank = f.rank;
-  deadline = of_option f.deadline;
-}
-
 -- what becomes of the tables, where the live row of the call's key and the live route are given
 unfoldable pub instances_by : {B : Type 0} → Option (Numbered B) → Decided → Change Instance
-instances_by found d = with_reply_row (put found (instance_meant d.row)) d.replies (reply_in d.second)
+instances_by found d = with_second (put found (instance_meant d.row)) (option_map reply_in d.second)
 
 unfoldable pub routes_by : Option (Numbered Route) → Decided → Change Route
-routes_by found d = route_change d.routed found (route_in d.route)
+routes_by found d = with_route found (option_map route_in d.route)
 
 -- What is stored is the rules' `acc`. Each record is the one that is written for its row; that of the reply row is made
 -- from its fields where it is stored.
@@ -92,4 +83,4 @@ pub record Stores {B : Type 0} (acc : Accepted) (found : Option (Numbered B)) (h
   pub instances : instances_by found d ≡ acc.instances
   pub routes : routes_by hop d ≡ acc.routes
   pub row : record_of (instance_meant d.row) ≡ d.row
-  pub route : d.routed ≡ true → route_record (route_in d.route) ≡ d.route
+  pub route : IfSome d.route (λ r. route_record (route_in r) ≡ r)

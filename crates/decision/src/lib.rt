@@ -5,12 +5,12 @@
 ghost use Rattle.std.specs.Prelude.{◌≡◌, cond};
 ghost use Rattle.decision.specs.declared.What.TheVariants.{Nothing, Dio};
 ghost use Rattle.message.specs.Blank.{no_message};
-ghost use Rattle.decision.specs.Blank.{no_post, no_reply};
+ghost use Rattle.decision.specs.Blank.{no_post};
 
 use answer::Destination;
 use message::Parsed;
 use plain::{Base, Discovery};
-use row::{InstanceRow, RouteRow};
+use row::{InstanceRow, ReplyFields, RouteRow};
 
 // What goes into a buffer.
 #[derive(Clone, Copy)]
@@ -31,26 +31,13 @@ pub struct Post {
     pub to: Destination,
 }
 
-// What a reply row holds. A sixth of the row's size: the row itself is made where it is stored. Here and in `Decided` wide fields first, so
-// there is no padding between fields: it would be copied too, and the copy would wait for the writes beside it.
-#[derive(Clone, Copy)]
-pub struct ReplyFields {
-    pub deadline: Option<u64>,
-    pub dodagid: [u8; 16],
-    pub rank: u16,
-    pub instance: u8,
-    pub seq: u8,
-}
-
-// What is stored. `second`, a reply row, is stored where `replies`, `route` where `routed`.
+// What is stored: a row, a reply row behind it and a route, where there are any, and our number.
 #[derive(Clone, Copy)]
 pub struct Decided {
     pub row: InstanceRow,
-    pub second: ReplyFields,
-    pub route: RouteRow,
+    pub second: Option<ReplyFields>,
+    pub route: Option<RouteRow>,
     pub seq: u8,
-    pub replies: bool,
-    pub routed: bool,
 }
 
 fn no_base() -> Base
@@ -82,19 +69,6 @@ pub fn no_post() -> Post
         grown: false,
         turned: false,
         to: Destination::Nowhere,
-    }
-}
-
-// No reply row is stored.
-pub fn no_reply() -> ReplyFields
-    ensures { result ≡ no_reply }
-{
-    ReplyFields {
-        instance: 0,
-        seq: 0,
-        rank: 0,
-        dodagid: [0; 16],
-        deadline: Some(0),
     }
 }
 

@@ -10,8 +10,7 @@ use lib.Dec.{eqb}
 use lib.ListN.{length, get_or, set}
 use borrow.Author.Tests.{ne_eqb}
 use Rattle.std.specs.Prelude as core
-use Rattle.std.specs.Prelude.{Some, None, is_some}
-use Rattle.std.proofs.lemmas.Option.{none-some}
+use Rattle.std.specs.Prelude.{Some, None, is_some, option_map, IfSome}
 use Rattle.lemmas.proofs.Choice.{and_false}
 use Rattle.lemmas.specs.Written.{over, Written}
 use Rattle.plain.specs.Address.{Address}
@@ -25,10 +24,12 @@ use Rattle.answer.specs.declared.Answer.{Answer}
 use Rattle.answer.specs.declared.Answer.TheVariants.{Done, NoRow}
 use Rattle.row.specs.Meaning.{instance_of, route_of, request_of, reply_of, route_in, no_row, no_route}
 use Rattle.row.specs.Record.{reply_record, route_record}
+use Rattle.row.specs.Fields.{reply_in}
+use Rattle.row.specs.declared.ReplyFields.{ReplyFields}
 use Rattle.row.proofs.Laws.{reply_back}
 use Rattle.row.specs.declared.InstanceRow.{InstanceRow}
 use Rattle.row.specs.declared.RouteRow.{RouteRow}
-use Rattle.decision.specs.Decision.{post_octets, instance_meant, record_of, reply_in}
+use Rattle.decision.specs.Decision.{post_octets, instance_meant, record_of}
 use Rattle.decision.proofs.Laws.{again}
 use Rattle.decision.specs.declared.Decided.{Decided}
 use Rattle.decision.specs.declared.Post.{Post}
@@ -38,7 +39,7 @@ use Rattle.place.specs.declared.RoutePlace.{RoutePlace}
 use Rattle.message.specs.declared.Live.{Live}
 use Rattle.outcome.specs.declared.Outcome.{Outcome}
 use Rattle.outcome.specs.Nothing.{nothing_sent}
-use Rattle.finish.specs.Gives.{state_of, decision_of, Records, RouteRecords, Settled, Gives}
+use Rattle.finish.specs.Gives.{second_record, state_of, decision_of, Records, RouteRecords, Settled, Gives}
 
 -- ---- records that are written
 
@@ -76,10 +77,11 @@ set_or P (x ∷ l) zero a d h (suc k) = inl refl
 set_or P (x ∷ l) (suc i) a d h zero = inl refl
 set_or P (x ∷ l) (suc i) a d h (suc k) = set_or P l i a d (λ q. h (omega arith)) k
 
-pub records_two : (rows : List InstanceRow) (i : ℕ) (j : core.Option ℕ) (one two : InstanceRow) → record_of (instance_meant one) ≡ one
-    → record_of (instance_meant two) ≡ two → Records rows (set_at (set rows i one) j two)
+pub records_two : (rows : List InstanceRow) (i : ℕ) (j : core.Option ℕ) (one : InstanceRow) (two : core.Option InstanceRow) → record_of (instance_meant one) ≡ one
+    → IfSome two (λ r. record_of (instance_meant r) ≡ r) → Records rows (set_at (set rows i one) j two)
+records_two rows i (Some j) one None e f k = set_or (λ (z : InstanceRow). record_of (instance_meant z) ≡ z) rows i one no_row (λ _. e) k
 records_two rows i None one two e f k = set_or (λ (z : InstanceRow). record_of (instance_meant z) ≡ z) rows i one no_row (λ _. e) k
-records_two rows i (Some j) one two e f k =
+records_two rows i (Some j) one (Some two) e f k =
     ⊎_elim
     (λ (q : get_or (set (set rows i one) j two) k no_row ≡ get_or (set rows i one) k no_row).
     ⊎_elim (λ (p : get_or (set rows i one) k no_row ≡ get_or rows k no_row). inl (q ∙ p))
@@ -89,11 +91,33 @@ records_two rows i (Some j) one two e f k =
     (λ p. inr p)
     (set_or (λ (z : InstanceRow). record_of (instance_meant z) ≡ z) (set rows i one) j two no_row (λ _. f) k)
 
-pub records_route : (routes : List RouteRow) (i : core.Option ℕ) (r : RouteRow) (routed : Bool) → (routed ≡ true → route_record (route_in r) ≡ r)
-    → (routed ≡ false → i ≡ None) → RouteRecords routes (set_at routes i r)
-records_route routes None r routed e f k = inl refl
-records_route routes (Some i) r true e f k = set_or (λ (z : RouteRow). route_record (route_in z) ≡ z) routes i r no_route (λ _. e refl) k
-records_route routes (Some i) r false e f k = absurd (none-some i (sym (f refl)))
+pub records_route : (routes : List RouteRow) (i : core.Option ℕ) (r : core.Option RouteRow) → IfSome r (λ r. route_record (route_in r) ≡ r)
+    → RouteRecords routes (set_at routes i r)
+records_route routes None r e k = inl refl
+records_route routes (Some i) None e k = inl refl
+records_route routes (Some i) (Some r) e k = set_or (λ (z : RouteRow). route_record (route_in z) ≡ z) routes i r no_route (λ _. e) k
+
+-- ---- Options
+
+mapped_is : {A B : Type 0} (f : A → B) (o : core.Option A) → is_some (option_map f o) ≡ is_some o
+mapped_is f None = refl
+mapped_is f (Some a) = refl
+
+-- a reply row's record means it, and is written again for it
+second_means : (o : core.Option ReplyFields)
+    → IfSome (option_map second_record o) (λ w. IfSome (option_map reply_in o) (λ z. instance_of w ≡ some (Instance.reply z)))
+second_means None = tt
+second_means (Some f) = reply_back (reply_in f)
+
+second_again : (o : core.Option ReplyFields) → IfSome (option_map second_record o) (λ r. record_of (instance_meant r) ≡ r)
+unfolding record_of
+second_again None = tt
+second_again (Some f) = again (Instance.reply (reply_in f))
+
+hop_means : (o : core.Option RouteRow) → IfSome o (λ r. route_record (route_in r) ≡ r)
+    → IfSome o (λ w. IfSome (option_map route_in o) (λ z. route_of w ≡ some z))
+hop_means None e = tt
+hop_means (Some r) e = route_means r e
 
 -- ---- a refusal
 
@@ -132,18 +156,24 @@ module _ (clock seq t : ℕ) (rows : List InstanceRow) (routes : List RouteRow) 
     unfolding enact place
     full_gives e f = rw e (refusal_gives 17 NoRow r refl f)
 
-    module _ (o : core.Option P.Places) (pp : Placed rows t l.row d.replies o) where
+    module _ (replies : Bool) (er : replies ≡ is_some d.second) (o : core.Option P.Places) (pp : Placed rows t l.row replies o) where
+      second_is : is_some (option_map reply_in d.second) ≡ replies
+      second_is = mapped_is reply_in d.second ∙ sym er
+
       rows_room : has_room instance_deadline t acc.instances (map instance_of rows) ≡ is_some o
-      rows_room = rw (← w.instances) (sym (pp.room (instance_meant d.row) (reply_in d.second)))
+      rows_room = rw (← w.instances) (sym (pp.room (instance_meant d.row) (option_map reply_in d.second) second_is))
 
       pub no_row_gives : o ≡ None
           → r ≡ record { answer = NoRow; forward = nothing_sent; reply = nothing_sent; clock = clock; seq = seq }
           → Gives (enact t (state_of clock seq rows routes) (plain.Decision.take acc)) rows rows routes routes forward forward reply reply r
       no_row_gives e f = full_gives (rw (rows_room, e) refl) f
 
-      module _ (u : core.Option RoutePlace) (qq : RoutePlaced routes t d.routed l.route u) where
+      module _ (routed : Bool) (eu : routed ≡ is_some d.route) (u : core.Option RoutePlace) (qq : RoutePlaced routes t routed l.route u) where
+        hop_is : is_some (option_map route_in d.route) ≡ routed
+        hop_is = mapped_is route_in d.route ∙ sym eu
+
         routes_room : has_room route_deadline t acc.routes (map route_of routes) ≡ is_some u
-        routes_room = rw (← w.routes) (sym (qq.room (route_in d.route)))
+        routes_room = rw (← w.routes) (sym (qq.room (option_map route_in d.route) hop_is))
 
         pub no_route_gives : u ≡ None
             → r ≡ record { answer = NoRow; forward = nothing_sent; reply = nothing_sent; clock = clock; seq = seq }
@@ -156,18 +186,17 @@ module _ (clock seq t : ℕ) (rows : List InstanceRow) (routes : List RouteRow) 
           unfolding enact place
           taken_is = rw (rows_room, routes_room, e, g) refl
 
-          placed_at : Placed rows t l.row d.replies (Some p)
+          placed_at : Placed rows t l.row replies (Some p)
           placed_at = rw e at pp
 
-          routed_at : RoutePlaced routes t d.routed l.route (Some q)
+          routed_at : RoutePlaced routes t routed l.route (Some q)
           routed_at = rw g at qq
 
           module _ (rows' : List InstanceRow) (routes' : List RouteRow) (forward' reply' : List ℕ) (n m : ℕ) where
-            pub done_gives : rows' ≡ set_at (set rows p.first d.row) p.second (reply_record (reply_in d.second)) → routes' ≡ set_at routes q.hop d.route
+            pub done_gives : rows' ≡ set_at (set rows p.first d.row) p.second (option_map second_record d.second) → routes' ≡ set_at routes q.hop d.route
                 → Written (post_octets x there vector) forward forward' n → Written (post_octets x back vector) reply reply' m
                 → r ≡ record { answer = Done; forward = record { size = n; to = there.to }; reply = record { size = m; to = back.to }; clock = t; seq = d.seq }
                 → Gives (enact t (state_of clock seq rows routes) (plain.Decision.take acc)) rows rows' routes routes' forward forward' reply reply' r
-            unfolding record_of
             done_gives s1 s2 u v f =
                 rw (taken_is, s1, s2, f) (record {
                   answer = refl;
@@ -175,12 +204,12 @@ module _ (clock seq t : ℕ) (rows : List InstanceRow) (routes : List RouteRow) 
                     clock = t;
                     own = w.own i;
                     instances = (
-                        placed_at.stored d.row (reply_record (reply_in d.second)) (instance_meant d.row) (reply_in d.second) (instance_means d.row w.row)
-                        (λ z. reply_back (reply_in d.second))
+                        placed_at.stored d.row (option_map second_record d.second) (instance_meant d.row) (option_map reply_in d.second) second_is
+                        (mapped_is second_record d.second ∙ sym er) (instance_means d.row w.row) (second_means d.second)
                         ∙ ap (λ z. placed instance_deadline t z (map instance_of rows)) w.instances
                         ) i;
                     routes = (
-                        routed_at.stored d.route (route_in d.route) (λ z. route_means d.route (w.route z))
+                        routed_at.stored d.route (option_map route_in d.route) hop_is (sym eu) (hop_means d.route w.route)
                         ∙ ap (λ z. placed route_deadline t z (map route_of routes)) w.routes
                         ) i;
                   };
@@ -190,7 +219,7 @@ module _ (clock seq t : ℕ) (rows : List InstanceRow) (routes : List RouteRow) 
                   reply_to = w.reply.goes;
                   forward_octets = u.holds ∙ ap (λ z. over z forward) w.forward.sends;
                   reply_octets = v.holds ∙ ap (λ z. over z reply) w.reply.sends;
-                  instances = records_two rows p.first p.second d.row (reply_record (reply_in d.second)) w.row (again (Instance.reply (reply_in d.second)));
-                  hops = records_route routes q.hop d.route d.routed w.route routed_at.unrouted;
+                  instances = records_two rows p.first p.second d.row (option_map second_record d.second) w.row (second_again d.second);
+                  hops = records_route routes q.hop d.route w.route;
                   kept = λ z. absurd (z refl);
                 })

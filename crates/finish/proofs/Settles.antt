@@ -1,7 +1,7 @@
 -- A call is ready to be finished, and its decision settled, by the numbers of what was found.
 use Prim.Native.Nat.{ℕ, ◌<◌, ◌≤◌}
 use mathlib.Core.Path.{◌≡◌, refl, sym, ap, ◌∙◌}
-use mathlib.Core.Bool.{Bool, true, false}
+use mathlib.Core.Bool.{true}
 use mathlib.Core.List.{List}
 use lib.ListN.{length, get_or}
 use Rattle.std.specs.Prelude as core
@@ -10,14 +10,16 @@ use Rattle.std.specs.Option.{option_map}
 use Rattle.plain.specs.Address.{Address}
 use Rattle.plain.specs.Given.{Settings, Instance, Route}
 use Rattle.plain.specs.Table.{Change, put, live, instance_deadline, route_deadline}
-use Rattle.plain.specs.Request.{Accepted, route_change, with_reply_row}
+use Rattle.plain.specs.Request.{Accepted}
 use Rattle.row.specs.Meaning.{instance_of, route_of, route_in, no_row, no_route}
+use Rattle.row.specs.Fields.{reply_in}
+use Rattle.row.specs.Change.{with_second, with_route}
 use Rattle.row.specs.declared.InstanceRow.{InstanceRow}
 use Rattle.row.specs.declared.RouteRow.{RouteRow}
 use Rattle.message.specs.Message.{number_of, numbered, route_found}
 use Rattle.message.specs.declared.Found.{Found}
 use Rattle.message.specs.declared.Live.{Live}
-use Rattle.decision.specs.Decision.{Fits, Posts, Stores, instance_meant, instances_by, reply_in, routes_by}
+use Rattle.decision.specs.Decision.{Fits, Posts, Stores, instance_meant, instances_by, routes_by}
 use Rattle.decision.specs.declared.Decided.{Decided}
 use Rattle.decision.specs.declared.Post.{Post}
 use Rattle.place.specs.Places as place
@@ -29,11 +31,11 @@ put_number : {R B : Type 0} (kind : R → B) (f : core.Option (Found R)) (r : In
 put_number kind None r = refl
 put_number kind (Some f) r = refl
 
-hop_number : (routed : Bool) (g : core.Option (Found RouteRow)) (r : Route) → route_change routed (route_found g) r ≡ hop_change routed (option_map number_of g) r
-unfolding route_change route_found
-hop_number false g r = refl
-hop_number true None r = refl
-hop_number true (Some g) r = refl
+hop_number : (g : core.Option (Found RouteRow)) (r : core.Option Route) → with_route (route_found g) r ≡ hop_change (option_map number_of g) r
+unfolding with_route route_found
+hop_number g None = refl
+hop_number None (Some r) = refl
+hop_number (Some g) (Some r) = refl
 
 -- what holds of the number of what was found
 at_number : {R : Type 0} (P : ℕ → Type 0) (f : core.Option (Found R)) → IfSome f (λ x. P x.at) → IfSome (option_map number_of f) P
@@ -47,7 +49,7 @@ module _ (f : core.Option (Found InstanceRow)) (g : core.Option (Found RouteRow)
       → Posts x vector acc.sent.forward acc.sent.forward_to there
       → Posts x vector acc.sent.reply acc.sent.reply_to back
       → Settled x vector acc l d there back
-  unfolding instances_by routes_by with_reply_row
+  unfolding instances_by routes_by
   settled kind x vector acc d there back w pf pr =
       rw el
       (record {
@@ -55,8 +57,8 @@ module _ (f : core.Option (Found InstanceRow)) (g : core.Option (Found RouteRow)
         reply = pr;
         own = w.own;
         instances =
-            sym (ap (λ (q : Change Instance). with_reply_row q d.replies (reply_in d.second)) (put_number kind f (instance_meant d.row))) ∙ w.instances;
-        routes = sym (hop_number d.routed g (route_in d.route)) ∙ w.routes;
+            sym (ap (λ (q : Change Instance). with_second q (option_map reply_in d.second)) (put_number kind f (instance_meant d.row))) ∙ w.instances;
+        routes = sym (hop_number g (option_map route_in d.route)) ∙ w.routes;
         row = w.row;
         route = w.route;
       })

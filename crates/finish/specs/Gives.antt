@@ -1,5 +1,5 @@
 -- What a call gives: the plain node's result, in the lent tables and buffers.
-use Rattle.std.specs.Prelude.{ℕ, ◌≤◌, ◌≡◌, ◌⊎◌, true, cond, List, map, eqb, length, get_or}
+use Rattle.std.specs.Prelude.{ℕ, ◌≤◌, ◌≡◌, ◌⊎◌, cond, List, map, eqb, length, get_or, option_map, IfSome}
 use Rattle.lemmas.specs.Written.{over}
 use Rattle.plain.specs.Address.{Address}
 use Rattle.plain.specs.Given.{Settings, State}
@@ -7,10 +7,12 @@ use Rattle.plain.specs.Request.{Accepted}
 use Rattle.plain.specs.Plain as plain
 use Rattle.answer.specs.Answer.{answer_number, destination_of}
 use Rattle.row.specs.Meaning.{instance_of, route_of, route_in, no_row, no_route}
-use Rattle.row.specs.Record.{route_record}
+use Rattle.row.specs.Record.{reply_record, route_record}
 use Rattle.row.specs.declared.InstanceRow.{InstanceRow}
+use Rattle.row.specs.declared.ReplyFields.{ReplyFields}
 use Rattle.row.specs.declared.RouteRow.{RouteRow}
-use Rattle.decision.specs.Decision.{Fits, Posts, instance_meant, record_of, reply_in}
+use Rattle.row.specs.Fields.{reply_in}
+use Rattle.decision.specs.Decision.{Fits, Posts, instance_meant, record_of}
 use Rattle.decision.specs.declared.Post.{Post}
 use Rattle.decision.specs.declared.Decided.{Decided}
 use Rattle.place.specs.Places.{HasRow, HasRoute, row_change, hop_change}
@@ -52,6 +54,10 @@ pub record Gives (res : plain.Result) (rows rows' : List InstanceRow) (routes ro
 
 -- ---- What the proof of finish asks; the inspector need not read on
 
+-- the record of a reply row that is stored
+abbrev pub second_record : ReplyFields → InstanceRow
+second_record f = reply_record (reply_in f)
+
 -- what must hold of a call that is finished
 pub record Ready (x : Settings) (t : ℕ) (rows : List InstanceRow) (routes : List RouteRow) (forward reply : List ℕ) (vector : List Address) (there back : Post) (l : Live) : Type 0 where
   pub row : HasRow rows t l.row
@@ -67,7 +73,7 @@ pub record Settled (x : Settings) (vector : List Address) (acc : Accepted) (l : 
   pub forward : Posts x vector acc.sent.forward acc.sent.forward_to there
   pub reply : Posts x vector acc.sent.reply acc.sent.reply_to back
   pub own : d.seq ≡ acc.own
-  pub instances : row_change l.row (instance_meant d.row) d.replies (reply_in d.second) ≡ acc.instances
-  pub routes : hop_change d.routed l.route (route_in d.route) ≡ acc.routes
+  pub instances : row_change l.row (instance_meant d.row) (option_map reply_in d.second) ≡ acc.instances
+  pub routes : hop_change l.route (option_map route_in d.route) ≡ acc.routes
   pub row : record_of (instance_meant d.row) ≡ d.row
-  pub route : d.routed ≡ true → route_record (route_in d.route) ≡ d.route
+  pub route : IfSome d.route (λ r. route_record (route_in r) ≡ r)

@@ -1,13 +1,11 @@
 // A call that the rules answer 0, taken to its outcome: 17, or rows stored and octets written.
 #![tactic(auto)]
 
-ghost use Rattle.std.specs.Prelude.{◌≡◌, set};
+ghost use Rattle.std.specs.Prelude.{◌≡◌, set, option_map};
 ghost use Rattle.plain.specs.Request.{Accepted};
-ghost use Rattle.row.specs.Record.{reply_record};
-ghost use Rattle.decision.specs.Decision.{reply_in};
 ghost use Rattle.place.specs.Places.{set_at};
 ghost use Rattle.own.specs.Settings.{settings_of};
-ghost use Rattle.finish.specs.Gives.{state_of, Ready, Settled, Gives};
+ghost use Rattle.finish.specs.Gives.{second_record, state_of, Ready, Settled, Gives};
 ghost use Rattle.plain.specs.Plain.{enact};
 ghost use Rattle.plain.specs.Plain.Decision.{take};
 
@@ -18,7 +16,7 @@ use own::Own;
 use place::{Places, RoutePlace};
 use row::{InstanceRow, RouteRow};
 
-// The records at their places. Most calls store no reply row, and none is made for them.
+// The records at their places. Most calls store no reply row, and the record of one is made here.
 fn store(
     instances: &mut [InstanceRow],
     routes: &mut [RouteRow],
@@ -26,15 +24,15 @@ fn store(
     q: RoutePlace,
     d: &Decided,
 )
-    ensures instances { instances.new ≡ set_at (set instances.old p.first d.now.row) p.second (reply_record (reply_in d.now.second)) }
+    ensures instances { instances.new ≡ set_at (set instances.old p.first d.now.row) p.second (option_map second_record d.now.second) }
     ensures routes { routes.new ≡ set_at routes.old q.hop d.now.route }
 {
     table::put_row(instances, p.first, d.row);
-    if let Some(second) = p.second {
-        table::put_row(instances, second, outcome::second_of(*d));
+    if let (Some(at), Some(f)) = (p.second, d.second) {
+        table::put_row(instances, at, row::reply_row(f));
     }
-    if let Some(hop) = q.hop {
-        table::put_route(routes, hop, d.route);
+    if let (Some(at), Some(route)) = (q.hop, d.route) {
+        table::put_route(routes, at, route);
     }
 }
 
@@ -58,8 +56,8 @@ pub fn finish(
     ensures { (acc : Accepted) → Settled (settings_of o) vector.now acc l d.now there.now back.now → Gives (enact t (state_of clock seq instances.old routes.old) (take acc)) instances.old instances.new routes.old routes.new forward.old forward.new reply.old reply.new result }
 {
     let places = (
-        place::place_rows(instances, t, l.row, d.replies),
-        place::place_route(routes, t, d.routed, l.route),
+        place::place_rows(instances, t, l.row, d.second.is_some()),
+        place::place_route(routes, t, d.route.is_some(), l.route),
     );
     let (Some(p), Some(q)) = places else {
         return outcome::without_room(clock, seq);

@@ -1,15 +1,11 @@
-// What a call comes to, by value: a refusal, or an accepted call with what it wrote; and the record of a reply row that is stored.
+// What a call comes to, by value: a refusal, or an accepted call with what it wrote.
 #![tactic(auto)]
 
 ghost use Rattle.std.specs.Prelude.{◌≡◌};
-ghost use Rattle.row.specs.Record.{reply_record};
-ghost use Rattle.decision.specs.Decision.{reply_in};
 ghost use Rattle.answer.specs.declared.Answer.TheVariants.{Done, NoRow};
 ghost use Rattle.outcome.specs.Nothing.{nothing_sent};
 
 use answer::{Answer, Destination};
-use decision::Decided;
-use row::InstanceRow;
 
 // What was written into a buffer, and where it is to go.
 #[derive(Clone, Copy)]
@@ -76,15 +72,6 @@ pub fn without_room(clock: u64, seq: u8) -> Outcome
     ensures { result ≡ record { answer = NoRow; forward = nothing_sent; reply = nothing_sent; clock = clock; seq = seq } }
 {
     refused(Answer::NoRow, clock, seq)
-}
-
-// The record of the reply row.
-#[tactic(auto, using(lemmas::proofs::Cases::cases), unfolding(decision::specs::Decision::reply_in))]
-pub fn second_of(d: Decided) -> InstanceRow
-    ensures { result ≡ reply_record (reply_in d.second) }
-{
-    let f = d.second;
-    row::reply_row(f.instance, f.dodagid, f.seq, f.rank, f.deadline)
 }
 
 // The answer of a call.

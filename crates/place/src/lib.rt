@@ -41,7 +41,7 @@ pub fn place_rows(rows: &[InstanceRow], t: u64, at: Option<usize>, replies: bool
 }
 
 // In the place of the live route at `at`, else at the lowest row that is not live; nowhere where there is no route to store. None where there is no
-// room.
+// room. Whether a route is to be stored (`routed`) and whether one is live (`at`) are two things.
 pub fn place_route(
     routes: &[RouteRow],
     t: u64,

@@ -14,21 +14,23 @@ ghost use Rattle.reply_stored.specs.Made.{reply_route};
 use decision::Decided;
 use message::{Link, Parsed};
 use reply::ReplyFacts;
-use row::{InstanceRow, RouteRow};
+use row::{InstanceRow, ReplyFields, RouteFields, RouteRow};
 
 // An update keeps the row's deadline. The rank has 16 bits: `try_from` would bring a refusal that no call meets.
-#[tactic(auto, using(lemmas::proofs::Cases::cases), unfolding(plain::specs::Reply::reply_row, reply::specs::Facts::answered_of, message::specs::Message::message_in))]
+#[tactic(auto, using(lemmas::proofs::Cases::cases), unfolding(plain::specs::Reply::reply_row, row::specs::Fields::reply_in, reply::specs::Facts::answered_of, message::specs::Message::message_in))]
 fn reply_row(t: u64, p: Parsed, w: ReplyFacts) -> InstanceRow
     requires { (t ≤ 2 ^ 40) × (w.rank ≤ 65535) }
     ensures { (v : List Address) → result ≡ reply_record (reply_row t (message_in p v) (answered_of w)) }
 {
-    row::reply_row(
-        p.base.instance,
-        p.base.dodagid,
-        pairing::dest_seq(p),
-        w.rank as u16,
-        rule::kept_deadline(t, p.discovery.l, w.standing, w.found),
-    )
+    // an array goes into a struct from a variable alone: the borrow checker covers no other form; so below too
+    let dodagid = p.base.dodagid;
+    row::reply_row(ReplyFields {
+        deadline: rule::kept_deadline(t, p.discovery.l, w.standing, w.found),
+        dodagid,
+        rank: w.rank as u16,
+        instance: p.base.instance,
+        seq: pairing::dest_seq(p),
+    })
 }
 
 // The route to TargNode, under the partner's number, which has a name for the proof.
@@ -37,16 +39,18 @@ fn route(t: u64, k: Link, p: Parsed) -> RouteRow
     requires { t ≤ 2 ^ 40 }
     ensures { (v : List Address) → result ≡ route_record (reply_route t (received_by k []) (message_in p v)) }
 {
+    let source = pairing::orig_node(p);
+    let destination = p.base.dodagid;
+    let next = k.neighbour;
     let number = pairing::partner_number(p);
-    rule::route(
-        t,
-        pairing::orig_node(p),
-        p.base.dodagid,
-        number,
-        k.neighbour,
-        pairing::dest_seq(p),
-        p.configuration,
-    )
+    let fields = RouteFields {
+        source,
+        destination,
+        next,
+        instance: number,
+        seq: pairing::dest_seq(p),
+    };
+    rule::route(t, fields, p.configuration)
 }
 
 // What a reply that is answered 0 stores. No reply row stands behind its row.
@@ -55,12 +59,15 @@ pub fn accepted(seq: u8, t: u64, k: Link, p: Parsed, w: ReplyFacts) -> Decided
     requires { (t ≤ 2 ^ 40) × (w.rank ≤ 65535) }
     ensures { (x : Settings) (v : List Address) → Stores (accept_reply x seq t (received_by k []) (message_in p v) (answered_of w)) (reply_found w.found) (route_found w.route) result }
 {
+    let route = if p.discovery.h {
+        Some(route(t, k, p))
+    } else {
+        None
+    };
     Decided {
         row: reply_row(t, p, w),
-        replies: false,
-        second: decision::no_reply(),
-        routed: p.discovery.h,
-        route: route(t, k, p),
+        second: None,
+        route,
         seq,
     }
 }

@@ -7,12 +7,16 @@ use mathlib.Core.Option.{Option, some, none}
 use native.Mathlib.Omega.{arith}
 use lib.ListN.{length, take, drop, replicate, length-append, length-take, length-replicate, take-append-drop}
 use lib.Seq.{take-append_seam, take-append-le, length-take-le}
+use Rattle.std.specs.Prelude.{Some, None}
 use Rattle.plain.specs.Given.{RequestRow, ReplyRow, Instance, Route}
 use Rattle.plain.specs.Octets.{bit}
 use Rattle.plain.specs.Blank.{no_target, Padded}
+use Rattle.plain.specs.Table.{Numbered, Change}
+use Rattle.plain.specs.Request.{route_change, with_reply_row}
 use Rattle.plain.specs.declared.Target.{Target}
 use Rattle.lemmas.specs.Written.{over}
 use Rattle.row.specs.Meaning.{flag, deadline_of, targets_of, request_of, reply_of, instance_of, route_in, route_of}
+use Rattle.row.specs.Change.{with_second, with_route}
 use Rattle.row.specs.Record.{endless_of, until_of, request_record, reply_record, route_record}
 
 -- ---- targets
@@ -68,3 +72,15 @@ module _ (count : ℕ) (ts : List Target) (eight : length ts ≡ 8) (h : count �
       ap (λ k. take count ts ++ drop k (replicate 8 no_target)) length_count
       ∙ ap (λ t. take count ts ++ t) (sym p)
       ∙ take-append-drop count ts
+
+-- ---- what becomes of a table, where a test says whether there is a second row or a route
+
+pub second_if : (change : Change Instance) (b : Bool) (s : ReplyRow) → with_second change (cond b (Some s) None) ≡ with_reply_row change b s
+unfolding with_second with_reply_row
+second_if change true s = refl
+second_if change false s = refl
+
+pub route_if : (found : Option (Numbered Route)) (b : Bool) (r : Route) → with_route found (cond b (Some r) None) ≡ route_change b found r
+unfolding with_route route_change
+route_if found true r = refl
+route_if found false r = refl

@@ -6,6 +6,7 @@ ghost use Rattle.lemmas.specs.Optional.{of_option};
 ghost use Rattle.plain.specs.Blank.{no_target, Padded};
 ghost use Rattle.row.specs.Meaning.{deadline_of, no_row, no_route};
 ghost use Rattle.row.specs.Record.{endless_of, until_of, request_record, reply_record, route_record};
+ghost use Rattle.row.specs.Fields.{request_in, reply_in};
 
 use plain::Target;
 
@@ -86,78 +87,98 @@ fn blanks() -> [Target; 8]
     [blank(); 8]
 }
 
+// What a request row holds. Its targets are the first `count` of an array, as there is no heap.
+#[derive(Clone, Copy)]
+pub struct RequestFields {
+    pub deadline: Option<u64>,
+    pub targets: [Target; 8],
+    pub dodagid: [u8; 16],
+    pub neighbour: [u8; 16],
+    pub rank: u16,
+    pub count: u8,
+    pub instance: u8,
+    pub seq: u8,
+    pub s: bool,
+    pub h: bool,
+    pub replied: bool,
+}
+
+// What a reply row holds. A sixth of the row's size: our own reply row is made from these where it is stored. Wide fields first, so there is
+// no padding between fields: it would be copied too, and the copy would wait for the writes beside it.
+#[derive(Clone, Copy)]
+pub struct ReplyFields {
+    pub deadline: Option<u64>,
+    pub dodagid: [u8; 16],
+    pub rank: u16,
+    pub instance: u8,
+    pub seq: u8,
+}
+
+// What a route holds, but for its deadline.
+#[derive(Clone, Copy)]
+pub struct RouteFields {
+    pub source: [u8; 16],
+    pub destination: [u8; 16],
+    pub next: [u8; 16],
+    pub instance: u8,
+    pub seq: u8,
+}
+
 // A request row, of targets that are blank past the count already.
-#[tactic(auto, using(lemmas::proofs::Cases::cases, crate::proofs::Laws::length_count, crate::proofs::Laws::padded_whole), unfolding(crate::specs::Record::request_record))]
-pub fn padded_request_row(
-    instance: u8,
-    dodagid: [u8; 16],
-    seq: u8,
-    s: bool,
-    h: bool,
-    rank: u16,
-    neighbour: [u8; 16],
-    count: u8,
-    targets: [Target; 8],
-    replied: bool,
-    deadline: Option<u64>,
-) -> InstanceRow
-    requires { (count ≤ 8) × Padded count targets }
-    ensures { result ≡ request_record (record { instance = instance; dodagid = dodagid; seq = seq; s = s; h = h; rank = rank; neighbour = neighbour; targets = take count targets; replied = replied; deadline = of_option deadline }) }
+#[tactic(auto, using(lemmas::proofs::Cases::cases, crate::proofs::Laws::length_count, crate::proofs::Laws::padded_whole), unfolding(crate::specs::Record::request_record, crate::specs::Fields::request_in))]
+pub fn padded_request_row(f: RequestFields) -> InstanceRow
+    requires { (f.count ≤ 8) × Padded f.count f.targets }
+    ensures { result ≡ request_record (request_in f) }
 {
+    // an array goes into a struct from a variable alone: the borrow checker covers no other form; so below too
+    let dodagid = f.dodagid;
+    let neighbour = f.neighbour;
+    let targets = f.targets;
     InstanceRow {
         kind: 1,
-        instance,
-        seq,
-        s: flag::bit(s),
-        h: flag::bit(h),
-        replied: flag::bit(replied),
-        endless: endless(deadline),
-        count,
-        rank,
+        instance: f.instance,
+        seq: f.seq,
+        s: flag::bit(f.s),
+        h: flag::bit(f.h),
+        replied: flag::bit(f.replied),
+        endless: endless(f.deadline),
+        count: f.count,
+        rank: f.rank,
         dodagid,
         neighbour,
         targets,
-        deadline: until(deadline),
+        deadline: until(f.deadline),
     }
 }
 
-#[tactic(auto, using(lemmas::proofs::Cases::cases), unfolding(crate::specs::Record::reply_record))]
-pub fn reply_row(
-    instance: u8,
-    dodagid: [u8; 16],
-    seq: u8,
-    rank: u16,
-    deadline: Option<u64>,
-) -> InstanceRow
-    ensures { result ≡ reply_record (record { instance = instance; dodagid = dodagid; seq = seq; rank = rank; deadline = of_option deadline }) }
+#[tactic(auto, using(lemmas::proofs::Cases::cases), unfolding(crate::specs::Record::reply_record, crate::specs::Fields::reply_in))]
+pub fn reply_row(f: ReplyFields) -> InstanceRow
+    ensures { result ≡ reply_record (reply_in f) }
 {
+    let dodagid = f.dodagid;
     InstanceRow {
         kind: 2,
-        instance,
-        seq,
-        endless: endless(deadline),
-        rank,
+        instance: f.instance,
+        seq: f.seq,
+        endless: endless(f.deadline),
+        rank: f.rank,
         dodagid,
-        deadline: until(deadline),
+        deadline: until(f.deadline),
         ..no_row()
     }
 }
 
 #[tactic(auto, using(lemmas::proofs::Cases::cases), unfolding(crate::specs::Record::route_record))]
-pub fn route_row(
-    source: [u8; 16],
-    destination: [u8; 16],
-    instance: u8,
-    next: [u8; 16],
-    seq: u8,
-    deadline: Option<u64>,
-) -> RouteRow
-    ensures { result ≡ route_record (record { source = source; destination = destination; instance = instance; next_hop = next; seq = seq; deadline = of_option deadline }) }
+pub fn route_row(f: RouteFields, deadline: Option<u64>) -> RouteRow
+    ensures { result ≡ route_record (record { source = f.source; destination = f.destination; instance = f.instance; next_hop = f.next; seq = f.seq; deadline = of_option deadline }) }
 {
+    let source = f.source;
+    let destination = f.destination;
+    let next = f.next;
     RouteRow {
         kind: 1,
-        instance,
-        seq,
+        instance: f.instance,
+        seq: f.seq,
         endless: endless(deadline),
         source,
         destination,

@@ -16,7 +16,7 @@ ghost use Rattle.own.specs.Settings.{settings_of};
 use message::{Found, Parsed};
 use own::Own;
 use plain::{Base, Standing};
-use row::{InstanceRow, RouteRow};
+use row::{InstanceRow, RouteFields, RouteRow};
 
 // ---- what is asked
 
@@ -69,22 +69,14 @@ pub fn kept_deadline(
     deadline::of_l(t, l)
 }
 
-// The route of a message that came from `next`.
+// A route of a message, with the deadline of its Configuration.
 #[tactic(auto, using(lemmas::proofs::Cases::cases), unfolding(plain::specs::Request::route_row))]
-pub fn route(
-    t: u64,
-    source: [u8; 16],
-    destination: [u8; 16],
-    instance: u8,
-    next: [u8; 16],
-    seq: u8,
-    configuration: Option<[u8; 14]>,
-) -> RouteRow
+pub fn route(t: u64, f: RouteFields, configuration: Option<[u8; 14]>) -> RouteRow
     requires { t ≤ 2 ^ 40 }
-    ensures { result ≡ route_record (route_row t source destination instance next seq (of_option configuration)) }
+    ensures { result ≡ route_record (route_row t f.source f.destination f.instance f.next f.seq (of_option configuration)) }
 {
     let end = deadline::of_lifetime(t, configuration);
-    row::route_row(source, destination, instance, next, seq, end)
+    row::route_row(f, end)
 }
 
 #[tactic(auto, using(lemmas::proofs::Cases::cases), unfolding(plain::specs::Request::with_rank))]

@@ -15,7 +15,7 @@ ghost use Rattle.start.specs.Start.{start_of};
 
 use decision::Decided;
 use own::Own;
-use row::InstanceRow;
+use row::{InstanceRow, RequestFields};
 use start::Asking;
 use targets::Targets;
 
@@ -25,20 +25,23 @@ fn start_row(o: Own, seq: u8, t: u64, s: Asking, ts: Targets) -> InstanceRow
     requires { (t ≤ 2 ^ 40) × (ts.count ≤ 8) × Padded ts.count ts.list }
     ensures { result ≡ request_record (start_row (settings_of o) t seq (start_of s []) (list_of ts)) }
 {
-    let end = deadline::of_l(t, s.l);
-    row::padded_request_row(
-        s.instance,
-        o.receiving,
+    // an array goes into a struct from a variable alone: the borrow checker covers no other form
+    let dodagid = o.receiving;
+    let targets = ts.list;
+    row::padded_request_row(RequestFields {
+        deadline: deadline::of_l(t, s.l),
+        targets,
+        dodagid,
+        neighbour: [0; 16],
+        rank: 256,
+        // a usize has no From into an octet; `try_from` would bring a refusal that cannot happen
+        count: ts.count as u8,
+        instance: s.instance,
         seq,
-        true,
-        s.h,
-        256,
-        [0; 16],
-        ts.count as u8,
-        ts.list,
-        false,
-        end,
-    )
+        s: true,
+        h: s.h,
+        replied: false,
+    })
 }
 
 // What a start that is answered 0 stores. It stores no route, and no reply row.
@@ -48,15 +51,10 @@ pub fn accepted(o: Own, seq: u8, t: u64, s: Asking, ts: Targets) -> Decided
     ensures { (targets : List plain.Target) → Stores {B = rules.RequestRow} (accept_start (settings_of o) seq t (start_of s targets) (list_of ts)) none none result }
 {
     let next = rolling::step(seq);
-    let row = start_row(o, next, t, s, ts);
-    let none = decision::no_reply();
-    let route = row::no_route();
     Decided {
-        row,
-        replies: false,
-        second: none,
-        routed: false,
-        route,
+        row: start_row(o, next, t, s, ts),
+        second: None,
+        route: None,
         seq: next,
     }
 }

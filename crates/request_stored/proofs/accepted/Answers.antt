@@ -1,4 +1,3 @@
-use mathlib.Core.Path.{refl}
 use Rattle.own.specs.Settings.{settings_of}
 use Rattle.request_stored.proofs.Accept.{accepted_is}
 use Rattle.request_stored.proofs.accepted.Goals as goal
@@ -8,7 +7,6 @@ returns c =
     λ v.
     let s = c.args in
     accepted_is (settings_of s.o) s.seq s.t s.k s.p s.a _ c.step-next.result
-    c.delta_or_0-delta.result c.step-next.ensures
-    c.delta_or_0-delta.ensures c.request_row-row.ensures
-    c.replies_now-replies.ensures c.reply_fields-second.ensures refl c.route_to-route.ensures
-    c.seq_after.ensures v
+    c.delta_or_0-delta.result c.replies_now-replies.result c.step-next.ensures
+    c.delta_or_0-delta.ensures c.replies_now-replies.ensures c.request_row-row.ensures
+    c.second-second.ensures c.route_to-route.ensures c.seq_after.ensures v

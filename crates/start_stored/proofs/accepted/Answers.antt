@@ -8,5 +8,5 @@ returns c =
     λ targets.
     let a = c.args in
     let n = c.step-next in
-    stored_is (settings_of a.o) a.seq n.result a.t a.s a.ts _ n.ensures c.start_row-row.ensures refl refl refl
+    stored_is (settings_of a.o) a.seq n.result a.t a.s a.ts _ n.ensures c.start_row.ensures refl refl refl
     targets
