@@ -8,6 +8,7 @@ ghost use Rattle.outcome.specs.Nothing.{nothing_sent};
 ghost use Rattle.called.specs.Calls.{Asked, Promised};
 
 use answer::Answer;
+use finish::Call;
 use message::Link;
 use outcome::Outcome;
 use own::Own;
@@ -65,16 +66,18 @@ pub fn message(
     if own::is_ours(o, r.base.dodagid) {
         return outcome::refused(Answer::OwnDodagid, clock, seq);
     }
+    let call = Call {
+        own: o,
+        clock,
+        time: t,
+        seq,
+    };
     let p = heard::parsed(r);
     let v = heard::vector_of(octets, r);
     if heard::is_reply(r) {
-        return reply_taken::take_reply(
-            instances, routes, forward, reply, o, clock, seq, t, k, &p, &v,
-        );
+        return reply_taken::take_reply(instances, routes, forward, reply, call, k, &p, &v);
     }
-    request_taken::take_request(
-        instances, routes, forward, reply, o, clock, seq, t, k, &p, &v,
-    )
+    request_taken::take_request(instances, routes, forward, reply, call, k, &p, &v)
 }
 
 // The start of our own discovery, with any number of targets.
@@ -114,7 +117,11 @@ pub fn start(
     if wrong_state::is_wrong(instances, routes, clock, seq) {
         return outcome::refused(wrong_state::wrong_state(), clock, seq);
     }
-    start_taken::take_start(
-        instances, routes, forward, reply, o, clock, seq, t, s, g.targets,
-    )
+    let call = Call {
+        own: o,
+        clock,
+        time: t,
+        seq,
+    };
+    start_taken::take_start(instances, routes, forward, reply, call, s, g.targets)
 }

@@ -16,6 +16,17 @@ use own::Own;
 use place::{Places, RoutePlace};
 use row::{InstanceRow, RouteRow};
 
+// What a call is handed by value, whatever it is about: our settings, the clock, our number and the call's time. The tables and buffers that it
+// is lent stay apart: in a struct of references they prove here, but not in request_taken, where a field is searched before the struct goes on
+// ("a bug in rattle and not in your code"), and a clause would name what they end as by place (`lent.exit.1.1.0.now`).
+#[derive(Clone, Copy)]
+pub struct Call {
+    pub own: Own,
+    pub clock: u64,
+    pub time: u64,
+    pub seq: u8,
+}
+
 // The records at their places. Most calls store no reply row, and the record of one is made here.
 fn store(
     instances: &mut [InstanceRow],
@@ -42,29 +53,26 @@ pub fn finish(
     routes: &mut [RouteRow],
     forward: &mut [u8],
     reply: &mut [u8],
-    o: Own,
-    clock: u64,
-    seq: u8,
-    t: u64,
+    call: Call,
     vector: &[[u8; 16]; 16],
     d: &Decided,
     there: &Post,
     back: &Post,
     l: Live,
 ) -> Outcome
-    requires { Ready (settings_of o) t instances.old routes.old forward.old reply.old vector.now there.now back.now l }
-    ensures { (acc : Accepted) → Settled (settings_of o) vector.now acc l d.now there.now back.now → Gives (enact t (state_of clock seq instances.old routes.old) (take acc)) instances.old instances.new routes.old routes.new forward.old forward.new reply.old reply.new result }
+    requires { Ready (settings_of call.own) call.time instances.old routes.old forward.old reply.old vector.now there.now back.now l }
+    ensures { (acc : Accepted) → Settled (settings_of call.own) vector.now acc l d.now there.now back.now → Gives (enact call.time (state_of call.clock call.seq instances.old routes.old) (take acc)) instances.old instances.new routes.old routes.new forward.old forward.new reply.old reply.new result }
 {
     let places = (
-        place::place_rows(instances, t, l.row, d.second.is_some()),
-        place::place_route(routes, t, d.route.is_some(), l.route),
+        place::place_rows(instances, call.time, l.row, d.second.is_some()),
+        place::place_route(routes, call.time, d.route.is_some(), l.route),
     );
     let (Some(p), Some(q)) = places else {
-        return outcome::without_room(clock, seq);
+        return outcome::without_room(call.clock, call.seq);
     };
-    let n = post::put_post(forward, &o, there, vector);
-    let m = post::put_post(reply, &o, back, vector);
+    let n = post::put_post(forward, &call.own, there, vector);
+    let m = post::put_post(reply, &call.own, back, vector);
     // last: what is stored was made just before, and a copy of it would wait
     store(instances, routes, p, q, d);
-    outcome::accepted(d.seq, there.to, back.to, t, n, m)
+    outcome::accepted(d.seq, there.to, back.to, call.time, n, m)
 }

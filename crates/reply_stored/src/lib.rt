@@ -16,7 +16,7 @@ use message::{Link, Parsed};
 use reply::ReplyFacts;
 use row::{InstanceRow, ReplyFields, RouteFields, RouteRow};
 
-// An update keeps the row's deadline. The rank has 16 bits: `try_from` would bring a refusal that no call meets.
+// Its row. An update keeps the deadline of the row that stood there.
 #[tactic(auto, using(lemmas::proofs::Cases::cases), unfolding(plain::specs::Reply::reply_row, row::specs::Fields::reply_in, reply::specs::Facts::answered_of, message::specs::Message::message_in))]
 fn reply_row(t: u64, p: Parsed, w: ReplyFacts) -> InstanceRow
     requires { (t ≤ 2 ^ 40) × (w.rank ≤ 65535) }
@@ -27,13 +27,14 @@ fn reply_row(t: u64, p: Parsed, w: ReplyFacts) -> InstanceRow
     row::reply_row(ReplyFields {
         deadline: rule::kept_deadline(t, p.discovery.l, w.standing, w.found),
         dodagid,
+        // it has 16 bits: `try_from` would bring a refusal that no call meets
         rank: w.rank as u16,
         instance: p.base.instance,
         seq: pairing::dest_seq(p),
     })
 }
 
-// The route to TargNode, under the partner's number, which has a name for the proof.
+// The route to TargNode, under the partner's number.
 #[tactic(auto, using(lemmas::proofs::Cases::cases), unfolding(crate::specs::Made::reply_route, message::specs::Message::message_in))]
 fn route(t: u64, k: Link, p: Parsed) -> RouteRow
     requires { t ≤ 2 ^ 40 }
@@ -42,12 +43,11 @@ fn route(t: u64, k: Link, p: Parsed) -> RouteRow
     let source = pairing::orig_node(p);
     let destination = p.base.dodagid;
     let next = k.neighbour;
-    let number = pairing::partner_number(p);
     let fields = RouteFields {
         source,
         destination,
         next,
-        instance: number,
+        instance: pairing::partner_number(p),
         seq: pairing::dest_seq(p),
     };
     rule::route(t, fields, p.configuration)

@@ -10,9 +10,9 @@ ghost use Rattle.finish.specs.Gives.{state_of, Gives};
 ghost use Rattle.reply_taken.specs.Decision.{reply_decision};
 
 use answer::Answer;
+use finish::Call;
 use message::{Link, Parsed};
 use outcome::Outcome;
-use own::Own;
 use row::{InstanceRow, RouteRow};
 
 // What a reply that was heard comes to, from 8 on.
@@ -22,35 +22,33 @@ pub fn take_reply(
     routes: &mut [RouteRow],
     forward: &mut [u8],
     reply: &mut [u8],
-    o: Own,
-    clock: u64,
-    seq: u8,
-    t: u64,
+    call: Call,
     k: Link,
     p: &Parsed,
     vector: &[[u8; 16]; 16],
 ) -> Outcome
-    requires { Taken clock t instances.old forward.old reply.old p.now }
-    ensures { Gives (enact t (state_of clock seq instances.old routes.old) (reply_decision (settings_of o) (state_of clock seq instances.old routes.old) t (received_by k []) (message_in p.now vector.now))) instances.old instances.new routes.old routes.new forward.old forward.new reply.old reply.new result }
+    requires { Taken call.clock call.time instances.old forward.old reply.old p.now }
+    ensures { Gives (enact call.time (state_of call.clock call.seq instances.old routes.old) (reply_decision (settings_of call.own) (state_of call.clock call.seq instances.old routes.old) call.time (received_by k []) (message_in p.now vector.now))) instances.old instances.new routes.old routes.new forward.old forward.new reply.old reply.new result }
 {
     addresses::whole(vector);
     let number = pairing::partner_number(*p);
     let orig = pairing::orig_node(*p);
-    let Some(partner) = search::search_partner(instances, t, number, orig, p.discovery.h) else {
-        return outcome::refused(Answer::NoPartner, clock, seq);
+    let Some(partner) = search::search_partner(instances, call.time, number, orig, p.discovery.h)
+    else {
+        return outcome::refused(Answer::NoPartner, call.clock, call.seq);
     };
-    let f = search::search_reply(instances, t, p.base.instance, p.base.dodagid);
-    let g = search_route::search_route(routes, t, orig, p.base.dodagid, number);
-    let a = reply::gather(o, k, *p, partner.row, f, g);
-    let answer = reply_answer::judge(o, k, *p, vector, a);
+    let f = search::search_reply(instances, call.time, p.base.instance, p.base.dodagid);
+    let g = search_route::search_route(routes, call.time, orig, p.base.dodagid, number);
+    let a = reply::gather(call.own, k, *p, partner.row, f, g);
+    let answer = reply_answer::judge(call.own, k, *p, vector, a);
     if answer != Answer::Done {
-        return outcome::refused(answer, clock, seq);
+        return outcome::refused(answer, call.clock, call.seq);
     }
-    let d = reply_stored::accepted(seq, t, k, *p, a);
-    let there = reply_sent::forward_post(o, *p, vector, a);
+    let d = reply_stored::accepted(call.seq, call.time, k, *p, a);
+    let there = reply_sent::forward_post(call.own, *p, vector, a);
     let back = decision::no_post();
     let l = message::live_of(f, g);
     finish::finish(
-        instances, routes, forward, reply, o, clock, seq, t, vector, &d, &there, &back, l,
+        instances, routes, forward, reply, call, vector, &d, &there, &back, l,
     )
 }

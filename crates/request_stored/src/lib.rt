@@ -20,7 +20,7 @@ use row::{InstanceRow, ReplyFields, RequestFields, RouteFields, RouteRow};
 
 // ---- The request row
 
-// The request row. Its rank and count fit by what is required: `try_from` would bring a refusal that cannot happen.
+// The request row.
 #[tactic(auto, using(lemmas::proofs::Cases::cases, crate::proofs::Made::request_is))]
 fn request_row(t: u64, k: Link, p: Parsed, a: RequestFacts) -> InstanceRow
     requires t_bound { t ≤ 2 ^ 40 }
@@ -36,6 +36,7 @@ fn request_row(t: u64, k: Link, p: Parsed, a: RequestFacts) -> InstanceRow
         targets,
         dodagid,
         neighbour,
+        // rank and count fit by what is required: `try_from` would bring a refusal that cannot happen
         rank: a.rank as u16,
         count: a.targets.count as u8,
         instance: p.base.instance,
@@ -116,13 +117,10 @@ pub fn accepted(o: Own, seq: u8, t: u64, k: Link, p: Parsed, a: RequestFacts) ->
     let next = rolling::step(seq);
     let delta = message::delta_or_0(a.delta);
     let replies = request::replies_now(a);
-    let row = request_row(t, k, p, a);
-    let second = second(o, t, next, p, delta, replies);
-    let route = route_to(o, t, k, p);
     Decided {
-        row,
-        second,
-        route,
+        row: request_row(t, k, p, a),
+        second: second(o, t, next, p, delta, replies),
+        route: route_to(o, t, k, p),
         seq: seq_after(replies, next, seq),
     }
 }

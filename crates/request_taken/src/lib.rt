@@ -10,9 +10,9 @@ ghost use Rattle.finish.specs.Gives.{state_of, Gives};
 ghost use Rattle.request_taken.specs.Decision.{request_decision};
 
 use answer::Answer;
+use finish::Call;
 use message::{Link, Parsed};
 use outcome::Outcome;
-use own::Own;
 use row::{InstanceRow, RouteRow};
 
 // What a request that was heard comes to, from 9 on.
@@ -22,32 +22,41 @@ pub fn take_request(
     routes: &mut [RouteRow],
     forward: &mut [u8],
     reply: &mut [u8],
-    o: Own,
-    clock: u64,
-    seq: u8,
-    t: u64,
+    call: Call,
     k: Link,
     p: &Parsed,
     vector: &[[u8; 16]; 16],
 ) -> Outcome
-    requires { Taken clock t instances.old forward.old reply.old p.now }
-    ensures { Gives (enact t (state_of clock seq instances.old routes.old) (request_decision (settings_of o) (state_of clock seq instances.old routes.old) t (received_by k []) (message_in p.now vector.now))) instances.old instances.new routes.old routes.new forward.old forward.new reply.old reply.new result }
+    requires { Taken call.clock call.time instances.old forward.old reply.old p.now }
+    ensures { Gives (enact call.time (state_of call.clock call.seq instances.old routes.old) (request_decision (settings_of call.own) (state_of call.clock call.seq instances.old routes.old) call.time (received_by k []) (message_in p.now vector.now))) instances.old instances.new routes.old routes.new forward.old forward.new reply.old reply.new result }
 {
     addresses::whole(vector);
-    let f = search::search_request(instances, t, p.base.instance, p.base.dodagid);
-    let g = search_route::search_route(routes, t, o.receiving, p.base.dodagid, p.base.instance);
-    let targ = targ_node::is_targ_node(o, *p);
-    let free = delta::free_delta_if(targ, instances, t, p.base.instance, o.receiving);
-    let a = request::gather(o, k, *p, targ, f, g, free);
-    let answer = request_answer::judge(o, k, *p, vector, a);
+    let f = search::search_request(instances, call.time, p.base.instance, p.base.dodagid);
+    let g = search_route::search_route(
+        routes,
+        call.time,
+        call.own.receiving,
+        p.base.dodagid,
+        p.base.instance,
+    );
+    let targ = targ_node::is_targ_node(call.own, *p);
+    let free = delta::free_delta_if(
+        targ,
+        instances,
+        call.time,
+        p.base.instance,
+        call.own.receiving,
+    );
+    let a = request::gather(call.own, k, *p, targ, f, g, free);
+    let answer = request_answer::judge(call.own, k, *p, vector, a);
     if answer != Answer::Done {
-        return outcome::refused(answer, clock, seq);
+        return outcome::refused(answer, call.clock, call.seq);
     }
-    let d = request_stored::accepted(o, seq, t, k, *p, a);
+    let d = request_stored::accepted(call.own, call.seq, call.time, k, *p, a);
     let there = request_forwarded::forward_post(k, *p, a);
-    let back = request_replied::reply_post(o, k, *p, a, seq);
+    let back = request_replied::reply_post(call.own, k, *p, a, call.seq);
     let l = message::live_of(f, g);
     finish::finish(
-        instances, routes, forward, reply, o, clock, seq, t, vector, &d, &there, &back, l,
+        instances, routes, forward, reply, call, vector, &d, &there, &back, l,
     )
 }

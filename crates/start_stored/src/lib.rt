@@ -34,7 +34,7 @@ fn start_row(o: Own, seq: u8, t: u64, s: Asking, ts: Targets) -> InstanceRow
         dodagid,
         neighbour: [0; 16],
         rank: 256,
-        // a usize has no From into an octet; `try_from` would bring a refusal that cannot happen
+        // it is at most 8 by what is required: `try_from` would bring a refusal that cannot happen
         count: ts.count as u8,
         instance: s.instance,
         seq,

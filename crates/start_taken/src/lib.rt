@@ -12,9 +12,9 @@ ghost use Rattle.finish.specs.Gives.{state_of, Gives};
 ghost use Rattle.start_taken.specs.Taken.{TakenStart, start_decision};
 
 use answer::Answer;
+use finish::Call;
 use message::Live;
 use outcome::Outcome;
-use own::Own;
 use row::{InstanceRow, RouteRow};
 use start::Asking;
 use targets::Targets;
@@ -43,23 +43,20 @@ pub fn take_start(
     routes: &mut [RouteRow],
     forward: &mut [u8],
     reply: &mut [u8],
-    o: Own,
-    clock: u64,
-    seq: u8,
-    t: u64,
+    call: Call,
     s: Asking,
     ts: Targets,
 ) -> Outcome
-    requires { TakenStart clock t forward.old reply.old s ts }
-    ensures { (targets : List plain.Target) → Gives (enact t (state_of clock seq instances.old routes.old) (start_decision (settings_of o) (state_of clock seq instances.old routes.old) t (start_of s targets) (list_of ts))) instances.old instances.new routes.old routes.new forward.old forward.new reply.old reply.new result }
+    requires { TakenStart call.clock call.time forward.old reply.old s ts }
+    ensures { (targets : List plain.Target) → Gives (enact call.time (state_of call.clock call.seq instances.old routes.old) (start_decision (settings_of call.own) (state_of call.clock call.seq instances.old routes.old) call.time (start_of s targets) (list_of ts))) instances.old instances.new routes.old routes.new forward.old forward.new reply.old reply.new result }
 {
-    let taken = search::has_request(instances, t, s.instance, o.receiving);
-    let answer = start::judge(o, s, taken);
+    let taken = search::has_request(instances, call.time, s.instance, call.own.receiving);
+    let answer = start::judge(call.own, s, taken);
     if answer != Answer::Done {
-        return outcome::refused(answer, clock, seq);
+        return outcome::refused(answer, call.clock, call.seq);
     }
-    let d = start_stored::accepted(o, seq, t, s, ts);
-    let there = start_sent::start_post(o, seq, s, ts);
+    let d = start_stored::accepted(call.own, call.seq, call.time, s, ts);
+    let there = start_sent::start_post(call.own, call.seq, s, ts);
     let back = decision::no_post();
     let vector = no_vector();
     finish::finish(
@@ -67,10 +64,7 @@ pub fn take_start(
         routes,
         forward,
         reply,
-        o,
-        clock,
-        seq,
-        t,
+        call,
         &vector,
         &d,
         &there,

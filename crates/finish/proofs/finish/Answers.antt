@@ -13,8 +13,8 @@ returns-in_default c =
     let second = c.is_some in
     let route = c.is_some-2 in
     elim c.in_default.branch [
-      | in_default-via-in-Some+in_default w ↦ no_route_gives a.clock a.seq a.t a.instances.now a.routes.now a.forward.now a.reply.now (settings_of a.o) a.vector.now acc a.l a.d.now a.there.now a.back.now s c.without_room.result second.result second.ensures p.result p.ensures route.result route.ensures q.result q.ensures (search rules) c.without_room.ensures
-      | in_default-via-in_default w ↦ no_row_gives a.clock a.seq a.t a.instances.now a.routes.now a.forward.now a.reply.now (settings_of a.o) a.vector.now acc a.l a.d.now a.there.now a.back.now s c.without_room.result second.result second.ensures p.result p.ensures (search rules) c.without_room.ensures
+      | in_default-via-in-Some+in_default w ↦ no_route_gives a.call.clock a.call.seq a.call.time a.instances.now a.routes.now a.forward.now a.reply.now (settings_of a.call.own) a.vector.now acc a.l a.d.now a.there.now a.back.now s c.without_room.result second.result second.ensures p.result p.ensures route.result route.ensures q.result q.ensures (search rules) c.without_room.ensures
+      | in_default-via-in_default w ↦ no_row_gives a.call.clock a.call.seq a.call.time a.instances.now a.routes.now a.forward.now a.reply.now (settings_of a.call.own) a.vector.now acc a.l a.d.now a.there.now a.back.now s c.without_room.result second.result second.ensures p.result p.ensures (search rules) c.without_room.ensures
     ]
 
 pub returns : goal.returns
@@ -28,5 +28,5 @@ returns c =
     let m = c.put_post-m in
     let second = c.is_some in
     let route = c.is_some-2 in
-    done_gives a.clock a.seq a.t a.instances.now a.routes.now a.forward.now a.reply.now (settings_of a.o) a.vector.now acc a.l a.d.now a.there.now a.back.now s c.accepted.result second.result second.ensures p.result p.ensures route.result route.ensures q.result q.ensures k.p k.q k.is-0 k.is-1 _ _ _ _ n.result m.result
+    done_gives a.call.clock a.call.seq a.call.time a.instances.now a.routes.now a.forward.now a.reply.now (settings_of a.call.own) a.vector.now acc a.l a.d.now a.there.now a.back.now s c.accepted.result second.result second.ensures p.result p.ensures route.result route.ensures q.result q.ensures k.p k.q k.is-0 k.is-1 _ _ _ _ n.result m.result
     c.store.ensures.instances c.store.ensures.routes n.ensures m.ensures c.accepted.ensures

@@ -24,9 +24,9 @@ use Rattle.reply_taken.proofs.take_reply.Goals as goal
 
 -- when the facts are gathered
 known : (c : After-gather-a)
-    → Known c.args.clock c.args.seq
-    c.args.t c.args.instances.now
-    c.args.routes.now c.args.o
+    → Known c.args.call.clock c.args.call.seq
+    c.args.call.time c.args.instances.now
+    c.args.routes.now c.args.call.own
     c.args.k c.args.p.now
     c.args.vector.now c.search_reply-f.result
     c.search_route-g.result c.in-Some.partner.row c.gather-a.result
@@ -43,12 +43,12 @@ known c =
     record {
       gathered = c.gather-a.ensures vector;
       found =
-          answered_is a.clock a.seq a.t rows routes a.o a.k a.p.now vector number.result orig.result (number.ensures vector)
-          (orig.ensures vector) w.result (w.ensures a.clock c.requires.later) f.result g.result
-          (f.ensures.found a.clock c.requires.later) (g.ensures.found a.clock c.requires.later);
+          answered_is a.call.clock a.call.seq a.call.time rows routes a.call.own a.k a.p.now vector number.result orig.result (number.ensures vector)
+          (orig.ensures vector) w.result (w.ensures a.call.clock c.requires.later) f.result g.result
+          (f.ensures.found a.call.clock c.requires.later) (g.ensures.found a.call.clock c.requires.later);
       decided =
-          reply_is a.clock a.seq a.t rows routes a.o a.k a.p.now vector number.result orig.result (number.ensures vector)
-          (orig.ensures vector) w.result (w.ensures a.clock c.requires.later) c.in-Some.partner c.in-Some.is;
+          reply_is a.call.clock a.call.seq a.call.time rows routes a.call.own a.k a.p.now vector number.result orig.result (number.ensures vector)
+          (orig.ensures vector) w.result (w.ensures a.call.clock c.requires.later) c.in-Some.partner c.in-Some.is;
     }
 
 -- and where the answer is 0, or is not
@@ -58,7 +58,7 @@ done c = search (rules, c.ne.ensures, c.if-ne.false)
 not_done : (c : Then-ne) → answer_number c.judge-answer.result ≡ 0 → ⊥
 not_done c e = search (rules, c.ne.ensures, c.if-ne.true, e)
 
-zero : (c : Else-ne) (h : Known c.args.clock c.args.seq c.args.t c.args.instances.now c.args.routes.now c.args.o c.args.k c.args.p.now c.args.vector.now c.search_reply-f.result
+zero : (c : Else-ne) (h : Known c.args.call.clock c.args.call.seq c.args.call.time c.args.instances.now c.args.routes.now c.args.call.own c.args.k c.args.p.now c.args.vector.now c.search_reply-f.result
     c.search_route-g.result c.in-Some.partner.row c.gather-a.result) → answer_of (lines h (answered_of c.gather-a.result)) ≡ 0
 zero c h = sym c.judge-answer.ensures ∙ done c
 
@@ -77,16 +77,16 @@ returns-in_default c =
     let number = c.partner_number-number in
     let orig = c.orig_node-orig in
     let w = c.search_partner in
-    rw (no_partner_is a.clock a.seq a.t rows routes a.o a.k a.p.now vector number.result orig.result (number.ensures vector)
-    (orig.ensures vector) w.result (w.ensures a.clock c.requires.later) c.in_default.is)
-    (refused_gives a.clock a.seq a.t rows routes a.forward.now a.reply.now 8 (idle (view_of (state_of a.clock a.seq rows routes))) _
+    rw (no_partner_is a.call.clock a.call.seq a.call.time rows routes a.call.own a.k a.p.now vector number.result orig.result (number.ensures vector)
+    (orig.ensures vector) w.result (w.ensures a.call.clock c.requires.later) c.in_default.is)
+    (refused_gives a.call.clock a.call.seq a.call.time rows routes a.forward.now a.reply.now 8 (idle (view_of (state_of a.call.clock a.call.seq rows routes))) _
     c.refused.result refl (λ z. absurd (omega arith)) c.refused.ensures)
 
 pub returns-then-ne : goal.returns-then-ne
 returns-then-ne c =
     let a = c.args in
     let h = known (goal.at.returns-then-ne c).After-gather-a in
-    refused (lines h) (accept h) (answered_of c.gather-a.result) (asking h) h.gathered.means _ (reply_decided h) a.clock a.seq a.t
+    refused (lines h) (accept h) (answered_of c.gather-a.result) (asking h) h.gathered.means _ (reply_decided h) a.call.clock a.call.seq a.call.time
     a.instances.now a.routes.now a.forward.now a.reply.now c.judge-answer.result (answer_number c.judge-answer.result)
     c.refused-then-ne.result c.judge-answer.ensures refl (not_done (goal.at.returns-then-ne c).Then-ne) c.refused-then-ne.ensures
 
@@ -110,10 +110,10 @@ finish-requires c =
     let there = c.forward_post-there in
     let back = c.no_post-back in
     let l = c.live_of-l in
-    ready f.result g.result l.result l.ensures (settings_of a.o) a.t a.instances.now a.routes.now
+    ready f.result g.result l.result l.ensures (settings_of a.call.own) a.call.time a.instances.now a.routes.now
     a.forward.now a.reply.now vector there.result back.result f.ensures.here.within f.ensures.here.lives
     g.ensures.here.within g.ensures.here.lives c.requires.forward_room c.requires.reply_room
-    v.ensures.0 there.ensures.fits (quiet (goal.at.finish-requires c).After-no_post-back (settings_of a.o) vector).fits
+    v.ensures.0 there.ensures.fits (quiet (goal.at.finish-requires c).After-no_post-back (settings_of a.call.own) vector).fits
 
 pub returns : goal.returns
 returns c =
@@ -126,5 +126,5 @@ returns c =
     let l = c.live_of-l in
     rw (taken (lines h) (accept h) (answered_of c.gather-a.result) (asking h) h.gathered.means _ (reply_decided h) (zero (goal.at.returns c).Else-ne (known (goal.at.returns c).After-gather-a)))
     (c.finish.ensures _
-    (reply_settled h l.result l.ensures d.result there.result back.result (d.ensures (settings_of a.o) vector) there.ensures
-    (quiet (goal.at.returns c).After-no_post-back (settings_of a.o) vector)))
+    (reply_settled h l.result l.ensures d.result there.result back.result (d.ensures (settings_of a.call.own) vector) there.ensures
+    (quiet (goal.at.returns c).After-no_post-back (settings_of a.call.own) vector)))

@@ -26,8 +26,8 @@ not_done : (c : Then-ne) → answer_number c.judge-answer.result ≡ 0 → ⊥
 not_done c e = search (rules, c.ne.ensures, c.if-ne.true, e)
 
 -- no reply of our own is written
-quiet : (c : After-no_post-back) (vector : List Address) → Posts (settings_of c.args.o) vector [] Destination.nowhere c.no_post-back.result
-quiet c vector = rw c.no_post-back.ensures (posts_nothing (settings_of c.args.o) vector)
+quiet : (c : After-no_post-back) (vector : List Address) → Posts (settings_of c.args.call.own) vector [] Destination.nowhere c.no_post-back.result
+quiet c vector = rw c.no_post-back.ensures (posts_nothing (settings_of c.args.call.own) vector)
 
 -- ---- the parts
 
@@ -40,16 +40,16 @@ returns-then-ne c =
     let routes = a.routes.now in
     let is = c.has_request-taken in
     let judge = c.judge-answer in
-    let e = judge.ensures ∙ start_answer_lem a.clock a.seq a.t rows routes a.o a.s is.result (is.ensures a.clock c.requires.later) targets in
-    refused_gives a.clock a.seq a.t rows routes a.forward.now a.reply.now _ _ judge.result c.refused.result e
+    let e = judge.ensures ∙ start_answer_lem a.call.clock a.call.seq a.call.time rows routes a.call.own a.s is.result (is.ensures a.call.clock c.requires.later) targets in
+    refused_gives a.call.clock a.call.seq a.call.time rows routes a.forward.now a.reply.now _ _ judge.result c.refused.result e
     (λ z. not_done (goal.at.returns-then-ne c).Then-ne (e ∙ z)) c.refused.ensures
 
 pub finish-requires : goal.finish-requires
 finish-requires c =
     let a = c.args in
     let there = c.start_post-there in
-    new_ready c.none_live.result c.none_live.ensures (settings_of a.o) a.t a.instances.now a.routes.now a.forward.now a.reply.now c.no_vector-vector.result there.result c.no_post-back.result
-    c.requires.forward_room c.requires.reply_room (ap length c.no_vector-vector.ensures ∙ length-replicate 16 zero_address) (there.ensures a.t _ []).fits
+    new_ready c.none_live.result c.none_live.ensures (settings_of a.call.own) a.call.time a.instances.now a.routes.now a.forward.now a.reply.now c.no_vector-vector.result there.result c.no_post-back.result
+    c.requires.forward_room c.requires.reply_room (ap length c.no_vector-vector.ensures ∙ length-replicate 16 zero_address) (there.ensures a.call.time _ []).fits
     (quiet (goal.at.finish-requires c).After-no_post-back _).fits
 
 pub returns : goal.returns
@@ -62,9 +62,9 @@ returns c =
     let is = c.has_request-taken in
     let judge = c.judge-answer in
     let zero =
-    sym (start_answer_lem a.clock a.seq a.t rows routes a.o a.s is.result (is.ensures a.clock c.requires.later) targets)
+    sym (start_answer_lem a.call.clock a.call.seq a.call.time rows routes a.call.own a.s is.result (is.ensures a.call.clock c.requires.later) targets)
     ∙ (sym judge.ensures ∙ done (goal.at.returns c).Else-ne) in
     rw (eq-eqb _ 0 zero)
     (c.finish.ensures _
-    (new_settled c.none_live.result c.none_live.ensures (settings_of a.o) c.no_vector-vector.result _ c.accepted-d.result c.start_post-there.result c.no_post-back.result
-    (c.accepted-d.ensures targets) (c.start_post-there.ensures a.t c.no_vector-vector.result targets) (quiet (goal.at.returns c).After-no_post-back _)))
+    (new_settled c.none_live.result c.none_live.ensures (settings_of a.call.own) c.no_vector-vector.result _ c.accepted-d.result c.start_post-there.result c.no_post-back.result
+    (c.accepted-d.ensures targets) (c.start_post-there.ensures a.call.time c.no_vector-vector.result targets) (quiet (goal.at.returns c).After-no_post-back _)))
