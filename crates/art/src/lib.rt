@@ -45,7 +45,7 @@ pub fn is_bad_art(body: &[u8]) -> bool
 }
 
 // The target of an ART, with spare bits 0.
-#[tactic(auto, using(lemmas::proofs::Cases::cases, lemmas::proofs::Buffer::rest_is, crate::proofs::Laws::art_size, crate::proofs::Laws::filled_up), unfolding(plain::specs::Octets::target_of))]
+#[tactic(auto, using(lemmas::proofs::Cases::cases, crate::proofs::Laws::art_size), unfolding(plain::specs::Octets::target_of))]
 pub fn read_target(body: &[u8]) -> Target
     requires { bad_art body.now ≡ false }
     ensures { result ≡ target_of body.now }

@@ -1,8 +1,7 @@
 // The answer of a received reply, by value (01, "A reply").
 #![tactic(auto)]
 
-ghost use Rattle.std.specs.Prelude.{◌≤◌, ◌≡◌, not, ◌&&◌, ◌||◌, List, []};
-ghost use Rattle.plain.specs.Address.{Address};
+ghost use Rattle.std.specs.Prelude.{◌≤◌, ◌≡◌, not, ◌&&◌, ◌||◌, []};
 ghost use Rattle.plain.specs.Answers.{answer_of};
 ghost use Rattle.plain.specs.Rank.{min_hop, rank_refused};
 ghost use Rattle.plain.specs.Request.{is_stale, route_stale};
@@ -42,7 +41,7 @@ fn is_link_bad(k: Link, w: ReplyFacts) -> bool
 // Answer 12, for an asymmetric reply.
 #[tactic(auto, using(lemmas::proofs::Cases::cases), unfolding(message::specs::Message::message_in))]
 fn is_rank_refused(k: Link, p: Parsed, w: ReplyFacts) -> bool
-    ensures { (v : List Address) → result ≡ not w.symmetric && rank_refused (min_hop (message_in p v).configuration) p.base.rank k.increase p.discovery.limit w.orig }
+    ensures { result ≡ not w.symmetric && rank_refused (min_hop (message_in p []).configuration) p.base.rank k.increase p.discovery.limit w.orig }
 {
     !w.symmetric
         && rank::is_refused(
@@ -57,7 +56,7 @@ fn is_rank_refused(k: Link, p: Parsed, w: ReplyFacts) -> bool
 // Answer 13.
 #[tactic(auto, using(lemmas::proofs::Cases::cases))]
 fn is_stale(p: Parsed, w: ReplyFacts) -> bool
-    ensures { (v : List Address) → result ≡ is_stale w.standing || route_stale p.discovery.h (route_found w.route) (dest_seq (message_in p v)) }
+    ensures { result ≡ is_stale w.standing || route_stale p.discovery.h (route_found w.route) (dest_seq (message_in p [])) }
 {
     standing::is_stale(w.standing)
         || rule::is_route_stale(p.discovery.h, w.route, pairing::dest_seq(p))
