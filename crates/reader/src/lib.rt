@@ -23,7 +23,7 @@ pub enum Refusal {
 }
 
 // A message in its octets. The vector's octets are the `size` octets of the message from `at` on, and the targets the first `count` of
-// `targets`.
+// `targets`, which is an array, as there is no heap.
 #[derive(Clone, Copy)]
 pub struct Reading {
     pub base: Base,

@@ -24,7 +24,7 @@ pub struct InstanceRow {
     pub replied: u8,
     // not 0: the row has no deadline
     pub endless: u8,
-    // how many of the targets are the row's
+    // how many of the targets are the row's: C's struct has an array and a count
     pub count: u8,
     pub rank: u16,
     pub dodagid: [u8; 16],
