@@ -21,7 +21,7 @@ pub fn read_targets(msg: &[u8]) -> Targets
     for _ in 0..msg.len() {
         match option::next_option(msg, at) {
             Next::Pad => {
-                at = at + 1;
+                at += 1;
             }
             Next::Body { kind, start, end } => {
                 at = end;

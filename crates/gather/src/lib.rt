@@ -9,10 +9,11 @@ ghost use Rattle.gather.specs.Gathers.{Gathers};
 use plain::Target;
 use targets::Targets;
 
-// What is gathered: the targets, and whether a prefix is over 127, which is asked apart of how many they are.
+// What is gathered: the targets, and whether a prefix is over 127.
 #[derive(Clone, Copy)]
 pub struct Gathering {
     pub targets: Targets,
+    // A flag, and no Option of the targets: what is held and how many is told also where a prefix is too long (Gathers).
     pub long: bool,
 }
 
@@ -33,6 +34,7 @@ pub fn gather(given: &[Target]) -> Gathering
     let mut long = false;
     for t in given {
         c = collect::collect(&mut list, c, spare::whole_bits(*t));
+        // in the loop: one pass
         long = is_long(long, *t);
     }
     Gathering {

@@ -13,11 +13,10 @@ use targets::Targets;
 pub fn nothing() -> Targets
     ensures { Nothing result }
 {
-    let list = targets::blank_list();
     Targets {
         over: false,
         count: 0,
-        list,
+        list: targets::blank_list(),
     }
 }
 
@@ -27,20 +26,15 @@ pub fn keep_if(kept: Targets, t: Target, keep: bool) -> Targets
     requires { (kept.count < 8) × Padded kept.count kept.list }
     ensures { Kept (cond keep (list_of kept ++ (t ∷ [])) (list_of kept)) result × (result.count ≤ kept.count + 1) }
 {
-    if !keep {
-        return Targets {
-            over: false,
-            ..kept
-        };
-    }
-    // a copy, which is changed: an array goes into a struct from a variable alone
-    let mut list = kept.list;
-    list[kept.count] = t;
-    Targets {
+    let mut next = Targets {
         over: false,
-        count: kept.count + 1,
-        list,
+        ..kept
+    };
+    if keep {
+        next.list[next.count] = t;
+        next.count += 1;
     }
+    next
 }
 
 // The targets of a message that are also in the row, in the message's order and with its Dest SeqNos. A loop, and no
@@ -53,7 +47,7 @@ pub fn common(ts: Targets, row: Targets) -> Targets
 {
     let mut kept = nothing();
     for t in &ts.list[..ts.count] {
-        kept = keep_if(kept, *t, collect::is_listed(*t, &row.list, row.count));
+        kept = keep_if(kept, *t, collect::is_listed(*t, &row.list[..row.count]));
     }
     kept
 }

@@ -3,8 +3,9 @@
 
 ghost use Rattle.std.specs.Prelude.{◌≡◌};
 ghost use Rattle.plain.specs.Request.{matches, matches_us};
-ghost use Rattle.ours.specs.Ours.{settings};
+ghost use Rattle.own.specs.Settings.{settings_of};
 
+use own::Own;
 use plain::Target;
 
 // Whether a target equals an address, or shares its first Prefix Length bits. Nothing else decides what matches.
@@ -17,8 +18,8 @@ fn does_match(t: Target, a: [u8; 16]) -> bool
 
 // Whether a target matches one of our addresses.
 #[tactic(auto, using(lemmas::proofs::Cases::cases))]
-pub fn matches_us(t: Target, receiving: [u8; 16], sending: [u8; 16]) -> bool
-    ensures { result ≡ matches_us (settings receiving sending) t }
+pub fn matches_us(t: Target, o: Own) -> bool
+    ensures { result ≡ matches_us (settings_of o) t }
 {
-    does_match(t, receiving) || does_match(t, sending)
+    does_match(t, o.receiving) || does_match(t, o.sending)
 }

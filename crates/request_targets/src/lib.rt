@@ -51,10 +51,10 @@ pub fn targets_kept(
 {
     if standing::is_update(s) {
         let both = kept::common(ts, row_targets(f));
-        return matching::not_ours(both, o.receiving, o.sending);
+        return matching::not_ours(both, o);
     }
     if targ {
-        return matching::not_ours(ts, o.receiving, o.sending);
+        return matching::not_ours(ts, o);
     }
     ts
 }

@@ -1,9 +1,9 @@
 // The rows of the two tables as records, and how one is made. What a record means is in specs/.
 #![tactic(auto)]
 
-ghost use Rattle.std.specs.Prelude.{◌≡◌, ◌≤◌, take, replicate};
+ghost use Rattle.std.specs.Prelude.{◌≡◌, ◌≤◌, take};
 ghost use Rattle.lemmas.specs.Optional.{of_option};
-ghost use Rattle.plain.specs.Blank.{no_target, Padded};
+ghost use Rattle.plain.specs.Blank.{Padded};
 ghost use Rattle.row.specs.Meaning.{deadline_of, no_row, no_route};
 ghost use Rattle.row.specs.Record.{endless_of, until_of, request_record, reply_record, route_record};
 ghost use Rattle.row.specs.Fields.{request_in, reply_in};
@@ -73,20 +73,6 @@ pub fn deadline(endless: u8, deadline: u64) -> Option<u64>
     if endless == 0 { Some(deadline) } else { None }
 }
 
-#[tactic(auto, using(lemmas::proofs::Cases::cases))]
-fn blank() -> Target
-    ensures { result ≡ no_target }
-{
-    Target::default()
-}
-
-#[tactic(auto, using(lemmas::proofs::Cases::cases))]
-fn blanks() -> [Target; 8]
-    ensures { result ≡ replicate 8 no_target }
-{
-    [blank(); 8]
-}
-
 // What a request row holds. Its targets are the first `count` of an array, as there is no heap.
 #[derive(Clone, Copy)]
 pub struct RequestFields {
@@ -103,8 +89,8 @@ pub struct RequestFields {
     pub replied: bool,
 }
 
-// What a reply row holds. A sixth of the row's size: our own reply row is made from these where it is stored. Wide fields first, so there is
-// no padding between fields: it would be copied too, and the copy would wait for the writes beside it.
+// What a reply row holds, a fifth of the row's size: our own reply row is made from these where it is stored. Wide fields first, so that there is no
+// padding between fields, which would be copied too.
 #[derive(Clone, Copy)]
 pub struct ReplyFields {
     pub deadline: Option<u64>,
@@ -203,7 +189,7 @@ pub fn no_row() -> InstanceRow
         rank: 0,
         dodagid: [0; 16],
         neighbour: [0; 16],
-        targets: blanks(),
+        targets: targets::blank_list(),
         deadline: 0,
     }
 }

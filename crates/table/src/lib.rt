@@ -7,18 +7,7 @@ ghost use Rattle.row.specs.Meaning.{instance_of, route_of};
 
 use row::{InstanceRow, RouteRow};
 
-// ---- either table
-
-// Writes one row. Past the end nothing changes.
-pub fn put<T: Copy>(items: &mut [T], i: usize, item: T)
-    ensures { items.new ≡ set items.old i item }
-{
-    if i < items.len() {
-        items[i] = item;
-    }
-}
-
-// ---- instance rows (put_row and put_route stand beside put: what calls them, and their clauses, may not change)
+// ---- instance rows (put_row and put_route stand beside octets::put: what calls them, and their clauses, may not change)
 
 // No row in use is wrong. Rows and routes have one chain each: a function that took the test would be `all` itself.
 pub fn all_good(rows: &[InstanceRow]) -> bool
@@ -31,7 +20,7 @@ pub fn all_good(rows: &[InstanceRow]) -> bool
 pub fn put_row(rows: &mut [InstanceRow], i: usize, r: InstanceRow)
     ensures { rows.new ≡ set rows.old i r }
 {
-    put(rows, i, r);
+    octets::put(rows, i, r);
 }
 
 // ---- routes
@@ -47,5 +36,5 @@ pub fn all_good_routes(routes: &[RouteRow]) -> bool
 pub fn put_route(routes: &mut [RouteRow], i: usize, r: RouteRow)
     ensures { routes.new ≡ set routes.old i r }
 {
-    put(routes, i, r);
+    octets::put(routes, i, r);
 }

@@ -31,5 +31,5 @@ pub fn is_targ_node(o: Own, p: Parsed) -> bool
     requires { Heard p }
     ensures { (vector : List Address) → result ≡ are_targ_node (settings_of o) (message_in p vector) }
 {
-    matching::is_named(named_in(p), o.receiving, o.sending)
+    matching::is_named(named_in(p), o)
 }

@@ -8,7 +8,9 @@ ghost use Rattle.targets.specs.Collected.{place_for, counted, none_yet, targets_
 use plain::Target;
 
 // Targets, each once: the first `count` of the list, which is an array, as there is no heap. `over`: there were more than
-// eight. It stands beside the list, and is no variant, since contracts speak of the list in either case.
+// eight. It stands beside the list, as Gathered (arts::read_targets, gather::gather) tells few, room and padded of the list also where
+// there were more than eight, and may not change. That count is at most 8 is asked by clauses, and is no invariant: targ_node::named_in
+// and targets_in make Targets of any Parsed and of any Count, and may not ask more.
 #[derive(Clone, Copy)]
 pub struct Targets {
     pub over: bool,
@@ -36,25 +38,19 @@ pub fn place_for(listed: bool, n: usize) -> usize
 pub fn counted(c: Count, at: usize) -> Count
     ensures { result ≡ counted c at }
 {
-    if at < 8 {
-        return Count { n: at + 1, ..c };
+    match at {
+        0..=7 => Count { n: at + 1, ..c },
+        8 => Count { over: true, ..c },
+        _ => c,
     }
-    if at == 8 {
-        return Count { over: true, ..c };
-    }
-    c
 }
 
 // A list with room for eight targets.
+#[tactic(auto, using(lemmas::proofs::Cases::cases))]
 pub fn blank_list() -> [Target; 8]
     ensures { result ≡ replicate 8 no_target }
 {
-    let blank = Target {
-        seq: 0,
-        plen: 0,
-        addr: [0u8; 16],
-    };
-    [blank; 8]
+    [Target::default(); 8]
 }
 
 // Nothing is collected yet.
