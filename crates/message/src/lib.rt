@@ -62,20 +62,6 @@ pub fn delta_or_0(d: Option<u8>) -> u8
     d.unwrap_or(0)
 }
 
-// The message's RPLInstanceID.
-pub fn instance_of(p: Parsed) -> u8
-    ensures { result ≡ p.base.instance }
-{
-    p.base.instance
-}
-
-// The message's DODAGID.
-pub fn dodagid_of(p: Parsed) -> [u8; 16]
-    ensures { result ≡ p.base.dodagid }
-{
-    p.base.dodagid
-}
-
 // What a call is about in the tables, from what was found.
 #[tactic(auto, using(lemmas::proofs::Cases::cases))]
 pub fn live_of(f: Option<Found<InstanceRow>>, g: Option<Found<RouteRow>>) -> Live

@@ -13,13 +13,6 @@ pub struct Own {
     pub sending: [u8; 16],
 }
 
-// For a caller that is lent tables, and so touches no field.
-pub fn receiving_of(o: Own) -> [u8; 16]
-    ensures { result ≡ o.receiving }
-{
-    o.receiving
-}
-
 // Whether an address is our receiving or sending one.
 #[tactic(auto, using(lemmas::proofs::Cases::cases))]
 pub fn is_ours(o: Own, a: [u8; 16]) -> bool

@@ -19,13 +19,6 @@ pub struct Asking {
     pub limit: u8,
 }
 
-// For a caller that is lent tables, and so touches no field.
-pub fn asked_instance(s: Asking) -> u8
-    ensures { result ≡ s.instance }
-{
-    s.instance
-}
-
 // The answer of a start. `taken`: a row of its key is live.
 #[tactic(auto, using(lemmas::proofs::Cases::cases), unfolding(crate::specs::Start::start_answer))]
 pub fn judge(o: Own, s: Asking, taken: bool) -> Answer
