@@ -25,10 +25,7 @@ use row::{InstanceRow, RouteFields, RouteRow};
 pub fn is_route_stale(h: bool, g: Option<Found<RouteRow>>, seq: u8) -> bool
     ensures { result ≡ route_stale h (route_found g) seq }
 {
-    match g {
-        Some(found) => h && sequence::is_outdated(sequence::compare(found.row.seq, seq)),
-        None => false,
-    }
+    h && g.is_some_and(|found| sequence::is_outdated(sequence::compare(found.row.seq, seq)))
 }
 
 // MinHopRankIncrease of a message.
@@ -61,12 +58,12 @@ pub fn kept_deadline(
     ensures request { of_option result ≡ kept_deadline (λ (r : RequestRow). r.deadline) standing (request_found f) t l }
     ensures reply { of_option result ≡ kept_deadline (λ (r : ReplyRow). r.deadline) standing (reply_found f) t l }
 {
-    if standing::is_update(standing) {
-        if let Some(found) = f {
-            return row::deadline(found.row.endless, found.row.deadline);
+    match f {
+        Some(found) if standing::is_update(standing) => {
+            row::deadline(found.row.endless, found.row.deadline)
         }
+        _ => deadline::of_l(t, l),
     }
-    deadline::of_l(t, l)
 }
 
 // A route of a message, with the deadline of its Configuration.
