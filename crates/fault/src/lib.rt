@@ -23,12 +23,15 @@ pub fn is_reply(s: Scan) -> bool
     s.rrep.count == 1 && s.rreq.count == 0 && s.art.count == 1
 }
 
-// Whether a message whose options are not bad is cut or malformed.
+// Whether a message is cut or malformed: it is, where one of its options is bad, of which there is no Scan.
 #[tactic(auto, using(lemmas::proofs::Cases::cases, crate::proofs::Counts::malformed_short, crate::proofs::Counts::malformed_many, crate::proofs::Counts::malformed_reply, crate::proofs::Counts::malformed_other, crate::proofs::Counts::art_order, crate::proofs::Counts::art_within))]
-pub fn is_malformed(msg: &[u8], s: Scan) -> bool
-    requires { Scanned msg.now (Some s) }
+pub fn is_malformed(msg: &[u8], scan: Option<Scan>) -> bool
+    requires { Scanned msg.now scan }
     ensures { result ≡ malformed msg.now }
 {
+    let Some(s) = scan else {
+        return true;
+    };
     msg.len() < 24
         || 1 < s.configuration.count
         || is_reply(s) && art::prefix_length(&msg[s.art.start..s.art.end]) != 0

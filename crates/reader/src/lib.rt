@@ -89,7 +89,7 @@ pub fn read(msg: &[u8]) -> Result<Reading, Refusal>
     ensures bounded { IfOk result (Bounded (length msg.now)) }
 {
     let s = scan::read_options(msg).ok_or(Refusal::Malformed)?;
-    if fault::is_malformed(msg, s) {
+    if fault::is_malformed(msg, Some(s)) {
         return Err(Refusal::Malformed);
     }
     if fault::is_unfit(msg, s) {
