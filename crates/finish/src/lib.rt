@@ -38,12 +38,12 @@ fn store(
     ensures instances { instances.new ≡ set_at (set instances.old p.first d.now.row) p.second (option_map second_record d.now.second) }
     ensures routes { routes.new ≡ set_at routes.old q.hop d.now.route }
 {
-    table::put_row(instances, p.first, d.row);
+    octets::put(instances, p.first, d.row);
     if let (Some(at), Some(f)) = (p.second, d.second) {
-        table::put_row(instances, at, row::reply_row(f));
+        octets::put(instances, at, row::reply_row(f));
     }
     if let (Some(at), Some(route)) = (q.hop, d.route) {
-        table::put_route(routes, at, route);
+        octets::put(routes, at, route);
     }
 }
 
@@ -72,7 +72,7 @@ pub fn finish(
     };
     let n = post::put_post(forward, &call.own, there, vector);
     let m = post::put_post(reply, &call.own, back, vector);
-    // last: what is stored was made just before, and a copy of it would wait
+    // last: what is stored was made just before, and is slow to copy at once
     store(instances, routes, p, q, d);
     outcome::accepted(d.seq, there.to, back.to, call.time, n, m)
 }

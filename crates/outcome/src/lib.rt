@@ -14,8 +14,7 @@ pub struct Sent {
     pub size: usize,
 }
 
-// What a call comes to, beside the rows and octets that it writes. In this order no two zeros of a refusal stand side by side: LLVM would write
-// them as one, and the processor wait where they are read apart.
+// What a call comes to, beside the rows and octets that it writes.
 #[derive(Clone, Copy)]
 pub struct Outcome {
     pub forward: Sent,

@@ -7,6 +7,7 @@ ghost use Rattle.plain.specs.Octets.{octet_at};
 ghost use Rattle.row.specs.Meaning.{flag};
 ghost use Rattle.trace_input.specs.Input.{number_in, octets_in, target_in, targets_in, own_in, link_in, row_in, route_in};
 
+use art::octet_at;
 use line::read_full;
 use message::Link;
 use own::Own;
@@ -108,13 +109,6 @@ pub fn read_record<R: Read>(input: &mut R, octets: &mut [u8]) -> io::Result<Opti
 }
 
 // ---- the parts of a record
-
-// The octet at i, 0 past the end.
-pub fn octet_at(o: &[u8], i: usize) -> u8
-    ensures { result ≡ octet_at o.now i }
-{
-    o.get(i).copied().unwrap_or(0)
-}
 
 // The N octets from a place on.
 fn octets_at<const N: usize>(o: &[u8], from: usize) -> [u8; N]

@@ -43,11 +43,11 @@ struct Node<'a> {
 // What a start brings, after its time.
 fn asking_at(o: &[u8]) -> Asking {
     Asking {
-        instance: trace_input::octet_at(o, 8),
+        instance: art::octet_at(o, 8),
         h: trace_input::flag_at(o, 9),
-        compr: trace_input::octet_at(o, 10),
-        l: trace_input::octet_at(o, 11),
-        limit: trace_input::octet_at(o, 12),
+        compr: art::octet_at(o, 10),
+        l: art::octet_at(o, 11),
+        limit: art::octet_at(o, 12),
     }
 }
 
@@ -135,7 +135,7 @@ impl<'a> Node<'a> {
                 self.host.reply = usize::from(trace_input::pair_at(o, 2));
             }
             Kind::Clock => self.host.clock = trace_input::eight_at(o, 0),
-            Kind::Number => self.host.seq = trace_input::octet_at(o, 0),
+            Kind::Number => self.host.seq = art::octet_at(o, 0),
             Kind::Row => trace_input::hand_in_row(self.instances, o),
             Kind::Route => trace_input::hand_in_route(self.routes, o),
             Kind::Count => trace_input::hand_in_count(&mut self.tally, o),
