@@ -1,21 +1,13 @@
 -- What is not sent, and what is read past the end of a lent slice of posts or decisions.
-use Rattle.std.specs.Prelude.{false, None}
-use Rattle.answer.specs.declared.Destination.TheVariants.{Nowhere}
+use Rattle.std.specs.Prelude.{None}
 use Rattle.row.specs.Meaning.{no_row}
-use Rattle.message.specs.Blank.{no_message}
-use Rattle.decision.specs.declared.What.TheVariants.{Nothing}
 use Rattle.decision.specs.declared.Post.{Post}
+use Rattle.decision.specs.declared.Post.TheVariants.{Nothing}
 use Rattle.decision.specs.declared.Decided.{Decided}
 
 -- nothing is sent, nowhere
 abbrev pub no_post : Post
-no_post = record {
-  what = Nothing;
-  message = no_message;
-  grown = false;
-  turned = false;
-  to = Nowhere;
-}
+no_post = Nothing
 
 -- nothing is stored
 abbrev pub no_decision : Decided

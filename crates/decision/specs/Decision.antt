@@ -1,5 +1,5 @@
 -- What a decision means: what the rules send and store.
-use Rattle.std.specs.Prelude.{ℕ, ◌≤◌, ◌≡◌, true, false, cond, List, [], reverse, eqb, length, take, option_map, IfSome}
+use Rattle.std.specs.Prelude.{ℕ, ◌≤◌, ◌≡◌, Bool, true, false, cond, List, [], reverse, eqb, length, take, option_map, IfSome}
 use Rattle.std.proofs.Math.Option.{Option}
 use Rattle.plain.specs.Address.{Address}
 use Rattle.plain.specs.Given.{Settings, Instance, Route, Destination}
@@ -14,49 +14,58 @@ use Rattle.row.specs.Change.{with_second, with_route}
 use Rattle.row.specs.declared.InstanceRow.{InstanceRow}
 use Rattle.writer_option.specs.Sendable.{Sendable, short_prefixes}
 use Rattle.lemmas.specs.Optional.{of_option}
-use Rattle.decision.specs.declared.What.{What}
-use Rattle.decision.specs.declared.What.TheVariants.{Nothing, Dio, Path}
+use Rattle.message.specs.declared.Parsed.{Parsed}
 use Rattle.decision.specs.declared.Post.{Post}
+use Rattle.decision.specs.declared.Post.TheVariants.{Nothing, Dio, Path}
 use Rattle.decision.specs.declared.Decided.{Decided}
 
 -- ---- What goes into a buffer
 
--- the addresses of what is sent: the first of the received ones, with ours added where it has grown
-unfoldable pub post_vector : Settings → Post → List Address → List Address
-post_vector x p vector = cond p.grown (grown x false (take p.message.n vector)) (take p.message.n vector)
+-- the addresses of a message that is sent: the first of the received ones, with ours added where it has grown
+unfoldable pub post_vector : Settings → Parsed → Bool → List Address → List Address
+post_vector x m has_grown vector = cond has_grown (grown x false (take m.n vector)) (take m.n vector)
 
-unfoldable pub post_message : Settings → Post → List Address → Message
-post_message x p vector = record {
-  base = p.message.base;
-  configuration = of_option p.message.configuration;
-  discovery = p.message.discovery;
-  vector = post_vector x p vector;
-  targets = take p.message.count p.message.targets;
+unfoldable pub post_message : Settings → Parsed → Bool → List Address → Message
+post_message x m has_grown vector = record {
+  base = m.base;
+  configuration = of_option m.configuration;
+  discovery = m.discovery;
+  vector = post_vector x m has_grown vector;
+  targets = take m.count m.targets;
 }
 
 -- "in the vector's order if symmetric, turned round if asymmetric"
-unfoldable pub post_path : Post → List Address → List Address
-post_path p vector = cond p.turned (reverse (take p.message.n vector)) (take p.message.n vector)
+unfoldable pub post_path : ℕ → Bool → List Address → List Address
+post_path n turned vector = cond turned (reverse (take n vector)) (take n vector)
 
-unfoldable pub octets_as : What → Settings → Post → List Address → List ℕ
-octets_as Nothing x p vector = []
-octets_as Dio x p vector = octets_of (post_message x p vector)
-octets_as Path x p vector = elided 0 (post_path p vector)
+unfoldable pub post_octets : Settings → Post → List Address → List ℕ
+post_octets x Nothing vector = []
+post_octets x (Dio m has_grown to) vector = octets_of (post_message x m has_grown vector)
+post_octets x (Path n turned) vector = elided 0 (post_path n turned vector)
 
-abbrev pub post_octets : Settings → Post → List Address → List ℕ
-post_octets x p vector = octets_as p.what x p vector
+-- "OrigNode's path" is for the caller; what is not sent goes nowhere
+abbrev pub post_to : Post → Destination
+post_to Nothing = Destination.nowhere
+post_to (Dio m has_grown to) = destination_of to
+post_to (Path n turned) = Destination.caller
 
--- What must hold so that it can be written: "past 16 addresses or 252 octets" is 16, and a message has at most 8 targets.
-pub record Fits (x : Settings) (p : Post) (vector : List Address) : Type 0 where
-  pub received : p.message.n ≤ 16
-  pub sendable : Sendable p.message.discovery (length (post_vector x p vector))
-  pub targets : p.message.count ≤ 8
-  pub prefixes : short_prefixes (take p.message.count p.message.targets) ≡ true
+-- What must hold so that a message can be written: "past 16 addresses or 252 octets" is 16, and a message has at most 8 targets.
+pub record Writable (x : Settings) (m : Parsed) (has_grown : Bool) (vector : List Address) : Type 0 where
+  pub received : m.n ≤ 16
+  pub sendable : Sendable m.discovery (length (post_vector x m has_grown vector))
+  pub targets : m.count ≤ 8
+  pub prefixes : short_prefixes (take m.count m.targets) ≡ true
+
+-- what must hold so that a post can be written: a path has no more addresses than a vector
+abbrev pub Fits : Settings → Post → List Address → Type 0
+Fits x Nothing vector = Unit {0}
+Fits x (Dio m has_grown to) vector = Writable x m has_grown vector
+Fits x (Path n turned) vector = n ≤ 16
 
 -- A post is the rules': what it sends, where to, and that it can be written.
 pub record Posts (x : Settings) (vector : List Address) (octets : List ℕ) (to : Destination) (p : Post) : Type 0 where
   pub sends : post_octets x p vector ≡ octets
-  pub goes : destination_of p.to ≡ to
+  pub goes : post_to p ≡ to
   pub fits : Fits x p vector
 
 -- ---- What is stored

@@ -19,7 +19,8 @@ use Rattle.plain.specs.Table.{has_room, placed, instance_deadline, route_deadlin
 use Rattle.plain.specs.Request.{Accepted}
 use Rattle.plain.specs.Plain as plain
 use Rattle.plain.specs.Plain.{enact, place, refused_by, stored}
-use Rattle.answer.specs.Answer.{answer_number}
+use Rattle.answer.specs.Answer.{answer_number, destination_of}
+use Rattle.answer.specs.declared.Destination as code
 use Rattle.answer.specs.declared.Answer.{Answer}
 use Rattle.answer.specs.declared.Answer.TheVariants.{Done, NoRow}
 use Rattle.row.specs.Meaning.{instance_of, route_of, request_of, reply_of, route_in, no_row, no_route}
@@ -29,7 +30,7 @@ use Rattle.row.specs.declared.ReplyFields.{ReplyFields}
 use Rattle.row.proofs.Laws.{reply_back}
 use Rattle.row.specs.declared.InstanceRow.{InstanceRow}
 use Rattle.row.specs.declared.RouteRow.{RouteRow}
-use Rattle.decision.specs.Decision.{post_octets, instance_meant, record_of}
+use Rattle.decision.specs.Decision.{post_octets, post_to, instance_meant, record_of}
 use Rattle.decision.proofs.Laws.{again}
 use Rattle.decision.specs.declared.Decided.{Decided}
 use Rattle.decision.specs.declared.Post.{Post}
@@ -195,9 +196,10 @@ module _ (clock seq t : ℕ) (rows : List InstanceRow) (routes : List RouteRow) 
           module _ (rows' : List InstanceRow) (routes' : List RouteRow) (forward' reply' : List ℕ) (n m : ℕ) where
             pub done_gives : rows' ≡ set_at (set rows p.first d.row) p.second (option_map second_record d.second) → routes' ≡ set_at routes q.hop d.route
                 → Written (post_octets x there vector) forward forward' n → Written (post_octets x back vector) reply reply' m
-                → r ≡ record { answer = Done; forward = record { size = n; to = there.to }; reply = record { size = m; to = back.to }; clock = t; seq = d.seq }
+                → (forward_to reply_to : code.Destination) → destination_of forward_to ≡ post_to there → destination_of reply_to ≡ post_to back
+                → r ≡ record { answer = Done; forward = record { size = n; to = forward_to }; reply = record { size = m; to = reply_to }; clock = t; seq = d.seq }
                 → Gives (enact t (state_of clock seq rows routes) (plain.Decision.take acc)) rows rows' routes routes' forward forward' reply reply' r
-            done_gives s1 s2 u v f =
+            done_gives s1 s2 u v forward_to reply_to g1 g2 f =
                 rw (taken_is, s1, s2, f) (record {
                   answer = refl;
                   state = λ i. record {
@@ -215,8 +217,8 @@ module _ (clock seq t : ℕ) (rows : List InstanceRow) (routes : List RouteRow) 
                   };
                   forward_length = u.count ∙ ap length w.forward.sends;
                   reply_length = v.count ∙ ap length w.reply.sends;
-                  forward_to = w.forward.goes;
-                  reply_to = w.reply.goes;
+                  forward_to = g1 ∙ w.forward.goes;
+                  reply_to = g2 ∙ w.reply.goes;
                   forward_octets = u.holds ∙ ap (λ z. over z forward) w.forward.sends;
                   reply_octets = v.holds ∙ ap (λ z. over z reply) w.reply.sends;
                   instances = records_two rows p.first p.second d.row (option_map second_record d.second) w.row (second_again d.second);

@@ -74,5 +74,7 @@ pub fn finish(
     let m = post::put_post(reply, &call.own, back, vector);
     // last: what is stored was made just before, and is slow to copy at once
     store(instances, routes, p, q, d);
-    outcome::accepted(d.seq, there.to, back.to, call.time, n, m)
+    let forward_to = decision::destination(there);
+    let reply_to = decision::destination(back);
+    outcome::accepted(d.seq, forward_to, reply_to, call.time, n, m)
 }

@@ -6,37 +6,38 @@ ghost use Rattle.lemmas.specs.Written.{Written};
 ghost use Rattle.plain.specs.Octets.{octets_of, elided};
 ghost use Rattle.own.specs.Settings.{settings_of};
 ghost use Rattle.writer_option.specs.Sendable.{Sendable, short_prefixes};
-ghost use Rattle.decision.specs.Decision.{post_message, post_path, post_octets, Fits};
+ghost use Rattle.decision.specs.Decision.{post_message, post_path, post_octets, Writable, Fits};
 ghost use Rattle.post.specs.With.{message_with};
 
-use decision::{Post, What};
+use decision::Post;
+use message::Parsed;
 use own::Own;
 
 // A message with the addresses of a vector.
 #[tactic(auto, using(lemmas::proofs::Cases::cases))]
-fn put_parsed(out: &mut [u8], p: &Post, vector: &[[u8; 16]]) -> usize
-    requires { Sendable p.now.message.discovery (length vector.now) × (p.now.message.count ≤ 8) × (short_prefixes (take p.now.message.count p.now.message.targets) ≡ true) × (1236 ≤ length out.old) }
-    ensures { Written (octets_of (message_with p.now.message vector.now)) out.old out.new result }
+fn put_parsed(out: &mut [u8], p: &Parsed, vector: &[[u8; 16]]) -> usize
+    requires { Sendable p.now.discovery (length vector.now) × (p.now.count ≤ 8) × (short_prefixes (take p.now.count p.now.targets) ≡ true) × (1236 ≤ length out.old) }
+    ensures { Written (octets_of (message_with p.now vector.now)) out.old out.new result }
 {
     writer::put_message(
         out,
-        p.message.base,
-        p.message.configuration,
-        p.message.discovery,
+        p.base,
+        p.configuration,
+        p.discovery,
         vector,
-        &p.message.targets[..p.message.count],
+        &p.targets[..p.count],
     )
 }
 
 // A message, with our addresses added where it has grown.
 #[tactic(auto, using(lemmas::proofs::Cases::cases, crate::proofs::Laws::grown_fits, crate::proofs::Laws::grown_is, crate::proofs::Laws::grown_sendable, crate::proofs::Laws::plain_is, crate::proofs::Laws::plain_sendable))]
-fn put_dio(out: &mut [u8], o: &Own, p: &Post, vector: &[[u8; 16]; 16]) -> usize
-    requires { Fits (settings_of o.now) p.now vector.now × (length vector.now ≡ 16) × (1236 ≤ length out.old) }
-    ensures { Written (octets_of (post_message (settings_of o.now) p.now vector.now)) out.old out.new result }
+fn put_dio(out: &mut [u8], o: &Own, p: &Parsed, has_grown: bool, vector: &[[u8; 16]; 16]) -> usize
+    requires { Writable (settings_of o.now) p.now has_grown vector.now × (length vector.now ≡ 16) × (1236 ≤ length out.old) }
+    ensures { Written (octets_of (post_message (settings_of o.now) p.now has_grown vector.now)) out.old out.new result }
 {
-    let received = &vector[..p.message.n];
-    if p.grown {
-        let n = grown::grown_count(*o, false, p.message.n);
+    let received = &vector[..p.n];
+    if has_grown {
+        let n = grown::grown_count(*o, false, p.n);
         let v = added::grown_vector(*o, false, n, received);
         return put_parsed(out, p, &v[..n]);
     }
@@ -45,27 +46,26 @@ fn put_dio(out: &mut [u8], o: &Own, p: &Post, vector: &[[u8; 16]; 16]) -> usize
 
 // OrigNode's path, turned round where it came asymmetric.
 #[tactic(auto, using(lemmas::proofs::Cases::cases, crate::proofs::Laws::turned_is, crate::proofs::Laws::straight_is))]
-fn put_route_path(out: &mut [u8], p: &Post, vector: &[[u8; 16]; 16]) -> usize
-    requires { (p.now.message.n ≤ 16) × (1236 ≤ length out.old) }
-    ensures { Written (elided 0 (post_path p.now vector.now)) out.old out.new result }
+fn put_route_path(out: &mut [u8], n: usize, turned: bool, vector: &[[u8; 16]; 16]) -> usize
+    requires { (n ≤ 16) × (1236 ≤ length out.old) }
+    ensures { Written (elided 0 (post_path n turned vector.now)) out.old out.new result }
 {
-    let n = p.message.n;
     let path = &vector[..n];
-    if p.turned {
+    if turned {
         return writer_octets::put_path(out, &addresses::reversed(path)[..n]);
     }
     writer_octets::put_path(out, path)
 }
 
 // What goes into a buffer: its octets at the front, the rest as it was.
-#[tactic(auto, using(lemmas::proofs::Cases::cases, lemmas::proofs::Buffer::written_none, crate::proofs::Laws::as_written), unfolding(decision::specs::Decision::octets_as))]
+#[tactic(auto, using(lemmas::proofs::Cases::cases, lemmas::proofs::Buffer::written_none), unfolding(decision::specs::Decision::post_octets))]
 pub fn put_post(out: &mut [u8], o: &Own, p: &Post, vector: &[[u8; 16]; 16]) -> usize
     requires { Fits (settings_of o.now) p.now vector.now × (length vector.now ≡ 16) × (1236 ≤ length out.old) }
     ensures { Written (post_octets (settings_of o.now) p.now vector.now) out.old out.new result }
 {
-    match p.what {
-        What::Nothing => 0,
-        What::Dio => put_dio(out, o, p, vector),
-        What::Path => put_route_path(out, p, vector),
+    match p {
+        Post::Nothing => 0,
+        Post::Dio { message, grown, .. } => put_dio(out, o, message, *grown, vector),
+        Post::Path { n, turned } => put_route_path(out, *n, *turned, vector),
     }
 }

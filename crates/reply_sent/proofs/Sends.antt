@@ -19,19 +19,18 @@ use Rattle.answer.specs.declared.Destination as code
 use Rattle.writer_option.specs.Sendable.{Sendable}
 use Rattle.message.specs.Message.{message_in}
 use Rattle.message.specs.declared.Parsed.{Parsed}
-use Rattle.decision.specs.Decision.{post_vector, post_message, post_path, octets_as}
-use Rattle.decision.specs.declared.What.{What}
-use Rattle.decision.specs.declared.What.TheVariants.{Nothing, Dio, Path}
+use Rattle.decision.specs.Decision.{post_vector, post_message, post_path, post_octets}
 use Rattle.decision.specs.declared.Post.{Post}
+use Rattle.decision.specs.declared.Post.TheVariants.{Nothing, Dio, Path}
 use Rattle.lemmas.specs.Each.{WholeVector}
 use Rattle.grown.proofs.Growth.{whole_grown}
 use Rattle.lemmas.proofs.Each.{each_take}
 use Rattle.lemmas.proofs.Rules.{elided_length}
 use Rattle.rule.specs.Heard.{Heard}
-use Rattle.decision.specs.Decision.{Posts, Fits}
+use Rattle.decision.specs.Decision.{Posts, Writable}
 use Rattle.rule.proofs.Laws.{heard_sendable}
 use Rattle.reply.specs.Facts.{is_full}
-use Rattle.reply_sent.specs.Goes.{raised, what_goes}
+use Rattle.reply_sent.specs.Goes.{raised, path_goes}
 use Rattle.reply.proofs.Laws.{grows_h}
 
 -- ---- The path
@@ -88,11 +87,27 @@ posts_between x vector m a r o p =
     (other a.is_orig (to_if (ltb 0 (length (path m a))) Destination.caller) (next_destination x m a) o) p
 
 module _ (x : Settings) (p : Parsed) (vector : List Address) (a : Answered) (e : length vector ≡ 16) (heard : Heard p) where
-  abbrev post : What → Bool → code.Destination → Post
-  post w g to = record { what = w; message = raised p a.rank; grown = g; turned = not a.symmetric; to = to }
+  -- at OrigNode
+  pub posts_path : a.is_orig ≡ true → PostsForward x vector (message_in p vector) a (path_goes p.n (not a.symmetric))
+  unfolding post_octets post_path flatten
+  posts_path o = go (eqb p.n 0) refl
+    where
+      go : (z : Bool) → eqb p.n 0 ≡ z → PostsForward x vector (message_in p vector) a (cond z Nothing (Path p.n (not a.symmetric)))
+      go true z =
+          posts_orig x vector (message_in p vector) a Nothing o
+          (rw (path_none p vector a (eqb-true p.n 0 z)) (record { sends = refl; goes = refl; fits = tt }))
+      go false z =
+          let some : p.n ≡ 0 → ⊥ = eqb-false p.n 0 z in
+          let n : length (path (message_in p vector) a) ≡ p.n = path_length p vector a ∙ length-take-le p.n vector (omega (arith, heard.addresses)) in
+          posts_orig x vector (message_in p vector) a (Path p.n (not a.symmetric)) o
+          (record {
+            sends = ap (elided 0) (path_turned p vector a);
+            goes = rw (lt-ltb 0 (length (path (message_in p vector) a)) (omega arith));
+            fits = heard.addresses;
+          })
 
   module _ (g : Bool) (to : code.Destination) (k : g ≡ grows (message_in p vector) a) where
-    sent_vector : post_vector x (post Dio g to) vector
+    sent_vector : post_vector x (raised p a.rank) g vector
         ≡ cond (grows (message_in p vector) a) (grown x p.discovery.h (take p.n vector)) (take p.n vector)
     unfolding post_vector raised message_in
     sent_vector = go g k
@@ -104,7 +119,7 @@ module _ (x : Settings) (p : Parsed) (vector : List Address) (a : Answered) (e :
         go false q = rw (← q) refl
 
     module _ (whole : WholeVector vector) (receiving : length x.receiving ≡ 16) (sending : length x.sending ≡ 16) (room : is_full x (message_in p vector) a ≡ false) where
-      sent_room : Sendable p.discovery (length (post_vector x (post Dio g to) vector))
+      sent_room : Sendable p.discovery (length (post_vector x (raised p a.rank) g vector))
       unfolding post_vector raised message_in is_full cannot_grow
       sent_room = go g k
         where
@@ -125,60 +140,14 @@ module _ (x : Settings) (p : Parsed) (vector : List Address) (a : Answered) (e :
               }
           go false q = heard_sendable p vector e heard
 
-      room_in : Fits x (post Dio g to) vector
+      room_in : Writable x (raised p a.rank) g vector
       unfolding raised
       room_in = record { received = heard.addresses; sendable = sent_room; targets = heard.targets; prefixes = heard.prefixes }
 
-      -- at OrigNode, no path
-      posts_empty : a.is_orig ≡ true → p.n ≡ 0 → destination_of to ≡ Destination.nowhere
-          → PostsForward x vector (message_in p vector) a (post Nothing g to)
-      unfolding octets_as flatten post_vector
-      posts_empty o z d =
-          posts_orig x vector (message_in p vector) a (post Nothing g to) o
-          (rw (path_none p vector a z) (record { sends = refl; goes = d; fits = record { received = room_in.received; sendable = room_in.sendable; targets = room_in.targets; prefixes = room_in.prefixes } }))
-
-      -- at OrigNode, a path
-      posts_path : a.is_orig ≡ true → (p.n ≡ 0 → ⊥) → destination_of to ≡ Destination.caller
-          → PostsForward x vector (message_in p vector) a (post Path g to)
-      unfolding octets_as post_path post_vector raised
-      posts_path o z d =
-          let n : length (path (message_in p vector) a) ≡ p.n = path_length p vector a ∙ length-take-le p.n vector (omega (arith, heard.addresses)) in
-          posts_orig x vector (message_in p vector) a _ o
-          (record {
-            sends = ap (elided 0) (path_turned p vector a);
-            goes = rw (lt-ltb 0 (length (path (message_in p vector) a)) (omega arith)) d;
-            fits = record { received = room_in.received; sendable = room_in.sendable; targets = room_in.targets; prefixes = room_in.prefixes };
-          })
-
       -- between the ends
-      posts_reply : a.is_orig ≡ false → destination_of to ≡ next_destination x (message_in p vector) a
-          → PostsForward x vector (message_in p vector) a (post Dio g to)
-      unfolding octets_as post_message forwarded_reply message_in raised
+      pub posts_reply : a.is_orig ≡ false → destination_of to ≡ next_destination x (message_in p vector) a
+          → PostsForward x vector (message_in p vector) a (Dio (raised p a.rank) g to)
+      unfolding post_octets post_message forwarded_reply message_in raised
       posts_reply o d =
-          posts_between x vector (message_in p vector) a (post Dio g to) o
+          posts_between x vector (message_in p vector) a (Dio (raised p a.rank) g to) o
           (record { sends = rw sent_vector refl; goes = d; fits = room_in })
-
-      pub posts_forward : (w : What) → w ≡ what_goes a.is_orig p.n
-          → destination_of to ≡ cond a.is_orig (to_if (ltb 0 p.n) Destination.caller) (next_destination x (message_in p vector) a)
-          → PostsForward x vector (message_in p vector) a (post w g to)
-      posts_forward w q d = go a.is_orig refl (eqb p.n 0) refl
-        where
-          -- what is sent, and where to, at OrigNode and between the ends
-          at_orig : a.is_orig ≡ true → w ≡ cond (eqb p.n 0) Nothing Path
-          at_orig o = q ∙ sym (chosen a.is_orig (cond (eqb p.n 0) Nothing Path) Dio o)
-
-          to_caller : a.is_orig ≡ true → destination_of to ≡ to_if (ltb 0 p.n) Destination.caller
-          to_caller o = d ∙ sym (chosen a.is_orig (to_if (ltb 0 p.n) Destination.caller) (next_destination x (message_in p vector) a) o)
-
-          go : (b : Bool) → a.is_orig ≡ b → (z : Bool) → eqb p.n 0 ≡ z → PostsForward x vector (message_in p vector) a (post w g to)
-          go true o true z =
-              let n : p.n ≡ 0 = eqb-true p.n 0 z in
-              let s : w ≡ Nothing = at_orig o ∙ sym (chosen (eqb p.n 0) Nothing Path z) in
-              rw s (posts_empty o n (to_caller o ∙ sym (other (ltb 0 p.n) Destination.caller Destination.nowhere (rw n refl))))
-          go true o false z =
-              let n : p.n ≡ 0 → ⊥ = eqb-false p.n 0 z in
-              let s : w ≡ Path = at_orig o ∙ sym (other (eqb p.n 0) Nothing Path z) in
-              rw s (posts_path o n (to_caller o ∙ sym (chosen (ltb 0 p.n) Destination.caller Destination.nowhere (lt-ltb 0 p.n (omega arith)))))
-          go false o z f =
-              let s : w ≡ Dio = q ∙ sym (other a.is_orig (cond (eqb p.n 0) Nothing Path) Dio o) in
-              rw s (posts_reply o (d ∙ sym (other a.is_orig (to_if (ltb 0 p.n) Destination.caller) (next_destination x (message_in p vector) a) o)))

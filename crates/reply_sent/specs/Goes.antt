@@ -2,8 +2,8 @@
 use Rattle.std.specs.Prelude.{ℕ, Bool, cond, eqb}
 use Rattle.plain.specs.Request.{with_rank}
 use Rattle.message.specs.declared.Parsed.{Parsed}
-use Rattle.decision.specs.declared.What.{What}
-use Rattle.decision.specs.declared.What.TheVariants.{Nothing, Dio, Path}
+use Rattle.decision.specs.declared.Post.{Post}
+use Rattle.decision.specs.declared.Post.TheVariants.{Nothing, Path}
 
 -- a message with another rank
 unfoldable pub raised : Parsed → ℕ → Parsed
@@ -16,6 +16,6 @@ raised p rank = record {
   targets = p.targets;
 }
 
--- "OrigNode .. sends nothing": of n addresses it tells the caller; between the ends the reply goes on
-abbrev pub what_goes : Bool → ℕ → What
-what_goes orig n = cond orig (cond (eqb n 0) Nothing Path) Dio
+-- "OrigNode .. sends nothing": of n addresses it tells the caller
+abbrev pub path_goes : ℕ → Bool → Post
+path_goes n turned = cond (eqb n 0) Nothing (Path n turned)

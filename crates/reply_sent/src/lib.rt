@@ -1,9 +1,7 @@
 // What is sent for a received reply that is answered 0, by value (01, "A reply").
 #![tactic(auto)]
 
-ghost use Rattle.std.specs.Prelude.{◌≤◌, ◌≡◌, cond, false, ltb, take};
-ghost use Rattle.plain.specs.Given as rules;
-ghost use Rattle.plain.specs.Request.{to_if};
+ghost use Rattle.std.specs.Prelude.{◌≤◌, ◌≡◌, cond, false, take};
 ghost use Rattle.plain.specs.Reply.{orig_node, before, next_destination, reply_sent};
 ghost use Rattle.answer.specs.Answer.{destination_of};
 ghost use Rattle.message.specs.Message.{message_in};
@@ -11,10 +9,10 @@ ghost use Rattle.decision.specs.Decision.{Posts};
 ghost use Rattle.own.specs.Settings.{settings_of};
 ghost use Rattle.rule.specs.Heard.{Heard, Array};
 ghost use Rattle.reply.specs.Facts.{answered_of, is_full};
-ghost use Rattle.reply_sent.specs.Goes.{raised, what_goes};
+ghost use Rattle.reply_sent.specs.Goes.{raised, path_goes};
 
 use answer::Destination;
-use decision::{Post, What};
+use decision::Post;
 use message::Parsed;
 use own::Own;
 use reply::ReplyFacts;
@@ -42,53 +40,40 @@ fn next_node(o: Own, p: Parsed, vector: &[[u8; 16]; 16], w: ReplyFacts) -> [u8; 
     path::address_before(pairing::orig_node(p), o.receiving, &vector[..p.n])
 }
 
-// Where it goes: at OrigNode a path to the caller; between the ends to a neighbour if symmetric, else to the group.
-#[tactic(auto, using(lemmas::proofs::Cases::cases, lemmas::proofs::Choice::true_false), unfolding(plain::specs::Reply::next_destination, reply::specs::Facts::answered_of, message::specs::Message::message_in, row::specs::Meaning::request_of))]
+// Where it goes between the ends: to a neighbour if symmetric, else to the group.
+#[tactic(auto, using(lemmas::proofs::Cases::cases), unfolding(plain::specs::Reply::next_destination, reply::specs::Facts::answered_of, message::specs::Message::message_in, row::specs::Meaning::request_of))]
 fn destination(o: Own, p: Parsed, vector: &[[u8; 16]; 16], w: ReplyFacts) -> Destination
     requires { p.n ≤ 16 }
-    ensures { destination_of result ≡ cond w.orig (to_if (ltb 0 p.n) rules.Destination.caller) (next_destination (settings_of o) (message_in p vector.now) (answered_of w)) }
+    ensures { destination_of result ≡ next_destination (settings_of o) (message_in p vector.now) (answered_of w) }
 {
-    if w.orig {
-        if p.n == 0 {
-            return Destination::Nowhere;
-        }
-        return Destination::Caller;
-    }
     if w.symmetric {
         return Destination::Neighbour(next_node(o, p, vector, w));
     }
     Destination::Group
 }
 
-// What goes on: at OrigNode the path, for the caller, if there is one; between the ends the reply. A What holds no octets: they are written from
-// the Post, which has the same fields whatever goes on.
-fn what_goes(orig: bool, n: usize) -> What
-    ensures { result ≡ what_goes orig n }
+// OrigNode's path, if there is one.
+fn path_post(n: usize, turned: bool) -> Post
+    ensures { result ≡ path_goes n turned }
 {
-    if orig {
-        if n == 0 {
-            return What::Nothing;
-        }
-        return What::Path;
+    if n == 0 {
+        return Post::Nothing;
     }
-    What::Dio
+    Post::Path { n, turned }
 }
 
-// What goes into the buffer, where none of the lines holds. The Post is built in one expression, sent or not, so that LLVM copies no part of it.
+// What goes into the buffer, where none of the lines holds: at OrigNode the path, between the ends the reply.
 #[tactic(auto, using(lemmas::proofs::Cases::cases, rule::proofs::Types::own_sixteen), unfolding(reply::specs::Facts::answered_of))]
 pub fn forward_post(o: Own, p: Parsed, vector: &[[u8; 16]; 16], w: ReplyFacts) -> Post
     requires { Heard p × Array vector.now × (w.rank ≤ 65535) × (is_full (settings_of o) (message_in p vector.now) (answered_of w) ≡ false) }
     ensures { Posts (settings_of o) vector.now (reply_sent (settings_of o) (message_in p vector.now) (answered_of w)).forward (reply_sent (settings_of o) (message_in p vector.now) (answered_of w)).forward_to result }
 {
+    if w.orig {
+        return path_post(p.n, !w.symmetric);
+    }
     // the rank has 16 bits where it goes on: `try_from` would bring a refusal that no call meets
     let message = forwarded(p, w.rank as u16);
     let grown = reply::does_grow(p, w);
     let to = destination(o, p, vector, w);
-    Post {
-        what: what_goes(w.orig, p.n),
-        message,
-        grown,
-        turned: !w.symmetric,
-        to,
-    }
+    Post::Dio { message, grown, to }
 }

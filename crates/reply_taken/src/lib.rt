@@ -10,6 +10,7 @@ ghost use Rattle.finish.specs.Gives.{state_of, Gives};
 ghost use Rattle.reply_taken.specs.Decision.{reply_decision};
 
 use answer::Answer;
+use decision::Post;
 use finish::Call;
 use message::{Link, Parsed};
 use outcome::Outcome;
@@ -46,7 +47,7 @@ pub fn take_reply(
     }
     let d = reply_stored::accepted(call.seq, call.time, k, *p, a);
     let there = reply_sent::forward_post(call.own, *p, vector, a);
-    let back = decision::no_post();
+    let back = Post::Nothing;
     let l = message::live_of(f, g);
     finish::finish(
         instances, routes, forward, reply, call, vector, &d, &there, &back, l,

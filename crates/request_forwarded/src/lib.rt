@@ -1,18 +1,16 @@
 // What goes on of a received request that is answered 0, by value (01, "A request").
 #![tactic(auto)]
 
-ghost use Rattle.std.specs.Prelude.{ℕ, ◌<◌, ◌≡◌, cond, true, false, not, List, [], take};
+ghost use Rattle.std.specs.Prelude.{ℕ, ◌<◌, ◌≡◌, true, List, [], take};
 ghost use Rattle.plain.specs.Address.{Address};
 ghost use Rattle.plain.specs.Given as rules;
-ghost use Rattle.plain.specs.Request.{forwards, s_out, with_rank, with_flag, to_if, accept_request};
-ghost use Rattle.answer.specs.Answer.{destination_of};
+ghost use Rattle.plain.specs.Request.{forwards, s_out, with_rank, with_flag, accept_request};
 ghost use Rattle.message.specs.Message.{message_in, received_by};
 ghost use Rattle.decision.specs.Decision.{Posts};
 ghost use Rattle.rule.specs.Heard.{Heard};
 ghost use Rattle.request.specs.Facts.{asked_of, Sendable};
 ghost use Rattle.request.specs.Room.{Roomy};
 
-use answer::Destination;
 use decision::Post;
 use message::{Link, Parsed};
 use plain::Discovery;
@@ -41,37 +39,18 @@ fn forwarded(k: Link, p: Parsed, a: RequestFacts) -> Parsed
     }
 }
 
-fn group_if(on: bool) -> Destination
-    ensures { destination_of result ≡ to_if on rules.Destination.group }
-{
-    if on {
-        Destination::Group
-    } else {
-        Destination::Nowhere
-    }
-}
-
-fn grows(on: bool, h: bool) -> bool
-    ensures { result ≡ cond on (not h) false }
-{
-    on && !h
-}
-
 // What goes on to the group, where 16 is not answered. With H 0 ours are added.
-#[tactic(auto, using(lemmas::proofs::Cases::cases, crate::proofs::Sent::onward_either), unfolding(plain::specs::Request::accept_request, plain::specs::Request::forwards, message::specs::Message::message_in))]
+#[tactic(auto, using(lemmas::proofs::Cases::cases, rule::proofs::Laws::posts_nothing), unfolding(plain::specs::Request::accept_request, plain::specs::Request::forwards, message::specs::Message::message_in))]
 pub fn forward_post(k: Link, p: Parsed, a: RequestFacts) -> Post
     requires heard { Heard p }
     requires sendable { Sendable a }
     ensures { (x : rules.Settings) (own t : ℕ) (vector : List Address) → (forwards (message_in p []) (asked_of a) ≡ true → Roomy x p.discovery.h p.discovery.compr (take p.n vector)) → Posts x vector (accept_request x own t (received_by k []) (message_in p vector) (asked_of a)).sent.forward (accept_request x own t (received_by k []) (message_in p vector) (asked_of a)).sent.forward_to result }
 {
-    let on = request::forwards(p, a);
-    let message = forwarded(k, p, a);
-    let to = group_if(on);
-    Post {
-        what: decision::dio_if(on),
-        message,
-        grown: grows(on, p.discovery.h),
-        turned: false,
-        to,
+    if !request::forwards(p, a) {
+        return Post::Nothing;
     }
+    let message = forwarded(k, p, a);
+    let grown = !p.discovery.h;
+    let to = answer::to_group();
+    Post::Dio { message, grown, to }
 }

@@ -9,7 +9,6 @@ use Rattle.lemmas.proofs.Choice.{cond_case}
 use Rattle.plain.specs.Lists.{all}
 use Rattle.plain.specs.Address.{Address}
 use Rattle.plain.specs.Given.{Settings, Received, Destination}
-use Rattle.plain.specs.Octets.{octets_of}
 use Rattle.plain.specs.Request.{s_out, reply_message, whole_target, octets_if, to_if}
 use Rattle.plain.specs.declared.Base.{Base}
 use Rattle.plain.specs.declared.Discovery.{Discovery}
@@ -19,12 +18,11 @@ use Rattle.writer_option.specs.Sendable.{Sendable, short_prefixes}
 use Rattle.message.specs.Message.{message_in, received_by}
 use Rattle.message.specs.declared.Parsed.{Parsed}
 use Rattle.message.specs.declared.Link.{Link}
-use Rattle.decision.specs.declared.What.{What}
-use Rattle.decision.specs.declared.What.TheVariants.{Nothing, Dio}
+use Rattle.decision.specs.declared.Post.TheVariants.{Dio}
 use Rattle.rule.specs.Heard.{Heard}
 use Rattle.decision.specs.Decision.{Posts}
 use Rattle.rule.proofs.Laws.{heard_sendable}
-use Rattle.rule.proofs.Sent.{dio_posts, silent_posts, plain_post, plain_message}
+use Rattle.rule.proofs.Sent.{dio_posts, plain_message}
 use Rattle.request_replied.specs.Replied.{Replied}
 
 -- of an array whose first place is set, the first is what was set
@@ -82,22 +80,10 @@ module _ (x : Settings) (k : Link) (p : Parsed) (own delta : ℕ) where
     unfolding reply_message all
     reply_prefixes v = refl
 
-    reply_posts : (dest : Destination) → destination_of to ≡ dest → (v : List Address) → length v ≡ 16
-        → Posts x v (octets_of (reply_message x own (received_by k []) (message_in p v) delta)) dest (plain_post m to)
-    reply_posts dest et v l =
-        dio_posts x v (plain_post m to) (reply_message x own (received_by k []) (message_in p v) delta) dest refl
-        (plain_message x m to v ∙ e.means v) et (omega (arith, e.addresses, g.addresses)) e.targets (reply_sendable v l) (reply_prefixes v)
-
-    reply_silent : (v : List Address) → length v ≡ 16 → Sendable m.discovery (length (take m.n v)) × (short_prefixes (take m.count m.targets) ≡ true)
-    unfolding message_in
-    reply_silent v l = (rw (← e.means v) at (reply_sendable v l), rw (← e.means v) at (reply_prefixes v))
-
-    -- our reply, if we reply
-    pub reply_either : (on : Bool) (w : What) (dest : Destination) → w ≡ cond on Dio Nothing → destination_of to ≡ to_if on dest
-        → (v : List Address) → length v ≡ 16
-        → Posts x v (octets_if on (reply_message x own (received_by k []) (message_in p v) delta)) (to_if on dest)
-        (record { what = w; message = m; grown = false; turned = false; to = to })
-    reply_either true w dest ew et v l = rw ew (reply_posts dest et v l)
-    reply_either false w dest ew et v l =
-        let q = reply_silent v l in
-        rw ew (silent_posts x v m to et (omega (arith, e.addresses, g.addresses)) q.0 e.targets q.1)
+    -- our reply, where we reply
+    pub reply_posts : (on : Bool) → on ≡ true → (dest : Destination) → destination_of to ≡ dest → (v : List Address) → length v ≡ 16
+        → Posts x v (octets_if on (reply_message x own (received_by k []) (message_in p v) delta)) (to_if on dest) (Dio m false to)
+    reply_posts on eo dest et v l =
+        rw eo
+        (dio_posts x v m false to (reply_message x own (received_by k []) (message_in p v) delta) dest
+        (plain_message x m v ∙ e.means v) et (omega (arith, e.addresses, g.addresses)) e.targets (reply_sendable v l) (reply_prefixes v))

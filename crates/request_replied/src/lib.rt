@@ -4,7 +4,7 @@
 ghost use Rattle.std.specs.Prelude.{ℕ, ◌≡◌, cond, List, [], length};
 ghost use Rattle.plain.specs.Address.{Address};
 ghost use Rattle.plain.specs.Given as rules;
-ghost use Rattle.plain.specs.Request.{s_out, reply_message, reply_destination, to_if, accept_request};
+ghost use Rattle.plain.specs.Request.{s_out, reply_message, reply_destination, accept_request};
 ghost use Rattle.answer.specs.Answer.{destination_of};
 ghost use Rattle.own.specs.Settings.{settings_of};
 ghost use Rattle.message.specs.Message.{message_in, received_by};
@@ -78,14 +78,12 @@ fn replied(o: Own, k: Link, p: Parsed, seq: u8, delta: u8) -> Parsed
     }
 }
 
-// Where our reply goes, if we reply.
+// Where our reply goes.
 #[tactic(auto, using(lemmas::proofs::Cases::cases))]
-fn reply_to(on: bool, k: Link, p: Parsed) -> Destination
-    ensures { destination_of result ≡ to_if on (reply_destination (received_by k []) (message_in p [])) }
+fn reply_to(k: Link, p: Parsed) -> Destination
+    ensures { destination_of result ≡ reply_destination (received_by k []) (message_in p []) }
 {
-    if !on {
-        Destination::Nowhere
-    } else if message::s_out(k, p) {
+    if message::s_out(k, p) {
         Destination::Neighbour(k.neighbour)
     } else {
         Destination::Group
@@ -93,19 +91,19 @@ fn reply_to(on: bool, k: Link, p: Parsed) -> Destination
 }
 
 // Our reply, if we reply. `seq` is our number before it is stepped.
-#[tactic(auto, using(lemmas::proofs::Cases::cases), unfolding(plain::specs::Request::accept_request, message::specs::Message::message_in, request::specs::Facts::asked_of))]
+#[tactic(auto, using(lemmas::proofs::Cases::cases, rule::proofs::Laws::posts_nothing), unfolding(plain::specs::Request::accept_request, message::specs::Message::message_in, request::specs::Facts::asked_of))]
 pub fn reply_post(o: Own, k: Link, p: Parsed, a: RequestFacts, seq: u8) -> Post
     requires { Heard p }
     ensures { (t : ℕ) (vector : List Address) → length vector ≡ 16 → Posts (settings_of o) vector (accept_request (settings_of o) seq t (received_by k []) (message_in p vector) (asked_of a)).sent.reply (accept_request (settings_of o) seq t (received_by k []) (message_in p vector) (asked_of a)).sent.reply_to result }
 {
-    let on = request::replies_now(a);
+    if !request::replies_now(a) {
+        return Post::Nothing;
+    }
     let message = replied(o, k, p, rolling::step(seq), message::delta_or_0(a.delta));
-    let to = reply_to(on, k, p);
-    Post {
-        what: decision::dio_if(on),
+    let to = reply_to(k, p);
+    Post::Dio {
         message,
         grown: false,
-        turned: false,
         to,
     }
 }

@@ -1,20 +1,15 @@
 -- What the parts of a decision come to.
-use Prim.Native.Nat.{ℕ}
 use mathlib.Core.Path.{◌≡◌, refl}
-use mathlib.Core.Bool.{Bool, true, false, cond, not}
 use mathlib.Core.List.{List, []}
-use mathlib.Core.Option.{some, none}
 use native.Mathlib.Omega.{arith}
-use lib.Dec.{eqb}
 use lib.ListN.{length, take}
 use lib.Seq.{length-take-le}
 use Rattle.plain.specs.Address.{Address}
-use Rattle.plain.specs.Lists.{all}
 use Rattle.plain.specs.Given.{Settings, Destination}
 use Rattle.message.specs.declared.Parsed.{Parsed}
 use Rattle.writer_option.specs.Sendable.{Sendable}
 use Rattle.decision.specs.Blank.{no_post}
-use Rattle.decision.specs.Decision.{Posts, post_vector, octets_as}
+use Rattle.decision.specs.Decision.{Posts, post_octets}
 use Rattle.rule.specs.Heard.{Heard}
 
 -- ---- What is sent
@@ -28,14 +23,5 @@ heard_sendable p vector e h =
 
 -- nothing is sent, nowhere
 pub posts_nothing : (x : Settings) (vector : List Address) → Posts x vector [] Destination.nowhere no_post
-unfolding octets_as post_vector all
-posts_nothing x vector = record {
-  sends = refl;
-  goes = refl;
-  fits = record {
-    received = omega arith;
-    sendable = record { compr = omega arith; addresses = omega arith; octets = λ h. omega arith };
-    targets = omega arith;
-    prefixes = refl;
-  };
-}
+unfolding post_octets
+posts_nothing x vector = record { sends = refl; goes = refl; fits = tt }

@@ -1,7 +1,7 @@
 -- What a start sends, from its parts.
 use Prim.Native.Nat.{ℕ, ◌≤◌}
 use mathlib.Core.Path.{◌≡◌, refl, ◌∙◌}
-use mathlib.Core.Bool.{true}
+use mathlib.Core.Bool.{true, false}
 use mathlib.Core.List.{List, []}
 use native.Mathlib.Omega.{arith}
 use lib.ListN.{length}
@@ -18,7 +18,8 @@ use Rattle.kept.specs.Kept.{list_of}
 use Rattle.message.specs.Message.{message_in}
 use Rattle.message.specs.declared.Parsed.{Parsed}
 use Rattle.decision.specs.Decision.{Posts}
-use Rattle.rule.proofs.Sent.{dio_posts, plain_post, plain_message}
+use Rattle.decision.specs.declared.Post.TheVariants.{Dio}
+use Rattle.rule.proofs.Sent.{dio_posts, plain_message}
 use Rattle.start.specs.Start as start
 use Rattle.start.specs.Start.{start_of}
 use Rattle.start.specs.declared.Asking.{Asking}
@@ -47,7 +48,7 @@ module _ (x : Settings) (vector : List Address) (own : ℕ) (s : Asking) (ts : T
   start_vector = refl
 
   pub start_posts : (to : code.Destination) → destination_of to ≡ Destination.group
-      → Posts x vector (octets_of (start_message x own (start_of s []) (list_of ts))) Destination.group (plain_post m to)
+      → Posts x vector (octets_of (start_message x own (start_of s []) (list_of ts))) Destination.group (Dio m false to)
   start_posts to et =
-      dio_posts x vector (plain_post m to) (start_message x own (start_of s []) (list_of ts)) Destination.group refl (plain_message x m to vector ∙ (no_addresses m vector en ∙ em)) et
+      dio_posts x vector m false to (start_message x own (start_of s []) (list_of ts)) Destination.group (plain_message x m vector ∙ (no_addresses m vector en ∙ em)) et
       (omega (arith, en)) (omega (arith, ec, g.targets)) (rw start_vector start_sendable) start_prefixes

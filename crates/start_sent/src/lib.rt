@@ -11,7 +11,7 @@ ghost use Rattle.message.specs.Message.{message_in};
 ghost use Rattle.decision.specs.Decision.{Posts};
 ghost use Rattle.start.specs.Start.{start_of, Sendable};
 
-use decision::{Post, What};
+use decision::Post;
 use message::Parsed;
 use own::Own;
 use plain::{Base, Discovery};
@@ -60,11 +60,9 @@ pub fn start_post(o: Own, seq: u8, s: Asking, ts: Targets) -> Post
 {
     let message = start_message(o, rolling::step(seq), s, ts);
     let to = answer::to_group();
-    Post {
-        what: What::Dio,
+    Post::Dio {
         message,
         grown: false,
-        turned: false,
         to,
     }
 }

@@ -12,6 +12,7 @@ ghost use Rattle.finish.specs.Gives.{state_of, Gives};
 ghost use Rattle.start_taken.specs.Taken.{TakenStart, start_decision};
 
 use answer::Answer;
+use decision::Post;
 use finish::Call;
 use message::Live;
 use outcome::Outcome;
@@ -57,7 +58,7 @@ pub fn take_start(
     }
     let d = start_stored::accepted(call.own, call.seq, call.time, s, ts);
     let there = start_sent::start_post(call.own, call.seq, s, ts);
-    let back = decision::no_post();
+    let back = Post::Nothing;
     let vector = no_vector();
     finish::finish(
         instances,

@@ -29,4 +29,4 @@ returns c =
     let second = c.is_some in
     let route = c.is_some-2 in
     done_gives a.call.clock a.call.seq a.call.time a.instances.now a.routes.now a.forward.now a.reply.now (settings_of a.call.own) a.vector.now acc a.l a.d.now a.there.now a.back.now s c.accepted.result second.result second.ensures p.result p.ensures route.result route.ensures q.result q.ensures k.p k.q k.is-0 k.is-1 _ _ _ _ n.result m.result
-    c.store.ensures.instances c.store.ensures.routes n.ensures m.ensures c.accepted.ensures
+    c.store.ensures.instances c.store.ensures.routes n.ensures m.ensures _ _ c.destination-forward_to.ensures c.destination-reply_to.ensures c.accepted.ensures

@@ -1,14 +1,11 @@
 use mathlib.Core.Path.{◌≡◌, refl, sym, ◌∙◌}
-use mathlib.Core.List.{List, []}
 use native.Mathlib.Omega.{arith}
 use Rattle.std.proofs.Common.{rules}
-use Rattle.plain.specs.Address.{Address}
-use Rattle.plain.specs.Given.{Settings, Destination}
 use Rattle.plain.specs.Answers.{view_of, answer_of}
 use Rattle.plain.specs.Plain.{idle}
 use Rattle.answer.specs.Answer.{answer_number}
 use Rattle.own.specs.Settings.{settings_of}
-use Rattle.decision.specs.Decision.{Posts}
+use Rattle.decision.specs.Blank.{no_post}
 use Rattle.rule.proofs.Laws.{posts_nothing}
 use Rattle.reply.specs.Facts.{answered_of}
 use Rattle.finish.specs.Gives.{state_of}
@@ -17,7 +14,7 @@ use Rattle.finish.proofs.Settles.{ready}
 use Rattle.finish.proofs.Decides.{refused, taken}
 use Rattle.reply_taken.proofs.Laws.{no_partner_is, reply_is, answered_is}
 use Rattle.reply_taken.proofs.Answered.{Known, asking, lines, accept, reply_decided, reply_rank, reply_room_lem, reply_settled}
-use Rattle.reply_taken.proofs.take_reply.Goals.{After-gather-a, After-no_post-back, Then-ne, Else-ne}
+use Rattle.reply_taken.proofs.take_reply.Goals.{After-gather-a, Then-ne, Else-ne}
 use Rattle.reply_taken.proofs.take_reply.Goals as goal
 
 -- ---- what is known
@@ -62,10 +59,6 @@ zero : (c : Else-ne) (h : Known c.args.call.clock c.args.call.seq c.args.call.ti
     c.search_route-g.result c.in-Some.partner.row c.gather-a.result) → answer_of (lines h (answered_of c.gather-a.result)) ≡ 0
 zero c h = sym c.judge-answer.ensures ∙ done c
 
--- no reply of our own is written
-quiet : (c : After-no_post-back) → (x : Settings) (vector : List Address) → Posts x vector [] Destination.nowhere c.no_post-back.result
-quiet c x vector = rw c.no_post-back.ensures (posts_nothing x vector)
-
 -- ---- the parts
 
 pub returns-in_default : goal.returns-in_default
@@ -108,12 +101,11 @@ finish-requires c =
     let g = c.search_route-g in
     let v = c.whole in
     let there = c.forward_post-there in
-    let back = c.no_post-back in
     let l = c.live_of-l in
     ready f.result g.result l.result l.ensures (settings_of a.call.own) a.call.time a.instances.now a.routes.now
-    a.forward.now a.reply.now vector there.result back.result f.ensures.here.within f.ensures.here.lives
+    a.forward.now a.reply.now vector there.result no_post f.ensures.here.within f.ensures.here.lives
     g.ensures.here.within g.ensures.here.lives c.requires.forward_room c.requires.reply_room
-    v.ensures.0 there.ensures.fits (quiet (goal.at.finish-requires c).After-no_post-back (settings_of a.call.own) vector).fits
+    v.ensures.0 there.ensures.fits tt
 
 pub returns : goal.returns
 returns c =
@@ -122,9 +114,8 @@ returns c =
     let h = known (goal.at.returns c).After-gather-a in
     let d = c.accepted-d in
     let there = c.forward_post-there in
-    let back = c.no_post-back in
     let l = c.live_of-l in
     rw (taken (lines h) (accept h) (answered_of c.gather-a.result) (asking h) h.gathered.means _ (reply_decided h) (zero (goal.at.returns c).Else-ne (known (goal.at.returns c).After-gather-a)))
     (c.finish.ensures _
-    (reply_settled h l.result l.ensures d.result there.result back.result (d.ensures (settings_of a.call.own) vector) there.ensures
-    (quiet (goal.at.returns c).After-no_post-back (settings_of a.call.own) vector)))
+    (reply_settled h l.result l.ensures d.result there.result no_post (d.ensures (settings_of a.call.own) vector) there.ensures
+    (posts_nothing (settings_of a.call.own) vector)))

@@ -1,19 +1,18 @@
 use mathlib.Core.Path.{◌≡◌, sym, ap, ◌∙◌}
-use mathlib.Core.List.{List, []}
+use mathlib.Core.List.{[]}
 use lib.ListN.{length, length-replicate}
 use borrow.Author.Tests.{eq-eqb}
 use Rattle.std.proofs.Common.{rules}
-use Rattle.plain.specs.Address.{Address, zero_address}
-use Rattle.plain.specs.Given.{Destination}
+use Rattle.plain.specs.Address.{zero_address}
 use Rattle.plain.specs.Request.{accept_start}
 use Rattle.answer.specs.Answer.{answer_number}
 use Rattle.own.specs.Settings.{settings_of}
-use Rattle.decision.specs.Decision.{Posts}
+use Rattle.decision.specs.Blank.{no_post}
 use Rattle.rule.proofs.Laws.{posts_nothing}
 use Rattle.finish.proofs.Laws.{refused_gives}
 use Rattle.start_taken.specs.Taken.{start_decision}
 use Rattle.start_taken.proofs.Laws.{start_answer_lem, new_settled, new_ready}
-use Rattle.start_taken.proofs.take_start.Goals.{After-no_post-back, Then-ne, Else-ne}
+use Rattle.start_taken.proofs.take_start.Goals.{Then-ne, Else-ne}
 use Rattle.start_taken.proofs.take_start.Goals as goal
 
 -- ---- what is known
@@ -24,10 +23,6 @@ done c = search (rules, c.ne.ensures, c.if-ne.false)
 
 not_done : (c : Then-ne) → answer_number c.judge-answer.result ≡ 0 → ⊥
 not_done c e = search (rules, c.ne.ensures, c.if-ne.true, e)
-
--- no reply of our own is written
-quiet : (c : After-no_post-back) (vector : List Address) → Posts (settings_of c.args.call.own) vector [] Destination.nowhere c.no_post-back.result
-quiet c vector = rw c.no_post-back.ensures (posts_nothing (settings_of c.args.call.own) vector)
 
 -- ---- the parts
 
@@ -48,9 +43,8 @@ pub finish-requires : goal.finish-requires
 finish-requires c =
     let a = c.args in
     let there = c.start_post-there in
-    new_ready c.none_live.result c.none_live.ensures (settings_of a.call.own) a.call.time a.instances.now a.routes.now a.forward.now a.reply.now c.no_vector-vector.result there.result c.no_post-back.result
-    c.requires.forward_room c.requires.reply_room (ap length c.no_vector-vector.ensures ∙ length-replicate 16 zero_address) (there.ensures a.call.time _ []).fits
-    (quiet (goal.at.finish-requires c).After-no_post-back _).fits
+    new_ready c.none_live.result c.none_live.ensures (settings_of a.call.own) a.call.time a.instances.now a.routes.now a.forward.now a.reply.now c.no_vector-vector.result there.result no_post
+    c.requires.forward_room c.requires.reply_room (ap length c.no_vector-vector.ensures ∙ length-replicate 16 zero_address) (there.ensures a.call.time _ []).fits tt
 
 pub returns : goal.returns
 unfolding start_decision accept_start
@@ -66,5 +60,5 @@ returns c =
     ∙ (sym judge.ensures ∙ done (goal.at.returns c).Else-ne) in
     rw (eq-eqb _ 0 zero)
     (c.finish.ensures _
-    (new_settled c.none_live.result c.none_live.ensures (settings_of a.call.own) c.no_vector-vector.result _ c.accepted-d.result c.start_post-there.result c.no_post-back.result
-    (c.accepted-d.ensures targets) (c.start_post-there.ensures a.call.time c.no_vector-vector.result targets) (quiet (goal.at.returns c).After-no_post-back _)))
+    (new_settled c.none_live.result c.none_live.ensures (settings_of a.call.own) c.no_vector-vector.result _ c.accepted-d.result c.start_post-there.result no_post
+    (c.accepted-d.ensures targets) (c.start_post-there.ensures a.call.time c.no_vector-vector.result targets) (posts_nothing (settings_of a.call.own) c.no_vector-vector.result)))
