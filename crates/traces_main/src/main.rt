@@ -73,11 +73,14 @@ impl<'a> Node<'a> {
     // A received message: what the call comes to.
     fn message(&mut self, o: &[u8]) -> Outcome {
         let h = self.host;
+        // whole slices first: the borrow checker covers no part of a field that is an array
+        let forward = &mut self.forward[..];
+        let reply = &mut self.reply[..];
         calls::message(
             self.instances,
             self.routes,
-            &mut self.forward[..h.forward.min(2048)],
-            &mut self.reply[..h.reply.min(2048)],
+            &mut forward[..h.forward.min(2048)],
+            &mut reply[..h.reply.min(2048)],
             &o[trace_input::message_from(o)..],
             h.own,
             h.clock,
@@ -90,12 +93,15 @@ impl<'a> Node<'a> {
     // A start: what the call comes to.
     fn start(&mut self, o: &[u8]) -> Outcome {
         let h = self.host;
+        // whole slices first: the borrow checker covers no part of a field that is an array
+        let forward = &mut self.forward[..];
+        let reply = &mut self.reply[..];
         let targets = trace_input::targets_at(o);
         calls::start(
             self.instances,
             self.routes,
-            &mut self.forward[..h.forward.min(2048)],
-            &mut self.reply[..h.reply.min(2048)],
+            &mut forward[..h.forward.min(2048)],
+            &mut reply[..h.reply.min(2048)],
             &targets[..trace_input::target_count(o)],
             h.own,
             h.clock,
