@@ -88,19 +88,17 @@ instance_sort Row part ends kind row ended parted = record {
   parted = parted;
 }
 
-pub request_ended : (a : Instance) (b : RequestRow) → as_request a ≡ some b → instance_deadline a ≡ b.deadline
-request_ended (Instance.request r) b e = cc
-request_ended (Instance.reply r) b e = cc
+-- a row of a kind ends when what the record means does
+pub kind_ended : (a : Instance) → ((b : RequestRow) → as_request a ≡ some b → instance_deadline a ≡ b.deadline)
+    × ((b : ReplyRow) → as_reply a ≡ some b → instance_deadline a ≡ b.deadline)
+kind_ended (Instance.request r) = (λ b e. cc, λ b e. cc)
+kind_ended (Instance.reply r) = (λ b e. cc, λ b e. cc)
 
 abbrev pub request_sort : Sort
-request_sort = instance_sort RequestRow as_request (λ b. b.deadline) 1 request_of request_ended request_part
-
-pub reply_ended : (a : Instance) (b : ReplyRow) → as_reply a ≡ some b → instance_deadline a ≡ b.deadline
-reply_ended (Instance.request r) b e = cc
-reply_ended (Instance.reply r) b e = cc
+request_sort = instance_sort RequestRow as_request (λ b. b.deadline) 1 request_of (λ a. (kind_ended a).0) request_part
 
 abbrev pub reply_sort : Sort
-reply_sort = instance_sort ReplyRow as_reply (λ b. b.deadline) 2 reply_of reply_ended reply_part
+reply_sort = instance_sort ReplyRow as_reply (λ b. b.deadline) 2 reply_of (λ a. (kind_ended a).1) reply_part
 
 pub route_ended : (a b : Route) → ◌≡◌ {A = Option Route} (some a) (some b) → route_deadline a ≡ route_deadline b
 route_ended a b e = cc
@@ -132,13 +130,14 @@ module _ (S : Sort) (p : S.Row → Bool) (r : S.Record) where
       go false = refl
 
 -- a row of that key, told of the record
-pub request_is : (t instance : ℕ) (dodagid : Address) (r : InstanceRow) → request_here t instance dodagid (instance_of r) ≡ row_here 1 t instance dodagid r
-unfolding request_of
-request_is t instance dodagid r = sort_here request_sort (request_for t instance dodagid) r
+module _ (t instance : ℕ) (dodagid : Address) (r : InstanceRow) where
+  pub request_is : request_here t instance dodagid (instance_of r) ≡ row_here 1 t instance dodagid r
+  unfolding request_of
+  request_is = sort_here request_sort (request_for t instance dodagid) r
 
-pub reply_is : (t instance : ℕ) (dodagid : Address) (r : InstanceRow) → reply_here t instance dodagid (instance_of r) ≡ row_here 2 t instance dodagid r
-unfolding reply_of
-reply_is t instance dodagid r = sort_here reply_sort (reply_for t instance dodagid) r
+  pub reply_is : reply_here t instance dodagid (instance_of r) ≡ row_here 2 t instance dodagid r
+  unfolding reply_of
+  reply_is = sort_here reply_sort (reply_for t instance dodagid) r
 
 -- a route of those three, told of the record
 pub route_is : (t : ℕ) (source destination : Address) (instance : ℕ) (r : RouteRow)
