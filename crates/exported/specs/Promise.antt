@@ -31,6 +31,8 @@ use Rattle.kajakulm.specs.contracts.kajakulm_start as start
 
 -- In both: any arguments and any result r; `x.now` is what stands behind a reference x, and s are the lent parameters as the call left them.
 -- What stands before the arguments is the program logic's.
+-- Two definitions, and not one over what is asked: a call's own signature types its arguments and what they are left as, so one for both would be
+-- handed a function into each.
 
 -- `kajakulm_message`
 abbrev pub MessageContract : Type 2
