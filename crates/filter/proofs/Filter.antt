@@ -21,7 +21,7 @@ use Rattle.slot.specs.Slot.{class_of, chosen_of}
 use Rattle.slot.proofs.Laws.{class_le}
 use Rattle.key.specs.Pair.{twins_by}
 use Rattle.key.proofs.Plain.{twins_are}
-use Rattle.key.proofs.Any.{not_so, so, any_false, any_not, two_start, two_hit, two_more, two_end, two_less}
+use Rattle.key.proofs.Any.{not_so, so, any_false, any_not, two_start, two_hit, two_more, two_less}
 use Rattle.filter.proofs.Words.{or_has, or_keeps}
 
 -- ---- words
@@ -153,9 +153,6 @@ module _ (slot : ℕ → ℕ) (T : Table) (mask p : ℕ) (rows : List T.Row) whe
 
   pub passed_none : (size : ℕ) (ws : List ℕ) → length ws ≡ size → Passed size 0 ws
   passed_none size ws e = (omega arith, e, two_start (in_class T.hash mask p (twins_of T)) rows, none_held ws)
-
-  pub passed_all : (size j : ℕ) (ws : List ℕ) → Passed size j ws → length rows ≤ j → any_two (in_class T.hash mask p (twins_of T)) rows ≡ false
-  passed_all size j ws w h = two_end (in_class T.hash mask p (twins_of T)) rows j h w.2
 
   -- with a name for each thing that the code computes on the way
   module _ (j h s : ℕ) (v on m : Bool) (ws : List ℕ) (r : T.Row) (low : j < length rows) (at : r ≡ get_or rows j r)

@@ -15,7 +15,7 @@ use Rattle.std.proofs.lemmas.List.Recursion.{is_position_or_len}
 use Rattle.std.specs.Fn.{Called}
 use Rattle.std.specs.Iterator.{YieldsThen}
 use Rattle.std.specs.List.{FoldsTo, position_or_len}
-use Rattle.std.specs.Option.{MatchOption, is_some, unwrap_or}
+use Rattle.std.specs.Option.{MatchOption, is_some}
 use Rattle.std.specs.Prelude.{Option, Some, None}
 use Rattle.first.proofs.Search.{map_drop}
 use Rattle.first.specs.First.{first, first_from, below, found_at, found_from}
@@ -24,15 +24,6 @@ use Rattle.first.specs.First.{first, first_from, below, found_at, found_from}
 pub first_listed : {R A : Type 0} (read : R → A) (p : A → Bool) (rows : List R) → first p (map read rows) ≡ position_or_len (λ r. p (read r)) rows
 unfolding first
 first_listed read p = is_position_or_len (λ rows. first p (map read rows)) (λ r. p (read r)) refl (λ x xs. ap (cond (p (read x)) 0) (omega arith))
-
-pub first_within : {A : Type 0} (p : A → Bool) (xs : List A) → first p xs ≤ length xs
-unfolding first
-first_within p [] = omega arith
-first_within p (x ∷ xs) = go (p x) (first_within p xs)
-  where
-    go : (y : Bool) → first p xs ≤ length xs → cond y 0 (suc (first p xs)) ≤ suc (length xs)
-    go true h = omega arith
-    go false h = omega arith
 
 -- what `position` answers after a chain that yields the records
 pub position_run : {S T R A F : Type 0} {steps : S → Option T → S → Type 0} {v : T → R} {g : Mut F (T × Unit {0}) Bool} {s : S} {rows : List R} (read : R → A) (p : A → Bool) (u : S) (f : F) → (r : Option ℕ) → (xs : List T) × (o : Option T) × (j : F) × YieldsThen steps s xs o u × FoldsTo (λ p x q. Called g p (x, tt) false q) f xs j × MatchOption o (r ≡ None) (λ x. (r ≡ Some (length xs)) × ((h : F) × Called g j (x, tt) true h)) → YieldsList steps v s rows → ((x : T) (b : Bool) (q : F) → Called g f (x, tt) b q → (q ≡ f) × (b ≡ p (read (v x)))) → r ≡ found_at p (map read rows)
@@ -57,14 +48,6 @@ module _ {A : Type 0} (xs : List A) (n : ℕ) where
       go : (b : Bool) → ltb n (length xs) ≡ b → cond b (Some n) None ≡ None → length xs ≤ n
       go true e f = absurd (none-some n (sym f))
       go false e f = ltb-false n (length xs) e
-
-  -- the length in place of none
-  below_or : n ≤ length xs → unwrap_or (below xs n) (length xs) ≡ n
-  below_or h = go (ltb n (length xs)) refl
-    where
-      go : (b : Bool) → ltb n (length xs) ≡ b → unwrap_or (cond b (Some n) None) (length xs) ≡ n
-      go true e = refl
-      go false e = let m : length xs ≤ n = ltb-false n (length xs) e in omega arith
 
   below_told : is_some (below xs n) ≡ ltb n (length xs)
   below_told = go (ltb n (length xs))
@@ -93,11 +76,6 @@ module _ {R A : Type 0} (read : R → A) (p : A → Bool) (rows : List R) (r : O
     -- whether there is one
     pub found_told : is_some r ≡ ltb (first p (map read rows)) (length rows)
     found_told = rw (e, ← length-map rows read) (below_told (map read rows) (first p (map read rows)))
-
-    -- the length in place of none
-    pub found_or : unwrap_or r (length rows) ≡ first p (map read rows)
-    found_or =
-        rw (e, ← length-map rows read) (below_or (map read rows) (first p (map read rows)) (first_within p (map read rows)))
 
   module _ (i : ℕ) (e : r ≡ found_from p i (map read rows)) where
     pub from_first : (k : ℕ) → r ≡ Some k → k ≡ first_from p i (map read rows)

@@ -6,7 +6,7 @@ use mathlib.Core.List.{List, [], ◌∷◌, ◌++◌}
 use native.Mathlib.Omega.{arith}
 use native.Mathlib.Numerals.{add-one}
 use lib.ListN.{length, get_or, take, drop, take-append-drop}
-use lib.Seq.{take-suc, take_all}
+use lib.Seq.{take-suc}
 use Rattle.plain.specs.Lists.{any, any_two}
 use Rattle.lemmas.proofs.Choice.{true_false, or_left, or_right, or_neither}
 
@@ -97,9 +97,6 @@ module _ {A : Type 0} (p : A → A → Bool) where
             let f : any_two p (take (suc j) xs) ≡ false = two_front (take (suc j) xs) (drop (suc j) xs) (rw (take-append-drop (suc j) xs) n) in
             let g : any_two p (take j xs ++ (r ∷ [])) ≡ false = rw to_row at f in
             true_false (sym e ∙ or_right (any_two p (take j xs)) (any (λ (x : A). p x r) (take j xs)) (sym (two_snoc (take j xs) r) ∙ g))
-
-  pub two_end : (xs : List A) (j : ℕ) → length xs ≤ j → any_two p (take j xs) ≡ false → any_two p xs ≡ false
-  two_end xs j h e = rw (take_all j xs h) at e
 
 module _ {A : Type 0} (p q : A → A → Bool) where
   pub two_same : ((x y : A) → p x y ≡ q x y) → (xs : List A) → any_two p xs ≡ any_two q xs

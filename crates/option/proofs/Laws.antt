@@ -7,7 +7,7 @@ use lib.ListN.{length, get_or, drop, length-drop, drop_of_length-le}
 use lib.Seq.{drop-drop}
 use borrow.Author.Tests.{ne_eqb, le-leb, lt-leb}
 use Rattle.lemmas.proofs.Walk.{left_at}
-use Rattle.option.specs.declared.Next.TheVariants.{Pad, Body, End, Cut}
+use Rattle.option.specs.declared.Next.TheVariants.{Body, End, Cut}
 use Rattle.option.specs.Follows.{Follows}
 
 -- ---- A position
@@ -17,9 +17,6 @@ module _ (msg : List ℕ) (at : ℕ) where
   at_end h = record { reads = λ rest. rw (drop_of_length-le msg {i = at} h); placed = omega arith }
 
   module _ (h : at < length msg) where
-    pub at_pad : get_or msg at 0 ≡ 0 → Follows msg at Pad
-    at_pad e = record { reads = λ rest. rw (left_at msg at 0 h, e); placed = h }
-
     module _ (k : get_or msg at 0 ≡ 0 → ⊥) where
       pub at_last : length msg ≤ at + 1 → Follows msg at Cut
       at_last l = record {

@@ -5,7 +5,6 @@ use mir.Val.{Val}
 use denote.Laws.{Is}
 use denote.Struct.Declared.{row}
 use Rattle.row.specs.contracts.InstanceRow as instance
-use Rattle.targets.specs.contracts.Targets as targets
 use mathlib.Core.Path.{◌≡◌, refl, sym}
 use mathlib.Core.Bool.{false}
 use mathlib.Core.List.{List, []}
@@ -36,9 +35,6 @@ none_found = refl
 
 pub row_eight : (r : InstanceRow) (vs : List Val) → Is (row instance.the_type) r vs → length r.targets ≡ 8
 row_eight r vs g = search rules
-
-pub list_eight : (ts : Targets) (vs : List Val) → Is (row targets.the_type) ts vs → length ts.list ≡ 8
-list_eight ts vs g = search rules
 
 -- ---- The targets of a message
 

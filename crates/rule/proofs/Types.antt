@@ -1,19 +1,15 @@
 -- What the types of values say: the lengths of their arrays, as a parameter's `.good` has them.
-use Prim.Native.Nat.{ℕ}
 use mir.Val.{Val}
 use borrow.Author.Rules.{rules}
 use denote.Laws.{Is}
 use denote.Struct.Declared.{row}
-use mathlib.Core.Path.{◌≡◌, sym, ◌∙◌}
-use mathlib.Core.List.{List, map}
-use lib.ListN.{length, length-map}
+use mathlib.Core.Path.{◌≡◌}
+use mathlib.Core.List.{List}
+use lib.ListN.{length}
 use Rattle.own.specs.contracts.Own as own
 use Rattle.own.specs.declared.Own.{Own}
 use Rattle.message.specs.contracts.Parsed as parsed
 use Rattle.message.specs.declared.Parsed.{Parsed}
-
-pub length_mapped : {X Y : Type 0} (h : X → Y) (l : List X) (n : ℕ) → length (map h l) ≡ n → length l ≡ n
-length_mapped h l n e = sym (length-map l h) ∙ e
 
 pub own_sixteen : (o : Own) (vs : List Val) → Is (row own.the_type) o vs → (length o.receiving ≡ 16) × (length o.sending ≡ 16)
 own_sixteen o vs g = (search rules, search rules)
