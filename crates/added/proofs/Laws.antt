@@ -5,10 +5,8 @@ use mathlib.Core.Bool.{Bool, true, false}
 use mathlib.Core.List.{List, [], ◌∷◌, ◌++◌, append_assoc}
 use native.Mathlib.Omega.{arith}
 use native.Mathlib.Numerals.{add-one, add-two}
-use lib.ListN.{length, take, drop, set, length-append, length-drop, length-set}
+use lib.ListN.{length, take, set, length-set}
 use lib.Seq.{take-suc-set}
-use borrow.Rule.Slice.PartMut.{put_mid}
-use Rattle.std.proofs.lemmas.Slice.{take-put_mid}
 use Rattle.plain.specs.Lists.{same}
 use Rattle.plain.specs.Address.{Address}
 use Rattle.plain.specs.Given.{Settings}
@@ -43,32 +41,16 @@ module _ (x : Settings) (h : Bool) (n : ℕ) (f : h ≡ false) where
       go true q = absurd (e (rw f (omega (arith, own_count x true q))))
       go false q = q
 
--- `room` is the array before the vector `v` was copied to its front, as `w`
-module _ (x : Settings) (h : Bool) (f : h ≡ false) (room v w : List Address) (c : w ≡ v) where
-  abbrev n : ℕ
-  n = length v
-
-  abbrev array : List Address
-  array = put_mid 0 n room w
-
-  front : take n array ≡ v
-  front = take-put_mid 0 n room w n (omega (arith, ap length c)) (omega arith) ∙ c
-
-  long : n < length room → length array ≡ length room
-  long k =
-      let e : length array ≡ length w + length (drop n room) = length-append w (drop n room) in
-      omega (arith, e, ap length c, length-drop n room)
-
-  pub grow_one : same x.receiving x.sending ≡ true → n < length room → take (grown_count x h n) (set array n x.receiving) ≡ grown x h v
+  pub grow_one : (v : List Address) → same x.receiving x.sending ≡ true → n < length v
+      → take (grown_count x h n) (set v n x.receiving) ≡ grown x h (take n v)
   unfolding grown_count own_vector
-  grow_one e k = rw (f, e, add-one) (take-suc-set array n x.receiving (omega (arith, long k, k)) ∙ ap (λ (u : List Address). u ++ (x.receiving ∷ [])) front)
+  grow_one v e k = rw (f, e, add-one) (take-suc-set v n x.receiving k)
 
-  pub grow_two : same x.receiving x.sending ≡ false → n + 1 < length room
-      → take (grown_count x h n) (set (set array n x.receiving) (n + 1) x.sending) ≡ grown x h v
+  pub grow_two : (v : List Address) → same x.receiving x.sending ≡ false → n + 1 < length v
+      → take (grown_count x h n) (set (set v n x.receiving) (n + 1) x.sending) ≡ grown x h (take n v)
   unfolding grown_count own_vector
-  grow_two e k =
-      let l = long (omega arith) in
+  grow_two v e k =
       rw (f, e, add-two, add-one)
-      (take-suc-set (set array n x.receiving) (suc n) x.sending (rw (length-set array n x.receiving) (omega (arith, l)))
-      ∙ ap (λ (u : List Address). u ++ (x.sending ∷ [])) (take-suc-set array n x.receiving (omega (arith, l)) ∙ ap (λ (u : List Address). u ++ (x.receiving ∷ [])) front)
-      ∙ append_assoc v (x.receiving ∷ []) (x.sending ∷ []))
+      (take-suc-set (set v n x.receiving) (suc n) x.sending (rw (length-set v n x.receiving) (omega arith))
+      ∙ ap (λ (w : List Address). w ++ (x.sending ∷ [])) (take-suc-set v n x.receiving (omega arith))
+      ∙ append_assoc (take n v) (x.receiving ∷ []) (x.sending ∷ []))

@@ -25,8 +25,8 @@ module _ (x : Settings) (p : Parsed) (has_grown : Bool) (vector : List Address) 
     unfolding post_vector
     grown_size = rw g (grown_length x false (take p.n vector) ∙ ap (grown_count x false) taken_length ∙ sym e)
 
-    pub grown_fits : (n ≡ grown_count x false (length (take p.n vector))) × (n ≤ 16)
-    grown_fits = (rw taken_length e, omega (arith, grown_size, fits.sendable.addresses))
+    pub grown_fits : (n ≡ grown_count x false p.n) × (n ≤ 16)
+    grown_fits = (e, omega (arith, grown_size, fits.sendable.addresses))
 
     pub grown_is : (v : List Address) → take n v ≡ grown x false (take p.n vector) → post_message x p has_grown vector ≡ message_with p (take n v)
     unfolding post_message post_vector

@@ -35,13 +35,13 @@ fn put_dio(out: &mut [u8], o: &Own, p: &Parsed, has_grown: bool, vector: &[[u8; 
     requires { Writable (settings_of o.now) p.now has_grown vector.now × (length vector.now ≡ 16) × (1236 ≤ length out.old) }
     ensures { Written (octets_of (post_message (settings_of o.now) p.now has_grown vector.now)) out.old out.new result }
 {
-    let received = &vector[..p.n];
+    let received = p.n;
     if has_grown {
-        let n = grown::grown_count(*o, false, p.n);
-        let v = added::grown_vector(*o, false, n, received);
+        let n = grown::grown_count(*o, false, received);
+        let v = added::grown_vector(*o, false, received, n, vector);
         return put_parsed(out, p, &v[..n]);
     }
-    put_parsed(out, p, received)
+    put_parsed(out, p, &vector[..received])
 }
 
 // OrigNode's path, turned round where it came asymmetric.
