@@ -7,13 +7,14 @@ ghost use Rattle.targets.specs.Collected.{place_for, counted, none_yet, targets_
 
 use plain::Target;
 
-// Targets, each once: the first `count` of the list, which is an array, as there is no heap. `over`: there were more than
-// eight. It stands beside the list, as Gathered (arts::read_targets, gather::gather) tells few, room and padded of the list also where
-// there were more than eight, and may not change. That count is at most 8 is asked by clauses, and is no invariant: targ_node::named_in
-// and targets_in make Targets of any Parsed and of any Count, and may not ask more.
+// Targets, each once: the first `count` of the list, which is an array, as there is no heap.
 #[derive(Clone, Copy)]
 pub struct Targets {
+    // There were more than eight. It stands beside the list, since Gathered (arts::read_targets, gather::gather) tells few, room and padded
+    // of the list also where there were more than eight, which may not change.
     pub over: bool,
+    // At most 8. Clauses ask it, and no invariant: targ_node::named_in and targets_in make Targets of any Parsed and Count, and may not
+    // ask more.
     pub count: usize,
     pub list: [Target; 8],
 }
