@@ -29,6 +29,7 @@ pub struct Reading {
     pub base: Base,
     pub configuration: Option<[u8; 14]>,
     pub discovery: Discovery,
+    // Numbers, and no slice: heard::vector_of's clause speaks of them, and a Reading is handed on by value.
     pub at: usize,
     pub size: usize,
     pub count: usize,
@@ -54,10 +55,7 @@ fn read_configuration(msg: &[u8], f: Found) -> Option<[u8; 14]>
 fn route(s: Scan) -> Found
     ensures { (msg : List ℕ) → Outlined msg s → unfit msg ≡ false → RouteAt msg result }
 {
-    if fault::is_reply(s) {
-        return s.rrep;
-    }
-    s.rreq
+    if fault::is_reply(s) { s.rrep } else { s.rreq }
 }
 
 // A message that is not refused.

@@ -7,10 +7,10 @@ ghost use Rattle.scan.specs.Scanned.{OptionTaken, Scanned};
 
 use option::Next;
 
-// The options of one type: how many, as far as 2, and where the body of the first one is. A count, and no Option of a place: the rules tell
-// none, one and more apart.
+// The options of one type: how many, as far as 2, and where the body of the first one is.
 #[derive(Clone, Copy, Default)]
 pub struct Found {
+    // No enum of none, one and more: it would name start and end twice. Places are numbers, and no slice, as in option::Next: Told speaks of them.
     pub count: usize,
     pub start: usize,
     pub end: usize,
@@ -31,13 +31,14 @@ fn noted(f: Found, start: usize, end: usize) -> Found
     ensures { (kind : ℕ) → Noted kind kind start end f result }
 {
     if f.count == 0 {
-        return Found {
+        Found {
             count: 1,
             start,
             end,
-        };
+        }
+    } else {
+        Found { count: 2, ..f }
     }
-    Found { count: 2, ..f }
 }
 
 // What a pass has found after one more option. Most types (see option::Next) are none of these four.
@@ -45,16 +46,25 @@ fn noted(f: Found, start: usize, end: usize) -> Found
 fn with_option(s: Scan, kind: u8, start: usize, end: usize) -> Scan
     ensures { OptionTaken kind start end s result }
 {
-    // copied once, then one field of four: a struct update in each branch is no plainer
-    let mut r = s;
     match kind {
-        option::CONFIGURATION => r.configuration = noted(s.configuration, start, end),
-        option::RREQ => r.rreq = noted(s.rreq, start, end),
-        option::RREP => r.rrep = noted(s.rrep, start, end),
-        option::ART => r.art = noted(s.art, start, end),
-        _ => {}
+        option::CONFIGURATION => Scan {
+            configuration: noted(s.configuration, start, end),
+            ..s
+        },
+        option::RREQ => Scan {
+            rreq: noted(s.rreq, start, end),
+            ..s
+        },
+        option::RREP => Scan {
+            rrep: noted(s.rrep, start, end),
+            ..s
+        },
+        option::ART => Scan {
+            art: noted(s.art, start, end),
+            ..s
+        },
+        _ => s,
     }
-    r
 }
 
 // All options of a message, each read in its turn. None where one is past the end or has a wrong body: the pass ends at the first.
@@ -67,9 +77,7 @@ pub fn read_options(msg: &[u8]) -> Option<Scan>
     // an option moves `at` by its own size: the range says only that the pass ends
     for _ in 0..msg.len() {
         match option::next_option(msg, at) {
-            Next::Pad => {
-                at = at + 1;
-            }
+            Next::Pad => at += 1,
             Next::Body { kind, start, end } => {
                 if option::is_bad_option(kind, &msg[start..end]) {
                     return None;

@@ -5,5 +5,5 @@ use Rattle.scan.proofs.noted.Goals as goal
 pub returns-then-f-eq0 : goal.returns-then-f-eq0
 returns-then-f-eq0 c = λ kind msg all rest w v. seen_first w v refl c.if-f-eq0.true
 
-pub returns : goal.returns
-returns c = λ kind msg all rest w v. seen_again w v refl c.if-f-eq0.false
+pub returns-else-f-eq0 : goal.returns-else-f-eq0
+returns-else-f-eq0 c = λ kind msg all rest w v. seen_again w v refl c.if-f-eq0.false
