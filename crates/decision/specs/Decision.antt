@@ -43,7 +43,7 @@ post_octets x Nothing vector = []
 post_octets x (Dio m has_grown to) vector = octets_of (post_message x m has_grown vector)
 post_octets x (Path n turned) vector = elided 0 (post_path n turned vector)
 
--- "OrigNode's path" is for the caller; what is not sent goes nowhere
+-- "to the caller (OrigNode's path) or, at length 0, nowhere"
 abbrev pub post_to : Post → Destination
 post_to Nothing = Destination.nowhere
 post_to (Dio m has_grown to) = destination_of to
