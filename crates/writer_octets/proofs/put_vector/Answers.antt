@@ -3,7 +3,6 @@ use mathlib.Core.List.{[]}
 use mathlib.Core.Path.{refl}
 use native.Mathlib.Omega.{arith}
 use lib.ListN.{length, get_or, length-take, length-drop}
-use lib.Seq.{take_all}
 use borrow.Author.Rules.{rules}
 use Rattle.lemmas.proofs.Buffer.{written_then, written_none}
 use Rattle.plain.specs.Address.{elide}
@@ -28,6 +27,3 @@ pub loop-a-preserved : goal.loop-a-preserved
 loop-a-preserved c =
     let l = c.loop-a in
     (search rules, rw (parts_more (elide c.args.compr) l.a-index c.args.vector.now [] (search rules)) (written_then _ _ _ _ _ _ _ l.invariant.1 c.put_address-at.ensures))
-
-pub returns : goal.returns
-returns c = rw (take_all c.loop-a.a-index c.args.vector.now (search rules)) at c.loop-a.invariant.1
