@@ -43,11 +43,13 @@ fn route(t: u64, k: Link, p: Parsed) -> RouteRow
     let source = pairing::orig_node(p);
     let destination = p.base.dodagid;
     let next = k.neighbour;
+    // the proof names it
+    let number = pairing::partner_number(p);
     let fields = RouteFields {
         source,
         destination,
         next,
-        instance: pairing::partner_number(p),
+        instance: number,
         seq: pairing::dest_seq(p),
     };
     rule::route(t, fields, p.configuration)
