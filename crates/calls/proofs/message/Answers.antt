@@ -1,8 +1,7 @@
-use mathlib.Core.Path.{◌≡◌, refl, sym, ◌∙◌}
-use mathlib.Core.Bool.{false}
+use mathlib.Core.Path.{refl, sym, ◌∙◌}
 use Rattle.plain.specs.Given.{Event}
 use Rattle.message.specs.Message.{received_by}
-use Rattle.called.proofs.Laws.{Handed, handed, is_bad, is_bad_event, Admitted, admit, Understood, bad_lent_lem, bad_event, wrong_state_lem, short, long, octets_refused, octets_read, own_refused, taken, reply_step, request_step}
+use Rattle.called.proofs.Laws.{Handed, handed, Admitted, admit, Understood, bad_lent_lem, bad_event, wrong_state_lem, short, long, octets_refused, octets_read, own_refused, taken, reply_step, request_step}
 use Rattle.calls.proofs.message.Goals.{Start, Else-is_wrong, After-vector_of-v}
 use Rattle.calls.proofs.message.Goals as goal
 

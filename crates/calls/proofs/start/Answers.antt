@@ -1,5 +1,4 @@
 use mathlib.Core.Path.{◌≡◌, refl, sym, ◌∙◌}
-use mathlib.Core.Bool.{false}
 use Rattle.plain.specs.Given.{Event}
 use Rattle.start.specs.Start.{start_of}
 use Rattle.called.proofs.Laws.{Handed, handed, is_bad_event, Admitted, admit, bad_lent_lem, bad_event, wrong_state_lem, taken_start, start_step}
