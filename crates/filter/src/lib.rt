@@ -15,7 +15,7 @@ ghost use Rattle.filter.specs.Filter.{bits_of, maybe_of, marked_of};
 
 use row::{InstanceRow, RouteRow};
 
-// A row of a table: it has a key, and is live or not. Rows of one key have one hash and one ending, and more the search does not rest on.
+// A row of a table: it has a key, and is live or not. Rows of one key have one hash and one ending, and the search rests on no more.
 pub trait Keyed: Copy {
     ghost key: { Self → Self → Bool };
 
@@ -30,8 +30,8 @@ pub trait Keyed: Copy {
 
     ghost ended: { (a b : Self) → key a b ≡ true → ending a ≡ ending b };
 
-    fn are_twins(self, b: Self, t: u64) -> bool
-        ensures { result ≡ twins_by key (live t) self b };
+    fn has_key_of(self, b: Self) -> bool
+        ensures { result ≡ key self b };
 
     fn is_live(self, t: u64) -> bool
         ensures { result ≡ live t self };
@@ -56,8 +56,8 @@ impl Keyed for InstanceRow {
 
     ghost ended = { λ a b e. ap ending_of (key_parts a b e).2 };
 
-    fn are_twins(self, b: InstanceRow, t: u64) -> bool {
-        key::are_twins(self, b, t)
+    fn has_key_of(self, b: InstanceRow) -> bool {
+        key::is_same_key(self, b)
     }
 
     fn is_live(self, t: u64) -> bool {
@@ -86,8 +86,8 @@ impl Keyed for RouteRow {
 
     ghost ended = { λ a b e. ap ending_of (three_parts a b e).1 };
 
-    fn are_twins(self, b: RouteRow, t: u64) -> bool {
-        route_key::are_twin_routes(self, b, t)
+    fn has_key_of(self, b: RouteRow) -> bool {
+        route_key::is_same_three(self, b)
     }
 
     fn is_live(self, t: u64) -> bool {
@@ -101,6 +101,14 @@ impl Keyed for RouteRow {
     fn ending(self) -> u8 {
         route_key::route_ending(self)
     }
+}
+
+// Two rows of one key, both live at time t. The key is compared first: few rows have the same.
+#[tactic(auto, using(lemmas::proofs::Cases::cases), unfolding(key::specs::Pair::twins_by))]
+pub fn are_twins<R: Keyed>(a: R, b: R, t: u64) -> bool
+    ensures { result ≡ twins_by R.key (R.live t) a b }
+{
+    a.has_key_of(b) && a.is_live(t) && b.is_live(t)
 }
 
 // ---- the words

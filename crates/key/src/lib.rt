@@ -1,26 +1,19 @@
-// Two instance rows, by value: whether they have one key, and are twins (01, answer 2). Routes have another key, and so functions of their own
+// Two instance rows, by value: whether they have one key (01, answer 2). Routes have another key, and so functions of their own
 // (crates/route_key): what both tables share is the trait Keyed (crates/filter).
 #![tactic(auto)]
 
 ghost use Rattle.std.specs.Prelude.{◌≡◌};
-ghost use Rattle.key.specs.Pair.{same_key, twin_rows, ending_of};
+ghost use Rattle.key.specs.Pair.{same_key, ending_of};
 
 use row::InstanceRow;
 
 // The addresses are compared first: few are the same, while kinds and numbers often are.
 #[tactic(auto, using(lemmas::proofs::Cases::cases), unfolding(crate::specs::Pair::same_key))]
-fn is_same_key(a: InstanceRow, b: InstanceRow) -> bool
+pub fn is_same_key(a: InstanceRow, b: InstanceRow) -> bool
     ensures { result ≡ same_key a b }
 {
+    // the kind is a number, as the record of the C interface has it
     address::is_same(a.dodagid, b.dodagid) && a.kind == b.kind && a.instance == b.instance
-}
-
-// The key is compared first: few rows have the same.
-#[tactic(auto, using(lemmas::proofs::Cases::cases), unfolding(crate::specs::Pair::twins_by))]
-pub fn are_twins(a: InstanceRow, b: InstanceRow, t: u64) -> bool
-    ensures { result ≡ twin_rows t a b }
-{
-    is_same_key(a, b) && live::is_live(a, t) && live::is_live(b, t)
 }
 
 // The last octet of the key's address.

@@ -1,4 +1,4 @@
-// Whether two live routes have one key (answer 2), found as in crates/twins.
+// Whether two live routes have one key (answer 2): the search is that of crates/twins.
 #![tactic(auto)]
 
 ghost use Rattle.std.specs.Prelude.{◌≡◌, map};

@@ -20,10 +20,10 @@ use row::InstanceRow;
 fn scan<R: Keyed>(before: &[R], row: &R, t: u64) -> bool
     ensures { result ≡ any (λ a. twins_by R.key (R.live t) a row.now) before.now }
 {
-    before.iter().any(|a| a.are_twins(*row, t))
+    before.iter().any(|a| filter::are_twins(*a, *row, t))
 }
 
-// Whether a row has this ending. It is compiled into `every_pair`, and of a row it needs one octet: in a short table that costs less than
+// Whether one of the rows has this ending. It is compiled into `every_pair`, and of a row it needs one octet: in a short table that costs less than
 // comparing keys.
 fn has_ending<R: Keyed>(rows: &[R], e: u8) -> bool
     ensures { result ≡ any (λ a. eqb (R.ending a) e) rows.now }
