@@ -3,9 +3,9 @@
 
 ghost use Rattle.std.specs.Prelude.{◌≡◌, ◌-◌, ◌/◌, ◌≤◌, length, take, drop};
 ghost use Rattle.plain.specs.Octets.{restored};
-ghost use Rattle.reader.specs.Reading.{refusal_number, Bounded};
+ghost use Rattle.reader.specs.Reading.{Bounded};
 ghost use Rattle.answer.specs.Answer.{answer_number};
-ghost use Rattle.heard.specs.Parsed.{parsed_of};
+ghost use Rattle.heard.specs.Parsed.{parsed_of, octets_number};
 
 use answer::Answer;
 use message::Parsed;
@@ -42,14 +42,15 @@ pub fn vector_of(octets: &[u8], r: Reading) -> [[u8; 16]; 16]
 }
 
 // The answer that the octets alone give. Both types are of crates below, so that this is no `From`.
-pub fn octets_answer(refusal: Refusal) -> Answer
-    ensures { answer_number result ≡ refusal_number refusal }
+pub fn octets_answer(refusal: Option<Refusal>) -> Answer
+    ensures { answer_number result ≡ octets_number refusal }
 {
     match refusal {
-        Refusal::Malformed => Answer::Malformed,
-        Refusal::Unfit => Answer::Unfit,
-        Refusal::Unusable => Answer::BadDodagid,
-        Refusal::TooMany => Answer::TooMany,
+        None => Answer::Done,
+        Some(Refusal::Malformed) => Answer::Malformed,
+        Some(Refusal::Unfit) => Answer::Unfit,
+        Some(Refusal::Unusable) => Answer::BadDodagid,
+        Some(Refusal::TooMany) => Answer::TooMany,
     }
 }
 

@@ -42,9 +42,9 @@ fn print_kind<W: Write>(out: &mut W, reply: bool) -> io::Result<()> {
     write!(out, " {kind}")
 }
 
-fn print_vector<W: Write>(out: &mut W, n: usize, v: &[[u8; 16]]) -> io::Result<()> {
-    write!(out, " {n}")?;
-    for a in v.iter().take(n) {
+fn print_vector<W: Write>(out: &mut W, v: &[[u8; 16]]) -> io::Result<()> {
+    write!(out, " {}", v.len())?;
+    for a in v {
         write!(out, " {}", Hex(a))?;
     }
     Ok(())
@@ -56,21 +56,21 @@ fn print_message<W: Write>(out: &mut W, msg: &[u8], r: Reading) -> io::Result<()
     requires { Bounded (length msg.now) r }
 {
     let p = heard::parsed(r);
-    write!(out, " 0")?;
     print_kind(out, heard::is_reply(r))?;
     print_base(out, p.base)?;
     print_configuration(out, p.configuration)?;
     print_discovery(out, p.discovery)?;
-    print_vector(out, p.n, &heard::vector_of(msg, r))?;
+    print_vector(out, &heard::vector_of(msg, r)[..p.n])?;
     write!(out, " {}{}", p.count, Targets(&p.targets[..p.count]))
 }
 
 // One message: its number, then its answer and, where it is heard, its fields.
 fn show<W: Write>(out: &mut W, number: u64, msg: &[u8]) -> io::Result<()> {
-    write!(out, "{number}")?;
-    match reader::read(msg) {
-        Ok(r) => print_message(out, msg, r)?,
-        Err(refusal) => write!(out, " {}", answer::number(heard::octets_answer(refusal)))?,
+    let reading = reader::read(msg);
+    let answer = heard::octets_answer(reading.err());
+    write!(out, "{number} {}", answer::number(answer))?;
+    if let Ok(r) = reading {
+        print_message(out, msg, r)?;
     }
     writeln!(out)
 }
