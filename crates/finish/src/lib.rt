@@ -11,7 +11,7 @@ ghost use Rattle.plain.specs.Plain.Decision.{take};
 
 use decision::{Decided, Post};
 use message::Live;
-use outcome::Outcome;
+use outcome::{Outcome, Sent};
 use own::Own;
 use place::{Places, RoutePlace};
 use row::{InstanceRow, RouteRow};
@@ -76,5 +76,13 @@ pub fn finish(
     store(instances, routes, p, q, d);
     let forward_to = decision::destination(there);
     let reply_to = decision::destination(back);
-    outcome::accepted(d.seq, forward_to, reply_to, call.time, n, m)
+    let forward_sent = Sent {
+        to: forward_to,
+        size: n,
+    };
+    let reply_sent = Sent {
+        to: reply_to,
+        size: m,
+    };
+    outcome::accepted(d.seq, forward_sent, reply_sent, call.time)
 }

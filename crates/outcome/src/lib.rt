@@ -47,20 +47,13 @@ pub fn refused(a: Answer, clock: u64, seq: u8) -> Outcome
 }
 
 // An accepted call, with what it wrote: its time becomes the last time.
-pub fn accepted(
-    own: u8,
-    there: Destination,
-    back: Destination,
-    t: u64,
-    n: usize,
-    m: usize,
-) -> Outcome
-    ensures { result ≡ record { answer = Done; forward = record { size = n; to = there }; reply = record { size = m; to = back }; clock = t; seq = own } }
+pub fn accepted(own: u8, forward: Sent, reply: Sent, t: u64) -> Outcome
+    ensures { result ≡ record { answer = Done; forward = forward; reply = reply; clock = t; seq = own } }
 {
     Outcome {
         answer: Answer::Done,
-        forward: Sent { size: n, to: there },
-        reply: Sent { size: m, to: back },
+        forward,
+        reply,
         clock: t,
         seq: own,
     }

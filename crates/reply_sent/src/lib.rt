@@ -35,9 +35,10 @@ fn next_node(o: Own, p: Parsed, vector: &[[u8; 16]; 16], w: ReplyFacts) -> [u8; 
     ensures { result ≡ cond p.discovery.h w.partner.neighbour (before (orig_node (message_in p vector.now)) o.receiving (take p.n vector.now)) }
 {
     if p.discovery.h {
-        return w.partner.neighbour;
+        w.partner.neighbour
+    } else {
+        path::address_before(pairing::orig_node(p), o.receiving, &vector[..p.n])
     }
-    path::address_before(pairing::orig_node(p), o.receiving, &vector[..p.n])
 }
 
 // Where it goes between the ends: to a neighbour if symmetric, else to the group.
@@ -47,9 +48,10 @@ fn destination(o: Own, p: Parsed, vector: &[[u8; 16]; 16], w: ReplyFacts) -> Des
     ensures { destination_of result ≡ next_destination (settings_of o) (message_in p vector.now) (answered_of w) }
 {
     if w.symmetric {
-        return Destination::Neighbour(next_node(o, p, vector, w));
+        Destination::Neighbour(next_node(o, p, vector, w))
+    } else {
+        Destination::Group
     }
-    Destination::Group
 }
 
 // OrigNode's path, if there is one.
@@ -57,9 +59,10 @@ fn path_post(n: usize, turned: bool) -> Post
     ensures { result ≡ path_goes n turned }
 {
     if n == 0 {
-        return Post::Nothing;
+        Post::Nothing
+    } else {
+        Post::Path { n, turned }
     }
-    Post::Path { n, turned }
 }
 
 // What goes into the buffer, where none of the lines holds: at OrigNode the path, between the ends the reply.
