@@ -18,7 +18,7 @@ pub fn read_dodagid(msg: &[u8]) -> [u8; 16]
     dodagid
 }
 
-// 5: the DODAGID is read for this by itself. One that is looked at octet by octet is kept octet by octet, and each copy of it waits.
+// 5: the DODAGID is read for this by itself. One that is looked at octet by octet is kept octet by octet, and each copy of it takes longer.
 pub fn has_unusable_dodagid(msg: &[u8]) -> bool
     requires { 24 ≤ length msg.now }
     ensures { result ≡ unusable (base_of msg.now).dodagid }

@@ -1,4 +1,5 @@
 // The least Delta that is free for our reply.
+// The parts of a key stay parameters: an array goes into a struct's literal from a variable alone, so each call would be two lines longer.
 #![tactic(auto)]
 
 ghost use Rattle.std.specs.Prelude.{◌≡◌, true, ℕ, ◌≤◌};
@@ -16,7 +17,7 @@ fn free_delta(rows: &[InstanceRow], t: u64, instance: u8, dodagid: [u8; 16]) -> 
     })
 }
 
-// The free Delta where one is needed: finding it is a pass over the table.
+// The free Delta where one is needed: finding it can take 64 passes over the table.
 #[tactic(auto, using(lemmas::proofs::Cases::cases, lemmas::proofs::Choice::true_false))]
 pub fn free_delta_if(
     needed: bool,

@@ -29,10 +29,12 @@ pub struct HostStart {
     pub limit: u8,
 }
 
+// The link facts, as the rules take them.
 pub fn link_of(k: HostLink) -> Link
     ensures { result ≡ link_of k }
 {
-    // an array goes into a struct from a variable alone: the borrow checker covers no other form
+    // no From: the public function and its clause stay
+    // an array goes into a struct's literal from a variable alone: the borrow checker covers no other form
     let neighbour = k.neighbour;
     Link {
         neighbour,
@@ -43,9 +45,11 @@ pub fn link_of(k: HostLink) -> Link
     }
 }
 
+// What a start brings, as the rules take it.
 pub fn asking_of(s: HostStart) -> Asking
     ensures { result ≡ asking_of s }
 {
+    // no From: the public function and its clause stay
     Asking {
         instance: s.instance,
         h: s.h != 0,

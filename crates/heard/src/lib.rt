@@ -17,7 +17,7 @@ pub fn parsed(r: Reading) -> Parsed
     requires { r.discovery.compr ≤ 15 }
     ensures { result ≡ parsed_of r }
 {
-    // an array goes into a struct from a variable alone: the borrow checker covers no other form
+    // an array goes into a struct's literal from a variable alone: the borrow checker covers no other form
     let targets = r.targets;
     let width = 16 - usize::from(r.discovery.compr);
     Parsed {
@@ -54,7 +54,7 @@ pub fn octets_answer(refusal: Option<Refusal>) -> Answer
     }
 }
 
-// A reply, and not a request.
+// A reply, and not a request. One line, and public: its clause stays.
 pub fn is_reply(r: Reading) -> bool
     ensures { result ≡ r.discovery.reply }
 {

@@ -45,9 +45,12 @@ fn neighbour_in(d: Destination) -> [u8; 16]
     }
 }
 
+// What a call comes to, in C's form.
 pub fn host_outcome(r: Outcome) -> HostOutcome
     ensures { result ≡ host_of r }
 {
+    // no From: the public function and its clause stay
+    // an array goes into a struct's literal from a variable alone: the borrow checker covers no other form
     let forward_neighbour = neighbour_in(r.forward.to);
     let reply_neighbour = neighbour_in(r.reply.to);
     HostOutcome {

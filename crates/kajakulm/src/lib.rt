@@ -17,7 +17,7 @@ use plain::Target;
 use row::{InstanceRow, RouteRow};
 use tally::Tally;
 
-// A received message.
+// A received message. The parameters are those of include/kajakulm.h, one by one.
 #[tactic(auto, using(lemmas::proofs::Cases::cases, crate::proofs::Laws::tallied))]
 pub fn kajakulm_message(
     instances: &mut [InstanceRow],
@@ -50,7 +50,7 @@ pub fn kajakulm_message(
     host::host_outcome(r)
 }
 
-// The start of our own discovery.
+// The start of our own discovery. The parameters are those of include/kajakulm.h, one by one.
 #[tactic(auto, using(lemmas::proofs::Cases::cases, crate::proofs::Laws::tallied))]
 pub fn kajakulm_start(
     instances: &mut [InstanceRow],

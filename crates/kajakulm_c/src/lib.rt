@@ -17,7 +17,7 @@ use plain::Target;
 use row::{InstanceRow, RouteRow};
 use tally::Tally;
 
-// A received message.
+// A received message. The parameters are those of include/kajakulm.h, one by one.
 #[unsafe(no_mangle)]
 pub extern "C" fn kajakulm_message(
     instances: &mut [InstanceRow],
@@ -39,7 +39,7 @@ pub extern "C" fn kajakulm_message(
     )
 }
 
-// The start of our own discovery.
+// The start of our own discovery. The parameters are those of include/kajakulm.h, one by one.
 #[unsafe(no_mangle)]
 pub extern "C" fn kajakulm_start(
     instances: &mut [InstanceRow],

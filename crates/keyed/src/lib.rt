@@ -1,5 +1,6 @@
 // One row by value: the request row, the reply row or the route of a key, live at a time. Kind and `endless` are numbers, as the records of the C
 // interface have them.
+// The parts of a key stay parameters: an array goes into a struct's literal from a variable alone, so each call would be two lines longer.
 #![tactic(auto)]
 
 ghost use Rattle.std.specs.Prelude.{◌≡◌};

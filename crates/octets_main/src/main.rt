@@ -93,6 +93,7 @@ fn show_next<R: Read, W: Write>(input: &mut R, out: &mut W, number: u64) -> io::
 fn main(rt: HostRuntime) -> io::Result<()> {
     let mut input = rt.reader();
     let mut out = io::writer(&rt);
+    // a range with an end: a loop must end
     for number in 1u64..=65536 {
         if !show_next(&mut input, &mut out, number)? {
             break;

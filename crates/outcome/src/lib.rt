@@ -66,7 +66,7 @@ pub fn without_room(clock: u64, seq: u8) -> Outcome
     refused(Answer::NoRow, clock, seq)
 }
 
-// The answer of a call.
+// The answer of a call. One line, and public: its clause stays.
 pub fn answer_of(r: Outcome) -> Answer
     ensures { result ≡ r.answer }
 {

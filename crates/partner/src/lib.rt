@@ -1,4 +1,5 @@
 // The partner of a reply: a live request row of its key and its H.
+// The parts of a key stay parameters: an array goes into a struct's literal from a variable alone, so each call would be two lines longer.
 #![tactic(auto)]
 
 ghost use Rattle.std.specs.Prelude.{◌≡◌, map};

@@ -67,7 +67,7 @@ fn fill(msg: &[u8], s: Scan, base: Base, ts: Targets) -> Reading
     let configuration = read_configuration(msg, s.configuration);
     let body = route(s);
     let discovery = discovery::discovery(fault::is_reply(s), &msg[body.start..body.end]);
-    // an array goes into a struct from a variable alone: the borrow checker covers no other form
+    // an array goes into a struct's literal from a variable alone: the borrow checker covers no other form
     let targets = ts.list;
     Reading {
         base,

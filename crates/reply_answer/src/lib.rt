@@ -90,5 +90,6 @@ pub fn judge(o: Own, k: Link, p: Parsed, vector: &[[u8; 16]; 16], w: ReplyFacts)
     if rule::cannot_add(o, reply::does_grow(p, w), p.discovery.compr, p.n) {
         return Answer::VectorFull;
     }
+    // Answer::Done, and no Result: the clause gives 01's number of it, 0 (answer_of)
     Answer::Done
 }

@@ -78,12 +78,12 @@ pub fn gather(
 
 // ---- What it comes to
 
-// Whether our own rank is under RankLimit, if that is not 0: integer parts are compared, and a step of 0 gives 0. Our own rank may not fit
-// the 16 bits that rank::integer_part takes.
+// Whether our own rank is under RankLimit, if that is not 0: integer parts are compared, and a step of 0 gives 0.
 #[tactic(auto, using(lemmas::proofs::Cases::cases), unfolding(plain::specs::Rank::integer_part))]
 fn is_under_limit(p: Parsed, rank: u32) -> bool
     ensures { result ≡ eqb p.discovery.limit 0 || ltb (integer_part (min_hop (of_option p.configuration)) rank) p.discovery.limit }
 {
+    // not by rank::integer_part, which takes 16 bits
     let step = u32::from(rule::step_of(p));
     p.discovery.limit == 0 || rank.checked_div(step).unwrap_or(0) < u32::from(p.discovery.limit)
 }

@@ -87,5 +87,6 @@ pub fn judge(o: Own, k: Link, p: Parsed, vector: &[[u8; 16]; 16], a: RequestFact
     if rule::cannot_add(o, adds_ours(p, a), p.discovery.compr, p.n) {
         return Answer::VectorFull;
     }
+    // Answer::Done, and no Result: the clause gives 01's number of it, 0 (answer_of)
     Answer::Done
 }

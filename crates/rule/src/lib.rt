@@ -35,8 +35,7 @@ pub fn step_of(p: Parsed) -> u16
     deadline::min_hop(p.configuration)
 }
 
-// 16: ours are to be added to a vector of n addresses, and cannot be. Takes few arguments: it is not inlined, and a message by value would be
-// copied.
+// 16: ours are to be added to a vector of n addresses, and cannot be.
 pub fn cannot_add(o: Own, adds: bool, compr: u8, n: usize) -> bool
     requires { (compr ≤ 16) × (n ≤ 16) }
     ensures { (v : List Address) → length v ≡ n → WholeVector v → result ≡ adds && cannot_grow compr (grown (settings_of o) false v) }

@@ -1,4 +1,5 @@
 // What the table of routes holds for a call: the live route of its key.
+// The parts of a key stay parameters: an array goes into a struct's literal from a variable alone, so each call would be two lines longer.
 #![tactic(auto)]
 
 ghost use Rattle.std.specs.Prelude.{◌≡◌, ℕ, ◌≤◌};
@@ -19,6 +20,7 @@ pub fn search_route(
     ensures found { (clock : ℕ) → clock ≤ t → route_found result ≡ route_seen clock routes.now t source destination instance }
     ensures here { LiveRoute routes.now t result }
 {
+    // by itself, as the three of crates/search
     let at = find_route::find_route(routes, t, source, destination, instance)?;
     Some(Found {
         at,

@@ -31,5 +31,6 @@ pub fn judge(o: Own, s: Asking, taken: bool) -> Answer
     if taken {
         return Answer::NothingNew;
     }
+    // Answer::Done, and no Result: the clause gives 01's number of it, 0 (start_answer)
     Answer::Done
 }

@@ -9,12 +9,12 @@ use std::io::Write;
 use std::{fmt, io};
 use tally::Tally;
 
-// The first n octets of a buffer, where there are any.
-pub fn buffer<W: Write>(out: &mut W, name: &str, s: &[u8], n: usize) -> io::Result<()> {
-    if n == 0 || s.len() < n {
+// The octets that were written into a buffer, where there are any.
+pub fn buffer<W: Write>(out: &mut W, name: &str, s: &[u8]) -> io::Result<()> {
+    if s.is_empty() {
         return Ok(());
     }
-    writeln!(out, "{name} {}", Hex(&s[..n]))
+    writeln!(out, "{name} {}", Hex(s))
 }
 
 // ---- an outcome

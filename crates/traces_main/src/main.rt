@@ -118,8 +118,10 @@ impl<'a> Node<'a> {
         self.host.seq = r.seq;
         self.host.calls = self.host.calls.wrapping_add(1);
         trace_print::outcome(out, self.host.calls, r)?;
-        trace_print::buffer(out, "forward", &self.forward, r.forward.size)?;
-        trace_print::buffer(out, "reply", &self.reply, r.reply.size)?;
+        let forward = self.forward.get(..r.forward.size).unwrap_or(&[]);
+        let reply = self.reply.get(..r.reply.size).unwrap_or(&[]);
+        trace_print::buffer(out, "forward", forward)?;
+        trace_print::buffer(out, "reply", reply)?;
         trace_print::rows(out, self.instances, r.clock)?;
         trace_print::routes(out, self.routes, r.clock)
     }
@@ -188,6 +190,7 @@ fn list<R: Read, W: Write>(input: &mut R, out: &mut W, number: u64) -> io::Resul
 fn main(rt: HostRuntime) -> io::Result<()> {
     let mut input = rt.reader();
     let mut out = io::writer(&rt);
+    // a range with an end: a loop must end
     for number in 1u64..=65536 {
         if !list(&mut input, &mut out, number)? {
             break;

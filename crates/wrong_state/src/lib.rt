@@ -9,6 +9,7 @@ ghost use Rattle.finish.specs.Gives.{state_of};
 use answer::Answer;
 use row::{InstanceRow, RouteRow};
 
+// Answer 2. One line, and public: its clause stays.
 pub fn wrong_state() -> Answer
     ensures { result ≡ WrongState }
 {
