@@ -1,7 +1,18 @@
-// The types that the definitions of the rules and the code share. There is no code here: the rules are in specs/.
+// The types that the definitions of the rules and the code share, and the types of options, for readers and writers. There is no code here: the
+// rules are in specs/.
 #![tactic(auto)]
 
-// How one sequence number stands to another (01, "Rank and freshness").
+// The types of the options that mean something here (01, "Octets on the air").
+pub const CONFIGURATION: u8 = 0x04;
+
+pub const RREQ: u8 = 0x0B;
+
+pub const RREP: u8 = 0x0C;
+
+pub const ART: u8 = 0x0D;
+
+// How one sequence number stands to another (01, "Rank and freshness"): 01's four words, and no Option<Ordering>, since the rules' definitions
+// take this type (freshness, same_side, standing, outdated).
 #[derive(Clone, Copy, PartialEq, Eq)]
 pub enum Freshness {
     Newer,
@@ -31,7 +42,8 @@ pub struct Base {
 }
 
 // An RREQ or, where `reply` is true, an RREP, without its vector. `flag` is S in an RREQ and G in an RREP; `number` is Orig SeqNo in
-// an RREQ and Delta in an RREP. With H 1 Compr is 0.
+// an RREQ and Delta in an RREP. With H 1 Compr is 0. One record for both, and no enum, and h beside Compr: the rules' definitions take these
+// fields (discovery_of, route_octets, number_bits).
 #[derive(Clone, Copy, PartialEq, Eq, Default)]
 pub struct Discovery {
     pub reply: bool,

@@ -8,7 +8,7 @@ ghost use Rattle.plain.specs.Octets.{art_octets};
 ghost use Rattle.writer_option.specs.Sendable.{short_prefixes};
 ghost use Rattle.writer_art.specs.Heads.{art_head};
 
-use plain::Target;
+use plain::{ART, Target};
 use writer_octets::put_octets;
 
 // Type, length, Dest SeqNo and Prefix Length of an ART with so many octets of a target.
@@ -18,7 +18,7 @@ fn put_art_head(out: &mut [u8], t: Target, size: usize) -> usize
     ensures { Written (art_head t size) out.old out.new result }
 {
     // narrowed by `as`: no `From` narrows, and a Result of `try_from` could not be an Err here
-    put_octets(out, &[0x0d, (size + 2) as u8, t.seq, t.plen % 128])
+    put_octets(out, &[ART, (size + 2) as u8, t.seq, t.plen % 128])
 }
 
 // An ART, with as many octets of its target as Prefix Length says.

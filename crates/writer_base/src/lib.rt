@@ -8,25 +8,19 @@ ghost use Rattle.lemmas.specs.Written.{Written};
 ghost use Rattle.plain.specs.Octets.{base_octets, configuration_octets};
 ghost use Rattle.writer_base.specs.Heads.{base_head};
 
-use plain::Base;
+use plain::{Base, CONFIGURATION};
 use writer_octets::put_octets;
 
-// The base up to the DODAGID. MOP is 4. Fields of bits are put together by factors, as the rules' `word` tells them: shifts would need laws of their own.
-#[tactic(auto, using(lemmas::proofs::Cases::cases, crate::proofs::Stores::high_octet, crate::proofs::Stores::stored, crate::proofs::Stores::base_word))]
+// The base up to the DODAGID. MOP is 4.
+#[tactic(auto, using(lemmas::proofs::Cases::cases, crate::proofs::Words::base_word))]
 fn put_base_head(out: &mut [u8], b: Base) -> usize
     requires { 8 ≤ length out.old }
     ensures { Written (base_head b) out.old out.new result }
 {
-    out[0] = b.instance;
-    out[1] = b.version;
-    // narrowed by `as`: no `From` narrows, and a Result of `try_from` could not be an Err here
-    out[2] = (b.rank / 256) as u8;
-    out[3] = (b.rank % 256) as u8;
-    out[4] = flag::bit(b.g) * 128 + 4 * 8 + b.prf % 8;
-    out[5] = 0;
-    out[6] = 0;
-    out[7] = 0;
-    8
+    let [high, low] = b.rank.to_be_bytes();
+    // by factors, as the rules' `word` tells the fields: shifts would need laws of their own
+    let fields = flag::bit(b.g) * 128 + 4 * 8 + b.prf % 8;
+    put_octets(out, &[b.instance, b.version, high, low, fields, 0, 0, 0])
 }
 
 // The base.
@@ -41,7 +35,7 @@ pub fn put_base(out: &mut [u8], b: Base) -> usize
 }
 
 // The DODAG Configuration, if it is present.
-#[tactic(auto, using(lemmas::proofs::Cases::cases, lemmas::proofs::Buffer::length_written, lemmas::proofs::Buffer::written_then, lemmas::proofs::Buffer::written_none, crate::proofs::Lengths::configuration_some, crate::proofs::Lengths::configuration_none, crate::proofs::Stores::stored))]
+#[tactic(auto, using(lemmas::proofs::Cases::cases, lemmas::proofs::Buffer::length_written, lemmas::proofs::Buffer::written_then, lemmas::proofs::Buffer::written_none, crate::proofs::Lengths::configuration_some, crate::proofs::Lengths::configuration_none))]
 pub fn put_configuration(out: &mut [u8], configuration: Option<[u8; 14]>) -> usize
     requires { length (configuration_octets (of_option configuration)) ≤ length out.old }
     ensures { Written (configuration_octets (of_option configuration)) out.old out.new result }
@@ -49,8 +43,7 @@ pub fn put_configuration(out: &mut [u8], configuration: Option<[u8; 14]>) -> usi
     let Some(octets) = configuration else {
         return 0;
     };
-    out[0] = 0x04;
-    out[1] = 14;
-    let m = put_octets(&mut out[2..], &octets);
-    2 + m
+    let n = put_octets(out, &[CONFIGURATION, 14]);
+    let m = put_octets(&mut out[n..], &octets);
+    n + m
 }

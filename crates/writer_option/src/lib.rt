@@ -8,8 +8,8 @@ ghost use Rattle.writer_option.specs.Heads.{route_word, route_head};
 ghost use Rattle.writer_option.specs.Sendable.{Sendable};
 
 use flag::bit;
-use plain::Discovery;
-use writer_octets::put_vector;
+use plain::{Discovery, RREP, RREQ};
+use writer_octets::{put_octets, put_vector};
 
 // Compr as it is sent: 0 with H 1.
 pub fn compr_sent(h: bool, compr: u8) -> u8
@@ -18,7 +18,7 @@ pub fn compr_sent(h: bool, compr: u8) -> u8
     if h { 0 } else { compr }
 }
 
-// The first two octets of an RREQ or RREP: S or G, H, X, Compr, L, RankLimit. By factors, as the rules' `word` tells the fields.
+// The first two octets of an RREQ or RREP: S or G, H, X, Compr, L, RankLimit.
 #[tactic(auto, using(lemmas::proofs::Cases::cases), unfolding(crate::specs::Heads::route_word, plain::specs::Octets::word, plain::specs::Octets::sum))]
 fn route_word(d: Discovery) -> u16
     ensures { result ≡ route_word d }
@@ -28,6 +28,7 @@ fn route_word(d: Discovery) -> u16
     let compr = u16::from(compr_sent(d.h, d.compr) % 16);
     let l = u16::from(d.l % 4);
     let limit = u16::from(d.limit % 128);
+    // by factors, as the rules' `word` tells the fields
     flag * 32768 + h * 16384 + compr * 512 + l * 128 + limit
 }
 
@@ -43,23 +44,19 @@ fn number_octet(d: Discovery) -> u8
 fn route_type(d: Discovery) -> u8
     ensures { result ≡ cond d.reply rrep_type rreq_type }
 {
-    if d.reply { 0x0c } else { 0x0b }
+    if d.reply { RREP } else { RREQ }
 }
 
 // Type, length and the three octets before a vector of so many octets.
-#[tactic(auto, using(lemmas::proofs::Cases::cases, writer_base::proofs::Stores::high_octet, writer_base::proofs::Stores::stored))]
+#[tactic(auto, using(lemmas::proofs::Cases::cases))]
 fn put_route_head(out: &mut [u8], d: Discovery, size: usize) -> usize
     requires { (size ≤ 252) × (5 ≤ length out.old) }
     ensures { Written (route_head d size) out.old out.new result }
 {
-    let w = route_word(d);
-    out[0] = route_type(d);
+    let [high, low] = route_word(d).to_be_bytes();
     // narrowed by `as`: no `From` narrows, and a Result of `try_from` could not be an Err here
-    out[1] = (size + 3) as u8;
-    out[2] = (w / 256) as u8;
-    out[3] = (w % 256) as u8;
-    out[4] = number_octet(d);
-    5
+    let length = (size + 3) as u8;
+    put_octets(out, &[route_type(d), length, high, low, number_octet(d)])
 }
 
 // The RREQ or RREP with its vector, which is none with H 1.
