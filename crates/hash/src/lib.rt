@@ -31,15 +31,15 @@ fn finish(x: u64) -> u64
     x / 65536 % 4294967296 * 2654435769
 }
 
-// The octets are named one by one: an array of four taken from a slice would be a Result that cannot be Err.
 #[tactic(auto, using(lemmas::proofs::Cases::cases), unfolding(crate::specs::Hash::hash_address, crate::specs::Hash::quad_of))]
 fn hash_address(k: u16, d: [u8; 16]) -> u64
     ensures { result ≡ hash_address k d }
 {
-    let a = u32::from_le_bytes([d[0], d[1], d[2], d[3]]);
-    let b = u32::from_le_bytes([d[4], d[5], d[6], d[7]]);
-    let c = u32::from_le_bytes([d[8], d[9], d[10], d[11]]);
-    let e = u32::from_le_bytes([d[12], d[13], d[14], d[15]]);
+    let (words, _) = d.as_chunks::<4>();
+    let a = u32::from_le_bytes(words[0]);
+    let b = u32::from_le_bytes(words[1]);
+    let c = u32::from_le_bytes(words[2]);
+    let e = u32::from_le_bytes(words[3]);
     mix(k, a, b, c, e)
 }
 
