@@ -1,16 +1,17 @@
 -- What stands before an address, by the address's place in the vector.
-use Prim.Native.Nat.{ℕ, zero, suc, ◌+◌, ◌-◌, ◌≤◌}
+use Prim.Native.Nat.{ℕ, suc, ◌+◌, ◌-◌, ◌≤◌}
 use mathlib.Core.Path.{◌≡◌, refl, ap, ◌∙◌}
 use mathlib.Core.Bool.{Bool, true, false, cond, not}
 use mathlib.Core.List.{List, [], ◌∷◌}
 use native.Mathlib.Omega.{arith}
-use lib.Dec.{eqb, ltb}
-use lib.ListN.{length, get_or}
-use borrow.Author.Tests.{ne_eqb, ltb-false}
-use Rattle.std.specs.Prelude.{Option}
+use lib.Dec.{ltb}
+use lib.ListN.{length, get_or, take}
+use borrow.Author.Tests.{ltb-false}
+use Rattle.std.specs.Prelude.{Option, slice_get}
 use Rattle.std.specs.Prelude.Option.{Some, None}
 use Rattle.std.specs.Option.{unwrap_or}
 use Rattle.std.specs.List.{position_or_len}
+use Rattle.std.proofs.lemmas.Option.{unwrap_or-slice_get}
 use Rattle.plain.specs.Lists.{same}
 use Rattle.plain.specs.Address.{Address}
 use Rattle.plain.specs.Reply.{before}
@@ -32,31 +33,34 @@ place_or_length p xs r e = ap (λ o. unwrap_or o (length xs)) e ∙ go (ltb (pos
     go true f = refl
     go false f = omega (arith, ltb-false (position_or_len p xs) (length xs) f, place_within p xs)
 
--- what stands before place k of a vector
-abbrev passed : Address → List Address → ℕ → Address
-passed first v k = cond (eqb k 0) first (get_or v (k - 1) [])
+-- the last address, `first` where there is none
+abbrev last_or : Address → List Address → Address
+last_or first v = get_or v (length v - 1) first
 
-passed_more : (first y : Address) (ys : List Address) (k : ℕ) → passed y ys k ≡ passed first (y ∷ ys) (1 + k)
-passed_more first y ys zero = refl
-passed_more first y ys (suc k) =
-    let e : 1 + suc k ≡ suc (suc k) = omega arith in
-    let p : suc (suc k) - 1 ≡ suc k = omega arith in
-    let q : suc k - 1 ≡ k = omega arith in
-    simp (e, p, q, ne_eqb (suc k) 0 (λ z. omega arith), ne_eqb (suc (suc k)) 0 (λ z. omega arith)) refl
+last_any : (z : Address) (v : List Address) (d e : Address) → get_or (z ∷ v) (length v) d ≡ get_or (z ∷ v) (length v) e
+last_any z [] d e = refl
+last_any z (x ∷ v) d e = last_any x v d e
 
-before_passed : (first a : Address) (v : List Address) → before first a v ≡ passed first v (position_or_len (same a) v)
+last_more : (first y : Address) (ys : List Address) → last_or first (y ∷ ys) ≡ last_or y ys
+last_more first y [] = refl
+last_more first y (z ∷ zs) =
+    let p : suc (suc (length zs)) - 1 ≡ suc (length zs) = omega arith in
+    let q : suc (length zs) - 1 ≡ length zs = omega arith in
+    rw (p, q) (last_any z zs first y)
+
+last_before : (first a : Address) (v : List Address) → last_or first (take (position_or_len (same a) v) v) ≡ before first a v
 unfolding before
-before_passed first a [] = refl
-before_passed first a (y ∷ ys) = go (same a y) (before_passed y a ys ∙ passed_more first y ys (position_or_len (same a) ys))
+last_before first a [] = refl
+last_before first a (y ∷ ys) = go (same a y) (last_more first y (take (position_or_len (same a) ys) ys) ∙ last_before y a ys)
   where
-    go : (b : Bool) → before y a ys ≡ passed first (y ∷ ys) (1 + position_or_len (same a) ys)
-        → cond b first (before y a ys) ≡ passed first (y ∷ ys) (cond (not b) (1 + position_or_len (same a) ys) 0)
+    go : (b : Bool) → last_or first (y ∷ take (position_or_len (same a) ys) ys) ≡ before y a ys
+        → last_or first (take (cond (not b) (1 + position_or_len (same a) ys) 0) (y ∷ ys)) ≡ cond b first (before y a ys)
     go true h = refl
-    go false h = h
+    go false h = let e : 1 + position_or_len (same a) ys ≡ suc (position_or_len (same a) ys) = omega arith in rw e h
 
-module _ (first a : Address) (v : List Address) (i : ℕ) (e : i ≡ position_or_len (same a) v) where
-  pub before_first : i ≡ 0 → first ≡ before first a v
-  before_first z = rw (before_passed first a v, ← e, z)
-
-  pub before_place : (i ≡ 0 → ⊥) → get_or v (i - 1) [] ≡ before first a v
-  before_place z = rw (before_passed first a v, ← e, ne_eqb i 0 z)
+-- as the slice of what stands before it answers
+pub before_place : (first a : Address) (v : List Address) (i : ℕ) → i ≡ position_or_len (same a) v
+    → unwrap_or (slice_get (take i v) (length (take i v) - 1)) first ≡ before first a v
+before_place first a v i e =
+    let w = take (position_or_len (same a) v) v in
+    rw e (unwrap_or-slice_get w (length w - 1) first ∙ last_before first a v)

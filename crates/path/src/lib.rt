@@ -6,8 +6,7 @@ ghost use Rattle.std.specs.List.{position_or_len};
 ghost use Rattle.plain.specs.Lists.{same};
 ghost use Rattle.plain.specs.Reply.{before};
 
-// Where `a` stands in a vector first, or the vector's length: what stands before it is at the place before that one. The addresses on the way
-// are not carried along, which would copy each.
+// Where `a` stands in a vector first, or the vector's length. The search answers a place: an address would be copied.
 fn place_of(a: [u8; 16], vector: &[[u8; 16]]) -> usize
     ensures { (result ≤ length vector.now) × (result ≡ position_or_len (same a) vector.now) }
 {
@@ -18,10 +17,10 @@ fn place_of(a: [u8; 16], vector: &[[u8; 16]]) -> usize
 }
 
 // The address before `a` in a vector: `first` where nothing stands before it.
-#[tactic(auto, using(crate::proofs::Place::before_first, crate::proofs::Place::before_place, lemmas::proofs::Cases::cases))]
+#[tactic(auto, using(crate::proofs::Place::before_place, lemmas::proofs::Cases::cases))]
 pub fn address_before(first: [u8; 16], a: [u8; 16], vector: &[[u8; 16]]) -> [u8; 16]
     ensures { result ≡ before first a vector.now }
 {
-    let i = place_of(a, vector);
-    if i == 0 { first } else { vector[i - 1] }
+    let place = place_of(a, vector);
+    vector[..place].last().copied().unwrap_or(first)
 }
