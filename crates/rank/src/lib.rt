@@ -33,12 +33,15 @@ pub fn is_over_limit(limit: u8, theirs: u16, ours: u16, is_end: bool) -> bool
 pub fn is_refused(step: u16, advertised: u16, increase: u16, limit: u8, is_end: bool) -> bool
     ensures { result ≡ rank_refused step advertised increase limit is_end }
 {
-    let own = own_rank(advertised, increase);
-    if increase < step || 65535 <= own {
+    let Ok(own) = u16::try_from(own_rank(advertised, increase)) else {
         return true;
-    }
-    let theirs = integer_part(step, advertised);
-    // it fits after the test: try_from would bring a Result that cannot be Err
-    let ours = integer_part(step, own as u16);
-    is_over_limit(limit, theirs, ours, is_end)
+    };
+    increase < step
+        || own == 65535
+        || is_over_limit(
+            limit,
+            integer_part(step, advertised),
+            integer_part(step, own),
+            is_end,
+        )
 }
