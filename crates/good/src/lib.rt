@@ -1,5 +1,5 @@
-// One row of each table, by value: whether it is good. A row in use that is not makes the state wrong (01, answer 2). Kind, `endless` and the count of
-// targets are numbers, as the records of the C interface have them.
+// One row of each table, by value: whether it is good. A row in use that is not makes the state wrong (01, answer 2). Kind, `endless` and the count
+// of targets are numbers, as the records of the C interface have them.
 #![tactic(auto)]
 
 ghost use Rattle.std.specs.Prelude.{◌≡◌, true, ◌&&◌, leb, length};
@@ -18,18 +18,16 @@ use row::{InstanceRow, RouteRow};
 fn is_good_deadline(endless: u8, deadline: u64) -> bool
     ensures { result ≡ good_deadline (deadline_of endless deadline) }
 {
-    endless != 0 || deadline <= 2199023255552
+    row::deadline(endless, deadline).is_none_or(|at| at <= 2199023255552)
 }
 
 #[tactic(auto, using(crate::proofs::Laws::count_over, crate::proofs::Laws::count_within, lemmas::proofs::Cases::cases))]
 fn are_good_targets(count: u8, targets: [Target; 8]) -> bool
     ensures { result ≡ leb (length (targets_of count targets)) most_targets && all short_prefix (targets_of count targets) }
 {
-    // By itself, so that no goal of the chain has the number in its name.
-    if 8 < count {
-        return false;
-    }
-    targets[..usize::from(count)].iter().all(|t| t.plen <= 127)
+    // by name, so that no goal has the number in its own
+    let most = 8;
+    count <= most && targets[..usize::from(count)].iter().all(|t| t.plen <= 127)
 }
 
 // At most four targets, as most rows have, none of them wrong: asked without a branch that goes by the count. If false, nothing is known.

@@ -33,7 +33,7 @@ pub struct InstanceRow {
     pub deadline: u64,
 }
 
-// One route.
+// One route, written by a host too.
 #[repr(C)]
 #[derive(Clone, Copy)]
 pub struct RouteRow {
@@ -70,7 +70,7 @@ fn until(deadline: Option<u64>) -> u64
 pub fn deadline(endless: u8, deadline: u64) -> Option<u64>
     ensures { of_option result ≡ deadline_of endless deadline }
 {
-    if endless == 0 { Some(deadline) } else { None }
+    (endless == 0).then_some(deadline)
 }
 
 // What a request row holds. Its targets are the first `count` of an array, as there is no heap.
@@ -194,7 +194,7 @@ pub fn no_row() -> InstanceRow
     }
 }
 
-// A route that is not in use.
+// A route that is not in use, written out as in no_row.
 pub fn no_route() -> RouteRow
     ensures { result ≡ no_route }
 {
