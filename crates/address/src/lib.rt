@@ -10,10 +10,7 @@ ghost use Rattle.plain.specs.Address.{first_bits, agree};
 pub fn is_same(a: [u8; 16], b: [u8; 16]) -> bool
     ensures { result ≡ same a b }
 {
-    if a[15] != b[15] {
-        return false;
-    }
-    a == b
+    a[15] == b[15] && a == b
 }
 
 // The first k bits of an address, the others 0. Most are asked for whole.
@@ -21,10 +18,7 @@ pub fn is_same(a: [u8; 16], b: [u8; 16]) -> bool
 pub fn first_bits(k: u8, a: [u8; 16]) -> [u8; 16]
     ensures { result ≡ first_bits k a }
 {
-    if 128 <= k {
-        return a;
-    }
-    prefix::cut_bits(k, a)
+    if 128 <= k { a } else { prefix::cut_bits(k, a) }
 }
 
 // Whether two addresses share their first k bits.
@@ -33,7 +27,8 @@ pub fn do_agree(k: u8, a: [u8; 16], b: [u8; 16]) -> bool
     ensures { result ≡ agree k a b }
 {
     if 128 <= k {
-        return is_same(a, b);
+        is_same(a, b)
+    } else {
+        is_same(prefix::cut_bits(k, a), prefix::cut_bits(k, b))
     }
-    is_same(prefix::cut_bits(k, a), prefix::cut_bits(k, b))
 }

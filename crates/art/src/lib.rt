@@ -53,11 +53,10 @@ pub fn read_target(body: &[u8]) -> Target
     let plen = prefix_length(body);
     let mut sent = [0u8; 16];
     octets::put_over(&mut sent, 0, &body[2..]);
-    let kept = address::first_bits(prefix_bits(plen), sent);
     Target {
         seq: octet_at(body, 0),
         plen,
-        addr: kept,
+        addr: address::first_bits(prefix_bits(plen), sent),
     }
 }
 

@@ -17,12 +17,12 @@ pub fn grown_count(o: Own, h: bool, n: usize) -> usize
     ensures { result ≡ grown_count (settings_of o) h n }
 {
     if h {
-        return n;
+        n
+    } else if address::is_same(o.receiving, o.sending) {
+        n + 1
+    } else {
+        n + 2
     }
-    if address::is_same(o.receiving, o.sending) {
-        return n + 1;
-    }
-    n + 2
 }
 
 // 16: with ours added a vector of n addresses is past 16 addresses or 252 octets.

@@ -51,7 +51,7 @@ pub struct Live {
 pub fn s_out(k: Link, p: Parsed) -> bool
     ensures { result ≡ s_out (received_by k []) (message_in p []) }
 {
-    if p.discovery.flag { k.downward } else { false }
+    p.discovery.flag && k.downward
 }
 
 // Delta, where one is free.

@@ -41,10 +41,11 @@ pub fn compr_of(body: &[u8]) -> u8
     ensures { result ≡ compr_of body.now }
 {
     if has_h(body) {
-        return 0;
+        0
+    } else {
+        // four bits, so that nothing is lost: `try_from` would bring a Result that cannot be Err
+        (word_at(body, 0) / 512 % 16) as u8
     }
-    // four bits, so that nothing is lost: `try_from` would bring a Result that cannot be Err
-    (word_at(body, 0) / 512 % 16) as u8
 }
 
 // Whether an RREQ or RREP is too short, has a vector with H 1, or a vector that is no whole number of addresses.

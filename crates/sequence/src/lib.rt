@@ -11,22 +11,12 @@ use plain::{Freshness, Standing};
 pub fn compare(a: u8, b: u8) -> Freshness
     ensures { result ≡ freshness a b }
 {
-    if 128 <= a {
-        if 128 <= b {
-            return lollipop::on_same_side(a, b);
-        }
-        if lollipop::is_low_newer(a, b) {
-            return Freshness::Older;
-        }
-        return Freshness::Newer;
-    }
-    if b < 128 {
-        return lollipop::on_same_side(a, b);
-    }
-    if lollipop::is_low_newer(b, a) {
-        Freshness::Newer
-    } else {
-        Freshness::Older
+    match (128 <= a, 128 <= b) {
+        (true, false) if lollipop::is_low_newer(a, b) => Freshness::Older,
+        (true, false) => Freshness::Newer,
+        (false, true) if lollipop::is_low_newer(b, a) => Freshness::Newer,
+        (false, true) => Freshness::Older,
+        _ => lollipop::on_same_side(a, b),
     }
 }
 
@@ -38,15 +28,9 @@ pub fn standing(f: Freshness, replied: bool, lower: bool) -> Standing
 {
     match f {
         Freshness::Newer => Standing::Afresh,
-        Freshness::Older => Standing::Stale,
-        Freshness::NotComparable => Standing::Stale,
-        Freshness::Equal => {
-            if lower && !replied {
-                Standing::Update
-            } else {
-                Standing::NothingNew
-            }
-        }
+        Freshness::Older | Freshness::NotComparable => Standing::Stale,
+        Freshness::Equal if lower && !replied => Standing::Update,
+        Freshness::Equal => Standing::NothingNew,
     }
 }
 

@@ -7,7 +7,7 @@ unfolding target_of
 returns c =
     rw (
       c.octet_at.ensures,
-      c.first_bits-kept.ensures,
+      c.first_bits.ensures,
       c.prefix_bits.ensures,
       c.put_over.ensures,
       c.prefix_length-plen.ensures,
