@@ -33,6 +33,7 @@ pub enum Answer {
 pub fn number(a: Answer) -> u8
     ensures { result ≡ answer_number a }
 {
+    // written out: the numbers stand as in 01's table
     match a {
         Answer::Done => 0,
         Answer::BadCall => 1,

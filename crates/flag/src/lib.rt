@@ -1,4 +1,4 @@
-// A flag as a field of one bit (01, "most significant bit first"), in a message and in a row.
+// A flag as a field of one bit (01, "most significant bit first"), in a message and in a row. A function, since its clause is the rules' word.
 #![tactic(auto)]
 
 ghost use Rattle.std.specs.Prelude.{◌≡◌, ◌≤◌};

@@ -10,6 +10,7 @@ pub fn shares_first(compr: u8, dodagid: [u8; 16], a: [u8; 16]) -> bool
     requires { compr ≤ 16 }
     ensures { result ≡ shares_first compr dodagid a }
 {
+    // a number: a type with Compr at most 15 would ask more than this clause
     let n = usize::from(compr);
     a[..n] == dodagid[..n]
 }

@@ -1,4 +1,4 @@
-// How a message stands to the live row of its key: the three ways that a rule asks.
+// How a message stands to the live row of its key: the three ways that a rule asks. Functions, since their clauses are the rules' words.
 #![tactic(auto)]
 
 ghost use Rattle.std.specs.Prelude.{◌≡◌};
