@@ -28,7 +28,7 @@ fn forwarded(k: Link, p: Parsed, a: RequestFacts) -> Parsed
     requires { a.rank < 65536 }
     ensures { result ≡ record { base = with_rank p.base a.rank; configuration = p.configuration; discovery = with_flag p.discovery (s_out (received_by k []) (message_in p [])); n = p.n; count = a.targets.count; targets = a.targets.list } }
 {
-    // an array goes into a struct from a variable alone: the borrow checker covers no other form
+    // an array goes into a struct's literal from a variable alone: the borrow checker covers no other form
     let targets = a.targets.list;
     Parsed {
         base: rule::with_rank(p.base, a.rank as u16),

@@ -25,7 +25,7 @@ use request::RequestFacts;
 fn reply_base(o: Own, p: Parsed, delta: u8) -> Base
     ensures { (own : ℕ) (c : rules.Received) (vector : List Address) → result ≡ (reply_message (settings_of o) own c (message_in p vector) delta).base }
 {
-    // an array goes into a struct from a variable alone: the borrow checker covers no other form
+    // an array goes into a struct's literal from a variable alone: the borrow checker covers no other form
     let receiving = o.receiving;
     Base {
         instance: rolling::plus_delta(p.base.instance, delta),

@@ -27,7 +27,7 @@ fn request_row(t: u64, k: Link, p: Parsed, a: RequestFacts) -> InstanceRow
     requires sendable { Sendable a }
     ensures { result ≡ request_record (request_row t (received_by k []) (message_in p []) (asked_of a)) }
 {
-    // an array goes into a struct from a variable alone: the borrow checker covers no other form; so below too
+    // an array goes into a struct's literal from a variable alone: the borrow checker covers no other form; so below too
     let dodagid = p.base.dodagid;
     let neighbour = k.neighbour;
     let targets = a.targets.list;

@@ -22,7 +22,7 @@ fn row_targets(f: Option<Found<InstanceRow>>) -> Targets
 {
     match f {
         Some(found) => {
-            // an array goes into a struct from a variable alone: the borrow checker covers no other form
+            // an array goes into a struct's literal from a variable alone: the borrow checker covers no other form
             let list = found.row.targets;
             Targets {
                 over: false,

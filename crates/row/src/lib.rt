@@ -116,7 +116,7 @@ pub fn padded_request_row(f: RequestFields) -> InstanceRow
     requires { (f.count ≤ 8) × Padded f.count f.targets }
     ensures { result ≡ request_record (request_in f) }
 {
-    // an array goes into a struct from a variable alone: the borrow checker covers no other form; so below too
+    // an array goes into a struct's literal from a variable alone: the borrow checker covers no other form; so below too
     let dodagid = f.dodagid;
     let neighbour = f.neighbour;
     let targets = f.targets;

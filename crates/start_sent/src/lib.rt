@@ -23,7 +23,7 @@ use targets::Targets;
 fn start_message(o: Own, seq: u8, s: Asking, ts: Targets) -> Parsed
     ensures { (message_in result [] ≡ start_message (settings_of o) seq (start_of s []) (list_of ts)) × (result.n ≡ 0) × (result.count ≡ ts.count) }
 {
-    // an array goes into a struct from a variable alone: the borrow checker covers no other form
+    // an array goes into a struct's literal from a variable alone: the borrow checker covers no other form
     let receiving = o.receiving;
     let list = ts.list;
     let base = Base {

@@ -69,6 +69,7 @@ struct Request<'a>(&'a InstanceRow);
 
 impl<'a> fmt::Display for Request<'a> {
     fn fmt<W: fmt::Write>(&self, f: &mut fmt::Formatter<W>) -> fmt::Result {
+        // a name, since it is read so often
         let r = self.0;
         write!(f, "request {} {} {}", r.instance, Hex(&r.dodagid), r.seq)?;
         write!(f, " {} {}", u8::from(r.s != 0), u8::from(r.h != 0))?;
@@ -91,6 +92,7 @@ struct Reply<'a>(&'a InstanceRow);
 
 impl<'a> fmt::Display for Reply<'a> {
     fn fmt<W: fmt::Write>(&self, f: &mut fmt::Formatter<W>) -> fmt::Result {
+        // a name, since it is read so often
         let r = self.0;
         let until = Until(row::deadline(r.endless, r.deadline));
         write!(
@@ -110,6 +112,7 @@ struct Route<'a>(&'a RouteRow);
 
 impl<'a> fmt::Display for Route<'a> {
     fn fmt<W: fmt::Write>(&self, f: &mut fmt::Formatter<W>) -> fmt::Result {
+        // a name, since it is read so often
         let r = self.0;
         let until = Until(row::deadline(r.endless, r.deadline));
         write!(

@@ -72,6 +72,7 @@ impl<'a> Node<'a> {
 
     // A received message: what the call comes to.
     fn message(&mut self, o: &[u8]) -> Outcome {
+        // a name, since it is read so often
         let h = self.host;
         // whole slices first: the borrow checker covers no part of a field that is an array
         let forward = &mut self.forward[..];
@@ -92,6 +93,7 @@ impl<'a> Node<'a> {
 
     // A start: what the call comes to.
     fn start(&mut self, o: &[u8]) -> Outcome {
+        // a name, since it is read so often
         let h = self.host;
         // whole slices first: the borrow checker covers no part of a field that is an array
         let forward = &mut self.forward[..];
