@@ -23,7 +23,7 @@ fn bad_call(clock: u64, seq: u8) -> Outcome
     outcome::refused(Answer::BadCall, clock, seq)
 }
 
-// A received message.
+// A received message. The parameters stay one by one: the public calls are promised so (Calls.Promised).
 #[tactic(auto, using(lemmas::proofs::Cases::cases, called::proofs::Laws::is_bad, called::proofs::Laws::is_bad_event, called::proofs::Laws::short, called::proofs::Laws::long, called::proofs::Laws::octets_refused, called::proofs::Laws::octets_read, called::proofs::Laws::own_refused, called::proofs::Laws::taken, called::proofs::Laws::reply_step, called::proofs::Laws::request_step))]
 pub fn message(
     instances: &mut [InstanceRow],
@@ -50,10 +50,7 @@ pub fn message(
       outcome = result;
     }) }
 {
-    if bad_call::is_bad(o, clock, t, forward.len(), reply.len()) {
-        return bad_call(clock, seq);
-    }
-    if 1236 < octets.len() {
+    if bad_call::is_bad(o, clock, t, forward.len(), reply.len()) || 1236 < octets.len() {
         return bad_call(clock, seq);
     }
     if wrong_state::is_wrong(instances, routes, clock, seq) {
@@ -61,7 +58,7 @@ pub fn message(
     }
     let r = match reader::read(octets) {
         Ok(r) => r,
-        Err(refusal) => return outcome::refused(heard::octets_answer(refusal), clock, seq),
+        Err(refusal) => return outcome::refused(heard::octets_answer(Some(refusal)), clock, seq),
     };
     if own::is_ours(o, r.base.dodagid) {
         return outcome::refused(Answer::OwnDodagid, clock, seq);
@@ -80,7 +77,7 @@ pub fn message(
     request_taken::take_request(instances, routes, forward, reply, call, k, &p, &v)
 }
 
-// The start of our own discovery, with any number of targets.
+// The start of our own discovery, with any number of targets. Its parameters stay one by one too.
 #[tactic(auto, using(lemmas::proofs::Cases::cases, called::proofs::Laws::is_bad, called::proofs::Laws::is_bad_event, called::proofs::Laws::taken_start, called::proofs::Laws::start_step))]
 pub fn start(
     instances: &mut [InstanceRow],

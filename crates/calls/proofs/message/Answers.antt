@@ -2,7 +2,7 @@ use mathlib.Core.Path.{refl, sym, ◌∙◌}
 use Rattle.plain.specs.Given.{Event}
 use Rattle.message.specs.Message.{received_by}
 use Rattle.called.proofs.Laws.{Handed, handed, Admitted, admit, Understood, bad_lent_lem, bad_event, wrong_state_lem, short, long, octets_refused, octets_read, own_refused, taken, reply_step, request_step}
-use Rattle.calls.proofs.message.Goals.{Start, Else-is_wrong, After-vector_of-v}
+use Rattle.calls.proofs.message.Goals.{Start, Else-is_wrong, After-vector_of-v, then-is_bad-via-then-is_bad, then-is_bad-via-else-is_bad+then-octets-gt1236}
 use Rattle.calls.proofs.message.Goals as goal
 
 -- ---- what is handed in
@@ -38,13 +38,13 @@ understood c = record {
 pub returns-then-is_bad : goal.returns-then-is_bad
 returns-then-is_bad c =
     let s = (goal.at.returns-then-is_bad c).Start in
-    bad_lent_lem (given s) (brought s) _ c.bad_call.result (sym c.is_bad.ensures ∙ c.if-is_bad.true) refl c.bad_call.ensures
-
-pub returns-then-octets-gt1236 : goal.returns-then-octets-gt1236
-returns-then-octets-gt1236 c =
-    let s = (goal.at.returns-then-octets-gt1236 c).Start in
-    bad_event (given s) (brought s) _ c.bad_call-then-octets-gt1236.result (sym c.is_bad.ensures ∙ c.if-is_bad.false)
-    (long c.args.octets.now c.if-octets-gt1236.true) refl c.bad_call-then-octets-gt1236.ensures
+    elim c.then-is_bad.branch [
+      | then-is_bad-via-then-is_bad w ↦
+          bad_lent_lem (given s) (brought s) _ c.bad_call.result (sym c.is_bad.ensures ∙ w.if-is_bad.true) refl c.bad_call.ensures
+      | then-is_bad-via-else-is_bad+then-octets-gt1236 w ↦
+          bad_event (given s) (brought s) _ c.bad_call.result (sym c.is_bad.ensures ∙ w.if-is_bad.false)
+          (long c.args.octets.now w.if-octets-gt1236.true) refl c.bad_call.ensures
+    ]
 
 pub returns-then-is_wrong : goal.returns-then-is_wrong
 returns-then-is_wrong c =
