@@ -4,6 +4,7 @@
 ghost use Rattle.std.specs.Prelude.{IfOk, IsTrue, Some};
 ghost use Rattle.std.specs.Io.KnownBytes.{Consumes};
 ghost use Rattle.line.specs.Hex.{hex};
+ghost use Rattle.line.specs.Targets.{targets_text};
 
 use plain::Target;
 use std::io::{ErrorKind, Read};
@@ -29,6 +30,8 @@ impl<'a> fmt::Display for Hex<'a> {
 pub struct Targets<'a>(pub &'a [Target]);
 
 impl<'a> fmt::Display for Targets<'a> {
+    ghost output = { λ ts. Some (targets_text ts.0.now) };
+
     fn fmt<W: fmt::Write>(&self, f: &mut fmt::Formatter<W>) -> fmt::Result {
         for t in self.0 {
             write!(f, " {}/{}/{}", t.seq, t.plen, Hex(&t.addr))?;
