@@ -9,12 +9,13 @@ use std::io::Write;
 use std::{fmt, io};
 use tally::Tally;
 
-// The octets that were written into a buffer, where there are any.
-pub fn buffer<W: Write>(out: &mut W, name: &str, s: &[u8]) -> io::Result<()> {
-    if s.is_empty() {
+// The first n octets of a buffer, where there are any.
+pub fn buffer<W: Write>(out: &mut W, name: &str, s: &[u8], n: usize) -> io::Result<()> {
+    // n beside s: a caller that cuts was tried, and the borrow checker covers no such cut of a node's field
+    if n == 0 || s.len() < n {
         return Ok(());
     }
-    writeln!(out, "{name} {}", Hex(s))
+    writeln!(out, "{name} {}", Hex(&s[..n]))
 }
 
 // ---- an outcome

@@ -120,10 +120,8 @@ impl<'a> Node<'a> {
         self.host.seq = r.seq;
         self.host.calls = self.host.calls.wrapping_add(1);
         trace_print::outcome(out, self.host.calls, r)?;
-        let forward = self.forward.get(..r.forward.size).unwrap_or(&[]);
-        let reply = self.reply.get(..r.reply.size).unwrap_or(&[]);
-        trace_print::buffer(out, "forward", forward)?;
-        trace_print::buffer(out, "reply", reply)?;
+        trace_print::buffer(out, "forward", &self.forward, r.forward.size)?;
+        trace_print::buffer(out, "reply", &self.reply, r.reply.size)?;
         trace_print::rows(out, self.instances, r.clock)?;
         trace_print::routes(out, self.routes, r.clock)
     }
