@@ -10,7 +10,7 @@ fn known(vector: [[u8; 16]; 16])
     ensures { (length vector ≡ 16) × WholeVector vector }
 {}
 
-// The same of addresses behind a reference, which by itself tells only how many they are. No code is left of it.
+// The same of addresses behind a reference, which by itself tells only how many they are. It does nothing else.
 pub fn whole(vector: &[[u8; 16]; 16])
     ensures { (length vector.now ≡ 16) × WholeVector vector.now }
 {

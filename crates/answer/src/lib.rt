@@ -33,7 +33,7 @@ pub enum Answer {
 pub fn number(a: Answer) -> u8
     ensures { result ≡ answer_number a }
 {
-    // written out: the numbers stand as in 01's table
+    // a function, and no From: its clause is the rules' word; written out, as the numbers stand in 01's table
     match a {
         Answer::Done => 0,
         Answer::BadCall => 1,

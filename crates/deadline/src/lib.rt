@@ -1,6 +1,6 @@
 // How long rows last, in ms (01, "Octets on the air": L, Default Lifetime and Lifetime Unit), and MinHopRankIncrease, the third field
 // that is read from a Configuration. A deadline is none where it is endless. That a call's time is at most 2^40 is asked by clauses and by no
-// type: times are compared all over, with clocks and deadlines that have no such bound, and each would be taken out of the type again.
+// type: times are compared in many places, with clocks and deadlines that have no such bound, and each would be taken out of the type again.
 #![tactic(auto)]
 
 ghost use Rattle.std.specs.Prelude.{◌*◌, ◌^◌, ◌≤◌, ◌≡◌};

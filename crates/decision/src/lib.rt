@@ -36,7 +36,7 @@ pub struct Decided {
     pub seq: u8,
 }
 
-// Where it is to go.
+// Where a Post is to go.
 pub fn destination(p: &Post) -> Destination
     ensures { destination_of result ≡ post_to p.now }
 {

@@ -1,5 +1,5 @@
 // The least Delta that is free for our reply.
-// The parts of a key stay parameters: an array goes into a struct's literal from a variable alone, so each call would be two lines longer.
+// The parts of a key stay parameters: the rules' definitions take them one by one (delta_seen), as the clauses do.
 #![tactic(auto)]
 
 ghost use Rattle.std.specs.Prelude.{◌≡◌, true, ℕ, ◌≤◌};

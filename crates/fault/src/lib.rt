@@ -1,7 +1,7 @@
 // What the octets of a message are refused for, each asked by itself (01, "Octets on the air"): 3, 4 and 6.
 #![tactic(auto)]
 
-ghost use Rattle.std.specs.Prelude.{◌≡◌, ◌||◌, List, ℕ, ◌-◌, ◌/◌, ◌≤◌, ltb, Some};
+ghost use Rattle.std.specs.Prelude.{◌≡◌, ◌||◌, List, ℕ, ◌-◌, ◌/◌, ◌≤◌, ltb};
 ghost use Rattle.plain.specs.Octets.{options_of, request_counts, reply_counts, malformed, unfit};
 ghost use Rattle.scan.specs.Scanned.{Outlined, Scanned};
 
@@ -23,12 +23,13 @@ pub fn is_reply(s: Scan) -> bool
     s.rrep.count == 1 && s.rreq.count == 0 && s.art.count == 1
 }
 
-// Whether a message is cut or malformed: it is, where one of its options is bad, of which there is no Scan.
+// Whether a message is cut or malformed. With no Scan one of its options is bad, and so the message is malformed.
 #[tactic(auto, using(lemmas::proofs::Cases::cases, crate::proofs::Counts::malformed_short, crate::proofs::Counts::malformed_many, crate::proofs::Counts::malformed_reply, crate::proofs::Counts::malformed_other, crate::proofs::Counts::art_order, crate::proofs::Counts::art_within))]
 pub fn is_malformed(msg: &[u8], scan: Option<Scan>) -> bool
     requires { Scanned msg.now scan }
     ensures { result ≡ malformed msg.now }
 {
+    // no is_none_or: a test of four lines in a closure is no plainer
     let Some(s) = scan else {
         return true;
     };

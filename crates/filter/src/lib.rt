@@ -1,4 +1,4 @@
-// What the search for twins goes by: what it asks of a row of either table, and the filter, the words in which the hash of a key has its bits.
+// What the search for twins asks of a row of either table, and the filter: the words in which the hash of a key has its bits.
 #![tactic(auto)]
 
 ghost use Rattle.std.specs.Prelude.{◌≡◌, ◌<◌, ℕ, Bool, true};
@@ -113,8 +113,8 @@ pub fn are_twins<R: Keyed>(a: R, b: R, t: u64) -> bool
 
 // ---- the words
 
-// The five bits are told by other parts of the hash than the word is (crates/slot). Written out: a loop over the divisors is no plainer, and would
-// stand in the loop of a pass.
+// The five bits are told by other parts of the hash than the word is (crates/slot). Written out: a loop would need the divisors in an array,
+// and is no plainer.
 #[tactic(auto, using(lemmas::proofs::Cases::cases), unfolding(crate::specs::Filter::bits_of))]
 fn bits_of(h: u64) -> u64
     ensures { result ≡ bits_of h }
@@ -126,7 +126,7 @@ fn bits_of(h: u64) -> u64
         | 1 << (h / 16384 % 64)
 }
 
-// Whether an earlier row may have the key: all five bits are set.
+// Whether an earlier row may have the key: all five bits are set. `on`, a row of the pass, stands beside the word as in the clause.
 #[tactic(auto, using(lemmas::proofs::Cases::cases), unfolding(crate::specs::Filter::maybe_of, crate::specs::Filter::has_bits))]
 pub fn maybe(on: bool, w: u64, h: u64) -> bool
     ensures { result ≡ maybe_of on w h }
@@ -134,6 +134,7 @@ pub fn maybe(on: bool, w: u64, h: u64) -> bool
     on && w | bits_of(h) == w
 }
 
+// The word after a row: with the bits of its hash, where the row is of the pass.
 #[tactic(auto, using(lemmas::proofs::Cases::cases), unfolding(crate::specs::Filter::marked_of))]
 pub fn marked(on: bool, w: u64, h: u64) -> u64
     ensures { result ≡ marked_of on w h }

@@ -1,6 +1,6 @@
 // Searches over the lent table of routes.
 // Each is a chain of its own: a search that takes the test would be `position` itself.
-// The parts of a key stay parameters: an array goes into a struct's literal from a variable alone, so each call would be two lines longer.
+// The parts of a key stay parameters: the rules' definitions take them one by one (route_here), as the clauses do.
 #![tactic(auto)]
 
 ghost use Rattle.std.specs.Prelude.{◌≡◌, map};

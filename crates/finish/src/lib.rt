@@ -72,8 +72,8 @@ pub fn finish(
     };
     let n = post::put_post(forward, &call.own, there, vector);
     let m = post::put_post(reply, &call.own, back, vector);
-    // last: what is stored was made just before, and is slow to copy at once
     store(instances, routes, p, q, d);
+    // each by a name, which the proof takes
     let forward_to = decision::destination(there);
     let reply_to = decision::destination(back);
     let forward_sent = Sent {

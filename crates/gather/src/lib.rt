@@ -17,7 +17,7 @@ pub struct Gathering {
     pub long: bool,
 }
 
-// Whether a prefix is over 127, with one more target.
+// Whether a prefix is over 127, with one more target. By itself: its clause says in the rules' words (long_prefix) what a step adds.
 fn is_long(long: bool, t: Target) -> bool
     ensures { result ≡ long || long_prefix t }
 {

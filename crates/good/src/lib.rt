@@ -25,12 +25,13 @@ fn is_good_deadline(endless: u8, deadline: u64) -> bool
 fn are_good_targets(count: u8, targets: [Target; 8]) -> bool
     ensures { result ≡ leb (length (targets_of count targets)) most_targets && all short_prefix (targets_of count targets) }
 {
-    // by name, so that no goal has the number in its own
+    // named: else each goal would have the number written out
     let most = 8;
     count <= most && targets[..usize::from(count)].iter().all(|t| t.plen <= 127)
 }
 
-// At most four targets, as most rows have, none of them wrong: asked without a branch that goes by the count. If false, nothing is known.
+// At most four targets, as most rows have, none of them wrong: asked without a branch that goes by the count. If false, nothing is known. Without
+// this a request over 4,000 rows took three tenths more.
 #[tactic(auto, using(lemmas::proofs::Cases::cases, lemmas::proofs::Choice::true_false, crate::proofs::Laws::few_good))]
 fn are_few_good(count: u8, targets: [Target; 8]) -> bool
     ensures { result ≡ true → leb (length (targets_of count targets)) most_targets && all short_prefix (targets_of count targets) ≡ true }

@@ -10,7 +10,7 @@ ghost use Rattle.grown.specs.Grown.{grown_count};
 
 use own::Own;
 
-// How many addresses a vector of n has with ours added, which is where H is 0.
+// How many addresses a vector of n has with ours added, which is where H is 0. Here h is 0 at each call; it stays, as the clause speaks of it.
 #[tactic(auto, using(lemmas::proofs::Cases::cases), unfolding(crate::specs::Grown::grown_count, plain::specs::Request::own_vector))]
 pub fn grown_count(o: Own, h: bool, n: usize) -> usize
     requires { n ≤ 16 }

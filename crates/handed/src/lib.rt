@@ -33,8 +33,8 @@ pub struct HostStart {
 pub fn link_of(k: HostLink) -> Link
     ensures { result ≡ link_of k }
 {
-    // no From: the public function and its clause stay
-    // an array goes into a struct's literal from a variable alone: the borrow checker covers no other form
+    // no From: this function is public and its clause stays, and a From beside it would say the same twice
+    // a field that is an array goes into a struct's literal by a variable: the borrow checker covers no other form
     let neighbour = k.neighbour;
     Link {
         neighbour,
@@ -49,7 +49,7 @@ pub fn link_of(k: HostLink) -> Link
 pub fn asking_of(s: HostStart) -> Asking
     ensures { result ≡ asking_of s }
 {
-    // no From: the public function and its clause stay
+    // no From: this function is public and its clause stays, and a From beside it would say the same twice
     Asking {
         instance: s.instance,
         h: s.h != 0,

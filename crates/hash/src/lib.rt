@@ -51,7 +51,7 @@ pub fn hash_row(r: InstanceRow) -> u64
     finish(hash_address(k, r.dodagid))
 }
 
-// The two addresses count in different ways, so that a route and its way back have two hashes.
+// The second address is shifted, so that a route and its way back have two hashes.
 #[tactic(auto, using(lemmas::proofs::Cases::cases))]
 pub fn hash_route(r: RouteRow) -> u64
     ensures { result ≡ hash_route r }

@@ -17,7 +17,7 @@ pub fn parsed(r: Reading) -> Parsed
     requires { r.discovery.compr ≤ 15 }
     ensures { result ≡ parsed_of r }
 {
-    // an array goes into a struct's literal from a variable alone: the borrow checker covers no other form
+    // a field that is an array goes into a struct's literal by a variable: the borrow checker covers no other form
     let targets = r.targets;
     let width = 16 - usize::from(r.discovery.compr);
     Parsed {
@@ -41,7 +41,7 @@ pub fn vector_of(octets: &[u8], r: Reading) -> [[u8; 16]; 16]
     vector::addresses(part, r.discovery.compr, r.base.dodagid)
 }
 
-// The answer that the octets alone give. Both types are of crates below, so that this is no `From`.
+// The answer that the octets alone give, 0 where there is no refusal. Both types are of crates below, so that this is no `From`.
 pub fn octets_answer(refusal: Option<Refusal>) -> Answer
     ensures { answer_number result ≡ octets_number refusal }
 {

@@ -49,10 +49,7 @@ fn neighbour_in(d: Destination) -> [u8; 16]
 pub fn host_outcome(r: Outcome) -> HostOutcome
     ensures { result ≡ host_of r }
 {
-    // no From: the public function and its clause stay
-    // an array goes into a struct's literal from a variable alone: the borrow checker covers no other form
-    let forward_neighbour = neighbour_in(r.forward.to);
-    let reply_neighbour = neighbour_in(r.reply.to);
+    // no From: this function is public and its clause stays, and a From beside it would say the same twice
     HostOutcome {
         answer: answer::number(r.answer),
         seq: r.seq,
@@ -62,7 +59,7 @@ pub fn host_outcome(r: Outcome) -> HostOutcome
         forward_length: r.forward.size as u64,
         reply_length: r.reply.size as u64,
         clock: r.clock,
-        forward_neighbour,
-        reply_neighbour,
+        forward_neighbour: neighbour_in(r.forward.to),
+        reply_neighbour: neighbour_in(r.reply.to),
     }
 }

@@ -1,7 +1,7 @@
 // Which targets are kept of others, in their order (01, "A request").
 #![tactic(auto)]
 
-ghost use Rattle.std.specs.Prelude.{◌+◌, ◌≤◌, ◌<◌, ◌≡◌, cond, [], ◌∷◌, ◌++◌};
+ghost use Rattle.std.specs.Prelude.{◌+◌, ◌≤◌, ◌<◌, cond, [], ◌∷◌, ◌++◌};
 ghost use Rattle.plain.specs.Blank.{Padded};
 ghost use Rattle.plain.specs.Request.{common};
 ghost use Rattle.kept.specs.Kept.{list_of, Kept, Nothing};

@@ -16,7 +16,7 @@ pub fn is_same_key(a: InstanceRow, b: InstanceRow) -> bool
     address::is_same(a.dodagid, b.dodagid) && a.kind == b.kind && a.instance == b.instance
 }
 
-// The last octet of the key's address.
+// The last octet of the key's address. One line, and public: its clause stays.
 pub fn ending(r: InstanceRow) -> u8
     ensures { result ≡ ending_of r.dodagid }
 {

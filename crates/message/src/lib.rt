@@ -2,7 +2,7 @@
 // each means is in specs/. And what several rules ask of it.
 #![tactic(auto)]
 
-ghost use Rattle.std.specs.Prelude.{◌≡◌, [], Option, option_map};
+ghost use Rattle.std.specs.Prelude.{◌≡◌, [], option_map};
 ghost use Rattle.plain.specs.Request.{s_out, delta_or0};
 ghost use Rattle.lemmas.specs.Optional.{of_option};
 ghost use Rattle.message.specs.Message.{message_in, received_by, number_of};
@@ -11,7 +11,8 @@ use plain::{Base, Discovery, Target};
 use row::{InstanceRow, RouteRow};
 
 // A message but for its vector, which stands beside it as an array of addresses: the first `n` of these and the first `count` of the
-// targets are the message's. There is no heap, so a list that is kept has fixed room and a count.
+// targets are the message's. There is no heap, so a list that is kept has fixed room and a count. That n is at most 16 and count at most 8
+// is asked by clauses (rule's Heard), and no invariant: heard::parsed makes one of any Reading.
 #[derive(Clone, Copy)]
 pub struct Parsed {
     pub base: Base,
@@ -62,7 +63,7 @@ pub fn delta_or_0(d: Option<u8>) -> u8
     d.unwrap_or(0)
 }
 
-// What a call is about in the tables, from what was found.
+// What a call is about in the tables, from what was found. Two parameters here and in the rules, and no struct: each rule asks one of them alone.
 #[tactic(auto, using(lemmas::proofs::Cases::cases))]
 pub fn live_of(f: Option<Found<InstanceRow>>, g: Option<Found<RouteRow>>) -> Live
     ensures { result ≡ record { row = option_map number_of f; route = option_map number_of g } }

@@ -8,11 +8,12 @@ ghost use Rattle.option.specs.Follows.{option_of, Follows};
 // The types of the options that mean something here, for the passes over the options of a message.
 pub use plain::{ART, CONFIGURATION, RREP, RREQ};
 
-// A type is a number, and no enum: one would have to keep the number of every other type, and could tell a Configuration in two ways.
-// What stands at a position of a message: Pad1, an option with its type and the place of its body, the end, or an option past the end.
+// What stands at a position of a message: Pad1, an option with its type and the place of its body, the end, or an option past the end. A type is
+// a number, and no enum: one would have to keep the number of every other type, and a Configuration could stand as its variant or as the number 4.
 #[derive(Clone, Copy)]
 pub enum Next {
     Pad,
+    // places, and no slice: Follows tells where in the message a body stands
     Body { kind: u8, start: usize, end: usize },
     End,
     Cut,

@@ -53,13 +53,12 @@ pub fn compr_of(body: &[u8]) -> u8
 pub fn is_bad_route(body: &[u8]) -> bool
     ensures { result ≡ bad_route body.now }
 {
-    // three returns: with H 1 another thing is asked, and one expression would be longer
     if body.len() < 3 {
-        return true;
+        true
+    } else if has_h(body) {
+        3 < body.len()
+    } else {
+        let width = 16 - usize::from(compr_of(body));
+        (body.len() - 3) % width != 0
     }
-    if has_h(body) {
-        return 3 < body.len();
-    }
-    let width = 16 - usize::from(compr_of(body));
-    (body.len() - 3) % width != 0
 }

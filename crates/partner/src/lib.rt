@@ -1,5 +1,5 @@
 // The partner of a reply: a live request row of its key and its H.
-// The parts of a key stay parameters: an array goes into a struct's literal from a variable alone, so each call would be two lines longer.
+// The parts of a key stay parameters: the rules' definitions take them one by one (partner_here), as the clauses do.
 #![tactic(auto)]
 
 ghost use Rattle.std.specs.Prelude.{◌≡◌, map};

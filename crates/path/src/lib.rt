@@ -6,7 +6,8 @@ ghost use Rattle.std.specs.List.{position_or_len};
 ghost use Rattle.plain.specs.Lists.{same};
 ghost use Rattle.plain.specs.Reply.{before};
 
-// Where `a` stands in a vector first, or the vector's length. The search answers a place: an address would be copied.
+// Where `a` stands in a vector first, or the vector's length, and no None: before an address that is not there stands the last one. A place, since
+// an address would be copied.
 fn place_of(a: [u8; 16], vector: &[[u8; 16]]) -> usize
     ensures { (result ≤ length vector.now) × (result ≡ position_or_len (same a) vector.now) }
 {

@@ -2,7 +2,7 @@
 // rules are in specs/.
 #![tactic(auto)]
 
-// The types of the options that mean something here (01, "Octets on the air").
+// The types of the options that mean something here (01, "Octets on the air"). Numbers, and no enum: see option::Next.
 pub const CONFIGURATION: u8 = 0x04;
 
 pub const RREQ: u8 = 0x0B;

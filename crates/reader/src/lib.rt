@@ -32,6 +32,7 @@ pub struct Reading {
     // Numbers, and no slice: heard::vector_of's clause speaks of them, and a Reading is handed on by value.
     pub at: usize,
     pub size: usize,
+    // fields, and no Parsed inside: that is of a crate above
     pub count: usize,
     pub targets: [Target; 8],
 }
@@ -45,6 +46,7 @@ fn read_configuration(msg: &[u8], f: Found) -> Option<[u8; 14]>
     if f.count == 0 {
         return None;
     }
+    // copied, and no try_from: that brings a Result that cannot be Err
     let mut octets = [0; 14];
     octets.copy_from_slice(&msg[f.start..f.end]);
     Some(octets)
@@ -67,7 +69,7 @@ fn fill(msg: &[u8], s: Scan, base: Base, ts: Targets) -> Reading
     let configuration = read_configuration(msg, s.configuration);
     let body = route(s);
     let discovery = discovery::discovery(fault::is_reply(s), &msg[body.start..body.end]);
-    // an array goes into a struct's literal from a variable alone: the borrow checker covers no other form
+    // a field that is an array goes into a struct's literal by a variable: the borrow checker covers no other form
     let targets = ts.list;
     Reading {
         base,
@@ -87,6 +89,7 @@ pub fn read(msg: &[u8]) -> Result<Reading, Refusal>
     ensures bounded { IfOk result (Bounded (length msg.now)) }
 {
     let s = scan::read_options(msg).ok_or(Refusal::Malformed)?;
+    // Some: is_malformed says of a pass that found nothing too, and that clause stays
     if fault::is_malformed(msg, Some(s)) {
         return Err(Refusal::Malformed);
     }

@@ -31,7 +31,7 @@ fn loops(o: Own, p: Parsed, vector: &[[u8; 16]; 16], w: ReplyFacts) -> bool
         }
 }
 
-// Answer 11: the link towards TargNode is asked of an asymmetric reply.
+// Answer 11: the link towards TargNode is asked of an asymmetric reply. By itself, as each answer is.
 fn is_link_bad(k: Link, w: ReplyFacts) -> bool
     ensures { result ≡ not w.symmetric && not k.downward }
 {

@@ -22,7 +22,7 @@ fn reply_row(t: u64, p: Parsed, w: ReplyFacts) -> InstanceRow
     requires { (t ≤ 2 ^ 40) × (w.rank ≤ 65535) }
     ensures { (v : List Address) → result ≡ reply_record (reply_row t (message_in p v) (answered_of w)) }
 {
-    // an array goes into a struct's literal from a variable alone: the borrow checker covers no other form; so below too
+    // a field that is an array goes into a struct's literal by a variable: the borrow checker covers no other form; so below too
     let dodagid = p.base.dodagid;
     row::reply_row(ReplyFields {
         deadline: rule::kept_deadline(t, p.discovery.l, w.standing, w.found),

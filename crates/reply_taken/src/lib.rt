@@ -1,7 +1,7 @@
 // What a heard reply comes to, over the lent tables.
 #![tactic(auto)]
 
-ghost use Rattle.std.specs.Prelude.{◌≡◌, []};
+ghost use Rattle.std.specs.Prelude.{[]};
 ghost use Rattle.plain.specs.Plain.{enact};
 ghost use Rattle.own.specs.Settings.{settings_of};
 ghost use Rattle.message.specs.Message.{message_in, received_by};
@@ -16,7 +16,7 @@ use message::{Link, Parsed};
 use outcome::Outcome;
 use row::{InstanceRow, RouteRow};
 
-// What a reply that was heard comes to, from 8 on.
+// What a reply that was heard comes to, from 8 on. Tables and buffers stay apart: finish::Call says why.
 #[tactic(auto, using(lemmas::proofs::Cases::cases, rule::proofs::Laws::posts_nothing, finish::proofs::Laws::refused_gives, finish::proofs::Settles::ready, finish::proofs::Decides::refused, finish::proofs::Decides::taken, crate::proofs::Laws::no_partner_is, crate::proofs::Laws::reply_is, crate::proofs::Answered::asking, crate::proofs::Answered::lines, crate::proofs::Answered::accept, crate::proofs::Answered::reply_decided, crate::proofs::Answered::reply_settled))]
 pub fn take_reply(
     instances: &mut [InstanceRow],
@@ -31,6 +31,7 @@ pub fn take_reply(
     requires { Taken call.clock call.time instances.old forward.old reply.old p.now }
     ensures { Gives (enact call.time (state_of call.clock call.seq instances.old routes.old) (reply_decision (settings_of call.own) (state_of call.clock call.seq instances.old routes.old) call.time (received_by k []) (message_in p.now vector.now))) instances.old instances.new routes.old routes.new forward.old forward.new reply.old reply.new result }
 {
+    // for what it promises alone: sixteen addresses, each of sixteen octets
     addresses::whole(vector);
     let number = pairing::partner_number(*p);
     let orig = pairing::orig_node(*p);

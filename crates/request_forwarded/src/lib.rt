@@ -16,6 +16,7 @@ use message::{Link, Parsed};
 use plain::Discovery;
 use request::RequestFacts;
 
+// The RREQ with that flag. A function of its own, as the rules have it (Request.with_flag).
 #[tactic(auto, using(lemmas::proofs::Cases::cases), unfolding(plain::specs::Request::with_flag))]
 fn with_flag(d: Discovery, flag: bool) -> Discovery
     ensures { result ≡ with_flag d flag }
@@ -23,14 +24,15 @@ fn with_flag(d: Discovery, flag: bool) -> Discovery
     Discovery { flag, ..d }
 }
 
-// The request as it goes on, but for our addresses. Its rank fits by what is required.
+// The request as it goes on, but for our addresses.
 fn forwarded(k: Link, p: Parsed, a: RequestFacts) -> Parsed
     requires { a.rank < 65536 }
     ensures { result ≡ record { base = with_rank p.base a.rank; configuration = p.configuration; discovery = with_flag p.discovery (s_out (received_by k []) (message_in p [])); n = p.n; count = a.targets.count; targets = a.targets.list } }
 {
-    // an array goes into a struct's literal from a variable alone: the borrow checker covers no other form
+    // a field that is an array goes into a struct's literal by a variable: the borrow checker covers no other form
     let targets = a.targets.list;
     Parsed {
+        // it fits by what is required: `try_from` would bring a refusal that cannot happen
         base: rule::with_rank(p.base, a.rank as u16),
         discovery: with_flag(p.discovery, message::s_out(k, p)),
         count: a.targets.count,

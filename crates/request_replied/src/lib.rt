@@ -25,7 +25,8 @@ use request::RequestFacts;
 fn reply_base(o: Own, p: Parsed, delta: u8) -> Base
     ensures { (own : ℕ) (c : rules.Received) (vector : List Address) → result ≡ (reply_message (settings_of o) own c (message_in p vector) delta).base }
 {
-    // an array goes into a struct's literal from a variable alone: the borrow checker covers no other form
+    // a field that is an array goes into a struct's literal by a variable: the borrow checker covers no other form; so
+    // below too
     let receiving = o.receiving;
     Base {
         instance: rolling::plus_delta(p.base.instance, delta),

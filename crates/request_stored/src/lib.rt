@@ -1,4 +1,5 @@
-// What a received request that is answered 0 stores, by value (01, "A request"): the rows that it leaves, and our number after it.
+// What a received request that is answered 0 stores, by value (01, "A request"): the rows that it leaves, and our number after it. The bound of t
+// is a clause and no type: crates/deadline says why.
 #![tactic(auto)]
 
 ghost use Rattle.std.specs.Prelude.{◌≤◌, ◌^◌, ◌≡◌, cond, List, [], Some, None, option_map};
@@ -27,7 +28,7 @@ fn request_row(t: u64, k: Link, p: Parsed, a: RequestFacts) -> InstanceRow
     requires sendable { Sendable a }
     ensures { result ≡ request_record (request_row t (received_by k []) (message_in p []) (asked_of a)) }
 {
-    // an array goes into a struct's literal from a variable alone: the borrow checker covers no other form; so below too
+    // a field that is an array goes into a struct's literal by a variable: the borrow checker covers no other form; so below too
     let dodagid = p.base.dodagid;
     let neighbour = k.neighbour;
     let targets = a.targets.list;

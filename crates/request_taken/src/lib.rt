@@ -15,7 +15,7 @@ use message::{Link, Parsed};
 use outcome::Outcome;
 use row::{InstanceRow, RouteRow};
 
-// What a request that was heard comes to, from 9 on.
+// What a request that was heard comes to, from 9 on. Tables and buffers stay apart: finish::Call says why.
 #[tactic(auto, using(lemmas::proofs::Cases::cases, rule::proofs::Types::own_sixteen, finish::proofs::Settles::ready, finish::proofs::Decides::refused, finish::proofs::Decides::taken, crate::proofs::Laws::row_few, crate::proofs::Laws::asked_is, crate::proofs::Requested::asking, crate::proofs::Requested::lines, crate::proofs::Requested::accept, crate::proofs::Requested::request_decided, crate::proofs::Requested::request_settled))]
 pub fn take_request(
     instances: &mut [InstanceRow],
@@ -30,6 +30,7 @@ pub fn take_request(
     requires { Taken call.clock call.time instances.old forward.old reply.old p.now }
     ensures { Gives (enact call.time (state_of call.clock call.seq instances.old routes.old) (request_decision (settings_of call.own) (state_of call.clock call.seq instances.old routes.old) call.time (received_by k []) (message_in p.now vector.now))) instances.old instances.new routes.old routes.new forward.old forward.new reply.old reply.new result }
 {
+    // for what it promises alone: sixteen addresses, each of sixteen octets
     addresses::whole(vector);
     let f = search::search_request(instances, call.time, p.base.instance, p.base.dodagid);
     let g = search_route::search_route(

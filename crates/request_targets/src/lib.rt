@@ -22,7 +22,7 @@ fn row_targets(f: Option<Found<InstanceRow>>) -> Targets
 {
     match f {
         Some(found) => {
-            // an array goes into a struct's literal from a variable alone: the borrow checker covers no other form
+            // a field that is an array goes into a struct's literal by a variable: the borrow checker covers no other form
             let list = found.row.targets;
             Targets {
                 over: false,
@@ -51,10 +51,10 @@ pub fn targets_kept(
 {
     if standing::is_update(s) {
         let both = kept::common(ts, row_targets(f));
-        return matching::not_ours(both, o);
+        matching::not_ours(both, o)
+    } else if targ {
+        matching::not_ours(ts, o)
+    } else {
+        ts
     }
-    if targ {
-        return matching::not_ours(ts, o);
-    }
-    ts
 }

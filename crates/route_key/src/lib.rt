@@ -18,7 +18,7 @@ pub fn is_same_three(a: RouteRow, b: RouteRow) -> bool
         && a.instance == b.instance
 }
 
-// The last octet of the key's second address.
+// The last octet of the key's second address. One line, and public: its clause stays.
 pub fn route_ending(r: RouteRow) -> u8
     ensures { result ≡ ending_of r.destination }
 {

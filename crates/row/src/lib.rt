@@ -1,7 +1,7 @@
 // The rows of the two tables as records, and how one is made. What a record means is in specs/.
 #![tactic(auto)]
 
-ghost use Rattle.std.specs.Prelude.{◌≡◌, ◌≤◌, take};
+ghost use Rattle.std.specs.Prelude.{◌≡◌, ◌≤◌};
 ghost use Rattle.lemmas.specs.Optional.{of_option};
 ghost use Rattle.plain.specs.Blank.{Padded};
 ghost use Rattle.row.specs.Meaning.{deadline_of, no_row, no_route};
@@ -89,8 +89,7 @@ pub struct RequestFields {
     pub replied: bool,
 }
 
-// What a reply row holds, a fifth of the row's size: our own reply row is made from these where it is stored. Wide fields first, so that there is no
-// padding between fields, which would be copied too.
+// What a reply row holds, a fifth of the row's size: our own reply row is made from these where it is stored.
 #[derive(Clone, Copy)]
 pub struct ReplyFields {
     pub deadline: Option<u64>,
@@ -100,7 +99,7 @@ pub struct ReplyFields {
     pub seq: u8,
 }
 
-// What a route holds, but for its deadline.
+// What a route holds, but for its deadline, which is known only where it is stored.
 #[derive(Clone, Copy)]
 pub struct RouteFields {
     pub source: [u8; 16],
@@ -116,7 +115,7 @@ pub fn padded_request_row(f: RequestFields) -> InstanceRow
     requires { (f.count ≤ 8) × Padded f.count f.targets }
     ensures { result ≡ request_record (request_in f) }
 {
-    // an array goes into a struct's literal from a variable alone: the borrow checker covers no other form; so below too
+    // a field that is an array goes into a struct's literal by a variable: the borrow checker covers no other form; so below too
     let dodagid = f.dodagid;
     let neighbour = f.neighbour;
     let targets = f.targets;

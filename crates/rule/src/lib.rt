@@ -2,7 +2,7 @@
 // and a base with another rank.
 #![tactic(auto)]
 
-ghost use Rattle.std.specs.Prelude.{◌≡◌, ◌&&◌, false, List, Option, ◌^◌, ◌≤◌, length};
+ghost use Rattle.std.specs.Prelude.{◌≡◌, ◌&&◌, false, List, ◌^◌, ◌≤◌, length};
 ghost use Rattle.lemmas.specs.Each.{WholeVector};
 ghost use Rattle.lemmas.specs.Optional.{of_option};
 ghost use Rattle.plain.specs.Address.{Address};
@@ -28,7 +28,7 @@ pub fn is_route_stale(h: bool, g: Option<Found<RouteRow>>, seq: u8) -> bool
     h && g.is_some_and(|found| sequence::is_outdated(sequence::compare(found.row.seq, seq)))
 }
 
-// MinHopRankIncrease of a message.
+// MinHopRankIncrease of a message. One line, here and in with_rank, and public: the clauses stay.
 pub fn step_of(p: Parsed) -> u16
     ensures { result ≡ min_hop (of_option p.configuration) }
 {

@@ -74,7 +74,8 @@ pub fn read_options(msg: &[u8]) -> Option<Scan>
 {
     let mut s = Scan::default();
     let mut at: usize = 24;
-    // an option moves `at` by its own size: the range says only that the pass ends
+    // an option moves `at` by its own size: the range says only that the pass ends. Beside arts' pass: one stops at a bad body, the other is told
+    // that none is bad, and an iterator for both would have to say where it stopped
     for _ in 0..msg.len() {
         match option::next_option(msg, at) {
             Next::Pad => at += 1,

@@ -1,6 +1,6 @@
 // What the table of instance rows holds for a call: the live rows of its keys, and a partner. Three searches, each with its own `Found`: a helper for
 // that one line would need a clause that the place is in the table and one that tells what it makes, and save none.
-// The parts of a key stay parameters: an array goes into a struct's literal from a variable alone, so each call would be two lines longer.
+// The parts of a key stay parameters: the rules' definitions take them one by one (request_seen, reply_seen, partner_seen), as the clauses do.
 #![tactic(auto)]
 
 ghost use Rattle.std.specs.Prelude.{◌≡◌, ℕ, ◌≤◌, IfSome};

@@ -1,5 +1,5 @@
 // What the table of routes holds for a call: the live route of its key.
-// The parts of a key stay parameters: an array goes into a struct's literal from a variable alone, so each call would be two lines longer.
+// The parts of a key stay parameters: the rules' definitions take them one by one (route_seen), as the clauses do.
 #![tactic(auto)]
 
 ghost use Rattle.std.specs.Prelude.{◌≡◌, ℕ, ◌≤◌};

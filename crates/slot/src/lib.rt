@@ -1,7 +1,7 @@
 // The word of the filter in which the hash of a key has its bits, and the pass that looks at the row.
 #![tactic(auto)]
 
-ghost use Rattle.std.specs.Prelude.{◌≡◌, ◌<◌, ◌≤◌};
+ghost use Rattle.std.specs.Prelude.{◌≡◌, ◌<◌};
 ghost use Rattle.slot.specs.Slot.{slot_of, class_of, chosen_of};
 
 // The low half of the hash, scaled from 2^32 to the filter's words: cheaper than a remainder. On 128 bits no number of words is too many. By `as`:

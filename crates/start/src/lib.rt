@@ -25,12 +25,12 @@ pub fn judge(o: Own, s: Asking, taken: bool) -> Answer
     requires { s.compr ≤ 15 }
     ensures { answer_number result ≡ start_answer (settings_of o) s taken }
 {
-    if own::cannot_elide(o, s.h, s.compr, o.receiving) {
-        return Answer::CannotElide;
-    }
-    if taken {
-        return Answer::NothingNew;
-    }
     // Answer::Done, and no Result: the clause gives 01's number of it, 0 (start_answer)
-    Answer::Done
+    if own::cannot_elide(o, s.h, s.compr, o.receiving) {
+        Answer::CannotElide
+    } else if taken {
+        Answer::NothingNew
+    } else {
+        Answer::Done
+    }
 }

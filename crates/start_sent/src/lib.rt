@@ -23,7 +23,7 @@ use targets::Targets;
 fn start_message(o: Own, seq: u8, s: Asking, ts: Targets) -> Parsed
     ensures { (message_in result [] ≡ start_message (settings_of o) seq (start_of s []) (list_of ts)) × (result.n ≡ 0) × (result.count ≡ ts.count) }
 {
-    // an array goes into a struct's literal from a variable alone: the borrow checker covers no other form
+    // a field that is an array goes into a struct's literal by a variable: the borrow checker covers no other form
     let receiving = o.receiving;
     let list = ts.list;
     let base = Base {
@@ -52,7 +52,8 @@ fn start_message(o: Own, seq: u8, s: Asking, ts: Targets) -> Parsed
     }
 }
 
-// What a start sends, to the group. `seq` is our number before it is stepped. No vector was received: whatever stands for one plays no part.
+// What a start sends, to the group. `seq` is our number before it is stepped. No vector was received: what is posted is the same whatever vector
+// is given.
 #[tactic(auto, using(lemmas::proofs::Cases::cases, crate::proofs::Sent::start_posts), unfolding(plain::specs::Request::accept_start, plain::specs::Request::start_message))]
 pub fn start_post(o: Own, seq: u8, s: Asking, ts: Targets) -> Post
     requires { Sendable s ts }

@@ -25,7 +25,7 @@ fn start_row(o: Own, seq: u8, t: u64, s: Asking, ts: Targets) -> InstanceRow
     requires { (t ≤ 2 ^ 40) × (ts.count ≤ 8) × Padded ts.count ts.list }
     ensures { result ≡ request_record (start_row (settings_of o) t seq (start_of s []) (list_of ts)) }
 {
-    // an array goes into a struct's literal from a variable alone: the borrow checker covers no other form
+    // a field that is an array goes into a struct's literal by a variable: the borrow checker covers no other form
     let dodagid = o.receiving;
     let targets = ts.list;
     row::padded_request_row(RequestFields {

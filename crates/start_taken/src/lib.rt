@@ -20,7 +20,7 @@ use row::{InstanceRow, RouteRow};
 use start::Asking;
 use targets::Targets;
 
-// A start is about no live row.
+// A start is about no live row. A function of one line here and below: take_start's proof takes what it says by its clause.
 fn none_live() -> Live
     ensures { result ≡ record { row = None; route = None } }
 {

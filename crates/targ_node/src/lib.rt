@@ -16,7 +16,7 @@ use targets::Targets;
 pub fn named_in(p: Parsed) -> Targets
     ensures { result ≡ record { over = false; count = p.count; list = p.targets } }
 {
-    // an array goes into a struct's literal from a variable alone: the borrow checker covers no other form
+    // a field that is an array goes into a struct's literal by a variable: the borrow checker covers no other form
     let list = p.targets;
     Targets {
         over: false,

@@ -19,7 +19,7 @@ pub struct Targets {
     pub list: [Target; 8],
 }
 
-// How many targets are collected. `over`: there were more than eight. The list is apart, as it is lent to the loop that collects.
+// How many targets are collected. `over`: there were more than eight, as in Targets. The list is apart, as it is lent to the loop that collects.
 #[derive(Clone, Copy)]
 pub struct Count {
     pub over: bool,

@@ -108,7 +108,7 @@ pub fn read_record<R: Read>(input: &mut R, octets: &mut [u8]) -> io::Result<Opti
     Ok(Some(Head { kind, size }))
 }
 
-// ---- the parts of a record
+// ---- the parts of a record (numbers of two, four and eight octets by three functions: from_be_bytes is each type's own)
 
 // The N octets from a place on.
 fn octets_at<const N: usize>(o: &[u8], from: usize) -> [u8; N]
@@ -204,7 +204,7 @@ pub fn target_count(o: &[u8]) -> usize
     (o.len().saturating_sub(13) / 18).min(16)
 }
 
-// The targets of a start.
+// The targets of a start, the first target_count of them: an array of fixed room, as there is no heap.
 pub fn targets_at(o: &[u8]) -> [Target; 16]
     ensures { (result ≡ targets_in 16 o.now 13) × (length result ≡ 16) }
 {
@@ -260,34 +260,25 @@ fn route_at(o: &[u8]) -> RouteRow
 
 // ---- what a record hands in
 
-// Writes one of a table or of the counts; past the end nothing changes. A test, since `get_mut` says nothing of what the list becomes.
-fn put<T: Copy>(items: &mut [T], i: usize, item: T)
-    ensures { items.new ≡ set items.old i item }
-{
-    if i < items.len() {
-        items[i] = item;
-    }
-}
-
 // A row of a table, at the number that stands first in the record, where the table has so many.
 pub fn hand_in_row(instances: &mut [InstanceRow], o: &[u8])
     ensures { instances.new ≡ set instances.old (number_in 2 o.now 0) (row_in o.now) }
 {
-    put(instances, usize::from(pair_at(o, 0)), row_at(o));
+    octets::put(instances, usize::from(pair_at(o, 0)), row_at(o));
 }
 
 // A route, in the same way.
 pub fn hand_in_route(routes: &mut [RouteRow], o: &[u8])
     ensures { routes.new ≡ set routes.old (number_in 2 o.now 0) (route_in o.now) }
 {
-    put(routes, usize::from(pair_at(o, 0)), route_at(o));
+    octets::put(routes, usize::from(pair_at(o, 0)), route_at(o));
 }
 
 // The tally's count of one answer.
 pub fn hand_in_count(tally: &mut Tally, o: &[u8])
     ensures { tally.new.counts ≡ set tally.old.counts (octet_at o.now 0) (number_in 4 o.now 1) }
 {
-    put(
+    octets::put(
         &mut tally.counts,
         usize::from(octet_at(o, 0)),
         quad_at(o, 1),

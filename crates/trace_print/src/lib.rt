@@ -10,12 +10,14 @@ use std::{fmt, io};
 use tally::Tally;
 
 // The first n octets of a buffer, where there are any.
-pub fn buffer<W: Write>(out: &mut W, name: &str, s: &[u8], n: usize) -> io::Result<()> {
+pub fn buffer<W: Write>(out: &mut W, name: &[u8], s: &[u8], n: usize) -> io::Result<()> {
     // n beside s: a caller that cuts was tried, and the borrow checker covers no such cut of a node's field
     if n == 0 || s.len() < n {
         return Ok(());
     }
-    writeln!(out, "{name} {}", Hex(&s[..n]))
+    // a name of octets, and no &str: what is taken may not shrink
+    out.write_all(name)?;
+    writeln!(out, "{}", Hex(&s[..n]))
 }
 
 // ---- an outcome

@@ -24,6 +24,7 @@ struct Host {
     own: Own,
     clock: u64,
     seq: u8,
+    // how much of each buffer is lent: numbers, and no Vec, as there is no heap
     forward: usize,
     reply: usize,
     calls: u32,
@@ -72,7 +73,7 @@ impl<'a> Node<'a> {
 
     // A received message: what the call comes to.
     fn message(&mut self, o: &[u8]) -> Outcome {
-        // a name, since it is read so often
+        // a copy: it is read five times below
         let h = self.host;
         // whole slices first: the borrow checker covers no part of a field that is an array
         let forward = &mut self.forward[..];
@@ -93,7 +94,7 @@ impl<'a> Node<'a> {
 
     // A start: what the call comes to.
     fn start(&mut self, o: &[u8]) -> Outcome {
-        // a name, since it is read so often
+        // a copy: it is read five times below
         let h = self.host;
         // whole slices first: the borrow checker covers no part of a field that is an array
         let forward = &mut self.forward[..];
@@ -120,8 +121,8 @@ impl<'a> Node<'a> {
         self.host.seq = r.seq;
         self.host.calls = self.host.calls.wrapping_add(1);
         trace_print::outcome(out, self.host.calls, r)?;
-        trace_print::buffer(out, "forward", &self.forward, r.forward.size)?;
-        trace_print::buffer(out, "reply", &self.reply, r.reply.size)?;
+        trace_print::buffer(out, b"forward ", &self.forward, r.forward.size)?;
+        trace_print::buffer(out, b"reply ", &self.reply, r.reply.size)?;
         trace_print::rows(out, self.instances, r.clock)?;
         trace_print::routes(out, self.routes, r.clock)
     }
@@ -155,6 +156,7 @@ impl<'a> Node<'a> {
     // The records of a list after its first, until its end.
     fn serve<R: Read, W: Write>(&mut self, input: &mut R, out: &mut W) -> io::Result<()> {
         let mut octets = [0u8; 2048];
+        // a range with an end: a loop must end
         for _ in 0..65536 {
             let Some(head) = trace_input::read_record(input, &mut octets)? else {
                 return Ok(());

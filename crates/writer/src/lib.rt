@@ -12,7 +12,7 @@ use writer_art::put_arts;
 use writer_base::{put_base, put_configuration};
 use writer_option::put_discovery;
 
-// A whole message.
+// A whole message. Its parts one by one: Parsed (crates/message) holds an array of targets with a count, and here they are a slice.
 #[tactic(auto, using(lemmas::proofs::Cases::cases, lemmas::proofs::Buffer::written_then, crate::proofs::Lengths::message_sizes), unfolding(plain::specs::Octets::octets_of))]
 pub fn put_message(
     out: &mut [u8],
