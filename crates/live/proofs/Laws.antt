@@ -1,13 +1,13 @@
 -- What the kind of a record and its deadline say of its meaning.
-use Prim.Native.Nat.{ℕ, ◌+◌, ◌*◌, ◌/◌, ◌%◌, ◌≤◌, ◌<◌, max}
+use Prim.Native.Nat.{ℕ, ◌+◌, ◌*◌, ◌/◌, ◌%◌, max}
 use mathlib.Core.Path.{◌≡◌, refl, sym, ◌∙◌}
 use mathlib.Core.Bool.{Bool, true, false, cond, not, ◌||◌}
 use mathlib.Core.Option.{some, none}
 use native.Mathlib.Omega.{arith}
 use lib.Arith.{bin_ind}
 use lib.Bits.{bit_or, or_step}
-use lib.Dec.{eqb, ltb, leb}
-use borrow.Author.Tests.{eqb-true, eqb-false, leb-true, leb-false}
+use lib.Dec.{eqb, ltb}
+use borrow.Author.Tests.{eqb-true, eqb-false}
 use Rattle.plain.specs.Given.{Instance}
 use Rattle.plain.specs.Octets.{bit}
 use Rattle.plain.specs.Table.{lasts, live, instance_deadline}
@@ -15,29 +15,6 @@ use Rattle.lemmas.proofs.Choice.{true_false}
 use Rattle.row.specs.Meaning.{deadline_of, request_of, reply_of, instance_of}
 use Rattle.row.specs.declared.InstanceRow.{InstanceRow}
 use Rattle.row.proofs.Laws.{flag_bit}
-
--- ---- kinds that are in use
-
-pub used_most : (k : ℕ) → (k ≡ 0 → ⊥) → leb k 2 ≡ eqb k 1 || eqb k 2
-used_most k h = go (leb k 2) refl (eqb k 1) refl (eqb k 2) refl
-  where
-    go : (a : Bool) → leb k 2 ≡ a → (b : Bool) → eqb k 1 ≡ b → (c : Bool) → eqb k 2 ≡ c → a ≡ b || c
-    go true e true f c g = refl
-    go true e false f true g = refl
-    go true e false f false g =
-        let x : k ≤ 2 = leb-true k 2 e in
-        let y : k ≡ 1 → ⊥ = eqb-false k 1 f in
-        let z : k ≡ 2 → ⊥ = eqb-false k 2 g in
-        absurd (omega (arith, h))
-    go false e true f c g =
-        let x : 2 < k = leb-false k 2 e in
-        let y : k ≡ 1 = eqb-true k 1 f in
-        absurd (omega arith)
-    go false e false f true g =
-        let x : 2 < k = leb-false k 2 e in
-        let y : k ≡ 2 = eqb-true k 2 g in
-        absurd (omega arith)
-    go false e false f false g = refl
 
 module _ (t : ℕ) (r : InstanceRow) where
   pub live_used : eqb r.kind 1 || eqb r.kind 2 ≡ true
