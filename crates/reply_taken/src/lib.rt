@@ -17,6 +17,8 @@ use outcome::Outcome;
 use row::{InstanceRow, RouteRow};
 
 // What a reply that was heard comes to, from 8 on. Tables and buffers stay apart: finish::Call says why.
+// Not inlined: else what it holds would stand in the frame of every call, under the filter of the search for twins.
+#[inline(never)]
 #[tactic(auto, using(lemmas::proofs::Cases::cases, rule::proofs::Laws::posts_nothing, finish::proofs::Laws::refused_gives, finish::proofs::Settles::ready, finish::proofs::Decides::refused, finish::proofs::Decides::taken, crate::proofs::Laws::no_partner_is, crate::proofs::Laws::reply_is, crate::proofs::Answered::asking, crate::proofs::Answered::lines, crate::proofs::Answered::accept, crate::proofs::Answered::reply_decided, crate::proofs::Answered::reply_settled))]
 pub fn take_reply(
     instances: &mut [InstanceRow],

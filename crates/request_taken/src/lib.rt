@@ -16,6 +16,8 @@ use outcome::Outcome;
 use row::{InstanceRow, RouteRow};
 
 // What a request that was heard comes to, from 9 on. Tables and buffers stay apart: finish::Call says why.
+// Not inlined: else what it holds would stand in the frame of every call, under the filter of the search for twins.
+#[inline(never)]
 #[tactic(auto, using(lemmas::proofs::Cases::cases, rule::proofs::Types::own_sixteen, finish::proofs::Settles::ready, finish::proofs::Decides::refused, finish::proofs::Decides::taken, crate::proofs::Laws::row_few, crate::proofs::Laws::asked_is, crate::proofs::Requested::asking, crate::proofs::Requested::lines, crate::proofs::Requested::accept, crate::proofs::Requested::request_decided, crate::proofs::Requested::request_settled))]
 pub fn take_request(
     instances: &mut [InstanceRow],
