@@ -24,15 +24,18 @@ pub enum Next {
 pub fn next_option(msg: &[u8], at: usize) -> Next
     ensures { Follows msg.now at result }
 {
-    match msg.get(at..).unwrap_or(&[]) {
-        [] => Next::End,
-        [0, ..] => Next::Pad,
-        [_] => Next::Cut,
-        [_, size, body @ ..] if body.len() < usize::from(*size) => Next::Cut,
-        [kind, size, ..] => Next::Body {
-            kind: *kind,
-            start: at + 2,
-            end: at + 2 + usize::from(*size),
+    // the type by itself: of a Pad1 no more is asked, and a message may be full of them
+    match msg.get(at) {
+        None => Next::End,
+        Some(0) => Next::Pad,
+        Some(kind) => match msg.get(at + 1) {
+            None => Next::Cut,
+            Some(size) if msg.len() - (at + 2) < usize::from(*size) => Next::Cut,
+            Some(size) => Next::Body {
+                kind: *kind,
+                start: at + 2,
+                end: at + 2 + usize::from(*size),
+            },
         },
     }
 }
