@@ -11,7 +11,7 @@ ghost use Rattle.plain.specs.Address.{first_bits, agree};
 pub fn is_same(a: [u8; 16], b: [u8; 16]) -> bool
     ensures { result ≡ same a b }
 {
-    a[15] == b[15] && a == b
+    a[15] == b[15] && a.iter().zip(b.iter()).all(|(x, y)| x == y)
 }
 
 // The first k bits of an address, the others 0. Most are asked for whole.
