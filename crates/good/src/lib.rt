@@ -21,13 +21,26 @@ fn is_good_deadline(endless: u8, deadline: u64) -> bool
     row::deadline(endless, deadline).is_none_or(|at| at <= 2199023255552)
 }
 
-#[tactic(auto, using(crate::proofs::Laws::count_over, crate::proofs::Laws::count_within, lemmas::proofs::Cases::cases))]
+#[tactic(auto, using(crate::proofs::Laws::count_over, crate::proofs::Laws::count_within, crate::proofs::Laws::good_on, crate::proofs::Laws::good_stop, crate::proofs::Laws::good_end, lemmas::proofs::Cases::cases))]
 fn are_good_targets(count: u8, targets: [Target; 8]) -> bool
     ensures { result ≡ leb (length (targets_of count targets)) most_targets && all short_prefix (targets_of count targets) }
 {
     // named: else each goal would have the number written out
     let most = 8;
-    count <= most && targets[..usize::from(count)].iter().all(|t| t.plen <= 127)
+    if most < count {
+        return false;
+    }
+    // a loop over all eight, which LLVM makes eight tests of: as `all` over the first ones it stays a loop, and a row of more than four targets took
+    // twice as many instructions
+    for (k, t) in targets.iter().enumerate() {
+        if usize::from(count) <= k {
+            return true;
+        }
+        if 127 < t.plen {
+            return false;
+        }
+    }
+    true
 }
 
 // At most four targets, as most rows have, none of them wrong: asked without a branch that goes by the count. If false, nothing is known. Without
