@@ -1,14 +1,31 @@
 // What the programs' lines are made of: octets in hexadecimal, targets. And what fills a buffer from their input.
 #![tactic(auto)]
 
-ghost use Rattle.std.specs.Prelude.{IfOk, IsTrue, Some};
+ghost use Rattle.std.specs.Prelude.{◌≡◌, ◌<◌, IfOk, IsTrue, Some, false};
+ghost use Rattle.std.specs.Fmt.{digit_glyph};
 ghost use Rattle.std.specs.Io.KnownBytes.{Consumes};
-ghost use Rattle.line.specs.Hex.{hex};
+ghost use Rattle.line.specs.Hex.{hex, two_digits};
 ghost use Rattle.line.specs.Targets.{targets_text};
 
 use plain::Target;
 use std::io::{ErrorKind, Read};
-use std::{fmt, io};
+use std::{fmt, io, str};
+
+// The ASCII digit of a number below 16.
+fn digit(x: u8) -> u8
+    requires { x < 16 }
+    ensures { result ≡ digit_glyph false x }
+{
+    if x < 10 { b'0' + x } else { b'a' - 10 + x }
+}
+
+// The two digits of an octet.
+#[tactic(auto, unfolding(crate::specs::Hex::two_digits))]
+pub fn digits(x: u8) -> [u8; 2]
+    ensures { result ≡ two_digits x }
+{
+    [digit(x / 16), digit(x % 16)]
+}
 
 // Octets in hexadecimal, two digits each.
 #[derive(Clone, Copy)]
@@ -19,7 +36,11 @@ impl<'a> fmt::Display for Hex<'a> {
 
     fn fmt<W: fmt::Write>(&self, f: &mut fmt::Formatter<W>) -> fmt::Result {
         for &x in self.0 {
-            write!(f, "{x:02x}")?;
+            // one piece, where `{x:02x}` makes two of an octet below 16: the programs' output is not buffered
+            let two = digits(x);
+            // digits are UTF-8, as is proved: from_utf8 was tried, and a run took up to half as many instructions again
+            let text = unsafe { str::from_utf8_unchecked(&two) };
+            f.write_str(text)?;
         }
         Ok(())
     }

@@ -21,9 +21,10 @@ fn print_base<W: Write>(out: &mut W, b: Base) -> io::Result<()> {
 }
 
 fn print_configuration<W: Write>(out: &mut W, configuration: Option<[u8; 14]>) -> io::Result<()> {
+    write!(out, " ")?;
     match configuration {
-        Some(c) => write!(out, " {}", Hex(&c)),
-        None => write!(out, " -"),
+        Some(c) => write!(out, "{}", Hex(&c)),
+        None => write!(out, "-"),
     }
 }
 
@@ -38,8 +39,11 @@ fn print_discovery<W: Write>(out: &mut W, d: Discovery) -> io::Result<()> {
 }
 
 fn print_kind<W: Write>(out: &mut W, reply: bool) -> io::Result<()> {
-    let kind = if reply { "rrep" } else { "rreq" };
-    write!(out, " {kind}")
+    if reply {
+        write!(out, " rrep")
+    } else {
+        write!(out, " rreq")
+    }
 }
 
 fn print_vector<W: Write>(out: &mut W, v: &[[u8; 16]]) -> io::Result<()> {

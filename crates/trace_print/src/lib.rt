@@ -32,15 +32,20 @@ fn destination<W: Write>(out: &mut W, d: Destination) -> io::Result<()> {
 }
 
 fn sent<W: Write>(out: &mut W, name: &str, s: Sent) -> io::Result<()> {
-    write!(out, " {name} {}", s.size)?;
+    write!(out, "{name} {}", s.size)?;
     destination(out, s.to)
 }
 
 pub fn outcome<W: Write>(out: &mut W, number: u32, r: Outcome) -> io::Result<()> {
-    write!(out, "call {number} answer {}", answer::number(r.answer))?;
-    sent(out, "forward", r.forward)?;
-    sent(out, "reply", r.reply)?;
-    writeln!(out, " clock {} number {}", r.clock, r.seq)
+    // a name is a piece of its own, with the space before it: the output is not buffered, and each piece is a write
+    write!(out, "call")?;
+    write!(out, " {number} answer")?;
+    write!(out, " {}", answer::number(r.answer))?;
+    sent(out, " forward", r.forward)?;
+    sent(out, " reply", r.reply)?;
+    write!(out, " clock")?;
+    write!(out, " {} number", r.clock)?;
+    writeln!(out, " {}", r.seq)
 }
 
 pub fn tally<W: Write>(out: &mut W, t: &Tally) -> io::Result<()> {
@@ -53,20 +58,20 @@ pub fn tally<W: Write>(out: &mut W, t: &Tally) -> io::Result<()> {
 
 // ---- rows
 
-// Until when a row lives, if it has a deadline.
+// Until when a row lives, if it has a deadline, after a space.
 #[derive(Clone, Copy)]
 struct Until(Option<u64>);
 
 impl fmt::Display for Until {
     fn fmt<W: fmt::Write>(&self, f: &mut fmt::Formatter<W>) -> fmt::Result {
         match self.0 {
-            Some(deadline) => write!(f, "{deadline}"),
-            None => write!(f, "endless"),
+            Some(deadline) => write!(f, " {deadline}"),
+            None => write!(f, " endless"),
         }
     }
 }
 
-// What 01 names for a request row.
+// What 01 names for a request row, after a space.
 #[derive(Clone, Copy)]
 struct Request<'a>(&'a InstanceRow);
 
@@ -74,7 +79,8 @@ impl<'a> fmt::Display for Request<'a> {
     fn fmt<W: fmt::Write>(&self, f: &mut fmt::Formatter<W>) -> fmt::Result {
         // a name, since it is read so often
         let r = self.0;
-        write!(f, "request {} {} {}", r.instance, Hex(&r.dodagid), r.seq)?;
+        write!(f, " request")?;
+        write!(f, " {} {} {}", r.instance, Hex(&r.dodagid), r.seq)?;
         write!(f, " {} {}", u8::from(r.s != 0), u8::from(r.h != 0))?;
         write!(
             f,
@@ -85,11 +91,11 @@ impl<'a> fmt::Display for Request<'a> {
         )?;
         let until = Until(row::deadline(r.endless, r.deadline));
         let count = usize::from(r.count);
-        write!(f, " {until} {count}{}", Targets(&r.targets[..count.min(8)]))
+        write!(f, "{until} {count}{}", Targets(&r.targets[..count.min(8)]))
     }
 }
 
-// What 01 names for a reply row.
+// What 01 names for a reply row, after a space.
 #[derive(Clone, Copy)]
 struct Reply<'a>(&'a InstanceRow);
 
@@ -98,9 +104,10 @@ impl<'a> fmt::Display for Reply<'a> {
         // a name, since it is read so often
         let r = self.0;
         let until = Until(row::deadline(r.endless, r.deadline));
+        write!(f, " reply")?;
         write!(
             f,
-            "reply {} {} {} {} {until}",
+            " {} {} {} {}{until}",
             r.instance,
             Hex(&r.dodagid),
             r.seq,
@@ -125,7 +132,7 @@ impl<'a> fmt::Display for Route<'a> {
             Hex(&r.destination),
             r.instance
         )?;
-        write!(f, " {} {} {until}", Hex(&r.next), r.seq)
+        write!(f, " {} {}{until}", Hex(&r.next), r.seq)
     }
 }
 
@@ -133,10 +140,11 @@ impl<'a> fmt::Display for Route<'a> {
 pub fn rows<W: Write>(out: &mut W, rows: &[InstanceRow], clock: u64) -> io::Result<()> {
     for (i, r) in rows.iter().enumerate() {
         if live::is_live(*r, clock) {
+            write!(out, "row")?;
             if r.kind == 1 {
-                writeln!(out, "row {i} {}", Request(r))?;
+                writeln!(out, " {i}{}", Request(r))?;
             } else {
-                writeln!(out, "row {i} {}", Reply(r))?;
+                writeln!(out, " {i}{}", Reply(r))?;
             }
         }
     }
@@ -147,7 +155,8 @@ pub fn rows<W: Write>(out: &mut W, rows: &[InstanceRow], clock: u64) -> io::Resu
 pub fn routes<W: Write>(out: &mut W, routes: &[RouteRow], clock: u64) -> io::Result<()> {
     for (i, r) in routes.iter().enumerate() {
         if live::is_live_route(*r, clock) {
-            writeln!(out, "route {i} {}", Route(r))?;
+            write!(out, "route")?;
+            writeln!(out, " {i} {}", Route(r))?;
         }
     }
     Ok(())

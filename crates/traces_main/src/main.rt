@@ -183,7 +183,8 @@ fn list<R: Read, W: Write>(input: &mut R, out: &mut W, number: u64) -> io::Resul
     let mut routes = [row::no_route(); 80];
     let instances = &mut instances[..trace_input::rows_at(&octets, 32)];
     let routes = &mut routes[..trace_input::rows_at(&octets, 34)];
-    writeln!(out, "list {number}")?;
+    write!(out, "list")?;
+    writeln!(out, " {number}")?;
     let mut node = Node::fresh(instances, routes, trace_input::own_at(&octets));
     node.serve(input, out)?;
     Ok(true)

@@ -8,11 +8,13 @@ use own::Own;
 use std::io;
 use std::io::Write;
 
-// The first n octets of a buffer, with a space before each, which line::Hex does not write.
+// The first n octets of a buffer, with a space before each, which line::Hex does not write. The space and the digits are one piece, as the
+// output is not buffered.
 fn print_octets<W: Write>(out: &mut W, s: &[u8], n: usize) -> io::Result<()> {
     // n beside s: a caller that cuts by get was tried, and the borrow checker covers no such part that is handed on
-    for x in s.iter().take(n) {
-        write!(out, " {x:02x}")?;
+    for &x in s.iter().take(n) {
+        let [high, low] = line::digits(x);
+        out.write_all(&[b' ', high, low])?;
     }
     writeln!(out)
 }
