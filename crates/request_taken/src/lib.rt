@@ -34,22 +34,14 @@ pub fn take_request(
 {
     // for what it promises alone: sixteen addresses, each of sixteen octets
     addresses::whole(vector);
-    let f = search::search_request(instances, call.time, p.base.instance, p.base.dodagid);
-    let g = search_route::search_route(
-        routes,
-        call.time,
-        call.own.receiving,
-        p.base.dodagid,
-        p.base.instance,
-    );
+    // by name: each is read at more than one place below
+    let instance = p.base.instance;
+    let dodagid = p.base.dodagid;
+    let receiving = call.own.receiving;
+    let f = search::search_request(instances, call.time, instance, dodagid);
+    let g = search_route::search_route(routes, call.time, receiving, dodagid, instance);
     let targ = targ_node::is_targ_node(call.own, *p);
-    let free = delta::free_delta_if(
-        targ,
-        instances,
-        call.time,
-        p.base.instance,
-        call.own.receiving,
-    );
+    let free = delta::free_delta_if(targ, instances, call.time, instance, receiving);
     let a = request::gather(call.own, k, *p, targ, f, g, free);
     let answer = request_answer::judge(call.own, k, *p, vector, a);
     if answer != Answer::Done {
