@@ -1,5 +1,5 @@
 -- What the octets of a record say. Past its end they are 0.
-use Rattle.std.specs.Prelude.{ℕ, zero, suc, ◌+◌, ◌*◌, Bool, not, List, map, eqb}
+use Rattle.std.specs.Prelude.{ℕ, zero, suc, ◌+◌, ◌*◌, cond, List, map, eqb}
 use Rattle.std.specs.List.{range_with_len}
 use Rattle.plain.specs.Octets.{octet_at}
 use Rattle.plain.specs.declared.Target.{Target}
@@ -8,6 +8,23 @@ use Rattle.own.specs.declared.Own.{Own}
 use Rattle.row.specs.Meaning.{flag}
 use Rattle.row.specs.declared.InstanceRow.{InstanceRow}
 use Rattle.row.specs.declared.RouteRow.{RouteRow}
+use Rattle.trace_input.specs.declared.Kind.{Kind}
+use Rattle.trace_input.specs.declared.Kind.TheVariants.{Fresh, Message, Start, Own as OwnRecord, Buffers, Clock, Number, Row, Route, Count, End, Other}
+
+-- what a record is, by the ASCII number of its letter
+unfoldable pub kind_in : ℕ → Kind
+kind_in letter =
+    cond (eqb letter 110) Fresh
+    (cond (eqb letter 109) Message
+    (cond (eqb letter 115) Start
+    (cond (eqb letter 97) OwnRecord
+    (cond (eqb letter 98) Buffers
+    (cond (eqb letter 99) Clock
+    (cond (eqb letter 100) Number
+    (cond (eqb letter 114) Row
+    (cond (eqb letter 116) Route
+    (cond (eqb letter 107) Count
+    (cond (eqb letter 101) End Other))))))))))
 
 -- the number of n octets from a place on, its most significant octet first
 unfoldable pub number_in : ℕ → List ℕ → ℕ → ℕ

@@ -5,7 +5,7 @@
 ghost use Rattle.std.specs.Prelude.{◌<◌, ◌+◌, ◌-◌, ◌*◌, ◌/◌, ◌^◌, ◌≤◌, ◌≡◌, IfOk, IfSome, length, min, set};
 ghost use Rattle.plain.specs.Octets.{octet_at};
 ghost use Rattle.row.specs.Meaning.{flag};
-ghost use Rattle.trace_input.specs.Input.{number_in, octets_in, target_in, targets_in, own_in, link_in, row_in, route_in};
+ghost use Rattle.trace_input.specs.Input.{kind_in, number_in, octets_in, target_in, targets_in, own_in, link_in, row_in, route_in};
 
 use art::octet_at;
 use line::read_full;
@@ -36,6 +36,9 @@ pub enum Kind {
 }
 
 impl From<u8> for Kind {
+    ghost from_gives = { λ letter kind. kind ≡ kind_in letter };
+
+    #[tactic(auto, using(lemmas::proofs::Cases::cases), unfolding(crate::specs::Input::kind_in))]
     fn from(letter: u8) -> Kind {
         match letter {
             b'n' => Kind::Fresh,
