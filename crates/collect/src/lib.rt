@@ -13,7 +13,7 @@ use targets::Count;
 pub fn is_listed(t: Target, list: &[Target]) -> bool
     ensures { result ≡ any (same_target t) list.now }
 {
-    list.iter().any(|u| art::same_target(t, *u))
+    list.iter().any(|u| art::is_same_target(&t, u))
 }
 
 // Collects the next target, which counts at its first place only.
